@@ -1,0 +1,22 @@
+//! What every layer shares: texts with their place, lists and texts that contracts see as lists,
+//! ranges that follow one another, the origin of an item, a counter of steps, and the one answer
+//! that any call may give for want of memory.
+#![tactic(auto)]
+
+mod list;
+mod memory;
+mod origin;
+mod range;
+mod slice;
+mod steps;
+mod str;
+mod text;
+
+pub use list::List;
+pub use memory::NoMemory;
+pub use origin::Origin;
+pub use range::{Range, Tiles};
+pub use slice::{front_of, rest_of};
+pub use steps::Steps;
+pub use str::Str;
+pub use text::Text;
