@@ -1,0 +1,120 @@
+ghost use Rattle.std.specs.Prelude.{◌≡◌};
+ghost use Rattle.wt_tree.specs.Kinds.{is_leaf};
+
+/// Where a node stands in the page, in bytes: from `start` up to `end`, and how many of these bytes
+/// its opening and closing delimiters have. It is what Parsoid calls `dsr`. A leaf that is written
+/// as an element has its whole length as `open_w`; a text and a group have 0.
+#[derive(Clone, Copy, Debug, PartialEq, Eq)]
+pub struct Ranges {
+    pub start: u32,
+    pub end: u32,
+    pub open_w: u32,
+    pub close_w: u32,
+}
+
+/// What an editor said of an element of the edited HTML (`data-wt-edit`): that its content is new,
+/// that some of its children are new or missing, or a word that means nothing.
+#[derive(Clone, Copy, Debug, PartialEq, Eq)]
+pub enum Mark {
+    Nothing,
+    Content,
+    Children,
+    Other,
+}
+
+/// The HTML tags of a page that are read as paired elements.
+#[derive(Clone, Copy, Debug, PartialEq, Eq)]
+pub enum TagName {
+    Sup,
+    Sub,
+    Small,
+    S,
+    U,
+    Code,
+    Span,
+}
+
+/// What a node is. A `Heading` has its level, from 1 to 6. An `Island` is a part of the page that is
+/// kept and not read into: an extension, or a tag, media or function; its `typeof` tells which.
+/// `Empty` is the mark of a call without output, and stands inside groups alone.
+#[derive(Clone, Copy, Debug, PartialEq, Eq)]
+pub enum Kind {
+    Body,
+    Para,
+    Heading(u8),
+    Rule,
+    Ul,
+    Ol,
+    Dl,
+    Li,
+    Dt,
+    Dd,
+    Pre,
+    Table,
+    Tbody,
+    Tr,
+    Caption,
+    Td,
+    Th,
+    Bold,
+    Italic,
+    WikiLink,
+    ExtLink,
+    Category,
+    Tag(TagName),
+    Br,
+    Entity,
+    Nowiki,
+    Island,
+    Switch,
+    Comment,
+    Include,
+    Skip,
+    Sep,
+    Text,
+    Group,
+    Empty,
+}
+
+impl Kind {
+    /// Whether a node of this kind has a source of its own and not that of its children.
+    pub fn is_leaf(self) -> bool
+        ensures { result ≡ is_leaf self }
+    {
+        matches!(
+            self,
+            Kind::Rule
+                | Kind::Category
+                | Kind::Br
+                | Kind::Entity
+                | Kind::Island
+                | Kind::Switch
+                | Kind::Comment
+                | Kind::Include
+                | Kind::Skip
+                | Kind::Sep
+                | Kind::Text
+                | Kind::Group
+                | Kind::Empty
+        )
+    }
+}
+
+/// The names of attributes, in the order in which they are written.
+#[derive(Clone, Copy, Debug, PartialEq, Eq)]
+pub enum AttrName {
+    About,
+    Typeof,
+    Property,
+    Rel,
+    Href,
+    Class,
+    Colspan,
+    Rowspan,
+    Scope,
+    Lang,
+    Dir,
+    Id,
+    DataMw,
+    DataParsoid,
+}

@@ -1,0 +1,14 @@
+//! The tree of a page: nodes with their kinds, ranges and delimiters, and what is read off a tree:
+//! its source, its nodes in preorder, and its plain view, by which two trees are compared.
+#![tactic(auto)]
+
+mod kind;
+mod look;
+mod node;
+mod source;
+
+pub use kind::{AttrName, Kind, Mark, Ranges, TagName};
+pub use look::{find, walk};
+pub use node::{Attr, DataMw, Node, Part};
+pub use source::flat;
+pub use wt_span::Origin;
