@@ -2,6 +2,8 @@
 use Rattle.std.specs.Prelude.{Bool, true, false}
 use Rattle.wt_tree.specs.declared.kind.Kind.{Kind}
 use Rattle.wt_tree.specs.declared.kind.Kind.TheVariants as kind
+use Rattle.wt_tree.specs.declared.kind.Showing.{Showing}
+use Rattle.wt_tree.specs.declared.kind.Showing.TheVariants.{Characters, Inside, Nothing, Element}
 
 -- A leaf has a source of its own and not that of its children.
 abbrev pub is_leaf : Kind → Bool
@@ -82,45 +84,39 @@ is_numbered kind.Empty = true
 
 -- What the plain view makes of a node: its characters, the plain view of what it holds, nothing, or
 -- an element.
-pub data Showing : Type 0 where
-  characters : Showing
-  inside : Showing
-  nothing : Showing
-  an_element : Showing
-
 abbrev pub showing : Kind → Showing
-showing kind.Body = an_element
-showing kind.Para = an_element
-showing (kind.Heading n) = an_element
-showing kind.Rule = an_element
-showing kind.Ul = an_element
-showing kind.Ol = an_element
-showing kind.Dl = an_element
-showing kind.Li = an_element
-showing kind.Dt = an_element
-showing kind.Dd = an_element
-showing kind.Pre = an_element
-showing kind.Table = an_element
-showing kind.Tbody = an_element
-showing kind.Tr = an_element
-showing kind.Caption = an_element
-showing kind.Td = an_element
-showing kind.Th = an_element
-showing kind.Bold = an_element
-showing kind.Italic = an_element
-showing kind.WikiLink = an_element
-showing kind.ExtLink = an_element
-showing kind.Category = an_element
-showing (kind.Tag t) = an_element
-showing kind.Br = an_element
-showing kind.Entity = characters
-showing kind.Nowiki = inside
-showing kind.Island = an_element
-showing kind.Switch = an_element
-showing kind.Comment = nothing
-showing kind.Include = nothing
-showing kind.Skip = nothing
-showing kind.Sep = nothing
-showing kind.Text = characters
-showing kind.Group = inside
-showing kind.Empty = nothing
+showing kind.Body = Element
+showing kind.Para = Element
+showing (kind.Heading n) = Element
+showing kind.Rule = Element
+showing kind.Ul = Element
+showing kind.Ol = Element
+showing kind.Dl = Element
+showing kind.Li = Element
+showing kind.Dt = Element
+showing kind.Dd = Element
+showing kind.Pre = Element
+showing kind.Table = Element
+showing kind.Tbody = Element
+showing kind.Tr = Element
+showing kind.Caption = Element
+showing kind.Td = Element
+showing kind.Th = Element
+showing kind.Bold = Element
+showing kind.Italic = Element
+showing kind.WikiLink = Element
+showing kind.ExtLink = Element
+showing kind.Category = Element
+showing (kind.Tag t) = Element
+showing kind.Br = Element
+showing kind.Entity = Characters
+showing kind.Nowiki = Inside
+showing kind.Island = Element
+showing kind.Switch = Element
+showing kind.Comment = Nothing
+showing kind.Include = Nothing
+showing kind.Skip = Nothing
+showing kind.Sep = Nothing
+showing kind.Text = Characters
+showing kind.Group = Inside
+showing kind.Empty = Nothing

@@ -1,6 +1,8 @@
+pub mod Forgets
 pub mod Kinds
 pub mod Look
 pub mod Plain
+pub mod Shown
 pub mod Source
 pub mod Stream
 pub mod Tiling

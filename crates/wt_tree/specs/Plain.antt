@@ -5,7 +5,9 @@ use Rattle.std.specs.declared.option.Option.{Option}
 use Rattle.wt_tree.specs.declared.kind.Kind.{Kind}
 use Rattle.wt_tree.specs.declared.kind.AttrName.{AttrName}
 use Rattle.wt_tree.specs.declared.node.DataMw.{DataMw}
-use Rattle.wt_tree.specs.Kinds.{Showing, characters, inside, nothing, an_element, showing}
+use Rattle.wt_tree.specs.declared.kind.Showing.{Showing}
+use Rattle.wt_tree.specs.declared.kind.Showing.TheVariants.{Characters, Inside, Nothing, Element}
+use Rattle.wt_tree.specs.Kinds.{showing}
 use Rattle.wt_tree.specs.Tree.{Label, Tree, tree, Trees, none, more}
 
 -- an element's kind with its attributes, and what an extension has beside
@@ -35,10 +37,10 @@ text_before (b ∷ bs) (along (element f qs) ps) = along (text (b ∷ bs)) (alon
 
 -- a node by what its kind shows, before what follows it
 abbrev pub shown_before : Showing → Label → (Plains → Plains) → Plains → Plains
-shown_before characters l held rest = text_before l.shown rest
-shown_before inside l held rest = held rest
-shown_before nothing l held rest = rest
-shown_before an_element l held rest = along (element (face l) (held ended)) rest
+shown_before Characters l held rest = text_before l.shown rest
+shown_before Inside l held rest = held rest
+shown_before Nothing l held rest = rest
+shown_before Element l held rest = along (element (face l) (held ended)) rest
 
 -- Texts and entities by their characters, a nowiki and a group by what they hold, separators, marks
 -- and skips by nothing, and any other node by an element; neighbouring texts are joined.

@@ -2,7 +2,9 @@
 -- among them. Two plain views are compared by these.
 use Rattle.std.specs.Prelude.{ℕ, ◌+◌, List, [], ◌∷◌, ◌++◌, map}
 use Rattle.wt_tree.specs.Plain.{Face, face}
-use Rattle.wt_tree.specs.Kinds.{Showing, characters, inside, nothing, an_element, showing}
+use Rattle.wt_tree.specs.declared.kind.Showing.{Showing}
+use Rattle.wt_tree.specs.declared.kind.Showing.TheVariants.{Characters, Inside, Nothing, Element}
+use Rattle.wt_tree.specs.Kinds.{showing}
 use Rattle.wt_tree.specs.Tree.{Label, Tree, tree, Trees, none, more}
 
 pub data Bracket : Type 0 where
@@ -15,10 +17,10 @@ pub data Sign : Type 0 where
 
 -- a node by what its kind shows
 abbrev pub signs_by : Showing → Label → List Sign → List Sign
-signs_by characters l held = map byte l.shown
-signs_by inside l held = held
-signs_by nothing l held = []
-signs_by an_element l held = bracket (opens (face l)) ∷ (held ++ (bracket closes ∷ []))
+signs_by Characters l held = map byte l.shown
+signs_by Inside l held = held
+signs_by Nothing l held = []
+signs_by Element l held = bracket (opens (face l)) ∷ (held ++ (bracket closes ∷ []))
 
 abbrev mutual
   pub signs : Tree → List Sign

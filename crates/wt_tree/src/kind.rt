@@ -1,5 +1,5 @@
 ghost use Rattle.std.specs.Prelude.{◌≡◌};
-ghost use Rattle.wt_tree.specs.Kinds.{is_leaf};
+ghost use Rattle.wt_tree.specs.Kinds.{is_leaf, is_numbered, showing};
 
 /// Where a node stands in the page, in bytes: from `start` up to `end`, and how many of these bytes
 /// its opening and closing delimiters have. It is what Parsoid calls `dsr`. A leaf that is written
@@ -76,7 +76,36 @@ pub enum Kind {
     Empty,
 }
 
+/// What the plain view makes of a node: its characters, what it holds, nothing, or an element.
+#[derive(Clone, Copy, Debug)]
+pub enum Showing {
+    Characters,
+    Inside,
+    Nothing,
+    Element,
+}
+
 impl Kind {
+    /// Whether nodes of this kind have a number: all but the body, texts and separators.
+    pub fn is_numbered(self) -> bool
+        ensures { result ≡ is_numbered self }
+    {
+        !matches!(self, Kind::Body | Kind::Sep | Kind::Text)
+    }
+
+    /// What the plain view makes of a node of this kind.
+    pub fn showing(self) -> Showing
+        ensures { result ≡ showing self }
+    {
+        match self {
+            Kind::Text | Kind::Entity => Showing::Characters,
+            Kind::Nowiki | Kind::Group => Showing::Inside,
+            Kind::Comment | Kind::Include | Kind::Skip | Kind::Sep | Kind::Empty =>
+                Showing::Nothing,
+            _ => Showing::Element,
+        }
+    }
+
     /// Whether a node of this kind has a source of its own and not that of its children.
     pub fn is_leaf(self) -> bool
         ensures { result ≡ is_leaf self }

@@ -2,12 +2,18 @@
 //! its source, its nodes in preorder, and its plain view, by which two trees are compared.
 #![tactic(auto)]
 
+mod annotated;
+mod compare;
 mod kind;
+mod laws;
 mod look;
 mod node;
 mod source;
 
+pub use annotated::Annotated;
+pub use compare::plain_eq;
 pub use kind::{AttrName, Kind, Mark, Ranges, TagName};
+pub use laws::{joining_once, plain_forgets};
 pub use look::{find, walk};
 pub use node::{Attr, DataMw, Node, Part};
 pub use source::flat;

@@ -2,7 +2,7 @@ use crate::kind::{AttrName, Kind, Mark, Ranges};
 use wt_span::{List, Origin, Str, Text};
 
 /// An attribute of an element, with its value as characters (not escaped).
-#[derive(Debug, Drop)]
+#[derive(Debug, Drop, PartialEq)]
 pub struct Attr {
     pub name: AttrName,
     pub value: Str,
@@ -11,7 +11,7 @@ pub struct Attr {
 /// A part of a group of templates: a transclusion with its target as written, the link to its title,
 /// its parameters and its number among the group's calls; an argument by its source; or the slice of
 /// the page between two of these.
-#[derive(Debug, Drop)]
+#[derive(Debug, Drop, PartialEq)]
 pub enum Part {
     Template {
         target: Str,
@@ -27,7 +27,7 @@ pub enum Part {
 
 /// What `data-mw` holds: the parts of a group, or the name and the inside of an extension tag (none
 /// where the tag closes itself).
-#[derive(Debug, Drop)]
+#[derive(Debug, Drop, PartialEq)]
 pub enum DataMw {
     Parts(List<Part>),
     Extension { name: Str, body: Option<Str> },
