@@ -3,6 +3,9 @@
 //! that any call may give for want of memory.
 #![tactic(auto)]
 
+mod form;
+mod items;
+mod laws;
 mod list;
 mod memory;
 mod origin;
@@ -12,6 +15,9 @@ mod steps;
 mod str;
 mod text;
 
+pub use form::{Form, LexKind, Mode, Outer, Piece};
+pub use items::Items;
+pub use laws::one_cut;
 pub use list::List;
 pub use memory::NoMemory;
 pub use origin::Origin;

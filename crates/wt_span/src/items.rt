@@ -1,0 +1,104 @@
+ghost use Rattle.std.specs.Prelude.{◌≡◌, map, List};
+
+use crate::form::{Outer, Piece};
+use crate::list::List;
+use crate::range::Range;
+use std::marker::Model;
+
+/// The items of an expanded page, kept as pieces of one form and one origin each, with the page's
+/// outermost calls and arguments, and the ranges of its text calls outside these.
+///
+/// Contracts see the list of the items: each byte of a character and each other form is one. What
+/// the conditions of `new` say holds for every value.
+#[derive(Debug, Drop)]
+pub struct Items<'a> {
+    pieces: List<Piece<'a>>,
+    outer: List<Outer<'a>>,
+    text_calls: List<Range>,
+}
+
+impl<'a> Model for Items<'a> {
+    ghost use Rattle.std.specs.Prelude.{map};
+    ghost use Rattle.wt_span.specs.Origins.{Expanded};
+
+    ghost Value = { Expanded };
+
+    ghost use Rattle.wt_span.specs.Items.{items};
+    ghost use Rattle.wt_span.specs.Origins.{outer_call, span_of, AreItems};
+
+    ghost view = { λ it. record { items = items it.pieces; outer = map outer_call it.outer; text_calls = map span_of it.text_calls } };
+
+    ghost invariant = { λ it. AreItems it.pieces (map outer_call it.outer) (map span_of it.text_calls) };
+}
+
+impl<'a> Items<'a> {
+    ghost use Rattle.wt_span.specs.Items.{items};
+    ghost use Rattle.wt_span.specs.Origins.{outer_call, span_of, AreItems};
+
+    /// The items of pieces, which takes no memory.
+    pub fn new(
+        pieces: List<Piece<'a>>,
+        outer: List<Outer<'a>>,
+        text_calls: List<Range>,
+    ) -> Items<'a>
+        requires { AreItems pieces (map outer_call outer) (map span_of text_calls) }
+        ensures items { result.items ≡ items pieces.entry }
+        ensures outer { result.outer ≡ map outer_call outer.entry }
+        ensures text_calls { result.text_calls ≡ map span_of text_calls }
+    {
+        Items {
+            pieces,
+            outer,
+            text_calls,
+        }
+    }
+
+    /// The pieces, in the order of the items.
+    pub fn pieces(&self) -> &[Piece<'a>]
+        ensures items { items result.now ≡ self.now.items }
+        ensures sound { AreItems result.now self.now.outer self.now.text_calls }
+    {
+        self.pieces.as_slice()
+    }
+
+    /// The outermost calls and arguments in the order of their first bytes: entry k, from 0, is
+    /// what `Origin::Call(k)` names.
+    pub fn outer(&self) -> &[Outer<'a>]
+        ensures { map outer_call result.now ≡ self.now.outer }
+    {
+        self.outer.as_slice()
+    }
+
+    /// The text calls that lie in no outermost call or argument, in the order of their first
+    /// bytes, each from its first brace to its last.
+    pub fn text_calls(&self) -> &[Range]
+        ensures { map span_of result.now ≡ self.now.text_calls }
+    {
+        self.text_calls.as_slice()
+    }
+}
+
+#[cfg(test)]
+mod tests {
+    use super::*;
+    use crate::form::Form;
+    use crate::origin::Origin;
+    use crate::text::Text;
+    use std::test::Fail;
+
+    #[test]
+    fn keeps_what_it_is_made_of(rt: HostRuntime) -> Result<(), Fail> {
+        let mut pieces = List::new(rt.alloc());
+        pieces.push(Piece {
+            text: Text::new("a", 0),
+            form: Form::Chars,
+            origin: Origin::Page(Range { start: 0, end: 1 }),
+        })?;
+        let items = Items::new(pieces, List::new(rt.alloc()), List::new(rt.alloc()));
+        assert_eq!(rt; items.pieces().len(), 1);
+        assert_eq!(rt; items.pieces()[0].text.as_str(), "a");
+        assert!(rt; items.outer().is_empty());
+        assert!(rt; items.text_calls().is_empty());
+        Ok(())
+    }
+}
