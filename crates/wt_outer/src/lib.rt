@@ -1,0 +1,21 @@
+//! The devices that a program is handed: sources of bytes, sinks of bytes and folders of pages.
+//!
+//! Each has a count of its faults, and tells what it holds or doesn't tell it. The layers above speak
+//! to devices through the three traits alone, so that every promise about a device is one about the trait.
+#![tactic(auto)]
+
+mod calls;
+mod device;
+mod directory;
+mod memory;
+mod shelf;
+mod streams;
+
+pub use device::{Failed, FetchRefusal, Fetched, Folder, Sink, Source};
+pub use directory::DirFolder;
+pub use memory::{MemSink, MemSource, NeverFailsSource};
+pub use shelf::{MemFolder, NeverFailsFolder};
+pub use streams::{StdSink, StdSource};
+
+#[cfg(test)]
+mod tests;
