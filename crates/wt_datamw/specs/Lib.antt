@@ -1,0 +1,2 @@
+pub mod Mw
+pub mod Sync

@@ -1,0 +1,7 @@
+//! The JSON of the two attributes by which the HTML keeps the page: `data-parsoid`, with the ranges
+//! and the source of each element, and `data-mw`, with the parts of templates and extensions.
+#![tactic(auto)]
+
+mod sync;
+
+pub use sync::{Sync, sync_to_text};

@@ -1,0 +1,78 @@
+-- The HTML of a tree, as it is written.
+use Rattle.std.specs.Prelude.{ℕ, List, [], ◌∷◌, ◌++◌, Option, Some, None, Bool, ◌==◌, codes, decimal, if◌then◌else◌}
+use Rattle.std.specs.List.{flat_map}
+use Rattle.wt_tree.specs.declared.kind.AttrName.{AttrName}
+use Rattle.wt_tree.specs.declared.kind.Ranges.{Ranges}
+use Rattle.wt_tree.specs.declared.node.DataMw.{DataMw}
+use Rattle.wt_tree.specs.Kinds.{is_leaf}
+use Rattle.wt_tree.specs.Tree.{Label, Tree, tree, Trees, none, more}
+use Rattle.wt_datamw.specs.declared.sync.Sync.{Sync}
+use Rattle.wt_datamw.specs.Sync.{sync_text}
+use Rattle.wt_datamw.specs.Mw.{mw_text}
+use Rattle.wt_markup.specs.Elements.{Writing, as_text, as_void, round_character, round_children, unwritten, writing, element_name, attribute_name, kind_attribute}
+use Rattle.wt_markup.specs.Escapes.{escaped, escaped_double, escaped_single}
+
+-- an attribute of the node's own
+unfoldable pub attribute : AttrName × List ℕ → List ℕ
+attribute a = codes " " ++ (attribute_name a.0 ++ (codes "=\"" ++ (escaped_double a.1 ++ codes "\"")))
+
+abbrev pub attributes : List (AttrName × List ℕ) → List ℕ
+attributes xs = flat_map attribute xs
+
+-- the number of a node that has one
+unfoldable pub id_attribute : ℕ → List ℕ
+id_attribute id = if id == 0 then [] else codes " id=\"mw" ++ (decimal id ++ codes "\"")
+
+-- what an extension has in `data-mw`
+unfoldable pub mw_attribute : Option DataMw → List ℕ
+mw_attribute None = []
+mw_attribute (Some d) = codes " data-mw='" ++ (escaped_single (mw_text d) ++ codes "'")
+
+-- what `data-parsoid` says of a node with these ranges: of a leaf its source, of another node its delimiters
+abbrev pub sync_of : Label → Ranges → Sync
+sync_of l r =
+    if is_leaf l.kind then record { dsr = r; opening = []; closing = []; src = Some l.own }
+    else record { dsr = r; opening = l.opening; closing = l.closing; src = None }
+
+unfoldable pub sync_attribute : Label → Option Ranges → List ℕ
+sync_attribute l None = []
+sync_attribute l (Some r) = codes " data-parsoid='" ++ (escaped_single (sync_text (sync_of l r)) ++ codes "'")
+
+-- the attributes of an element, in their order
+unfoldable pub attributes_of : Label → List ℕ
+attributes_of l = kind_attribute l.kind ++ (attributes l.attrs ++ (id_attribute l.id ++ (mw_attribute l.mw ++ sync_attribute l l.ranges)))
+
+unfoldable pub start_tag : Label → List ℕ
+start_tag l = codes "<" ++ (element_name l.kind ++ (attributes_of l ++ codes ">"))
+
+unfoldable pub void_tag : Label → List ℕ
+void_tag l = codes "<" ++ (element_name l.kind ++ (attributes_of l ++ codes "/>"))
+
+unfoldable pub end_tag : Label → List ℕ
+end_tag l = codes "</" ++ (element_name l.kind ++ codes ">")
+
+-- a node round what it holds
+abbrev pub written : Writing → Label → List ℕ → List ℕ
+written as_text l inside = escaped l.own
+written as_void l inside = void_tag l
+written round_character l inside = start_tag l ++ (escaped l.shown ++ end_tag l)
+written round_children l inside = start_tag l ++ (inside ++ end_tag l)
+written unwritten l inside = []
+
+abbrev mutual
+  pub html : Tree → List ℕ
+  html (tree l ts) = written (writing l.kind) l (html_of_all ts)
+
+  pub html_of_all : Trees → List ℕ
+  html_of_all none = []
+  html_of_all (more t ts) = html t ++ html_of_all ts
+
+-- the page: a document with an empty head round the body
+unfoldable pub frame_start : List ℕ
+frame_start = codes "<!DOCTYPE html><html><head><meta charset=\"utf-8\"/></head>"
+
+unfoldable pub frame_end : List ℕ
+frame_end = codes "</html>"
+
+unfoldable pub html_text : Tree → List ℕ
+html_text body = frame_start ++ (html body ++ frame_end)
