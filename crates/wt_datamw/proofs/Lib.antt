@@ -1,1 +1,2 @@
+pub mod Mws
 pub mod Syncs

@@ -1,6 +1,7 @@
 -- The JSON of `data-mw`.
-use Rattle.std.specs.Prelude.{ℕ, List, [], ◌∷◌, Option, Some, None, codes, fold}
-use Rattle.serde_json.specs.Data.{Data, number, unsigned, string, array, object, Items, item, no_items, Members, member, no_members, put}
+use Rattle.std.specs.Prelude.{ℕ, List, [], ◌∷◌, Option, Some, None, codes, fold, map}
+use Rattle.serde_json.specs.Data.{Data, number, unsigned, string, array, object, Items, Members, member, no_members, put}
+use Rattle.serde_json.specs.View.{items_of}
 use Rattle.serde_json.specs.Written.{compact_text}
 use Rattle.wt_tree.specs.declared.node.DataMw.{DataMw}
 use Rattle.wt_tree.specs.declared.node.DataMw.TheVariants as mw
@@ -36,17 +37,19 @@ part_data (part.Param source) = object (member (codes "param") (wt_data source) 
 part_data (part.Literal text) = string text
 
 abbrev pub parts_items : List Part → Items
-parts_items [] = no_items
-parts_items (p ∷ ps) = item (part_data p) (parts_items ps)
+parts_items ps = items_of (map part_data ps)
 
 -- the inside of an extension tag; one that closes itself has none
 abbrev pub body_member : Option (List ℕ) → Members → Members
 body_member None ms = ms
 body_member (Some text) ms = member (codes "body") (object (member (codes "extsrc") (string text) no_members)) ms
 
-unfoldable pub mw_data : DataMw → Data
+abbrev pub extension_data : List ℕ → Option (List ℕ) → Data
+extension_data name body = object (body_member body (member (codes "name") (string name) no_members))
+
+abbrev pub mw_data : DataMw → Data
 mw_data (mw.Parts ps) = object (member (codes "parts") (array (parts_items ps)) no_members)
-mw_data (mw.Extension name body) = object (body_member body (member (codes "name") (string name) no_members))
+mw_data (mw.Extension name body) = extension_data name body
 
 -- the text of the attribute, before it is escaped: compact JSON
 unfoldable pub mw_text : DataMw → List ℕ

@@ -2,6 +2,8 @@
 //! and the source of each element, and `data-mw`, with the parts of templates and extensions.
 #![tactic(auto)]
 
+mod mw;
 mod sync;
 
+pub use mw::to_text;
 pub use sync::{Sync, sync_to_text};
