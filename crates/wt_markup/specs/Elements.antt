@@ -5,55 +5,48 @@ use Rattle.wt_tree.specs.declared.kind.Kind.{Kind}
 use Rattle.wt_tree.specs.declared.kind.Kind.TheVariants as kind
 use Rattle.wt_tree.specs.declared.kind.TagName.{TagName}
 use Rattle.wt_tree.specs.declared.kind.TagName.TheVariants as tag
+use Rattle.wt_markup.specs.declared.writing.Writing.{Writing}
+use Rattle.wt_markup.specs.declared.writing.Writing.TheVariants.{AsText, AsVoid, RoundCharacter, RoundChildren, Unwritten}
 use Rattle.wt_tree.specs.declared.kind.AttrName.{AttrName}
 use Rattle.wt_tree.specs.declared.kind.AttrName.TheVariants as attr
 
--- how a node is written: as its source, as an element without an end tag, as an element round its
--- character, as an element round its children, or (groups and what stands in them alone, which no
--- tree of a page has until templates are expanded) not at all
-pub data Writing : Type 0 where
-  as_text : Writing
-  as_void : Writing
-  round_character : Writing
-  round_children : Writing
-  unwritten : Writing
-
+-- how a node is written
 abbrev pub writing : Kind → Writing
-writing kind.Body = round_children
-writing kind.Para = round_children
-writing (kind.Heading n) = round_children
-writing kind.Rule = as_void
-writing kind.Ul = round_children
-writing kind.Ol = round_children
-writing kind.Dl = round_children
-writing kind.Li = round_children
-writing kind.Dt = round_children
-writing kind.Dd = round_children
-writing kind.Pre = round_children
-writing kind.Table = round_children
-writing kind.Tbody = round_children
-writing kind.Tr = round_children
-writing kind.Caption = round_children
-writing kind.Td = round_children
-writing kind.Th = round_children
-writing kind.Bold = round_children
-writing kind.Italic = round_children
-writing kind.WikiLink = round_children
-writing kind.ExtLink = round_children
-writing kind.Category = as_void
-writing (kind.Tag t) = round_children
-writing kind.Br = as_void
-writing kind.Entity = round_character
-writing kind.Nowiki = round_children
-writing kind.Island = round_children
-writing kind.Switch = as_void
-writing kind.Comment = as_void
-writing kind.Include = as_void
-writing kind.Skip = as_void
-writing kind.Sep = as_text
-writing kind.Text = as_text
-writing kind.Group = unwritten
-writing kind.Empty = unwritten
+writing kind.Body = RoundChildren
+writing kind.Para = RoundChildren
+writing (kind.Heading n) = RoundChildren
+writing kind.Rule = AsVoid
+writing kind.Ul = RoundChildren
+writing kind.Ol = RoundChildren
+writing kind.Dl = RoundChildren
+writing kind.Li = RoundChildren
+writing kind.Dt = RoundChildren
+writing kind.Dd = RoundChildren
+writing kind.Pre = RoundChildren
+writing kind.Table = RoundChildren
+writing kind.Tbody = RoundChildren
+writing kind.Tr = RoundChildren
+writing kind.Caption = RoundChildren
+writing kind.Td = RoundChildren
+writing kind.Th = RoundChildren
+writing kind.Bold = RoundChildren
+writing kind.Italic = RoundChildren
+writing kind.WikiLink = RoundChildren
+writing kind.ExtLink = RoundChildren
+writing kind.Category = AsVoid
+writing (kind.Tag t) = RoundChildren
+writing kind.Br = AsVoid
+writing kind.Entity = RoundCharacter
+writing kind.Nowiki = RoundChildren
+writing kind.Island = RoundChildren
+writing kind.Switch = AsVoid
+writing kind.Comment = AsVoid
+writing kind.Include = AsVoid
+writing kind.Skip = AsVoid
+writing kind.Sep = AsText
+writing kind.Text = AsText
+writing kind.Group = Unwritten
+writing kind.Empty = Unwritten
 
 unfoldable pub tag_name : TagName → List ℕ
 tag_name tag.Sup = codes "sup"

@@ -9,7 +9,9 @@ use Rattle.wt_tree.specs.Tree.{Label, Tree, tree, Trees, none, more}
 use Rattle.wt_datamw.specs.declared.sync.Sync.{Sync}
 use Rattle.wt_datamw.specs.Sync.{sync_text}
 use Rattle.wt_datamw.specs.Mw.{mw_text}
-use Rattle.wt_markup.specs.Elements.{Writing, as_text, as_void, round_character, round_children, unwritten, writing, element_name, attribute_name, kind_attribute}
+use Rattle.wt_markup.specs.declared.writing.Writing.{Writing}
+use Rattle.wt_markup.specs.declared.writing.Writing.TheVariants.{AsText, AsVoid, RoundCharacter, RoundChildren, Unwritten}
+use Rattle.wt_markup.specs.Elements.{writing, element_name, attribute_name, kind_attribute}
 use Rattle.wt_markup.specs.Escapes.{escaped, escaped_double, escaped_single}
 
 -- an attribute of the node's own
@@ -53,11 +55,11 @@ end_tag l = codes "</" ++ (element_name l.kind ++ codes ">")
 
 -- a node round what it holds
 abbrev pub written : Writing → Label → List ℕ → List ℕ
-written as_text l inside = escaped l.own
-written as_void l inside = void_tag l
-written round_character l inside = start_tag l ++ (escaped l.shown ++ end_tag l)
-written round_children l inside = start_tag l ++ (inside ++ end_tag l)
-written unwritten l inside = []
+written AsText l inside = escaped l.own
+written AsVoid l inside = void_tag l
+written RoundCharacter l inside = start_tag l ++ (escaped l.shown ++ end_tag l)
+written RoundChildren l inside = start_tag l ++ (inside ++ end_tag l)
+written Unwritten l inside = []
 
 abbrev mutual
   pub html : Tree → List ℕ

@@ -1,3 +1,7 @@
-//! Definitions of the HTML: the text that is written for a tree. (The crate has no code; its
-//! chapters lie in `specs/`.)
+//! Definitions of the HTML: the text that is written for a tree. They lie in `specs/`; the code is
+//! one enum that they speak of.
 #![tactic(auto)]
+
+mod writing;
+
+pub use writing::Writing;
