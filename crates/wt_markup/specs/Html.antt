@@ -30,15 +30,26 @@ unfoldable pub mw_attribute : Option DataMw → List ℕ
 mw_attribute None = []
 mw_attribute (Some d) = codes " data-mw='" ++ (escaped_single (mw_text d) ++ codes "'")
 
--- what `data-parsoid` says of a node with these ranges: of a leaf its source, of another node its delimiters
-abbrev pub sync_of : Label → Ranges → Sync
-sync_of l r =
-    if is_leaf l.kind then record { dsr = r; opening = []; closing = []; src = Some l.own }
-    else record { dsr = r; opening = l.opening; closing = l.closing; src = None }
+-- what `data-parsoid` says of a node with these ranges: of a leaf its source, of another node its
+-- delimiters
+abbrev pub leaf_sync : Label → Ranges → Sync
+leaf_sync l r = record { dsr = r; opening = []; closing = []; src = Some l.own }
+
+abbrev pub inner_sync : Label → Ranges → Sync
+inner_sync l r = record { dsr = r; opening = l.opening; closing = l.closing; src = None }
+
+unfoldable pub sync_of : Label → Ranges → Sync
+sync_of l r = if is_leaf l.kind then leaf_sync l r else inner_sync l r
+
+unfoldable pub sync_start : List ℕ
+sync_start = codes " data-parsoid='"
+
+unfoldable pub sync_value : List ℕ → List ℕ
+sync_value text = sync_start ++ (escaped_single text ++ codes "'")
 
 unfoldable pub sync_attribute : Label → Option Ranges → List ℕ
 sync_attribute l None = []
-sync_attribute l (Some r) = codes " data-parsoid='" ++ (escaped_single (sync_text (sync_of l r)) ++ codes "'")
+sync_attribute l (Some r) = sync_value (sync_text (sync_of l r))
 
 -- the attributes of an element, in their order
 unfoldable pub attributes_of : Label → List ℕ

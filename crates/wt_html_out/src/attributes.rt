@@ -1,0 +1,157 @@
+ghost use Rattle.std.specs.Prelude.{◌≡◌, ◌++◌, IfOk, OnOk};
+ghost use Rattle.wt_markup.specs.Html.{attribute, attributes, id_attribute, mw_attribute, leaf_sync, inner_sync, sync_of, sync_start, sync_value, sync_attribute, attributes_of};
+ghost use Rattle.wt_datamw.specs.Sync.{sync_text};
+ghost use Rattle.wt_tree.specs.View.{texts_of, attrs_of, label_of};
+ghost use Rattle.wt_tree.specs.declared.node.Node.{out-Node};
+
+use crate::bytes::{push, push_escaped_double, push_escaped_single, push_number};
+use crate::names::{attribute_of_kind, name_of_attribute};
+use std::alloc::Global;
+use wt_datamw::{Sync, sync_to_text, to_text};
+use wt_span::{NoMemory, Str, Text};
+use wt_tree::{Attr, DataMw, Node, Ranges};
+
+#[tactic(auto, unfolding(wt_markup::specs::Html::attribute))]
+fn push_attribute(out: &mut Vec<u8>, attr: &Attr) -> Result<(), NoMemory>
+    ensures { OnOk result (out.new.items ≡ out.old.items ++ attribute (attr.now.name, attr.now.value)) }
+{
+    push(out, b" ")?;
+    push(out, name_of_attribute(attr.name))?;
+    push(out, b"=\"")?;
+    push_escaped_double(out, attr.value.as_str().as_bytes())?;
+    push(out, b"\"")?;
+    Ok(())
+}
+
+fn push_own(out: &mut Vec<u8>, attrs: &[Attr]) -> Result<(), NoMemory>
+    ensures { OnOk result (out.new.items ≡ out.old.items ++ attributes (attrs_of attrs.now)) }
+{
+    for attr in attrs {
+        push_attribute(out, attr)?;
+    }
+    Ok(())
+}
+
+#[tactic(auto, unfolding(wt_markup::specs::Html::id_attribute))]
+fn push_id(out: &mut Vec<u8>, id: u32) -> Result<(), NoMemory>
+    ensures { OnOk result (out.new.items ≡ out.old.items ++ id_attribute id) }
+{
+    if id == 0 {
+        return Ok(());
+    }
+    push(out, b" id=\"mw")?;
+    push_number(out, id)?;
+    push(out, b"\"")?;
+    Ok(())
+}
+
+#[tactic(auto, unfolding(wt_markup::specs::Html::mw_attribute))]
+fn push_mw(alloc: Global, out: &mut Vec<u8>, mw: &Option<DataMw>) -> Result<(), NoMemory>
+    ensures { OnOk result (out.new.items ≡ out.old.items ++ mw_attribute mw.now) }
+{
+    let Some(value) = mw else {
+        return Ok(());
+    };
+    let text = to_text(alloc, value)?;
+    push(out, b" data-mw='")?;
+    push_escaped_single(out, text.as_str().as_bytes())?;
+    push(out, b"'")?;
+    Ok(())
+}
+
+/// Texts as one.
+fn joined(alloc: Global, texts: &[Text<'_>]) -> Result<Str, NoMemory>
+    ensures { IfOk result (λ s. s ≡ texts_of texts.now) }
+{
+    let mut all = Str::new(alloc);
+    for text in texts {
+        all.push_str(text.as_str())?;
+    }
+    Ok(all)
+}
+
+fn sync_of_leaf(alloc: Global, node: &Node<'_>, dsr: Ranges) -> Result<Sync, NoMemory>
+    ensures { IfOk result (λ s. s ≡ leaf_sync (label_of (out-Node node.now)) dsr) }
+{
+    let src = joined(alloc, node.own.as_slice())?;
+    Ok(Sync {
+        dsr,
+        opening: Str::new(alloc),
+        closing: Str::new(alloc),
+        src: Some(src),
+    })
+}
+
+fn sync_of_inner(alloc: Global, node: &Node<'_>, dsr: Ranges) -> Result<Sync, NoMemory>
+    ensures { IfOk result (λ s. s ≡ inner_sync (label_of (out-Node node.now)) dsr) }
+{
+    let opening = joined(alloc, node.opening.as_slice())?;
+    let closing = joined(alloc, node.closing.as_slice())?;
+    Ok(Sync {
+        dsr,
+        opening,
+        closing,
+        src: None,
+    })
+}
+
+#[tactic(auto, unfolding(wt_markup::specs::Html::sync_of))]
+fn sync_of(alloc: Global, node: &Node<'_>, dsr: Ranges) -> Result<Sync, NoMemory>
+    ensures { IfOk result (λ s. s ≡ sync_of (label_of (out-Node node.now)) dsr) }
+{
+    if node.kind.is_leaf() {
+        return sync_of_leaf(alloc, node, dsr);
+    }
+    sync_of_inner(alloc, node, dsr)
+}
+
+fn sync_text_of(alloc: Global, node: &Node<'_>, dsr: Ranges) -> Result<Str, NoMemory>
+    ensures { IfOk result (λ s. s ≡ sync_text (sync_of (label_of (out-Node node.now)) dsr)) }
+{
+    let sync = sync_of(alloc, node, dsr)?;
+    let text = sync_to_text(alloc, &sync)?;
+    Ok(text)
+}
+
+#[tactic(auto, unfolding(wt_markup::specs::Html::sync_start))]
+fn push_sync_start(out: &mut Vec<u8>) -> Result<(), NoMemory>
+    ensures { OnOk result (out.new.items ≡ out.old.items ++ sync_start) }
+{
+    push(out, b" data-parsoid='")?;
+    Ok(())
+}
+
+#[tactic(auto, unfolding(wt_markup::specs::Html::sync_value))]
+fn push_sync_value(out: &mut Vec<u8>, text: &str) -> Result<(), NoMemory>
+    ensures { OnOk result (out.new.items ≡ out.old.items ++ sync_value text.now) }
+{
+    push_sync_start(out)?;
+    push_escaped_single(out, text.as_bytes())?;
+    push(out, b"'")?;
+    Ok(())
+}
+
+#[tactic(auto, unfolding(wt_markup::specs::Html::sync_attribute))]
+fn push_sync(alloc: Global, out: &mut Vec<u8>, node: &Node<'_>) -> Result<(), NoMemory>
+    ensures { OnOk result (out.new.items ≡ out.old.items ++ sync_attribute (label_of (out-Node node.now)) (out-Node node.now).ranges) }
+{
+    let Some(dsr) = node.ranges else {
+        return Ok(());
+    };
+    let text = sync_text_of(alloc, node, dsr)?;
+    push_sync_value(out, text.as_str())?;
+    Ok(())
+}
+
+/// The attributes of a node's element, in their order.
+#[tactic(auto, unfolding(wt_markup::specs::Html::attributes_of))]
+pub fn push_attributes(alloc: Global, out: &mut Vec<u8>, node: &Node<'_>) -> Result<(), NoMemory>
+    ensures { OnOk result (out.new.items ≡ out.old.items ++ attributes_of (label_of (out-Node node.now))) }
+{
+    push(out, attribute_of_kind(node.kind))?;
+    push_own(out, node.attrs.as_slice())?;
+    push_id(out, node.id)?;
+    push_mw(alloc, out, &node.mw)?;
+    push_sync(alloc, out, node)?;
+    Ok(())
+}

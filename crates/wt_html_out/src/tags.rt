@@ -1,0 +1,43 @@
+ghost use Rattle.std.specs.Prelude.{◌≡◌, ◌++◌, OnOk};
+ghost use Rattle.wt_markup.specs.Html.{start_tag, void_tag, end_tag};
+ghost use Rattle.wt_tree.specs.View.{label_of};
+ghost use Rattle.wt_tree.specs.declared.node.Node.{out-Node};
+
+use crate::attributes::push_attributes;
+use crate::bytes::push;
+use crate::names::push_name;
+use std::alloc::Global;
+use wt_span::NoMemory;
+use wt_tree::Node;
+
+#[tactic(auto, unfolding(wt_markup::specs::Html::start_tag))]
+pub fn push_start(alloc: Global, out: &mut Vec<u8>, node: &Node<'_>) -> Result<(), NoMemory>
+    ensures { OnOk result (out.new.items ≡ out.old.items ++ start_tag (label_of (out-Node node.now))) }
+{
+    push(out, b"<")?;
+    push_name(out, node.kind)?;
+    push_attributes(alloc, out, node)?;
+    push(out, b">")?;
+    Ok(())
+}
+
+#[tactic(auto, unfolding(wt_markup::specs::Html::void_tag))]
+pub fn push_void(alloc: Global, out: &mut Vec<u8>, node: &Node<'_>) -> Result<(), NoMemory>
+    ensures { OnOk result (out.new.items ≡ out.old.items ++ void_tag (label_of (out-Node node.now))) }
+{
+    push(out, b"<")?;
+    push_name(out, node.kind)?;
+    push_attributes(alloc, out, node)?;
+    push(out, b"/>")?;
+    Ok(())
+}
+
+#[tactic(auto, unfolding(wt_markup::specs::Html::end_tag))]
+pub fn push_end(out: &mut Vec<u8>, node: &Node<'_>) -> Result<(), NoMemory>
+    ensures { OnOk result (out.new.items ≡ out.old.items ++ end_tag (label_of (out-Node node.now))) }
+{
+    push(out, b"</")?;
+    push_name(out, node.kind)?;
+    push(out, b">")?;
+    Ok(())
+}
