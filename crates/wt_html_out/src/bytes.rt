@@ -35,7 +35,7 @@ fn push_control(out: &mut Vec<u8>, byte: u8) -> Result<(), NoMemory>
 }
 
 #[tactic(auto, unfolding(wt_markup::specs::Escapes::escape))]
-fn push_byte(out: &mut Vec<u8>, byte: u8) -> Result<(), NoMemory>
+pub fn push_byte(out: &mut Vec<u8>, byte: u8) -> Result<(), NoMemory>
     ensures { OnOk result (out.new.items ≡ out.old.items ++ escape byte) }
 {
     match byte {

@@ -3,8 +3,14 @@
 
 mod attributes;
 mod bytes;
+mod count;
 mod names;
 mod nodes;
+mod refusal;
+mod sink;
 mod tags;
 
+pub use count::html_len;
 pub use nodes::html_bytes;
+pub use refusal::WriteRefusal;
+pub use sink::write_html;

@@ -53,7 +53,7 @@ fn push_all(alloc: Global, out: &mut Vec<u8>, nodes: &[Node<'_>]) -> Result<(), 
 }
 
 #[tactic(auto, unfolding(wt_markup::specs::Html::frame_start))]
-fn push_frame_start(out: &mut Vec<u8>) -> Result<(), NoMemory>
+pub fn push_frame_start(out: &mut Vec<u8>) -> Result<(), NoMemory>
     ensures { OnOk result (out.new.items ≡ out.old.items ++ frame_start) }
 {
     push(
@@ -64,7 +64,7 @@ fn push_frame_start(out: &mut Vec<u8>) -> Result<(), NoMemory>
 }
 
 #[tactic(auto, unfolding(wt_markup::specs::Html::frame_end))]
-fn push_frame_end(out: &mut Vec<u8>) -> Result<(), NoMemory>
+pub fn push_frame_end(out: &mut Vec<u8>) -> Result<(), NoMemory>
     ensures { OnOk result (out.new.items ≡ out.old.items ++ frame_end) }
 {
     push(out, b"</html>")?;

@@ -64,11 +64,14 @@ void_tag l = codes "<" ++ (element_name l.kind ++ (attributes_of l ++ codes "/>"
 unfoldable pub end_tag : Label → List ℕ
 end_tag l = codes "</" ++ (element_name l.kind ++ codes ">")
 
+abbrev pub round_character : Label → List ℕ
+round_character l = start_tag l ++ (escaped l.shown ++ end_tag l)
+
 -- a node round what it holds
 abbrev pub written : Writing → Label → List ℕ → List ℕ
 written AsText l inside = escaped l.own
 written AsVoid l inside = void_tag l
-written RoundCharacter l inside = start_tag l ++ (escaped l.shown ++ end_tag l)
+written RoundCharacter l inside = round_character l
 written RoundChildren l inside = start_tag l ++ (inside ++ end_tag l)
 written Unwritten l inside = []
 

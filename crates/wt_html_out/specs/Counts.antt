@@ -1,0 +1,12 @@
+-- Counting bytes down from the greatest number.
+use Rattle.std.specs.Prelude.{◌≡◌, ◌<◌, ◌≤◌, ℕ, ◌+◌, List, length, Option, Some, None}
+
+-- what is left of a number of bytes after these, or nothing where they are more
+abbrev pub Spends : ℕ → List ℕ → Option ℕ → Type 0
+Spends left bytes None = left < length bytes
+Spends left bytes (Some rest) = rest + length bytes ≡ left
+
+-- the length of a text, or nothing where it has more than so many bytes
+abbrev pub Fits : ℕ → List ℕ → Option ℕ → Type 0
+Fits most bytes None = most < length bytes
+Fits most bytes (Some n) = (n ≡ length bytes) × (n ≤ most)

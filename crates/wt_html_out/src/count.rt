@@ -1,0 +1,213 @@
+ghost use Rattle.std.specs.Prelude.{◌++◌, IfOk};
+ghost use Rattle.wt_html_out.specs.Counts.{Spends, Fits};
+ghost use Rattle.wt_markup.specs.Escapes.{escaped};
+ghost use Rattle.wt_markup.specs.Html.{start_tag, void_tag, end_tag, round_character, html, html_of_all, frame_start, frame_end, html_text};
+ghost use Rattle.wt_tree.specs.View.{label_of, texts_of, view, views};
+ghost use Rattle.wt_tree.specs.declared.node.Node.{out-Node};
+
+use crate::bytes::push_byte;
+use crate::names::writing_of;
+use crate::nodes::{push_frame_end, push_frame_start};
+use crate::tags::{push_end, push_start, push_void};
+use std::alloc::Global;
+use wt_markup::Writing;
+use wt_span::{NoMemory, Text};
+use wt_tree::{Annotated, Node};
+
+/// What is left of `left` after so many bytes, or None where they are more.
+fn spend(left: u32, bytes: &[u8]) -> Option<u32>
+    ensures { Spends left bytes.now result }
+{
+    if bytes.len() > left as usize {
+        return None;
+    }
+    Some(left - bytes.len() as u32)
+}
+
+fn spend_escaped(scratch: &mut Vec<u8>, left: u32, text: &[u8]) -> Result<Option<u32>, NoMemory>
+    ensures { IfOk result (Spends left (escaped text.now)) }
+{
+    let mut left = left;
+    for byte in text {
+        scratch.clear();
+        push_byte(scratch, *byte)?;
+        let Some(rest) = spend(left, scratch.as_slice()) else {
+            return Ok(None);
+        };
+        left = rest;
+    }
+    Ok(Some(left))
+}
+
+fn spend_source(
+    scratch: &mut Vec<u8>,
+    left: u32,
+    texts: &[Text<'_>],
+) -> Result<Option<u32>, NoMemory>
+    ensures { IfOk result (Spends left (escaped (texts_of texts.now))) }
+{
+    let mut left = left;
+    for text in texts {
+        let Some(rest) = spend_escaped(scratch, left, text.as_str().as_bytes())? else {
+            return Ok(None);
+        };
+        left = rest;
+    }
+    Ok(Some(left))
+}
+
+fn spend_void(
+    alloc: Global,
+    scratch: &mut Vec<u8>,
+    left: u32,
+    node: &Node<'_>,
+) -> Result<Option<u32>, NoMemory>
+    ensures { IfOk result (Spends left (void_tag (label_of (out-Node node.now)))) }
+{
+    scratch.clear();
+    push_void(alloc, scratch, node)?;
+    Ok(spend(left, scratch.as_slice()))
+}
+
+fn spend_start(
+    alloc: Global,
+    scratch: &mut Vec<u8>,
+    left: u32,
+    node: &Node<'_>,
+) -> Result<Option<u32>, NoMemory>
+    ensures { IfOk result (Spends left (start_tag (label_of (out-Node node.now)))) }
+{
+    scratch.clear();
+    push_start(alloc, scratch, node)?;
+    Ok(spend(left, scratch.as_slice()))
+}
+
+fn spend_end(scratch: &mut Vec<u8>, left: u32, node: &Node<'_>) -> Result<Option<u32>, NoMemory>
+    ensures { IfOk result (Spends left (end_tag (label_of (out-Node node.now)))) }
+{
+    scratch.clear();
+    push_end(scratch, node)?;
+    Ok(spend(left, scratch.as_slice()))
+}
+
+fn spend_round_character(
+    alloc: Global,
+    scratch: &mut Vec<u8>,
+    left: u32,
+    node: &Node<'_>,
+) -> Result<Option<u32>, NoMemory>
+    ensures { IfOk result (Spends left (round_character (label_of (out-Node node.now)))) }
+{
+    let Some(left) = spend_start(alloc, scratch, left, node)? else {
+        return Ok(None);
+    };
+    let Some(left) = spend_escaped(scratch, left, node.shown.as_str().as_bytes())? else {
+        return Ok(None);
+    };
+    let rest = spend_end(scratch, left, node)?;
+    Ok(rest)
+}
+
+#[cycle(count)]
+fn spend_round_children(
+    alloc: Global,
+    scratch: &mut Vec<u8>,
+    left: u32,
+    node: &Node<'_>,
+) -> Result<Option<u32>, NoMemory>
+    ensures { IfOk result (Spends left (start_tag (label_of (out-Node node.now)) ++ (html_of_all (views (out-Node node.now).children) ++ end_tag (label_of (out-Node node.now))))) }
+{
+    let Some(left) = spend_start(alloc, scratch, left, node)? else {
+        return Ok(None);
+    };
+    let Some(left) = spend_all(alloc, scratch, left, node.children.as_slice())? else {
+        return Ok(None);
+    };
+    let rest = spend_end(scratch, left, node)?;
+    Ok(rest)
+}
+
+#[cycle(count)]
+fn spend_html(
+    alloc: Global,
+    scratch: &mut Vec<u8>,
+    left: u32,
+    node: &Node<'_>,
+) -> Result<Option<u32>, NoMemory>
+    ensures { IfOk result (Spends left (html (view node.now))) }
+{
+    let rest = match writing_of(node.kind) {
+        Writing::AsText => spend_source(scratch, left, node.own.as_slice())?,
+        Writing::AsVoid => spend_void(alloc, scratch, left, node)?,
+        Writing::RoundCharacter => spend_round_character(alloc, scratch, left, node)?,
+        Writing::RoundChildren => spend_round_children(alloc, scratch, left, node)?,
+        Writing::Unwritten => Some(left),
+    };
+    Ok(rest)
+}
+
+#[cycle(count)]
+fn spend_all(
+    alloc: Global,
+    scratch: &mut Vec<u8>,
+    left: u32,
+    nodes: &[Node<'_>],
+) -> Result<Option<u32>, NoMemory>
+    ensures { IfOk result (Spends left (html_of_all (views nodes.now))) }
+{
+    let mut left = left;
+    for node in nodes {
+        let Some(rest) = spend_html(alloc, scratch, left, node)? else {
+            return Ok(None);
+        };
+        left = rest;
+    }
+    Ok(Some(left))
+}
+
+fn spend_frame_start(scratch: &mut Vec<u8>, left: u32) -> Result<Option<u32>, NoMemory>
+    ensures { IfOk result (Spends left frame_start) }
+{
+    scratch.clear();
+    push_frame_start(scratch)?;
+    Ok(spend(left, scratch.as_slice()))
+}
+
+fn spend_frame_end(scratch: &mut Vec<u8>, left: u32) -> Result<Option<u32>, NoMemory>
+    ensures { IfOk result (Spends left frame_end) }
+{
+    scratch.clear();
+    push_frame_end(scratch)?;
+    Ok(spend(left, scratch.as_slice()))
+}
+
+#[tactic(auto, unfolding(wt_markup::specs::Html::html_text))]
+fn spend_page(
+    alloc: Global,
+    scratch: &mut Vec<u8>,
+    left: u32,
+    body: &Node<'_>,
+) -> Result<Option<u32>, NoMemory>
+    ensures { IfOk result (Spends left (html_text (view body.now))) }
+{
+    let Some(left) = spend_frame_start(scratch, left)? else {
+        return Ok(None);
+    };
+    let Some(left) = spend_html(alloc, scratch, left, body)? else {
+        return Ok(None);
+    };
+    let rest = spend_frame_end(scratch, left)?;
+    Ok(rest)
+}
+
+/// How many bytes the HTML of a page has, or None where it has more than `most`. The text itself is
+/// never in memory, but one tag of it at a time.
+pub fn html_len(alloc: Global, t: &Annotated<'_>, most: u32) -> Result<Option<u32>, NoMemory>
+    ensures { IfOk result (Fits most (html_text (view t.now.body))) }
+{
+    let mut scratch = Vec::new(alloc);
+    match spend_page(alloc, &mut scratch, most, t.body())? {
+        None => Ok(None),
+        Some(left) => Ok(Some(most - left)),
+    }
+}
