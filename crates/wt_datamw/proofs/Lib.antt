@@ -1,2 +1,4 @@
 pub mod Mws
+pub mod ReadsBack
+pub mod Shapes
 pub mod Syncs

@@ -1,2 +1,3 @@
 pub mod Mw
 pub mod Sync
+pub mod SyncRead

@@ -3,7 +3,12 @@
 #![tactic(auto)]
 
 mod mw;
+mod parse;
+mod refusal;
 mod sync;
+mod sync_read;
 
 pub use mw::to_text;
+pub use refusal::{DataRefusal, DataWhy};
 pub use sync::{Sync, sync_to_text};
+pub use sync_read::read_sync;

@@ -1,7 +1,7 @@
-ghost use Rattle.std.specs.Prelude.{◌≡◌, IfOk, OnOk, Some};
-ghost use Rattle.serde_json.specs.Read.{read};
+ghost use Rattle.std.specs.Prelude.{◌≡◌, ◌<◌, ◌^◌, IfOk, OnOk, Ok};
 ghost use Rattle.serde_json.specs.View.{view, members_view};
 ghost use Rattle.wt_datamw.specs.Sync.{put_dsr, put_text, put_source, sync_data, sync_text};
+ghost use Rattle.wt_datamw.specs.SyncRead.{IsSmall, sync_told};
 
 use serde_json::{Map, Value, json};
 use std::alloc::{AllocError, Global};
@@ -73,12 +73,34 @@ fn sync_value(alloc: Global, sync: &Sync) -> Result<Value, AllocError>
     Ok(Value::Object(map))
 }
 
+/// A place, which is below 2^32 as every `u32` is.
+fn place(n: u32) -> u32
+    ensures same { result ≡ n }
+    ensures below { n < 2 ^ 32 }
+{
+    n
+}
+
+/// The places of an element.
+fn places_of(sync: &Sync) -> Ranges
+    ensures { IsSmall sync.now }
+{
+    Ranges {
+        start: place(sync.dsr.start),
+        end: place(sync.dsr.end),
+        open_w: place(sync.dsr.open_w),
+        close_w: place(sync.dsr.close_w),
+    }
+}
+
 /// The text of `data-parsoid`, as compact JSON with its keys in byte order. (It is not escaped for
 /// the attribute.)
 pub fn sync_to_text(alloc: Global, s: &Sync) -> Result<Str, NoMemory>
     ensures text { IfOk result (λ text. text ≡ sync_text s.now) }
-    ensures back { IfOk result (λ text. read text ≡ Some (sync_data s.now)) }
+    // it reads back as the same value, and so two values have two texts
+    ensures back { IfOk result (λ text. sync_told text ≡ Ok s.now) }
 {
+    let _dsr = places_of(s);
     let value = sync_value(alloc, s)?;
     let text = value.to_string(alloc)?;
     Ok(Str::from_string(text))
