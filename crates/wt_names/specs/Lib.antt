@@ -1,0 +1,4 @@
+pub mod Good
+pub mod Namespace
+pub mod Reading
+pub mod Written

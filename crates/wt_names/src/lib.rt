@@ -1,0 +1,12 @@
+//! Titles of pages: how a text is read as a title, its full name, the link to it, and the name of
+//! the file that holds its page.
+#![tactic(auto)]
+
+mod good;
+mod namespace;
+mod reading;
+mod title;
+
+pub use good::read_title;
+pub use namespace::Ns;
+pub use title::{Title, full_name, is_category};
