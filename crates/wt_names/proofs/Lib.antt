@@ -1,4 +1,5 @@
-pub mod Characters
+pub mod Ascii
 pub mod Cuts
 pub mod Spaces
 pub mod Words
+pub mod Escapes

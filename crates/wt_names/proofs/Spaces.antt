@@ -7,7 +7,7 @@ use Rattle.std.proofs.lemmas.Str.{encode_ascii}
 use Rattle.std.proofs.lemmas.List.Elements.{All-head, All-tail}
 use Rattle.wt_names.specs.Reading.{squeezed, trimmed_start, begins_with_space}
 use Rattle.wt_names.proofs.Cuts.{differs, trimmed_start-other}
-use Rattle.wt_names.proofs.Characters.{encode_others, encode_some}
+use Rattle.wt_names.proofs.Ascii.{encode_others, encode_some}
 
 pub squeezed-space : (bs : List ℕ) → squeezed (32 ∷ bs) ≡ 32 ∷ squeezed (trimmed_start bs)
 squeezed-space [] = refl

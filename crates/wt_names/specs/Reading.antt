@@ -6,12 +6,16 @@ use Rattle.wt_names.specs.declared.namespace.Ns.TheVariants.{Main}
 use Rattle.wt_names.specs.declared.title.Title.{Title}
 use Rattle.wt_names.specs.Namespace.{namespace_named}
 
--- each `_` is a space
-abbrev pub spaced_byte : ℕ → ℕ
-spaced_byte b = if b == 95 then 32 else b
+-- one byte for each one of another kind
+abbrev pub replaced_byte : ℕ → ℕ → ℕ → ℕ
+replaced_byte from to b = if b == from then to else b
 
+abbrev pub replaced : ℕ → ℕ → List ℕ → List ℕ
+replaced from to bs = map (replaced_byte from to) bs
+
+-- each `_` is a space
 abbrev pub spaced : List ℕ → List ℕ
-spaced bs = map spaced_byte bs
+spaced bs = replaced 95 32 bs
 
 -- the text before the first such byte and the text after it, where there is one
 abbrev pub split_once : ℕ → List ℕ → Option (List ℕ × List ℕ)

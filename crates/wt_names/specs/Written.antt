@@ -1,19 +1,17 @@
 -- What is written for a title: its link and the name of its file; and how a link is read.
-use Rattle.std.specs.Prelude.{ℕ, List, [], ◌∷◌, ◌++◌, Bool, ◌&&◌, ◌||◌, ◌==◌, nat_lt, nat_eq, Option, Some, None, if◌then◌else◌, map, drop, codes}
+use Rattle.std.specs.Prelude.{ℕ, List, [], ◌∷◌, ◌++◌, Bool, ◌&&◌, ◌||◌, ◌==◌, nat_lt, nat_eq, Option, Some, None, if◌then◌else◌, drop, codes}
 use Rattle.std.specs.List.{list_any, flat_map, starts_with}
 use Rattle.std.specs.Char.{is_ascii_alphanumeric}
 use Rattle.std.specs.Str.{is_utf8}
 use Rattle.percent_encoding.specs.Percent.{percent_encode_byte, percent_decode}
 use Rattle.wt_names.specs.declared.title.Title.{Title}
 use Rattle.wt_names.specs.Namespace.{full_name_of}
+use Rattle.wt_names.specs.Reading.{replaced}
 use Rattle.wt_names.specs.Good.{read_text}
 
 -- each space is `_`
-abbrev pub underscored_byte : ℕ → ℕ
-underscored_byte b = if b == 32 then 95 else b
-
 abbrev pub underscored : List ℕ → List ℕ
-underscored bs = map underscored_byte bs
+underscored bs = replaced 32 95 bs
 
 -- the ASCII characters that stand in a link, and in the name of a file, as they are
 unfoldable pub stays_in_link : ℕ → Bool

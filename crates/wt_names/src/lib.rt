@@ -2,11 +2,14 @@
 //! the file that holds its page.
 #![tactic(auto)]
 
+mod characters;
 mod good;
+mod link;
 mod namespace;
 mod reading;
 mod title;
 
 pub use good::read_title;
+pub use link::{file_name, href_of, title_of_href};
 pub use namespace::Ns;
 pub use title::{Title, full_name, is_category};

@@ -1,18 +1,12 @@
 //! How a text is read as a title, step by step.
 ghost use Rattle.std.specs.Prelude.{◌≡◌, ◌<◌, IfOk, string_bytes, option_map};
-ghost use Rattle.wt_names.specs.Reading.{spaced, split_once, squeezed, trimmed_start, trimmed_end, trimmed, raised, page_part, fragment_part, whole_in, named_part, cut_namespace, spaced_title, title_in};
+ghost use Rattle.wt_names.specs.Reading.{split_once, squeezed, trimmed_start, trimmed_end, trimmed, raised, page_part, fragment_part, whole_in, named_part, cut_namespace, spaced_title, title_in};
 
+use crate::characters::spaced_text;
 use crate::namespace::{Ns, find_namespace};
 use crate::title::Title;
 use std::alloc::Global;
 use wt_span::{NoMemory, Str};
-
-/// The text with a space for each `_`.
-fn spaced_text(alloc: Global, text: &str) -> Result<String, NoMemory>
-    ensures { IfOk result (λ s. string_bytes s ≡ spaced text.now) }
-{
-    Ok(text.replace(alloc, '_', " ")?)
-}
 
 /// The text before the first `sign` and the text after it, where there is one.
 fn cut(text: &str, sign: char) -> Option<(&str, &str)>
