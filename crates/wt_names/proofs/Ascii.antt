@@ -63,7 +63,7 @@ replaced_is from to (suc n) q s out small e (a, b, p, rest, found, keeps, on, sa
 
 -- ---- the first character raised
 
-upper_wide : (b : ℕ) → 128 ≤ b → to_ascii_uppercase b ≡ b
+pub upper_wide : (b : ℕ) → 128 ≤ b → to_ascii_uppercase b ≡ b
 upper_wide b wide = grind (arith, nat_tests)
 
 upper_small : (b : ℕ) → b < 128 → to_ascii_uppercase b < 128

@@ -19,7 +19,7 @@ not_below : (b : ℕ) → 128 ≤ b → nat_lt b 128 ≡ false
 not_below b wide = grind (arith, nat_tests)
 
 -- a test of all numbers below n, by computing
-below_by_test : (test : ℕ → Bool) (n : ℕ) → list_all test (range_with_len 0 n) ≡ true → (b : ℕ) → b < n → test b ≡ true
+pub below_by_test : (test : ℕ → Bool) (n : ℕ) → list_all test (range_with_len 0 n) ≡ true → (b : ℕ) → b < n → test b ≡ true
 below_by_test test n all b h =
     let within : b < length (range_with_len 0 n) = omega (arith, length-range_with_len 0 n) in
     let at = AllPass-from_list_all test (range_with_len 0 n) all b 0 within in

@@ -3,3 +3,7 @@ pub mod Cuts
 pub mod Spaces
 pub mod Words
 pub mod Escapes
+pub mod Lacks
+pub mod Tidy
+pub mod Prefixes
+pub mod Readings

@@ -71,7 +71,7 @@ unfoldable pub cut_namespace : List ℕ → Ns × List ℕ
 cut_namespace whole = unwrap_or (named_part (split_once 58 whole)) (Main, whole)
 
 abbrev pub title_from : Ns × List ℕ → Option (List ℕ) → Title
-title_from (ns, name) fragment = record { ns = ns; name = raised name; fragment = fragment }
+title_from part fragment = record { ns = part.0; name = raised part.1; fragment = fragment }
 
 abbrev pub spaced_title : List ℕ → Title
 spaced_title text = title_from (cut_namespace (whole_in text)) (fragment_part (split_once 35 text))
