@@ -66,7 +66,7 @@ replaced_is from to (suc n) q s out small e (a, b, p, rest, found, keeps, on, sa
 pub upper_wide : (b : ℕ) → 128 ≤ b → to_ascii_uppercase b ≡ b
 upper_wide b wide = grind (arith, nat_tests)
 
-upper_small : (b : ℕ) → b < 128 → to_ascii_uppercase b < 128
+pub upper_small : (b : ℕ) → b < 128 → to_ascii_uppercase b < 128
 upper_small b small = grind (arith, nat_tests)
 
 raised_wide : (xs rest : List ℕ) → All IsWide xs → 0 < length xs → raised (xs ++ rest) ≡ xs ++ rest

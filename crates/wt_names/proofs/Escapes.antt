@@ -67,7 +67,7 @@ link_byte : (b : ℕ) → should_percent_encode LINK b ≡ not (stays_in_link b)
 unfolding stays_in_link
 link_byte b = agree LINK _ link_set b
 
-file_byte : (b : ℕ) → should_percent_encode FILE b ≡ not (stays_in_file b)
+pub file_byte : (b : ℕ) → should_percent_encode FILE b ≡ not (stays_in_file b)
 unfolding stays_in_file
 file_byte b = agree FILE _ file_set b
 

@@ -7,3 +7,6 @@ pub mod Lacks
 pub mod Tidy
 pub mod Prefixes
 pub mod Readings
+pub mod Utf8
+pub mod Links
+pub mod Files

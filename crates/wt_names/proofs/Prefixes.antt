@@ -1,8 +1,9 @@
 -- The cut at a sign, and the names of the namespaces before a colon.
-use Rattle.std.proofs.Common.{◌≡◌, ◌≢◌, ℕ, ◌<◌, Bool, true, false, cond, ◌||◌, ◌&&◌, nat_eq, Option, Some, None, option_map, unwrap_or, MatchOption, List, [], ◌∷◌, ◌++◌, length, map, find, refl, sym, ap, ◌∙◌, subst, inl, inr, arith, append_assoc, codes}
+use Rattle.std.proofs.Common.{◌≡◌, ◌≢◌, ℕ, ◌<◌, Bool, true, false, cond, ◌||◌, ◌&&◌, nat_eq, Option, Some, None, option_map, unwrap_or, MatchOption, List, [], ◌∷◌, ◌++◌, length, map, find, refl, sym, ap, ◌∙◌, subst, inl, inr, ◌⊎◌, arith, append_assoc, codes}
 use Rattle.std.specs.List.{list_any, AllByRecursion}
 use Rattle.std.specs.Char.{to_ascii_uppercase, to_ascii_lowercase}
-use Rattle.std.specs.Str.{bytes_eq, str_eq_ignore_ascii_case}
+use Rattle.std.specs.Str.{bytes_eq, is_utf8, chars}
+use Rattle.std.proofs.Math.Utf8.{encode}
 use Rattle.std.proofs.lemmas.Bool.{eq-eqb, eqb-true, cond-false}
 use Rattle.std.proofs.lemmas.Bool.Decides.{eqb_tells, nat_tests}
 use Rattle.wt_names.specs.declared.namespace.Ns.{Ns}
@@ -114,6 +115,7 @@ pub record IsPrefixed (ns : Ns) : Type 0 where
   pub bytes : list_any is_no_name_byte (prefix_of ns) ≡ false
   pub single : squeezed (prefix_of ns) ≡ prefix_of ns
   pub starts : begins_with_space (prefix_of ns) ≡ false
+  pub utf8 : is_utf8 (prefix_of ns) ≡ true
   pub colon : prefix_of ns ≡ name_of ns ++ 58 ∷ []
   pub named : namespace_named (trimmed (name_of ns)) ≡ Some ns
 
@@ -122,6 +124,13 @@ IfNamed Main = prefix_of Main ≡ []
 IfNamed ns = IsPrefixed ns
 
 pub prefixes : (ns : Ns) → IfNamed ns
-unfolding name_of prefix_of namespace_named is_called image is_forbidden
+unfolding name_of prefix_of namespace_named is_called image is_forbidden is_utf8 chars encode
 prefixes Main = refl
-prefixes ns = record { no_colon = refl; bytes = refl; single = refl; starts = refl; colon = refl; named = refl }
+prefixes ns = record { no_colon = refl; bytes = refl; single = refl; starts = refl; utf8 = refl; colon = refl; named = refl }
+
+pub named_or_main : (ns : Ns) → (ns ≡ Main) ⊎ IsPrefixed ns
+named_or_main Main = inl refl
+named_or_main ns = inr (prefixes ns)
+
+pub prefix_main : prefix_of Main ≡ []
+prefix_main = prefixes Main

@@ -17,7 +17,7 @@ use Rattle.wt_names.specs.Good.{is_forbidden, is_allowed, is_named, is_good, is_
 use Rattle.wt_names.specs.Tidy.{is_no_fragment_byte, is_no_name_byte, IsTidyFragment, IsTidy, fragment_suffix, text_of}
 use Rattle.wt_names.proofs.Lacks.{Lacks, both_false, lacks_from_any, any_from_lacks, lacks_weaker, lacks_append, lacks_left, lacks_right, lacks_squeezed, lacks_trimmed, lacks_raised, lacks_replaced, lacks_replaced_byte, replaced_back}
 use Rattle.wt_names.proofs.Tidy.{IsSingle, single_squeezed, squeezed_single, single_left, single_right, single_trimmed, single_raised, begins_same, begins_trimmed, ends_same, trimmed_same, trimmed-trimmed, trimmed-raised, raised-raised, trimmed_end-append}
-use Rattle.wt_names.proofs.Prefixes.{is_sign, split_view, split_lacking, split_between, IsNotMain, named_not_main, named_part-raised, IsPrefixed, IfNamed, prefixes}
+use Rattle.wt_names.proofs.Prefixes.{is_sign, split_view, split_lacking, split_between, IsNotMain, named_not_main, named_part-raised, IsPrefixed, named_or_main, IfNamed, prefixes}
 
 -- ---- what is read is tidy
 
@@ -31,14 +31,14 @@ record IsPlain (bs : List ℕ) : Type 0 where
   single : IsSingle bs
   ends : trimmed bs ≡ bs
 
-both_lack : (s t : ℕ → Bool) (bs : List ℕ) → Lacks s bs → Lacks t bs → Lacks (λ b. s b || t b) bs
+pub both_lack : (s t : ℕ → Bool) (bs : List ℕ) → Lacks s bs → Lacks t bs → Lacks (λ b. s b || t b) bs
 both_lack s t [] l m = tt
 both_lack s t (b ∷ bs) l m = (ap (λ x. x || t b) l.0 ∙ m.0, both_lack s t bs l.1 m.1)
 
-first_lacks : (s t : ℕ → Bool) (bs : List ℕ) → Lacks (λ b. s b || t b) bs → Lacks s bs
+pub first_lacks : (s t : ℕ → Bool) (bs : List ℕ) → Lacks (λ b. s b || t b) bs → Lacks s bs
 first_lacks s t bs l = lacks_weaker (λ b. s b || t b) s (λ b e. (both_false (s b) (t b) e).0) bs l
 
-second_lacks : (s t : ℕ → Bool) (bs : List ℕ) → Lacks (λ b. s b || t b) bs → Lacks t bs
+pub second_lacks : (s t : ℕ → Bool) (bs : List ℕ) → Lacks (λ b. s b || t b) bs → Lacks t bs
 second_lacks s t bs l = lacks_weaker (λ b. s b || t b) t (λ b e. (both_false (s b) (t b) e).1) bs l
 
 page_lacks : (s : List ℕ) (o : Option (List ℕ × List ℕ)) → MatchOption o (Lacks (is_sign 35) s) (λ p. (s ≡ p.0 ++ 35 ∷ p.1) × Lacks (is_sign 35) p.0)
@@ -123,7 +123,7 @@ tidy_in text allowed good =
       good = good;
     }
 
-both_true : (s t : Bool) → (s && t) ≡ true → (s ≡ true) × (t ≡ true)
+pub both_true : (s t : Bool) → (s && t) ≡ true → (s ≡ true) × (t ≡ true)
 both_true true t e = (refl, e)
 both_true false t e = absurd (let z : false ≡ true = e in cc)
 
@@ -140,16 +140,12 @@ read_tidy text t e =
 
 -- ---- what is tidy is read
 
-named_or_main : (ns : Ns) → (ns ≡ Main) ⊎ IsPrefixed ns
-named_or_main Main = inl refl
-named_or_main ns = inr (prefixes ns)
-
 -- the full name is read as the namespace and the name
-record IsWhole (ns : Ns) (name full : List ℕ) : Type 0 where
-  bytes : Lacks is_no_name_byte full
-  single : IsSingle full
-  ends : trimmed full ≡ full
-  cut : cut_namespace full ≡ (ns, name)
+pub record IsWhole (ns : Ns) (name full : List ℕ) : Type 0 where
+  pub bytes : Lacks is_no_name_byte full
+  pub single : IsSingle full
+  pub ends : trimmed full ≡ full
+  pub cut : cut_namespace full ≡ (ns, name)
 
 whole_main : (name : List ℕ) → Lacks is_no_name_byte name → IsSingle name → trimmed name ≡ name → named_part (split_once 58 name) ≡ None → IsWhole Main name (prefix_of Main ++ name)
 unfolding cut_namespace prefix_of
@@ -186,7 +182,13 @@ good_named : (t : Title) → is_good t ≡ true → is_named t ≡ true
 unfolding is_good
 good_named t e = (both_true _ _ (both_true _ _ (both_true _ _ (both_true _ _ (both_true _ _ e).0).0).0).0).0
 
-whole : (t : Title) → IsTidy t → IsWhole t.ns t.name (full_name_of t)
+pub named_name : (t : Title) → IsPrefixed t.ns → IsTidy t → 0 < length t.name
+unfolding full_name_of
+named_name t prefixed tidy =
+    let long : 0 < length (prefix_of t.ns ++ t.name) = rw prefixed.colon (simp (length-append, length-append) (omega arith)) in
+    named_some (length t.name) (length (prefix_of t.ns ++ t.name)) (is_some_text t.fragment) (good_named t tidy.good) long
+
+pub whole : (t : Title) → IsTidy t → IsWhole t.ns t.name (full_name_of t)
 unfolding full_name_of
 whole t tidy =
     let bytes = lacks_from_any is_no_name_byte t.name tidy.bytes in
@@ -196,8 +198,7 @@ whole t tidy =
           let P : Ns → Type 0 = λ ns. IsWhole ns t.name (prefix_of ns ++ t.name) in
           subst P (sym main) (whole_main t.name bytes single tidy.ends (tidy.main main))
       | inr prefixed ↦
-          let long : 0 < length (prefix_of t.ns ++ t.name) = rw prefixed.colon (simp (length-append, length-append) (omega arith)) in
-          whole_prefixed t.ns t.name prefixed bytes single tidy.ends (named_some (length t.name) (length (prefix_of t.ns ++ t.name)) (is_some_text t.fragment) (good_named t tidy.good) long)
+          whole_prefixed t.ns t.name prefixed bytes single tidy.ends (named_name t prefixed tidy)
     ]
 
 -- the cut of a full name and a fragment

@@ -4,6 +4,7 @@
 
 mod characters;
 mod good;
+pub mod laws;
 mod link;
 mod namespace;
 mod reading;
