@@ -1,9 +1,9 @@
 -- The characters of a text and its bytes, for what changes ASCII alone: an ASCII character is its byte, and each byte of another one is past ASCII.
-use Rattle.std.proofs.Common.{cond, ◌≡◌, ◌≢◌, ℕ, zero, suc, ◌+◌, ◌<◌, ◌≤◌, nat_eq, inl, inr, List, [], ◌∷◌, ◌++◌, length, get_or, Some, None, take, drop, All, refl, sym, ap, ◌∙◌, subst, arith, lit<, take-append-drop}
+use Rattle.std.proofs.Common.{cond, ◌≡◌, ◌≢◌, ℕ, zero, suc, ◌+◌, ◌<◌, ◌≤◌, inl, inr, List, [], ◌∷◌, ◌++◌, length, get_or, Some, None, take, drop, All, refl, sym, ap, ◌∙◌, subst, arith, take-append-drop}
 use Rattle.std.specs.Char.{encode_utf8, len_utf8, to_ascii_uppercase}
 use Rattle.std.specs.Str.Pattern.{FindsChar}
 use Rattle.std.specs.Str.Replace.{ReplacesMatches}
-use Rattle.std.proofs.lemmas.Bool.{cond-false, cases_lt, eq-eqb}
+use Rattle.std.proofs.lemmas.Bool.{cases_lt, eq-eqb}
 use Rattle.std.proofs.lemmas.Bool.Decides.{nat_tests}
 use Rattle.std.proofs.lemmas.List.{append-nil}
 use Rattle.std.proofs.lemmas.List.Elements.{All-nil, All-cons, All-same, All-weaker, All-head, All-from_get_or}

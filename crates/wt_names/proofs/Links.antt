@@ -1,6 +1,6 @@
 -- A link leads back to its title, and a full name is read back.
-use Rattle.std.proofs.Common.{◌≡◌, ◌≢◌, ℕ, ◌<◌, Bool, true, false, cond, not, ◌||◌, ◌&&◌, nat_eq, nat_lt, Option, Some, None, option_map, IfSome, List, [], ◌∷◌, ◌++◌, length, drop, All, refl, sym, ap, ◌∙◌, subst, inl, inr, ⊎_elim, arith, lit<, append_assoc, codes}
-use Rattle.std.specs.Str.{IsUtf8, is_utf8}
+use Rattle.std.proofs.Common.{◌≡◌, ◌≢◌, ℕ, ◌<◌, Bool, true, false, cond, not, ◌||◌, ◌&&◌, nat_eq, nat_lt, Option, Some, None, option_map, IfSome, List, [], ◌∷◌, ◌++◌, length, All, refl, sym, ap, ◌∙◌, subst, inl, inr, ⊎_elim, arith, lit<, append_assoc, codes}
+use Rattle.std.specs.Str.{IsUtf8}
 use Rattle.std.specs.List.{starts_with}
 use Rattle.std.proofs.lemmas.Bool.{lt-ltb, cond-true, cases_Bool, both_ways}
 use Rattle.std.proofs.lemmas.List.{append-nil}
@@ -13,18 +13,16 @@ use Rattle.percent_encoding.specs.declared.ascii_set.AsciiSet.{AsciiSet}
 use Rattle.percent_encoding.proofs.AsciiSetLemmas.{escaped_from_inside}
 use Rattle.percent_encoding.proofs.PercentLemmas.{IsByte, percent_encode-nil, percent_encode_escaped, percent_encode_kept, percent_decode-nil, percent_decode_not_percent, percent_decode-percent_encode_byte}
 use Rattle.wt_names.specs.declared.link.TheConstants.{LINK}
-use Rattle.wt_names.specs.declared.namespace.Ns.{Ns}
-use Rattle.wt_names.specs.declared.namespace.Ns.TheVariants.{Main}
 use Rattle.wt_names.specs.declared.title.Title.{Title}
 use Rattle.wt_names.specs.Namespace.{prefix_of, full_name_of}
-use Rattle.wt_names.specs.Reading.{replaced, spaced, title_in, whole_in, cut_namespace}
+use Rattle.wt_names.specs.Reading.{spaced, title_in, whole_in, cut_namespace}
 use Rattle.wt_names.specs.Good.{is_forbidden, is_allowed, is_good, is_short, has_no_colon_first, has_escape, has_signature, is_relative, is_some_text, read_text}
-use Rattle.wt_names.specs.Tidy.{is_no_fragment_byte, is_no_name_byte, IsTidyFragment, IsTidy, fragment_suffix, text_of}
-use Rattle.wt_names.specs.Written.{underscored, stays_in_link, escaped, link_text, link_fragment, link_to, read_bytes, read_link}
-use Rattle.wt_names.proofs.Lacks.{Lacks, lacks_from_any, lacks_append, lacks_replaced, lacks_replaced_byte, replaced_back}
+use Rattle.wt_names.specs.Tidy.{is_no_fragment_byte, IsTidyFragment, IsTidy, fragment_suffix, text_of}
+use Rattle.wt_names.specs.Written.{underscored, link_text, link_fragment, link_to, read_bytes, read_link}
+use Rattle.wt_names.proofs.Lacks.{Lacks, lacks_from_any, lacks_append, lacks_replaced, replaced_back}
 use Rattle.wt_names.proofs.Prefixes.{is_sign, named_or_main, prefix_main}
-use Rattle.wt_names.proofs.Readings.{IsWhole, whole, named_name, first_lacks, second_lacks, both_true, space_allowed, read_tidy, read_written}
-use Rattle.wt_names.proofs.Ascii.{replaced-append, replaced-same}
+use Rattle.wt_names.proofs.Readings.{whole, named_name, first_lacks, second_lacks, read_tidy, read_written}
+use Rattle.wt_names.proofs.Ascii.{replaced-append}
 use Rattle.wt_names.proofs.Escapes.{link_escaped, read_bytes-text}
 use Rattle.wt_names.proofs.Words.{begins-append}
 use Rattle.wt_names.proofs.Utf8.{one_byte, utf8_bytes, utf8_replaced, title_utf8}
@@ -39,7 +37,7 @@ decode_front set (b ∷ bs) rest percent small =
     ⊎_elim
     (λ e. ap (λ x. percent_decode (x ++ rest)) (percent_encode_escaped set b bs e) ∙ ap percent_decode (append_assoc _ (percent_encode set bs) rest) ∙ percent_decode-percent_encode_byte b (percent_encode set bs ++ rest) (All-head IsByte b bs small) ∙ on)
     (λ e. ap (λ x. percent_decode (x ++ rest)) (percent_encode_kept set b bs e)
-      ∙ percent_decode_not_percent b (percent_encode set bs ++ rest) (λ is. both_ways _ e (subst (λ (c : ℕ). should_percent_encode set c ≡ true) (sym is) (escaped_from_inside set 37 percent))) ∙ on)
+    ∙ percent_decode_not_percent b (percent_encode set bs ++ rest) (λ is. both_ways _ e (subst (λ (c : ℕ). should_percent_encode set c ≡ true) (sym is) (escaped_from_inside set 37 percent))) ∙ on)
     (cases_Bool (should_percent_encode set b))
 
 -- ---- the text that a link holds

@@ -1,19 +1,19 @@
 -- The cut at a sign, and the names of the namespaces before a colon.
-use Rattle.std.proofs.Common.{◌≡◌, ◌≢◌, ℕ, ◌<◌, Bool, true, false, cond, ◌||◌, ◌&&◌, nat_eq, Option, Some, None, option_map, unwrap_or, MatchOption, List, [], ◌∷◌, ◌++◌, length, map, find, refl, sym, ap, ◌∙◌, subst, inl, inr, ◌⊎◌, arith, append_assoc, codes}
+use Rattle.std.proofs.Common.{◌≡◌, ◌≢◌, ℕ, Bool, true, false, cond, ◌||◌, ◌&&◌, nat_eq, Option, Some, None, option_map, MatchOption, List, [], ◌∷◌, ◌++◌, length, map, find, refl, sym, ap, ◌∙◌, inl, inr, ◌⊎◌, arith}
 use Rattle.std.specs.List.{list_any, AllByRecursion}
 use Rattle.std.specs.Char.{to_ascii_uppercase, to_ascii_lowercase}
 use Rattle.std.specs.Str.{bytes_eq, is_utf8, chars}
 use Rattle.std.proofs.Math.Utf8.{encode}
-use Rattle.std.proofs.lemmas.Bool.{eq-eqb, eqb-true, cond-false}
+use Rattle.std.proofs.lemmas.Bool.{eq-eqb, eqb-true}
 use Rattle.std.proofs.lemmas.Bool.Decides.{eqb_tells, nat_tests}
 use Rattle.wt_names.specs.declared.namespace.Ns.{Ns}
-use Rattle.wt_names.specs.declared.namespace.Ns.TheVariants.{Main, Talk, User, UserTalk, Project, ProjectTalk, File, FileTalk, Template, TemplateTalk, Help, HelpTalk, Category, CategoryTalk}
+use Rattle.wt_names.specs.declared.namespace.Ns.TheVariants.{Main, File}
 use Rattle.wt_names.specs.Namespace.{name_of, image, is_called, named_spaces, namespace_named, prefix_of}
-use Rattle.wt_names.specs.Reading.{split_once, squeezed, begins_with_space, trimmed_start, trimmed_end, trimmed, raised, named_part}
+use Rattle.wt_names.specs.Reading.{split_once, squeezed, begins_with_space, trimmed_end, trimmed, raised, named_part}
 use Rattle.wt_names.specs.Good.{is_forbidden}
 use Rattle.wt_names.specs.Tidy.{is_no_name_byte}
 use Rattle.wt_names.proofs.Cuts.{differs, trimmed_start-other}
-use Rattle.wt_names.proofs.Lacks.{Lacks, lacks_from_any}
+use Rattle.wt_names.proofs.Lacks.{Lacks}
 use Rattle.wt_names.proofs.Tidy.{upper_space}
 
 -- ---- the cut at a sign

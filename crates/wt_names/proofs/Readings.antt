@@ -1,9 +1,9 @@
 -- What is read is tidy, and what is tidy is read.
-use Rattle.std.proofs.Common.{◌≡◌, ◌≢◌, ℕ, ◌<◌, Bool, true, false, cond, not, ◌||◌, ◌&&◌, nat_eq, nat_lt, Option, Some, None, option_map, unwrap_or, MatchOption, IfSome, List, [], ◌∷◌, ◌++◌, length, map, refl, sym, ap, ◌∙◌, subst, inl, inr, ◌⊎◌, arith, append_assoc, length-append}
+use Rattle.std.proofs.Common.{◌≡◌, ℕ, ◌<◌, Bool, true, false, not, ◌||◌, ◌&&◌, nat_eq, nat_lt, Option, Some, None, option_map, unwrap_or, MatchOption, IfSome, List, [], ◌∷◌, ◌++◌, length, refl, sym, ap, ◌∙◌, subst, inl, inr, arith, append_assoc, length-append}
 use Rattle.std.specs.List.{list_any}
 use Rattle.std.specs.Char.{to_ascii_uppercase}
-use Rattle.std.proofs.lemmas.Bool.{eq-eqb, eqb-true, cond-true, cond-false, cases_Bool, cases_lt}
-use Rattle.std.proofs.lemmas.Bool.Decides.{eqb_tells, nat_tests}
+use Rattle.std.proofs.lemmas.Bool.{cond-true, cases_lt}
+use Rattle.std.proofs.lemmas.Bool.Decides.{nat_tests}
 use Rattle.std.proofs.lemmas.Option.{cond_some}
 use Rattle.std.proofs.lemmas.List.{append-nil}
 use Rattle.wt_names.proofs.Ascii.{upper_wide}
@@ -12,12 +12,12 @@ use Rattle.wt_names.specs.declared.namespace.Ns.{Ns}
 use Rattle.wt_names.specs.declared.namespace.Ns.TheVariants.{Main}
 use Rattle.wt_names.specs.declared.title.Title.{Title}
 use Rattle.wt_names.specs.Namespace.{name_of, namespace_named, prefix_of, full_name_of}
-use Rattle.wt_names.specs.Reading.{replaced, spaced, split_once, squeezed, begins_with_space, trimmed, trimmed_end, raised, page_part, fragment_part, whole_in, named_part, cut_namespace, title_from, spaced_title, title_in}
+use Rattle.wt_names.specs.Reading.{spaced, split_once, squeezed, begins_with_space, trimmed, raised, page_part, fragment_part, whole_in, named_part, cut_namespace, title_from, spaced_title, title_in}
 use Rattle.wt_names.specs.Good.{is_forbidden, is_allowed, is_named, is_good, is_some_text, read_text}
 use Rattle.wt_names.specs.Tidy.{is_no_fragment_byte, is_no_name_byte, IsTidyFragment, IsTidy, fragment_suffix, text_of}
-use Rattle.wt_names.proofs.Lacks.{Lacks, both_false, lacks_from_any, any_from_lacks, lacks_weaker, lacks_append, lacks_left, lacks_right, lacks_squeezed, lacks_trimmed, lacks_raised, lacks_replaced, lacks_replaced_byte, replaced_back}
-use Rattle.wt_names.proofs.Tidy.{IsSingle, single_squeezed, squeezed_single, single_left, single_right, single_trimmed, single_raised, begins_same, begins_trimmed, ends_same, trimmed_same, trimmed-trimmed, trimmed-raised, raised-raised, trimmed_end-append}
-use Rattle.wt_names.proofs.Prefixes.{is_sign, split_view, split_lacking, split_between, IsNotMain, named_not_main, named_part-raised, IsPrefixed, named_or_main, IfNamed, prefixes}
+use Rattle.wt_names.proofs.Lacks.{Lacks, both_false, lacks_from_any, any_from_lacks, lacks_weaker, lacks_append, lacks_left, lacks_right, lacks_squeezed, lacks_trimmed, lacks_raised, lacks_replaced, lacks_replaced_byte}
+use Rattle.wt_names.proofs.Tidy.{IsSingle, single_squeezed, squeezed_single, single_right, single_trimmed, single_raised, begins_same, ends_same, trimmed_same, trimmed-trimmed, trimmed-raised, raised-raised, trimmed_end-append}
+use Rattle.wt_names.proofs.Prefixes.{is_sign, split_view, split_lacking, split_between, IsNotMain, named_not_main, named_part-raised, IsPrefixed, named_or_main}
 
 -- ---- what is read is tidy
 
@@ -118,7 +118,7 @@ tidy_in text allowed good =
       ends = trimmed-raised name is.ends;
       first = raised-raised name;
       main = λ e. let m = main_name w (split_once 58 w) e in
-        ap (λ x. named_part (split_once 58 (raised x))) m.1 ∙ named_part-raised w (begins_same w plain.ends) ∙ m.0;
+          ap (λ x. named_part (split_once 58 (raised x))) m.1 ∙ named_part-raised w (begins_same w plain.ends) ∙ m.0;
       fragment = fragment_tidy s (split_once 35 s) (split_view 35 s) l;
       good = good;
     }
@@ -231,5 +231,5 @@ unfolding read_text title_in is_allowed
 read_written text t tidy is allowed =
     let same : title_in text ≡ t = ap spaced_title is ∙ title_written t tidy in
     let passes : (is_allowed text && is_good (title_in text)) ≡ true =
-      ap (λ x. not x && is_good (title_in text)) (any_from_lacks is_forbidden text allowed) ∙ ap is_good same ∙ tidy.good in
+    ap (λ x. not x && is_good (title_in text)) (any_from_lacks is_forbidden text allowed) ∙ ap is_good same ∙ tidy.good in
     cond-true (is_allowed text && is_good (title_in text)) (Some (title_in text)) None passes ∙ ap Some same

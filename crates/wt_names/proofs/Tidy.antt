@@ -1,11 +1,10 @@
 -- Texts with single spaces and none at their ends.
-use Rattle.std.proofs.Common.{◌≡◌, ◌≢◌, ℕ, zero, suc, ◌<◌, Bool, true, false, cond, not, ◌||◌, ◌&&◌, nat_eq, List, [], ◌∷◌, ◌++◌, length, refl, sym, ap, ◌∙◌, subst, inl, inr, length-append, arith}
+use Rattle.std.proofs.Common.{◌≡◌, ℕ, ◌<◌, Bool, true, false, cond, ◌&&◌, nat_eq, List, [], ◌∷◌, ◌++◌, length, refl, sym, ap, ◌∙◌, length-append, arith}
 use Rattle.std.specs.Char.{to_ascii_uppercase}
 use Rattle.std.proofs.lemmas.Bool.{cond_both, cond-false, eq-eqb, eqb-true}
-use Rattle.std.proofs.lemmas.Bool.Decides.{eqb_tells, nat_tests}
+use Rattle.std.proofs.lemmas.Bool.Decides.{nat_tests}
 use Rattle.wt_names.specs.Reading.{squeezed, begins_with_space, trimmed_start, trimmed_end, trimmed, raised}
-use Rattle.wt_names.proofs.Cuts.{differs, trimmed_start-other}
-use Rattle.wt_names.proofs.Spaces.{squeezed-other}
+use Rattle.wt_names.proofs.Cuts.{differs}
 
 -- no space stands before another one
 abbrev pub IsSingle : List ℕ → Type 0

@@ -1,19 +1,19 @@
 -- What is made of a text is a text, and the bytes of a text are bytes.
-use Rattle.std.proofs.Common.{◌≡◌, ◌≢◌, ℕ, ◌+◌, ◌-◌, ◌/◌, ◌%◌, ◌<◌, ◌≤◌, Bool, true, false, cond, ◌&&◌, nat_eq, nat_lt, Option, Some, None, option_map, unwrap_or, MatchOption, IfSome, ◌⊎◌, inl, inr, List, [], ◌∷◌, ◌++◌, length, get_or, take, drop, All, refl, sym, ap, ◌∙◌, subst, length-append, arith, lit<}
+use Rattle.std.proofs.Common.{◌≡◌, ℕ, ◌+◌, ◌/◌, ◌%◌, ◌<◌, Bool, true, false, cond, ◌&&◌, nat_eq, nat_lt, Option, Some, None, option_map, unwrap_or, MatchOption, IfSome, ◌⊎◌, inl, inr, List, [], ◌∷◌, ◌++◌, length, get_or, All, refl, sym, ap, ◌∙◌, subst, length-append, arith, lit<}
 use Rattle.std.specs.Char.{encode_utf8, IsScalar, to_ascii_uppercase}
-use Rattle.std.specs.Str.{IsUtf8, is_utf8, chars, all_scalars, encode_utf8_all}
-use Rattle.std.proofs.Math.Utf8.{encode, scalar_fits, scalar_cases, low_scalar}
+use Rattle.std.specs.Str.{IsUtf8, all_scalars, encode_utf8_all}
+use Rattle.std.proofs.Math.Utf8.{encode, scalar_cases, low_scalar}
 use Rattle.std.proofs.Math.Seq.{take-append_seam, drop-append-add}
 use Rattle.std.proofs.lemmas.Bool.{cond_both, cases_lt, eqb-true, ltb-true}
-use Rattle.std.proofs.lemmas.List.{append-nil, get_or-append-add}
-use Rattle.std.proofs.lemmas.List.Elements.{All-nil, All-cons, All-append, All-weaker, All-same}
+use Rattle.std.proofs.lemmas.List.{get_or-append-add}
+use Rattle.std.proofs.lemmas.List.Elements.{All-nil, All-cons, All-append}
 use Rattle.std.proofs.lemmas.Str.{IsUtf8-nil, IsUtf8-append, IsUtf8-encode, IsUtf8-take, IsUtf8-drop, IsCharBoundary-before_ascii, IsCharBoundary-after_ascii, encode_ascii}
 use Rattle.percent_encoding.proofs.PercentLemmas.{IsByte}
 use Rattle.wt_names.specs.declared.namespace.Ns.{Ns}
 use Rattle.wt_names.specs.declared.namespace.Ns.TheVariants.{Main}
 use Rattle.wt_names.specs.Namespace.{namespace_named}
-use Rattle.wt_names.specs.Reading.{replaced, replaced_byte, spaced, split_once, squeezed, begins_with_space, trimmed_start, trimmed_end, trimmed, raised, page_part, fragment_part, whole_in, named_part, cut_namespace, spaced_title, title_in}
-use Rattle.wt_names.proofs.Ascii.{IsWide, encode_wide, encode_some, encode_others, replaced-append, replaced-same, raised_is, upper_wide, upper_small}
+use Rattle.wt_names.specs.Reading.{replaced, replaced_byte, spaced, split_once, squeezed, begins_with_space, trimmed_start, trimmed_end, trimmed, raised, page_part, fragment_part, whole_in, named_part, cut_namespace, title_in}
+use Rattle.wt_names.proofs.Ascii.{encode_wide, encode_others, replaced-append, replaced-same, raised_is, upper_wide, upper_small}
 use Rattle.wt_names.proofs.Spaces.{squeezed-others}
 use Rattle.wt_names.proofs.Lacks.{Lacks}
 use Rattle.wt_names.proofs.Prefixes.{is_sign, split_view}
@@ -39,9 +39,9 @@ encode_bytes c small =
     (λ e. let h = ltb-true c 2048 e in two_bytes (192 + c / 64) (128 + c % 64) (omega arith) last)
     (λ _. cond_both (nat_lt c 65536) three four (All IsByte)
     (λ e. let h = ltb-true c 65536 e in
-      All-cons IsByte (224 + c / 4096) ((128 + c / 64 % 64) ∷ (128 + c % 64) ∷ []) (omega arith) (two_bytes (128 + c / 64 % 64) (128 + c % 64) third last))
+    All-cons IsByte (224 + c / 4096) ((128 + c / 64 % 64) ∷ (128 + c % 64) ∷ []) (omega arith) (two_bytes (128 + c / 64 % 64) (128 + c % 64) third last))
     (λ _. All-cons IsByte (240 + c / 262144) ((128 + c / 4096 % 64) ∷ (128 + c / 64 % 64) ∷ (128 + c % 64) ∷ []) (omega arith)
-      (All-cons IsByte (128 + c / 4096 % 64) ((128 + c / 64 % 64) ∷ (128 + c % 64) ∷ []) second (two_bytes (128 + c / 64 % 64) (128 + c % 64) third last)))))
+    (All-cons IsByte (128 + c / 4096 % 64) ((128 + c / 64 % 64) ∷ (128 + c % 64) ∷ []) second (two_bytes (128 + c / 64 % 64) (128 + c % 64) third last)))))
 
 both_true : (s t : Bool) → (s && t) ≡ true → (s ≡ true) × (t ≡ true)
 both_true true t e = (refl, e)

@@ -12,14 +12,12 @@ ghost use Rattle.wt_names.specs.Written.{underscored, link_to, read_link, stays_
 pub fn tidy_titles()
     ensures read { (text : List ℕ) (t : Title) → read_text text ≡ Some t → IsTidy t }
     ensures back { (t : Title) → IsTidy t → read_text (text_of t) ≡ Some t }
-{
-}
+{}
 
 /// The link to a title leads back to it.
 pub fn links_lead_back()
     ensures { (text : List ℕ) (t : Title) → IsUtf8 text → read_text text ≡ Some t → read_link (link_to t) ≡ Some t }
-{
-}
+{}
 
 /// A full name is read as the title without its fragment. That of a fragment alone is empty, and
 /// that is no title.
@@ -27,8 +25,7 @@ pub fn full_names_read_back()
     ensures title { (text : List ℕ) (t : Title) → read_text text ≡ Some t → full_name_of t ≢ []
         → read_text (full_name_of t) ≡ Some (record t { fragment = None }) }
     ensures empty { read_text [] ≡ None }
-{
-}
+{}
 
 /// Two full names that aren't the same but for spaces and `_` have two files; two titles that are
 /// read, whose names have no `_`, have one file only where they have one full name.
@@ -37,8 +34,7 @@ pub fn files_differ()
         → underscored first ≡ underscored second }
     ensures titles { (first second : List ℕ) (t u : Title) → IsUtf8 first → IsUtf8 second → read_text first ≡ Some t
         → read_text second ≡ Some u → file_of (full_name_of t) ≡ file_of (full_name_of u) → full_name_of t ≡ full_name_of u }
-{
-}
+{}
 
 /// The name of a file stays in its folder, whatever the full name: it has letters, digits, `-`,
 /// `_`, `.` and `%` alone, so no `/`; it is neither `.` nor `..`; and it begins with a dot only where
@@ -49,5 +45,4 @@ pub fn files_stay_in_their_folder()
     ensures no_step { (full : List ℕ) → is_step (file_of full) ≡ false }
     ensures dot { (full : List ℕ) → slice_index (file_of full) 0 ≡ 46 → (full ≡ []) ⊎ (slice_index full 0 ≡ 46) }
     ensures bound { (full : List ℕ) → length (file_of full) ≤ 3 * length full + 5 }
-{
-}
+{}

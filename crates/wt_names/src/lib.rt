@@ -8,6 +8,8 @@ pub mod laws;
 mod link;
 mod namespace;
 mod reading;
+#[cfg(test)]
+mod tests;
 mod title;
 
 pub use good::read_title;
