@@ -83,6 +83,9 @@ pub raised_empty : (bs : List ℕ) → length bs ≡ 0 → raised bs ≡ []
 raised_empty [] e = refl
 raised_empty (b ∷ bs) e = absurd (omega arith)
 
--- the upper-case character and what follows it
-pub raised_made : (c upper : ℕ) (bs rest first made : List ℕ) → upper ≡ to_ascii_uppercase c → bs ≡ encode_utf8 c ++ rest → first ≡ encode_utf8 upper → made ≡ first ++ rest → made ≡ raised bs
-raised_made c upper bs rest first made is parts written whole = whole ∙ ap (λ x. x ++ rest) (written ∙ ap encode_utf8 is) ∙ raised_is c bs rest parts
+-- the upper-case character and what follows it, as they are written
+pub raised_made : (c upper : ℕ) (bs read rest start first tail pushed made : List ℕ) → upper ≡ to_ascii_uppercase c → read ≡ bs → read ≡ encode_utf8 c ++ rest
+    → start ≡ [] → first ≡ start ++ encode_utf8 upper → tail ≡ rest → pushed ≡ first ++ tail → made ≡ pushed → made ≡ raised bs
+raised_made c upper bs read rest start first tail pushed made is text parts empty written same both out =
+    let begun : first ≡ encode_utf8 (to_ascii_uppercase c) = written ∙ ap (λ x. x ++ encode_utf8 upper) empty ∙ ap encode_utf8 is in
+    out ∙ both ∙ ap (λ x. x ++ tail) begun ∙ ap (λ x. encode_utf8 (to_ascii_uppercase c) ++ x) same ∙ raised_is c bs rest (sym text ∙ parts)

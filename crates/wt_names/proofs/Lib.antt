@@ -10,3 +10,4 @@ pub mod Readings
 pub mod Utf8
 pub mod Links
 pub mod Files
+pub mod Segments

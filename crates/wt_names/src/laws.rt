@@ -1,9 +1,10 @@
 //! What holds of titles, their links and the names of their files. Each law is the contract of an
 //! empty function.
-ghost use Rattle.std.specs.Prelude.{◌≡◌, ◌≢◌, ℕ, ◌+◌, ◌*◌, ◌<◌, ◌≤◌, ◌⊎◌, List, [], true, false, Some, None, All, IsUtf8, length, slice_index};
+ghost use Rattle.std.specs.Prelude.{◌≡◌, ◌≢◌, ◌==◌, ℕ, ◌+◌, ◌*◌, ◌<◌, ◌≤◌, ◌⊎◌, List, [], true, false, Some, None, All, IsUtf8, length, slice_index};
+ghost use Rattle.std.specs.List.{list_any, slice_split};
 ghost use Rattle.wt_names.specs.declared.title.Title.{Title};
 ghost use Rattle.wt_names.specs.Namespace.{full_name_of};
-ghost use Rattle.wt_names.specs.Good.{read_text, is_step};
+ghost use Rattle.wt_names.specs.Good.{read_text, is_step, is_relative};
 ghost use Rattle.wt_names.specs.Tidy.{IsTidy, text_of};
 ghost use Rattle.wt_names.specs.Written.{underscored, link_to, read_link, stays_in_file, file_of};
 
@@ -26,6 +27,13 @@ pub fn full_names_read_back()
         → read_text (full_name_of t) ≡ Some (record t { fragment = None }) }
     ensures empty { read_text [] ≡ None }
 {}
+
+/// The eight forms of a step that make a full name bad say together: one of its parts between
+/// slashes is `.` or `..`, the dot segments of RFC 3986.
+pub fn steps_are_parts()
+    ensures { (full : List ℕ) → is_relative full ≡ list_any is_step (slice_split (λ b. b == 47) full) }
+{
+}
 
 /// Two full names that aren't the same but for spaces and `_` have two files; two titles that are
 /// read, whose names have no `_`, have one file only where they have one full name.
