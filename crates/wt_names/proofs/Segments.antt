@@ -1,11 +1,10 @@
 -- The eight forms of a step in a full name say together: one of its parts between slashes is `.` or `..`.
-use Rattle.std.proofs.Common.{◌≡◌, ◌≢◌, ℕ, zero, suc, ◌+◌, ◌-◌, ◌<◌, ◌≤◌, Bool, true, false, cond, ◌||◌, ◌&&◌, nat_eq, inl, inr, List, [], ◌∷◌, ◌++◌, length, take, drop, refl, sym, ap, ◌∙◌, subst, arith, codes}
-use Rattle.std.specs.List.{list_any, slice_split, onto_first, starts_with, ends_with}
+use Rattle.std.proofs.Common.{◌≡◌, ◌≢◌, ℕ, suc, ◌-◌, Bool, true, false, cond, ◌||◌, ◌&&◌, nat_eq, inl, inr, List, [], ◌∷◌, ◌++◌, length, drop, refl, sym, ap, ◌∙◌, arith, codes}
+use Rattle.std.specs.List.{list_any, slice_split, onto_first}
 use Rattle.std.specs.Str.{bytes_eq}
 use Rattle.std.proofs.lemmas.Bool.{eq-eqb, eqb-true, cases_lt}
-use Rattle.std.proofs.lemmas.Bool.Decides.{eqb_tells}
 use Rattle.std.proofs.lemmas.Slice.Eq.{bytes_eq-Decides}
-use Rattle.wt_names.specs.Good.{anywhere, begins, holds, ends, is_step, begins_with_step, holds_step, ends_with_step, is_relative}
+use Rattle.wt_names.specs.Good.{begins, holds, ends, is_step, begins_with_step, holds_step, ends_with_step, is_relative}
 use Rattle.wt_names.proofs.Cuts.{differs}
 use Rattle.wt_names.proofs.Words.{same_tests}
 
@@ -126,7 +125,7 @@ ends_slash word bs b t e =
 -- what one more byte, a slash or another one, adds
 more : (b : ℕ) (bs : List ℕ) (t : Bool) → nat_eq 47 b ≡ t → (holds_step (b ∷ bs) || ends_with_step (b ∷ bs))
     ≡ ((((t && begins (codes "./") bs) || holds (codes "/./") bs) || ((t && begins (codes "../") bs) || holds (codes "/../") bs))
-      || (((t && bytes_eq bs (codes ".")) || ends (codes "/.") bs) || ((t && bytes_eq bs (codes "..")) || ends (codes "/..") bs)))
+    || (((t && bytes_eq bs (codes ".")) || ends (codes "/.") bs) || ((t && bytes_eq bs (codes "..")) || ends (codes "/..") bs)))
 unfolding holds_step ends_with_step
 more b bs t e =
     ap (λ x. (x || holds (codes "/../") (b ∷ bs)) || (ends (codes "/.") (b ∷ bs) || ends (codes "/..") (b ∷ bs))) (holds_more (codes "./") bs b t e)

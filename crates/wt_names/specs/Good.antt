@@ -20,13 +20,15 @@ abbrev pub anywhere : (List ℕ → Bool) → List ℕ → Bool
 anywhere test [] = test []
 anywhere test (b ∷ bs) = test (b ∷ bs) || anywhere test bs
 
--- the word stands at the start of the text, somewhere in it, at its end
+-- the word stands at the start of the text
 abbrev pub begins : List ℕ → List ℕ → Bool
 begins word text = starts_with nat_eq text word
 
+-- somewhere in it
 abbrev pub holds : List ℕ → List ℕ → Bool
 holds word text = anywhere (begins word) text
 
+-- at its end
 abbrev pub ends : List ℕ → List ℕ → Bool
 ends word text = ends_with nat_eq text word
 
@@ -42,22 +44,27 @@ has_escape name = anywhere begins_with_escape name
 unfoldable pub has_signature : List ℕ → Bool
 has_signature name = holds (codes "~~~") name
 
--- a step to this folder or the one above it, alone, at the start, inside, at the end
+-- a step to this folder or the one above it: alone
 unfoldable pub is_step : List ℕ → Bool
 is_step full = bytes_eq full (codes ".") || bytes_eq full (codes "..")
 
+-- at the start
 unfoldable pub begins_with_step : List ℕ → Bool
 begins_with_step full = begins (codes "./") full || begins (codes "../") full
 
+-- inside
 unfoldable pub holds_step : List ℕ → Bool
 holds_step full = holds (codes "/./") full || holds (codes "/../") full
 
+-- at the end
 unfoldable pub ends_with_step : List ℕ → Bool
 ends_with_step full = ends (codes "/.") full || ends (codes "/..") full
 
+-- in one of these forms
 abbrev pub is_relative : List ℕ → Bool
 is_relative full = is_step full || begins_with_step full || holds_step full || ends_with_step full
 
+-- a text that isn't empty
 abbrev pub is_some_text : Option (List ℕ) → Bool
 is_some_text None = false
 is_some_text (Some text) = nat_lt 0 (length text)

@@ -32,8 +32,7 @@ pub fn full_names_read_back()
 /// slashes is `.` or `..`, the dot segments of RFC 3986.
 pub fn steps_are_parts()
     ensures { (full : List ℕ) → is_relative full ≡ list_any is_step (slice_split (λ b. b == 47) full) }
-{
-}
+{}
 
 /// Two full names that aren't the same but for spaces and `_` have two files; two titles that are
 /// read, whose names have no `_`, have one file only where they have one full name.

@@ -1,10 +1,9 @@
 //! What is written for a title: its link and the name of its file; and how a link is read.
-ghost use Rattle.std.specs.Prelude.{◌≡◌, ◌++◌, ℕ, ◌<◌, not, codes, IfOk, OnOk, MatchOption, IsUtf8, string_bytes};
-ghost use Rattle.percent_encoding.specs.AsciiSet.{contains};
+ghost use Rattle.std.specs.Prelude.{◌≡◌, ◌++◌, IfOk, OnOk, MatchOption, IsUtf8, string_bytes};
 ghost use Rattle.percent_encoding.specs.Percent.{percent_decode};
 ghost use Rattle.wt_names.specs.Written.{stays_in_link, stays_in_file, escaped, link_text, link_fragment, link_to, file_of, read_bytes, read_link};
 
-use crate::characters::underscored_text;
+use crate::characters::underscored;
 use crate::good::read_title;
 use crate::title::{Title, full_name};
 use percent_encoding::{
@@ -56,7 +55,7 @@ fn push_file_escaped(out: &mut String, text: &str) -> Result<(), AllocError>
 fn push_link_text(alloc: Global, out: &mut String, text: &str) -> Result<(), AllocError>
     ensures { OnOk result (string_bytes out.new ≡ string_bytes out.old ++ link_text text.now) }
 {
-    let text = underscored_text(alloc, text)?;
+    let text = underscored(alloc, text)?;
     push_link_escaped(out, text.as_str())
 }
 
@@ -77,7 +76,8 @@ fn push_link_fragment(
     }
 }
 
-/// The link to a title.
+/// The link to a title: `./`, the full name and where there is one `#` and the fragment, with `_`
+/// for spaces and percent-encoded, as Parsoid writes the `href` of a wiki link.
 #[tactic(auto, unfolding(crate::specs::Written::link_to))]
 pub fn href_of(alloc: Global, t: &Title) -> Result<Str, NoMemory>
     ensures { IfOk result (λ href. href ≡ link_to t.now) }
@@ -89,12 +89,14 @@ pub fn href_of(alloc: Global, t: &Title) -> Result<Str, NoMemory>
     Ok(Str::from_string(href))
 }
 
-/// The name of the file that holds the page of this full name.
+/// The name of the file that holds the page of this full name. It stands in its folder whatever the
+/// text is; it may have up to three times its bytes and five more, which is more than many file
+/// systems allow.
 #[tactic(auto, unfolding(crate::specs::Written::file_of))]
 pub fn file_name(alloc: Global, full: &str) -> Result<Str, NoMemory>
     ensures { IfOk result (λ name. name ≡ file_of full.now) }
 {
-    let full = underscored_text(alloc, full)?;
+    let full = underscored(alloc, full)?;
     let mut name = String::new(alloc);
     push_file_escaped(&mut name, full.as_str())?;
     name.push_str(".wiki")?;

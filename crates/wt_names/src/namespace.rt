@@ -1,6 +1,6 @@
 //! The namespaces and how each is called.
-ghost use Rattle.std.specs.Prelude.{◌≡◌, find};
-ghost use Rattle.wt_names.specs.Namespace.{name_of, is_called, named_spaces, namespace_named, prefix_of};
+ghost use Rattle.std.specs.Prelude.{◌≡◌};
+ghost use Rattle.wt_names.specs.Namespace.{name_of, is_called, namespace_named};
 
 /// The namespace of a title.
 #[derive(Clone, Copy, Debug, PartialEq, Eq)]
@@ -65,7 +65,7 @@ impl Ns {
 
 /// Whether the text is a name of this namespace, without ASCII case.
 #[tactic(auto, unfolding(crate::specs::Namespace::is_called, crate::specs::Namespace::image))]
-fn is_called_so(ns: Ns, text: &str) -> bool
+fn is_called(ns: Ns, text: &str) -> bool
     ensures { result ≡ is_called text.now ns }
 {
     match ns {
@@ -76,8 +76,8 @@ fn is_called_so(ns: Ns, text: &str) -> bool
 
 /// The namespace of this name, without ASCII case.
 #[tactic(auto, unfolding(crate::specs::Namespace::namespace_named))]
-pub fn find_namespace(text: &str) -> Option<Ns>
+pub fn namespace_named(text: &str) -> Option<Ns>
     ensures { result ≡ namespace_named text.now }
 {
-    NAMED.iter().copied().find(|ns| is_called_so(*ns, text))
+    NAMED.iter().copied().find(|ns| is_called(*ns, text))
 }

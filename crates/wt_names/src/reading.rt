@@ -1,15 +1,15 @@
 //! How a text is read as a title, step by step.
 ghost use Rattle.std.specs.Prelude.{◌≡◌, ◌<◌, IfOk, string_bytes, option_map};
-ghost use Rattle.wt_names.specs.Reading.{split_once, squeezed, trimmed_start, trimmed_end, trimmed, raised, page_part, fragment_part, whole_in, named_part, cut_namespace, spaced_title, title_in};
+ghost use Rattle.wt_names.specs.Reading.{split_once, squeezed, trimmed, raised, page_part, fragment_part, named_part, cut_namespace, spaced_title, title_in};
 
-use crate::characters::spaced_text;
-use crate::namespace::{Ns, find_namespace};
+use crate::characters::spaced;
+use crate::namespace::{Ns, namespace_named};
 use crate::title::Title;
 use std::alloc::Global;
 use wt_span::{NoMemory, Str};
 
 /// The text before the first `sign` and the text after it, where there is one.
-fn cut(text: &str, sign: char) -> Option<(&str, &str)>
+fn split_once(text: &str, sign: char) -> Option<(&str, &str)>
     requires { sign < 128 }
     ensures { option_map (λ parts. (parts.0.now, parts.1.now)) result ≡ split_once sign text.now }
 {
@@ -17,7 +17,7 @@ fn cut(text: &str, sign: char) -> Option<(&str, &str)>
 }
 
 /// The text with one space for each run of spaces.
-fn squeezed_text(alloc: Global, text: &str) -> Result<String, NoMemory>
+fn squeezed(alloc: Global, text: &str) -> Result<String, NoMemory>
     ensures { IfOk result (λ s. string_bytes s ≡ squeezed text.now) }
 {
     let mut out = String::new(alloc);
@@ -32,14 +32,14 @@ fn squeezed_text(alloc: Global, text: &str) -> Result<String, NoMemory>
 }
 
 /// The text without the spaces at its start and at its end.
-fn trimmed_text(text: &str) -> &str
+fn trimmed(text: &str) -> &str
     ensures { result.now ≡ trimmed text.now }
 {
     text.trim_start_matches(' ').trim_end_matches(' ')
 }
 
 /// The name with its first character in upper case, where that is an ASCII letter.
-fn raised_text(alloc: Global, name: &str) -> Result<Str, NoMemory>
+fn raised(alloc: Global, name: &str) -> Result<Str, NoMemory>
     ensures { IfOk result (λ s. s ≡ raised name.now) }
 {
     let mut out = String::new(alloc);
@@ -55,37 +55,37 @@ fn raised_text(alloc: Global, name: &str) -> Result<Str, NoMemory>
 fn fragment_in(alloc: Global, text: &str) -> Result<Option<Str>, NoMemory>
     ensures { IfOk result (λ fragment. fragment ≡ fragment_part (split_once 35 text.now)) }
 {
-    match cut(text, '#') {
-        Some((_, fragment)) => Ok(Some(Str::copy_of(alloc, trimmed_text(fragment))?)),
+    match split_once(text, '#') {
+        Some((_, fragment)) => Ok(Some(Str::copy_of(alloc, trimmed(fragment))?)),
         None => Ok(None),
     }
 }
 
 /// The part of a text with spaces that names the page: what stands before its first `#`, or all.
-fn page_part_in(text: &str) -> &str
+fn page_part(text: &str) -> &str
     ensures { result.now ≡ page_part (split_once 35 text.now) text.now }
 {
-    match cut(text, '#') {
+    match split_once(text, '#') {
         Some((page, _)) => page,
         None => text,
     }
 }
 
-/// The namespace that stands before the first colon and what follows it, where that is one.
-fn named_part_in(whole: &str) -> Option<(Ns, &str)>
+/// The namespace that is named before the first colon and what follows it, where one is.
+fn named_part(whole: &str) -> Option<(Ns, &str)>
     ensures { option_map (λ part. (part.0, part.1.now)) result ≡ named_part (split_once 58 whole.now) }
 {
-    let (prefix, rest) = cut(whole, ':')?;
-    let ns = find_namespace(trimmed_text(prefix))?;
-    Some((ns, trimmed_text(rest)))
+    let (prefix, rest) = split_once(whole, ':')?;
+    let ns = namespace_named(trimmed(prefix))?;
+    Some((ns, trimmed(rest)))
 }
 
-/// The namespace and the name of what names the page.
+/// The namespace, and what is left of the part that names the page.
 #[tactic(auto, unfolding(crate::specs::Reading::cut_namespace))]
-fn cut_namespace_in(whole: &str) -> (Ns, &str)
+fn cut_namespace(whole: &str) -> (Ns, &str)
     ensures { (result.0, result.1.now) ≡ cut_namespace whole.now }
 {
-    match named_part_in(whole) {
+    match named_part(whole) {
         Some((ns, name)) => (ns, name),
         None => (Ns::Main, whole),
     }
@@ -93,23 +93,23 @@ fn cut_namespace_in(whole: &str) -> (Ns, &str)
 
 /// The title that a text with spaces names, good or not.
 #[tactic(auto, unfolding(crate::specs::Reading::whole_in))]
-fn spaced_title_in(alloc: Global, text: &str) -> Result<Title, NoMemory>
+fn spaced_title(alloc: Global, text: &str) -> Result<Title, NoMemory>
     ensures { IfOk result (λ t. t ≡ spaced_title text.now) }
 {
-    let squeezed = squeezed_text(alloc, page_part_in(text))?;
-    let (ns, name) = cut_namespace_in(trimmed_text(squeezed.as_str()));
+    let squeezed = squeezed(alloc, page_part(text))?;
+    let (ns, name) = cut_namespace(trimmed(squeezed.as_str()));
     Ok(Title {
         ns,
-        name: raised_text(alloc, name)?,
+        name: raised(alloc, name)?,
         fragment: fragment_in(alloc, text)?,
     })
 }
 
 /// The title that a text names, good or not.
 #[tactic(auto, unfolding(crate::specs::Reading::title_in))]
-pub fn title_named(alloc: Global, text: &str) -> Result<Title, NoMemory>
+pub fn title_in(alloc: Global, text: &str) -> Result<Title, NoMemory>
     ensures { IfOk result (λ t. t ≡ title_in text.now) }
 {
-    let spaced = spaced_text(alloc, text)?;
-    spaced_title_in(alloc, spaced.as_str())
+    let spaced = spaced(alloc, text)?;
+    spaced_title(alloc, spaced.as_str())
 }

@@ -1,7 +1,7 @@
 use Rattle.std.proofs.Common.{sym, ap, ◌∙◌, string_bytes}
 use Rattle.wt_names.proofs.Ascii.{raised_made, raised_empty}
-use Rattle.wt_names.proofs.reading.raised_text.Goals as goal
-use Rattle.wt_names.proofs.reading.raised_text.Goals.{in-Some+in_ok-push+in_ok-push_str, in_default}
+use Rattle.wt_names.proofs.reading.raised.Goals as goal
+use Rattle.wt_names.proofs.reading.raised.Goals.{in-Some+in_ok-push+in_ok-push_str, in_default}
 
 pub returns : goal.returns
 returns c =

@@ -1,8 +1,8 @@
 use Rattle.std.proofs.Common.{ap, ◌∙◌, ◌++◌, nat_eq, string_bytes}
 use Rattle.wt_names.specs.Reading.{squeezed}
 use Rattle.wt_names.proofs.Spaces.{left_after, wrote_other, wrote_space, left_out}
-use Rattle.wt_names.proofs.reading.squeezed_text.Goals as goal
-use Rattle.wt_names.proofs.reading.squeezed_text.Goals.{then-c-ne32+in_ok-push, then-c-ne32-via-then-c-ne32, then-c-ne32-via-else-c-ne32+then-not-after_space, else-c-ne32+else-not-after_space}
+use Rattle.wt_names.proofs.reading.squeezed.Goals as goal
+use Rattle.wt_names.proofs.reading.squeezed.Goals.{then-c-ne32+in_ok-push, then-c-ne32-via-then-c-ne32, then-c-ne32-via-else-c-ne32+then-not-after_space, else-c-ne32+else-not-after_space}
 
 pub loop-c-preserved : goal.loop-c-preserved
 loop-c-preserved c =
