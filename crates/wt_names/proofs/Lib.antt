@@ -11,3 +11,4 @@ pub mod Utf8
 pub mod Links
 pub mod Files
 pub mod Segments
+pub mod Cases
