@@ -1,0 +1,14 @@
+pub mod Ascii
+pub mod Cuts
+pub mod Spaces
+pub mod Words
+pub mod Escapes
+pub mod Lacks
+pub mod Tidy
+pub mod Prefixes
+pub mod Readings
+pub mod Utf8
+pub mod Links
+pub mod Files
+pub mod Segments
+pub mod Cases
