@@ -1,0 +1,5 @@
+pub mod Exchange
+pub mod Fitting
+pub mod NextToggle
+pub mod Places
+pub mod Since

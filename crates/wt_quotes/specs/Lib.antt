@@ -1,0 +1,4 @@
+pub mod Runs
+pub mod Styles
+pub mod Toggles
+pub mod Turns
