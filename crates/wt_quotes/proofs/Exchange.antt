@@ -124,3 +124,53 @@ toggles_are_runs chunks = toggles_all (IsOfRun chunks) chunks (λ t alone run. (
 
 pub toggles_switch : (chunks : List Chunk) → All Switches (toggles_of chunks)
 toggles_switch chunks = toggles_all Switches chunks (λ t alone run. refl) (by_length_switch chunks)
+
+-- toggles are of runs that follow one another, from the place k on
+abbrev pub Rising : ℕ → List Toggle → Type 0
+Rising k [] = Unit {0}
+Rising k (t ∷ ts) = (k ≤ t.chunk) × Rising (t.chunk + 1) ts
+
+rising_from : (j k : ℕ) (ts : List Toggle) → j ≤ k → Rising k ts → Rising j ts
+rising_from j k [] l h = tt
+rising_from j k (t ∷ ts) l h = (omega (arith, h.0), h.1)
+
+rising_option : (k : ℕ) (o : Option Toggle) (ts : List Toggle) → IfSome o (λ t. t.chunk ≡ k) → Rising (k + 1) ts → Rising k (cons_option o ts)
+rising_option k None ts h hs = rising_from k (k + 1) ts (omega arith) hs
+rising_option k (Some t) ts h hs = (omega (arith, h), rising_from (t.chunk + 1) (k + 1) ts (omega (arith, h)) hs)
+
+rising_places : (h : ℕ → Option Toggle) (a n : ℕ) → ((k : ℕ) → IfSome (h k) (λ t. t.chunk ≡ k)) → Rising a (filter_map h (range_with_len a n))
+rising_places h a zero f = tt
+rising_places h a (suc n) f = rising_option a (h a) (filter_map h (range_with_len (a + 1) n)) (f a) (rising_places h (a + 1) n f)
+
+chunk_of : (k n : ℕ) (t : Toggle) → IsFor k n t → t.chunk ≡ k
+unfolding IsFor
+chunk_of k n t is = is.0
+
+by_length_rising : (chunks : List Chunk) → Rising 0 (toggles_by_length chunks)
+unfolding toggle_at
+by_length_rising chunks = rising_places (toggle_at chunks) 0 (length chunks)
+    (λ k. some_weaker (IsFor k (run_length (slice_get chunks k))) (λ t. t.chunk ≡ k) (toggle_at chunks k) (chunk_of k (run_length (slice_get chunks k))) (toggle_for k (run_length (slice_get chunks k))))
+
+rising_tail : (k : ℕ) (t : Toggle) (ts : List Toggle) (i : ℕ) (o : Option Toggle) → Rising k (t ∷ ts) → Rising (t.chunk + 1) (set_exchanged ts i o) → Rising k (set_exchanged (t ∷ ts) (suc i) o)
+rising_tail k t ts i None h hs = h
+rising_tail k t ts i (Some u) h hs = (h.0, hs)
+
+rising_set : (k : ℕ) (ts : List Toggle) (i : ℕ) → Rising k ts → Rising k (set_exchanged ts i (slice_get ts i))
+rising_set k [] zero h = tt
+rising_set k [] (suc i) h = tt
+rising_set k (t ∷ ts) zero h = h
+rising_set k (t ∷ ts) (suc i) h = rising_tail k t ts i (slice_get ts i) h (rising_set (t.chunk + 1) ts i h.1)
+
+rising_exchange : (ts : List Toggle) (o : Option ℕ) → Rising 0 ts → Rising 0 (exchange_at o ts)
+rising_exchange ts None h = h
+rising_exchange ts (Some i) h = rising_set 0 ts i h
+
+either_rising : (xs ys : List Toggle) (b : Bool) → Rising 0 xs → Rising 0 ys → Rising 0 (if b then xs else ys)
+either_rising xs ys true h k = h
+either_rising xs ys false h k = k
+
+pub toggles_rise : (chunks : List Chunk) → Rising 0 (toggles_of chunks)
+unfolding toggles_of
+toggles_rise chunks =
+    let ts : List Toggle = toggles_by_length chunks in
+    either_rising (exchange_at (exchange_place chunks ts) ts) ts (is_due ts) (rising_exchange ts (exchange_place chunks ts) (by_length_rising chunks)) (by_length_rising chunks)

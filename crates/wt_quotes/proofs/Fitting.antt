@@ -18,7 +18,7 @@ use Rattle.wt_quotes.specs.Turns.{is_of, toggles_at, opened_of, is_outside, effe
 use Rattle.wt_quotes.specs.Styles.{width, opening_bytes, closing_bytes, taken, Fits}
 use Rattle.wt_quotes.proofs.Places.{place_le, run_within}
 
-bytes_bits : (bold tog had other : Bool) →
+pub bytes_bits : (bold tog had other : Bool) →
     let e : Effect = (if tog then (if had then Closes else Opens) else (if other then Breaks else Nothing)) in
     closing_bytes bold e + opening_bytes bold e ≡ (if tog then width bold else 0)
 bytes_bits bold true true other = omega arith

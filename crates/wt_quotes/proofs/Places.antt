@@ -63,3 +63,16 @@ map-range_more f n =
     let z : 0 + n ≡ n = omega arith in
     ap (λ m. map f (range_with_len 0 m)) s ∙ ap (map f) (range_more 0 n) ∙ map-append f (range_with_len 0 n) ((0 + n) ∷ [])
     ∙ ap (λ m. map f (range_with_len 0 n) ++ f m ∷ []) z
+
+front_mono : (chunks : List Chunk) (j k : ℕ) → j ≤ k → bytes_of (take j chunks) ≤ bytes_of (take k chunks)
+front_mono [] zero zero h = omega arith
+front_mono [] zero (suc k) h = omega arith
+front_mono [] (suc j) zero h = omega arith
+front_mono [] (suc j) (suc k) h = omega arith
+front_mono (c ∷ cs) zero k h = omega arith
+front_mono (c ∷ cs) (suc j) zero h = absurd (omega arith)
+front_mono (c ∷ cs) (suc j) (suc k) h = omega (arith, front_mono cs j k (omega arith))
+
+pub place_mono : (chunks : List Chunk) (j k : ℕ) → j ≤ k → place_of chunks j ≤ place_of chunks k
+unfolding place_of
+place_mono chunks j k h = front_mono chunks j k h

@@ -1,4 +1,5 @@
 pub mod Runs
+pub mod StyleLaws
 pub mod Styles
 pub mod Toggles
 pub mod Turns

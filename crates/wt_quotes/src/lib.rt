@@ -6,6 +6,7 @@
 #![tactic(auto)]
 
 mod chunk;
+pub mod laws;
 mod style;
 mod toggle;
 mod turn;
