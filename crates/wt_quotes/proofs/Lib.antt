@@ -1,3 +1,5 @@
+pub mod Bytes
+pub mod Counting
 pub mod Exchange
 pub mod Fitting
 pub mod Nesting

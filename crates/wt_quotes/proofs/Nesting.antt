@@ -18,11 +18,11 @@ inner_of : (b : Bool) (n m : ℕ) → ((if b then n else 0) ≤ n) × ((if b the
 inner_of true n m = (omega arith, omega arith)
 inner_of false n m = (omega arith, omega arith)
 
-closing_in : (s : Bool) (t : Turn) → (t.start + closing_width s t ≤ closing_place s t) × (closing_place s t ≤ t.start + (closing_width true t + closing_width false t))
+pub closing_in : (s : Bool) (t : Turn) → (t.start + closing_width s t ≤ closing_place s t) × (closing_place s t ≤ t.start + (closing_width true t + closing_width false t))
 closing_in true t = let i = inner_of t.bold_outside (closing_width false t) 0 in (omega arith, omega arith)
 closing_in false t = let i = inner_of (not t.bold_outside) (closing_width true t) 0 in (omega arith, omega arith)
 
-opening_in : (s : Bool) (t : Turn) → (t.start + (closing_width true t + closing_width false t) ≤ opening_place s t) × (opening_place s t + opening_width s t ≤ t.start + taken t)
+pub opening_in : (s : Bool) (t : Turn) → (t.start + (closing_width true t + closing_width false t) ≤ opening_place s t) × (opening_place s t + opening_width s t ≤ t.start + taken t)
 opening_in true t = let i = inner_of t.bold_outside 0 (opening_width false t) in (omega arith, omega arith)
 opening_in false t = let i = inner_of (not t.bold_outside) 0 (opening_width true t) in (omega arith, omega arith)
 
@@ -53,14 +53,14 @@ begin_from total low had_bold had_italic outside (step s b i flag ∷ rs) h =
 
 -- an open style ends in the context, behind the place from which the toggles follow
 
-abbrev EndsWell : ℕ → ℕ → End → Type 0
+abbrev pub EndsWell : ℕ → ℕ → End → Type 0
 EndsWell low total e = (low + e.close_w ≤ e.to) × (e.to ≤ total)
 
 ends_if : (low total : ℕ) (b : Bool) (e f : End) → EndsWell low total e → EndsWell low total f → EndsWell low total (if b then e else f)
 ends_if low total true e f h k = h
 ends_if low total false e f h k = k
 
-ends_well : (k : Bool) (total low : ℕ) (had_bold had_italic outside : Bool) (rs : List Step) → AreSteps low total rs → EndsWell low total (ending k total (run had_bold had_italic outside rs))
+pub ends_well : (k : Bool) (total low : ℕ) (had_bold had_italic outside : Bool) (rs : List Step) → AreSteps low total rs → EndsWell low total (ending k total (run had_bold had_italic outside rs))
 ends_well k total low had_bold had_italic outside [] h = (omega (arith, h), omega arith)
 ends_well k total low had_bold had_italic outside (step s b i flag ∷ rs) h =
     let t : Turn = made had_bold had_italic outside (step s b i flag) in
@@ -152,7 +152,7 @@ one_italic : (total n : ℕ) (t : Turn) (had_bold outside : Bool) (rs : List Ste
 one_italic total n t had_bold outside rs h l hs =
     (round_italic (style_from false t (ending false total (run had_bold true outside rs))) total n had_bold outside rs h (refl, l, refl, refl), hs)
 
-opens_within : (k had_bold had_italic outside : Bool) (s : ℕ) (b i flag : Bool) → opening_place k (made had_bold had_italic outside (step s b i flag)) + opening_width k (made had_bold had_italic outside (step s b i flag)) ≤ s + bytes_by b i
+pub opens_within : (k had_bold had_italic outside : Bool) (s : ℕ) (b i flag : Bool) → opening_place k (made had_bold had_italic outside (step s b i flag)) + opening_width k (made had_bold had_italic outside (step s b i flag)) ≤ s + bytes_by b i
 opens_within k had_bold had_italic outside s b i flag = omega (arith, (opening_in k (made had_bold had_italic outside (step s b i flag))).1, taken_by had_bold had_italic outside s b i flag)
 
 nested : (total low : ℕ) (had_bold had_italic outside : Bool) (rs : List Step) → AreSteps low total rs → Pairs (styles_by total (run had_bold had_italic outside rs))

@@ -1,5 +1,5 @@
 ghost use Rattle.std.specs.Prelude.{◌≡◌};
-ghost use Rattle.wt_quotes.specs.StyleLaws.{StylesNest};
+ghost use Rattle.wt_quotes.specs.StyleLaws.{StylesNest, EachByteIsStyled, EachSwitchIsOneDelimiter};
 
 use crate::chunk::Chunk;
 
@@ -7,5 +7,19 @@ use crate::chunk::Chunk;
 /// style never lies in a bold one, nor an italic one in an italic one.
 pub fn styles_nest(chunks: &[Chunk])
     ensures { StylesNest chunks.now }
+{
+}
+
+/// Each byte outside the delimiters of toggles is in exactly one bold style where an odd number of
+/// bold toggles lies before it, and in none elsewhere; likewise italic.
+pub fn each_byte_is_styled(chunks: &[Chunk])
+    ensures { EachByteIsStyled chunks.now }
+{
+}
+
+/// Each apostrophe of a toggle that isn't plain is in exactly one delimiter, and every other byte
+/// in none, so that the nested styles, flattened with their delimiters, give the line.
+pub fn each_switch_is_one_delimiter(chunks: &[Chunk])
+    ensures { EachSwitchIsOneDelimiter chunks.now }
 {
 }
