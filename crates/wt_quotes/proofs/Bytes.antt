@@ -18,6 +18,7 @@ use Rattle.wt_quotes.specs.StyleLaws.{holds, delimits, is_switch_at, is_switch, 
 use Rattle.wt_quotes.proofs.Since.{parity}
 use Rattle.wt_quotes.proofs.SixStates.{Step, step, run, toggled, bytes_by}
 use Rattle.wt_quotes.proofs.Reading.{step_at, steps_of, are_steps, styles_read}
+use Rattle.wt_quotes.proofs.Delimiters.{is_in, cut}
 use Rattle.wt_quotes.proofs.Counting.{one, pick, styled, IsFree, held, le_yes, lt_yes}
 
 -- steps are those of toggles
@@ -128,3 +129,20 @@ styled_at false chunks p l e =
 
 pub each_byte : (chunks : List Chunk) → EachByteIsStyled chunks
 each_byte chunks bold p l e = ap (count_by (holds bold p)) (styles_read chunks) ∙ styled_at bold chunks p l e
+
+in_is : (chunks : List Chunk) (p : ℕ) (ts : List Toggle) (rs : List Step) → AreOf chunks ts rs → is_in p rs ≡ list_any (is_switch_at chunks p) ts
+in_is chunks p [] [] h = refl
+in_is chunks p [] (r ∷ rs) h = absurd h
+in_is chunks p (t ∷ ts) [] h = absurd h
+in_is chunks p (t ∷ ts) (step s b i flag ∷ rs) h =
+    ap (λ x. (nat_le x p && nat_lt p (x + bytes_by b i)) || is_in p rs) h.0
+    ∙ ap (λ x. (nat_le (start_of chunks t) p && nat_lt p (start_of chunks t + x)) || is_in p rs) (bytes_is t b i h.1 h.2)
+    ∙ ap (λ x. is_switch_at chunks p t || x) (in_is chunks p ts rs h.3)
+
+pub each_switch : (chunks : List Chunk) → EachSwitchIsOneDelimiter chunks
+each_switch chunks p l =
+    let ts : List Toggle = toggles_of chunks in
+    let is = cut p (bytes_of chunks) 0 false false false (steps_of chunks ts) (are_steps chunks) l in
+    let by = ap one (in_is chunks p ts (steps_of chunks ts) (are_of chunks ts)) in
+    let read = ap (count_by (delimits p)) (styles_read chunks) in
+    omega (arith, is, by, read)

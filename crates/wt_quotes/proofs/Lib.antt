@@ -1,5 +1,6 @@
 pub mod Bytes
 pub mod Counting
+pub mod Delimiters
 pub mod Exchange
 pub mod Fitting
 pub mod Nesting
