@@ -40,7 +40,7 @@ with_option : (P : Toggle → Type 0) (o : Option Toggle) (ts : List Toggle) →
 with_option P None ts h hs = hs
 with_option P (Some t) ts h hs = All-cons P t ts h hs
 
-all_places : (P : Toggle → Type 0) (h : ℕ → Option Toggle) (a n : ℕ) → ((k : ℕ) → k < a + n → IfSome (h k) P) → All P (filter_map h (range_with_len a n))
+pub all_places : (P : Toggle → Type 0) (h : ℕ → Option Toggle) (a n : ℕ) → ((k : ℕ) → k < a + n → IfSome (h k) P) → All P (filter_map h (range_with_len a n))
 all_places P h a zero f = All-nil P
 all_places P h a (suc n) f = with_option P (h a) (filter_map h (range_with_len (a + 1) n)) (f a (omega arith)) (all_places P h (a + 1) n (λ k l. f k (omega arith)))
 
@@ -77,25 +77,23 @@ and_left : (a b : Bool) → (a && b) ≡ true → a ≡ true
 and_left true b e = refl
 and_left false b e = e
 
-IsPlaceOfThree : List Toggle → Toggle → ℕ → Type 0
+abbrev pub IsPlaceOfThree : List Toggle → Toggle → ℕ → Type 0
 IsPlaceOfThree ts d i = (i < length ts) × (is_bold_alone (get_or ts i d) ≡ true)
 
 first_is : (chunks : List Chunk) (class : Class) (ts : List Toggle) (d : Toggle) (i : ℕ) → first_of chunks class ts ≡ Some i → IsPlaceOfThree ts d i
-unfolding IsPlaceOfThree
 first_is chunks class ts d i e =
     let found = position-Some (is_three chunks class) ts i d e in
     (found.0, and_left (is_bold_alone (get_or ts i d)) (is_same_class (class_at chunks (get_or ts i d).chunk) class) found.1)
 
-place_is : (chunks : List Chunk) (ts : List Toggle) (d : Toggle) (i : ℕ) → exchange_place chunks ts ≡ Some i → IsPlaceOfThree ts d i
+pub place_is : (chunks : List Chunk) (ts : List Toggle) (d : Toggle) (i : ℕ) → exchange_place chunks ts ≡ Some i → IsPlaceOfThree ts d i
 place_is chunks ts d = chosen (IsPlaceOfThree ts d) (first_of chunks OneLetter ts) (first_of chunks Middle ts) (first_of chunks Space ts)
     (first_is chunks OneLetter ts d) (first_is chunks Middle ts d) (first_is chunks Space ts d)
 
-nothing : Toggle
+pub nothing : Toggle
 nothing = record { chunk = 0; plain = 0; italic = false; bold = false }
 
 exchanged_all : (P : Toggle → Type 0) (ts : List Toggle) → ((t : Toggle) → is_bold_alone t ≡ true → P t → P (exchanged t)) → All P ts
     → (o : Option ℕ) → ((i : ℕ) → o ≡ Some i → IsPlaceOfThree ts nothing i) → All P (exchange_at o ts)
-unfolding IsPlaceOfThree
 exchanged_all P ts f hs None g = hs
 exchanged_all P ts f hs (Some i) g =
     let is = g i refl in
@@ -146,7 +144,7 @@ chunk_of : (k n : ℕ) (t : Toggle) → IsFor k n t → t.chunk ≡ k
 unfolding IsFor
 chunk_of k n t is = is.0
 
-by_length_rising : (chunks : List Chunk) → Rising 0 (toggles_by_length chunks)
+pub by_length_rising : (chunks : List Chunk) → Rising 0 (toggles_by_length chunks)
 unfolding toggle_at
 by_length_rising chunks = rising_places (toggle_at chunks) 0 (length chunks)
     (λ k. some_weaker (IsFor k (run_length (slice_get chunks k))) (λ t. t.chunk ≡ k) (toggle_at chunks k) (chunk_of k (run_length (slice_get chunks k))) (toggle_for k (run_length (slice_get chunks k))))

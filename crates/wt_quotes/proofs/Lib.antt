@@ -5,6 +5,7 @@ pub mod Exchange
 pub mod Fitting
 pub mod Nesting
 pub mod NextToggle
+pub mod Odds
 pub mod Places
 pub mod Reading
 pub mod Since

@@ -1,5 +1,6 @@
 pub mod Runs
 pub mod StyleLaws
 pub mod Styles
+pub mod ToggleLaws
 pub mod Toggles
 pub mod Turns

@@ -1,7 +1,22 @@
 ghost use Rattle.std.specs.Prelude.{◌≡◌};
+ghost use Rattle.wt_quotes.specs.ToggleLaws.{AtMostOneExchange, NotBothOdd, TogglesAreRuns};
 ghost use Rattle.wt_quotes.specs.StyleLaws.{StylesNest, EachByteIsStyled, EachSwitchIsOneDelimiter};
 
 use crate::chunk::Chunk;
+
+/// At most one run is exchanged, and after it the numbers of bold and of italic toggles are not
+/// both odd, but where no run of three stands in the context.
+pub fn one_run_is_exchanged(chunks: &[Chunk])
+    ensures one { AtMostOneExchange chunks.now }
+    ensures even { NotBothOdd chunks.now }
+{
+}
+
+/// Each toggle with its plain apostrophes is one run, in the order of the runs.
+pub fn toggles_are_runs(chunks: &[Chunk])
+    ensures { TogglesAreRuns chunks.now }
+{
+}
 
 /// Styles nest: each later one lies behind an earlier one or between its delimiters, and a bold
 /// style never lies in a bold one, nor an italic one in an italic one.
