@@ -37,9 +37,12 @@ are_from chunks ts i (suc m) e =
     let h : i < length ts = omega arith in
     let is : slice_get ts i ≡ Some (get_or ts i d) = slice_get-get_or ts i d h in
     let z : i + 1 ≡ suc i = omega arith in
-    subst (λ us. AreOf chunks us (map (step_at chunks ts) (range_with_len i (suc m)))) (sym (drop-cons ts i d h))
-      (ap (λ p. option_map_or (start_of chunks) p 0) is, ap (λ p. option_map_or (is_of true) p false) is, ap (λ p. option_map_or (is_of false) p false) is,
-       subst (λ n. AreOf chunks (drop n ts) (map (step_at chunks ts) (range_with_len (i + 1) m))) z (are_from chunks ts (i + 1) m (omega arith)))
+    subst (λ us. AreOf chunks us (map (step_at chunks ts) (range_with_len i (suc m)))) (sym (drop-cons ts i d h)) (
+      ap (λ p. option_map_or (start_of chunks) p 0) is,
+      ap (λ p. option_map_or (is_of true) p false) is,
+      ap (λ p. option_map_or (is_of false) p false) is,
+      subst (λ n. AreOf chunks (drop n ts) (map (step_at chunks ts) (range_with_len (i + 1) m))) z (are_from chunks ts (i + 1) m (omega arith)),
+    )
 
 drop_none : (ts : List Toggle) → drop 0 ts ≡ ts
 drop_none [] = refl
@@ -106,9 +109,10 @@ free_is chunks p (t ∷ ts) [] h e = absurd h
 free_is chunks p (t ∷ ts) (step s b i flag ∷ rs) h e =
     let w = bytes_is t b i h.1 h.2 in
     let here = or_left (is_switch_at chunks p t) (list_any (is_switch_at chunks p) ts) e in
-    let is : (nat_le s p && nat_lt p (s + bytes_by b i)) ≡ false = ap (λ x. nat_le x p && nat_lt p (x + bytes_by b i)) h.0 ∙ ap (λ x. nat_le (start_of chunks t) p && nat_lt p (start_of chunks t + x)) w ∙ here in
-    (free_by p s (bytes_by b i) is (cases_lt p s) (cases_lt p (s + bytes_by b i)),
-     free_is chunks p ts rs h.3 (or_right (is_switch_at chunks p t) (list_any (is_switch_at chunks p) ts) e))
+    let is : (nat_le s p && nat_lt p (s + bytes_by b i)) ≡ false = ap (λ x. nat_le x p && nat_lt p (x + bytes_by b i)) h.0 ∙ ap (λ x. nat_le (start_of chunks t) p && nat_lt p (start_of chunks t + x)) w ∙ here in (
+      free_by p s (bytes_by b i) is (cases_lt p s) (cases_lt p (s + bytes_by b i)),
+      free_is chunks p ts rs h.3 (or_right (is_switch_at chunks p t) (list_any (is_switch_at chunks p) ts) e),
+    )
 
 from_false : (b : Bool) → toggled b false ≡ b
 from_false true = refl

@@ -50,17 +50,25 @@ count_if q false u = refl
 
 count_two : (q : Style → Bool) (total : ℕ) (t : Turn) (ts : List Turn) (f : Bool) →
     count_by q (begun f total t ts ++ begun (not f) total t ts)
-      ≡ cond (begins (effect_of true t) && q (style_from true t (ending true total ts))) 1 0 + cond (begins (effect_of false t) && q (style_from false t (ending false total ts))) 1 0
-count_two q total t ts true = omega (arith, sum_by-append (λ u. cond (q u) 1 0) (begun true total t ts) (begun false total t ts),
-    count_if q (begins (effect_of true t)) (style_from true t (ending true total ts)), count_if q (begins (effect_of false t)) (style_from false t (ending false total ts)))
-count_two q total t ts false = omega (arith, sum_by-append (λ u. cond (q u) 1 0) (begun false total t ts) (begun true total t ts),
-    count_if q (begins (effect_of true t)) (style_from true t (ending true total ts)), count_if q (begins (effect_of false t)) (style_from false t (ending false total ts)))
+    ≡ cond (begins (effect_of true t) && q (style_from true t (ending true total ts))) 1 0 + cond (begins (effect_of false t) && q (style_from false t (ending false total ts))) 1 0
+count_two q total t ts true = omega (
+  arith,
+  sum_by-append (λ u. cond (q u) 1 0) (begun true total t ts) (begun false total t ts),
+  count_if q (begins (effect_of true t)) (style_from true t (ending true total ts)),
+  count_if q (begins (effect_of false t)) (style_from false t (ending false total ts)),
+)
+count_two q total t ts false = omega (
+  arith,
+  sum_by-append (λ u. cond (q u) 1 0) (begun false total t ts) (begun true total t ts),
+  count_if q (begins (effect_of true t)) (style_from true t (ending true total ts)),
+  count_if q (begins (effect_of false t)) (style_from false t (ending false total ts)),
+)
 
 -- the styles that begin at a toggle, and the others
 pub count_styles : (q : Style → Bool) (total : ℕ) (t : Turn) (ts : List Turn) →
     count_by q (styles_by total (t ∷ ts))
-      ≡ (cond (begins (effect_of true t) && q (style_from true t (ending true total ts))) 1 0 + cond (begins (effect_of false t) && q (style_from false t (ending false total ts))) 1 0)
-        + count_by q (styles_by total ts)
+    ≡ (cond (begins (effect_of true t) && q (style_from true t (ending true total ts))) 1 0 + cond (begins (effect_of false t) && q (style_from false t (ending false total ts))) 1 0)
+    + count_by q (styles_by total ts)
 count_styles q total t ts = omega (arith, sum_by-append (λ u. cond (q u) 1 0) (begun t.bold_outside total t ts ++ begun (not t.bold_outside) total t ts) (styles_by total ts), count_two q total t ts t.bold_outside)
 
 pub count_none : (q : Style → Bool) (us : List Style) → All (λ u. q u ≡ false) us → count_by q us ≡ 0
@@ -122,7 +130,7 @@ inside p e = nat_lt (p + e.close_w) e.to
 abbrev pub Held : Bool → ℕ → ℕ → Bool → Bool → Bool → List Step → Type 0
 Held k p total had_bold had_italic outside rs =
     count_by (holds k p) (styles_by total (run had_bold had_italic outside rs)) + one (pick k had_bold had_italic && inside p (ending k total (run had_bold had_italic outside rs)))
-      ≡ one (styled k p (pick k had_bold had_italic) rs)
+    ≡ one (styled k p (pick k had_bold had_italic) rs)
 
 not_held : (k : Bool) (p : ℕ) (u : Style) → p < u.from → holds k p u ≡ false
 not_held k p u l = and_false (is_kind k u.bold) (nat_le (u.from + u.open_w) p && nat_lt (p + u.close_w) u.to) (ap (λ x. x && nat_lt (p + u.close_w) u.to) (le_no (u.from + u.open_w) p (omega arith)))
@@ -176,4 +184,4 @@ held k p total low had_bold had_italic outside [] h l f = let e = ap one (and_tr
 held k p total low had_bold had_italic outside (step s b i flag ∷ rs) h l f =
     let n : s ≤ s = omega arith in
     held_step k p total s b i flag had_bold had_italic outside rs (n, h.1, h.2) f.0
-      (λ m. held k p total (s + bytes_by b i) (toggled b had_bold) (toggled i had_italic) (outside_after had_bold had_italic b i flag) rs h.2 l f.1)
+    (λ m. held k p total (s + bytes_by b i) (toggled b had_bold) (toggled i had_italic) (outside_after had_bold had_italic b i flag) rs h.2 l f.1)

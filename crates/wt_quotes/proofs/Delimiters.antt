@@ -81,8 +81,8 @@ four_by s a b c d p x y z e f g h k =
 
 four : (f : Bool) (s cb ci ob oi p : ℕ) → s ≤ p → p < s + (cb + ci + (ob + oi))
     → (one (nat_le (s + (cb + (if f then ci else 0))) (p + cb) && nat_lt p (s + (cb + (if f then ci else 0)))) + one (nat_le (s + (ci + (if not f then cb else 0))) (p + ci) && nat_lt p (s + (ci + (if not f then cb else 0)))))
-      + (one (nat_le (s + (cb + ci + (if f then 0 else oi))) p && nat_lt p (s + (cb + ci + (if f then 0 else oi)) + ob)) + one (nat_le (s + (cb + ci + (if not f then 0 else ob))) p && nat_lt p (s + (cb + ci + (if not f then 0 else ob)) + oi)))
-      ≡ 1
+    + (one (nat_le (s + (cb + ci + (if f then 0 else oi))) p && nat_lt p (s + (cb + ci + (if f then 0 else oi)) + ob)) + one (nat_le (s + (cb + ci + (if not f then 0 else ob))) p && nat_lt p (s + (cb + ci + (if not f then 0 else ob)) + oi)))
+    ≡ 1
 four true s cb ci ob oi p h k =
     let z : s + (cb + ci + 0) ≡ s + (cb + ci) = omega arith in
     let e = ap (λ n. one (nat_le n p && nat_lt p (n + ob))) z in
@@ -115,8 +115,8 @@ one_closing k false false false c p later w e = sym (ap one (end_empty c p))
 abbrev pub Cut : ℕ → ℕ → Bool → Bool → Bool → List Step → Type 0
 Cut p total had_bold had_italic outside rs =
     count_by (delimits p) (styles_by total (run had_bold had_italic outside rs))
-      + (one (had_bold && shut p (ending true total (run had_bold had_italic outside rs))) + one (had_italic && shut p (ending false total (run had_bold had_italic outside rs))))
-      ≡ one (is_in p rs)
+    + (one (had_bold && shut p (ending true total (run had_bold had_italic outside rs))) + one (had_italic && shut p (ending false total (run had_bold had_italic outside rs))))
+    ≡ one (is_in p rs)
 
 cut_before : (p total s : ℕ) (b i flag had_bold had_italic outside : Bool) (rs : List Step) → AreSteps s total (step s b i flag ∷ rs) → p < s → Cut p total had_bold had_italic outside (step s b i flag ∷ rs)
 cut_before p total s b i flag had_bold had_italic outside rs h l =
@@ -143,9 +143,9 @@ cut_after p total s b i flag had_bold had_italic outside rs l is =
     let ts : List Turn = run (toggled b had_bold) (toggled i had_italic) (outside_after had_bold had_italic b i flag) rs in
     let all = taken_by had_bold had_italic outside s b i flag in
     let bold = one_kind (shut p) b had_bold (i && ((had_bold && had_italic) && not outside)) (delimits p (style_from true t (ending true total ts))) (record { to = closing_place true t; close_w = closing_width true t }) (ending true total ts)
-        (broken_bold i had_bold had_italic outside) (past_begun true p t (ending true total ts) (omega (arith, l, opens_within true had_bold had_italic outside s b i flag))) (past_here true p t (omega (arith, l, all, (closing_in true t).1))) in
+    (broken_bold i had_bold had_italic outside) (past_begun true p t (ending true total ts) (omega (arith, l, opens_within true had_bold had_italic outside s b i flag))) (past_here true p t (omega (arith, l, all, (closing_in true t).1))) in
     let italic = one_kind (shut p) i had_italic (b && ((had_bold && had_italic) && outside)) (delimits p (style_from false t (ending false total ts))) (record { to = closing_place false t; close_w = closing_width false t }) (ending false total ts)
-        (broken_italic b had_bold had_italic outside) (past_begun false p t (ending false total ts) (omega (arith, l, opens_within false had_bold had_italic outside s b i flag))) (past_here false p t (omega (arith, l, all, (closing_in false t).1))) in
+    (broken_italic b had_bold had_italic outside) (past_begun false p t (ending false total ts) (omega (arith, l, opens_within false had_bold had_italic outside s b i flag))) (past_here false p t (omega (arith, l, all, (closing_in false t).1))) in
     let right = ap (λ x. one (x || is_in p rs)) (and_false (nat_le s p) (nat_lt p (s + bytes_by b i)) (lt_no p (s + bytes_by b i) l)) in
     omega (arith, count_styles (delimits p) total t ts, bold, italic, right, is)
 
@@ -184,4 +184,4 @@ cut p total low had_bold had_italic outside [] h l =
 cut p total low had_bold had_italic outside (step s b i flag ∷ rs) h l =
     let n : s ≤ s = omega arith in
     cut_step p total s b i flag had_bold had_italic outside rs (n, h.1, h.2) (cases_lt p s) (cases_lt p (s + bytes_by b i))
-      (λ m. cut p total (s + bytes_by b i) (toggled b had_bold) (toggled i had_italic) (outside_after had_bold had_italic b i flag) rs h.2 l)
+    (λ m. cut p total (s + bytes_by b i) (toggled b had_bold) (toggled i had_italic) (outside_after had_bold had_italic b i flag) rs h.2 l)

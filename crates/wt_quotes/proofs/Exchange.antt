@@ -21,10 +21,10 @@ IsFor k n t = (t.chunk ≡ k) × (t.plain + width_of t ≡ n) × ((t.bold || t.i
 for_bits : (k n : ℕ) (small two three four : Bool) → (small ≡ false → n < 2 → ⊥) → (two ≡ true → n ≡ 2) → (two ≡ false → n ≡ 2 → ⊥) → (three ≡ true → n ≡ 3) → (three ≡ false → n ≡ 3 → ⊥)
     → (four ≡ true → n ≡ 4) → (four ≡ false → n ≡ 4 → ⊥)
     → IfSome (if small then None
-        else (if two then Some (record { chunk = k; plain = 0; italic = true; bold = false })
-        else (if three then Some (record { chunk = k; plain = 0; italic = false; bold = true })
-        else (if four then Some (record { chunk = k; plain = 1; italic = false; bold = true })
-        else Some (record { chunk = k; plain = n - 5; italic = true; bold = true }))))) (IsFor k n)
+    else (if two then Some (record { chunk = k; plain = 0; italic = true; bold = false })
+    else (if three then Some (record { chunk = k; plain = 0; italic = false; bold = true })
+    else (if four then Some (record { chunk = k; plain = 1; italic = false; bold = true })
+    else Some (record { chunk = k; plain = n - 5; italic = true; bold = true }))))) (IsFor k n)
 unfolding IsFor
 for_bits k n true two three four s a b d e f g = tt
 for_bits k n false true three four s a b d e f g = (refl, omega (arith, a refl), refl)

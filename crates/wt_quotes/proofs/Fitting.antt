@@ -54,7 +54,7 @@ fit_at chunks ts runs i h =
 pub turns_fit : (chunks : List Chunk) (ts : List Toggle) → All (IsOfRun chunks) ts → All (Fits (bytes_of chunks)) (turns_of chunks ts)
 turns_fit chunks ts runs =
     All-map (Fits (bytes_of chunks)) (turn_at chunks ts) (range_with_len 0 (length ts)) (λ k d h.
-        let l : k < length ts = omega (arith, length-range_with_len 0 (length ts)) in
-        let w : k ≡ 0 + k = omega arith in
-        let z : k ≡ get_or (range_with_len 0 (length ts)) k d = w ∙ sym (get_or-range_with_len 0 (length ts) k d l) in
-        subst (λ i. Fits (bytes_of chunks) (turn_at chunks ts i)) z (fit_at chunks ts runs k l))
+    let l : k < length ts = omega (arith, length-range_with_len 0 (length ts)) in
+    let w : k ≡ 0 + k = omega arith in
+    let z : k ≡ get_or (range_with_len 0 (length ts)) k d = w ∙ sym (get_or-range_with_len 0 (length ts) k d l) in
+    subst (λ i. Fits (bytes_of chunks) (turn_at chunks ts i)) z (fit_at chunks ts runs k l))

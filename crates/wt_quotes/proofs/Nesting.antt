@@ -35,10 +35,10 @@ all_if P false u h = All-nil P
 begun_all : (P : Style → Type 0) (total : ℕ) (t : Turn) (ts : List Turn) → ((s : Bool) → P (style_from s t (ending s total ts))) → All P (styles_by total ts) → All P (styles_by total (t ∷ ts))
 begun_all P total t ts h hs =
     All-append P (begun t.bold_outside total t ts ++ begun (not t.bold_outside) total t ts) (styles_by total ts)
-      (All-append P (begun t.bold_outside total t ts) (begun (not t.bold_outside) total t ts)
-        (all_if P (begins (effect_of t.bold_outside t)) (style_from t.bold_outside t (ending t.bold_outside total ts)) (h t.bold_outside))
-        (all_if P (begins (effect_of (not t.bold_outside) t)) (style_from (not t.bold_outside) t (ending (not t.bold_outside) total ts)) (h (not t.bold_outside))))
-      hs
+    (All-append P (begun t.bold_outside total t ts) (begun (not t.bold_outside) total t ts)
+    (all_if P (begins (effect_of t.bold_outside t)) (style_from t.bold_outside t (ending t.bold_outside total ts)) (h t.bold_outside))
+    (all_if P (begins (effect_of (not t.bold_outside) t)) (style_from (not t.bold_outside) t (ending (not t.bold_outside) total ts)) (h (not t.bold_outside))))
+    hs
 
 -- all styles begin behind the place from which the toggles follow
 
@@ -47,9 +47,9 @@ begin_from total low had_bold had_italic outside [] h = All-nil (λ u. low ≤ u
 begin_from total low had_bold had_italic outside (step s b i flag ∷ rs) h =
     let t : Turn = made had_bold had_italic outside (step s b i flag) in
     begun_all (λ u. low ≤ u.from) total t (run (toggled b had_bold) (toggled i had_italic) (outside_after had_bold had_italic b i flag) rs)
-      (λ k. omega (arith, (opening_in k t).0, h.0))
-      (All-weaker (λ u. s + bytes_by b i ≤ u.from) (λ u. low ≤ u.from) (λ u l. omega (arith, h.0, l)) (styles_by total (run (toggled b had_bold) (toggled i had_italic) (outside_after had_bold had_italic b i flag) rs))
-        (begin_from total (s + bytes_by b i) (toggled b had_bold) (toggled i had_italic) (outside_after had_bold had_italic b i flag) rs h.2))
+    (λ k. omega (arith, (opening_in k t).0, h.0))
+    (All-weaker (λ u. s + bytes_by b i ≤ u.from) (λ u. low ≤ u.from) (λ u l. omega (arith, h.0, l)) (styles_by total (run (toggled b had_bold) (toggled i had_italic) (outside_after had_bold had_italic b i flag) rs))
+    (begin_from total (s + bytes_by b i) (toggled b had_bold) (toggled i had_italic) (outside_after had_bold had_italic b i flag) rs h.2))
 
 -- an open style ends in the context, behind the place from which the toggles follow
 
@@ -68,8 +68,8 @@ ends_well k total low had_bold had_italic outside (step s b i flag ∷ rs) h =
     let last = steps_end (s + bytes_by b i) total rs h.2 in
     let all = taken_by had_bold had_italic outside s b i flag in
     ends_if low total (stops (effect_of k t)) (record { to = closing_place k t; close_w = closing_width k t }) (ending k total (run (toggled b had_bold) (toggled i had_italic) (outside_after had_bold had_italic b i flag) rs))
-      (omega (arith, (closing_in k t).0, h.0), omega (arith, (closing_in k t).1, last, all))
-      (omega (arith, is.0, h.0), is.1)
+    (omega (arith, (closing_in k t).0, h.0), omega (arith, (closing_in k t).1, last, all))
+    (omega (arith, is.0, h.0), is.1)
 
 -- of two open styles the inner one ends first
 
@@ -92,7 +92,7 @@ ends_inside false total low (step s true false flag ∷ rs) h = omega (arith, (e
 behind : (x : Style) (total : ℕ) (t : Turn) (ts : List Turn) (k : Bool) → x.to ≡ closing_place k t → All (λ u. t.start + taken t ≤ u.from) (styles_by total ts) → All (IsBehindOrInside x) (styles_by total (t ∷ ts))
 behind x total t ts k e hs =
     begun_all (IsBehindOrInside x) total t ts (λ j. inl (omega (arith, e, (closing_in k t).1, (opening_in j t).0)))
-      (All-weaker (λ u. t.start + taken t ≤ u.from) (IsBehindOrInside x) (λ u l. inl (omega (arith, l, e, (closing_in k t).1))) (styles_by total ts) hs)
+    (All-weaker (λ u. t.start + taken t ≤ u.from) (IsBehindOrInside x) (λ u l. inl (omega (arith, l, e, (closing_in k t).1))) (styles_by total ts) hs)
 
 behind_step : (x : Style) (total : ℕ) (had_bold had_italic outside : Bool) (s : ℕ) (b i flag : Bool) (rs : List Step) (k : Bool) → x.to ≡ closing_place k (made had_bold had_italic outside (step s b i flag)) → AreSteps (s + bytes_by b i) total rs
     → All (IsBehindOrInside x) (styles_by total (run had_bold had_italic outside (step s b i flag ∷ rs)))
@@ -100,8 +100,8 @@ behind_step x total had_bold had_italic outside s b i flag rs k e h =
     let rest : List Turn = run (toggled b had_bold) (toggled i had_italic) (outside_after had_bold had_italic b i flag) rs in
     let all = taken_by had_bold had_italic outside s b i flag in
     behind x total (made had_bold had_italic outside (step s b i flag)) rest k e
-      (All-weaker (λ u. s + bytes_by b i ≤ u.from) (λ u. s + taken (made had_bold had_italic outside (step s b i flag)) ≤ u.from) (λ u l. omega (arith, l, all)) (styles_by total rest)
-        (begin_from total (s + bytes_by b i) (toggled b had_bold) (toggled i had_italic) (outside_after had_bold had_italic b i flag) rs h))
+    (All-weaker (λ u. s + bytes_by b i ≤ u.from) (λ u. s + taken (made had_bold had_italic outside (step s b i flag)) ≤ u.from) (λ u l. omega (arith, l, all)) (styles_by total rest)
+    (begin_from total (s + bytes_by b i) (toggled b had_bold) (toggled i had_italic) (outside_after had_bold had_italic b i flag) rs h))
 
 abbrev IsOpenStyle : Style → Bool → ℕ → End → Type 0
 IsOpenStyle x bold low e = (x.bold ≡ bold) × (x.from + x.open_w ≤ low) × (x.to ≡ e.to) × (x.close_w ≡ e.close_w)
@@ -113,8 +113,8 @@ round_bold x total low had_italic outside (step s false false flag ∷ rs) h is 
 round_bold x total low had_italic outside (step s true i flag ∷ rs) h is = behind_step x total true had_italic outside s true i flag rs true is.2 h.2
 round_bold x total low false outside (step s false true flag ∷ rs) h is =
     All-cons (IsBehindOrInside x) (style_from false (made true false outside (step s false true flag)) (ending false total (run true true true rs))) (styles_by total (run true true true rs))
-      (inr (omega (arith, is.1, h.0), omega (arith, is.2, is.3, ends_inside true total (s + 2) rs h.2), ap not (sym is.0)))
-      (round_bold x total (s + 2) true true rs h.2 (is.0, omega (arith, is.1, h.0), is.2, is.3))
+    (inr (omega (arith, is.1, h.0), omega (arith, is.2, is.3, ends_inside true total (s + 2) rs h.2), ap not (sym is.0)))
+    (round_bold x total (s + 2) true true rs h.2 (is.0, omega (arith, is.1, h.0), is.2, is.3))
 round_bold x total low true true (step s false true flag ∷ rs) h is = round_bold x total (s + 2) false false rs h.2 (is.0, omega (arith, is.1, h.0), is.2, is.3)
 round_bold x total low true false (step s false true flag ∷ rs) h is = behind_step x total true true false s false true flag rs true is.2 h.2
 
@@ -125,8 +125,8 @@ round_italic x total low had_bold outside (step s false false flag ∷ rs) h is 
 round_italic x total low had_bold outside (step s b true flag ∷ rs) h is = behind_step x total had_bold true outside s b true flag rs false is.2 h.2
 round_italic x total low false outside (step s true false flag ∷ rs) h is =
     All-cons (IsBehindOrInside x) (style_from true (made false true outside (step s true false flag)) (ending true total (run true true false rs))) (styles_by total (run true true false rs))
-      (inr (omega (arith, is.1, h.0), omega (arith, is.2, is.3, ends_inside false total (s + 3) rs h.2), ap not (sym is.0)))
-      (round_italic x total (s + 3) true false rs h.2 (is.0, omega (arith, is.1, h.0), is.2, is.3))
+    (inr (omega (arith, is.1, h.0), omega (arith, is.2, is.3, ends_inside false total (s + 3) rs h.2), ap not (sym is.0)))
+    (round_italic x total (s + 3) true false rs h.2 (is.0, omega (arith, is.1, h.0), is.2, is.3))
 round_italic x total low true false (step s true false flag ∷ rs) h is = round_italic x total (s + 3) false false rs h.2 (is.0, omega (arith, is.1, h.0), is.2, is.3)
 round_italic x total low true true (step s true false flag ∷ rs) h is = behind_step x total true true true s true false flag rs false is.2 h.2
 
@@ -166,18 +166,20 @@ nested total low false false o (step s true true true ∷ rs) h =
     let t : Turn = made false false o (step s true true true) in
     let bold : Style = style_from true t (ending true total (run true true true rs)) in
     let italic : Style = style_from false t (ending false total (run true true true rs)) in
-    let rest : List Style = styles_by total (run true true true rs) in
-    (All-cons (IsBehindOrInside bold) italic rest (inr (omega arith, ends_inside true total (s + 5) rs h.2, refl))
-        (round_bold bold total (s + 5) true true rs h.2 (refl, opens_within true false false o s true true true, refl, refl)),
-     one_italic total (s + 5) t true true rs h.2 (opens_within false false false o s true true true) (nested total (s + 5) true true true rs h.2))
+    let rest : List Style = styles_by total (run true true true rs) in (
+      All-cons (IsBehindOrInside bold) italic rest (inr (omega arith, ends_inside true total (s + 5) rs h.2, refl))
+          (round_bold bold total (s + 5) true true rs h.2 (refl, opens_within true false false o s true true true, refl, refl)),
+      one_italic total (s + 5) t true true rs h.2 (opens_within false false false o s true true true) (nested total (s + 5) true true true rs h.2),
+    )
 nested total low false false o (step s true true false ∷ rs) h =
     let t : Turn = made false false o (step s true true false) in
     let bold : Style = style_from true t (ending true total (run true true false rs)) in
     let italic : Style = style_from false t (ending false total (run true true false rs)) in
-    let rest : List Style = styles_by total (run true true false rs) in
-    (All-cons (IsBehindOrInside italic) bold rest (inr (omega arith, ends_inside false total (s + 5) rs h.2, refl))
-        (round_italic italic total (s + 5) true false rs h.2 (refl, opens_within false false false o s true true false, refl, refl)),
-     one_bold total (s + 5) t true false rs h.2 (opens_within true false false o s true true false) (nested total (s + 5) true true false rs h.2))
+    let rest : List Style = styles_by total (run true true false rs) in (
+      All-cons (IsBehindOrInside italic) bold rest (inr (omega arith, ends_inside false total (s + 5) rs h.2, refl))
+          (round_italic italic total (s + 5) true false rs h.2 (refl, opens_within false false false o s true true false, refl, refl)),
+      one_bold total (s + 5) t true false rs h.2 (opens_within true false false o s true true false) (nested total (s + 5) true true false rs h.2),
+    )
 nested total low false true o (step s true false flag ∷ rs) h = one_bold total (s + 3) (made false true o (step s true false flag)) true false rs h.2 (opens_within true false true o s true false flag) (nested total (s + 3) true true false rs h.2)
 nested total low false true o (step s false true flag ∷ rs) h = nested total (s + 2) false false false rs h.2
 nested total low false true o (step s true true flag ∷ rs) h = one_bold total (s + 5) (made false true o (step s true true flag)) false false rs h.2 (opens_within true false true o s true true flag) (nested total (s + 5) true false false rs h.2)
@@ -199,7 +201,7 @@ whole total low had_bold had_italic outside [] h = All-nil (IsWhole total)
 whole total low had_bold had_italic outside (step s b i flag ∷ rs) h =
     let t : Turn = made had_bold had_italic outside (step s b i flag) in
     begun_all (IsWhole total) total t (run (toggled b had_bold) (toggled i had_italic) (outside_after had_bold had_italic b i flag) rs)
-      (λ k.
-        let e = ends_well k total (s + bytes_by b i) (toggled b had_bold) (toggled i had_italic) (outside_after had_bold had_italic b i flag) rs h.2 in
-        (omega (arith, opens_within k had_bold had_italic outside s b i flag, e.0), e.1))
-      (whole total (s + bytes_by b i) (toggled b had_bold) (toggled i had_italic) (outside_after had_bold had_italic b i flag) rs h.2)
+    (λ k.
+    let e = ends_well k total (s + bytes_by b i) (toggled b had_bold) (toggled i had_italic) (outside_after had_bold had_italic b i flag) rs h.2 in
+    (omega (arith, opens_within k had_bold had_italic outside s b i flag, e.0), e.1))
+    (whole total (s + bytes_by b i) (toggled b had_bold) (toggled i had_italic) (outside_after had_bold had_italic b i flag) rs h.2)

@@ -95,7 +95,7 @@ none_alone chunks ts e k d h =
     let none = all_none (first_of chunks OneLetter ts) (first_of chunks Middle ts) (first_of chunks Space ts) e in
     let t : Toggle = get_or ts k d in
     no_class (is_bold_alone t) (class_at chunks t.chunk)
-      (position_none (is_three chunks OneLetter) ts k d none.0 h) (position_none (is_three chunks Middle) ts k d none.1 h) (position_none (is_three chunks Space) ts k d none.2 h)
+    (position_none (is_three chunks OneLetter) ts k d none.0 h) (position_none (is_three chunks Middle) ts k d none.1 h) (position_none (is_three chunks Space) ts k d none.2 h)
 
 even_by : (ts : List Toggle) (b : Bool) (o : Option ℕ) → is_due ts ≡ b → ((i : ℕ) → o ≡ Some i → IsPlaceOfThree ts nothing i) → (o ≡ None → All (λ t. is_bold_alone t ≡ false) ts)
     → is_due (if b then exchange_at o ts else ts) ≡ true → All (λ t. is_bold_alone t ≡ false) (if b then exchange_at o ts else ts)
@@ -126,7 +126,7 @@ has_option k (Some t) ts h = inr h
 has_places : (h : ℕ → Option Toggle) (k a n : ℕ) (t : Toggle) → h k ≡ Some t → t.chunk ≡ k → a ≤ k → k < a + n → Has k (filter_map h (range_with_len a n))
 has_places h k a zero t e f l m = absurd (omega arith)
 has_places h k a (suc n) t e f l m = has_first h k a n t e f (cases_lt a k)
-  (λ g. has_places h k (a + 1) n t e f (omega (arith, g)) (omega arith)) l
+    (λ g. has_places h k (a + 1) n t e f (omega (arith, g)) (omega arith)) l
   where
     has_first : (h : ℕ → Option Toggle) (k a n : ℕ) (t : Toggle) → h k ≡ Some t → t.chunk ≡ k → ((a < k) ⊎ (k ≤ a)) → (a < k → Has k (filter_map h (range_with_len (a + 1) n))) → a ≤ k → Has k (cons_option (h a) (filter_map h (range_with_len (a + 1) n)))
     has_first h k a n t e f (inl g) r l = has_option k (h a) (filter_map h (range_with_len (a + 1) n)) (r g)
@@ -155,10 +155,10 @@ IsToggled k n = (t : Toggle) × (toggle_of k n ≡ Some t) × (t.chunk ≡ k)
 
 toggled_by : (k n : ℕ) (small two three four : Bool) → small ≡ false
     → (t : Toggle) × ((if small then None
-        else (if two then Some (record { chunk = k; plain = 0; italic = true; bold = false })
-        else (if three then Some (record { chunk = k; plain = 0; italic = false; bold = true })
-        else (if four then Some (record { chunk = k; plain = 1; italic = false; bold = true })
-        else Some (record { chunk = k; plain = n - 5; italic = true; bold = true }))))) ≡ Some t) × (t.chunk ≡ k)
+    else (if two then Some (record { chunk = k; plain = 0; italic = true; bold = false })
+    else (if three then Some (record { chunk = k; plain = 0; italic = false; bold = true })
+    else (if four then Some (record { chunk = k; plain = 1; italic = false; bold = true })
+    else Some (record { chunk = k; plain = n - 5; italic = true; bold = true }))))) ≡ Some t) × (t.chunk ≡ k)
 toggled_by k n true two three four e = absurd (cc)
 toggled_by k n false true three four e = (record { chunk = k; plain = 0; italic = true; bold = false }, refl, refl)
 toggled_by k n false false true four e = (record { chunk = k; plain = 0; italic = false; bold = true }, refl, refl)
@@ -186,8 +186,8 @@ each_run chunks k h =
     let ts : List Toggle = toggles_by_length chunks in
     let is = is_toggled k (run_length (slice_get chunks k)) h in
     any_of k (if is_due ts then exchange_at (exchange_place chunks ts) ts else ts)
-      (has_exchange k ts (is_due ts) (exchange_place chunks ts)
-        (has_places (toggle_at chunks) k 0 (length chunks) is.0 is.1 is.2 (omega arith) (omega (arith, within_by chunks k h (cases_lt k (length chunks))))))
+    (has_exchange k ts (is_due ts) (exchange_place chunks ts)
+    (has_places (toggle_at chunks) k 0 (length chunks) is.0 is.1 is.2 (omega arith) (omega (arith, within_by chunks k h (cases_lt k (length chunks))))))
 
 -- toggles are in the order of the runs
 

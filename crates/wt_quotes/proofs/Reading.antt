@@ -80,7 +80,7 @@ turn_with z ts i a b inside outside flag = record {
   start = z;
   bold = effect_by (toggles_at true ts i) (is_some a) (toggles_at false ts i && inside);
   italic = effect_by (toggles_at false ts i) (is_some b) (toggles_at true ts i && outside);
-  bold_outside = flag
+  bold_outside = flag;
 }
 
 turn_made : (chunks : List Chunk) (ts : List Toggle) (i : ℕ) → turn_at chunks ts i
@@ -102,7 +102,7 @@ open_next bold ts i l = ap is_some (since_more bold ts i l) ∙ some_is (toggles
 
 outside_next : (ts : List Toggle) (i : ℕ) → i < length ts → (toggles_at true ts i || toggles_at false ts i) ≡ true → IfSome (since true ts i) (λ k. k < i) → IfSome (since false ts i) (λ k. k < i)
     → is_outside_of true ts (since true ts (i + 1)) (since false ts (i + 1))
-        ≡ outside_after (is_some (since true ts i)) (is_some (since false ts i)) (toggles_at true ts i) (toggles_at false ts i) (bold_ends_later ts i)
+    ≡ outside_after (is_some (since true ts i)) (is_some (since false ts i)) (toggles_at true ts i) (toggles_at false ts i) (bold_ends_later ts i)
 outside_next ts i l e h k =
     ap (λ o. is_outside_of true ts o (since false ts (i + 1))) (since_more true ts i l)
     ∙ ap (λ o. is_outside_of true ts (flipped (toggles_at true ts i) i (since true ts i)) o) (since_more false ts i l)
@@ -125,18 +125,18 @@ run_more chunks ts i us rs sw l h k e =
     let first : Turn = made had_bold had_italic (is_outside_of true ts (since true ts i) (since false ts i)) (step_at chunks ts i) in
     ap (λ t. t ∷ us) (turn_made chunks ts i)
     ∙ ap (λ vs. first ∷ vs) (e
-        ∙ ap (λ x. run x (is_some (since false ts (i + 1))) (is_outside_of true ts (since true ts (i + 1)) (since false ts (i + 1))) rs) (open_next true ts i l)
-        ∙ ap (λ x. run (toggled b had_bold) x (is_outside_of true ts (since true ts (i + 1)) (since false ts (i + 1))) rs) (open_next false ts i l)
-        ∙ ap (λ x. run (toggled b had_bold) (toggled m had_italic) x rs) (outside_next ts i l (switches_at ts i sw l) h k))
+    ∙ ap (λ x. run x (is_some (since false ts (i + 1))) (is_outside_of true ts (since true ts (i + 1)) (since false ts (i + 1))) rs) (open_next true ts i l)
+    ∙ ap (λ x. run (toggled b had_bold) x (is_outside_of true ts (since true ts (i + 1)) (since false ts (i + 1))) rs) (open_next false ts i l)
+    ∙ ap (λ x. run (toggled b had_bold) (toggled m had_italic) x rs) (outside_next ts i l (switches_at ts i sw l) h k))
 
 turns_run : (chunks : List Chunk) (ts : List Toggle) → All Switches ts → (i m : ℕ) → i + m ≡ length ts → IfSome (since true ts i) (λ k. k < i) → IfSome (since false ts i) (λ k. k < i)
     → map (turn_at chunks ts) (range_with_len i m)
-        ≡ run (is_some (since true ts i)) (is_some (since false ts i)) (is_outside_of true ts (since true ts i) (since false ts i)) (map (step_at chunks ts) (range_with_len i m))
+    ≡ run (is_some (since true ts i)) (is_some (since false ts i)) (is_outside_of true ts (since true ts i) (since false ts i)) (map (step_at chunks ts) (range_with_len i m))
 turns_run chunks ts sw i zero e h k = refl
 turns_run chunks ts sw i (suc m) e h k =
     let l : i < length ts = omega arith in
     run_more chunks ts i (map (turn_at chunks ts) (range_with_len (i + 1) m)) (map (step_at chunks ts) (range_with_len (i + 1) m)) sw l h k
-      (turns_run chunks ts sw (i + 1) m (omega arith) (within_next true ts i l h) (within_next false ts i l k))
+    (turns_run chunks ts sw (i + 1) m (omega arith) (within_next true ts i l h) (within_next false ts i l k))
 
 -- the toggles of a context as steps
 abbrev pub steps_of : List Chunk → List Toggle → List Step
@@ -163,12 +163,13 @@ steps_from chunks ts runs sw i (suc m) k low e rise l =
     let up : Rising k (t ∷ drop (suc i) ts) = subst (Rising k) (drop-cons ts i d h) rise in
     let z : suc i ≡ i + 1 = omega arith in
     let s : option_map_or (start_of chunks) (slice_get ts i) 0 ≡ start_of chunks t = ap (λ p. option_map_or (start_of chunks) p 0) is in
-    let run_is = runs i d h in
-    (omega (arith, s, place_mono chunks k t.chunk up.0, l),
-     switches_at ts i sw h,
-     steps_from chunks ts runs sw (i + 1) m (t.chunk + 1) (option_map_or (start_of chunks) (slice_get ts i) 0 + bytes_by (toggles_at true ts i) (toggles_at false ts i)) (omega arith)
-       (subst (λ n. Rising (t.chunk + 1) (drop n ts)) z up.1)
-       (omega (arith, s, bytes_at ts i t is, run_is.1, run_within chunks t.chunk run_is.0)))
+    let run_is = runs i d h in (
+      omega (arith, s, place_mono chunks k t.chunk up.0, l),
+      switches_at ts i sw h,
+      steps_from chunks ts runs sw (i + 1) m (t.chunk + 1) (option_map_or (start_of chunks) (slice_get ts i) 0 + bytes_by (toggles_at true ts i) (toggles_at false ts i)) (omega arith)
+          (subst (λ n. Rising (t.chunk + 1) (drop n ts)) z up.1)
+          (omega (arith, s, bytes_at ts i t is, run_is.1, run_within chunks t.chunk run_is.0)),
+    )
 
 pub are_steps : (chunks : List Chunk) → AreSteps 0 (bytes_of chunks) (steps_of chunks (toggles_of chunks))
 are_steps chunks =
@@ -185,4 +186,3 @@ turns_read chunks ts sw =
 pub styles_read : (chunks : List Chunk) → style_tree_of chunks ≡ styles_by (bytes_of chunks) (run false false false (steps_of chunks (toggles_of chunks)))
 unfolding style_tree_of
 styles_read chunks = ap (styles_by (bytes_of chunks)) (turns_read chunks (toggles_of chunks) (toggles_switch chunks))
-

@@ -23,7 +23,7 @@ made had_bold had_italic outside (step s b i flag) = record {
   start = s;
   bold = effect_by b had_bold (i && ((had_bold && had_italic) && not outside));
   italic = effect_by i had_italic (b && ((had_bold && had_italic) && outside));
-  bold_outside = outside_by had_bold had_italic outside flag
+  bold_outside = outside_by had_bold had_italic outside flag;
 }
 
 abbrev pub toggled : Bool → Bool → Bool

@@ -11,7 +11,7 @@ abbrev pub AtMostOneExchange : List Chunk → Type 0
 AtMostOneExchange chunks =
     (toggles_of chunks ≡ toggles_by_length chunks)
     ⊎ ((i : ℕ) × (t : Toggle) × (slice_get (toggles_by_length chunks) i ≡ Some t) × (is_bold_alone t ≡ true)
-        × (toggles_of chunks ≡ slice_set (toggles_by_length chunks) i (exchanged t)))
+    × (toggles_of chunks ≡ slice_set (toggles_by_length chunks) i (exchanged t)))
 
 -- the numbers of bold and of italic toggles aren't both odd, but where no run of three could be exchanged
 abbrev pub NotBothOdd : List Chunk → Type 0

@@ -6,11 +6,19 @@
 #![tactic(auto)]
 
 mod chunk;
-pub mod laws;
+mod laws;
 mod style;
+#[cfg(test)]
+mod tables;
+#[cfg(test)]
+mod tests;
 mod toggle;
 mod turn;
 
 pub use chunk::Chunk;
+pub use laws::{
+    each_byte_is_styled, each_switch_is_one_delimiter, one_run_is_exchanged, styles_nest,
+    toggles_are_runs,
+};
 pub use style::{Style, style_tree};
 pub use toggle::{Toggle, toggles};

@@ -68,7 +68,7 @@ fn is_bold_outside(toggles: &[Toggle], bold: usize, italic: usize) -> bool
 
 impl Opened {
     ghost use Rattle.wt_quotes.specs.Styles.{Fits};
-ghost use Rattle.wt_quotes.specs.Turns.{opened_of};
+    ghost use Rattle.wt_quotes.specs.Turns.{opened_of};
 
     fn of(self, bold: bool) -> Option<usize>
         ensures { result ≡ opened_of bold self }

@@ -21,6 +21,6 @@ loop-at-preserved c =
     record {
       place = omega arith;
       places = c.in_ok-push.ensures.items ∙ ap (λ xs. xs ++ c.loop-at.place ∷ []) c.loop-at.invariant.places
-        ∙ ap (λ p. map (place_of c.args.chunks.now) (range_with_len 0 c.loop-at.at) ++ p ∷ []) c.loop-at.invariant.place
-        ∙ sym (map-range_more (place_of c.args.chunks.now) c.loop-at.at);
+          ∙ ap (λ p. map (place_of c.args.chunks.now) (range_with_len 0 c.loop-at.at) ++ p ∷ []) c.loop-at.invariant.place
+          ∙ sym (map-range_more (place_of c.args.chunks.now) c.loop-at.at);
     }

@@ -28,8 +28,8 @@ loop-at-preserved c =
       italic = after.italic ∙ ap (flipped (toggles_at false ts i) i) had.italic ∙ sym (since_more false ts i c.loop-at-test.true);
       within = subst (λ o. IfSome o (λ a. a < i + 1)) (sym after.bold) (flipped_within (toggles_at true ts i) i c.loop-at.opened.bold had.within);
       turns = c.in_ok-push.ensures.items ∙ ap (λ xs. xs ++ c.turn_of.result ∷ []) had.turns
-        ∙ ap (λ t. map (turn_at c.args.chunks.now ts) (range_with_len 0 i) ++ t ∷ []) (c.turn_of.ensures ∙ is)
-        ∙ sym (map-range_more (turn_at c.args.chunks.now ts) i);
+          ∙ ap (λ t. map (turn_at c.args.chunks.now ts) (range_with_len 0 i) ++ t ∷ []) (c.turn_of.ensures ∙ is)
+          ∙ sym (map-range_more (turn_at c.args.chunks.now ts) i);
     }
 
 pub returns-clause-value : goal.returns-clause-value
@@ -41,5 +41,5 @@ pub returns-clause-fit : goal.returns-clause-fit
 returns-clause-fit c =
     let all : c.loop-at.at ≡ length c.args.toggles.now = omega arith in
     All-same (Fits (bytes_of c.args.chunks.now)) c.loop-at.turns.items (turns_of c.args.chunks.now c.args.toggles.now)
-      (c.loop-at.invariant.turns ∙ ap (λ n. map (turn_at c.args.chunks.now c.args.toggles.now) (range_with_len 0 n)) all)
-      (turns_fit c.args.chunks.now c.args.toggles.now c.requires.runs)
+    (c.loop-at.invariant.turns ∙ ap (λ n. map (turn_at c.args.chunks.now c.args.toggles.now) (range_with_len 0 n)) all)
+    (turns_fit c.args.chunks.now c.args.toggles.now c.requires.runs)
