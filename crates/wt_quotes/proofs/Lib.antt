@@ -8,5 +8,6 @@ pub mod NextToggle
 pub mod Odds
 pub mod Places
 pub mod Reading
+pub mod Rows
 pub mod Since
 pub mod SixStates

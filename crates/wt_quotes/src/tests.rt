@@ -137,6 +137,40 @@ fn first_wrong(alloc: Global, table: &str) -> Result<usize, NoMemory> {
 }
 
 #[test]
+fn a_bold_run_behind_a_letter_becomes_italic(rt: HostRuntime) -> Result<(), Fail> {
+    let found = toggles(rt.alloc(), &chunks_of(line_of("l'''amour'' x")))?;
+    let italic = |chunk, plain| Toggle {
+        chunk,
+        plain,
+        italic: true,
+        bold: false,
+    };
+    assert_eq!(rt; found.as_slice(), [italic(1, 1), italic(3, 0)].as_slice());
+    Ok(())
+}
+
+#[test]
+fn styles_end_reopen_and_nest_as_worked_out(rt: HostRuntime) -> Result<(), Fail> {
+    assert_eq!(rt;
+        styles_of(rt.alloc(), "l'''amour'' x")?.as_str(),
+        "i 2 2 11 2"
+    );
+    assert_eq!(rt;
+        styles_of(rt.alloc(), "''a'''b''c'''")?.as_str(),
+        "i 0 2 9 2,b 3 3 7 0,b 9 0 13 3"
+    );
+    assert_eq!(rt;
+        styles_of(rt.alloc(), "'''''a''b'''")?.as_str(),
+        "b 0 3 12 3,i 3 2 8 2"
+    );
+    assert_eq!(rt;
+        styles_of(rt.alloc(), "'''''a'''''")?.as_str(),
+        "i 0 2 11 2,b 2 3 9 3"
+    );
+    Ok(())
+}
+
+#[test]
 fn lines_have_the_styles_of_other_programs(rt: HostRuntime) -> Result<(), Fail> {
     assert_eq!(rt; lines().lines().count(), 154);
     assert_eq!(rt; first_wrong(rt.alloc(), lines())?, 0);
