@@ -1,5 +1,5 @@
 -- The steps of a context are its toggles: what the laws say of bytes.
-use Rattle.std.proofs.Common.{◌≡◌, ℕ, ◌+◌, ◌%◌, ◌<◌, ◌≤◌, zero, suc, Bool, true, false, not, cond, List, [], ◌∷◌, length, map, drop, get_or, refl, sym, ap, subst, ◌∙◌, arith, inl, inr, ◌⊎◌}
+use Rattle.std.proofs.Common.{◌≡◌, ℕ, ◌+◌, ◌%◌, ◌<◌, ◌≤◌, zero, suc, Bool, true, false, not, List, [], ◌∷◌, length, map, drop, get_or, refl, sym, ap, subst, ◌∙◌, arith, inl, inr, ◌⊎◌}
 use Rattle.std.specs.Prelude.{◌==◌, ◌&&◌, ◌||◌, nat_lt, nat_le, count_by, slice_get, Some}
 use Rattle.std.specs.List.{range_with_len, list_any}
 use Rattle.std.specs.Option.{option_map_or}
@@ -9,11 +9,10 @@ use Rattle.std.proofs.lemmas.List.Sums.{sum_by-cons}
 use Rattle.std.proofs.lemmas.Option.{slice_get-get_or}
 use Rattle.wt_quotes.specs.declared.chunk.Chunk.{Chunk}
 use Rattle.wt_quotes.specs.declared.toggle.Toggle.{Toggle}
-use Rattle.wt_quotes.specs.declared.style.Style.{Style}
 use Rattle.wt_quotes.specs.Runs.{bytes_of}
 use Rattle.wt_quotes.specs.Toggles.{width_of, toggles_of}
-use Rattle.wt_quotes.specs.Turns.{is_of, toggles_at, start_of}
-use Rattle.wt_quotes.specs.Styles.{styles_by, style_tree_of}
+use Rattle.wt_quotes.specs.Turns.{is_of, start_of}
+use Rattle.wt_quotes.specs.Styles.{styles_by}
 use Rattle.wt_quotes.specs.StyleLaws.{holds, delimits, is_switch_at, is_switch, switches_before, EachByteIsStyled, EachSwitchIsOneDelimiter}
 use Rattle.wt_quotes.proofs.Since.{parity}
 use Rattle.wt_quotes.proofs.SixStates.{Step, step, run, toggled, bytes_by}

@@ -1,19 +1,17 @@
 -- Each byte of a context: which styles hold it, and which delimiters.
-use Rattle.std.proofs.Common.{◌≡◌, ℕ, ◌+◌, ◌<◌, ◌≤◌, zero, suc, Bool, true, false, not, cond, List, [], ◌∷◌, ◌++◌, refl, sym, ap, subst, ◌∙◌, arith, inl, inr, ◌⊎◌}
+use Rattle.std.proofs.Common.{◌≡◌, ℕ, ◌+◌, ◌<◌, ◌≤◌, Bool, true, false, not, cond, List, [], ◌∷◌, ◌++◌, refl, ap, ◌∙◌, arith, inl, inr, ◌⊎◌}
 use Rattle.std.specs.Prelude.{◌&&◌, ◌||◌, if◌then◌else◌, nat_lt, nat_le, All, count_by}
-use Rattle.std.proofs.lemmas.Bool.{cases_lt}
 use Rattle.std.proofs.lemmas.Bool.Decides.{nat_tests}
 use Rattle.std.proofs.lemmas.List.Elements.{All-head, All-tail, All-weaker}
 use Rattle.std.proofs.lemmas.List.Sums.{sum_by-append, sum_by-cons}
 use Rattle.wt_quotes.specs.declared.turn.Effect.{Effect}
-use Rattle.wt_quotes.specs.declared.turn.Effect.TheVariants.{Nothing, Opens, Closes, Breaks}
 use Rattle.wt_quotes.specs.declared.turn.Turn.{Turn}
 use Rattle.wt_quotes.specs.declared.style.Style.{Style}
 use Rattle.wt_quotes.specs.declared.style.End.{End}
-use Rattle.wt_quotes.specs.Styles.{effect_of, is_outer, opening_width, closing_width, closing_place, opening_place, begins, stops, ending, style_from, begun, styles_by, taken}
-use Rattle.wt_quotes.specs.StyleLaws.{IsWhole, is_kind, holds, delimits}
-use Rattle.wt_quotes.proofs.SixStates.{Step, step, made, run, effect_by, toggled, outside_after, bytes_by, AreSteps, steps_end, taken_by}
-use Rattle.wt_quotes.proofs.Nesting.{closing_in, opening_in, opens_within, begin_from, ends_well, whole}
+use Rattle.wt_quotes.specs.Styles.{effect_of, opening_width, closing_width, closing_place, opening_place, begins, stops, ending, style_from, begun, styles_by}
+use Rattle.wt_quotes.specs.StyleLaws.{is_kind, holds}
+use Rattle.wt_quotes.proofs.SixStates.{Step, step, made, run, effect_by, toggled, outside_after, bytes_by, AreSteps, taken_by}
+use Rattle.wt_quotes.proofs.Nesting.{closing_in, opens_within, begin_from, ends_well}
 
 -- numbers of tests
 

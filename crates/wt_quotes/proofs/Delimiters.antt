@@ -1,18 +1,16 @@
 -- Each apostrophe of a toggle that isn't plain is in one delimiter.
-use Rattle.std.proofs.Common.{◌≡◌, ℕ, ◌+◌, ◌<◌, ◌≤◌, zero, suc, Bool, true, false, not, cond, List, [], ◌∷◌, get_or, refl, sym, ap, ◌∙◌, arith, inl, inr, ◌⊎◌}
-use Rattle.std.specs.Prelude.{◌&&◌, ◌||◌, if◌then◌else◌, nat_lt, nat_le, All, count_by}
+use Rattle.std.proofs.Common.{◌≡◌, ℕ, ◌+◌, ◌<◌, ◌≤◌, Bool, true, false, not, List, [], ◌∷◌, get_or, refl, sym, ap, ◌∙◌, arith, inl, inr, ◌⊎◌}
+use Rattle.std.specs.Prelude.{◌&&◌, ◌||◌, if◌then◌else◌, nat_lt, nat_le, count_by}
 use Rattle.std.proofs.lemmas.Bool.{cases_lt}
 use Rattle.std.proofs.lemmas.Bool.Decides.{nat_tests}
-use Rattle.wt_quotes.specs.declared.turn.Effect.{Effect}
-use Rattle.wt_quotes.specs.declared.turn.Effect.TheVariants.{Nothing, Opens, Closes, Breaks}
 use Rattle.wt_quotes.specs.declared.turn.Turn.{Turn}
 use Rattle.wt_quotes.specs.declared.style.Style.{Style}
 use Rattle.wt_quotes.specs.declared.style.End.{End}
-use Rattle.wt_quotes.specs.Styles.{width, effect_of, is_outer, opening_bytes, closing_bytes, opening_width, closing_width, closing_place, opening_place, begins, stops, ending, style_from, styles_by, taken}
+use Rattle.wt_quotes.specs.Styles.{width, opening_bytes, closing_bytes, opening_width, closing_width, closing_place, opening_place, begins, ending, style_from, styles_by}
 use Rattle.wt_quotes.specs.StyleLaws.{IsWhole, delimits}
-use Rattle.wt_quotes.proofs.SixStates.{Step, step, made, run, effect_by, toggled, outside_after, bytes_by, AreSteps, steps_end, taken_by}
-use Rattle.wt_quotes.proofs.Nesting.{closing_in, opening_in, opens_within, begin_from, ends_well, whole}
-use Rattle.wt_quotes.proofs.Counting.{one, and_true, and_false, or_false, le_yes, le_no, lt_yes, lt_no, count_styles, count_none, one_kind, stop_now, broken_bold, broken_italic}
+use Rattle.wt_quotes.proofs.SixStates.{Step, step, made, run, effect_by, toggled, outside_after, bytes_by, AreSteps, taken_by}
+use Rattle.wt_quotes.proofs.Nesting.{closing_in, opens_within, begin_from, ends_well, whole}
+use Rattle.wt_quotes.proofs.Counting.{one, and_false, or_false, le_yes, le_no, lt_yes, lt_no, count_styles, count_none, one_kind, stop_now, broken_bold, broken_italic}
 
 -- the byte is one of a closing delimiter
 abbrev pub shut : ℕ → End → Bool

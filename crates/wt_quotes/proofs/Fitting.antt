@@ -1,9 +1,9 @@
 -- The delimiters of a context's toggles lie in it.
-use Rattle.std.proofs.Common.{◌≡◌, ℕ, ◌+◌, ◌<◌, ◌≤◌, zero, suc, Bool, true, false, not, Option, Some, None, List, length, map, get_or, refl, sym, ap, subst, ◌∙◌, arith}
+use Rattle.std.proofs.Common.{◌≡◌, ℕ, ◌+◌, ◌<◌, Bool, true, false, not, Some, List, length, get_or, refl, sym, ap, subst, ◌∙◌, arith}
 use Rattle.std.specs.Prelude.{◌&&◌, if◌then◌else◌, All, slice_get, is_some}
 use Rattle.std.specs.List.{range_with_len}
 use Rattle.std.specs.Option.{option_map_or}
-use Rattle.std.proofs.lemmas.List.Elements.{All-map, All-get_or}
+use Rattle.std.proofs.lemmas.List.Elements.{All-map}
 use Rattle.std.proofs.lemmas.List.FromFn.{get_or-range_with_len, length-range_with_len}
 use Rattle.std.proofs.lemmas.Option.{slice_get-get_or}
 use Rattle.wt_quotes.specs.declared.chunk.Chunk.{Chunk}
@@ -11,8 +11,7 @@ use Rattle.wt_quotes.specs.declared.toggle.Toggle.{Toggle}
 use Rattle.wt_quotes.specs.declared.turn.Effect.{Effect}
 use Rattle.wt_quotes.specs.declared.turn.Effect.TheVariants.{Nothing, Opens, Closes, Breaks}
 use Rattle.wt_quotes.specs.declared.turn.Opened.{Opened}
-use Rattle.wt_quotes.specs.declared.turn.Turn.{Turn}
-use Rattle.wt_quotes.specs.Runs.{bytes_of, place_of, run_length}
+use Rattle.wt_quotes.specs.Runs.{bytes_of}
 use Rattle.wt_quotes.specs.Toggles.{width_of, IsOfRun}
 use Rattle.wt_quotes.specs.Turns.{is_of, toggles_at, opened_of, is_outside, effect_on, start_of, opened_before, turn_of, turn_at, turns_of}
 use Rattle.wt_quotes.specs.Styles.{width, opening_bytes, closing_bytes, taken, Fits}

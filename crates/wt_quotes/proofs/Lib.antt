@@ -3,10 +3,12 @@ pub mod Counting
 pub mod Delimiters
 pub mod Exchange
 pub mod Fitting
+pub mod Flattening
 pub mod Nesting
 pub mod NextToggle
 pub mod Odds
 pub mod Places
+pub mod Planting
 pub mod Reading
 pub mod Rows
 pub mod Since

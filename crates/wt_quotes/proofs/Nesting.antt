@@ -1,14 +1,12 @@
 -- Styles nest.
-use Rattle.std.proofs.Common.{◌≡◌, ℕ, ◌+◌, ◌<◌, ◌≤◌, zero, suc, Bool, true, false, not, List, [], ◌∷◌, ◌++◌, length, get_or, refl, sym, ap, subst, ◌∙◌, arith, inl, inr, ◌⊎◌}
-use Rattle.std.specs.Prelude.{◌&&◌, ◌||◌, if◌then◌else◌, All}
+use Rattle.std.proofs.Common.{◌≡◌, ℕ, ◌+◌, ◌≤◌, zero, suc, Bool, true, false, not, List, [], ◌∷◌, ◌++◌, refl, sym, ap, arith, inl, inr}
+use Rattle.std.specs.Prelude.{if◌then◌else◌, All}
 use Rattle.std.specs.List.{AllPairs}
 use Rattle.std.proofs.lemmas.List.Elements.{All-nil, All-cons, All-append, All-weaker}
-use Rattle.wt_quotes.specs.declared.turn.Effect.{Effect}
-use Rattle.wt_quotes.specs.declared.turn.Effect.TheVariants.{Nothing, Opens, Closes, Breaks}
 use Rattle.wt_quotes.specs.declared.turn.Turn.{Turn}
 use Rattle.wt_quotes.specs.declared.style.Style.{Style}
 use Rattle.wt_quotes.specs.declared.style.End.{End}
-use Rattle.wt_quotes.specs.Styles.{width, effect_of, is_outer, opening_width, closing_width, closing_place, opening_place, begins, stops, ending, style_from, begun, styles_by, taken}
+use Rattle.wt_quotes.specs.Styles.{effect_of, opening_width, closing_width, closing_place, opening_place, begins, stops, ending, style_from, begun, styles_by, taken}
 use Rattle.wt_quotes.specs.StyleLaws.{IsWhole, IsBehindOrInside}
 use Rattle.wt_quotes.proofs.SixStates.{Step, step, made, run, toggled, outside_after, bytes_by, AreSteps, steps_end, taken_by}
 
@@ -132,7 +130,7 @@ round_italic x total low true true (step s true false flag ∷ rs) h is = behind
 
 -- each style and the later ones
 
-abbrev Pairs : List Style → Type 0
+abbrev pub Pairs : List Style → Type 0
 Pairs [] = Unit {0}
 Pairs (u ∷ us) = All (IsBehindOrInside u) us × Pairs us
 
@@ -155,7 +153,7 @@ one_italic total n t had_bold outside rs h l hs =
 pub opens_within : (k had_bold had_italic outside : Bool) (s : ℕ) (b i flag : Bool) → opening_place k (made had_bold had_italic outside (step s b i flag)) + opening_width k (made had_bold had_italic outside (step s b i flag)) ≤ s + bytes_by b i
 opens_within k had_bold had_italic outside s b i flag = omega (arith, (opening_in k (made had_bold had_italic outside (step s b i flag))).1, taken_by had_bold had_italic outside s b i flag)
 
-nested : (total low : ℕ) (had_bold had_italic outside : Bool) (rs : List Step) → AreSteps low total rs → Pairs (styles_by total (run had_bold had_italic outside rs))
+pub nested : (total low : ℕ) (had_bold had_italic outside : Bool) (rs : List Step) → AreSteps low total rs → Pairs (styles_by total (run had_bold had_italic outside rs))
 nested total low had_bold had_italic outside [] h = tt
 nested total low had_bold had_italic outside (step s false false flag ∷ rs) h = absurd (cc)
 nested total low false false o (step s true false true ∷ rs) h = one_bold total (s + 3) (made false false o (step s true false true)) false false rs h.2 (opens_within true false false o s true false true) (nested total (s + 3) true false false rs h.2)

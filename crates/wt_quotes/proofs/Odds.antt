@@ -1,6 +1,6 @@
 -- What the exchange does to the numbers of toggles; each run has its toggle.
 use Rattle.std.proofs.Common.{◌≡◌, ℕ, ◌+◌, ◌%◌, ◌<◌, ◌≤◌, zero, suc, Bool, true, false, not, cond, Option, Some, None, List, [], ◌∷◌, length, get_or, refl, sym, ap, subst, ◌∙◌, ◌-◌, arith, inl, inr, ◌⊎◌}
-use Rattle.std.specs.Prelude.{◌==◌, ◌&&◌, if◌then◌else◌, nat_lt, All, IfSome, slice_get, slice_set, count_by, position}
+use Rattle.std.specs.Prelude.{◌==◌, ◌&&◌, if◌then◌else◌, nat_lt, All, slice_get, slice_set, count_by, position}
 use Rattle.std.specs.List.{filter_map, cons_option, range_with_len, position_or_len, AllPairs, Any}
 use Rattle.std.specs.Option.{option_or}
 use Rattle.std.proofs.lemmas.Bool.Decides.{nat_tests}
@@ -12,7 +12,7 @@ use Rattle.wt_quotes.specs.declared.toggle.Toggle.{Toggle}
 use Rattle.wt_quotes.specs.declared.toggle.Class.{Class}
 use Rattle.wt_quotes.specs.declared.toggle.Class.TheVariants.{OneLetter, Middle, Space}
 use Rattle.wt_quotes.specs.Runs.{run_length}
-use Rattle.wt_quotes.specs.Toggles.{toggle_of, toggle_at, toggles_by_length, class_at, is_same_class, is_bold_alone, is_three, first_of, exchange_place, exchanged, set_exchanged, exchange_at, is_odd, is_due, toggles_of, IsOfRun}
+use Rattle.wt_quotes.specs.Toggles.{toggle_of, toggle_at, toggles_by_length, class_at, is_same_class, is_bold_alone, is_three, first_of, exchange_place, exchanged, set_exchanged, exchange_at, is_odd, is_due, toggles_of}
 use Rattle.wt_quotes.specs.ToggleLaws.{AtMostOneExchange, NotBothOdd, TogglesAreRuns}
 use Rattle.wt_quotes.proofs.Exchange.{IsPlaceOfThree, nothing, place_is, toggles_are_runs, Rising, toggles_rise}
 use Rattle.wt_quotes.proofs.Since.{parity}

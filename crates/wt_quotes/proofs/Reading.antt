@@ -1,24 +1,21 @@
 -- The turns of a context are those of the six states.
 use Rattle.std.proofs.Common.{◌≡◌, ℕ, ◌+◌, ◌<◌, ◌≤◌, zero, suc, Bool, true, false, not, Option, Some, None, List, [], ◌∷◌, length, map, drop, get_or, refl, sym, ap, subst, ◌∙◌, arith}
-use Rattle.std.specs.Prelude.{◌==◌, ◌&&◌, ◌||◌, if◌then◌else◌, nat_lt, All, IfSome, slice_get, is_some}
+use Rattle.std.specs.Prelude.{◌&&◌, ◌||◌, if◌then◌else◌, All, IfSome, slice_get, is_some}
 use Rattle.std.specs.List.{range_with_len}
 use Rattle.std.specs.Option.{option_map_or}
 use Rattle.std.proofs.lemmas.Bool.Decides.{nat_tests}
 use Rattle.std.proofs.lemmas.Option.{slice_get-get_or}
 use Rattle.wt_quotes.specs.declared.chunk.Chunk.{Chunk}
 use Rattle.wt_quotes.specs.declared.toggle.Toggle.{Toggle}
-use Rattle.wt_quotes.specs.declared.turn.Effect.{Effect}
-use Rattle.wt_quotes.specs.declared.turn.Effect.TheVariants.{Nothing, Opens, Closes, Breaks}
-use Rattle.wt_quotes.specs.declared.turn.Opened.{Opened}
 use Rattle.wt_quotes.specs.declared.turn.Turn.{Turn}
 use Rattle.wt_quotes.specs.Runs.{bytes_of, place_of}
 use Rattle.wt_quotes.specs.Toggles.{width_of, IsOfRun, Switches, toggles_of}
-use Rattle.wt_quotes.specs.Turns.{is_of, toggles_at, since, bold_ends_later, is_bold_outside, opened_of, is_outside_of, is_outside, effect_on, is_bold_outside_at, opened_before, start_of, turn_of, turn_at, turns_of, flipped}
+use Rattle.wt_quotes.specs.Turns.{is_of, toggles_at, since, bold_ends_later, is_bold_outside, is_outside_of, effect_on, is_bold_outside_at, start_of, turn_at, turns_of, flipped}
 use Rattle.wt_quotes.specs.Styles.{styles_by, style_tree_of}
 use Rattle.std.proofs.Math.Seq.{drop-cons}
 use Rattle.wt_quotes.proofs.Exchange.{Rising, toggles_are_runs, toggles_switch, toggles_rise}
 use Rattle.wt_quotes.proofs.Places.{place_le, place_mono, run_within}
-use Rattle.wt_quotes.proofs.Since.{since_more, since_none, flipped_within, within_more}
+use Rattle.wt_quotes.proofs.Since.{since_more, since_none, flipped_within}
 use Rattle.wt_quotes.proofs.SixStates.{Step, step, made, run, toggled, effect_by, outside_by, outside_after, bytes_by, AreSteps}
 
 abbrev pub step_at : List Chunk → List Toggle → ℕ → Step

@@ -7,7 +7,7 @@ use Rattle.std.specs.Option.{option_map_or}
 use Rattle.wt_quotes.specs.declared.chunk.Chunk.{Chunk}
 use Rattle.wt_quotes.specs.declared.toggle.Toggle.{Toggle}
 use Rattle.wt_quotes.specs.declared.turn.Opened.{Opened}
-use Rattle.wt_quotes.specs.Turns.{is_of, toggles_at, is_open, last_before, since, flipped, start_of, opened_before, turn_of, turn_at}
+use Rattle.wt_quotes.specs.Turns.{is_of, toggles_at, is_open, last_before, since, flipped, start_of, turn_of, turn_at}
 
 flip_step : (t o : Bool) (i l : ℕ) → (if (if t then not o else o) then Some (if t then i else l) else None) ≡ flipped t i (if o then Some l else None)
 flip_step true true i l = refl

@@ -1,5 +1,5 @@
 -- The turns again, read off what is open before each toggle: the laws of styles are proved by cases on that.
-use Rattle.std.proofs.Common.{◌≡◌, ℕ, ◌+◌, ◌<◌, ◌≤◌, zero, suc, Bool, true, false, not, List, [], ◌∷◌, refl, sym, ap, ◌∙◌, arith}
+use Rattle.std.proofs.Common.{◌≡◌, ℕ, ◌+◌, ◌≤◌, Bool, true, false, not, List, [], ◌∷◌, arith}
 use Rattle.std.specs.Prelude.{◌&&◌, ◌||◌, if◌then◌else◌}
 use Rattle.wt_quotes.specs.declared.turn.Effect.{Effect}
 use Rattle.wt_quotes.specs.declared.turn.Effect.TheVariants.{Nothing, Opens, Closes, Breaks}

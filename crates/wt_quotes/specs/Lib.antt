@@ -1,3 +1,4 @@
+pub mod Forest
 pub mod Runs
 pub mod StyleLaws
 pub mod Styles

@@ -1,5 +1,5 @@
 -- The chunks of a context: their bytes, the runs of apostrophes among them, and the visible items before a run.
-use Rattle.std.specs.Prelude.{ℕ, ◌+◌, ◌-◌, ◌==◌, ◌&&◌, Bool, true, false, not, Option, Some, None, List, [], ◌∷◌, if◌then◌else◌, nat_lt, slice_get, take, length, map}
+use Rattle.std.specs.Prelude.{ℕ, ◌+◌, ◌-◌, ◌==◌, ◌&&◌, Bool, true, false, not, Option, Some, None, List, [], ◌∷◌, if◌then◌else◌, slice_get, take, length, map}
 use Rattle.std.specs.List.{range_with_len}
 use Rattle.wt_quotes.specs.declared.chunk.Chunk.{Chunk}
 use Rattle.wt_quotes.specs.declared.chunk.Chunk.TheVariants.{Text, Run, Tile}

@@ -1,5 +1,6 @@
 ghost use Rattle.std.specs.Prelude.{◌≡◌};
 ghost use Rattle.wt_quotes.specs.ToggleLaws.{AtMostOneExchange, NotBothOdd, TogglesAreRuns};
+ghost use Rattle.wt_quotes.specs.Forest.{FlattenedIsTheLine};
 ghost use Rattle.wt_quotes.specs.StyleLaws.{StylesNest, EachByteIsStyled, EachSwitchIsOneDelimiter};
 
 use crate::chunk::Chunk;
@@ -32,4 +33,11 @@ pub fn each_byte_is_styled(chunks: &[Chunk])
 /// in none, so that the nested styles, flattened with their delimiters, give the line.
 pub fn each_switch_is_one_delimiter(chunks: &[Chunk])
     ensures { EachSwitchIsOneDelimiter chunks.now }
+{}
+
+/// The styles are a forest in preorder. Flattened with its delimiters it gives the line: text and
+/// delimiters follow one another from its first byte to its last, and the delimiters are the
+/// apostrophes of toggles that aren't plain.
+pub fn flattened_is_the_line(chunks: &[Chunk])
+    ensures { FlattenedIsTheLine chunks.now }
 {}

@@ -17,8 +17,8 @@ mod turn;
 
 pub use chunk::Chunk;
 pub use laws::{
-    each_byte_is_styled, each_switch_is_one_delimiter, one_run_is_exchanged, styles_nest,
-    toggles_are_runs,
+    each_byte_is_styled, each_switch_is_one_delimiter, flattened_is_the_line, one_run_is_exchanged,
+    styles_nest, toggles_are_runs,
 };
 pub use style::{Style, style_tree};
 pub use toggle::{Toggle, toggles};

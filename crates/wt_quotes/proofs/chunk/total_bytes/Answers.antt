@@ -1,7 +1,5 @@
-use Rattle.std.proofs.Common.{◌≡◌, ℕ, ◌+◌, ◌<◌, None, length, get_or, sym, ap, ◌∙◌, arith, rules}
-use Rattle.wt_quotes.specs.declared.chunk.Chunk.{Chunk}
+use Rattle.std.proofs.Common.{◌+◌, None, sym, ◌∙◌, arith}
 use Rattle.wt_quotes.specs.declared.chunk.Chunk.TheVariants.{Text}
-use Rattle.wt_quotes.specs.Runs.{chunk_bytes, bytes_of, place_of}
 use Rattle.wt_quotes.proofs.Places.{place_none, place_more, place_le, place_all}
 use Rattle.wt_quotes.proofs.chunk.total_bytes.Goals as goal
 

@@ -1,5 +1,4 @@
-use Rattle.std.proofs.Common.{◌≡◌, ap, ◌∙◌}
-use Rattle.std.specs.Prelude.{All}
+use Rattle.std.proofs.Common.{◌∙◌}
 use Rattle.std.proofs.lemmas.List.Elements.{All-same}
 use Rattle.wt_quotes.specs.Toggles.{toggles_of, IsOfRun, Switches}
 use Rattle.wt_quotes.proofs.Exchange.{toggles_are_runs, toggles_switch}

@@ -1,4 +1,4 @@
-use Rattle.std.proofs.Common.{◌≡◌, Some, None, arith, rules, sym, ap, ◌∙◌, ◌++◌, ◌∷◌, []}
+use Rattle.std.proofs.Common.{Some, None, arith, sym, ap, ◌∙◌, ◌++◌, ◌∷◌, []}
 use Rattle.std.proofs.lemmas.Grind.{common_steps}
 use Rattle.wt_quotes.proofs.toggle.toggles_by_length.Goals as goal
 use Rattle.wt_quotes.proofs.toggle.toggles_by_length.Goals.{in-Some+in_ok-push, in_default}

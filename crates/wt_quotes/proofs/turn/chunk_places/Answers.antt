@@ -1,8 +1,7 @@
-use Rattle.std.proofs.Common.{◌≡◌, ℕ, ◌+◌, ◌<◌, None, length, get_or, map, ◌++◌, ◌∷◌, [], sym, ap, ◌∙◌, arith, rules}
+use Rattle.std.proofs.Common.{◌+◌, None, map, ◌++◌, ◌∷◌, [], sym, ap, ◌∙◌, arith}
 use Rattle.std.specs.List.{range_with_len}
-use Rattle.wt_quotes.specs.declared.chunk.Chunk.{Chunk}
 use Rattle.wt_quotes.specs.declared.chunk.Chunk.TheVariants.{Text}
-use Rattle.wt_quotes.specs.Runs.{chunk_bytes, bytes_of, place_of}
+use Rattle.wt_quotes.specs.Runs.{place_of}
 use Rattle.wt_quotes.proofs.Places.{place_none, place_more, place_le, map-range_more}
 use Rattle.wt_quotes.proofs.turn.chunk_places.Goals as goal
 

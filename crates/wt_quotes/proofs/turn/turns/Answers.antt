@@ -1,10 +1,10 @@
-use Rattle.std.proofs.Common.{◌≡◌, ℕ, ◌+◌, ◌<◌, true, false, length, get_or, map, [], ◌∷◌, ◌++◌, sym, ap, subst, ◌∙◌, arith, rules}
-use Rattle.std.specs.Prelude.{All, IfSome}
+use Rattle.std.proofs.Common.{◌≡◌, ◌+◌, ◌<◌, true, false, length, map, [], ◌∷◌, ◌++◌, sym, ap, subst, ◌∙◌, arith}
+use Rattle.std.specs.Prelude.{IfSome}
 use Rattle.std.specs.List.{range_with_len}
 use Rattle.std.proofs.lemmas.List.Elements.{All-same}
 use Rattle.wt_quotes.specs.Runs.{bytes_of}
 use Rattle.wt_quotes.specs.Styles.{Fits}
-use Rattle.wt_quotes.specs.Turns.{since, toggles_at, flipped, turn_at, turns_of}
+use Rattle.wt_quotes.specs.Turns.{toggles_at, flipped, turn_at, turns_of}
 use Rattle.wt_quotes.proofs.Fitting.{turns_fit}
 use Rattle.wt_quotes.proofs.Places.{map-range_more}
 use Rattle.wt_quotes.proofs.Since.{since_more, since_none, flipped_within, within_more, turn_is}
