@@ -1,3 +1,4 @@
+pub mod Adding
 pub mod Bytes
 pub mod Counting
 pub mod Delimiters

@@ -34,6 +34,12 @@ are_apart [] = true
 are_apart (c ∷ []) = true
 are_apart (c ∷ d ∷ cs) = not (is_run c && is_run d) && are_apart (d ∷ cs)
 
+-- the last chunk is a run
+abbrev pub ends_in_run : List Chunk → Bool
+ends_in_run [] = false
+ends_in_run (c ∷ []) = is_run c
+ends_in_run (c ∷ d ∷ cs) = ends_in_run (d ∷ cs)
+
 -- how many apostrophes stand at a place: 0 where no run does
 abbrev pub run_length : Option Chunk → ℕ
 run_length None = 0

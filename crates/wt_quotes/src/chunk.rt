@@ -1,3 +1,5 @@
+//! The chunks of a context, which the layer above makes: text, runs of apostrophes and tiles.
+
 ghost use Rattle.std.specs.Prelude.{◌≡◌, ◌<◌, ◌^◌};
 ghost use Rattle.wt_quotes.specs.Runs.{chunk_bytes, bytes_of, run_length, last_of, before_of, chunk_before};
 

@@ -1,3 +1,5 @@
+//! What holds of the toggles and the styles of every context, for whoever calls these functions.
+
 ghost use Rattle.std.specs.Prelude.{◌≡◌};
 ghost use Rattle.wt_quotes.specs.ToggleLaws.{AtMostOneExchange, NotBothOdd, TogglesAreRuns};
 ghost use Rattle.wt_quotes.specs.Forest.{FlattenedIsTheLine};

@@ -1,3 +1,6 @@
+//! The tree of styles: each begins at a toggle that opens or breaks it, and ends at the next one
+//! that closes or breaks it. One pass over what the toggles do.
+
 ghost use Rattle.std.specs.Prelude.{◌≡◌, ℕ, ◌+◌, ◌^◌, ◌<◌, ◌≤◌, true, false, not, All, IfOk, OnOk, length, ◌++◌};
 ghost use Rattle.wt_quotes.specs.Runs.{bytes_of, are_apart};
 ghost use Rattle.wt_quotes.specs.Styles.{width, effect_of, is_outer, opening_bytes, closing_bytes, opening_width, closing_width, closing_place, opening_place, begins, stops, ending, style_from, begun, styles_by, taken, Fits, style_tree_of};

@@ -1,3 +1,5 @@
+//! Lines of text whose toggles and styles other programs told.
+
 ghost use Rattle.std.specs.Prelude.{◌≡◌, ◌<◌, ◌^◌, true};
 ghost use Rattle.wt_quotes.specs.Runs.{bytes_of, are_apart};
 

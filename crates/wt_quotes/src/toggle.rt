@@ -1,3 +1,7 @@
+//! Which runs of apostrophes switch bold and italic: by their length, and, where the numbers of
+//! bold and of italic toggles are both odd, with one run of three read as a character and a run of
+//! two (MediaWiki's `doQuotes`).
+
 ghost use Rattle.std.specs.Prelude.{◌≡◌, ℕ, ◌+◌, ◌*◌, ◌^◌, ◌<◌, ◌≤◌, true, Some, All, IfOk, IfSome, length, slice_get, position};
 ghost use Rattle.wt_quotes.specs.Runs.{run_length, last_of, before_of, chunk_before, bytes_of, are_apart};
 ghost use Rattle.wt_quotes.specs.Toggles.{class_by, class_of, class_at, toggle_of, toggle_at, toggles_by_length, is_due, is_three, first_of, exchange_place, toggles_of, exchange_at};

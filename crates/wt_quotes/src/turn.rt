@@ -1,3 +1,6 @@
+//! What each toggle does to bold and to italic: it opens a style, closes it, or breaks it, by the
+//! numbers of toggles before it. One pass over the toggles.
+
 ghost use Rattle.std.specs.Prelude.{◌≡◌, ℕ, ◌+◌, ◌^◌, ◌<◌, ◌≤◌, true, false, not, All, IfOk, IfSome, length, get_or};
 ghost use Rattle.wt_quotes.specs.Runs.{bytes_of, chunk_bytes, places_of};
 ghost use Rattle.wt_quotes.specs.Toggles.{IsOfRun, Switches};
@@ -67,7 +70,6 @@ fn is_bold_outside(toggles: &[Toggle], bold: usize, italic: usize) -> bool
 }
 
 impl Opened {
-    ghost use Rattle.wt_quotes.specs.Styles.{Fits};
     ghost use Rattle.wt_quotes.specs.Turns.{opened_of};
 
     fn of(self, bold: bool) -> Option<usize>
