@@ -1,0 +1,16 @@
+pub mod Adding
+pub mod Bytes
+pub mod Counting
+pub mod Delimiters
+pub mod Exchange
+pub mod Fitting
+pub mod Flattening
+pub mod Nesting
+pub mod NextToggle
+pub mod Odds
+pub mod Places
+pub mod Planting
+pub mod Reading
+pub mod Rows
+pub mod Since
+pub mod SixStates
