@@ -3,7 +3,8 @@ use Rattle.std.specs.Prelude.{ℕ, ◌+◌, ◌==◌, ◌&&◌, ◌||◌, not, B
 use Rattle.std.specs.Option.{option_or}
 use Rattle.std.specs.List.{prefix_len}
 use Rattle.std.specs.Char.{is_ascii_digit, is_ascii_hexdigit}
-use Rattle.wt_span.specs.Bytes.{begins, number}
+use Rattle.std.specs.Str.Parse.{digits_value}
+use Rattle.wt_span.specs.Bytes.{begins}
 
 -- the first entry of a table that begins a text
 abbrev pub named_in : List (List ℕ × ℕ) → List ℕ → Option (ℕ × ℕ)
@@ -41,7 +42,7 @@ is_entity_number n = (nat_le 32 n && nat_le n 126) || (nat_le 160 n && (nat_le n
 abbrev pub numbered : ℕ → ℕ → ℕ → (ℕ → Bool) → List ℕ → Option (ℕ × ℕ)
 numbered start most base is_digit bs =
     let n = prefix_len is_digit (drop start bs) in
-    let c = number base (take n (drop start bs)) in
+    let c = digits_value base (take n (drop start bs)) in
     if nat_lt 0 n && (nat_le n most && (slice_index bs (start + n) == 59 && is_entity_number c)) then Some (c, start + n + 1) else None
 
 unfoldable pub decimal_entity : List ℕ → Option (ℕ × ℕ)
