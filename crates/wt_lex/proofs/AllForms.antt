@@ -1,5 +1,5 @@
 -- Entities and signs, and what any form has.
-use Rattle.std.proofs.Common.{◌≡◌, ℕ, ◌+◌, ◌-◌, ◌<◌, ◌==◌, Bool, true, false, Option, Some, None, List, [], ◌∷◌, length, get_or, take, drop, nat_lt, nat_le, refl, ap, subst, inr, arith, codes}
+use Rattle.std.proofs.Common.{◌≡◌, ℕ, ◌+◌, ◌-◌, ◌<◌, ◌==◌, Bool, true, false, Option, Some, None, List, [], ◌∷◌, length, get_or, take, drop, nat_lt, nat_le, refl, ap, subst, inr, arith, codes, ◌∙◌, sym}
 use Rattle.std.specs.Prelude.{if◌then◌else◌, ◌&&◌, ◌||◌}
 use Rattle.std.specs.Option.{option_or}
 use Rattle.std.specs.Char.{is_ascii_digit, is_ascii_hexdigit}
@@ -16,23 +16,24 @@ use Rattle.wt_span.specs.Tags.{raw_len, include_at}
 use Rattle.wt_span.specs.Entities.{named_in, entity_names, named_entity, is_entity_number, numbered, decimal_entity, hex_entity, entity_at}
 use Rattle.wt_span.specs.Lexemes.{Word, as_word, run_at, sign_at, sign_word, entity_word, comment_line_word, form_at}
 use Rattle.wt_lex.specs.Reading.{IsForm}
+use Rattle.wt_lex.specs.Words.{is_form_byte, may_begin}
 use Rattle.wt_lex.proofs.Begins.{and_left, and_right, lt_is, is_within, byte_is, begins_get, begins_len}
 use Rattle.wt_lex.proofs.Forms.{Fits, FormFits, OptForm, or_form, if_form, form_by, as_form, comment_fits, comment_line_fits}
 use Rattle.wt_lex.proofs.TagForms.{raw_fits, include_fits}
 
--- a word that begins with an ASCII byte and ends with one
+-- a word with a first byte of a form and an ASCII last one
 abbrev has_ends : List ℕ → Bool
-has_ends word = nat_lt 0 (length word) && (nat_lt (get_or word 0 0) 128 && nat_lt (get_or word (length word - 1) 0) 128)
+has_ends word = nat_lt 0 (length word) && (is_form_byte (get_or word 0 0) && nat_lt (get_or word (length word - 1) 0) 128)
 
 word_fits : (word bs : List ℕ) → has_ends word ≡ true → begins word bs ≡ true → Fits bs (length word)
 word_fits word bs h e =
     let pos = lt_is 0 (length word) (and_left (nat_lt 0 (length word)) _ h) in
     let both = and_right (nat_lt 0 (length word)) _ h in
-    let low = lt_is (get_or word 0 0) 128 (and_left (nat_lt (get_or word 0 0) 128) _ both) in
-    let high = lt_is (get_or word (length word - 1) 0) 128 (and_right (nat_lt (get_or word 0 0) 128) _ both) in
+    let low = and_left (is_form_byte (get_or word 0 0)) _ both in
+    let high = lt_is (get_or word (length word - 1) 0) 128 (and_right (is_form_byte (get_or word 0 0)) _ both) in
     let first = begins_get word bs e 0 pos in
     let last = begins_get word bs e (length word - 1) (omega arith) in
-    record { some = pos; within = begins_len word bs e; begins = omega arith; ends = inr (omega arith) }
+    record { some = pos; within = begins_len word bs e; begins = ap is_form_byte first ∙ low; ends = inr (omega arith) }
 
 -- ---- entities
 
@@ -71,7 +72,7 @@ numbered_fits start most base is_digit bs first =
     let there = is_within bs (start + n) 59 last (omega arith) in
     let z : start + n + 1 - 1 ≡ start + n = omega arith in
     let low : get_or bs (start + n + 1 - 1) 0 < 128 = omega (arith, ap (λ k. get_or bs k 0) z) in
-    record { some = omega arith; within = omega arith; begins = omega arith; ends = inr low })
+    record { some = omega arith; within = omega arith; begins = ap is_form_byte first; ends = inr low })
 
 decimal_fits : (bs : List ℕ) → OptEntity bs (decimal_entity bs)
 unfolding decimal_entity
@@ -93,48 +94,56 @@ pub entity_fits : (bs : List ℕ) → OptEntity bs (entity_at bs)
 unfolding entity_at
 entity_fits bs = or_entity bs (named_entity bs) _ (names_fit bs) (or_entity bs (decimal_entity bs) (hex_entity bs) (decimal_fits bs) (hex_fits bs))
 
-entity_form : (bs : List ℕ) (o : Option (ℕ × ℕ)) → OptEntity bs o → OptForm bs (entity_word o)
-entity_form bs None f = tt
-entity_form bs (Some e) f = form_by bs (Entity e.0) e.1 tt f
+entity_form : (after : Bool) (bs : List ℕ) (o : Option (ℕ × ℕ)) → OptEntity bs o → OptForm after bs (entity_word o)
+entity_form after bs None f = tt
+entity_form after bs (Some e) f = form_by after bs (Entity e.0) e.1 tt f
 
 -- ---- signs
 
-run_fits : (kind : LexKind) (byte : ℕ) (bs : List ℕ) → IsForm kind → byte < 128 → OptForm bs (run_at kind byte bs)
-run_fits kind byte bs is low =
+run_fits : (after : Bool) (kind : LexKind) (byte : ℕ) (bs : List ℕ) → IsForm kind → byte < 128 → is_form_byte byte ≡ true → OptForm after bs (run_at kind byte bs)
+run_fits after kind byte bs is low first_byte =
     let n = prefix_len (λ b. b == byte) bs in
-    if_form bs (nat_lt 1 n) (Some (kind, n))
+    if_form after bs (nat_lt 1 n) (Some (kind, n))
     (λ e.
     let more = lt_is 1 n e in
     let first : get_or bs 0 0 ≡ byte = eqb-true (get_or bs 0 0) byte (prefix_len_passes (λ b. b == byte) bs 0 0 (omega arith)) in
     let last : get_or bs (n - 1) 0 ≡ byte = eqb-true (get_or bs (n - 1) 0) byte (prefix_len_passes (λ b. b == byte) bs (n - 1) 0 (omega arith)) in
-    record { some = omega arith; within = prefix_len-le-length (λ b. b == byte) bs; form = is; begins = omega arith; ends = inr (omega arith) })
+    form_by after bs kind n is (record { some = omega arith; within = prefix_len-le-length (λ b. b == byte) bs; begins = ap is_form_byte first ∙ first_byte; ends = inr (omega arith) }))
 
-sign_fits : (kind : LexKind) (sign : List ℕ) (bs : List ℕ) → IsForm kind → has_ends sign ≡ true → OptForm bs (sign_at kind sign (length sign) bs)
-sign_fits kind sign bs is h = if_form bs (begins sign bs) (Some (kind, length sign)) (λ e. form_by bs kind (length sign) is (word_fits sign bs h e))
+sign_fits : (after : Bool) (kind : LexKind) (sign : List ℕ) (bs : List ℕ) → IsForm kind → has_ends sign ≡ true → OptForm after bs (sign_at kind sign (length sign) bs)
+sign_fits after kind sign bs is h = if_form after bs (begins sign bs) (Some (kind, length sign)) (λ e. form_by after bs kind (length sign) is (word_fits sign bs h e))
 
-pub signs_fit : (bs : List ℕ) → OptForm bs (sign_word bs)
+pub signs_fit : (after : Bool) (bs : List ℕ) → OptForm after bs (sign_word bs)
 unfolding sign_word
-signs_fit bs =
-    or_form bs (run_at Opens 123 bs) _ (run_fits Opens 123 bs tt (omega arith))
-    (or_form bs (run_at Closes 125 bs) _ (run_fits Closes 125 bs tt (omega arith))
-    (or_form bs (sign_at LinkOpen (codes "[[") 2 bs) _ (sign_fits LinkOpen (codes "[[") bs tt refl)
-    (or_form bs (sign_at LinkClose (codes "]]") 2 bs) _ (sign_fits LinkClose (codes "]]") bs tt refl)
-    (or_form bs (sign_at Pipe (codes "|") 1 bs) (sign_at Equals (codes "=") 1 bs) (sign_fits Pipe (codes "|") bs tt refl) (sign_fits Equals (codes "=") bs tt refl)))))
+signs_fit after bs =
+    or_form after bs (run_at Opens 123 bs) _ (run_fits after Opens 123 bs tt (omega arith) refl)
+    (or_form after bs (run_at Closes 125 bs) _ (run_fits after Closes 125 bs tt (omega arith) refl)
+    (or_form after bs (sign_at LinkOpen (codes "[[") 2 bs) _ (sign_fits after LinkOpen (codes "[[") bs tt refl)
+    (or_form after bs (sign_at LinkClose (codes "]]") 2 bs) _ (sign_fits after LinkClose (codes "]]") bs tt refl)
+    (or_form after bs (sign_at Pipe (codes "|") 1 bs) (sign_at Equals (codes "=") 1 bs) (sign_fits after Pipe (codes "|") bs tt refl) (sign_fits after Equals (codes "=") bs tt refl)))))
 
 -- ---- any form
 
-comment_line_form : (after : Bool) (bs : List ℕ) → OptForm bs (comment_line_word after bs)
-comment_line_form true bs = as_form bs CommentLine (comment_line_len bs) tt (comment_line_fits bs)
+comment_line_form : (after : Bool) (bs : List ℕ) → OptForm after bs (comment_line_word after bs)
+comment_line_form true bs = comment_line_fits bs
 comment_line_form false bs = tt
 
-all_fit : (mode : Mode) (after : Bool) (bs : List ℕ) → OptForm bs (form_at mode after bs)
+all_fit : (mode : Mode) (after : Bool) (bs : List ℕ) → OptForm after bs (form_at mode after bs)
 unfolding form_at
 all_fit mode after bs =
-    or_form bs (comment_line_word after bs) _ (comment_line_form after bs)
-    (or_form bs (as_word Comment (comment_len bs)) _ (as_form bs Comment (comment_len bs) tt (comment_fits bs))
-    (or_form bs (as_word Raw (raw_len bs)) _ (as_form bs Raw (raw_len bs) tt (raw_fits bs))
-    (or_form bs (include_at mode bs) _ (include_fits mode bs)
-    (or_form bs (entity_word (entity_at bs)) (sign_word bs) (entity_form bs (entity_at bs) (entity_fits bs)) (signs_fit bs)))))
+    or_form after bs (comment_line_word after bs) _ (comment_line_form after bs)
+    (or_form after bs (as_word Comment (comment_len bs)) _ (as_form after bs Comment (comment_len bs) tt (comment_fits bs))
+    (or_form after bs (as_word Raw (raw_len bs)) _ (as_form after bs Raw (raw_len bs) tt (raw_fits bs))
+    (or_form after bs (include_at mode bs) _ (include_fits after mode bs)
+    (or_form after bs (entity_word (entity_at bs)) (sign_word bs) (entity_form after bs (entity_at bs) (entity_fits bs)) (signs_fit after bs)))))
 
-pub form_fits : (mode : Mode) (after : Bool) (bs : List ℕ) (w : Word) → form_at mode after bs ≡ Some w → FormFits bs w
-form_fits mode after bs w e = let P : Option Word → Type 0 = λ o. OptForm bs o in subst P e (all_fit mode after bs)
+pub form_fits : (mode : Mode) (after : Bool) (bs : List ℕ) (w : Word) → form_at mode after bs ≡ Some w → FormFits after bs w
+form_fits mode after bs w e = let P : Option Word → Type 0 = λ o. OptForm after bs o in subst P e (all_fit mode after bs)
+
+none_by : (mode : Mode) (after : Bool) (bs : List ℕ) (o : Option Word) → form_at mode after bs ≡ o → may_begin after (get_or bs 0 0) ≡ false → form_at mode after bs ≡ None
+none_by mode after bs None e h = e
+none_by mode after bs (Some w) e h = let f = form_fits mode after bs w e in let no : true ≡ false = sym f.begins ∙ h in cc
+
+-- no form begins with another byte
+pub no_form : (mode : Mode) (after : Bool) (bs : List ℕ) → may_begin after (get_or bs 0 0) ≡ false → form_at mode after bs ≡ None
+no_form mode after bs h = none_by mode after bs (form_at mode after bs) refl h

@@ -11,6 +11,7 @@ use Rattle.wt_span.specs.declared.form.Mode.{Mode}
 use Rattle.wt_span.specs.declared.form.LexKind.TheVariants.{Include, Hidden}
 use Rattle.wt_span.specs.Bytes.{begins, blank_len, name_len, lower}
 use Rattle.wt_span.specs.Tags.{Tag, is_tag_byte, is_tag_inside, closes_itself, tag_after, opening_tag, closing_tag, len_if_named, to_closing, with_inside, is_raw_name, raw_by, raw_len, hides, is_left_out, hidden_len, opening_include, closing_include, include_at}
+use Rattle.wt_lex.specs.Words.{is_form_byte}
 use Rattle.wt_lex.proofs.Begins.{and_left, and_right, lt_is, is_within, byte_is, begins_get}
 use Rattle.wt_lex.proofs.Forms.{Fits, OptFits, OptForm, or_form, form_by}
 
@@ -134,14 +135,14 @@ closing_ends name (b ∷ bs) =
 -- ---- a tag with its inside
 
 tag_alone : (bs : List ℕ) (t : Tag) → TagFits bs t → Fits bs t.len
-tag_alone bs t f = record { some = f.some; within = f.within; begins = omega (arith, f.first); ends = inr (omega (arith, f.last)) }
+tag_alone bs t f = record { some = f.some; within = f.within; begins = ap is_form_byte f.first; ends = inr (omega (arith, f.last)) }
 
 inside_by : (bs : List ℕ) (t : Tag) (o : Option ℕ) → TagFits bs t → OptEnds (drop t.len bs) o → OptFits bs (option_map (λ n. t.len + n) o)
 inside_by bs t None f g = tt
 inside_by bs t (Some n) f g =
     let z : t.len + n - 1 ≡ t.len + (n - 1) = omega (arith, g.some) in
     let last : get_or bs (t.len + n - 1) 0 ≡ 62 = ap (λ i. get_or bs i 0) z ∙ sym (get_or-drop t.len bs (n - 1) 0) ∙ g.last in
-    record { some = omega (arith, f.some); within = omega (arith, f.within, g.within, length-drop t.len bs); begins = omega (arith, f.first); ends = inr (omega arith) }
+    record { some = omega (arith, f.some); within = omega (arith, f.within, g.within, length-drop t.len bs); begins = ap is_form_byte f.first; ends = inr (omega arith) }
 
 inside_if : (bs : List ℕ) (t : Tag) (v : Bool) (o : Option ℕ) → Fits bs t.len → OptFits bs o → OptFits bs (if v then Some t.len else o)
 inside_if bs t true o f g = f
@@ -168,28 +169,28 @@ unfolding raw_len
 raw_fits bs = raw_by_fits is_raw_name (opening_tag bs) bs (opening_fits bs)
 
 hidden_by : (bs : List ℕ) (t : Tag) (o : Option ℕ) → TagFits bs t → OptFits bs o → Fits bs (unwrap_or o (length bs))
-hidden_by bs t None f g = record { some = omega (arith, f.some, f.within); within = omega arith; begins = omega (arith, f.first); ends = inl refl }
+hidden_by bs t None f g = record { some = omega (arith, f.some, f.within); within = omega arith; begins = ap is_form_byte f.first; ends = inl refl }
 hidden_by bs t (Some n) f g = g
 
-opening_include_fits : (mode : Mode) (o : Option Tag) (bs : List ℕ) → OptTag bs o → OptForm bs (opening_include mode o bs)
-opening_include_fits mode None bs f = tt
-opening_include_fits mode (Some t) bs f = by (hides mode t.name) (is_left_out mode t.name)
+opening_include_fits : (after : Bool) (mode : Mode) (o : Option Tag) (bs : List ℕ) → OptTag bs o → OptForm after bs (opening_include mode o bs)
+opening_include_fits after mode None bs f = tt
+opening_include_fits after mode (Some t) bs f = by (hides mode t.name) (is_left_out mode t.name)
   where
-    by : (u v : Bool) → OptForm bs (if u then Some (Hidden, hidden_len t bs) else (if v then Some (Include, t.len) else None))
-    by true v = form_by bs Hidden (hidden_len t bs) tt (hidden_by bs t (with_inside t bs) f (inside_fits bs t f))
-    by false true = form_by bs Include t.len tt (tag_alone bs t f)
+    by : (u v : Bool) → OptForm after bs (if u then Some (Hidden, hidden_len t bs) else (if v then Some (Include, t.len) else None))
+    by true v = form_by after bs Hidden (hidden_len t bs) tt (hidden_by bs t (with_inside t bs) f (inside_fits bs t f))
+    by false true = form_by after bs Include t.len tt (tag_alone bs t f)
     by false false = tt
 
-closing_include_fits : (mode : Mode) (o : Option Tag) (bs : List ℕ) → OptTag bs o → OptForm bs (closing_include mode o)
-closing_include_fits mode None bs f = tt
-closing_include_fits mode (Some t) bs f = by (is_left_out mode t.name)
+closing_include_fits : (after : Bool) (mode : Mode) (o : Option Tag) (bs : List ℕ) → OptTag bs o → OptForm after bs (closing_include mode o)
+closing_include_fits after mode None bs f = tt
+closing_include_fits after mode (Some t) bs f = by (is_left_out mode t.name)
   where
-    by : (v : Bool) → OptForm bs (if v then Some (Include, t.len) else None)
-    by true = form_by bs Include t.len tt (tag_alone bs t f)
+    by : (v : Bool) → OptForm after bs (if v then Some (Include, t.len) else None)
+    by true = form_by after bs Include t.len tt (tag_alone bs t f)
     by false = tt
 
-pub include_fits : (mode : Mode) (bs : List ℕ) → OptForm bs (include_at mode bs)
+pub include_fits : (after : Bool) (mode : Mode) (bs : List ℕ) → OptForm after bs (include_at mode bs)
 unfolding include_at
-include_fits mode bs =
-    or_form bs (opening_include mode (opening_tag bs) bs) (closing_include mode (closing_tag bs)) (opening_include_fits mode (opening_tag bs) bs (opening_fits bs))
-    (closing_include_fits mode (closing_tag bs) bs (closing_fits bs))
+include_fits after mode bs =
+    or_form after bs (opening_include mode (opening_tag bs) bs) (closing_include mode (closing_tag bs)) (opening_include_fits after mode (opening_tag bs) bs (opening_fits bs))
+    (closing_include_fits after mode (closing_tag bs) bs (closing_fits bs))

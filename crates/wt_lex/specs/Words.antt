@@ -1,13 +1,21 @@
 -- The forms that begin a text, in the groups in which they are told.
-use Rattle.std.specs.Prelude.{ℕ, ◌-◌, Bool, ◌&&◌, Option, List, slice_index, nat_lt}
+use Rattle.std.specs.Prelude.{ℕ, ◌-◌, ◌==◌, Bool, ◌&&◌, ◌||◌, Option, List, slice_index, nat_lt}
 use Rattle.std.specs.Option.{option_or}
 use Rattle.wt_span.specs.declared.form.Mode.{Mode}
 use Rattle.wt_span.specs.declared.form.LexKind.TheVariants.{Comment, Raw}
-use Rattle.wt_span.specs.Bytes.{is_break}
+use Rattle.wt_span.specs.Bytes.{is_blank, is_break}
 use Rattle.wt_span.specs.Comments.{comment_len}
 use Rattle.wt_span.specs.Tags.{raw_len, include_at}
 use Rattle.wt_span.specs.Entities.{entity_at}
 use Rattle.wt_span.specs.Lexemes.{Word, as_word, comment_line_word, entity_word, sign_word}
+
+-- a byte with which a form begins anywhere: one of `<`, `&`, `{`, `}`, `[`, `]`, `|`, `=`
+abbrev pub is_form_byte : ℕ → Bool
+is_form_byte b = b == 60 || (b == 38 || (b == 123 || (b == 125 || (b == 91 || (b == 93 || (b == 124 || b == 61))))))
+
+-- a byte with which a form may begin, after a line break or elsewhere
+abbrev pub may_begin : Bool → ℕ → Bool
+may_begin after b = is_form_byte b || (after && is_blank b)
 
 -- a line break stands before a place of a text
 abbrev pub after_break : List ℕ → ℕ → Bool

@@ -6,7 +6,7 @@ ghost use Rattle.wt_span.specs.Tags.{raw_len};
 ghost use Rattle.wt_span.specs.Entities.{entity_at};
 ghost use Rattle.wt_span.specs.Lexemes.{as_word, comment_line_word, entity_word, form_at, closed, words};
 ghost use Rattle.wt_lex.specs.Places.{word_of, Follow, AtBorders};
-ghost use Rattle.wt_lex.specs.Words.{after_break, remark_word, tag_word, inner_word};
+ghost use Rattle.wt_lex.specs.Words.{after_break, may_begin, remark_word, tag_word, inner_word};
 
 use crate::byte::byte_at;
 use crate::comment::{comment_len, comment_line_len};
@@ -24,6 +24,17 @@ fn is_after_break(text: &[u8], at: usize) -> bool
     ensures { result ≡ after_break text.now at }
 {
     at > 0 && byte_at(text, at - 1) == b'\n'
+}
+
+/// Whether a form may begin with this byte.
+fn may_begin(is_after_break: bool, byte: u8) -> bool
+    ensures { result ≡ may_begin is_after_break byte }
+{
+    match byte {
+        b'<' | b'&' | b'{' | b'}' | b'[' | b']' | b'|' | b'=' => true,
+        b' ' | b'\t' => is_after_break,
+        _ => false,
+    }
 }
 
 /// The comment line that begins a text, where one may.
@@ -123,7 +134,11 @@ fn form_word(
 {
     let text = closings.text();
     let rest = rest_of(text, at);
-    if let Some(word) = remark_word(is_after_break(text, at), rest) {
+    let is_after_break = is_after_break(text, at);
+    if !may_begin(is_after_break, byte_at(rest, 0)) {
+        return Ok(None);
+    }
+    if let Some(word) = remark_word(is_after_break, rest) {
         return Ok(Some(word));
     }
     if let Some(word) = tag_word(closings, mode, at)? {

@@ -9,6 +9,7 @@ use Rattle.wt_lex.specs.Words.{after_break}
 use Rattle.wt_lex.proofs.Borders.{border_before, border_after}
 use Rattle.wt_lex.proofs.Cuts.{left, form_more, all_left}
 use Rattle.wt_lex.proofs.AllForms.{form_fits}
+use Rattle.wt_lex.proofs.Forms.{begins_low}
 use Rattle.wt_lex.proofs.scan.lex.Goals as goal
 
 pub loop-at-init : goal.loop-at-init
@@ -34,7 +35,7 @@ loop-at-preserved c =
     let is : form_at c.args.mode (after_break text c.loop-at.at) (drop c.loop-at.at text) ≡ Some (c.in-Some.kind, c.in-Some.len) =
     ap (λ t. form_at c.args.mode (after_break t c.loop-at.at) (drop c.loop-at.at t)) (sym before.known) ∙ sym c.in_ok-kind.ensures.value ∙ c.in-Some.is in
     let f = form_fits c.args.mode (after_break text c.loop-at.at) (drop c.loop-at.at text) (c.in-Some.kind, c.in-Some.len) is in
-    let start = border_before text c.loop-at.at (omega arith) f.begins in
+    let start = border_before text c.loop-at.at (omega arith) (begins_low (after_break text c.loop-at.at) _ f.begins) in
     let end = border_after text c.loop-at.at c.in-Some.len c.utf8.text (omega arith) f.some f.within f.ends in
     record {
       order = omega arith;
