@@ -1,5 +1,5 @@
 -- The lexemes of what is left of a text: one character more, one form more.
-use Rattle.std.proofs.Common.{◌≡◌, ℕ, zero, suc, ◌+◌, ◌-◌, ◌<◌, ◌≤◌, ◌==◌, Bool, true, false, Option, Some, None, List, [], ◌∷◌, ◌++◌, length, get_or, drop, nat_lt, refl, sym, ap, ◌∙◌, ⊎_elim, arith, append_assoc}
+use Rattle.std.proofs.Common.{◌≡◌, ℕ, zero, suc, ◌+◌, ◌-◌, ◌<◌, ◌≤◌, ◌==◌, Bool, true, false, Option, Some, None, List, [], ◌∷◌, ◌++◌, length, get_or, drop, nat_lt, refl, sym, ap, ◌∙◌, subst, ⊎_elim, arith, append_assoc}
 use Rattle.std.specs.Prelude.{if◌then◌else◌}
 use Rattle.std.proofs.lemmas.Bool.Decides.{nat_tests}
 use Rattle.std.proofs.lemmas.Bool.{cases_lt}
@@ -108,3 +108,19 @@ none_left mode text from at old new h news had =
 pub all_left : (mode : Mode) (text : List ℕ) → closed (0 + (left mode text 0).0) (left mode text 0).1 ≡ words mode text
 unfolding words
 all_left mode text = let z : 0 + (left mode text 0).0 ≡ (left mode text 0).0 = omega arith in ap (λ (m : ℕ). closed m (left mode text 0).1) z
+
+-- more characters, at which no form may begin
+pub chars_more : (mode : Mode) (text : List ℕ) (from at n : ℕ) (done : List Word) → at + n ≤ length text → from ≤ at
+    → ((k : ℕ) → at ≤ k → k < at + n → form_at mode (after_break text k) (drop k text) ≡ None)
+    → done ++ closed ((at - from) + (left mode text at).0) (left mode text at).1 ≡ words mode text
+    → done ++ closed ((at + n - from) + (left mode text (at + n)).0) (left mode text (at + n)).1 ≡ words mode text
+chars_more mode text from at zero done h le none had =
+    let z : at ≡ at + 0 = omega arith in
+    let P : ℕ → Type 0 = λ m. done ++ closed ((m - from) + (left mode text m).0) (left mode text m).1 ≡ words mode text in
+    subst P z had
+chars_more mode text from at (suc n) done h le none had =
+    let z : at + 1 + n ≡ at + suc n = omega arith in
+    let P : ℕ → Type 0 = λ m. done ++ closed ((m - from) + (left mode text m).0) (left mode text m).1 ≡ words mode text in
+    subst P z
+    (chars_more mode text from (at + 1) n done (omega arith) (omega arith) (λ k low high. none k (omega arith) (omega arith))
+    (char_more mode text from at done (omega arith) le (none at (omega arith) (omega arith)) had))

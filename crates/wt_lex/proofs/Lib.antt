@@ -6,6 +6,7 @@ pub mod Cuts
 pub mod Follows
 pub mod Forms
 pub mod Numbers
+pub mod Passing
 pub mod Readings
 pub mod Remarks
 pub mod TagForms

@@ -1,4 +1,4 @@
-ghost use Rattle.std.specs.Prelude.{◌≡◌, ◌+◌, ◌-◌, ◌<◌, ◌≤◌, ◌^◌, ◌++◌, ℕ, List, [], ◌∷◌, map, length, drop, IfOk, OnOk, IfSome};
+ghost use Rattle.std.specs.Prelude.{◌≡◌, ◌+◌, ◌-◌, ◌<◌, ◌≤◌, ◌^◌, ◌++◌, ℕ, List, [], ◌∷◌, false, map, length, slice_index, drop, IfOk, OnOk, IfSome};
 ghost use Rattle.std.specs.List.{All};
 ghost use Rattle.std.specs.Str.{IsCharBoundary};
 ghost use Rattle.wt_span.specs.Comments.{comment_len};
@@ -35,6 +35,21 @@ fn may_begin(is_after_break: bool, byte: u8) -> bool
         b' ' | b'\t' => is_after_break,
         _ => false,
     }
+}
+
+/// The first place from a place on at which a form may begin, or the end of the text.
+fn next_place(text: &[u8], from: usize) -> usize
+    requires { from ≤ length text.now }
+    ensures order { from ≤ result }
+    ensures within { result ≤ length text.now }
+    ensures none { (k : ℕ) → from ≤ k → k < result → may_begin (after_break text.now k) (slice_index text.now k) ≡ false }
+{
+    for at in from..text.len() {
+        if may_begin(is_after_break(text, at), text[at]) {
+            return at;
+        }
+    }
+    text.len()
 }
 
 /// The comment line that begins a text, where one may.
@@ -134,11 +149,7 @@ fn form_word(
 {
     let text = closings.text();
     let rest = rest_of(text, at);
-    let is_after_break = is_after_break(text, at);
-    if !may_begin(is_after_break, byte_at(rest, 0)) {
-        return Ok(None);
-    }
-    if let Some(word) = remark_word(is_after_break, rest) {
+    if let Some(word) = remark_word(is_after_break(text, at), rest) {
         return Ok(Some(word));
     }
     if let Some(word) = tag_word(closings, mode, at)? {
@@ -206,16 +217,16 @@ pub fn lex(alloc: Global, text: &str, mode: Mode) -> Result<List<Lexeme>, NoMemo
     let mut closings = Closings::new(alloc, bytes);
     let mut lexemes = List::new(alloc);
     let mut from = 0;
-    let mut at = 0;
+    let mut at = next_place(bytes, from);
     while at < bytes.len() {
         let Some((kind, len)) = form_word(&mut closings, mode, at)? else {
-            at += 1;
+            at = next_place(bytes, at + 1);
             continue;
         };
         push_chars(&mut lexemes, from, at)?;
         push_form(&mut lexemes, kind, at, len)?;
-        at += len;
-        from = at;
+        from = at + len;
+        at = next_place(bytes, from);
     }
     push_chars(&mut lexemes, from, at)?;
     Ok(lexemes)
