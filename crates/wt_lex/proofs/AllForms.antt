@@ -39,7 +39,7 @@ word_fits word bs h e =
 
 abbrev OptEntity : List ℕ → Option (ℕ × ℕ) → Type 0
 OptEntity bs None = Unit {0}
-OptEntity bs (Some e) = Fits bs e.1
+OptEntity bs (Some e) = Fits bs e.1 × (get_or bs 0 0 ≡ 38)
 
 or_entity : (bs : List ℕ) (a b : Option (ℕ × ℕ)) → OptEntity bs a → OptEntity bs b → OptEntity bs (option_or a b)
 or_entity bs None b f g = g
@@ -49,14 +49,24 @@ if_entity : (bs : List ℕ) (t : Bool) (o : Option (ℕ × ℕ)) → (t ≡ true
 if_entity bs true o f = f refl
 if_entity bs false o f = tt
 
-entry_by : (bs : List ℕ) (t : Bool) (name : List ℕ) (c : ℕ) (o : Option (ℕ × ℕ)) → (t ≡ true → Fits bs (length name)) → OptEntity bs o → OptEntity bs (if t then Some (c, length name) else o)
+entry_by : (bs : List ℕ) (t : Bool) (name : List ℕ) (c : ℕ) (o : Option (ℕ × ℕ)) → (t ≡ true → Fits bs (length name) × (get_or bs 0 0 ≡ 38)) → OptEntity bs o → OptEntity bs (if t then Some (c, length name) else o)
 entry_by bs true name c o f g = f refl
 entry_by bs false name c o f g = g
 
-table_fits : (table : List (List ℕ × ℕ)) (bs : List ℕ) → list_all (λ e. has_ends e.0) table ≡ true → OptEntity bs (named_in table bs)
+-- a name that can be an entity's
+abbrev is_name : List ℕ → Bool
+is_name name = has_ends name && get_or name 0 0 == 38
+
+name_fits : (name bs : List ℕ) → is_name name ≡ true → begins name bs ≡ true → Fits bs (length name) × (get_or bs 0 0 ≡ 38)
+name_fits name bs h e =
+    let ends = and_left (has_ends name) _ h in
+    let pos = lt_is 0 (length name) (and_left (nat_lt 0 (length name)) _ ends) in
+    (word_fits name bs ends e, begins_get name bs e 0 pos ∙ byte_is name 0 38 (and_right (has_ends name) _ h))
+
+table_fits : (table : List (List ℕ × ℕ)) (bs : List ℕ) → list_all (λ e. is_name e.0) table ≡ true → OptEntity bs (named_in table bs)
 table_fits [] bs h = tt
 table_fits ((name, c) ∷ entries) bs h =
-    entry_by bs (begins name bs) name c (named_in entries bs) (word_fits name bs (and_left (has_ends name) _ h)) (table_fits entries bs (and_right (has_ends name) _ h))
+    entry_by bs (begins name bs) name c (named_in entries bs) (name_fits name bs (and_left (is_name name) _ h)) (table_fits entries bs (and_right (is_name name) _ h))
 
 names_fit : (bs : List ℕ) → OptEntity bs (named_entity bs)
 unfolding named_entity entity_names
@@ -72,7 +82,7 @@ numbered_fits start most base is_digit bs first =
     let there = is_within bs (start + n) 59 last (omega arith) in
     let z : start + n + 1 - 1 ≡ start + n = omega arith in
     let low : get_or bs (start + n + 1 - 1) 0 < 128 = omega (arith, ap (λ k. get_or bs k 0) z) in
-    record { some = omega arith; within = omega arith; begins = ap is_form_byte first; ends = inr low })
+    (record { some = omega arith; within = omega arith; begins = ap is_form_byte first; ends = inr low }, first))
 
 decimal_fits : (bs : List ℕ) → OptEntity bs (decimal_entity bs)
 unfolding decimal_entity
@@ -96,7 +106,15 @@ entity_fits bs = or_entity bs (named_entity bs) _ (names_fit bs) (or_entity bs (
 
 entity_form : (after : Bool) (bs : List ℕ) (o : Option (ℕ × ℕ)) → OptEntity bs o → OptForm after bs (entity_word o)
 entity_form after bs None f = tt
-entity_form after bs (Some e) f = form_by after bs (Entity e.0) e.1 tt f
+entity_form after bs (Some e) f = form_by after bs (Entity e.0) e.1 tt f.0
+
+entity_none_by : (bs : List ℕ) (o : Option (ℕ × ℕ)) → OptEntity bs o → (get_or bs 0 0 ≡ 38 → ⊥) → o ≡ None
+entity_none_by bs None f h = refl
+entity_none_by bs (Some e) f h = absurd (h f.1)
+
+-- an entity begins with `&`
+pub entity_none : (bs : List ℕ) → (get_or bs 0 0 ≡ 38 → ⊥) → entity_at bs ≡ None
+entity_none bs h = entity_none_by bs (entity_at bs) (entity_fits bs) h
 
 -- ---- signs
 

@@ -8,10 +8,11 @@ use Rattle.std.specs.Str.{bytes_eq}
 use Rattle.std.proofs.lemmas.List.{get_or-drop}
 use Rattle.std.proofs.lemmas.List.Sums.{prefix_len-le-length}
 use Rattle.wt_span.specs.declared.form.Mode.{Mode}
-use Rattle.wt_span.specs.declared.form.LexKind.TheVariants.{Include, Hidden}
+use Rattle.wt_span.specs.declared.form.LexKind.TheVariants.{Raw, Include, Hidden}
+use Rattle.wt_span.specs.Lexemes.{as_word}
 use Rattle.wt_span.specs.Bytes.{begins, blank_len, name_len, lower}
 use Rattle.wt_span.specs.Tags.{Tag, is_tag_byte, is_tag_inside, closes_itself, tag_after, opening_tag, closing_tag, len_if_named, to_closing, with_inside, is_raw_name, raw_by, raw_len, hides, is_left_out, hidden_len, opening_include, closing_include, include_at}
-use Rattle.wt_lex.specs.Words.{is_form_byte}
+use Rattle.wt_lex.specs.Words.{is_form_byte, tag_word}
 use Rattle.wt_lex.proofs.Begins.{and_left, and_right, lt_is, is_within, byte_is, begins_get}
 use Rattle.wt_lex.proofs.Forms.{Fits, OptFits, OptForm, or_form, form_by}
 
@@ -194,3 +195,17 @@ unfolding include_at
 include_fits after mode bs =
     or_form after bs (opening_include mode (opening_tag bs) bs) (closing_include mode (closing_tag bs)) (opening_include_fits after mode (opening_tag bs) bs (opening_fits bs))
     (closing_include_fits after mode (closing_tag bs) bs (closing_fits bs))
+
+-- ---- texts that begin with another byte
+
+none_by : (bs : List ℕ) (o : Option Tag) → OptTag bs o → (get_or bs 0 0 ≡ 60 → ⊥) → o ≡ None
+none_by bs None f h = refl
+none_by bs (Some t) f h = absurd (h f.first)
+
+pub tag_none : (mode : Mode) (bs : List ℕ) → (get_or bs 0 0 ≡ 60 → ⊥) → tag_word mode bs ≡ None
+unfolding raw_len include_at
+tag_none mode bs h =
+    let opening = none_by bs (opening_tag bs) (opening_fits bs) h in
+    let closing = none_by bs (closing_tag bs) (closing_fits bs) h in
+    ap (λ (o : Option Tag). option_or (as_word Raw (raw_by is_raw_name o bs)) (option_or (opening_include mode o bs) (closing_include mode (closing_tag bs)))) opening
+    ∙ ap (closing_include mode) closing

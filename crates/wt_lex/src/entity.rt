@@ -162,7 +162,7 @@ fn hex_entity(bytes: &[u8]) -> Option<(char, usize)>
 }
 
 /// The entity that begins a text: its character, and how many bytes it takes.
-#[tactic(auto, unfolding(wt_span::specs::Entities::entity_at))]
+#[tactic(auto, using(crate::proofs::AllForms::entity_none), unfolding(wt_span::specs::Entities::entity_at))]
 pub fn read_entity(bytes: &[u8]) -> Option<(char, usize)>
     ensures value { result ≡ entity_at bytes.now }
     ensures within { IfSome result (λ e. (0 < e.1) × (e.1 ≤ 10) × (e.1 ≤ length bytes.now)) }

@@ -102,6 +102,7 @@ fn raw_word(closings: &mut Closings<'_>, at: usize) -> Result<Option<(LexKind, u
 }
 
 /// The raw tag or the include tag that begins at a place.
+#[tactic(auto, using(crate::proofs::TagForms::tag_none))]
 fn tag_word(
     closings: &mut Closings<'_>,
     mode: Mode,
@@ -112,6 +113,9 @@ fn tag_word(
     ensures value { IfOk result (λ o. o ≡ tag_word mode (drop at closings.old)) }
     ensures within { IfOk result (λ o. IfSome o (λ w. (0 < w.1) × (at + w.1 ≤ length closings.old))) }
 {
+    if byte_at(rest_of(closings.text(), at), 0) != b'<' {
+        return Ok(None);
+    }
     match raw_word(closings, at)? {
         Some(word) => Ok(Some(word)),
         None => include_at(closings, mode, at),
