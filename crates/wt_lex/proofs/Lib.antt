@@ -9,5 +9,6 @@ pub mod Numbers
 pub mod Passing
 pub mod Readings
 pub mod Remarks
+pub mod Signs
 pub mod TagForms
 pub mod Words

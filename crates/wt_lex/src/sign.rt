@@ -1,7 +1,7 @@
 ghost use Rattle.std.specs.Prelude.{◌≡◌, ◌==◌, ◌<◌, ◌≤◌, length, IfSome};
 ghost use Rattle.wt_span.specs.Lexemes.{run_at, sign_at, sign_word};
 
-use crate::byte::{ByteClass, run_len};
+use crate::byte::{ByteClass, byte_at, run_len};
 use wt_span::LexKind;
 
 /// A run of two or more of a byte that begins a text.
@@ -27,15 +27,18 @@ fn sign_at(kind: LexKind, sign: &[u8], bytes: &[u8]) -> Option<(LexKind, usize)>
 }
 
 /// The run of braces or the sign that begins a text.
-#[tactic(auto, unfolding(wt_span::specs::Lexemes::sign_word))]
+#[tactic(auto, using(crate::proofs::Signs::opens_alone, crate::proofs::Signs::closes_alone, crate::proofs::Signs::link_open_alone, crate::proofs::Signs::link_close_alone, crate::proofs::Signs::pipe_alone, crate::proofs::Signs::equals_alone, crate::proofs::Signs::no_sign))]
 pub fn sign_word(bytes: &[u8]) -> Option<(LexKind, usize)>
     ensures value { result ≡ sign_word bytes.now }
     ensures within { IfSome result (λ w. (0 < w.1) × (w.1 ≤ length bytes.now)) }
 {
-    run_at(LexKind::Opens, b'{', bytes)
-        .or(run_at(LexKind::Closes, b'}', bytes))
-        .or(sign_at(LexKind::LinkOpen, b"[[", bytes))
-        .or(sign_at(LexKind::LinkClose, b"]]", bytes))
-        .or(sign_at(LexKind::Pipe, b"|", bytes))
-        .or(sign_at(LexKind::Equals, b"=", bytes))
+    match byte_at(bytes, 0) {
+        b'{' => run_at(LexKind::Opens, b'{', bytes),
+        b'}' => run_at(LexKind::Closes, b'}', bytes),
+        b'[' => sign_at(LexKind::LinkOpen, b"[[", bytes),
+        b']' => sign_at(LexKind::LinkClose, b"]]", bytes),
+        b'|' => sign_at(LexKind::Pipe, b"|", bytes),
+        b'=' => sign_at(LexKind::Equals, b"=", bytes),
+        _ => None,
+    }
 }
