@@ -1,6 +1,6 @@
 -- Small words on the bytes of a text.
-use Rattle.std.specs.Prelude.{ℕ, ◌+◌, ◌*◌, ◌==◌, ◌||◌, Bool, List, [], ◌∷◌, length, slice_index, map, nat_eq, if◌then◌else◌}
-use Rattle.std.specs.Char.{is_ascii_alphabetic, is_ascii_alphanumeric, digit_value, to_ascii_lowercase}
+use Rattle.std.specs.Prelude.{ℕ, ◌+◌, ◌==◌, ◌||◌, Bool, List, [], ◌∷◌, length, slice_index, map, nat_eq, if◌then◌else◌}
+use Rattle.std.specs.Char.{is_ascii_alphabetic, is_ascii_alphanumeric, to_ascii_lowercase}
 use Rattle.std.specs.List.{starts_with, prefix_len}
 
 abbrev pub is_break : ℕ → Bool
@@ -29,11 +29,3 @@ name_len bs = if is_ascii_alphabetic (slice_index bs 0) then prefix_len is_ascii
 -- names are compared without ASCII case: this is the one in lower case
 abbrev pub lower : List ℕ → List ℕ
 lower name = map to_ascii_lowercase name
-
--- the number that digits write in a base
-abbrev pub number_onto : ℕ → ℕ → List ℕ → ℕ
-number_onto base n [] = n
-number_onto base n (d ∷ ds) = number_onto base (n * base + digit_value d) ds
-
-abbrev pub number : ℕ → List ℕ → ℕ
-number base ds = number_onto base 0 ds

@@ -3,35 +3,28 @@ use Rattle.std.specs.Prelude.{ℕ, ◌+◌, ◌==◌, ◌&&◌, ◌||◌, not, B
 use Rattle.std.specs.Option.{option_or}
 use Rattle.std.specs.List.{prefix_len}
 use Rattle.std.specs.Char.{is_ascii_digit, is_ascii_hexdigit}
-use Rattle.wt_span.specs.Bytes.{begins, number}
+use Rattle.std.specs.Str.Parse.{digits_value}
+use Rattle.wt_span.specs.Bytes.{begins}
 
 -- the first entry of a table that begins a text
 abbrev pub named_in : List (List ℕ × ℕ) → List ℕ → Option (ℕ × ℕ)
 named_in [] bs = None
 named_in ((name, c) ∷ entries) bs = if begins name bs then Some (c, length name) else named_in entries bs
 
-unfoldable pub names_of_signs : List (List ℕ × ℕ)
-names_of_signs =
+-- the names, each with its character
+unfoldable pub entity_names : List (List ℕ × ℕ)
+entity_names =
     (codes "&amp;", 38) ∷ (codes "&lt;", 60) ∷ (codes "&gt;", 62) ∷ (codes "&quot;", 34) ∷ (codes "&nbsp;", 160)
-    ∷ (codes "&iexcl;", 161) ∷ (codes "&cent;", 162) ∷ (codes "&pound;", 163) ∷ (codes "&yen;", 165) ∷ (codes "&sect;", 167) ∷ []
-
-unfoldable pub names_of_marks : List (List ℕ × ℕ)
-names_of_marks =
-    (codes "&copy;", 169) ∷ (codes "&laquo;", 171) ∷ (codes "&not;", 172) ∷ (codes "&shy;", 173) ∷ (codes "&reg;", 174)
-    ∷ (codes "&deg;", 176) ∷ (codes "&plusmn;", 177) ∷ (codes "&sup2;", 178) ∷ (codes "&sup3;", 179) ∷ (codes "&acute;", 180) ∷ []
-
-unfoldable pub names_of_fractions : List (List ℕ × ℕ)
-names_of_fractions =
-    (codes "&micro;", 181) ∷ (codes "&para;", 182) ∷ (codes "&middot;", 183) ∷ (codes "&raquo;", 187) ∷ (codes "&frac14;", 188)
-    ∷ (codes "&frac12;", 189) ∷ (codes "&times;", 215) ∷ (codes "&divide;", 247) ∷ (codes "&ndash;", 8211) ∷ (codes "&mdash;", 8212) ∷ []
-
-unfoldable pub names_of_quotes : List (List ℕ × ℕ)
-names_of_quotes =
-    (codes "&lsquo;", 8216) ∷ (codes "&rsquo;", 8217) ∷ (codes "&ldquo;", 8220) ∷ (codes "&rdquo;", 8221) ∷ (codes "&bull;", 8226)
+    ∷ (codes "&iexcl;", 161) ∷ (codes "&cent;", 162) ∷ (codes "&pound;", 163) ∷ (codes "&yen;", 165) ∷ (codes "&sect;", 167)
+    ∷ (codes "&copy;", 169) ∷ (codes "&laquo;", 171) ∷ (codes "&not;", 172) ∷ (codes "&shy;", 173) ∷ (codes "&reg;", 174)
+    ∷ (codes "&deg;", 176) ∷ (codes "&plusmn;", 177) ∷ (codes "&sup2;", 178) ∷ (codes "&sup3;", 179) ∷ (codes "&acute;", 180)
+    ∷ (codes "&micro;", 181) ∷ (codes "&para;", 182) ∷ (codes "&middot;", 183) ∷ (codes "&raquo;", 187) ∷ (codes "&frac14;", 188)
+    ∷ (codes "&frac12;", 189) ∷ (codes "&times;", 215) ∷ (codes "&divide;", 247) ∷ (codes "&ndash;", 8211) ∷ (codes "&mdash;", 8212)
+    ∷ (codes "&lsquo;", 8216) ∷ (codes "&rsquo;", 8217) ∷ (codes "&ldquo;", 8220) ∷ (codes "&rdquo;", 8221) ∷ (codes "&bull;", 8226)
     ∷ (codes "&hellip;", 8230) ∷ (codes "&euro;", 8364) ∷ (codes "&trade;", 8482) ∷ (codes "&rarr;", 8594) ∷ (codes "&minus;", 8722) ∷ []
 
 unfoldable pub named_entity : List ℕ → Option (ℕ × ℕ)
-named_entity bs = option_or (named_in names_of_signs bs) (option_or (named_in names_of_marks bs) (option_or (named_in names_of_fractions bs) (named_in names_of_quotes bs)))
+named_entity bs = named_in entity_names bs
 
 -- the numbers that count: no control character, no half of a pair, nothing past the last character
 abbrev pub is_entity_number : ℕ → Bool
@@ -41,7 +34,7 @@ is_entity_number n = (nat_le 32 n && nat_le n 126) || (nat_le 160 n && (nat_le n
 abbrev pub numbered : ℕ → ℕ → ℕ → (ℕ → Bool) → List ℕ → Option (ℕ × ℕ)
 numbered start most base is_digit bs =
     let n = prefix_len is_digit (drop start bs) in
-    let c = number base (take n (drop start bs)) in
+    let c = digits_value base (take n (drop start bs)) in
     if nat_lt 0 n && (nat_le n most && (slice_index bs (start + n) == 59 && is_entity_number c)) then Some (c, start + n + 1) else None
 
 unfoldable pub decimal_entity : List ℕ → Option (ℕ × ℕ)

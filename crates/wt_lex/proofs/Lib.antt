@@ -1,0 +1,14 @@
+pub mod AllForms
+pub mod Begins
+pub mod Borders
+pub mod Closings
+pub mod Cuts
+pub mod Follows
+pub mod Forms
+pub mod Numbers
+pub mod Passing
+pub mod Readings
+pub mod Remarks
+pub mod Signs
+pub mod TagForms
+pub mod Words

@@ -1,0 +1,6 @@
+pub mod GoneNames
+pub mod Places
+pub mod Reading
+pub mod TagView
+pub mod Views
+pub mod Words

@@ -1,0 +1,21 @@
+//! The lexemes of wikitext: comments, raw tags, include tags, entities and signs, as MediaWiki's
+//! preprocessor takes them, each as soon as it begins. What the layers above may use: `lex` gives
+//! exactly the lexemes that the definition names, each where the one before ends.
+#![tactic(auto)]
+
+mod byte;
+mod comment;
+mod entity;
+mod gone;
+mod include;
+mod laws;
+mod lexeme;
+mod scan;
+mod sign;
+mod tag;
+
+pub use entity::entity_at;
+pub use laws::one_reading;
+pub use lexeme::Lexeme;
+pub use scan::lex;
+pub use wt_span::{LexKind, Mode};
