@@ -1,0 +1,10 @@
+pub mod Answers
+pub mod Blocks
+pub mod Cuts
+pub mod Headings
+pub mod Lines
+pub mod PageTree
+pub mod Refusals
+pub mod Runs
+pub mod Unbuilt
+pub mod Words

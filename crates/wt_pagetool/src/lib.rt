@@ -1,0 +1,10 @@
+//! The program's commands over its devices: `run` answers the words of a command line.
+//!
+//! Until the layers for templates, lists, tables and inline forms stand, the pages that are answered
+//! are plain ones: paragraphs, headings and blank lines.
+#![tactic(auto)]
+
+mod block;
+mod heading;
+mod line;
+mod page;
