@@ -12,8 +12,8 @@ use Rattle.wt_pagetool.specs.Headings.{is_heading}
 use Rattle.wt_pagetool.specs.Lines.{lines, line_len, content, ending, goes_on, kind_of, line_kind, is_text, same_block}
 use Rattle.wt_pagetool.specs.Blocks.{Block, para, heading, sep, source, sources, sep_of, blocks_by, joined, first_kind, blocks_of, pieces, both_seps, as_one, blocks}
 use Rattle.wt_pagetool.specs.Cuts.{IsTextLine}
-use Rattle.wt_pagetool.specs.Runs.{runs, put, IsRun}
-use Rattle.wt_pagetool.proofs.RunLaws.{runs_cut, runs_joined}
+use Rattle.wt_span.specs.Runs.{runs, put, IsRun}
+use Rattle.wt_span.proofs.RunLaws.{runs_cut, runs_joined}
 use Rattle.wt_pagetool.proofs.LineLaws.{lines_cut, content_front, content_rest}
 
 -- ---- a line break at the front
@@ -114,6 +114,14 @@ pieces_line text some e =
     ∙ ap (flat_map blocks_of) (runs_cut same_block (l ∷ []) rest (line_alone l rest e))
     ∙ ap (λ bs. blocks_by (line_kind l) bs ++ flat_map blocks_of (runs same_block rest)) (append-nil l)
 
+line_some_by : (b : ℕ) (bs : List ℕ) (v : Bool) → 0 < cond v 1 (1 + line_len bs)
+line_some_by b bs true = omega arith
+line_some_by b bs false = omega arith
+
+pub line_some : (text : List ℕ) → 0 < length text → 0 < line_len text
+line_some [] some = absurd (omega arith)
+line_some (b ∷ bs) some = line_some_by b bs (b == 10)
+
 -- text lines, and lines that don't begin with one
 abbrev pub AllText : List (List ℕ) → Type 0
 AllText [] = Unit {0}
@@ -133,6 +141,7 @@ pub record TextsSoFar (text : List ℕ) (end : ℕ) : Type 0 where
   pub first : List ℕ
   pub later : List (List ℕ)
   pub within : end ≤ length text
+  pub some : 0 < end
   pub all_text : AllText (first ∷ later)
   pub so_far : lines text ≡ (first ∷ later) ++ lines (drop end text)
   pub source : joined (first ∷ later) ≡ take end text
@@ -150,6 +159,7 @@ texts_init text n some is within e = rw is (record {
   first = take (line_len text) text;
   later = [];
   within = rw (← is) within;
+  some = line_some text some;
   all_text = (e, tt);
   so_far = lines_cut text some;
   source = append-nil (take (line_len text) text);
@@ -172,6 +182,7 @@ texts_step text end n so line =
       first = so.first;
       later = so.later ++ l ∷ [];
       within = omega (arith, line.within, line.value, so.within, length-drop end text);
+      some = omega (arith, so.some);
       all_text = (so.all_text.0, all_more so.later l so.all_text.1 line.kind);
       so_far =
           so.so_far ∙ ap (λ ls. (so.first ∷ so.later) ++ ls) (lines_cut rest line.some ∙ ap (λ bs. l ∷ lines bs) after)
@@ -308,7 +319,7 @@ some_breaks_by : (b : ℕ) (bs : List ℕ) (v : Bool) → (b == 10) ≡ v → b 
 some_breaks_by b bs true e is = omega arith
 some_breaks_by b bs false e is = absurd (grind (arith, common_steps))
 
-some_breaks : (text : List ℕ) → 0 < length text → get_or text 0 0 ≡ 10 → 0 < breaks text
+pub some_breaks : (text : List ℕ) → 0 < length text → get_or text 0 0 ≡ 10 → 0 < breaks text
 some_breaks [] some is = absurd (omega arith)
 some_breaks (b ∷ bs) some is = some_breaks_by b bs (b == 10) refl is
 
@@ -316,14 +327,6 @@ pub sep_whole : (text : List ℕ) (n : ℕ) → n ≡ breaks text → n ≤ leng
 sep_whole text n is within some first = let more = some_breaks text some first in sep_cut text n is (omega (arith, is, more)) within
 
 -- ---- the same, in the words of the functions that cut
-
-line_some_by : (b : ℕ) (bs : List ℕ) (v : Bool) → 0 < cond v 1 (1 + line_len bs)
-line_some_by b bs true = omega arith
-line_some_by b bs false = omega arith
-
-line_some : (text : List ℕ) → 0 < length text → 0 < line_len text
-line_some [] some = absurd (omega arith)
-line_some (b ∷ bs) some = line_some_by b bs (b == 10)
 
 pub text_line_of : (text front : List ℕ) (n : ℕ) (k : LineKind) → n ≡ line_len text → n ≤ length text → front ≡ take n text → k ≡ line_kind front → k ≡ Text → IsTextLine text n
 text_line_of text front n k is within e f g =
@@ -352,3 +355,17 @@ pub not_blank_line : (text front : List ℕ) (n : ℕ) (k : LineKind) → n ≡ 
 not_blank_line [] front n k is e f some no_break blank = omega arith
 not_blank_line (b ∷ bs) front n k is e f some no_break blank =
     not_blank_at b bs (b == 10) refl no_break (ap line_kind (ap (λ m. take m (b ∷ bs)) (sym is) ∙ sym e) ∙ sym f ∙ blank)
+
+content_some_by : (b : ℕ) (v : Bool) → (b == 10) ≡ v → (b ≡ 10 → ⊥) → 0 < length (cond v [] (b ∷ []))
+content_some_by b true e n = absurd (n (grind (arith, common_steps)))
+content_some_by b false e n = omega arith
+
+content_some : (b : ℕ) (bs : List ℕ) → (b ≡ 10 → ⊥) → 0 < length (content (b ∷ bs))
+content_some b [] n = content_some_by b (b == 10) refl n
+content_some b (c ∷ cs) n = omega arith
+
+-- a block that doesn't begin with a line break has some bytes
+pub block_some : (text front : List ℕ) (n len : ℕ) → front ≡ take n text → len ≡ length (content front) → 0 < n → 0 < length text → (get_or text 0 0 ≡ 10 → ⊥) → 0 < len
+block_some [] front n len e f some some_text no_break = absurd (omega arith)
+block_some (b ∷ bs) front zero len e f some some_text no_break = absurd (omega arith)
+block_some (b ∷ bs) front (suc n) len e f some some_text no_break = let more = content_some b (take n bs) no_break in rw (f, e) more

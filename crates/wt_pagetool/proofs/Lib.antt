@@ -1,3 +1,4 @@
 pub mod BlockLaws
 pub mod LineLaws
-pub mod RunLaws
+pub mod PageLaws
+pub mod TreeLaws

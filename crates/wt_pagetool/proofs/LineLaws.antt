@@ -5,8 +5,8 @@ use Rattle.std.proofs.Math.Numerals.{one-add}
 use Rattle.std.proofs.lemmas.Grind.{common_steps}
 use Rattle.std.proofs.lemmas.List.{take-append-drop}
 use Rattle.wt_pagetool.specs.Lines.{lines, line_len, content, ending, goes_on}
-use Rattle.wt_pagetool.specs.Runs.{runs, IsRun}
-use Rattle.wt_pagetool.proofs.RunLaws.{runs_cut}
+use Rattle.wt_span.specs.Runs.{runs, IsRun}
+use Rattle.wt_span.proofs.RunLaws.{runs_cut}
 
 -- the content is a front of the line
 pub content_front : (line : List ℕ) → take (length (content line)) line ≡ content line

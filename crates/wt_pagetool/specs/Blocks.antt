@@ -4,7 +4,7 @@ use Rattle.std.specs.List.{flat_map}
 use Rattle.wt_pagetool.specs.declared.line.LineKind.{LineKind}
 use Rattle.wt_pagetool.specs.declared.line.LineKind.TheVariants.{Blank, Heading, Text}
 use Rattle.wt_pagetool.specs.Lines.{lines, goes_on, content, ending, line_kind, same_block}
-use Rattle.wt_pagetool.specs.Runs.{runs, AreRuns}
+use Rattle.wt_span.specs.Runs.{runs, AreRuns}
 
 -- a block or a separator, by its source
 pub data Block : Type 0 where

@@ -1,5 +1,5 @@
 -- Facts of the functions that cut the first block off a text.
-use Rattle.std.specs.Prelude.{◌≡◌, ℕ, ◌<◌, ◌≤◌, List, length, take}
+use Rattle.std.specs.Prelude.{◌≡◌, ℕ, ◌+◌, ◌<◌, ◌≤◌, List, length, take}
 use Rattle.wt_pagetool.specs.declared.block.BlockKind.{BlockKind}
 use Rattle.wt_pagetool.specs.declared.block.BlockKind.TheVariants.{Para, Heading, Sep}
 use Rattle.wt_pagetool.specs.declared.line.LineKind.TheVariants.{Text}
@@ -18,3 +18,8 @@ abbrev pub block_of : BlockKind → List ℕ → Block
 block_of Para bs = para bs
 block_of Heading bs = heading bs
 block_of Sep bs = sep bs
+
+abbrev pub next_id_of : ℕ → BlockKind → ℕ
+next_id_of id Para = id + 1
+next_id_of id Heading = id + 1
+next_id_of id Sep = id

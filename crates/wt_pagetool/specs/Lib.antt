@@ -5,6 +5,5 @@ pub mod Headings
 pub mod Lines
 pub mod PageTree
 pub mod Refusals
-pub mod Runs
 pub mod Unbuilt
 pub mod Words

@@ -3,7 +3,7 @@ use Rattle.std.specs.Prelude.{ℕ, ◌+◌, List, [], ◌∷◌, Bool, true, fal
 use Rattle.wt_pagetool.specs.declared.line.LineKind.{LineKind}
 use Rattle.wt_pagetool.specs.declared.line.LineKind.TheVariants.{Blank, Heading, Text}
 use Rattle.wt_pagetool.specs.Headings.{is_heading}
-use Rattle.wt_pagetool.specs.Runs.{runs}
+use Rattle.wt_span.specs.Runs.{runs}
 
 -- a line goes on up to its line break
 abbrev pub goes_on : ℕ → ℕ → Bool

@@ -31,6 +31,7 @@ fn text_lines_len(text: &[u8]) -> usize
     requires some { 0 < length text.now }
     requires text { line_kind (take (line_len text.now) text.now) ≡ LineKind.Text }
     ensures within { result ≤ length text.now }
+    ensures some_lines { 0 < result }
     ensures cut { pieces text.now ≡ blocks_by LineKind.Text (take result text.now) ++ pieces (drop result text.now) }
 {
     let mut end = line_len(text);
@@ -47,7 +48,9 @@ fn text_lines_len(text: &[u8]) -> usize
 fn para_len(text: &[u8]) -> usize
     requires some { 0 < length text.now }
     requires text { line_kind (take (line_len text.now) text.now) ≡ LineKind.Text }
+    requires no_break { slice_index text.now 0 ≢ 10 }
     ensures within { result ≤ length text.now }
+    ensures some_bytes { 0 < result }
     ensures cut { blocks text.now ≡ para (take result text.now) ∷ blocks (drop result text.now) }
 {
     content_len(front_of(text, text_lines_len(text)))
@@ -57,7 +60,9 @@ fn para_len(text: &[u8]) -> usize
 fn heading_len(text: &[u8]) -> usize
     requires some { 0 < length text.now }
     requires heading { line_kind (take (line_len text.now) text.now) ≡ LineKind.Heading }
+    requires no_break { slice_index text.now 0 ≢ 10 }
     ensures within { result ≤ length text.now }
+    ensures some_bytes { 0 < result }
     ensures cut { blocks text.now ≡ heading (take result text.now) ∷ blocks (drop result text.now) }
 {
     content_len(front_of(text, line_len(text)))
@@ -76,6 +81,7 @@ fn sep_len(text: &[u8]) -> usize
     requires some { 0 < length text.now }
     requires first { slice_index text.now 0 ≡ 10 }
     ensures within { result ≤ length text.now }
+    ensures some_bytes { 0 < result }
     ensures cut { blocks text.now ≡ sep (take result text.now) ∷ blocks (drop result text.now) }
 {
     breaks(text)
@@ -85,6 +91,7 @@ fn sep_len(text: &[u8]) -> usize
 pub fn block_at(text: &[u8]) -> (BlockKind, usize)
     requires { 0 < length text.now }
     ensures within { result.1 ≤ length text.now }
+    ensures some { 0 < result.1 }
     ensures cut { blocks text.now ≡ block_of result.0 (take result.1 text.now) ∷ blocks (drop result.1 text.now) }
 {
     if text[0] == b'\n' {

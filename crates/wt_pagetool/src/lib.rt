@@ -6,5 +6,8 @@
 
 mod block;
 mod heading;
+mod laws;
 mod line;
 mod page;
+
+pub use laws::{one_meaning, whole_tree};
