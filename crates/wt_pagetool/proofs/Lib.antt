@@ -1,4 +1,8 @@
+pub mod AnswerLaws
 pub mod BlockLaws
 pub mod LineLaws
 pub mod PageLaws
+pub mod RunLaws
 pub mod TreeLaws
+pub mod UnbuiltLaws
+pub mod WriteLaws

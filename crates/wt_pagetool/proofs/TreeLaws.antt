@@ -112,8 +112,7 @@ heading_len line =
 block_tiled : (id at : ℕ) (b : Block) → Tiled (block_tree id at b)
 block_tiled id at (para bs) = (omega arith, text_tiled at (at + 0) (at + length bs - 0) bs (omega arith) (omega arith))
 block_tiled id at (heading bs) =
-    let whole = heading_len bs in
-    (
+    let whole = heading_len bs in (
       omega (arith, whole),
       text_tiled (at + length (opening_of bs)) (at + length (opening_of bs)) (at + length bs - length (closing_of bs)) (inside_of bs) refl (omega (arith, whole)),
     )
@@ -132,8 +131,7 @@ block_ends id at (sep bs) = refl
 blocks_tiled : (id from to : ℕ) (bs : List Block) → to ≡ from + length (sources bs) → TiledFrom (trees (block_trees id from bs)) from to
 blocks_tiled id from to [] e = omega arith
 blocks_tiled id from to (b ∷ bs) e =
-    let here : to ≡ from + length (source b) + length (sources bs) = omega (arith, length-append (source b) (sources bs)) in
-    (
+    let here : to ≡ from + length (source b) + length (sources bs) = omega (arith, length-append (source b) (sources bs)) in (
       block_begins id from b,
       block_tiled id from b,
       rw (block_ends id from b) (blocks_tiled (next_id id b) (from + length (source b)) to bs here),

@@ -1,9 +1,12 @@
 pub mod Answers
 pub mod Blocks
+pub mod Commands
 pub mod Cuts
 pub mod Headings
 pub mod Lines
 pub mod PageTree
+pub mod Reasons
 pub mod Refusals
+pub mod Reports
 pub mod Unbuilt
 pub mod Words

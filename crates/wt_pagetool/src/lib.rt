@@ -5,9 +5,17 @@
 #![tactic(auto)]
 
 mod block;
+mod command;
 mod heading;
+mod html_command;
 mod laws;
 mod line;
 mod page;
+mod refusal;
+mod report;
+mod top;
+mod unbuilt;
+mod write;
 
 pub use laws::{one_meaning, whole_tree};
+pub use top::run;

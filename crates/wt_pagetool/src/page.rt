@@ -281,3 +281,14 @@ fn page_body<'a>(alloc: Global, page: &'a str) -> Result<Node<'a>, NoMemory>
         children,
     })
 }
+
+/// The annotated tree of a plain page.
+#[tactic(auto, using(crate::proofs::TreeLaws::page_tiled, crate::proofs::TreeLaws::page_numbered))]
+pub fn page_of_text<'a>(alloc: Global, page: &'a str) -> Result<Annotated<'a>, NoMemory>
+    requires ascii { IsAscii page.now }
+    requires room { length page.now < 2 ^ 31 }
+    ensures { IfOk result (λ tree. view tree.body ≡ page_tree page.entry.now) }
+{
+    let body = page_body(alloc, page)?;
+    Ok(Annotated::of(body))
+}
