@@ -133,18 +133,6 @@ impl MemSink {
     {
         self.taken.as_slice()
     }
-
-    /// The bytes that it has taken, which takes no memory.
-    pub fn into_taken(self) -> List<u8>
-        ensures { ⟦<MemSink as Sink>⟧.taken self ≡ Some result }
-    {
-        let MemSink {
-            taken,
-            most: _,
-            calls: _,
-        } = self;
-        List::from_vec(taken)
-    }
 }
 
 impl Sink for MemSink {

@@ -1,7 +1,6 @@
 ghost use Rattle.std.specs.Prelude.{◌≡◌, ◌≢◌, ◌≤◌, ◌^◌, ◌<◌, length, Option, option_map, IfSome, IfOk, IfErr, Some, None, Err};
 ghost use Rattle.std.specs.Str.{IsAscii};
 ghost use Rattle.wt_outer.specs.Device.{Rose, page_of};
-ghost use Rattle.wt_tree.specs.View.{view};
 ghost use Rattle.wt_markup.specs.Html.{html_text};
 ghost use Rattle.wt_pagetool.specs.Answers.{html_answer, html_built, html_within};
 ghost use Rattle.wt_pagetool.specs.PageTree.{page_tree};
@@ -12,10 +11,9 @@ use crate::page::page_of_text;
 use crate::refusal::Reason;
 use crate::unbuilt::first_unbuilt;
 use std::alloc::Global;
-use wt_html_out::write_html;
-use wt_outer::{FetchRefusal, Fetched, Folder, MemSink};
+use wt_html_out::html_bytes;
+use wt_outer::{FetchRefusal, Fetched, Folder};
 use wt_span::{List, NoMemory};
-use wt_tree::Annotated;
 
 /// The most bytes of a page.
 const MOST_PAGE: usize = 2_097_152;
@@ -35,17 +33,6 @@ fn text_of(page: &[u8]) -> &str
     }
 }
 
-/// The HTML of a tree. A sink in memory that fails has found no memory.
-fn html_of_tree(alloc: Global, tree: &Annotated<'_>) -> Result<List<u8>, NoMemory>
-    ensures { IfOk result (λ bytes. bytes ≡ html_text (view tree.now.body)) }
-{
-    let mut html = MemSink::new(alloc, usize::MAX, List::new(alloc));
-    match write_html(alloc, tree, &mut html) {
-        Ok(()) => Ok(html.into_taken()),
-        Err(_) => Err(NoMemory),
-    }
-}
-
 /// The HTML of a page that has no form that isn't built.
 fn html_of_text(alloc: Global, page: &str) -> Result<List<u8>, NoMemory>
     requires ascii { IsAscii page.now }
@@ -53,7 +40,7 @@ fn html_of_text(alloc: Global, page: &str) -> Result<List<u8>, NoMemory>
     ensures { IfOk result (λ bytes. bytes ≡ html_text (page_tree page.now)) }
 {
     let tree = page_of_text(alloc, page)?;
-    html_of_tree(alloc, &tree)
+    html_bytes(alloc, &tree)
 }
 
 /// The HTML of a page, if it is no longer than it may be.
