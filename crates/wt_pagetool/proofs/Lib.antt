@@ -1,5 +1,6 @@
 pub mod AnswerLaws
 pub mod BlockLaws
+mod Cases
 pub mod LineLaws
 pub mod PageLaws
 pub mod RunLaws

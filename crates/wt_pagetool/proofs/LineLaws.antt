@@ -65,7 +65,7 @@ line_run_by : (b : ℕ) (bs : List ℕ) (v : Bool) → (b == 10) ≡ v → (0 < 
     → IsRun goes_on (take (cond v 1 (1 + line_len bs)) (b ∷ bs)) (drop (cond v 1 (1 + line_len bs)) (b ∷ bs))
 line_run_by b bs true e rest = run_after b bs e
 line_run_by b [] false e rest = tt
-line_run_by b (c ∷ cs) false e rest = rw one-add (run_onto b c cs (c == 10) e refl (rest (omega arith)))
+line_run_by b (c ∷ cs) false e rest = rw (one-add (line_len (c ∷ cs))) (run_onto b c cs (c == 10) e refl (rest (omega arith)))
 
 pub line_run : (text : List ℕ) → 0 < length text → IsRun goes_on (take (line_len text) text) (drop (line_len text) text)
 line_run [] some = absurd (omega arith)

@@ -17,5 +17,5 @@ mod top;
 mod unbuilt;
 mod write;
 
-pub use laws::{one_meaning, whole_tree};
+pub use laws::{one_meaning, smallest_place, whole_tree};
 pub use top::run;
