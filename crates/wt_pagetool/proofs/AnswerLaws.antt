@@ -1,13 +1,13 @@
 -- The answer to the words, from what the folder gave.
-use Rattle.std.proofs.Common.{◌≡◌, ℕ, ◌+◌, ◌<◌, ◌≤◌, List, [], ◌∷◌, length, take, true, false, Bool, cond, refl, sym, ap, ◌∙◌, subst, arith, length-take-le, inl, inr, ⊎_elim}
-use Rattle.std.specs.Prelude.{◌⊎◌, nat_lt, Option, Some, None, option_map, IfSome, Result}
+use Rattle.std.proofs.Common.{◌≡◌, ℕ, ◌<◌, ◌≤◌, List, length, take, refl, sym, ap, ◌∙◌, subst, arith, length-take-le, inl, inr, ⊎_elim}
+use Rattle.std.specs.Prelude.{◌⊎◌, Option, Some, None, option_map, IfSome, Result}
 use Rattle.std.proofs.lemmas.Bool.Decides.{nat_tests}
 use Rattle.std.proofs.lemmas.List.{take_all}
 use Rattle.std.proofs.str.Laws.{order}
 use Rattle.wt_outer.specs.Device.{Pages, Gives, page_of}
 use Rattle.wt_outer.specs.declared.device.Fetched.{Fetched}
 use Rattle.wt_pagetool.specs.Refusals.{too_long}
-use Rattle.wt_pagetool.specs.Answers.{Answer, refused, html_answer}
+use Rattle.wt_pagetool.specs.Answers.{refused, html_answer}
 use Rattle.wt_pagetool.specs.Reasons.{Answered}
 use Rattle.wt_pagetool.specs.declared.refusal.Reason.{Reason}
 

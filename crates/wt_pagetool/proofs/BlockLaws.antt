@@ -1,6 +1,6 @@
 -- The first block of a text, and the blocks of what stands after it.
-use Rattle.std.proofs.Common.{◌≡◌, ℕ, suc, zero, ◌+◌, ◌-◌, ◌<◌, ◌≤◌, Bool, true, false, cond, List, [], ◌∷◌, ◌++◌, length, get_or, take, drop, map, refl, sym, ap, ◌∙◌, arith, subst, append_assoc, append-nil, length-drop, length-take-le}
-use Rattle.std.specs.Prelude.{◌==◌, ◌&&◌, ◌⊎◌}
+use Rattle.std.proofs.Common.{◌≡◌, ℕ, suc, zero, ◌+◌, ◌<◌, ◌≤◌, Bool, true, false, cond, List, [], ◌∷◌, ◌++◌, length, get_or, take, drop, map, refl, sym, ap, ◌∙◌, arith, subst, append_assoc, append-nil, length-drop, length-take-le}
+use Rattle.std.specs.Prelude.{◌==◌}
 use Rattle.std.specs.List.{flat_map, prefix_len}
 use Rattle.std.proofs.Math.Numerals.{one-add}
 use Rattle.std.proofs.lemmas.Grind.{common_steps}
@@ -10,10 +10,10 @@ use Rattle.wt_pagetool.specs.declared.line.LineKind.{LineKind}
 use Rattle.wt_pagetool.specs.declared.line.LineKind.TheVariants.{Blank, Heading, Text}
 use Rattle.wt_pagetool.specs.Headings.{is_heading}
 use Rattle.wt_pagetool.specs.Lines.{lines, line_len, content, ending, goes_on, kind_of, line_kind, is_text, same_block}
-use Rattle.wt_pagetool.specs.Blocks.{Block, para, heading, sep, source, sources, sep_of, blocks_by, joined, first_kind, blocks_of, pieces, both_seps, as_one, blocks}
+use Rattle.wt_pagetool.specs.Blocks.{Block, para, heading, sep, sources, sep_of, blocks_by, joined, blocks_of, pieces, both_seps, as_one, blocks}
 use Rattle.wt_pagetool.specs.Cuts.{IsTextLine}
 use Rattle.wt_span.specs.Runs.{runs, put, IsRun}
-use Rattle.wt_span.proofs.RunLaws.{runs_cut, runs_joined}
+use Rattle.wt_span.proofs.RunLaws.{runs_cut}
 use Rattle.wt_pagetool.proofs.LineLaws.{lines_cut, content_front, content_rest}
 
 -- ---- a line break at the front

@@ -1,12 +1,12 @@
 -- Worked cases of the definitions, each computed.
-use Rattle.std.proofs.Common.{◌≡◌, ℕ, List, [], ◌∷◌, ◌++◌, true, false, refl, append_assoc, rules}
-use Rattle.std.specs.Prelude.{Option, Some, None, codes, decimal}
-use Rattle.wt_pagetool.specs.Headings.{is_heading, heading_parts, opening_of, inside_of, closing_of}
-use Rattle.wt_pagetool.specs.Lines.{lines, line_kind}
+use Rattle.std.proofs.Common.{◌≡◌, ℕ, [], ◌∷◌, ◌++◌, true, false, refl, append_assoc, rules}
+use Rattle.std.specs.Prelude.{Some, None, codes, decimal}
+use Rattle.wt_pagetool.specs.Headings.{is_heading, heading_parts}
+use Rattle.wt_pagetool.specs.Lines.{line_kind}
 use Rattle.wt_pagetool.specs.Blocks.{para, heading, sep, pieces, blocks}
 use Rattle.wt_pagetool.specs.Unbuilt.{first_unbuilt}
 use Rattle.wt_pagetool.specs.Words.{html, command_of}
-use Rattle.wt_pagetool.specs.Refusals.{usage, not_built, html_too_long, braces_too_deep, edit_refused, bad_content, nested, text_of, edit_why, content_why, line_of}
+use Rattle.wt_pagetool.specs.Refusals.{not_built, html_too_long, braces_too_deep, edit_refused, bad_content, nested, text_of, edit_why, content_why, line_of}
 
 -- a heading, a separator of two line breaks, and a paragraph
 a_page : blocks (codes "== A ==\n\nb") ≡ heading (codes "== A ==") ∷ sep (codes "\n\n") ∷ para (codes "b") ∷ []

@@ -1,9 +1,9 @@
 -- The nodes of a plain page.
 use Rattle.std.proofs.Common.{◌≡◌, ℕ, ◌+◌, ◌<◌, ◌≤◌, List, [], ◌∷◌, ◌++◌, length, refl, sym, ap, ◌∙◌, append-nil, arith}
 use Rattle.std.specs.Str.{IsAscii}
-use Rattle.wt_tree.specs.Tree.{Tree, Trees, none, more}
-use Rattle.wt_pagetool.specs.Blocks.{Block, pieces, blocks}
-use Rattle.wt_pagetool.specs.PageTree.{text_leaf, text_in, block_tree, block_trees}
+use Rattle.wt_tree.specs.Tree.{Tree, none, more}
+use Rattle.wt_pagetool.specs.Blocks.{pieces, blocks}
+use Rattle.wt_pagetool.specs.PageTree.{text_leaf, text_in, block_trees}
 
 pub text_in_none : (at : ℕ) (bs : List ℕ) → length bs ≡ 0 → text_in at bs ≡ none
 text_in_none at [] e = refl

@@ -1,19 +1,19 @@
 -- What `run` ends with: from what was found and what was reported.
-use Rattle.std.proofs.Common.{◌≡◌, ℕ, ◌+◌, ◌<◌, ◌≤◌, List, [], ◌∷◌, ◌++◌, length, take, true, false, Bool, cond, refl, sym, ap, ◌∙◌, subst, append-nil, arith, inl, inr}
-use Rattle.std.specs.Prelude.{◌⊎◌, ◌≢◌, nat_lt, Option, Some, None, IfSome, Result, Ok, Err}
-use Rattle.std.specs.Io.KnownBytes.{Appends, Keeps}
+use Rattle.std.proofs.Common.{◌≡◌, ℕ, ◌<◌, List, length, true, false, Bool, cond, refl, sym, ◌∙◌, subst, arith, inl, inr}
+use Rattle.std.specs.Prelude.{nat_lt, Option, Some, None, IfSome, Result, Ok, Err}
+use Rattle.std.specs.Io.KnownBytes.{Appends}
 use Rattle.std.proofs.lemmas.List.{take_all}
-use Rattle.wt_outer.specs.Device.{Pages, Rose}
+use Rattle.wt_outer.specs.Device.{Pages}
 use Rattle.wt_markup.specs.Html.{html_text}
 use Rattle.wt_pagetool.specs.declared.refusal.Reason.{Reason}
 use Rattle.wt_pagetool.specs.declared.refusal.Reason.TheVariants.{Usage, Absent, TooLong, NotBuilt, HtmlTooLong, FolderFault, NoMemory}
-use Rattle.wt_pagetool.specs.Refusals.{Refusal, usage, too_long, html_too_long, write_fault, no_memory, status_of, line_of}
+use Rattle.wt_pagetool.specs.Refusals.{too_long, html_too_long, write_fault, no_memory, status_of, line_of}
 use Rattle.wt_pagetool.specs.PageTree.{page_tree}
 use Rattle.wt_pagetool.specs.Unbuilt.{first_unbuilt}
 use Rattle.wt_pagetool.specs.Words.{Command, html, command_of}
-use Rattle.wt_pagetool.specs.Answers.{Answer, done, refused, html_within, html_built, html_answer, answer_to, answer_of, output_of, status_of_answer, IsDone, IsDue}
-use Rattle.wt_pagetool.specs.Reasons.{meant, Refuses, Answered}
-use Rattle.wt_pagetool.specs.Reports.{AppendsFront, Sunk, Untouched, Took, FailedAfter, Gave, Told, Refused, Reported, WroteHtml, NamesRefusal, BeginsRefusal}
+use Rattle.wt_pagetool.specs.Answers.{done, refused, html_built, html_answer, answer_to, answer_of, IsDue}
+use Rattle.wt_pagetool.specs.Reasons.{meant, Answered}
+use Rattle.wt_pagetool.specs.Reports.{AppendsFront, Sunk, Reported, WroteHtml, BeginsRefusal}
 use Rattle.wt_pagetool.proofs.TreeLaws.{page_tiled, page_covered, page_numbered}
 
 -- ---- an answer that is HTML is that of a page

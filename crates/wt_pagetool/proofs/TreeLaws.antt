@@ -1,5 +1,5 @@
 -- The annotated tree of a plain page: its source, its ranges and its numbers.
-use Rattle.std.proofs.Common.{◌≡◌, ℕ, zero, suc, ◌+◌, ◌-◌, ◌<◌, ◌≤◌, Bool, true, false, List, [], ◌∷◌, ◌++◌, length, take, drop, map, refl, sym, ap, ◌∙◌, subst, append-nil, append_assoc, arith, length-append}
+use Rattle.std.proofs.Common.{◌≡◌, ℕ, suc, ◌+◌, ◌-◌, List, [], ◌∷◌, ◌++◌, length, take, drop, map, refl, sym, ap, ◌∙◌, append-nil, append_assoc, arith, length-append}
 use Rattle.std.specs.Prelude.{All}
 use Rattle.std.specs.List.{flat_map, range_with_len}
 use Rattle.std.proofs.lemmas.List.{take-append-drop, drop-drop}
@@ -8,13 +8,13 @@ use Rattle.std.proofs.lemmas.List.FromFn.{length-range_with_len}
 use Rattle.std.proofs.lemmas.List.Elements.{All-nil, All-cons}
 use Rattle.wt_span.specs.Runs.{runs, IsRun, AreRuns}
 use Rattle.wt_span.proofs.RunLaws.{runs_are, runs_joined, runs_only}
-use Rattle.wt_tree.specs.Tree.{Tree, tree, Trees, none, more, trees, label}
+use Rattle.wt_tree.specs.Tree.{trees, label}
 use Rattle.wt_tree.specs.Source.{flat, flat_of_all}
-use Rattle.wt_tree.specs.Tiling.{Tiled, TiledFrom, BeginsAt, end_of, Covers, numbers, numbers_of_all, others, others_of_all, InPreorder}
+use Rattle.wt_tree.specs.Tiling.{Tiled, TiledFrom, BeginsAt, end_of, Covers, numbers_of_all, others, others_of_all, InPreorder}
 use Rattle.wt_pagetool.specs.declared.line.LineKind.{LineKind}
 use Rattle.wt_pagetool.specs.declared.line.LineKind.TheVariants.{Blank, Heading, Text}
 use Rattle.wt_pagetool.specs.Headings.{heading_parts, opening_of, inside_of, closing_of}
-use Rattle.wt_pagetool.specs.Lines.{lines, goes_on, content, ending, line_kind, same_block}
+use Rattle.wt_pagetool.specs.Lines.{lines, goes_on, content, ending, same_block}
 use Rattle.wt_pagetool.specs.Blocks.{Block, para, heading, sep, source, sources, sep_of, blocks_by, joined, first_kind, blocks_of, pieces, both_seps, as_one, blocks, IsMeaning}
 use Rattle.wt_pagetool.specs.PageTree.{text_in, next_id, block_tree, block_trees, page_tree}
 use Rattle.wt_pagetool.proofs.LineLaws.{content_front, content_rest}

@@ -1,7 +1,6 @@
 -- What the program answers: the bytes that go to standard output, or a refusal.
 use Rattle.std.specs.Prelude.{◌≡◌, ℕ, List, [], length, nat_lt, ⊤, Option, Some, None, IfSome, if◌then◌else◌}
 use Rattle.wt_outer.specs.Device.{Pages}
-use Rattle.wt_tree.specs.Tiling.{Tiled, Covers, InPreorder}
 use Rattle.wt_markup.specs.Html.{html_text}
 use Rattle.wt_pagetool.specs.Refusals.{Refusal, usage, absent, too_long, not_utf8_at, not_built, braces_too_deep, expansion_too_large, template_not_utf8, template_too_long, html_too_long, input_too_long, html_refused, does_not_fit, unsourced, edit_refused, read_fault, folder_fault, write_fault, no_memory, status_of}
 use Rattle.wt_pagetool.specs.PageTree.{page_tree}

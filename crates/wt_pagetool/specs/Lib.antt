@@ -4,6 +4,7 @@ pub mod Commands
 pub mod Cuts
 pub mod Headings
 pub mod Lines
+pub mod Nodes
 pub mod PageTree
 pub mod Reasons
 pub mod Refusals

@@ -1,5 +1,5 @@
 -- Why a call of the program gives no answer, the status that tells it, and the line that names it.
-use Rattle.std.specs.Prelude.{ℕ, List, [], ◌∷◌, ◌++◌, Option, Some, None, codes}
+use Rattle.std.specs.Prelude.{ℕ, List, ◌++◌, Option, Some, None, codes}
 use Rattle.std.specs.Fmt.{decimal}
 
 -- why an HTML input isn't well-formed; why an element fits nowhere; why the content of a mark is bad

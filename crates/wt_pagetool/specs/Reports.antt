@@ -1,5 +1,5 @@
 -- What a call wrote to its two sinks, and what that did to their counts of faults.
-use Rattle.std.specs.Prelude.{◌≡◌, ◌≢◌, ℕ, ◌≤◌, ◌<◌, ◌⊎◌, List, length, take, Option, Some, Result, Ok, Err, ⊤}
+use Rattle.std.specs.Prelude.{◌≡◌, ℕ, ◌⊎◌, List, length, take, Option, Some, Result, Ok, Err}
 use Rattle.std.specs.Io.KnownBytes.{Appends, Keeps}
 use Rattle.wt_outer.specs.Device.{Rose, Pages}
 use Rattle.wt_tree.specs.Tiling.{Tiled, Covers, InPreorder}
@@ -7,9 +7,9 @@ use Rattle.wt_markup.specs.Html.{html_text}
 use Rattle.wt_pagetool.specs.Refusals.{Refusal, write_fault, no_memory, status_of, line_of}
 use Rattle.wt_pagetool.specs.declared.refusal.Reason.{Reason}
 use Rattle.wt_pagetool.specs.Reasons.{meant}
-use Rattle.wt_pagetool.specs.Answers.{Answer, done, refused, IsDue}
+use Rattle.wt_pagetool.specs.Answers.{IsDue}
 use Rattle.wt_pagetool.specs.PageTree.{page_tree}
-use Rattle.wt_pagetool.specs.Words.{Command, html, command_of}
+use Rattle.wt_pagetool.specs.Words.{html, command_of}
 
 -- a sink took a front of these bytes, which may be all or none of them
 abbrev pub AppendsFront : Option (List ℕ) → Option (List ℕ) → List ℕ → Type 0

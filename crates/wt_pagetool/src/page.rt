@@ -1,7 +1,9 @@
 ghost use Rattle.std.specs.Prelude.{◌≡◌, ◌≤◌, ◌<◌, ◌+◌, ◌-◌, ◌^◌, ◌∷◌, [], length, map, IfOk, take, drop};
 ghost use Rattle.std.specs.Str.{IsAscii};
 ghost use Rattle.wt_span.specs.Slice.{bytes_of, start_of};
+ghost use Rattle.wt_pagetool.specs.Nodes.{bare};
 ghost use Rattle.wt_tree.specs.View.{view, views};
+ghost use Rattle.wt_tree.specs.declared.node.Node.{out-Node};
 ghost use Rattle.wt_pagetool.specs.Headings.{heading_parts, opening_of, inside_of, closing_of};
 ghost use Rattle.wt_pagetool.specs.Blocks.{para, heading, blocks};
 ghost use Rattle.wt_pagetool.specs.PageTree.{text_leaf, sep_leaf, text_in, block_tree, block_trees, page_tree};
@@ -16,91 +18,19 @@ use wt_tree::{Annotated, Kind, Mark, Node, Ranges};
 fn one<'a>(alloc: Global, text: Text<'a>) -> Result<List<Text<'a>>, NoMemory>
     ensures { IfOk result (λ l. l ≡ text.entry ∷ []) }
 {
-    let mut list = List::new(alloc);
-    list.push(text)?;
-    Ok(list)
+    Ok(List::from_vec(vec![in alloc; text]?))
 }
 
-/// A run of characters.
-fn text_node<'a>(alloc: Global, text: Text<'a>) -> Result<Node<'a>, NoMemory>
-    ensures { IfOk result (λ n. view n ≡ text_leaf (start_of text.entry) (bytes_of text.entry)) }
+/// A node that holds nothing yet, from `start` up to `end`.
+fn bare_node<'a>(alloc: Global, kind: Kind, id: u32, start: u32, end: u32) -> Node<'a>
+    ensures { out-Node result ≡ bare kind id start end }
 {
-    let range = text.range();
-    let own = one(alloc, text)?;
-    let shown = Str::copy_of(alloc, text.as_str())?;
-    Ok(Node {
-        kind: Kind::Text,
-        id: 0,
-        ranges: Some(Ranges {
-            start: range.start,
-            end: range.end,
-            open_w: 0,
-            close_w: 0,
-        }),
-        opening: List::new(alloc),
-        closing: List::new(alloc),
-        own,
-        shown,
-        attrs: List::new(alloc),
-        origin: None,
-        mark: Mark::Nothing,
-        mw: None,
-        children: List::new(alloc),
-    })
-}
-
-/// What stands between two blocks.
-fn sep_node<'a>(alloc: Global, text: Text<'a>) -> Result<Node<'a>, NoMemory>
-    ensures { IfOk result (λ n. view n ≡ sep_leaf (start_of text.entry) (bytes_of text.entry)) }
-{
-    let range = text.range();
-    let own = one(alloc, text)?;
-    Ok(Node {
-        kind: Kind::Sep,
-        id: 0,
-        ranges: Some(Ranges {
-            start: range.start,
-            end: range.end,
-            open_w: 0,
-            close_w: 0,
-        }),
-        opening: List::new(alloc),
-        closing: List::new(alloc),
-        own,
-        shown: Str::new(alloc),
-        attrs: List::new(alloc),
-        origin: None,
-        mark: Mark::Nothing,
-        mw: None,
-        children: List::new(alloc),
-    })
-}
-
-/// The characters of a block as its children: one text, or none where there are no characters.
-#[tactic(auto, using(crate::proofs::PageLaws::text_in_some, crate::proofs::PageLaws::text_in_none))]
-fn text_children<'a>(alloc: Global, text: Text<'a>) -> Result<List<Node<'a>>, NoMemory>
-    ensures { IfOk result (λ l. views l ≡ text_in (start_of text.entry) (bytes_of text.entry)) }
-{
-    if text.as_str().is_empty() {
-        return Ok(List::new(alloc));
-    }
-    let mut children = List::new(alloc);
-    let inside = text_node(alloc, text)?;
-    children.push(inside)?;
-    Ok(children)
-}
-
-fn para_node<'a>(alloc: Global, id: u32, text: Text<'a>) -> Result<Node<'a>, NoMemory>
-    ensures { IfOk result (λ n. view n ≡ block_tree id (start_of text.entry) (para (bytes_of text.entry))) }
-{
-    let range = text.range();
-    let children = text_children(alloc, text)?;
-    Ok(Node {
-        kind: Kind::Para,
+    Node {
+        kind,
         id,
         ranges: Some(Ranges {
-            start: range.start,
-            end: range.end,
+            start,
+            end,
             open_w: 0,
             close_w: 0,
         }),
@@ -112,7 +42,51 @@ fn para_node<'a>(alloc: Global, id: u32, text: Text<'a>) -> Result<Node<'a>, NoM
         origin: None,
         mark: Mark::Nothing,
         mw: None,
-        children,
+        children: List::new(alloc),
+    }
+}
+
+/// A run of characters.
+fn text_node<'a>(alloc: Global, text: Text<'a>) -> Result<Node<'a>, NoMemory>
+    ensures { IfOk result (λ n. view n ≡ text_leaf (start_of text.entry) (bytes_of text.entry)) }
+{
+    let range = text.range();
+    Ok(Node {
+        own: one(alloc, text)?,
+        shown: Str::copy_of(alloc, text.as_str())?,
+        ..bare_node(alloc, Kind::Text, 0, range.start, range.end)
+    })
+}
+
+/// What stands between two blocks.
+fn sep_node<'a>(alloc: Global, text: Text<'a>) -> Result<Node<'a>, NoMemory>
+    ensures { IfOk result (λ n. view n ≡ sep_leaf (start_of text.entry) (bytes_of text.entry)) }
+{
+    let range = text.range();
+    Ok(Node {
+        own: one(alloc, text)?,
+        ..bare_node(alloc, Kind::Sep, 0, range.start, range.end)
+    })
+}
+
+/// The characters of a block as its children: one text, or none where there are no characters.
+#[tactic(auto, using(crate::proofs::PageLaws::text_in_some, crate::proofs::PageLaws::text_in_none))]
+fn text_children<'a>(alloc: Global, text: Text<'a>) -> Result<List<Node<'a>>, NoMemory>
+    ensures { IfOk result (λ l. views l ≡ text_in (start_of text.entry) (bytes_of text.entry)) }
+{
+    if text.as_str().is_empty() {
+        return Ok(List::new(alloc));
+    }
+    Ok(List::from_vec(vec![in alloc; text_node(alloc, text)?]?))
+}
+
+fn para_node<'a>(alloc: Global, id: u32, text: Text<'a>) -> Result<Node<'a>, NoMemory>
+    ensures { IfOk result (λ n. view n ≡ block_tree id (start_of text.entry) (para (bytes_of text.entry))) }
+{
+    let range = text.range();
+    Ok(Node {
+        children: text_children(alloc, text)?,
+        ..bare_node(alloc, Kind::Para, id, range.start, range.end)
     })
 }
 
@@ -164,29 +138,18 @@ fn heading_node<'a>(alloc: Global, id: u32, line: Text<'a>) -> Result<Node<'a>, 
 {
     let range = line.range();
     let cut = cut_heading(line);
-    let open_w = cut.opening.as_str().len() as u32;
-    let close_w = cut.closing.as_str().len() as u32;
-    let opening = one(alloc, cut.opening)?;
-    let closing = one(alloc, cut.closing)?;
-    let children = text_children(alloc, cut.inside)?;
+    let ranges = Ranges {
+        start: range.start,
+        end: range.end,
+        open_w: cut.opening.as_str().len() as u32,
+        close_w: cut.closing.as_str().len() as u32,
+    };
     Ok(Node {
-        kind: Kind::Heading(cut.level),
-        id,
-        ranges: Some(Ranges {
-            start: range.start,
-            end: range.end,
-            open_w,
-            close_w,
-        }),
-        opening,
-        closing,
-        own: List::new(alloc),
-        shown: Str::new(alloc),
-        attrs: List::new(alloc),
-        origin: None,
-        mark: Mark::Nothing,
-        mw: None,
-        children,
+        ranges: Some(ranges),
+        opening: one(alloc, cut.opening)?,
+        closing: one(alloc, cut.closing)?,
+        children: text_children(alloc, cut.inside)?,
+        ..bare_node(alloc, Kind::Heading(cut.level), id, range.start, range.end)
     })
 }
 
@@ -262,23 +225,8 @@ fn page_body<'a>(alloc: Global, page: &'a str) -> Result<Node<'a>, NoMemory>
 {
     let children = block_nodes(alloc, Text::new(page, 0))?;
     Ok(Node {
-        kind: Kind::Body,
-        id: 0,
-        ranges: Some(Ranges {
-            start: 0,
-            end: page.len() as u32,
-            open_w: 0,
-            close_w: 0,
-        }),
-        opening: List::new(alloc),
-        closing: List::new(alloc),
-        own: List::new(alloc),
-        shown: Str::new(alloc),
-        attrs: List::new(alloc),
-        origin: None,
-        mark: Mark::Nothing,
-        mw: None,
         children,
+        ..bare_node(alloc, Kind::Body, 0, 0, page.len() as u32)
     })
 }
 

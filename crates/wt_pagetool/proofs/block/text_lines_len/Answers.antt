@@ -1,4 +1,4 @@
-use Rattle.std.proofs.Common.{◌≡◌, arith}
+use Rattle.std.proofs.Common.{arith}
 use Rattle.wt_pagetool.proofs.BlockLaws.{texts_init, texts_step, texts_end, texts_stop}
 use Rattle.wt_pagetool.proofs.block.text_lines_len.Goals as goal
 

@@ -1,4 +1,3 @@
-use Rattle.wt_pagetool.specs.Reports.{sunk}
 use Rattle.wt_pagetool.proofs.RunLaws.{run_html, run_fault_front}
 use Rattle.wt_pagetool.proofs.top.run.Goals as goal
 

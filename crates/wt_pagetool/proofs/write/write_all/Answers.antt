@@ -1,4 +1,4 @@
-use Rattle.std.proofs.Common.{◌≡◌, ◌<◌, ◌+◌, ◌≤◌, length, ap, ◌∙◌, arith, length-drop}
+use Rattle.std.proofs.Common.{◌<◌, length, ap, ◌∙◌, arith}
 use Rattle.std.proofs.lemmas.Grind.{common_steps}
 use Rattle.wt_pagetool.proofs.WriteLaws.{front_grows}
 use Rattle.wt_pagetool.proofs.write.write_all.Goals as goal
