@@ -27,6 +27,7 @@ impl Calls {
 
     /// Counts one more fault.
     pub fn fail(&mut self) -> Failed
+        ensures made { self.new.made ≡ self.old.made }
         ensures counted { self.new.faults ≡ min (self.old.faults + 1) (2 ^ 64 - 1) }
         ensures later { self.old.faults ≤ self.new.faults }
     {
@@ -37,6 +38,7 @@ impl Calls {
     /// Counts one more call, which fails where its number is among the failing ones.
     pub fn begin(&mut self) -> Result<(), Failed>
         ensures when { is_err result ≡ list_any (λ number. number == min (self.old.made + 1) (2 ^ 64 - 1)) self.old.failing }
+        ensures made { self.new.made ≡ min (self.old.made + 1) (2 ^ 64 - 1) }
         ensures kept { OnOk result (self.new.faults ≡ self.old.faults) }
         ensures counted { OnErr result (self.new.faults ≡ min (self.old.faults + 1) (2 ^ 64 - 1)) }
         ensures later { self.old.faults ≤ self.new.faults }

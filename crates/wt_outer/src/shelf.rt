@@ -1,6 +1,6 @@
 ghost use Rattle.std.specs.Prelude.{◌≡◌, ◌≢◌, ◌∷◌, [], ◌++◌, Some, AllPairs, IfOk, OnOk, OnErr, option_map, take};
 ghost use Rattle.wt_outer.specs.Device.{page_of};
-ghost use Rattle.wt_outer.specs.Shelf.{look_up};
+ghost use Rattle.wt_outer.specs.Shelf.{look_up, ArePagesOf};
 
 use crate::calls::Calls;
 use crate::device::{FetchRefusal, Fetched, Folder};
@@ -81,6 +81,7 @@ impl MemFolder {
     pub fn new(alloc: Global, pages: List<(Str, List<u8>)>, failing: List<u64>) -> MemFolder
         requires { AllPairs (λ a b. a.0 ≢ b.0) pages }
         ensures pages { ⟦<MemFolder as Folder>⟧.pages result ≡ Some (look_up pages) }
+        ensures map { ArePagesOf pages (look_up pages) }
         ensures answered { ⟦<MemFolder as Folder>⟧.answered result ≡ Some [] }
         ensures faults { ⟦<MemFolder as Folder>⟧.fault_count result ≡ 0 }
     {
@@ -131,6 +132,7 @@ impl NeverFailsFolder {
     pub fn new(alloc: Global, pages: List<(Str, List<u8>)>) -> NeverFailsFolder
         requires { AllPairs (λ a b. a.0 ≢ b.0) pages }
         ensures pages { ⟦<NeverFailsFolder as Folder>⟧.pages result ≡ Some (look_up pages) }
+        ensures map { ArePagesOf pages (look_up pages) }
         ensures answered { ⟦<NeverFailsFolder as Folder>⟧.answered result ≡ Some [] }
     {
         NeverFailsFolder {

@@ -1,0 +1,98 @@
+-- Worked cases of the definitions, each computed.
+use Rattle.std.proofs.Common.{◌≡◌, ℕ, [], ◌∷◌, ◌++◌, true, false, refl, append_assoc, rules}
+use Rattle.std.specs.Prelude.{Some, None, codes, decimal}
+use Rattle.wt_pagetool.specs.Headings.{is_heading, heading_parts}
+use Rattle.wt_pagetool.specs.Lines.{line_kind}
+use Rattle.wt_pagetool.specs.Blocks.{para, heading, sep, pieces, blocks}
+use Rattle.wt_pagetool.specs.Unbuilt.{first_unbuilt}
+use Rattle.wt_pagetool.specs.Words.{html, command_of}
+use Rattle.wt_pagetool.specs.Refusals.{not_built, html_too_long, braces_too_deep, edit_refused, bad_content, nested, text_of, edit_why, content_why, line_of}
+
+-- a heading, a separator of two line breaks, and a paragraph
+a_page : blocks (codes "== A ==\n\nb") ≡ heading (codes "== A ==") ∷ sep (codes "\n\n") ∷ para (codes "b") ∷ []
+unfolding blocks pieces line_kind is_heading
+a_page = refl
+
+-- text lines that follow one another are one paragraph, and its last line break stands after it
+two_lines : blocks (codes "a\nb\n\nc\n") ≡ para (codes "a\nb") ∷ sep (codes "\n\n") ∷ para (codes "c") ∷ sep (codes "\n") ∷ []
+unfolding blocks pieces line_kind is_heading
+two_lines = refl
+
+-- a heading ends a paragraph, and the line break between them is a separator
+heading_after : blocks (codes "a\n= B =") ≡ para (codes "a") ∷ sep (codes "\n") ∷ heading (codes "= B =") ∷ []
+unfolding blocks pieces line_kind is_heading
+heading_after = refl
+
+-- the empty page has no blocks
+empty_page : blocks [] ≡ []
+unfolding blocks pieces
+empty_page = refl
+
+-- a page of line breaks alone is one separator
+breaks_alone : blocks (codes "\n\n") ≡ sep (codes "\n\n") ∷ []
+unfolding blocks pieces line_kind is_heading
+breaks_alone = refl
+
+-- five signs alone: a heading of level 2 round one sign
+five_signs : heading_parts (codes "=====") ≡ record { level = 2; open_len = 2; inside_len = 1 }
+unfolding heading_parts
+five_signs = refl
+
+-- the smaller run decides, and the rest of the larger one is text
+uneven : heading_parts (codes "=== x ==") ≡ record { level = 2; open_len = 2; inside_len = 3 }
+unfolding heading_parts
+uneven = refl
+
+-- one sign on both sides of a space: the space is of the open delimiter, and nothing stands inside
+one_space : heading_parts (codes "= =") ≡ record { level = 1; open_len = 2; inside_len = 0 }
+unfolding heading_parts
+one_space = refl
+
+-- `==` alone, also with spaces after it, is no heading
+two_signs : is_heading (codes "==  ") ≡ false
+unfolding is_heading
+two_signs = refl
+
+three_signs : is_heading (codes "===") ≡ true
+unfolding is_heading
+three_signs = refl
+
+-- the first place of a form that isn't built
+a_star : first_unbuilt (codes "a*b") ≡ Some 1
+a_star = refl
+
+a_rule : first_unbuilt (codes "a\n---- x") ≡ Some 2
+a_rule = refl
+
+spaces_inside : first_unbuilt (codes "a  b --- c") ≡ None
+spaces_inside = refl
+
+-- the words
+html_main : command_of (codes "html" ∷ codes "Main" ∷ []) ≡ Some (html (codes "Main"))
+unfolding command_of
+html_main = refl
+
+html_alone : command_of (codes "html" ∷ []) ≡ None
+unfolding command_of
+html_alone = refl
+
+html_bracket : command_of (codes "html" ∷ codes "a[b" ∷ []) ≡ None
+unfolding command_of
+html_bracket = refl
+
+-- the lines, with the digits of a number as they stand
+not_built_line : (place : ℕ) → line_of (not_built place) ≡ codes "wtround: not built at " ++ decimal place ++ codes "\n"
+unfolding line_of text_of
+not_built_line place = refl
+
+html_line : line_of html_too_long ≡ codes "wtround: html too long\n"
+unfolding line_of text_of
+html_line = refl
+
+braces_line : (place : ℕ) → line_of (braces_too_deep (Some (codes "Template:T")) place) ≡ codes "wtround: braces too deep at " ++ (decimal place ++ codes " in Template:T\n")
+unfolding line_of text_of
+braces_line place = search (rules, append_assoc)
+
+edit_line : (id : ℕ) → line_of (edit_refused (bad_content id nested)) ≡ codes "wtround: edit refused: BadContent " ++ (decimal id ++ codes " Nested\n")
+unfolding line_of text_of edit_why content_why
+edit_line id = search (rules, append_assoc)

@@ -1,0 +1,14 @@
+use Rattle.wt_pagetool.proofs.TreeLaws.{flat_page, page_tiled, page_covered, page_numbered}
+use Rattle.wt_pagetool.proofs.laws.whole_tree.Goals as goal
+
+pub returns-clause-source : goal.returns-clause-source
+returns-clause-source c = flat_page
+
+pub returns-clause-tiled : goal.returns-clause-tiled
+returns-clause-tiled c = page_tiled
+
+pub returns-clause-covers : goal.returns-clause-covers
+returns-clause-covers c = page_covered
+
+pub returns-clause-numbered : goal.returns-clause-numbered
+returns-clause-numbered c = page_numbered

@@ -1,0 +1,7 @@
+-- The command that the code reads off the words.
+use Rattle.wt_pagetool.specs.declared.command.Command as code
+use Rattle.wt_pagetool.specs.declared.command.Command.TheVariants as named
+use Rattle.wt_pagetool.specs.Words.{Command, html}
+
+abbrev pub asked : code.Command → Command
+asked (named.Html title) = html title.now

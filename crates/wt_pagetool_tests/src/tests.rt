@@ -1,0 +1,170 @@
+ghost use Rattle.std.specs.Prelude.{◌≡◌, IfOk, length};
+
+use crate::cases::{NOT_BUILT, PLAIN};
+use std::alloc::{AllocError, Global};
+use std::test::Fail;
+use wt_outer::{Folder, MemFolder, MemSink, NeverFailsSource, Sink};
+use wt_pagetool::run;
+use wt_span::{List, NoMemory, Str};
+
+/// What a call of `run` came to.
+#[derive(Drop)]
+struct Ended {
+    status: u8,
+    out: MemSink,
+    err: MemSink,
+}
+
+fn words_of(alloc: Global, words: &[&str]) -> Result<List<Str>, NoMemory> {
+    let mut list = List::new(alloc);
+    for word in words {
+        list.push(Str::copy_of(alloc, word)?)?;
+    }
+    Ok(list)
+}
+
+/// The calls that fail.
+fn calls(alloc: Global, numbers: &[u64]) -> Result<List<u64>, NoMemory> {
+    Ok(List::from_vec(Vec::from_slice(alloc, numbers)?))
+}
+
+fn entries(alloc: Global, page: &[u8]) -> Result<List<(Str, List<u8>)>, NoMemory>
+    ensures { IfOk result (λ pages. length pages ≡ 1) }
+{
+    let mut pages = List::new(alloc);
+    let bytes = List::from_vec(Vec::from_slice(alloc, page)?);
+    pages.push((Str::copy_of(alloc, "Main")?, bytes))?;
+    Ok(pages)
+}
+
+/// A folder with the page `Main`.
+fn folder_of(alloc: Global, page: &[u8], failing: &[u64]) -> Result<MemFolder, NoMemory> {
+    Ok(MemFolder::new(alloc, entries(alloc, page)?, calls(alloc, failing)?))
+}
+
+fn sink(alloc: Global) -> MemSink {
+    MemSink::new(alloc, usize::MAX, List::new(alloc))
+}
+
+fn ends_with(
+    alloc: Global,
+    words: &[&str],
+    folder: &mut MemFolder,
+    out: MemSink,
+    err: MemSink,
+) -> Result<Ended, NoMemory> {
+    let words = words_of(alloc, words)?;
+    let mut input = NeverFailsSource::new(List::new(alloc), 1);
+    let mut out = out;
+    let mut err = err;
+    let status = run(alloc, &words, &mut input, folder, &mut out, &mut err);
+    Ok(Ended { status, out, err })
+}
+
+/// What `run` comes to over a folder with the page `Main`.
+fn ends(alloc: Global, words: &[&str], page: &[u8]) -> Result<Ended, NoMemory> {
+    let mut folder = folder_of(alloc, page, &[])?;
+    ends_with(alloc, words, &mut folder, sink(alloc), sink(alloc))
+}
+
+fn document(alloc: Global, body: &str) -> Result<String, AllocError> {
+    format!(in alloc; "<!DOCTYPE html><html><head><meta charset=\"utf-8\"/></head>{body}</html>")
+}
+
+const USAGE: &str =
+    "wtround: usage: wtround html TITLE | wikitext | edit TITLE | ranges TITLE | expand TITLE | gen N\n";
+
+#[test]
+fn plain_pages_have_this_html(rt: HostRuntime) -> Result<(), Fail> {
+    for (page, body) in PLAIN {
+        let ended = ends(rt.alloc(), &["html", "Main"], page.as_bytes())?;
+        assert_eq!(rt; ended.status, 0);
+        assert_eq!(rt; ended.out.taken(), document(rt.alloc(), body)?.as_bytes());
+        assert_eq!(rt; ended.err.taken().len(), 0);
+    }
+    Ok(())
+}
+
+#[test]
+fn other_pages_are_not_built_at_this_place(rt: HostRuntime) -> Result<(), Fail> {
+    for (page, line) in NOT_BUILT {
+        let ended = ends(rt.alloc(), &["html", "Main"], page.as_bytes())?;
+        assert_eq!(rt; ended.status, 2);
+        assert_eq!(rt; ended.out.taken().len(), 0);
+        assert_eq!(rt; ended.err.taken(), line.as_bytes());
+    }
+    Ok(())
+}
+
+/// Whether these words are none of a command.
+fn is_usage(alloc: Global, words: &[&str]) -> Result<bool, NoMemory> {
+    let ended = ends(alloc, words, b"a")?;
+    Ok(ended.status == 1 && ended.out.taken().is_empty() && ended.err.taken() == USAGE.as_bytes())
+}
+
+#[test]
+fn words_of_no_command_are_answered_by_the_usage(rt: HostRuntime) -> Result<(), Fail> {
+    assert!(rt; is_usage(rt.alloc(), &[])?);
+    assert!(rt; is_usage(rt.alloc(), &["html"])?);
+    assert!(rt; is_usage(rt.alloc(), &["html", "a[b"])?);
+    assert!(rt; is_usage(rt.alloc(), &["html", "main"])?);
+    assert!(rt; is_usage(rt.alloc(), &["html", ""])?);
+    assert!(rt; is_usage(rt.alloc(), &["Html", "Main"])?);
+    assert!(rt; is_usage(rt.alloc(), &["html", "Main", "x"])?);
+    assert!(rt; is_usage(rt.alloc(), &["--help"])?);
+    Ok(())
+}
+
+#[test]
+fn an_absent_page_and_a_page_that_is_too_long_are_refused(rt: HostRuntime) -> Result<(), Fail> {
+    let absent = ends(rt.alloc(), &["html", "Other"], b"a")?;
+    assert_eq!(rt; absent.status, 2);
+    assert_eq!(rt; absent.err.taken(), b"wtround: no such page\n".as_slice());
+    let page = vec![in rt.alloc(); b'a'; 2_097_153]?;
+    let long = ends(rt.alloc(), &["html", "Main"], page.as_slice())?;
+    assert_eq!(rt; long.status, 2);
+    assert_eq!(rt; long.out.taken().len(), 0);
+    assert_eq!(rt; long.err.taken(), b"wtround: page too long\n".as_slice());
+    Ok(())
+}
+
+#[test]
+fn a_folder_that_fails_is_no_absent_page(rt: HostRuntime) -> Result<(), Fail> {
+    let mut folder = folder_of(rt.alloc(), b"a", &[1])?;
+    let (out, err) = (sink(rt.alloc()), sink(rt.alloc()));
+    let ended = ends_with(rt.alloc(), &["html", "Main"], &mut folder, out, err)?;
+    assert_eq!(rt; ended.status, 6);
+    assert_eq!(rt; ended.out.taken().len(), 0);
+    assert_eq!(rt; ended.err.taken(), b"wtround: folder fault\n".as_slice());
+    assert_eq!(rt; folder.faults(), 1);
+    Ok(())
+}
+
+#[test]
+fn a_sink_that_fails_has_taken_a_front_of_the_answer(rt: HostRuntime) -> Result<(), Fail> {
+    let mut folder = folder_of(rt.alloc(), b"a", &[])?;
+    let out = MemSink::new(rt.alloc(), 1, calls(rt.alloc(), &[4])?);
+    let ended = ends_with(
+        rt.alloc(),
+        &["html", "Main"],
+        &mut folder,
+        out,
+        sink(rt.alloc()),
+    )?;
+    assert_eq!(rt; ended.status, 7);
+    assert_eq!(rt; ended.out.taken(), b"<!D".as_slice());
+    assert_eq!(rt; ended.out.faults(), 1);
+    assert_eq!(rt; ended.err.taken(), b"wtround: write fault\n".as_slice());
+    Ok(())
+}
+
+#[test]
+fn a_line_that_cannot_be_written_is_a_write_fault(rt: HostRuntime) -> Result<(), Fail> {
+    let mut folder = folder_of(rt.alloc(), b"a", &[])?;
+    let err = MemSink::new(rt.alloc(), 4, calls(rt.alloc(), &[3])?);
+    let ended = ends_with(rt.alloc(), &["html"], &mut folder, sink(rt.alloc()), err)?;
+    assert_eq!(rt; ended.status, 7);
+    assert_eq!(rt; ended.out.taken().len(), 0);
+    assert_eq!(rt; ended.err.taken(), b"wtround:".as_slice());
+    Ok(())
+}
