@@ -6,11 +6,15 @@ use std::alloc::Global;
 use std::fs;
 use std::io::{ErrorKind, Read};
 use std::rt::Files;
+use wt_names::file_name;
 use wt_span::List;
 
-/// A directory of the machine, in which the page NAME is the file `NAME.wiki`. It tells nothing of its pages.
+/// A directory of the machine, in which each page is the file that `wt_names::file_name` gives for
+/// its full name. Such a name has no `/` and is neither `.` nor `..`, so no full name leads out of the
+/// directory. It tells nothing of its pages.
 ///
-/// A file that isn't there is an absent page, and every other error is a fault.
+/// A file that isn't there is an absent page, and every other error is a fault, also that a name is
+/// longer than the file system allows.
 #[derive(Drop)]
 pub struct DirFolder<'r, R> {
     rt: &'r R,
@@ -90,7 +94,10 @@ impl<R: Files> Folder for DirFolder<'_, R> {
     ghost fault_count = { λ f. f.faults };
 
     fn fetch(&mut self, alloc: Global, name: &str, most: u32) -> Result<Fetched, FetchRefusal> {
-        let Ok(path) = format!(in alloc; "{}/{name}.wiki", self.directory) else {
+        let Ok(file) = file_name(alloc, name) else {
+            return Err(FetchRefusal::NoMemory);
+        };
+        let Ok(path) = format!(in alloc; "{}/{}", self.directory, file.as_str()) else {
             return Err(FetchRefusal::NoMemory);
         };
         match read_file(alloc, self.rt, path.as_str(), most as usize) {

@@ -134,6 +134,7 @@ fn a_directory_gives_a_file_and_tells_an_absent_one(rt: HostRuntime) -> Result<(
     let path = env::temp_dir(&rt)?.join(rt.alloc(), name.as_str())?;
     fs::create_dir_all(&rt, path.join(rt.alloc(), "Broken.wiki")?.as_path())?;
     fs::write(&rt, path.join(rt.alloc(), "Main.wiki")?.as_path(), "abcdef")?;
+    fs::write(&rt, path.join(rt.alloc(), "A%2FB.wiki")?.as_path(), "ab")?;
     let directory = path.to_str().ok_or("a path that is text")?;
     let mut folder = DirFolder::new(&rt, directory);
     let page = folder.fetch(rt.alloc(), "Main", 4).expect(&rt, "the page");
@@ -141,6 +142,8 @@ fn a_directory_gives_a_file_and_tells_an_absent_one(rt: HostRuntime) -> Result<(
     let other = folder.fetch(rt.alloc(), "Other", 4).expect(&rt, "no page");
     assert_eq!(rt; found(&other), None);
     assert_eq!(rt; folder.faults(), 0);
+    let slash = folder.fetch(rt.alloc(), "A/B", 4).expect(&rt, "the page");
+    assert_eq!(rt; found(&slash), Some(b"ab".as_slice()));
     let broken = folder.fetch(rt.alloc(), "Broken", 4);
     assert_eq!(rt; broken.err(), Some(FetchRefusal::Failed));
     assert_eq!(rt; folder.faults(), 1);

@@ -5,7 +5,10 @@ use Rattle.wt_pagetool.specs.Headings.{is_heading, heading_parts}
 use Rattle.wt_pagetool.specs.Lines.{line_kind}
 use Rattle.wt_pagetool.specs.Blocks.{para, heading, sep, pieces, blocks}
 use Rattle.wt_pagetool.specs.Unbuilt.{first_unbuilt}
-use Rattle.wt_pagetool.specs.Words.{html, command_of}
+use Rattle.wt_names.specs.Namespace.{prefix_of, full_name_of}
+use Rattle.wt_names.specs.Reading.{whole_in, cut_namespace, title_in}
+use Rattle.wt_names.specs.Good.{is_forbidden, is_allowed, has_signature, is_step, begins_with_step, holds_step, ends_with_step, is_good, read_text}
+use Rattle.wt_pagetool.specs.Words.{page_name, html, command_of}
 use Rattle.wt_pagetool.specs.Refusals.{not_built, html_too_long, braces_too_deep, edit_refused, bad_content, nested, text_of, edit_why, content_why, line_of}
 
 -- a heading, a separator of two line breaks, and a paragraph
@@ -68,8 +71,8 @@ spaces_inside : first_unbuilt (codes "a  b --- c") ≡ None
 spaces_inside = refl
 
 -- the words
-html_main : command_of (codes "html" ∷ codes "Main" ∷ []) ≡ Some (html (codes "Main"))
-unfolding command_of
+html_main : command_of (codes "html" ∷ codes "main page" ∷ []) ≡ Some (html (codes "Main page"))
+unfolding command_of page_name read_text is_allowed is_forbidden title_in whole_in cut_namespace is_good full_name_of prefix_of has_signature is_step begins_with_step holds_step ends_with_step
 html_main = refl
 
 html_alone : command_of (codes "html" ∷ []) ≡ None
@@ -77,8 +80,12 @@ unfolding command_of
 html_alone = refl
 
 html_bracket : command_of (codes "html" ∷ codes "a[b" ∷ []) ≡ None
-unfolding command_of
+unfolding command_of page_name read_text is_allowed is_forbidden
 html_bracket = refl
+
+html_fragment : command_of (codes "html" ∷ codes "A#b" ∷ []) ≡ None
+unfolding command_of page_name read_text is_allowed is_forbidden title_in whole_in cut_namespace is_good full_name_of prefix_of has_signature is_step begins_with_step holds_step ends_with_step
+html_fragment = refl
 
 -- the lines, with the digits of a number as they stand
 not_built_line : (place : ℕ) → line_of (not_built place) ≡ codes "wtround: not built at " ++ decimal place ++ codes "\n"

@@ -4,4 +4,4 @@ use Rattle.wt_pagetool.specs.declared.command.Command.TheVariants as named
 use Rattle.wt_pagetool.specs.Words.{Command, html}
 
 abbrev pub asked : code.Command → Command
-asked (named.Html title) = html title.now
+asked (named.Html title) = html title

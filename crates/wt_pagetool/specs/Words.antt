@@ -1,22 +1,23 @@
 -- What the words of a call ask for.
-use Rattle.std.specs.Prelude.{ℕ, List, [], ◌∷◌, length, Bool, false, ◌&&◌, nat_le, Option, Some, None, codes, if◌then◌else◌}
-use Rattle.std.specs.List.{list_all}
+use Rattle.std.specs.Prelude.{ℕ, List, [], ◌∷◌, Option, Some, None, codes, is_none, option_map, option_and_then, if◌then◌else◌}
 use Rattle.std.specs.Str.{bytes_eq}
-use Rattle.std.specs.Char.{is_ascii_uppercase, is_ascii_alphanumeric}
+use Rattle.wt_names.specs.declared.title.Title.{Title}
+use Rattle.wt_names.specs.Good.{read_text}
+use Rattle.wt_names.specs.Namespace.{full_name_of}
 
--- a title: 1 to 40 ASCII letters and digits, the first a capital letter
-abbrev pub begins_upper : List ℕ → Bool
-begins_upper [] = false
-begins_upper (b ∷ bs) = is_ascii_uppercase b
+-- the full name of a title without a fragment
+abbrev pub whole_name : Title → Option (List ℕ)
+whole_name t = if is_none t.fragment then Some (full_name_of t) else None
 
-abbrev pub is_title : List ℕ → Bool
-is_title title = nat_le (length title) 40 && (list_all is_ascii_alphanumeric title && begins_upper title)
+-- the full name of the page that a word names: the word is a good title without a fragment
+unfoldable pub page_name : List ℕ → Option (List ℕ)
+page_name word = option_and_then whole_name (read_text word)
 
 pub data Command : Type 0 where
-  -- `html TITLE`: the HTML of the page of this title
+  -- `html TITLE`: the HTML of the page of this full name
   html : List ℕ → Command
 
 -- the command that the words name, or none
 unfoldable pub command_of : List (List ℕ) → Option Command
-command_of (word ∷ title ∷ []) = if bytes_eq word (codes "html") && is_title title then Some (html title) else None
+command_of (word ∷ title ∷ []) = if bytes_eq word (codes "html") then option_map html (page_name title) else None
 command_of words = None

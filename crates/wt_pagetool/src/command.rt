@@ -1,60 +1,64 @@
-ghost use Rattle.std.specs.Prelude.{◌≡◌, option_map};
-ghost use Rattle.std.specs.List.{list_all};
-ghost use Rattle.std.specs.Char.{is_ascii_alphanumeric};
+ghost use Rattle.std.specs.Prelude.{◌≡◌, IfOk, option_map};
 ghost use Rattle.wt_pagetool.specs.Commands.{asked};
-ghost use Rattle.wt_pagetool.specs.Words.{begins_upper, is_title, command_of};
+ghost use Rattle.wt_pagetool.specs.Words.{whole_name, page_name, command_of, html};
 
-use wt_span::{List, Str};
+use std::alloc::Global;
+use wt_names::{Title, full_name, read_title};
+use wt_span::{List, NoMemory, Str};
 
 /// What the words of a call ask for.
-#[derive(Clone, Copy, Debug)]
-pub enum Command<'a> {
-    /// The HTML of the page of this title.
-    Html(&'a str),
+#[derive(Debug, Drop)]
+pub enum Command {
+    /// The HTML of the page of this full name.
+    Html(Str),
 }
 
-fn begins_upper(title: &[u8]) -> bool
-    ensures { result ≡ begins_upper title.now }
+fn whole_name(alloc: Global, title: &Title) -> Result<Option<Str>, NoMemory>
+    ensures { IfOk result (λ name. name ≡ whole_name title.now) }
 {
-    match title {
-        [] => false,
-        [first, ..] => first.is_ascii_uppercase(),
+    if title.fragment.is_some() {
+        return Ok(None);
+    }
+    let name = full_name(alloc, title)?;
+    Ok(Some(name))
+}
+
+/// The full name of the page that a word names, or None where it is no good title without a fragment.
+#[tactic(auto, unfolding(crate::specs::Words::page_name))]
+fn page_name(alloc: Global, word: &str) -> Result<Option<Str>, NoMemory>
+    ensures { IfOk result (λ name. name ≡ page_name word.now) }
+{
+    match read_title(alloc, word)? {
+        Some(title) => {
+            let name = whole_name(alloc, &title)?;
+            Ok(name)
+        }
+        None => Ok(None),
     }
 }
 
-fn is_alphanumeric(title: &[u8]) -> bool
-    ensures { result ≡ list_all is_ascii_alphanumeric title.now }
+fn html_command(alloc: Global, title: &str) -> Result<Option<Command>, NoMemory>
+    ensures { IfOk result (λ command. option_map asked command ≡ option_map html (page_name title.now)) }
 {
-    title.iter().all(|b| b.is_ascii_alphanumeric())
-}
-
-/// Until titles of every form are read, a title has 1 to 40 ASCII letters and digits and begins with a capital.
-fn is_title(title: &str) -> bool
-    ensures { result ≡ is_title title.now }
-{
-    let bytes = title.as_bytes();
-    if bytes.len() > 40 {
-        return false;
+    match page_name(alloc, title)? {
+        Some(name) => Ok(Some(Command::Html(name))),
+        None => Ok(None),
     }
-    if !is_alphanumeric(bytes) {
-        return false;
-    }
-    begins_upper(bytes)
 }
 
 /// The command that the words name, or None where they name none.
 #[tactic(auto, unfolding(crate::specs::Words::command_of))]
-pub fn command_of(words: &List<Str>) -> Option<Command<'_>>
-    ensures { option_map asked result ≡ command_of words.now }
+pub fn command_of(alloc: Global, words: &List<Str>) -> Result<Option<Command>, NoMemory>
+    ensures { IfOk result (λ command. option_map asked command ≡ command_of words.now) }
 {
     match words.as_slice() {
         [command, title] => {
-            if command.as_str() == "html" && is_title(title.as_str()) {
-                Some(Command::Html(title.as_str()))
-            } else {
-                None
+            if command.as_str() != "html" {
+                return Ok(None);
             }
+            let asked = html_command(alloc, title.as_str())?;
+            Ok(asked)
         }
-        _ => None,
+        _ => Ok(None),
     }
 }

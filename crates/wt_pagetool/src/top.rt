@@ -23,15 +23,16 @@ fn find_answer<F: Folder>(
     folder: &mut F,
 ) -> Result<List<u8>, Reason>
     ensures answered { IfSome (F.pages folder.old) (λ pages. Answered (answer_of pages words.now) result) }
-    ensures no_command { command_of words.now ≡ None → result ≡ Err Reason.Usage }
+    ensures no_command { command_of words.now ≡ None → (result ≡ Err Reason.Usage) ⊎ (result ≡ Err Reason.NoMemory) }
     ensures usage { result ≡ Err Reason.Usage → command_of words.now ≡ None }
     ensures pages_kept { F.pages folder.new ≡ F.pages folder.old }
     ensures kept { result ≢ Err Reason.FolderFault → F.fault_count folder.new ≡ F.fault_count folder.old }
     ensures fault { result ≡ Err Reason.FolderFault → Rose (F.fault_count folder.old) (F.fault_count folder.new) }
 {
-    match command_of(words) {
-        Some(Command::Html(title)) => html_of_title(alloc, title, folder),
-        None => Err(Reason::Usage),
+    match command_of(alloc, words) {
+        Ok(Some(Command::Html(title))) => html_of_title(alloc, title.as_str(), folder),
+        Ok(None) => Err(Reason::Usage),
+        Err(_) => Err(Reason::NoMemory),
     }
 }
 

@@ -107,7 +107,7 @@ fn words_of_no_command_are_answered_by_the_usage(rt: HostRuntime) -> Result<(), 
     assert!(rt; is_usage(rt.alloc(), &[])?);
     assert!(rt; is_usage(rt.alloc(), &["html"])?);
     assert!(rt; is_usage(rt.alloc(), &["html", "a[b"])?);
-    assert!(rt; is_usage(rt.alloc(), &["html", "main"])?);
+    assert!(rt; is_usage(rt.alloc(), &["html", "Main#x"])?);
     assert!(rt; is_usage(rt.alloc(), &["html", ""])?);
     assert!(rt; is_usage(rt.alloc(), &["Html", "Main"])?);
     assert!(rt; is_usage(rt.alloc(), &["html", "Main", "x"])?);
