@@ -9,6 +9,8 @@ mod nodes;
 mod refusal;
 mod sink;
 mod tags;
+#[cfg(test)]
+mod tests;
 
 pub use count::html_len;
 pub use nodes::html_bytes;
