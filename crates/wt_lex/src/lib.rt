@@ -13,6 +13,8 @@ mod lexeme;
 mod scan;
 mod sign;
 mod tag;
+#[cfg(test)]
+mod tests;
 
 pub use entity::entity_at;
 pub use laws::one_reading;
