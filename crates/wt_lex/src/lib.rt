@@ -17,7 +17,7 @@ mod tag;
 mod tests;
 
 pub use entity::entity_at;
-pub use laws::one_reading;
+pub use laws::{one_reading, whole_forms};
 pub use lexeme::Lexeme;
 pub use scan::lex;
 pub use wt_span::{LexKind, Mode};
