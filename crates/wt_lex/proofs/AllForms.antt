@@ -9,9 +9,9 @@ use Rattle.std.proofs.lemmas.Bool.{eqb-true}
 use Rattle.std.proofs.lemmas.List.Sums.{prefix_len_passes, prefix_len-le-length}
 use Rattle.wt_span.specs.declared.form.Mode.{Mode}
 use Rattle.wt_span.specs.declared.form.LexKind.{LexKind}
-use Rattle.wt_span.specs.declared.form.LexKind.TheVariants.{CommentLine, Comment, Raw, Entity, Opens, Closes, LinkOpen, LinkClose, Pipe, Equals}
+use Rattle.wt_span.specs.declared.form.LexKind.TheVariants.{Comment, Raw, Entity, Opens, Closes, LinkOpen, LinkClose, Pipe, Equals}
 use Rattle.wt_span.specs.Bytes.{begins}
-use Rattle.wt_span.specs.Comments.{comment_len, comment_line_len}
+use Rattle.wt_span.specs.Comments.{comment_len}
 use Rattle.wt_span.specs.Tags.{raw_len, include_at}
 use Rattle.wt_span.specs.Entities.{named_in, entity_names, named_entity, is_entity_number, numbered, decimal_entity, hex_entity, entity_at}
 use Rattle.wt_span.specs.Lexemes.{Word, as_word, run_at, sign_at, sign_word, entity_word, comment_line_word, form_at}

@@ -5,10 +5,15 @@ pub mod Closings
 pub mod Cuts
 pub mod Follows
 pub mod Forms
+pub mod Fronts
 pub mod Numbers
 pub mod Passing
 pub mod Readings
 pub mod Remarks
 pub mod Signs
 pub mod TagForms
+pub mod WholeComments
+pub mod WholeEntities
+pub mod WholeTags
+pub mod WholeWords
 pub mod Words

@@ -1,5 +1,5 @@
 -- Signs by their first byte: at most one of them begins a text.
-use Rattle.std.proofs.Common.{◌≡◌, ℕ, ◌<◌, ◌==◌, Bool, true, false, Option, Some, None, List, length, get_or, nat_lt, refl, sym, ap, ◌∙◌, arith, codes}
+use Rattle.std.proofs.Common.{◌≡◌, ℕ, ◌<◌, ◌==◌, Bool, true, false, Option, Some, None, List, length, get_or, nat_lt, refl, ap, ◌∙◌, arith, codes}
 use Rattle.std.specs.Prelude.{if◌then◌else◌}
 use Rattle.std.specs.Option.{option_or}
 use Rattle.std.specs.List.{prefix_len}
@@ -61,7 +61,7 @@ unfolding sign_word
 closes_alone bs e =
     or_right (run_at Opens 123 bs) _ (opens_none bs (λ h. omega arith))
     ∙ or_left (run_at Closes 125 bs) _
-        (or_right _ _ (link_open_none bs (λ h. omega arith)) ∙ or_right _ _ (link_close_none bs (λ h. omega arith)) ∙ or_right _ _ (pipe_none bs (λ h. omega arith)) ∙ equals_none bs (λ h. omega arith))
+    (or_right _ _ (link_open_none bs (λ h. omega arith)) ∙ or_right _ _ (link_close_none bs (λ h. omega arith)) ∙ or_right _ _ (pipe_none bs (λ h. omega arith)) ∙ equals_none bs (λ h. omega arith))
 
 pub link_open_alone : (bs : List ℕ) → get_or bs 0 0 ≡ 91 → sign_word bs ≡ sign_at LinkOpen (codes "[[") 2 bs
 unfolding sign_word

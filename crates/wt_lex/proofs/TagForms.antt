@@ -19,13 +19,13 @@ use Rattle.wt_lex.proofs.Forms.{Fits, OptFits, OptForm, or_form, form_by}
 -- ---- tags
 
 -- a tag begins with `<` and ends with `>`
-record TagFits (bs : List ℕ) (t : Tag) : Type 0 where
-  some : 0 < t.len
-  within : t.len ≤ length bs
-  first : get_or bs 0 0 ≡ 60
-  last : get_or bs (t.len - 1) 0 ≡ 62
+pub record TagFits (bs : List ℕ) (t : Tag) : Type 0 where
+  pub some : 0 < t.len
+  pub within : t.len ≤ length bs
+  pub first : get_or bs 0 0 ≡ 60
+  pub last : get_or bs (t.len - 1) 0 ≡ 62
 
-abbrev OptTag : List ℕ → Option Tag → Type 0
+abbrev pub OptTag : List ℕ → Option Tag → Type 0
 OptTag bs None = Unit {0}
 OptTag bs (Some t) = TagFits bs t
 
@@ -37,14 +37,14 @@ if_le : (t : Bool) (m k : ℕ) → m ≤ k → (if t then m else 0) ≤ k
 if_le true m k h = h
 if_le false m k h = omega arith
 
-name_len-le : (bs : List ℕ) → name_len bs ≤ length bs
+pub name_len-le : (bs : List ℕ) → name_len bs ≤ length bs
 name_len-le bs = if_le (is_ascii_alphabetic (get_or bs 0 0)) (prefix_len is_ascii_alphanumeric bs) (length bs) (prefix_len-le-length is_ascii_alphanumeric bs)
 
 -- what follows the name, up to the `>`
-abbrev After : List ℕ → List ℕ → Tag → Type 0
+abbrev pub After : List ℕ → List ℕ → Tag → Type 0
 After name rest t = (k : ℕ) × (t.len ≡ 2 + length name + k) × (get_or rest k 0 ≡ 62) × (k < length rest)
 
-abbrev OptAfter : List ℕ → List ℕ → Option Tag → Type 0
+abbrev pub OptAfter : List ℕ → List ℕ → Option Tag → Type 0
 OptAfter name rest None = Unit {0}
 OptAfter name rest (Some t) = After name rest t
 
@@ -52,7 +52,7 @@ if_after : (name rest : List ℕ) (t : Bool) (x : Tag) → (t ≡ true → After
 if_after name rest true x f = f refl
 if_after name rest false x f = tt
 
-after_fits : (name rest : List ℕ) → OptAfter name rest (tag_after name rest)
+pub after_fits : (name rest : List ℕ) → OptAfter name rest (tag_after name rest)
 unfolding tag_after
 after_fits name rest =
     let inside = take (prefix_len is_tag_byte rest) rest in
@@ -73,7 +73,7 @@ opened bs n (Some t) first pos le (k, size, last, there) =
       last = ap (λ i. get_or bs i 0) end ∙ sym (get_or-drop (1 + n) bs k 0) ∙ last;
     }
 
-opening_fits : (bs : List ℕ) → OptTag bs (opening_tag bs)
+pub opening_fits : (bs : List ℕ) → OptTag bs (opening_tag bs)
 unfolding opening_tag
 opening_fits bs =
     let n = name_len (drop 1 bs) in
@@ -83,7 +83,7 @@ opening_fits bs =
     let pos = lt_is 0 n (and_right (get_or bs 0 0 == 60) _ e) in
     opened bs n (tag_after (take n (drop 1 bs)) (drop (1 + n) bs)) first pos (name_len-le (drop 1 bs)) (after_fits (take n (drop 1 bs)) (drop (1 + n) bs)))
 
-closing_fits : (bs : List ℕ) → OptTag bs (closing_tag bs)
+pub closing_fits : (bs : List ℕ) → OptTag bs (closing_tag bs)
 unfolding closing_tag
 closing_fits bs =
     let n = name_len (drop 2 bs) in
@@ -100,12 +100,12 @@ closing_fits bs =
 -- ---- the next closing tag
 
 -- so many bytes end with a `>`
-record EndsTag (bs : List ℕ) (n : ℕ) : Type 0 where
-  some : 0 < n
-  within : n ≤ length bs
-  last : get_or bs (n - 1) 0 ≡ 62
+pub record EndsTag (bs : List ℕ) (n : ℕ) : Type 0 where
+  pub some : 0 < n
+  pub within : n ≤ length bs
+  pub last : get_or bs (n - 1) 0 ≡ 62
 
-abbrev OptEnds : List ℕ → Option ℕ → Type 0
+abbrev pub OptEnds : List ℕ → Option ℕ → Type 0
 OptEnds bs None = Unit {0}
 OptEnds bs (Some n) = EndsTag bs n
 
@@ -127,7 +127,7 @@ ends_later b bs (Some n) f =
     let z : 1 + n - 1 ≡ suc (n - 1) = omega (arith, f.some) in
     record { some = omega arith; within = omega (arith, f.within); last = ap (λ i. get_or (b ∷ bs) i 0) z ∙ f.last }
 
-closing_ends : (name bs : List ℕ) → OptEnds bs (to_closing name bs)
+pub closing_ends : (name bs : List ℕ) → OptEnds bs (to_closing name bs)
 closing_ends name [] = tt
 closing_ends name (b ∷ bs) =
     or_ends (b ∷ bs) (len_if_named name (closing_tag (b ∷ bs))) _ (named_ends name (b ∷ bs) (closing_tag (b ∷ bs)) (closing_fits (b ∷ bs)))
@@ -149,7 +149,7 @@ inside_if : (bs : List ℕ) (t : Tag) (v : Bool) (o : Option ℕ) → Fits bs t.
 inside_if bs t true o f g = f
 inside_if bs t false o f g = g
 
-inside_fits : (bs : List ℕ) (t : Tag) → TagFits bs t → OptFits bs (with_inside t bs)
+pub inside_fits : (bs : List ℕ) (t : Tag) → TagFits bs t → OptFits bs (with_inside t bs)
 unfolding with_inside
 inside_fits bs t f =
     inside_if bs t t.alone (option_map (λ n. t.len + n) (to_closing t.name (drop t.len bs))) (tag_alone bs t f)

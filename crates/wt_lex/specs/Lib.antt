@@ -3,4 +3,5 @@ pub mod Places
 pub mod Reading
 pub mod TagView
 pub mod Views
+pub mod WholeWords
 pub mod Words

@@ -1,7 +1,10 @@
-ghost use Rattle.std.specs.Prelude.{◌≡◌, ℕ, List, false};
+ghost use Rattle.std.specs.Prelude.{◌≡◌, ℕ, Bool, List, Some, false, take};
 ghost use Rattle.wt_span.specs.declared.form.Mode.{Mode as TextMode};
-ghost use Rattle.wt_span.specs.Lexemes.{Word, words};
+ghost use Rattle.wt_span.specs.declared.form.Mode.TheVariants.{Page};
+ghost use Rattle.wt_span.specs.declared.form.LexKind.{LexKind as WordKind};
+ghost use Rattle.wt_span.specs.Lexemes.{Word, form_at, words};
 ghost use Rattle.wt_lex.specs.Reading.{AreLexemes};
+ghost use Rattle.wt_lex.specs.WholeWords.{IsWholeWord};
 
 /// The lexemes of a text join to it, each is the first form that begins at its place or a run of
 /// characters at none of which a form begins, no two such runs are neighbours, and no other list
@@ -9,4 +12,9 @@ ghost use Rattle.wt_lex.specs.Reading.{AreLexemes};
 pub fn one_reading()
     ensures are { (mode : TextMode) (bs : List ℕ) → AreLexemes mode false (words mode bs) bs }
     ensures only { (mode : TextMode) (ws : List Word) (bs : List ℕ) → AreLexemes mode false ws bs → ws ≡ words mode bs }
+{}
+
+/// A form of the page that is cut out of its text is whole by itself: what makes an item of it.
+pub fn whole_forms()
+    ensures { (after : Bool) (kind : WordKind) (n : ℕ) (bs : List ℕ) → form_at Page after bs ≡ Some (kind, n) → IsWholeWord kind (take n bs) }
 {}

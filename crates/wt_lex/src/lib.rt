@@ -13,9 +13,11 @@ mod lexeme;
 mod scan;
 mod sign;
 mod tag;
+#[cfg(test)]
+mod tests;
 
 pub use entity::entity_at;
-pub use laws::one_reading;
+pub use laws::{one_reading, whole_forms};
 pub use lexeme::Lexeme;
 pub use scan::lex;
 pub use wt_span::{LexKind, Mode};
