@@ -1,0 +1,87 @@
+#!/usr/bin/env python3
+"""Measures the proved `wtround` on pages of 64 KiB, 512 KiB and 2 MiB.
+
+  bench/bench.py PROGRAM [OTHER]
+
+PROGRAM is the proved program (crates/wtround/out/wtround, which ./wtround builds); OTHER a second program
+that takes the same words, which is run in turn on the same pages. For each command and kind of page it
+prints, best of three runs, MB of page a second, the peak memory, and how the time grew from 512 KiB to
+2 MiB (four times the bytes). It wants /usr/bin/time.
+"""
+import os
+import subprocess
+import sys
+import tempfile
+
+SIZES = [64 << 10, 512 << 10, 2 << 20]
+
+
+def lines(of):
+    def page(size):
+        out, k = [], 0
+        length = 0
+        while length < size:
+            line = of(k)
+            out.append(line)
+            length += len(line)
+            k += 1
+        return "".join(out)[:size].encode()
+    return page
+
+
+WORDS = "the river runs past the town and on to the sea beyond the hills of the north"
+
+KINDS = {
+    "paragraphs": lines(lambda k: (WORDS + "\n") * 3 + "\n"),
+    "headings": lines(lambda k: f"== Part {k} ==\n{WORDS}\n\n"),
+    "one letter a paragraph": lines(lambda k: "a\n\n"),
+    "one long line": lines(lambda k: WORDS + " "),
+    "blank lines": lines(lambda k: "\n"),
+}
+
+
+def run(program, folder, words):
+    best = None
+    peak = 0
+    for _ in range(3):
+        with open(os.path.join(folder, "out"), "wb") as out:
+            it = subprocess.run(["/usr/bin/time", "-f", "%e %M", program] + words, cwd=folder, stdout=out, stderr=subprocess.PIPE, stdin=subprocess.DEVNULL)
+        told = it.stderr.decode().strip().splitlines()
+        seconds, kib = told[-1].split()
+        if it.returncode != 0:
+            return None, " / ".join(told[:-1])
+        best = float(seconds) if best is None else min(best, float(seconds))
+        peak = max(peak, int(kib))
+    return best, peak
+
+
+def main():
+    if len(sys.argv) not in (2, 3):
+        print(__doc__)
+        return 2
+    programs = [os.path.abspath(it) for it in sys.argv[1:]]
+    print(f"{os.cpu_count()} cores; best of three; MB are 1,000,000 bytes of page")
+    print(f"{'command and page':34} {'KiB':>5} " + " ".join(f"{'MB/s':>7} {'peak MB':>8} {'growth':>7}" for _ in programs))
+    for kind, make in KINDS.items():
+        last = [None] * len(programs)
+        for size in SIZES:
+            with tempfile.TemporaryDirectory() as folder:
+                os.mkdir(os.path.join(folder, "pages"))
+                with open(os.path.join(folder, "pages", "Main.wiki"), "wb") as out:
+                    out.write(make(size))
+                cells = []
+                for n, program in enumerate(programs):
+                    seconds, peak = run(program, folder, ["html", "Main"])
+                    if seconds is None:
+                        cells.append(peak)
+                        continue
+                    speed = f"{size / 1e6 / seconds:7.0f}" if seconds > 0 else "      -"
+                    growth = f"{seconds / last[n]:7.1f}" if last[n] else "      -"
+                    last[n] = seconds
+                    cells.append(f"{speed} {peak / 1000:8.1f} {growth}")
+                print(f"{'html, ' + kind:34} {size >> 10:5} " + " ".join(cells), flush=True)
+    return 0
+
+
+if __name__ == "__main__":
+    sys.exit(main())
