@@ -1,3 +1,5 @@
+pub mod MwBack
+pub mod MwCases
 pub mod Mws
 pub mod ReadsBack
 pub mod Shapes

@@ -1,18 +1,17 @@
 -- The JSON of `data-mw` has no floats, and nests a few levels deep.
-use Rattle.std.proofs.Common.{◌≡◌, ◌≤◌, ◌+◌, ℕ, suc, max, Bool, true, false, List, [], ◌∷◌, Option, Some, None, fold, map, codes, refl, sym, ap, ◌∙◌, arith}
+use Rattle.std.proofs.Common.{◌≡◌, ◌≤◌, ℕ, Bool, true, false, List, [], ◌∷◌, Some, None, refl, ap, ◌∙◌, arith}
 use Rattle.std.specs.Prelude.{◌||◌}
 use Rattle.std.specs.Ordering.{nat_cmp, match_ordering}
 use Rattle.std.specs.Cmp.Lexicographic.{slice_cmp}
 use Rattle.std.specs.declared.cmp.Ordering.{Ordering}
 use Rattle.std.specs.declared.cmp.Ordering.TheVariants.{Less, Equal, Greater}
-use Rattle.serde_json.specs.Data.{Data, number, unsigned, string, array, object, Items, Members, member, no_members, put, depth, items_depth, members_depth}
-use Rattle.serde_json.specs.View.{items_of}
+use Rattle.serde_json.specs.Data.{Data, Members, member, no_members, put, depth, items_depth, members_depth}
 use Rattle.serde_json.specs.Written.{has_float, items_have_float, members_have_float}
 use Rattle.wt_tree.specs.declared.node.DataMw.{DataMw}
 use Rattle.wt_tree.specs.declared.node.DataMw.TheVariants as mw
 use Rattle.wt_tree.specs.declared.node.Part.{Part}
 use Rattle.wt_tree.specs.declared.node.Part.TheVariants as part
-use Rattle.wt_datamw.specs.Mw.{wt_data, params_from, params_data, target_data, template_data, part_data, parts_items, extension_data, mw_data}
+use Rattle.wt_datamw.specs.Mw.{wt_data, params_from, params_data, template_data, part_data, parts_items, mw_data}
 
 or_free : (a b : Bool) → a ≡ false → b ≡ false → (a || b) ≡ false
 or_free a b e f = ap (λ x. x || b) e ∙ f

@@ -1,13 +1,12 @@
 -- Reading what was written to `data-parsoid` gives the value back.
-use Rattle.std.proofs.Common.{◌≡◌, ◌<◌, ◌^◌, ℕ, Bool, true, false, List, [], ◌∷◌, Option, Some, None, codes, refl, sym, ap, ◌∙◌, arith}
-use Rattle.std.specs.Prelude.{Result, Ok, Err, nat_lt, if◌then◌else◌, option_and_then}
+use Rattle.std.proofs.Common.{◌≡◌, ◌<◌, ◌^◌, ℕ, List, [], ◌∷◌, Option, Some, None, codes}
+use Rattle.std.specs.Prelude.{Ok}
 use Rattle.std.proofs.lemmas.Bool.Decides.{Decides-ltb}
-use Rattle.serde_json.specs.Data.{Data, object, no_members}
+use Rattle.serde_json.specs.Data.{object, no_members}
 use Rattle.wt_tree.specs.declared.kind.Ranges.{Ranges}
 use Rattle.wt_datamw.specs.declared.sync.Sync.{Sync}
-use Rattle.wt_datamw.specs.declared.refusal.DataWhy.{DataWhy}
-use Rattle.wt_datamw.specs.Sync.{dsr_data, put_dsr, put_text, put_source, sync_members, sync_data}
-use Rattle.wt_datamw.specs.SyncRead.{small, ranges_of, four_small, dsr_in, sync_with, is_sync_shape, sync_of_data, IsSmall}
+use Rattle.wt_datamw.specs.Sync.{put_dsr, put_text, put_source, sync_members, sync_data}
+use Rattle.wt_datamw.specs.SyncRead.{small, ranges_of, is_sync_shape, sync_of_data, IsSmall}
 
 small_is : (n : ℕ) → n < 2 ^ 32 → small (Some n) ≡ Some n
 small_is n h = rw ((Decides-ltb n (2 ^ 32)).1 h)

@@ -1,5 +1,5 @@
 -- The JSON of `data-parsoid` has no floats.
-use Rattle.std.proofs.Common.{◌≡◌, List, [], ◌∷◌, Option, Some, None, Bool, false, refl}
+use Rattle.std.proofs.Common.{◌≡◌, List, [], ◌∷◌, Option, Some, None, false, refl}
 use Rattle.serde_json.specs.Written.{has_float}
 use Rattle.wt_tree.specs.declared.kind.Ranges.{Ranges}
 use Rattle.serde_json.specs.Data.{object, no_members, depth}

@@ -1,3 +1,4 @@
 pub mod Mw
+pub mod MwRead
 pub mod Sync
 pub mod SyncRead

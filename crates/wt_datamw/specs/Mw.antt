@@ -1,5 +1,5 @@
 -- The JSON of `data-mw`.
-use Rattle.std.specs.Prelude.{ℕ, List, [], ◌∷◌, Option, Some, None, codes, fold, map}
+use Rattle.std.specs.Prelude.{ℕ, List, Option, Some, None, codes, fold, map}
 use Rattle.serde_json.specs.Data.{Data, number, unsigned, string, array, object, Items, Members, member, no_members, put}
 use Rattle.serde_json.specs.View.{items_of}
 use Rattle.serde_json.specs.Written.{compact_text}

@@ -1,7 +1,8 @@
 -- What a text of `data-parsoid` says, or why it is refused.
-use Rattle.std.specs.Prelude.{◌≡◌, ℕ, ◌<◌, ◌^◌, ◌&&◌, ◌||◌, Bool, true, false, List, [], ◌∷◌, Option, Some, None, Result, Ok, Err, codes, nat_lt, is_some, unwrap_or, option_and_then, if◌then◌else◌}
+use Rattle.std.specs.Prelude.{◌≡◌, ℕ, ◌<◌, ◌^◌, ◌&&◌, Bool, true, false, List, [], ◌∷◌, Option, Some, None, Result, Ok, Err, codes, nat_lt, is_some, unwrap_or, option_and_then, if◌then◌else◌}
+use Rattle.std.specs.List.{list_any}
 use Rattle.std.specs.Str.{bytes_eq}
-use Rattle.serde_json.specs.Data.{Data, null, boolean, number, string, array, object, Num, unsigned, negative, float, Items, no_items, item, Members, no_members, member}
+use Rattle.serde_json.specs.Data.{Data, Items, no_items, item, Members, no_members, member}
 use Rattle.serde_json.specs.Find.{get, as_object, as_array, as_number, as_u64, as_str}
 use Rattle.serde_json.specs.Read.{read}
 use Rattle.wt_tree.specs.declared.kind.Ranges.{Ranges}
@@ -28,6 +29,10 @@ abbrev pub has_only : (List ℕ → Bool) → Option Members → Bool
 has_only p None = false
 has_only p (Some ms) = only_keys p ms
 
+-- a key is one of these
+abbrev pub is_among : List (List ℕ) → List ℕ → Bool
+is_among keys k = list_any (λ key. bytes_eq key k) keys
+
 -- a key that may be missing has a text
 abbrev pub is_text_if_any : Option Data → Bool
 is_text_if_any None = true
@@ -49,7 +54,7 @@ abbrev pub dsr_in : Data → Option Items
 dsr_in d = option_and_then as_array (get (codes "dsr") d)
 
 abbrev pub is_sync_key : List ℕ → Bool
-is_sync_key k = bytes_eq k (codes "c") || (bytes_eq k (codes "dsr") || (bytes_eq k (codes "o") || bytes_eq k (codes "src")))
+is_sync_key = is_among (codes "c" ∷ codes "dsr" ∷ codes "o" ∷ codes "src" ∷ [])
 
 -- The shape: an object with `dsr`, an array of four numbers, and maybe `c`, `o` and `src`, which are
 -- texts, and no other keys.

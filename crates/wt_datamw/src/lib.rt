@@ -3,12 +3,17 @@
 #![tactic(auto)]
 
 mod mw;
+mod mw_read;
+mod mw_shape;
 mod parse;
 mod refusal;
 mod sync;
 mod sync_read;
+#[cfg(test)]
+mod tests;
 
 pub use mw::to_text;
+pub use mw_read::read;
 pub use refusal::{DataRefusal, DataWhy};
 pub use sync::{Sync, sync_to_text};
 pub use sync_read::read_sync;

@@ -1,8 +1,9 @@
-ghost use Rattle.std.specs.Prelude.{◌≡◌, IfOk, OnOk, Some};
+ghost use Rattle.std.specs.Prelude.{◌≡◌, IfOk, OnOk, Some, Ok, true};
 ghost use Rattle.serde_json.specs.Read.{read};
 ghost use Rattle.serde_json.specs.View.{view, items_view, members_view};
 ghost use Rattle.serde_json.specs.Data.{object, no_members};
 ghost use Rattle.wt_datamw.specs.Mw.{wt_data, params_data, template_data, part_data, parts_items, extension_data, mw_data, mw_text};
+ghost use Rattle.wt_datamw.specs.MwRead.{part_is_small, has_small_numbers, all_items, mw_told, HasOrderedNames};
 
 use serde_json::{Map, Value, json};
 use std::alloc::{AllocError, Global};
@@ -27,7 +28,7 @@ fn params_value(alloc: Global, params: &[(Str, Str)]) -> Result<Value, AllocErro
     Ok(Value::Object(map))
 }
 
-#[tactic(auto, unfolding(crate::specs::Mw::template_data))]
+#[tactic(auto, using(crate::proofs::MwBack::template_small), unfolding(crate::specs::Mw::template_data))]
 fn template_value(
     alloc: Global,
     target: &Str,
@@ -35,14 +36,16 @@ fn template_value(
     params: &[(Str, Str)],
     i: u32,
 ) -> Result<Value, AllocError>
-    ensures { IfOk result (λ v. view v ≡ template_data target.now href.now params.now i) }
+    ensures value { IfOk result (λ v. view v ≡ template_data target.now href.now params.now i) }
+    ensures small { part_is_small (template_data target.now href.now params.now i) ≡ true }
 {
     let params = params_value(alloc, params)?;
     json!(in alloc; {"template": {"i": i, "params": params, "target": {"href": href.as_str(), "wt": target.as_str()}}})
 }
 
 fn part_value(alloc: Global, part: &Part) -> Result<Value, AllocError>
-    ensures { IfOk result (λ v. view v ≡ part_data part.now) }
+    ensures value { IfOk result (λ v. view v ≡ part_data part.now) }
+    ensures small { part_is_small (part_data part.now) ≡ true }
 {
     match part {
         Part::Template {
@@ -60,7 +63,8 @@ fn part_value(alloc: Global, part: &Part) -> Result<Value, AllocError>
 }
 
 fn parts_value(alloc: Global, parts: &[Part]) -> Result<Vec<Value>, AllocError>
-    ensures { IfOk result (λ v. items_view v.items ≡ parts_items parts.now) }
+    ensures values { IfOk result (λ v. items_view v.items ≡ parts_items parts.now) }
+    ensures small { OnOk result (all_items part_is_small (parts_items parts.now) ≡ true) }
 {
     let mut values = Vec::new(alloc);
     for part in parts {
@@ -79,8 +83,10 @@ fn extension_value(alloc: Global, name: &Str, body: &Option<Str>) -> Result<Valu
     }
 }
 
+#[tactic(auto, unfolding(crate::specs::MwRead::has_small_numbers))]
 fn mw_value(alloc: Global, d: &DataMw) -> Result<Value, AllocError>
-    ensures { IfOk result (λ v. view v ≡ mw_data d.now) }
+    ensures value { IfOk result (λ v. view v ≡ mw_data d.now) }
+    ensures small { OnOk result (has_small_numbers (mw_data d.now) ≡ true) }
 {
     match d {
         DataMw::Parts(parts) => {
@@ -96,7 +102,10 @@ fn mw_value(alloc: Global, d: &DataMw) -> Result<Value, AllocError>
 /// attribute.) Of parameters with one name the last is written.
 pub fn to_text(alloc: Global, d: &DataMw) -> Result<Str, NoMemory>
     ensures text { IfOk result (λ text. text ≡ mw_text d.now) }
-    ensures back { IfOk result (λ text. read text ≡ Some (mw_data d.now)) }
+    ensures json { IfOk result (λ text. read text ≡ Some (mw_data d.now)) }
+    // it reads back as the same value, if the parameters of each transclusion have distinct names
+    // that stand in byte order
+    ensures back { HasOrderedNames d.now → IfOk result (λ text. mw_told text ≡ Ok d.now) }
 {
     let value = mw_value(alloc, d)?;
     let text = value.to_string(alloc)?;

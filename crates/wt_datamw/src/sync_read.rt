@@ -1,42 +1,24 @@
-ghost use Rattle.std.specs.Prelude.{◌≡◌, [], Some, Ok, IfOk, option_map, option_and_then, unwrap_or};
+ghost use Rattle.std.specs.Prelude.{◌≡◌, Some, Ok, IfOk, option_map, option_and_then};
 ghost use Rattle.serde_json.specs.Data.{Items};
 ghost use Rattle.serde_json.specs.Find.{as_object, get};
 ghost use Rattle.serde_json.specs.Read.{read};
 ghost use Rattle.serde_json.specs.View.{view, items_view, members_view};
-ghost use Rattle.wt_datamw.specs.SyncRead.{ReadsAs, only_keys, has_only, is_sync_key, are_four_numbers, is_dsr, dsr_in, is_sync_shape, four_small, text_in, sync_with, sync_of_data, sync_told};
+ghost use Rattle.wt_datamw.specs.SyncRead.{ReadsAs, has_only, is_sync_key, are_four_numbers, is_dsr, dsr_in, is_sync_shape, four_small, text_in, sync_with, sync_of_data, sync_told};
 
-use crate::parse::{is_text_if_any, parsed, small_number};
+use crate::parse::{
+    copied, copied_if_any, has_only, is_text_if_any, parsed, small_number, text_under,
+};
 use crate::refusal::{DataRefusal, DataWhy};
 use crate::sync::Sync;
-use serde_json::{Map, Value};
+use serde_json::Value;
 use std::alloc::Global;
 use wt_span::{NoMemory, Str};
 use wt_tree::Ranges;
 
-fn is_sync_key(key: &str) -> bool
-    ensures { result ≡ is_sync_key key.now }
-{
-    key == "c" || key == "dsr" || key == "o" || key == "src"
-}
-
-fn has_only_sync_keys(map: &Map<String, Value>) -> bool
-    ensures { result ≡ only_keys is_sync_key (members_view map.now.entries) }
-{
-    for key in map.keys() {
-        if !is_sync_key(key.as_str()) {
-            return false;
-        }
-    }
-    true
-}
-
 fn is_sync_object(value: &Value) -> bool
     ensures { result ≡ has_only is_sync_key (as_object (view value.now)) }
 {
-    match value.as_object() {
-        None => false,
-        Some(map) => has_only_sync_keys(map),
-    }
+    has_only(value, &["c", "dsr", "o", "src"])
 }
 
 fn are_four_numbers(values: &[Value]) -> bool
@@ -94,34 +76,6 @@ fn is_sync_shape(value: &Value) -> bool
         && is_text_if_any(value.get("c"))
         && is_text_if_any(value.get("o"))
         && is_text_if_any(value.get("src"))
-}
-
-fn text_under<'v>(value: &'v Value, key: &str) -> Option<&'v str>
-    ensures { option_map (λ s. s.now) result ≡ text_in key.now (view value.now) }
-{
-    value.get(key).and_then(Value::as_str)
-}
-
-/// A copy of a text, the empty one where there is none.
-fn copied(alloc: Global, text: Option<&str>) -> Result<Str, NoMemory>
-    ensures { IfOk result (λ s. s ≡ unwrap_or (option_map (λ t. t.now) text.entry) []) }
-{
-    match text {
-        None => Ok(Str::new(alloc)),
-        Some(text) => Str::copy_of(alloc, text),
-    }
-}
-
-fn copied_if_any(alloc: Global, text: Option<&str>) -> Result<Option<Str>, NoMemory>
-    ensures { IfOk result (λ s. s ≡ option_map (λ t. t.now) text.entry) }
-{
-    match text {
-        None => Ok(None),
-        Some(text) => {
-            let copy = Str::copy_of(alloc, text)?;
-            Ok(Some(copy))
-        }
-    }
 }
 
 fn ranges_in(value: &Value) -> Option<Ranges>

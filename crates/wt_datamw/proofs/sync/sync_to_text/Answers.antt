@@ -1,4 +1,4 @@
-use Rattle.std.proofs.Common.{ap, ◌∙◌, arith, Some, ◌≡◌, ◌≤◌}
+use Rattle.std.proofs.Common.{ap, ◌∙◌, arith, ◌≤◌}
 use Rattle.serde_json.specs.Data.{depth}
 use Rattle.serde_json.specs.Read.{read, max_depth}
 use Rattle.serde_json.specs.View.{view}
