@@ -1,0 +1,135 @@
+//! A case, as a line tells it.
+
+ghost use Rattle.std.specs.Prelude.{◌≡◌, ◌≢◌, false, AllPairs};
+ghost use Rattle.std.specs.List.{All};
+
+use hex::FromHexError;
+use std::alloc::{AllocError, Global};
+use wt_span::{List, NoMemory, Str};
+
+/// Why a line isn't answered.
+#[derive(Debug, Drop)]
+pub enum CaseRefusal {
+    /// It isn't a case.
+    Malformed,
+    /// No memory was found for it.
+    NoMemory,
+}
+
+impl From<NoMemory> for CaseRefusal {
+    fn from(_: NoMemory) -> CaseRefusal {
+        CaseRefusal::NoMemory
+    }
+}
+
+impl From<AllocError> for CaseRefusal {
+    fn from(_: AllocError) -> CaseRefusal {
+        CaseRefusal::NoMemory
+    }
+}
+
+/// Whether a page has this name.
+fn has_name(entries: &[(Str, List<u8>)], name: &str) -> bool
+    ensures { result ≡ false → All (λ entry. entry.0 ≢ name.now) entries.now }
+{
+    for (taken, _) in entries {
+        if taken.as_str() == name {
+            return true;
+        }
+    }
+    false
+}
+
+/// Pages of different names.
+#[derive(Debug, Drop)]
+pub struct Pages {
+    entries: List<(Str, List<u8>)>,
+    ghost distinct: { AllPairs (λ a b. a.0 ≢ b.0) entries },
+}
+
+impl Pages {
+    fn new(alloc: Global) -> Pages {
+        Pages {
+            entries: List::new(alloc),
+        }
+    }
+
+    /// The pages with their names.
+    pub fn into_entries(self) -> List<(Str, List<u8>)>
+        ensures { AllPairs (λ a b. a.0 ≢ b.0) result }
+    {
+        self.entries
+    }
+
+    /// Adds a page, or refuses one whose name is taken.
+    fn add(&mut self, name: Str, page: List<u8>) -> Result<(), CaseRefusal> {
+        if has_name(self.entries.as_slice(), name.as_str()) {
+            return Err(CaseRefusal::Malformed);
+        }
+        self.entries.push((name, page))?;
+        Ok(())
+    }
+}
+
+/// The words of a call, what its standard input holds, and the pages of its folder.
+#[derive(Debug, Drop)]
+pub struct Case {
+    pub words: List<Str>,
+    pub input: List<u8>,
+    pub pages: Pages,
+}
+
+fn bytes_of(alloc: Global, digits: &str) -> Result<Vec<u8>, CaseRefusal> {
+    match hex::decode(alloc, digits) {
+        Ok(bytes) => Ok(bytes),
+        Err(FromHexError::OutOfMemory) => Err(CaseRefusal::NoMemory),
+        Err(_) => Err(CaseRefusal::Malformed),
+    }
+}
+
+fn text_of(alloc: Global, digits: &str) -> Result<Str, CaseRefusal> {
+    match String::from_utf8(bytes_of(alloc, digits)?) {
+        Ok(text) => Ok(Str::from_string(text)),
+        Err(_) => Err(CaseRefusal::Malformed),
+    }
+}
+
+fn words_of(alloc: Global, field: &str) -> Result<List<Str>, CaseRefusal> {
+    let mut words = List::new(alloc);
+    if field.is_empty() {
+        return Ok(words);
+    }
+    for word in field.split(',') {
+        words.push(text_of(alloc, word)?)?;
+    }
+    Ok(words)
+}
+
+fn pages_of(alloc: Global, field: &str) -> Result<Pages, CaseRefusal> {
+    let mut pages = Pages::new(alloc);
+    if field.is_empty() {
+        return Ok(pages);
+    }
+    for entry in field.split(',') {
+        let (name, page) = entry.split_once('=').ok_or(CaseRefusal::Malformed)?;
+        let bytes = List::from_vec(bytes_of(alloc, page)?);
+        pages.add(text_of(alloc, name)?, bytes)?;
+    }
+    Ok(pages)
+}
+
+impl Case {
+    /// The case that a line, without its line break, tells.
+    pub fn read(alloc: Global, line: &[u8]) -> Result<Case, CaseRefusal> {
+        let Ok(line) = std::str::from_utf8(line) else {
+            return Err(CaseRefusal::Malformed);
+        };
+        let (words, rest) = line.split_once('\t').ok_or(CaseRefusal::Malformed)?;
+        let (input, pages) = rest.split_once('\t').ok_or(CaseRefusal::Malformed)?;
+        Ok(Case {
+            words: words_of(alloc, words)?,
+            input: List::from_vec(bytes_of(alloc, input)?),
+            pages: pages_of(alloc, pages)?,
+        })
+    }
+}
