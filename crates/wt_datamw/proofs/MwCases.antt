@@ -1,5 +1,5 @@
 -- Worked cases of what data of `data-mw` says.
-use Rattle.std.specs.Prelude.{◌≡◌, refl, [], ◌∷◌, Some, None, Ok, Err, codes}
+use Rattle.std.specs.Prelude.{◌≡◌, refl, true, [], ◌∷◌, Some, None, Ok, Err, codes}
 use Rattle.serde_json.specs.Data.{Data, Num, unsigned, number, boolean, string, array, object, Items, no_items, item, Members, no_members, member}
 use Rattle.wt_tree.specs.declared.node.DataMw.TheVariants as mw
 use Rattle.wt_tree.specs.declared.node.Part.TheVariants as part
