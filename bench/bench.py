@@ -5,8 +5,9 @@
 
 PROGRAM is the proved program (crates/wtround/out/wtround, which ./wtround builds); OTHER a second program
 that takes the same words, which is run in turn on the same pages. For each command and kind of page it
-prints, best of three runs, MB of page a second, the peak memory, and how the time grew from 512 KiB to
-2 MiB (four times the bytes). It wants /usr/bin/time.
+prints, best of three runs, MB of page for each second of processor time (the program has one thread, and
+so other work of the machine tells less than it does on a clock), the peak memory, and how the time grew from
+512 KiB to 2 MiB (four times the bytes).
 """
 import os
 import subprocess
@@ -41,17 +42,20 @@ KINDS = {
 
 
 def run(program, folder, words):
+    """The least processor time in seconds and the most memory in KiB of three runs, or why there is none."""
     best = None
     peak = 0
     for _ in range(3):
-        with open(os.path.join(folder, "out"), "wb") as out:
-            it = subprocess.run(["/usr/bin/time", "-f", "%e %M", program] + words, cwd=folder, stdout=out, stderr=subprocess.PIPE, stdin=subprocess.DEVNULL)
-        told = it.stderr.decode().strip().splitlines()
-        seconds, kib = told[-1].split()
-        if it.returncode != 0:
-            return None, " / ".join(told[:-1])
-        best = float(seconds) if best is None else min(best, float(seconds))
-        peak = max(peak, int(kib))
+        with open(os.path.join(folder, "out"), "wb") as out, open(os.path.join(folder, "err"), "w+b") as err:
+            it = subprocess.Popen([program] + words, cwd=folder, stdout=out, stderr=err, stdin=subprocess.DEVNULL)
+            _, status, used = os.wait4(it.pid, 0)
+            it.returncode = os.waitstatus_to_exitcode(status)
+            err.seek(0)
+            if it.returncode != 0:
+                return None, err.read().decode(errors="replace").strip()
+        seconds = used.ru_utime + used.ru_stime
+        best = seconds if best is None else min(best, seconds)
+        peak = max(peak, used.ru_maxrss)
     return best, peak
 
 
@@ -60,7 +64,7 @@ def main():
         print(__doc__)
         return 2
     programs = [os.path.abspath(it) for it in sys.argv[1:]]
-    print(f"{os.cpu_count()} cores; best of three; MB are 1,000,000 bytes of page")
+    print(f"{os.cpu_count()} cores; best of three; MB/s of processor time, MB are 1,000,000 bytes of page")
     print(f"{'command and page':34} {'KiB':>5} " + " ".join(f"{'MB/s':>7} {'peak MB':>8} {'growth':>7}" for _ in programs))
     for kind, make in KINDS.items():
         last = [None] * len(programs)
