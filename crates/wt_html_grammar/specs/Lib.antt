@@ -1,0 +1,6 @@
+pub mod Signs
+pub mod Grammar
+pub mod Machine
+pub mod Places
+pub mod Markup
+pub mod Events

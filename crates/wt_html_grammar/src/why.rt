@@ -1,0 +1,20 @@
+/// Why bytes begin no well-formed input, at the place where the first of them stands that none can
+/// have there. Where several hold, the first in this order is meant.
+///
+/// - `NotUtf8`: the byte continues no UTF-8.
+/// - `End`: the input ends.
+/// - `TooDeep`: the name of an element begins that stands within 200 others.
+/// - `EndTag`: in the name of an end tag, which isn't that of the element that is open.
+/// - `Escape`: inside an escape.
+/// - `Repeated`: behind the name of an attribute that came before in the element.
+/// - `Syntax`: all else.
+#[derive(Clone, Copy, Debug, PartialEq, Eq)]
+pub enum HtmlWhy {
+    NotUtf8,
+    End,
+    TooDeep,
+    EndTag,
+    Escape,
+    Repeated,
+    Syntax,
+}
