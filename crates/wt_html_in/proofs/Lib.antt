@@ -1,3 +1,4 @@
 pub mod Taking
 pub mod Contents
 pub mod Feeding
+pub mod Among

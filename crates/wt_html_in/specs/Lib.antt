@@ -1,3 +1,4 @@
 pub mod View
 pub mod Built
 pub mod Answer
+pub mod Names

@@ -17,6 +17,7 @@ use Rattle.wt_html_in.specs.declared.machine.Mode.TheVariants as modes
 use Rattle.wt_html_in.specs.declared.machine.Within.{Within}
 use Rattle.wt_html_in.specs.declared.machine.Within.TheVariants as withins
 use Rattle.wt_html_in.specs.declared.machine.Machine.{Machine}
+use Rattle.wt_html_in.specs.Names.{names_in}
 
 abbrev pub follow_of : Following → Follow
 follow_of f = record { low = f.low; high = f.high; more = f.more }
@@ -43,7 +44,7 @@ abbrev pub stack : Machine → List (List ℕ)
 stack m = reverse (map (λ n. n.items) m.open.items)
 
 abbrev pub tag_of : Machine → Tag
-tag_of m = record { outer = stack m; name = m.name.items; seen = map (λ n. n.items) m.seen.items }
+tag_of m = record { outer = stack m; name = m.name.items; seen = names_in m.seen }
 
 abbrev pub place_at : Mode → Machine → State
 place_at modes.Start m = start

@@ -7,6 +7,7 @@ mod content;
 mod escape;
 mod fault;
 mod machine;
+mod names;
 mod reader;
 mod signs;
 

@@ -1,5 +1,5 @@
-ghost use Rattle.std.specs.Prelude.{◌≡◌, ℕ, ◌<◌, ◌≤◌, ◌≢◌, ◌==◌, List, [], ◌∷◌, Ok, length, drop, codes, if◌then◌else◌};
-ghost use Rattle.wt_html_grammar.specs.Signs.{is_void, in_text};
+ghost use Rattle.std.specs.Prelude.{◌≡◌, ℕ, ◌<◌, ◌≤◌, ◌≢◌, ◌==◌, List, [], ◌∷◌, Ok, Err, length, drop, codes, if◌then◌else◌};
+ghost use Rattle.wt_html_grammar.specs.Signs.{is_among, is_void, in_text};
 ghost use Rattle.wt_html_grammar.specs.Machine.{start, first, doctype, inside, less, naming, gap, attribute, named_so, equals, value, valued, slashed, closing, closed, wide, in_contents, in_doctype, special, at_open, at_end, at_name, end_tag, with_seen, turned, in_escape, mended, step};
 ghost use Rattle.wt_html_grammar.specs.Events.{out, out_open, out_end, out_escape, unit_byte, unit_char};
 ghost use Rattle.wt_html_grammar.specs.Places.{is_accepted};
@@ -8,9 +8,10 @@ ghost use Rattle.wt_html_in.specs.View.{view, place_of, stack, tag_of, escape_of
 
 use crate::escape::{EscapeAt, TurnTo, turn};
 use crate::fault::{Fault, mended};
+use crate::names::AttributeNames;
 use crate::signs::{
-    Following, follow, is_among, is_attribute_byte, is_lower, is_name_byte, is_plain_text,
-    is_plain_value, is_quote, is_space, is_void,
+    Following, follow, is_attribute_byte, is_lower, is_name_byte, is_plain_text, is_plain_value,
+    is_quote, is_space, is_void,
 };
 use std::alloc::Global;
 use std::mem;
@@ -55,7 +56,7 @@ pub struct Machine {
     pub open: Vec<Vec<u8>>,
     pub name: Vec<u8>,
     pub at: usize,
-    pub seen: Vec<Vec<u8>>,
+    pub seen: AttributeNames,
     pub word: Vec<u8>,
     pub quote: u8,
 }
@@ -76,7 +77,7 @@ impl Machine {
             open: Vec::new(alloc),
             name: Vec::new(alloc),
             at: 0,
-            seen: Vec::new(alloc),
+            seen: AttributeNames::new(alloc),
             word: Vec::new(alloc),
             quote: 0,
         }
@@ -317,6 +318,19 @@ impl Machine {
         }
     }
 
+    fn end_attribute_name(&mut self, alloc: Global, byte: u8) -> Result<Event, Fault>
+        requires within { self.old.within ≡ Within.Nothing }
+        ensures { Takes (if is_among self.old.word.items (tag_of self.old).seen then Err HtmlWhy.Repeated else at_name (with_seen (tag_of self.old) self.old.word.items) byte) ev.Quiet result (view self.new) }
+    {
+        let word = mem::replace(&mut self.word, Vec::new(alloc));
+        let added = self.seen.insert(word)?;
+        if added {
+            self.at_name(byte)
+        } else {
+            Err(Fault::Html(HtmlWhy::Repeated))
+        }
+    }
+
     fn in_attribute(&mut self, alloc: Global, byte: u8) -> Result<Event, Fault>
         requires within { self.old.within ≡ Within.Nothing }
         requires mode { self.old.mode ≡ Mode.Attribute }
@@ -325,12 +339,8 @@ impl Machine {
         if is_attribute_byte(byte) {
             self.word.push(byte)?;
             Ok(Event::Key(byte))
-        } else if is_among(self.word.as_slice(), self.seen.as_slice()) {
-            Err(Fault::Html(HtmlWhy::Repeated))
         } else {
-            let word = mem::replace(&mut self.word, Vec::new(alloc));
-            self.seen.push(word)?;
-            self.at_name(byte)
+            self.end_attribute_name(alloc, byte)
         }
     }
 

@@ -1,5 +1,5 @@
-ghost use Rattle.std.specs.Prelude.{◌≡◌, map};
-ghost use Rattle.wt_html_grammar.specs.Signs.{is_lower, is_digit, is_space, is_name_byte, is_attribute_byte, is_quote, in_text, in_value, is_among, is_void, is_digit_of, digit_value, follow, begins_character};
+ghost use Rattle.std.specs.Prelude.{◌≡◌};
+ghost use Rattle.wt_html_grammar.specs.Signs.{is_lower, is_digit, is_space, is_name_byte, is_attribute_byte, is_quote, in_text, in_value, is_void, is_digit_of, digit_value, follow, begins_character};
 ghost use Rattle.wt_html_grammar.specs.Machine.{is_plain};
 ghost use Rattle.wt_html_in.specs.View.{follow_in};
 
@@ -56,17 +56,6 @@ pub fn is_plain_value(quote: u8, byte: u8) -> bool
     ensures { result ≡ is_plain (in_value quote) byte }
 {
     byte < 128 && (!(byte == quote) && !(byte == 38))
-}
-
-pub fn is_among(name: &[u8], names: &[Vec<u8>]) -> bool
-    ensures { result ≡ is_among name.now (map (λ n. n.items) names.now) }
-{
-    for n in names {
-        if name == n.as_slice() {
-            return true;
-        }
-    }
-    false
 }
 
 /// Whether elements of this name are void.
