@@ -10,6 +10,8 @@ mod machine;
 mod names;
 mod reader;
 mod signs;
+#[cfg(test)]
+mod tests;
 
 pub use content::{Attribute, Content};
 pub use fault::HtmlRefusal;

@@ -1,0 +1,77 @@
+//! Each public call once on its happy path, and inputs that come in pieces.
+use crate::{Content, HtmlRefusal, HtmlWhy, Reader, read_elements};
+use std::alloc::Global;
+use std::test::Fail;
+
+fn write(out: &mut String, content: &Content) -> Result<(), Fail> {
+    match content {
+        Content::Text(bytes) => out.push_str(str::from_utf8(bytes.as_slice())?)?,
+        Content::Element {
+            name,
+            attributes,
+            contents,
+        } => {
+            out.push_str("[")?;
+            out.push_str(str::from_utf8(name.as_slice())?)?;
+            for attribute in attributes {
+                out.push_str(" ")?;
+                out.push_str(str::from_utf8(attribute.name.as_slice())?)?;
+                out.push_str("=")?;
+                out.push_str(str::from_utf8(attribute.value.as_slice())?)?;
+            }
+            out.push_str("|")?;
+            for inner in contents {
+                write(out, inner)?;
+            }
+            out.push_str("]")?;
+        }
+    }
+    Ok(())
+}
+
+#[test]
+fn elements_with_decoded_texts(rt: HostRuntime) -> Result<(), Fail> {
+    let input =
+        " <!DOCTYPE html>\n<html><body class = 'a&amp;\"' id=\"\"><p>x&#233;y<br/>&lt;</p>\n</body></html>";
+    let mut out = String::new(rt.alloc());
+    match read_elements(rt.alloc(), input.as_bytes()) {
+        Ok(root) => write(&mut out, &root)?,
+        Err(_) => out.push_str("refused")?,
+    }
+    assert_eq!(rt;
+        out.as_str(),
+        "[html|[body class=a&\" id=|[p|xéy[br|]<]\n]]"
+    );
+    Ok(())
+}
+
+fn feed_each(alloc: Global, reader: &mut Reader, input: &str) -> Result<(), HtmlRefusal> {
+    for byte in input.as_bytes() {
+        reader.feed(alloc, &[*byte])?;
+    }
+    Ok(())
+}
+
+#[test]
+fn a_byte_in_each_piece(rt: HostRuntime) -> Result<(), Fail> {
+    let mut cut = Reader::new(rt.alloc());
+    let fed = feed_each(rt.alloc(), &mut cut, "<html><body><p id=\"mw");
+    assert!(rt; fed.is_ok());
+    let end = HtmlRefusal::Html {
+        place: 21,
+        why: HtmlWhy::End,
+    };
+    assert!(rt; matches!(cut.finish(), Err(refusal) if refusal == end));
+    let mut crossing = Reader::new(rt.alloc());
+    let fed = feed_each(
+        rt.alloc(),
+        &mut crossing,
+        "<html><body><p><b><i></b></i></p></body></html>",
+    );
+    let end_tag = HtmlRefusal::Html {
+        place: 23,
+        why: HtmlWhy::EndTag,
+    };
+    assert!(rt; fed == Err(end_tag));
+    Ok(())
+}
