@@ -45,9 +45,10 @@ def run(program, folder, words):
     """The least processor time in seconds and the most memory in KiB of three runs, or why there is none."""
     best = None
     peak = 0
+    timed = ["/usr/bin/time", "-q", "-f", "%M", "-o", "peak"]
     for _ in range(3):
         with open(os.path.join(folder, "out"), "wb") as out, open(os.path.join(folder, "err"), "w+b") as err:
-            it = subprocess.Popen([program] + words, cwd=folder, stdout=out, stderr=err, stdin=subprocess.DEVNULL)
+            it = subprocess.Popen(timed + [program] + words, cwd=folder, stdout=out, stderr=err, stdin=subprocess.DEVNULL)
             _, status, used = os.wait4(it.pid, 0)
             it.returncode = os.waitstatus_to_exitcode(status)
             err.seek(0)
@@ -55,7 +56,8 @@ def run(program, folder, words):
                 return None, err.read().decode(errors="replace").strip()
         seconds = used.ru_utime + used.ru_stime
         best = seconds if best is None else min(best, seconds)
-        peak = max(peak, used.ru_maxrss)
+        with open(os.path.join(folder, "peak")) as told:
+            peak = max(peak, int(told.read().split()[-1]))
     return best, peak
 
 
