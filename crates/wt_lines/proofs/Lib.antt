@@ -1,0 +1,6 @@
+pub mod Backs
+pub mod Chunks
+pub mod KindRows
+pub mod LineLaws
+pub mod PieceSigns
+pub mod Words
