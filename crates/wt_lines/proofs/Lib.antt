@@ -2,5 +2,8 @@ pub mod Backs
 pub mod Chunks
 pub mod KindRows
 pub mod LineLaws
+pub mod PieceRuns
 pub mod PieceSigns
+mod Rows
+pub mod Splits
 pub mod Words

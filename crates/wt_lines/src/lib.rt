@@ -6,11 +6,15 @@ mod kind;
 mod laws;
 mod line;
 mod partition;
+mod scan;
 mod sign;
+mod split;
 
 pub use back::BackSigns;
 pub use kind::{LineKind, classify};
 pub use laws::one_split;
 pub use line::{Line, lines};
 pub use partition::{is_break, is_chars, parted};
+pub use scan::{is_mark, line_len, marks_len, visible_len};
 pub use sign::{Sign, Signs};
+pub use split::item_count;

@@ -67,7 +67,7 @@ fn split_chunk<'a>(text: Text<'a>) -> (Text<'a>, Text<'a>)
 }
 
 /// Characters of the same call as `origin`, or of the page.
-fn chars_piece<'a>(text: Text<'a>, origin: Origin) -> Piece<'a>
+pub fn chars_piece<'a>(text: Text<'a>, origin: Origin) -> Piece<'a>
     requires { 0 < length (bytes_of text) }
     ensures items { items_of result ≡ map (char (call_of_origin origin)) (bytes_of text.entry) }
     ensures parted { ArePartedBytes (bytes_of text.entry) → IsParted result }
