@@ -17,4 +17,4 @@ pub use line::{Line, lines};
 pub use partition::{is_break, is_chars, parted};
 pub use scan::{is_mark, line_len, marks_len, visible_len};
 pub use sign::{Sign, Signs};
-pub use split::item_count;
+pub use split::{item_count, split_items};
