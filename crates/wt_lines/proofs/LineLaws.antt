@@ -121,8 +121,8 @@ items_push (q ∷ ps) p = ap (λ xs. items_of q ++ xs) (items_push ps p) ∙ sym
 pub further_line : (ls : List Line) (line : List Piece) (p : Piece) (next : List Piece) → IsParted p → is_break_piece p ≡ false → next ≡ line ++ p ∷ [] → IsFurther ls line (items_of p) ls next
 further_line ls line p next h n e = λ rest.
     ap (λ xs. map line_items ls ++ xs)
-      (ap (λ ps. onto (items ps) (lines rest)) e ∙ ap (λ xs. onto xs (lines rest)) (items_push line p)
-      ∙ sym (onto_onto (items line) (items_of p) (lines rest)) ∙ ap (onto (items line)) (sym (line_goes_on (items_of p) rest (unbroken_piece p h n))))
+    (ap (λ ps. onto (items ps) (lines rest)) e ∙ ap (λ xs. onto xs (lines rest)) (items_push line p)
+    ∙ sym (onto_onto (items line) (items_of p) (lines rest)) ∙ ap (onto (items line)) (sym (line_goes_on (items_of p) rest (unbroken_piece p h n))))
 
 pub further_break : (ls : List Line) (line : List Piece) (p : Piece) (ms : List Line) (next : List Piece) (l : Line) → IsParted p → is_break_piece p ≡ true → ms ≡ ls ++ l ∷ [] → l.pieces ≡ line → next ≡ []
     → IsFurther ls line (items_of p) ms next

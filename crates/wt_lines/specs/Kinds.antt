@@ -68,9 +68,9 @@ unfoldable pub kind_of_signs : ℕ → List ℕ → LineKind
 kind_of_signs tables ss =
     let sign = past is_idle ss in
     let rows =
-      (length sign == 0, kind.Blank)
-      ∷ (nat_lt tables 16 && begins (codes "{|") sign, kind.TableOpen)
-      ∷ ((if nat_lt 0 tables then table_rows sign else []) ++ text_rows (past is_mark_sign ss) (past is_idle (reverse ss)))
+    (length sign == 0, kind.Blank)
+    ∷ (nat_lt tables 16 && begins (codes "{|") sign, kind.TableOpen)
+    ∷ ((if nat_lt 0 tables then table_rows sign else []) ++ text_rows (past is_mark_sign ss) (past is_idle (reverse ss)))
     in
     unwrap_or (first_of rows) kind.Text
 

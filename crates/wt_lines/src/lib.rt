@@ -9,6 +9,10 @@ mod partition;
 mod scan;
 mod sign;
 mod split;
+#[cfg(test)]
+mod tables;
+#[cfg(test)]
+mod tests;
 
 pub use back::BackSigns;
 pub use kind::{LineKind, classify};

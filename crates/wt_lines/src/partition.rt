@@ -85,11 +85,7 @@ pub fn chars_piece<'a>(text: Text<'a>, origin: Origin) -> Piece<'a>
 }
 
 /// Characters, parted at their line breaks.
-fn push_chars<'a>(
-    out: &mut List<Piece<'a>>,
-    text: Text<'a>,
-    origin: Origin,
-) -> Result<(), NoMemory>
+fn push_chars<'a>(out: &mut List<Piece<'a>>, text: Text<'a>, origin: Origin) -> Result<(), NoMemory>
     requires parted { AllParted out.old }
     requires sound { All IsSoundPiece out.old }
     ensures items { OnOk result (items out.new ≡ items out.old ++ map (char (call_of_origin origin)) (bytes_of text.entry)) }

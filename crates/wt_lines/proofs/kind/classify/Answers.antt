@@ -31,4 +31,4 @@ returns-in-None c =
     let back : right c.of.result ≡ reverse ss = c.of.ensures ∙ ap (λ ps. reverse (map sign (items ps))) c.as_slice-pieces.ensures in
     c.text_kind.ensures
     ∙ sym (kind_of_text c.args.tables ss (left c.past_idle-sign.result) (left c.past_marks.result) (past is_idle (right c.of.result)) (c.past_idle-sign.ensures ∙ ap (past is_idle) all) (sym c.is_empty.ensures ∙ c.if-is_empty.false) (sym c.opens_table.ensures ∙ c.if-opens_table.false) (sym c.table_kind.ensures ∙ c.in-None.is)
-      (c.past_marks.ensures ∙ ap (past is_mark_sign) all) (ap (past is_idle) back))
+    (c.past_marks.ensures ∙ ap (past is_mark_sign) all) (ap (past is_idle) back))
