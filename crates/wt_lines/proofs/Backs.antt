@@ -1,5 +1,5 @@
 -- Signs from the back.
-use Rattle.std.proofs.Common.{◌≡◌, ℕ, ◌<◌, ◌+◌, List, [], ◌∷◌, ◌++◌, length, take, get_or, map, refl, sym, ap, ◌∙◌, append_assoc, append-nil}
+use Rattle.std.proofs.Common.{◌≡◌, ℕ, ◌<◌, ◌+◌, List, [], ◌∷◌, ◌++◌, length, take, get_or, map, sym, ap, ◌∙◌, append_assoc, append-nil}
 use Rattle.std.specs.Prelude.{reverse}
 use Rattle.std.proofs.lemmas.List.{map-append, reverse-append, take_more}
 use Rattle.std.proofs.lemmas.Grind.{flat_map-append}

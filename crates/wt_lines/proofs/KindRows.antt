@@ -1,5 +1,5 @@
 -- The table of kinds, row by row.
-use Rattle.std.proofs.Common.{◌≡◌, ℕ, ◌==◌, Bool, true, false, Option, Some, None, List, [], ◌∷◌, ◌++◌, length, refl, sym, ap, ◌∙◌, nat_lt}
+use Rattle.std.proofs.Common.{◌≡◌, ℕ, ◌==◌, Bool, true, false, Some, None, List, [], ◌∷◌, ◌++◌, length, refl, sym, ap, ◌∙◌, nat_lt}
 use Rattle.std.specs.Prelude.{◌&&◌, codes, reverse, if◌then◌else◌}
 use Rattle.std.specs.Option.{unwrap_or, option_or}
 use Rattle.wt_span.specs.Bytes.{begins}

@@ -1,7 +1,6 @@
 -- Lines: the function, and the relation that it meets alone.
-use Rattle.std.proofs.Common.{◌≡◌, ℕ, ◌<◌, ◌+◌, Bool, true, false, Option, List, [], ◌∷◌, ◌++◌, length, map, refl, sym, ap, ◌∙◌, subst, cond, arith, append_assoc, append-nil, inl, inr}
-use Rattle.std.specs.Prelude.{not, ◌&&◌, ◌⊎◌}
-use Rattle.std.specs.List.{AllByRecursion}
+use Rattle.std.proofs.Common.{◌≡◌, ℕ, Bool, true, false, Option, List, [], ◌∷◌, ◌++◌, map, refl, sym, ap, ◌∙◌, subst, cond, append_assoc, append-nil, inl, inr}
+use Rattle.std.specs.Prelude.{not, ◌&&◌}
 use Rattle.std.proofs.lemmas.List.{map-append}
 use Rattle.wt_span.specs.Bytes.{is_break}
 use Rattle.wt_span.specs.declared.form.Form.{Form}
@@ -11,7 +10,7 @@ use Rattle.wt_span.specs.Slice.{bytes_of}
 use Rattle.wt_span.specs.Items.{Item, char, items, items_of, items_by, call_of_origin}
 use Rattle.wt_lines.specs.declared.line.Line.{Line}
 use Rattle.wt_lines.specs.Lines.{is_break_item, onto, lines, IsUnbroken, AreLines}
-use Rattle.wt_lines.specs.Pieces.{line_items, is_chars, no_break, starts_break, is_break_piece, ArePartedBytes, IsPartedBy, IsParted, so_far, IsFurther}
+use Rattle.wt_lines.specs.Pieces.{line_items, is_chars, no_break, starts_break, is_break_piece, IsPartedBy, IsParted, so_far, IsFurther}
 use Rattle.wt_lines.proofs.PieceSigns.{false_true, true_false}
 
 onto_onto : (xs ys : List Item) (ls : List (List Item)) → onto xs (onto ys ls) ≡ onto (xs ++ ys) ls

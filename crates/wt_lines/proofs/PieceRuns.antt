@@ -16,7 +16,7 @@ use Rattle.wt_span.specs.Runs.{IsRun}
 use Rattle.wt_span.specs.Whole.{IsWhole}
 use Rattle.wt_span.proofs.RunLaws.{runs_cut}
 use Rattle.wt_lines.specs.Lines.{IsUnbroken, goes_on}
-use Rattle.wt_lines.specs.Pieces.{is_chars, is_break_piece, is_mark_piece, ArePartedBytes, IsPartedBy, IsParted, AllParted, line_len, IsLineCut, AreLeadingMarks}
+use Rattle.wt_lines.specs.Pieces.{is_chars, is_break_piece, is_mark_piece, IsPartedBy, IsParted, AllParted, line_len, IsLineCut, AreLeadingMarks}
 use Rattle.wt_lines.proofs.PieceSigns.{false_true, true_false}
 use Rattle.wt_lines.proofs.LineLaws.{unbroken_piece, break_piece}
 

@@ -1,12 +1,12 @@
 -- The signs of pieces.
-use Rattle.std.proofs.Common.{◌≡◌, ℕ, Bool, true, false, Option, List, [], ◌∷◌, ◌++◌, map, refl, sym, ap, ◌∙◌, subst, cond}
+use Rattle.std.proofs.Common.{◌≡◌, ℕ, Bool, true, false, Option, List, [], ◌∷◌, ◌++◌, map, refl, sym, ap, subst, cond}
 use Rattle.std.specs.Prelude.{if◌then◌else◌}
 use Rattle.std.proofs.lemmas.List.{map-append}
 use Rattle.wt_span.specs.declared.form.Form.{Form}
 use Rattle.wt_span.specs.declared.form.Form.TheVariants as form
 use Rattle.wt_span.specs.declared.form.Piece.{Piece}
 use Rattle.wt_span.specs.Slice.{bytes_of}
-use Rattle.wt_span.specs.Items.{Item, char, sign, items, items_of, items_by, is_mark_form, call_of_origin}
+use Rattle.wt_span.specs.Items.{char, sign, items, items_of, items_by, is_mark_form, call_of_origin}
 use Rattle.wt_lines.specs.Pieces.{is_chars}
 
 pub false_true : {X : Type 0} → false ≡ true → X

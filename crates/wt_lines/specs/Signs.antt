@@ -1,5 +1,5 @@
 -- What is left of a line to be read, from its front or from its back.
-use Rattle.std.specs.Prelude.{ℕ, Option, Some, None, List, [], ◌∷◌, ◌++◌, map, reverse}
+use Rattle.std.specs.Prelude.{ℕ, Option, Some, None, List, ◌∷◌, ◌++◌, map, reverse}
 use Rattle.wt_span.specs.Items.{sign, items}
 use Rattle.wt_lines.specs.declared.sign.Sign.{Sign}
 use Rattle.wt_lines.specs.declared.sign.Sign.TheVariants as sign

@@ -16,7 +16,7 @@ mod tests;
 
 pub use back::BackSigns;
 pub use kind::{LineKind, classify};
-pub use laws::one_split;
+pub use laws::{one_set_of_lines, one_split};
 pub use line::{Line, lines};
 pub use partition::{is_break, is_chars, parted};
 pub use scan::{is_mark, line_len, marks_len, visible_len};

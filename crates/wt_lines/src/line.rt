@@ -1,7 +1,7 @@
-ghost use Rattle.std.specs.Prelude.{◌≡◌, IfOk, OnOk, All, map};
-ghost use Rattle.wt_span.specs.Items.{items, items_of};
+ghost use Rattle.std.specs.Prelude.{◌≡◌, IfOk, OnOk, All, length, map};
+ghost use Rattle.wt_span.specs.Items.{items, items_of, sources};
 ghost use Rattle.wt_span.specs.Origins.{IsSoundPiece};
-ghost use Rattle.wt_lines.specs.Lines.{lines, AreLines};
+ghost use Rattle.wt_lines.specs.Lines.{lines, AreLines, AreWithin};
 ghost use Rattle.wt_lines.specs.Pieces.{line_items, AllParted, IsParted, AreSoundLines, IsFurther};
 
 use crate::partition::{is_break, parted};
@@ -62,6 +62,7 @@ pub fn lines<'a>(alloc: Global, items: &Items<'a>) -> Result<List<Line<'a>>, NoM
     ensures value { IfOk result (λ ls. map line_items ls ≡ lines items.now.items) }
     ensures joined { IfOk result (λ ls. AreLines (map line_items ls) items.now.items) }
     ensures sound { IfOk result (λ ls. AreSoundLines ls) }
+    ensures within { IfOk result (λ ls. AreWithin (length (sources items.now.items)) (map line_items ls)) }
 {
     let pieces = parted(alloc, items.pieces())?;
     let lines = parted_lines(alloc, pieces.as_slice())?;

@@ -1,7 +1,6 @@
-use Rattle.std.proofs.Common.{◌≡◌, sym, ap, ◌∙◌, List, subst, All}
+use Rattle.std.proofs.Common.{sym, subst, All}
 use Rattle.std.proofs.lemmas.List.Elements.{All-nil}
 use Rattle.wt_span.specs.Items.{items}
-use Rattle.wt_span.specs.declared.form.Piece.{Piece}
 use Rattle.wt_span.specs.Origins.{IsSoundPiece}
 use Rattle.wt_lines.specs.declared.line.Line.{Line}
 use Rattle.wt_lines.specs.Pieces.{AreSoundLines}

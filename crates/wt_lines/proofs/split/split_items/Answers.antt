@@ -1,4 +1,4 @@
-use Rattle.std.proofs.Common.{◌≡◌, ◌-◌, ◌++◌, ◌<◌, ℕ, sym, ap, ◌∙◌, subst, take, drop, get_or}
+use Rattle.std.proofs.Common.{◌-◌, ◌++◌, ◌<◌, sym, ap, ◌∙◌, subst, take, drop}
 use Rattle.std.specs.Str.{IsCharBoundary}
 use Rattle.wt_span.specs.declared.form.Piece.{Piece}
 use Rattle.wt_span.specs.Slice.{bytes_of}

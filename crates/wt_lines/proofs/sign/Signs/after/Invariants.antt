@@ -1,4 +1,4 @@
-use Rattle.std.proofs.Common.{◌≡◌, length, drop}
+use Rattle.std.proofs.Common.{◌≡◌, drop}
 use Rattle.wt_span.specs.Bytes.{begins}
 use Rattle.wt_lines.specs.Signs.{left}
 use Rattle.wt_lines.proofs.sign.Signs.after.Given as goal
