@@ -63,16 +63,18 @@ text_rows first last =
     ∷ (begins (codes " ") first, kind.Pre)
     ∷ []
 
--- The kind of a line with these signs, where so many tables are open.
-unfoldable pub kind_of_signs : ℕ → List ℕ → LineKind
-kind_of_signs tables ss =
-    let sign = past is_idle ss in
-    let rows =
+-- The whole table, where so many tables are open: by the line from its first visible item on that is no blank (`sign`), by
+-- the line from its first visible item on (`first`), and by the line backwards from its last visible item that is no blank
+-- (`last`).
+abbrev pub rows : ℕ → List ℕ → List ℕ → List ℕ → List (Bool × LineKind)
+rows tables sign first last =
     (length sign == 0, kind.Blank)
     ∷ (nat_lt tables 16 && begins (codes "{|") sign, kind.TableOpen)
-    ∷ ((if nat_lt 0 tables then table_rows sign else []) ++ text_rows (past is_mark_sign ss) (past is_idle (reverse ss)))
-    in
-    unwrap_or (first_of rows) kind.Text
+    ∷ ((if nat_lt 0 tables then table_rows sign else []) ++ text_rows first last)
+
+-- the kind of a line with these signs
+unfoldable pub kind_of_signs : ℕ → List ℕ → LineKind
+kind_of_signs tables ss = unwrap_or (first_of (rows tables (past is_idle ss) (past is_mark_sign ss) (past is_idle (reverse ss)))) kind.Text
 
 -- the kind of a line
 abbrev pub line_kind : ℕ → List Item → LineKind

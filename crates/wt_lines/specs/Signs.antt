@@ -1,5 +1,5 @@
 -- What is left of a line to be read, from its front or from its back.
-use Rattle.std.specs.Prelude.{ℕ, Option, Some, None, List, ◌∷◌, ◌++◌, map, reverse}
+use Rattle.std.specs.Prelude.{ℕ, List, ◌++◌, map, reverse}
 use Rattle.wt_span.specs.Items.{sign, items}
 use Rattle.wt_lines.specs.declared.sign.Sign.{Sign}
 use Rattle.wt_lines.specs.declared.sign.Sign.TheVariants as sign
@@ -11,11 +11,6 @@ abbrev pub number : Sign → ℕ
 number (sign.Byte b) = b
 number sign.Atom = 256
 number sign.Mark = 257
-
--- a sign, if there is one, before others
-abbrev pub with_sign : Option Sign → List ℕ → List ℕ
-with_sign None ss = ss
-with_sign (Some s) ss = number s ∷ ss
 
 -- the signs that are left, in order
 abbrev pub left : Signs → List ℕ

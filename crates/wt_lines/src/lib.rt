@@ -1,4 +1,9 @@
 //! Lines of an expanded page, and what each is.
+//!
+//! `lines` splits the items of a page at line break characters, and `classify` tells the kind of a
+//! line by its ends. The layers above read pieces of many characters as items by the calls of
+//! `partition`, `scan`, `split`, `sign` and `back`, each of whose contracts says in items what it
+//! does with pieces.
 #![tactic(auto)]
 
 mod back;
