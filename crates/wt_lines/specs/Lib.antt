@@ -1,0 +1,4 @@
+pub mod Kinds
+pub mod Lines
+pub mod Pieces
+pub mod Signs

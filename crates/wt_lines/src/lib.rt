@@ -1,0 +1,29 @@
+//! Lines of an expanded page, and what each is.
+//!
+//! `lines` splits the items of a page at line break characters, and `classify` tells the kind of a
+//! line by its ends. The layers above read pieces of many characters as items by the calls of
+//! `partition`, `scan`, `split`, `sign` and `back`, each of whose contracts says in items what it
+//! does with pieces.
+#![tactic(auto)]
+
+mod back;
+mod kind;
+mod laws;
+mod line;
+mod partition;
+mod scan;
+mod sign;
+mod split;
+#[cfg(test)]
+mod tables;
+#[cfg(test)]
+mod tests;
+
+pub use back::BackSigns;
+pub use kind::{LineKind, classify};
+pub use laws::{one_set_of_lines, one_split};
+pub use line::{Line, lines};
+pub use partition::{is_break, is_chars, parted};
+pub use scan::{is_mark, line_len, marks_len, visible_len};
+pub use sign::{Sign, Signs};
+pub use split::{item_count, split_items};
