@@ -31,7 +31,8 @@ fn refusal_of(place: u32, fault: Fault) -> HtmlRefusal
 impl Reader {
     /// A reader that was fed nothing.
     pub fn new(alloc: Global) -> Reader
-        ensures { IsFed result [] }
+        ensures fed { IsFed result [] }
+        ensures count { result.taken ≡ 0 }
     {
         Reader {
             machine: Machine::new(alloc),
@@ -74,6 +75,7 @@ impl Reader {
         requires few { self.old.taken + length piece.now < 2 ^ 32 }
         ensures fed { (bytes : List ℕ) → IsFed self.old bytes → IsFed self.new (bytes ++ piece.now) }
         ensures answer { result ≡ answer_of self.new.failed }
+        ensures count { OnOk result (self.new.taken ≡ self.old.taken + length piece.now) }
         ensures place { IfErr result (IsAtLeast self.old.taken) }
     {
         for byte in piece {
@@ -89,6 +91,7 @@ impl Reader {
         ensures fed { (bytes : List ℕ) → IsFed self.old bytes → IsFed self.new (bytes ++ piece.now) }
         ensures front { OnOk result ((bytes : List ℕ) → IsFed self.new bytes → Front bytes) }
         ensures refused { IfErr result (λ e. (bytes : List ℕ) → IsFed self.new bytes → RefusedFor bytes e) }
+        ensures count { OnOk result (self.new.taken ≡ self.old.taken + length piece.now) }
         ensures place { self.old.failed ≡ None → IfErr result (IsAtLeast self.old.taken) }
         ensures again { IfSome self.old.failed (λ e. (result ≡ Err e) × (self.new.failed ≡ Some e)) }
     {

@@ -1,6 +1,5 @@
 //! Each public call once on its happy path, and inputs that come in pieces.
 use crate::{Content, HtmlRefusal, HtmlWhy, Reader, read_elements};
-use std::alloc::Global;
 use std::test::Fail;
 
 fn write(out: &mut String, content: &Content) -> Result<(), Fail> {
@@ -45,33 +44,17 @@ fn elements_with_decoded_texts(rt: HostRuntime) -> Result<(), Fail> {
     Ok(())
 }
 
-fn feed_each(alloc: Global, reader: &mut Reader, input: &str) -> Result<(), HtmlRefusal> {
-    for byte in input.as_bytes() {
-        reader.feed(alloc, &[*byte])?;
-    }
-    Ok(())
-}
-
 #[test]
-fn a_byte_in_each_piece(rt: HostRuntime) -> Result<(), Fail> {
-    let mut cut = Reader::new(rt.alloc());
-    let fed = feed_each(rt.alloc(), &mut cut, "<html><body><p id=\"mw");
-    assert!(rt; fed.is_ok());
+fn pieces_of_a_cut_input(rt: HostRuntime) -> Result<(), Fail> {
+    let mut reader = Reader::new(rt.alloc());
+    let first = reader.feed(rt.alloc(), b"<html><body><p i".as_slice());
+    assert!(rt; first.is_ok());
+    let second = reader.feed(rt.alloc(), b"d=\"mw".as_slice());
+    assert!(rt; second.is_ok());
     let end = HtmlRefusal::Html {
         place: 21,
         why: HtmlWhy::End,
     };
-    assert!(rt; matches!(cut.finish(), Err(refusal) if refusal == end));
-    let mut crossing = Reader::new(rt.alloc());
-    let fed = feed_each(
-        rt.alloc(),
-        &mut crossing,
-        "<html><body><p><b><i></b></i></p></body></html>",
-    );
-    let end_tag = HtmlRefusal::Html {
-        place: 23,
-        why: HtmlWhy::EndTag,
-    };
-    assert!(rt; fed == Err(end_tag));
+    assert!(rt; matches!(reader.finish(), Err(refusal) if refusal == end));
     Ok(())
 }
