@@ -103,25 +103,44 @@ fn literal<'a>(alloc: Global, text: &str) -> Result<Node<'a>, NoMemory> {
     Ok(island(alloc, DataMw::Parts(parts)))
 }
 
+/// Whether pages of these headings show the same.
+fn show_the_same(alloc: Global, one: &str, other: &str) -> Result<bool, NoMemory> {
+    let one = page(alloc, one)?;
+    let other = page(alloc, other)?;
+    plain_eq(alloc, &one, &other)
+}
+
+/// Whether a page shows the same as one without its separator and with another number.
+fn shows_no_separator(alloc: Global) -> Result<bool, NoMemory> {
+    let body = page(alloc, "A")?;
+    let plain = plain_page(alloc)?;
+    plain_eq(alloc, &body, &plain)
+}
+
 #[test]
 fn compares_what_is_shown(rt: HostRuntime) -> Result<(), Fail> {
-    let alloc = rt.alloc();
-    let body = page(alloc, "A")?;
-    let other = page(alloc, "B")?;
-    let plain = plain_page(alloc)?;
-    assert_eq!(rt; plain_eq(alloc, &body, &body)?, true);
-    assert_eq!(rt; plain_eq(alloc, &body, &other)?, false);
-    assert_eq!(rt; plain_eq(alloc, &body, &plain)?, true);
+    assert_eq!(rt; show_the_same(rt.alloc(), "A", "A")?, true);
+    assert_eq!(rt; show_the_same(rt.alloc(), "A", "B")?, false);
+    assert_eq!(rt; shows_no_separator(rt.alloc())?, true);
     Ok(())
+}
+
+fn lead_to_the_same(alloc: Global, one: &str, other: &str) -> Result<bool, NoMemory> {
+    let one = link(alloc, one)?;
+    let other = link(alloc, other)?;
+    plain_eq(alloc, &one, &other)
+}
+
+fn have_the_same_data(alloc: Global, name: &str, text: &str) -> Result<bool, NoMemory> {
+    let one = extension(alloc, name)?;
+    let other = literal(alloc, text)?;
+    plain_eq(alloc, &one, &other)
 }
 
 #[test]
 fn compares_attributes_and_extensions(rt: HostRuntime) -> Result<(), Fail> {
-    let alloc = rt.alloc();
-    let links = (link(alloc, "./A")?, link(alloc, "./B")?);
-    assert_eq!(rt; plain_eq(alloc, &links.0, &links.1)?, false);
-    let islands = (extension(alloc, "ref")?, literal(alloc, "x")?);
-    assert_eq!(rt; plain_eq(alloc, &islands.0, &islands.0)?, true);
-    assert_eq!(rt; plain_eq(alloc, &islands.0, &islands.1)?, false);
+    assert_eq!(rt; lead_to_the_same(rt.alloc(), "./A", "./A")?, true);
+    assert_eq!(rt; lead_to_the_same(rt.alloc(), "./A", "./B")?, false);
+    assert_eq!(rt; have_the_same_data(rt.alloc(), "ref", "x")?, false);
     Ok(())
 }
