@@ -1,0 +1,14 @@
+use Rattle.wt_html_elements.proofs.Feeding.{failed_fed, failed_right, front_clause, refused_clause}
+use Rattle.wt_html_elements.proofs.reader.Reader.feed.Goals as goal
+
+pub returns-in-Some-clause-fed : goal.returns-in-Some-clause-fed
+returns-in-Some-clause-fed c = λ bytes h. failed_fed c.args.self.now.failed c.in-Some.refusal c.args.self.now bytes c.args.piece.now c.in-Some.is h
+
+pub returns-in-Some-clause-refused : goal.returns-in-Some-clause-refused
+returns-in-Some-clause-refused c = λ bytes h. failed_right c.args.self.now.failed c.in-Some.refusal c.args.self.now bytes c.in-Some.is h
+
+pub returns-in-None-clause-front : goal.returns-in-None-clause-front
+returns-in-None-clause-front c = front_clause c.feed_all.new.self c.feed_all.result c.feed_all.ensures.answer
+
+pub returns-in-None-clause-refused : goal.returns-in-None-clause-refused
+returns-in-None-clause-refused c = refused_clause c.feed_all.new.self c.feed_all.result c.feed_all.ensures.answer

@@ -1,5 +1,0 @@
-use Rattle.wt_html_in.proofs.Contents.{child_push}
-use Rattle.wt_html_in.proofs.content.OpenElement.with_child.Goals as goal
-
-pub returns : goal.returns
-returns c = child_push _ _ c.in_ok-contents.contents.items c.push.new.self.items c.args.child _ _ _ c.in_ok-push.ensures.items c.in_ok-contents.ensures c.new.ensures.items
