@@ -1,0 +1,150 @@
+-- Which trees of elements are pages, and what page each is. The elements are counted from 1 in
+-- document order; the first that doesn't fit is told, with the first reason for it.
+use Rattle.std.specs.Prelude.{ℕ, suc, ◌+◌, ◌==◌, ◌&&◌, ◌||◌, Bool, true, not, Option, Some, None, Result, Ok, Err, List, [], ◌∷◌, codes, if◌then◌else◌}
+use Rattle.std.specs.Str.{bytes_eq}
+use Rattle.wt_tree.specs.declared.kind.Kind.{Kind}
+use Rattle.wt_tree.specs.declared.kind.Kind.TheVariants as kind
+use Rattle.wt_tree.specs.declared.kind.Mark.{Mark}
+use Rattle.wt_tree.specs.declared.kind.Mark.TheVariants as mark
+use Rattle.wt_tree.specs.Tree.{Label, Tree, tree, Trees, none as no_trees, more as one_more}
+use Rattle.wt_datamw.specs.declared.sync.Sync.{Sync}
+use Rattle.wt_html_grammar.specs.Markup.{Pair, Markup, Markups, text, node, empty, more}
+use Rattle.wt_fitting.specs.declared.why.FitWhy.{FitWhy}
+use Rattle.wt_fitting.specs.declared.why.FitWhy.TheVariants as why
+use Rattle.wt_fitting.specs.Attributes.{has, is_typed, id_of, mark_of}
+use Rattle.wt_fitting.specs.Rows.{row, may_hold, holds_text, data_of, id_for}
+
+-- ---- labels
+
+-- a text of the page, or a separator: what is read has no ranges for them
+abbrev pub leaf_label : Kind → List ℕ → List ℕ → Label
+leaf_label k own shown = record { kind = k; id = 0; ranges = None; opening = []; closing = []; own = own; shown = shown; attrs = []; mark = mark.Nothing; mw = None }
+
+abbrev pub text_leaf : List ℕ → Tree
+text_leaf bs = tree (leaf_label kind.Text bs bs) no_trees
+
+abbrev pub sep_leaf : List ℕ → Tree
+sep_leaf bs = tree (leaf_label kind.Sep bs []) no_trees
+
+abbrev pub leaf_in : Kind → List ℕ → Tree
+leaf_in parent bs = if holds_text parent then text_leaf bs else sep_leaf bs
+
+abbrev pub source_of : Option (List ℕ) → List ℕ
+source_of None = []
+source_of (Some bs) = bs
+
+-- a node with what `data-parsoid` says of it, if it is there
+abbrev pub label_with : Kind → ℕ → Mark → Option Sync → Label
+label_with k id m None = record { kind = k; id = id; ranges = None; opening = []; closing = []; own = []; shown = []; attrs = []; mark = m; mw = None }
+label_with k id m (Some s) = record { kind = k; id = id; ranges = Some s.dsr; opening = s.opening; closing = s.closing; own = source_of s.src; shown = []; attrs = []; mark = m; mw = None }
+
+abbrev pub label_for : Kind → List Pair → Option Sync → Label
+label_for k ps s = label_with k (id_for k ps) (mark_of ps) s
+
+-- ---- counting
+
+-- how many elements
+abbrev mutual
+  pub elements : Markup → ℕ
+  elements (text bs) = 0
+  elements (node name ps c) = suc (elements_of_all c)
+
+  pub elements_of_all : Markups → ℕ
+  elements_of_all empty = 0
+  elements_of_all (more t ts) = elements t + elements_of_all ts
+
+-- ---- texts
+
+abbrev pub is_blank : List ℕ → Bool
+is_blank [] = true
+is_blank (b ∷ bs) = (b == 32 || (b == 9 || b == 10)) && is_blank bs
+
+-- all texts directly there are spaces, tabs and line breaks
+abbrev pub are_blank : Markups → Bool
+are_blank empty = true
+are_blank (more (text bs) ts) = is_blank bs && are_blank ts
+are_blank (more (node name ps c) ts) = are_blank ts
+
+-- ---- fitting
+
+-- the number of an element that doesn't fit, and why
+abbrev pub Misfit : Type 0
+Misfit = ℕ × FitWhy
+
+abbrev pub onto : Tree → Result Trees Misfit → Result Trees Misfit
+onto t (Ok ts) = Ok (one_more t ts)
+onto t (Err e) = Err e
+
+-- a tree before others; its misfit comes first
+abbrev pub onto_told : Result Tree Misfit → Result Trees Misfit → Result Trees Misfit
+onto_told (Ok t) r = onto t r
+onto_told (Err e) r = Err e
+
+abbrev pub with_children : Label → Result Trees Misfit → Result Tree Misfit
+with_children l (Ok ts) = Ok (tree l ts)
+with_children l (Err e) = Err e
+
+-- whether the texts directly in an element of this kind may stand there
+abbrev pub text_fits : Kind → Markups → Bool
+text_fits k c = holds_text k || are_blank c
+
+-- element n is of this kind, with this data and this inside
+abbrev pub fit_told : ℕ → Kind → List Pair → Option (Option Sync) → Bool → Result Trees Misfit → Result Tree Misfit
+fit_told n k ps None fits inside = Err (n, why.Data)
+fit_told n k ps (Some s) fits inside = if fits then with_children (label_for k ps s) inside else Err (n, why.Text)
+
+abbrev pub fit_as : ℕ → Kind → List Pair → Bool → Result Trees Misfit → Result Tree Misfit
+fit_as n k ps fits inside = fit_told n k ps (data_of k ps) fits inside
+
+-- element n in a parent of that kind, by its row
+abbrev pub fit_row : ℕ → Kind → Option Kind → List Pair → (Kind → Bool) → (Kind → Result Trees Misfit) → Result Tree Misfit
+fit_row n parent None ps fits inside = Err (n, why.Element)
+fit_row n parent (Some k) ps fits inside = if may_hold parent k then fit_as n k ps (fits k) (inside k) else Err (n, why.Place)
+
+-- What stands in a parent of that kind: its first element, if it has one, is number n.
+abbrev mutual
+  pub fit_node : ℕ → Kind → Markup → Result Tree Misfit
+  fit_node n parent (text bs) = Ok (leaf_in parent bs)
+  fit_node n parent (node name ps c) = fit_row n parent (row name ps) ps (λ k. text_fits k c) (λ k. fit_nodes (suc n) k c)
+
+  pub fit_nodes : ℕ → Kind → Markups → Result Trees Misfit
+  fit_nodes n parent empty = Ok no_trees
+  fit_nodes n parent (more t ts) = onto_told (fit_node n parent t) (fit_nodes (n + elements t) parent ts)
+
+-- ---- the frame
+
+-- the elements alone: text beside head and body is ignored
+abbrev pub elements_in : Markups → Markups
+elements_in empty = empty
+elements_in (more (text bs) ts) = elements_in ts
+elements_in (more (node name ps c) ts) = more (node name ps c) (elements_in ts)
+
+-- attributes that the root may not have
+abbrev pub is_marked_root : List Pair → Bool
+is_marked_root ps =
+    has (codes "about") ps || (has (codes "data-mw") ps || (has (codes "data-parsoid") ps || (has (codes "data-wt-edit") ps || (is_typed ps || not (id_of ps == 0)))))
+
+-- the body of a document: the number of its element, its attributes and its contents
+pub record Found : Type 0 where
+  pub number : ℕ
+  pub attributes : List Pair
+  pub contents : Markups
+
+-- a body, and maybe a head before it, whose contents are ignored
+abbrev pub body_in : Markups → Option Found
+body_in (more (node name ps c) empty) = if bytes_eq name (codes "body") then Some (record { number = 2; attributes = ps; contents = c }) else None
+body_in (more (node head hs hc) (more (node name ps c) empty)) =
+    if bytes_eq head (codes "head") && bytes_eq name (codes "body") then Some (record { number = 3 + elements_of_all hc; attributes = ps; contents = c }) else None
+body_in ts = None
+
+abbrev pub body_of : Markup → Option Found
+body_of (text bs) = None
+body_of (node name ps c) = if bytes_eq name (codes "html") && not (is_marked_root ps) then body_in (elements_in c) else None
+
+abbrev pub fit_body : Option Found → Result Tree Misfit
+fit_body None = Err (1, why.Root)
+fit_body (Some f) = fit_as f.number kind.Body f.attributes (text_fits kind.Body f.contents) (fit_nodes (suc f.number) kind.Body f.contents)
+
+-- the page that a tree of elements is, or its first misfit
+abbrev pub fit : Markup → Result Tree Misfit
+fit m = fit_body (body_of m)

@@ -1,0 +1,5 @@
+pub mod Attributes
+pub mod Rows
+pub mod Fit
+pub mod Unsourced
+pub mod Read

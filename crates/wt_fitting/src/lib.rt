@@ -1,0 +1,8 @@
+//! Definitions of fitting: which trees of elements are pages, what tree each page's HTML stands for,
+//! and the first element that has no source. They lie in `specs/`; the code is the enum that they
+//! speak of, and the laws that join them to the grammar of HTML.
+#![tactic(auto)]
+
+mod why;
+
+pub use why::FitWhy;
