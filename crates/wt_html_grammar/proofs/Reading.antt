@@ -38,11 +38,11 @@ abbrev mutual
   inner_items (sign p items) rest = spell_piece p ++ inner_items items rest
   inner_items (child e items) rest = 60 ∷ inner e (inner_items items rest)
 
-pieces_is : (ps : List Piece) (rest : List ℕ) → spell_pieces ps ++ rest ≡ inner_pieces ps rest
+pub pieces_is : (ps : List Piece) (rest : List ℕ) → spell_pieces ps ++ rest ≡ inner_pieces ps rest
 pieces_is [] rest = refl
 pieces_is (p ∷ ps) rest = append_assoc (spell_piece p) (spell_pieces ps) rest ∙ ap (λ x. spell_piece p ++ x) (pieces_is ps rest)
 
-attributes_is : (attributes : List Attribute) (rest : List ℕ) → spell_attributes attributes ++ rest ≡ inner_attributes attributes rest
+pub attributes_is : (attributes : List Attribute) (rest : List ℕ) → spell_attributes attributes ++ rest ≡ inner_attributes attributes rest
 attributes_is [] rest = refl
 attributes_is (a ∷ others) rest =
     let one : spell_attribute a ++ inner_attributes others rest ≡ inner_attributes (a ∷ others) rest =
@@ -58,7 +58,7 @@ mutual
   spell_is (void n attributes g end) rest =
       simp append_assoc (ap (λ x. 60 ∷ (n ++ x)) (attributes_is attributes _))
 
-  items_is : (items : Items) (rest : List ℕ) → spell_items items ++ rest ≡ inner_items items rest
+  pub items_is : (items : Items) (rest : List ℕ) → spell_items items ++ rest ≡ inner_items items rest
   items_is none rest = refl
   items_is (sign p items) rest = append_assoc (spell_piece p) (spell_items items) rest ∙ ap (λ x. spell_piece p ++ x) (items_is items rest)
   items_is (child e items) rest =
@@ -125,7 +125,7 @@ named_run Apos s rest = refl
 named_run Nbsp s rest = refl
 
 -- characters of several bytes
-follow_run : (bs : List ℕ) (low high n : ℕ) (s : State) (rest : List ℕ) → IsFollow low high n bs → run (escaping s (wide low high n)) (bs ++ rest) ≡ run s rest
+pub follow_run : (bs : List ℕ) (low high n : ℕ) (s : State) (rest : List ℕ) → IsFollow low high n bs → run (escaping s (wide low high n)) (bs ++ rest) ≡ run s rest
 follow_run [] low high n s rest h = absurd h
 follow_run (b ∷ bs) low high zero s rest h =
     run_step (escaping s (wide low high zero)) s b (bs ++ rest) (ap (turned s (wide low high zero)) (if_true (between low high b) _ _ h.0))
@@ -168,7 +168,7 @@ char_run p s t c rest sc pc false e =
     ∙ ap (λ o. onward (λ u. run u (r.1 ++ rest)) (mended r.0 o)) (t.2 r.0 high)
     ∙ follows_run r.0 (follow r.0) r.1 s rest r.3
 
-piece_run : (p : ℕ → Bool) (s : State) → Takes p s → (x : Piece) (rest : List ℕ) → IsPiece p x → run s (spell_piece x ++ rest) ≡ run s rest
+pub piece_run : (p : ℕ → Bool) (s : State) → Takes p s → (x : Piece) (rest : List ℕ) → IsPiece p x → run s (spell_piece x ++ rest) ≡ run s rest
 piece_run p s t (plain c) rest h = char_run p s t c rest h.0 h.1 (nat_lt c 128) refl
 piece_run p s t (named n) rest h = run_step s (escaping s ampersand) 38 ((letters_of n ++ 59 ∷ []) ++ rest) t.1 ∙ named_run n s rest
 piece_run p s t (number r ds) rest h =
@@ -176,7 +176,7 @@ piece_run p s t (number r ds) rest h =
     ∙ ap (run (escaping s sharp)) (append_assoc (sign_of r) (ds ++ 59 ∷ []) rest ∙ ap (λ x. sign_of r ++ x) (append_assoc ds (59 ∷ []) rest))
     ∙ number_run r ds s rest h.0 h.1 h.2 h.3
 
-pieces_run : (p : ℕ → Bool) (s : State) → Takes p s → (ps : List Piece) (rest : List ℕ) → ArePieces p ps → run s (inner_pieces ps rest) ≡ run s rest
+pub pieces_run : (p : ℕ → Bool) (s : State) → Takes p s → (ps : List Piece) (rest : List ℕ) → ArePieces p ps → run s (inner_pieces ps rest) ≡ run s rest
 pieces_run p s t [] rest h = refl
 pieces_run p s t (x ∷ xs) rest h = piece_run p s t x (inner_pieces xs rest) h.0 ∙ pieces_run p s t xs rest h.1
 
@@ -244,15 +244,15 @@ spaces_run : (cs : List ℕ) (t : Tag) (rest : List ℕ) → IsGap cs → run (g
 spaces_run [] t rest h = refl
 spaces_run (c ∷ cs) t rest h = space_step t (gap t) (opens_gap t) c (cs ++ rest) h.0 ∙ spaces_run cs t rest h.1
 
-wide_run : (g : List ℕ) (t : Tag) (s : State) → Opens t s → (rest : List ℕ) → IsWideGap g → run s (g ++ rest) ≡ run (gap t) rest
+pub wide_run : (g : List ℕ) (t : Tag) (s : State) → Opens t s → (rest : List ℕ) → IsWideGap g → run s (g ++ rest) ≡ run (gap t) rest
 wide_run [] t s o rest h = absurd h
 wide_run (c ∷ cs) t s o rest h = space_step t s o c (cs ++ rest) h.0 ∙ spaces_run cs t rest h.1
 
-open_run : (g : List ℕ) (t : Tag) (s : State) → Opens t s → (rest : List ℕ) → IsGap g → run s (g ++ (62 ∷ rest)) ≡ run (inside (opened t)) rest
+pub open_run : (g : List ℕ) (t : Tag) (s : State) → Opens t s → (rest : List ℕ) → IsGap g → run s (g ++ (62 ∷ rest)) ≡ run (inside (opened t)) rest
 open_run [] t s o rest h = run_step s (inside (opened t)) 62 rest (o 62 refl)
 open_run (c ∷ cs) t s o rest h = space_step t s o c (cs ++ (62 ∷ rest)) h.0 ∙ spaces_run cs t (62 ∷ rest) h.1
 
-attribute_start : (n : List ℕ) (t : Tag) (rest : List ℕ) → IsAttributeName n → run (gap t) (n ++ rest) ≡ run (attribute t n) rest
+pub attribute_start : (n : List ℕ) (t : Tag) (rest : List ℕ) → IsAttributeName n → run (gap t) (n ++ rest) ≡ run (attribute t n) rest
 attribute_start [] t rest h = absurd h
 attribute_start (c ∷ cs) t rest h =
     run_step (gap t) (attribute t (c ∷ [])) c (cs ++ rest) (if_true (is_attribute_byte c) _ _ h.0) ∙ attribute_run cs t (c ∷ []) rest h.1
@@ -268,7 +268,7 @@ named_run_on : (cs : List ℕ) (t : Tag) (rest : List ℕ) → IsGap cs → run 
 named_run_on [] t rest h = refl
 named_run_on (c ∷ cs) t rest h = run_step (named_so t) (named_so t) c (cs ++ (61 ∷ rest)) (if_true (is_space c) _ _ h.0) ∙ named_run_on cs t rest h.1
 
-left_run : (cs : List ℕ) (t : Tag) (a : List ℕ) → is_among a t.seen ≡ false → (rest : List ℕ) → IsGap cs → run (attribute t a) (cs ++ (61 ∷ rest)) ≡ run (equals (with_seen t a)) rest
+pub left_run : (cs : List ℕ) (t : Tag) (a : List ℕ) → is_among a t.seen ≡ false → (rest : List ℕ) → IsGap cs → run (attribute t a) (cs ++ (61 ∷ rest)) ≡ run (equals (with_seen t a)) rest
 left_run [] t a n rest h = run_step (attribute t a) (equals (with_seen t a)) 61 rest (if_false (is_among a t.seen) _ _ n)
 left_run (c ∷ cs) t a n rest h =
     run_step (attribute t a) (named_so (with_seen t a)) c (cs ++ (61 ∷ rest))
@@ -278,7 +278,7 @@ left_run (c ∷ cs) t a n rest h =
 pub space_not_quote : (b : ℕ) → is_space b ≡ true → is_quote b ≡ false
 space_not_quote b e = grind (arith, nat_tests)
 
-right_run : (cs : List ℕ) (t : Tag) (rest : List ℕ) → IsGap cs → run (equals t) (cs ++ rest) ≡ run (equals t) rest
+pub right_run : (cs : List ℕ) (t : Tag) (rest : List ℕ) → IsGap cs → run (equals t) (cs ++ rest) ≡ run (equals t) rest
 right_run [] t rest h = refl
 right_run (c ∷ cs) t rest h =
     run_step (equals t) (equals t) c (cs ++ rest) (if_false (is_quote c) _ _ (space_not_quote c h.0) ∙ if_true (is_space c) _ _ h.0) ∙ right_run cs t rest h.1
@@ -321,7 +321,7 @@ names_less ns lt = λ b e. if_true (is_lower b) _ _ e ∙ if_true (nat_lt (lengt
 pub names_first : Names [] first
 names_first = λ b e. if_true (is_lower b) _ _ e
 
-start_run : (n : List ℕ) (ns : List (List ℕ)) (s : State) → Names ns s → (rest : List ℕ) → IsName n → run s (n ++ rest) ≡ run (naming ns n) rest
+pub start_run : (n : List ℕ) (ns : List (List ℕ)) (s : State) → Names ns s → (rest : List ℕ) → IsName n → run s (n ++ rest) ≡ run (naming ns n) rest
 start_run [] ns s o rest h = absurd h
 start_run (c ∷ cs) ns s o rest h =
     run_step s (naming ns (c ∷ [])) c (cs ++ rest) (o c h.0) ∙ name_run cs ns (c ∷ []) rest h.1
@@ -346,7 +346,7 @@ mutual
       ∙ attributes_run attributes (record { outer = ns; name = n; seen = [] }) (naming ns n) (opens_naming ns n) _ h.2 _
       (λ u r o e f. slash_run g u r o rest h.3 (ap is_void e ∙ h.4) ∙ ap (λ m. run (inside m) rest) f)
 
-  items_run : (items : Items) (n : List ℕ) (ns : List (List ℕ)) (rest : List ℕ) → AreItems (suc (length ns)) items
+  pub items_run : (items : Items) (n : List ℕ) (ns : List (List ℕ)) (rest : List ℕ) → AreItems (suc (length ns)) items
       → run (inside (n ∷ ns)) (inner_items items rest) ≡ run (inside (n ∷ ns)) rest
   items_run none n ns rest h = refl
   items_run (sign p items) n ns rest h =
@@ -407,7 +407,7 @@ doctype_run (a ∷ b ∷ bs) rest e =
     ∙ word_run bs (codes "doctype html>") rest (others_eq _ _ _ _ f)
 
 -- the head and the < of the root
-head_run : (lead d g : List ℕ) (rest : List ℕ) → IsGap lead → MayBeDoctype d → IsGap g
+pub head_run : (lead d g : List ℕ) (rest : List ℕ) → IsGap lead → MayBeDoctype d → IsGap g
     → (s : State) × Names [] s × (run start ((lead ++ (d ++ g)) ++ (60 ∷ rest)) ≡ run s rest)
 head_run lead [] g rest hl hd hg =
     (first, names_first, ap (run start) (append_assoc lead g (60 ∷ rest)) ∙ lead_run lead (g ++ (60 ∷ rest)) hl ∙ lead_run g (60 ∷ rest) hg)
