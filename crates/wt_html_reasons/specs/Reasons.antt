@@ -1,0 +1,67 @@
+-- The reasons for which an input is refused, each by what stands before the place and behind it.
+use Rattle.std.specs.Prelude.{◌≡◌, ℕ, ◌==◌, ◌⊎◌, Bool, true, not, nat_lt, List, [], ◌∷◌, ◌++◌, length, take, drop}
+use Rattle.std.specs.Str.{IsUtf8}
+use Rattle.wt_html_grammar.specs.declared.why.HtmlWhy.{HtmlWhy}
+use Rattle.wt_html_grammar.specs.declared.why.HtmlWhy.TheVariants as why
+use Rattle.wt_html_grammar.specs.Signs.{is_lower, is_name_byte, is_attribute_byte, is_among, Each, IsAttributeName, IsWideGap}
+use Rattle.wt_html_grammar.specs.Grammar.{Attribute}
+use Rattle.wt_html_reasons.specs.Written.{Level, Within, InContents, names_of, InStartTag, InValue}
+
+-- the byte at the place passes the test
+abbrev pub Next : (ℕ → Bool) → List ℕ → Type 0
+Next p [] = ⊥
+Next p (b ∷ behind) = p b ≡ true
+
+-- no text in UTF-8 begins with the bytes up to the place and the byte there
+abbrev pub BeginsNoText : List ℕ → List ℕ → Type 0
+BeginsNoText before [] = ⊥
+BeginsNoText before (b ∷ behind) = (more : List ℕ) → IsUtf8 (before ++ b ∷ more) → ⊥
+
+-- 200 elements are open, and behind `<` the name of one more begins
+abbrev pub IsTooDeep : List ℕ → List ℕ → Type 0
+IsTooDeep before behind =
+    (levels : List Level) × (outside : List ℕ) × Within levels outside × (length levels ≡ 200) × (before ≡ outside ++ 60 ∷ []) × Next is_lower behind
+
+-- Behind `</`, in the name of the element that is open; or behind the whole name, where a byte
+-- stands with which a name goes on.
+abbrev pub InEndTagName : List ℕ → List ℕ → Type 0
+InEndTagName before behind =
+    (l : Level) × (outer : List Level) × (outside got left : List ℕ) × Within (l ∷ outer) outside × (got ++ left ≡ l.name)
+    × (before ≡ outside ++ (60 ∷ 47 ∷ got)) × (left ≡ [] → Next is_name_byte behind)
+
+-- in contents or in a value, behind `&` and before the next `;`
+abbrev pub InEscape : List ℕ → Type 0
+InEscape before =
+    (outside got : List ℕ) × (InContents outside ⊎ InValue outside) × (before ≡ outside ++ (38 ∷ got)) × Each (λ b. not (b == 59)) got
+
+-- directly behind the name of an attribute that came before in the element
+abbrev pub IsRepeated : List ℕ → List ℕ → Type 0
+IsRepeated before behind =
+    (attributes : List Attribute) × (tag gap name : List ℕ) × InStartTag attributes tag × IsWideGap gap × IsAttributeName name
+    × (is_among name (names_of attributes) ≡ true) × (before ≡ tag ++ (gap ++ name)) × (Next is_attribute_byte behind → ⊥)
+
+abbrev pub HoldsBetween : HtmlWhy → List ℕ → List ℕ → Type 0
+HoldsBetween why.NotUtf8 before behind = BeginsNoText before behind
+HoldsBetween why.End before behind = behind ≡ []
+HoldsBetween why.TooDeep before behind = IsTooDeep before behind
+HoldsBetween why.EndTag before behind = InEndTagName before behind
+HoldsBetween why.Escape before behind = InEscape before
+HoldsBetween why.Repeated before behind = IsRepeated before behind
+HoldsBetween why.Syntax before behind = Unit {0}
+
+-- the reason holds at the place
+abbrev pub Holds : HtmlWhy → List ℕ → ℕ → Type 0
+Holds w bytes place = HoldsBetween w (take place bytes) (drop place bytes)
+
+-- the order of the reasons
+abbrev pub order : HtmlWhy → ℕ
+order why.NotUtf8 = 0
+order why.End = 1
+order why.TooDeep = 2
+order why.EndTag = 3
+order why.Escape = 4
+order why.Repeated = 5
+order why.Syntax = 6
+
+abbrev pub comes_before : HtmlWhy → HtmlWhy → Bool
+comes_before v w = nat_lt (order v) (order w)
