@@ -147,7 +147,7 @@ IsBegunEscape b_sharp = Unit {0}
 IsBegunEscape (b_digits r ds) = Each (is_digit_of r) ds × (is_begun r (length ds) (number_from r 0 ds) ≡ true)
 
 -- a piece may stand behind it
-abbrev TakesPiece : Partial → Type 0
+abbrev pub TakesPiece : Partial → Type 0
 TakesPiece (p_text l ls) = Unit {0}
 TakesPiece (p_value o g a lg rg q ps) = Unit {0}
 TakesPiece p = ⊥
@@ -513,11 +513,11 @@ end_slash (l ∷ ls) b h e = (
 )
 
 -- the bounds of the next byte are in order
-abbrev InOrder : Option Follow → Type 0
+abbrev pub InOrder : Option Follow → Type 0
 InOrder None = Unit {0}
 InOrder (Some f) = f.low ≤ f.high
 
-follow_order : (b : ℕ) → InOrder (follow b)
+pub follow_order : (b : ℕ) → InOrder (follow b)
 follow_order b =
     if_case InOrder (between 194 223 b) _ _ (λ _. lit≤ tt) (λ _.
     if_case InOrder (b == 224) _ _ (λ _. lit≤ tt) (λ _.

@@ -22,34 +22,34 @@ pub data Ahead : Type 0 where
   a_word : List ℕ → List ℕ → List ℕ → Ahead  -- the lead, what of the word stands there, and what is left
   a_gap : List ℕ → List ℕ → List ℕ → Ahead
 
-abbrev state_of : Ahead → State
+abbrev pub state_of : Ahead → State
 state_of (a_lead l) = start
 state_of (a_first l) = first
 state_of (a_word l got left) = doctype left
 state_of (a_gap l d g) = doctype []
 
-abbrev bytes_of : Ahead → List ℕ
+abbrev pub bytes_of : Ahead → List ℕ
 bytes_of (a_lead l) = l
 bytes_of (a_first l) = l ++ 60 ∷ []
 bytes_of (a_word l got left) = l ++ got
 bytes_of (a_gap l d g) = l ++ (d ++ g)
 
-abbrev IsWord : List ℕ → List ℕ → Type 0
+abbrev pub IsWord : List ℕ → List ℕ → Type 0
 IsWord got left = (map to_ascii_lowercase got ++ left ≡ codes "<!doctype html>") × IsSmall left
 
-abbrev IsAhead : Ahead → Type 0
+abbrev pub IsAhead : Ahead → Type 0
 IsAhead (a_lead l) = IsGap l
 IsAhead (a_first l) = IsGap l
 IsAhead (a_word l got left) = IsGap l × IsWord got left
 IsAhead (a_gap l d g) = IsHead (record { lead = l; doctype = d; gap = g })
 
-abbrev InHead : List ℕ → State → Type 0
+abbrev pub InHead : List ℕ → State → Type 0
 InHead w s = (a : Ahead) × IsAhead a × (state_of a ≡ s) × (bytes_of a ≡ w)
 
-abbrev Behind : List ℕ → State → Type 0
+abbrev pub Behind : List ℕ → State → Type 0
 Behind w s = (h : Head) × IsHead h × (p : Partial) × Sound p × (seen p ≡ s) × (spell_head h ++ written p ≡ w)
 
-abbrev Comes : List ℕ → Result State HtmlWhy → Type 0
+abbrev pub Comes : List ℕ → Result State HtmlWhy → Type 0
 Comes w (Err why) = Unit {0}
 Comes w (Ok s) = InHead w s ⊎ Behind w s
 
