@@ -198,7 +198,7 @@ wide_gap : (g : List ℕ) → IsWideGap g → IsGap g
 wide_gap [] h = absurd h
 wide_gap (c ∷ cs) h = h
 
-length_names : (ls : List Level) → length (names ls) ≡ length ls
+pub length_names : (ls : List Level) → length (names ls) ≡ length ls
 length_names [] = refl
 length_names (l ∷ ls) = ap suc (length_names ls)
 

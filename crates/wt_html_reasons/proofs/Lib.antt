@@ -1,1 +1,4 @@
 pub mod Characters
+pub mod Texts
+pub mod Opened
+pub mod Explained
