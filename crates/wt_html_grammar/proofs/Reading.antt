@@ -284,7 +284,7 @@ right_run (c ∷ cs) t rest h =
     run_step (equals t) (equals t) c (cs ++ rest) (if_false (is_quote c) _ _ (space_not_quote c h.0) ∙ if_true (is_space c) _ _ h.0) ∙ right_run cs t rest h.1
 
 -- behind the attributes it goes on as k says
-attributes_run : (attributes : List Attribute) (t : Tag) (s : State) → Opens t s → (end : List ℕ) → AreAttributes t.seen attributes
+pub attributes_run : (attributes : List Attribute) (t : Tag) (s : State) → Opens t s → (end : List ℕ) → AreAttributes t.seen attributes
     → (o : Result State HtmlWhy) → ((u : Tag) (r : State) → Opens u r → u.name ≡ t.name → u.outer ≡ t.outer → run r end ≡ o)
     → run s (inner_attributes attributes end) ≡ o
 attributes_run [] t s o end h r k = k t s o refl refl

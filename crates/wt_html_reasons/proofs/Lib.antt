@@ -2,3 +2,4 @@ pub mod Characters
 pub mod Texts
 pub mod Opened
 pub mod Explained
+pub mod States
