@@ -3,3 +3,4 @@ pub mod Texts
 pub mod Opened
 pub mod Explained
 pub mod States
+pub mod First
