@@ -3,6 +3,7 @@ use Rattle.std.proofs.Common.{◌≡◌, ℕ, zero, suc, ◌+◌, ◌<◌, ◌�
 use Rattle.std.specs.Prelude.{◌==◌, ◌⊎◌, if◌then◌else◌}
 use Rattle.std.specs.Str.{IsUtf8}
 use Rattle.std.proofs.lemmas.List.{append-nil, take-append-drop, length-drop}
+use Rattle.std.proofs.lemmas.Bool.{both_ways}
 use Rattle.std.proofs.lemmas.Bool.Decides.{nat_tests}
 use Rattle.wt_html_grammar.specs.declared.why.HtmlWhy.{HtmlWhy}
 use Rattle.wt_html_grammar.specs.declared.why.HtmlWhy.TheVariants as why
@@ -14,18 +15,21 @@ use Rattle.wt_html_grammar.proofs.Steps.{if_case}
 use Rattle.wt_html_grammar.proofs.Whole.{reached, front_of}
 use Rattle.wt_html_grammar.proofs.Places.{run_push, run_err, no_front}
 use Rattle.wt_html_grammar.proofs.Reading.{first_eq}
+use Rattle.wt_html_grammar.proofs.Spaces.{one_place}
 use Rattle.wt_html_reasons.specs.Written.{Level, Within, names_of}
-use Rattle.wt_html_reasons.specs.Reasons.{Next, BeginsNoText, IsTooDeep, InEndTagName, InEscape, IsRepeated, HoldsBetween, Holds, order, comes_before}
+use Rattle.wt_html_reasons.specs.Reasons.{Next, BeginsNoText, IsTooDeep, InEndTagName, InEscape, IsRepeated, HoldsBetween, Holds, rank, comes_before}
 use Rattle.wt_html_reasons.proofs.Characters.{left_of, InCharacter, characters_read}
 use Rattle.wt_html_reasons.proofs.Texts.{no_character, no_follow, goes_on}
 use Rattle.wt_html_reasons.proofs.Explained.{Explains, Told, told}
 use Rattle.wt_html_reasons.proofs.States.{names, as_many_names, deep_at, closing_at, attribute_at, IsEscape, escape_at}
 
--- The state at the place, and what it does: the input ends there, or a byte is refused.
-abbrev pub Stop : List ℕ → List ℕ → HtmlWhy → Type 0
-Stop before behind w =
-    (s : State) × (run start before ≡ Ok s)
-    × (((behind ≡ []) × (w ≡ why.End)) ⊎ ((b : ℕ) × (others : List ℕ) × (behind ≡ b ∷ others) × (mended b (step s b) ≡ Err w)))
+-- the input ends, or a byte is refused
+abbrev StopsSo : State → List ℕ → HtmlWhy → Type 0
+StopsSo s behind w = ((behind ≡ []) × (w ≡ why.End)) ⊎ ((b : ℕ) × (others : List ℕ) × (behind ≡ b ∷ others) × (mended b (step s b) ≡ Err w))
+
+-- the state at the place, and how it stops there
+abbrev Stop : List ℕ → List ℕ → HtmlWhy → Type 0
+Stop before behind w = (s : State) × (run start before ≡ Ok s) × StopsSo s behind w
 
 -- the bytes up to a place, and those behind it
 cut_next : (bytes : List ℕ) (n b : ℕ) (others : List ℕ) → drop n bytes ≡ b ∷ others → take (suc n) bytes ≡ take n bytes ++ b ∷ []
@@ -109,7 +113,7 @@ holds_byte before b others s w e (Err v) q h m =
 holds_stop : (before behind : List ℕ) (w : HtmlWhy) → Stop before behind w → HoldsBetween w before behind
 holds_stop before behind w k = by_case k.2
   where
-    by_case : ((behind ≡ []) × (w ≡ why.End)) ⊎ ((b : ℕ) × (others : List ℕ) × (behind ≡ b ∷ others) × (mended b (step k.0 b) ≡ Err w)) → HoldsBetween w before behind
+    by_case : StopsSo k.0 behind w → HoldsBetween w before behind
     by_case (inl q) = let P : HtmlWhy → Type 0 = λ v. HoldsBetween v before behind in subst P (sym q.1) q.0
     by_case (inr r) =
         let P : List ℕ → Type 0 = λ x. HoldsBetween w before x in
@@ -140,14 +144,11 @@ ok_ok s t o e f = cc
 by_state : (before behind : List ℕ) (v w : HtmlWhy) (t : State) → Stop before behind w → run start before ≡ Ok t → ((b : ℕ) (others : List ℕ) → behind ≡ b ∷ others → Gives v (step t b)) → Among v w
 by_state before behind v w t k e h = by_case k.2
   where
-    by_case : ((behind ≡ []) × (w ≡ why.End)) ⊎ ((b : ℕ) × (others : List ℕ) × (behind ≡ b ∷ others) × (mended b (step k.0 b) ≡ Err w)) → Among v w
+    by_case : StopsSo k.0 behind w → Among v w
     by_case (inl q) = inl q.1
     by_case (inr r) =
         let P : State → Type 0 = λ u. mended r.0 (step u r.0) ≡ Err w in
         inr (gives r.0 (step t r.0) v w (h r.0 r.1 r.2) (subst P (ok_ok k.0 t (run start before) k.1 e) r.3))
-
-opposite : (t : Bool) → t ≡ true → t ≡ false → ⊥
-opposite t e f = let g : true ≡ false = sym e ∙ f in cc
 
 deep_first : (before behind : List ℕ) (w : HtmlWhy) → Stop before behind w → IsTooDeep before behind → Among why.TooDeep w
 deep_first before behind w k h =
@@ -155,11 +156,11 @@ deep_first before behind w k h =
     (λ b others q.
     let lower : is_lower b ≡ true = subst (Next is_lower) q h.5 in
     let P : Result State HtmlWhy → Type 0 = Gives why.TooDeep in
-    if_case P (is_lower b) _ _ (λ _. if_case P (nat_lt (length (names h.0)) 200) _ _ (λ _. tt) (λ _. refl)) (λ f. absurd (opposite (is_lower b) lower f)))
+    if_case P (is_lower b) _ _ (λ _. if_case P (nat_lt (length (names h.0)) 200) _ _ (λ _. tt) (λ _. refl)) (λ f. absurd (both_ways (is_lower b) f lower)))
 
 closing_gives : (left : List ℕ) (ns : List (List ℕ)) (b : ℕ) → (left ≡ [] → is_name_byte b ≡ true) → Gives why.EndTag (step (closing left ns) b)
 closing_gives (c ∷ cs) ns b h = if_case (Gives why.EndTag) (b == c) _ _ (λ _. tt) (λ _. refl)
-closing_gives [] ns b h = if_case (Gives why.EndTag) (is_name_byte b) _ _ (λ _. refl) (λ f. absurd (opposite (is_name_byte b) (h refl) f))
+closing_gives [] ns b h = if_case (Gives why.EndTag) (is_name_byte b) _ _ (λ _. refl) (λ f. absurd (both_ways (is_name_byte b) f (h refl)))
 
 end_tag_first : (before behind : List ℕ) (w : HtmlWhy) → Stop before behind w → InEndTagName before behind → Among why.EndTag w
 end_tag_first before behind w k h =
@@ -192,12 +193,12 @@ repeated_first before behind w k h =
     by_state before behind why.Repeated w (attribute r.0 h.3) k (ap (run start) h.8 ∙ r.2)
     (λ b others q.
     let P : Result State HtmlWhy → Type 0 = Gives why.Repeated in
-    if_case P (is_attribute_byte b) _ _ (λ _. tt) (λ _. if_case P (is_among h.3 r.0.seen) _ _ (λ _. refl) (λ f. absurd (opposite (is_among h.3 r.0.seen) again f))))
+    if_case P (is_attribute_byte b) _ _ (λ _. tt) (λ _. if_case P (is_among h.3 r.0.seen) _ _ (λ _. refl) (λ f. absurd (both_ways (is_among h.3 r.0.seen) f again))))
 
 end_first : (before behind : List ℕ) (w : HtmlWhy) → Stop before behind w → behind ≡ [] → w ≡ why.End
 end_first before behind w k e = by_case k.2
   where
-    by_case : ((behind ≡ []) × (w ≡ why.End)) ⊎ ((b : ℕ) × (others : List ℕ) × (behind ≡ b ∷ others) × (mended b (step k.0 b) ≡ Err w)) → w ≡ why.End
+    by_case : StopsSo k.0 behind w → w ≡ why.End
     by_case (inl q) = q.1
     by_case (inr r) = let n : [] ≡ r.0 ∷ r.1 = sym e ∙ r.2 in absurd cc
 
@@ -209,7 +210,7 @@ no_begin : (b : ℕ) (o : Result State HtmlWhy) (w : HtmlWhy) → begins_charact
 no_begin b (Ok t) w f m = absurd (ok_err t w (Ok t) refl m)
 no_begin b (Err u) w f m =
     let P : Result State HtmlWhy → Type 0 = λ o. o ≡ Err w → w ≡ why.NotUtf8 in
-    if_case P (begins_character b) (Err u) (Err why.NotUtf8) (λ e _. absurd (opposite (begins_character b) e f))
+    if_case P (begins_character b) (Err u) (Err why.NotUtf8) (λ e _. absurd (both_ways (begins_character b) f e))
     (λ _ q. sym (same_fault why.NotUtf8 w (Err why.NotUtf8) refl q))
     m
 
@@ -225,13 +226,13 @@ not_utf8 s before b w h k m = by_test (begins_character b) refl
 utf8_first : (before behind : List ℕ) (w : HtmlWhy) → Stop before behind w → BeginsNoText before behind → w ≡ why.NotUtf8
 utf8_first before behind w k h = by_case k.2
   where
-    by_case : ((behind ≡ []) × (w ≡ why.End)) ⊎ ((b : ℕ) × (others : List ℕ) × (behind ≡ b ∷ others) × (mended b (step k.0 b) ≡ Err w)) → w ≡ why.NotUtf8
+    by_case : StopsSo k.0 behind w → w ≡ why.NotUtf8
     by_case (inl q) = absurd (subst (BeginsNoText before) q.0 h)
     by_case (inr r) = not_utf8 k.0 before r.0 w (characters_read before k.0 k.1) (subst (BeginsNoText before) r.2 h) r.3
 
 -- the order
 not_before : (v w u : HtmlWhy) → comes_before v u ≡ false → comes_before v w ≡ true → w ≡ u → ⊥
-not_before v w u f e q = opposite (comes_before v w) e (ap (comes_before v) q ∙ f)
+not_before v w u f e q = both_ways (comes_before v w) (ap (comes_before v) q ∙ f) e
 
 not_among : (v w : HtmlWhy) → comes_before v why.End ≡ false → comes_before v why.NotUtf8 ≡ false → comes_before v v ≡ false → comes_before v w ≡ true → Among v w → ⊥
 not_among v w f g h e (inl q) = not_before v w why.End f e q
@@ -254,19 +255,19 @@ first_stop why.TooDeep w before behind k e h = not_among why.TooDeep w refl refl
 first_stop why.EndTag w before behind k e h = not_among why.EndTag w refl refl refl e (end_tag_first before behind w k h)
 first_stop why.Escape w before behind k e h = not_among why.Escape w refl refl refl e (escape_first before behind w k h)
 first_stop why.Repeated w before behind k e h = not_among why.Repeated w refl refl refl e (repeated_first before behind w k h)
-first_stop why.Syntax w before behind k e h = opposite (comes_before why.Syntax w) e (last w)
+first_stop why.Syntax w before behind k e h = both_ways (comes_before why.Syntax w) (last w) e
 
 pub first_reason : (bytes : List ℕ) (place : ℕ) (v w : HtmlWhy) → Refused bytes place w → comes_before v w ≡ true → Holds v bytes place → ⊥
 first_reason bytes place v w r e h = first_stop v w (take place bytes) (drop place bytes) (refusal bytes place w r) e h
 
 -- each reason by its number
-of_order : ℕ → HtmlWhy
-of_order n =
+of_rank : ℕ → HtmlWhy
+of_rank n =
     if n == 0 then why.NotUtf8 else if n == 1 then why.End else if n == 2 then why.TooDeep else if n == 3 then why.EndTag
     else if n == 4 then why.Escape else if n == 5 then why.Repeated else why.Syntax
 
-of_own : (w : HtmlWhy) → of_order (order w) ≡ w
-unfolding of_order
+of_own : (w : HtmlWhy) → of_rank (rank w) ≡ w
+unfolding of_rank
 of_own why.NotUtf8 = refl
 of_own why.End = refl
 of_own why.TooDeep = refl
@@ -279,7 +280,7 @@ equal : (m n : ℕ) → nat_lt m n ≡ false → nat_lt n m ≡ false → m ≡ 
 equal m n e f = grind (arith, nat_tests)
 
 same_reason : (v w : HtmlWhy) → comes_before v w ≡ false → comes_before w v ≡ false → v ≡ w
-same_reason v w e f = sym (of_own v) ∙ ap of_order (equal (order v) (order w) e f) ∙ of_own w
+same_reason v w e f = sym (of_own v) ∙ ap of_rank (equal (rank v) (rank w) e f) ∙ of_own w
 
 pub only : (bytes : List ℕ) (place : ℕ) (w : HtmlWhy) → IsPlace bytes place → Holds w bytes place → ((v : HtmlWhy) → comes_before v w ≡ true → Holds v bytes place → ⊥) → Refused bytes place w
 only bytes place w p h n = by_tests (comes_before w u) (comes_before u w) refl refl
@@ -294,3 +295,6 @@ only bytes place w p h n = by_tests (comes_before w u) (comes_before u w) refl r
     by_tests true t e f = absurd (first_reason bytes place w (why_of_refusal bytes) refused e h)
     by_tests false true e f = absurd (n (why_of_refusal bytes) f (holds bytes place (why_of_refusal bytes) refused))
     by_tests false false e f = (p, same_reason w (why_of_refusal bytes) e f)
+
+pub one_reason : (bytes : List ℕ) (m n : ℕ) (v w : HtmlWhy) → Refused bytes m v → Refused bytes n w → (m ≡ n) × (v ≡ w)
+one_reason bytes m n v w a b = (one_place bytes m n a.0 b.0, a.1 ∙ sym b.1)

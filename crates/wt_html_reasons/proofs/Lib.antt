@@ -4,3 +4,4 @@ pub mod Opened
 pub mod Explained
 pub mod States
 pub mod First
+mod Cases

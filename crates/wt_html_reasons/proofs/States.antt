@@ -2,6 +2,7 @@
 use Rattle.std.proofs.Common.{◌≡◌, ℕ, suc, ◌+◌, ◌*◌, ◌<◌, Bool, true, false, Result, Ok, Err, List, [], ◌∷◌, ◌++◌, length, refl, sym, ap, ◌∙◌, subst, append_assoc, arith, inl, inr}
 use Rattle.std.specs.Prelude.{◌==◌, ◌⊎◌, not}
 use Rattle.std.proofs.lemmas.List.{append-nil}
+use Rattle.std.proofs.lemmas.Bool.{both_ways, not-true}
 use Rattle.wt_html_grammar.specs.declared.names.Radix.{Radix}
 use Rattle.wt_html_grammar.specs.declared.names.Radix.TheVariants.{Decimal, Hexadecimal}
 use Rattle.wt_html_grammar.specs.declared.why.HtmlWhy.{HtmlWhy}
@@ -111,7 +112,7 @@ attributes_to (a ∷ others) t s o h =
     )
 
 -- behind a start tag's attributes
-abbrev pub Behind : List Attribute → List ℕ → Type 0
+abbrev Behind : List Attribute → List ℕ → Type 0
 Behind xs bytes = (s : State) × InTag (names_of xs) s × ((rest : List ℕ) → run start (bytes ++ rest) ≡ run s rest)
 
 tag_at : (xs : List Attribute) (bytes : List ℕ) → InStartTag xs bytes → Behind xs bytes
@@ -176,14 +177,11 @@ Stays stop = Unit {0}
 Stays (on e) = IsEscape e
 Stays ended = ⊥
 
-opposite : (t : Bool) → t ≡ true → t ≡ false → ⊥
-opposite t e f = let g : true ≡ false = sym e ∙ f in cc
-
 digits_stay : (r : Radix) (k n b : ℕ) → (b == 59) ≡ false → Stays (in_digits r k n b)
 digits_stay r k n b e =
     if_case Stays (is_digit_of r b) _ _
     (λ _. if_case Stays (is_begun r (k + 1) (n * base_of r + digit_value b)) _ _ (λ _. tt) (λ _. tt))
-    (λ _. if_case Stays (b == 59) _ _ (λ f. absurd (opposite (b == 59) f e)) (λ _. tt))
+    (λ _. if_case Stays (b == 59) _ _ (λ f. absurd (both_ways (b == 59) e f)) (λ _. tt))
 
 -- without a `;` it stays in the escape
 stays : (e : Escape) (b : ℕ) → IsEscape e → (b == 59) ≡ false → Stays (in_escape e b)
@@ -192,7 +190,7 @@ stays ampersand b h e =
     (λ _. if_case Stays (b == 103) _ _ (λ _. tt) (λ _. if_case Stays (b == 113) _ _ (λ _. tt) (λ _. if_case Stays (b == 110) _ _ (λ _. tt) (λ _. tt))))))
 stays apart b h e = if_case Stays (b == 109) _ _ (λ _. tt) (λ _. if_case Stays (b == 112) _ _ (λ _. tt) (λ _. tt))
 stays (letters n (c ∷ cs)) b h e = if_case Stays (b == c) _ _ (λ _. tt) (λ _. tt)
-stays (letters n []) b h e = if_case Stays (b == 59) _ _ (λ f. absurd (opposite (b == 59) f e)) (λ _. tt)
+stays (letters n []) b h e = if_case Stays (b == 59) _ _ (λ f. absurd (both_ways (b == 59) e f)) (λ _. tt)
 stays sharp b h e = if_case Stays (b == 120) _ _ (λ _. tt) (λ _. digits_stay Decimal 0 0 b e)
 stays (digits r k n) b h e = digits_stay r k n b e
 stays (wide low high n) b h e = absurd h
@@ -212,20 +210,13 @@ turn_ends bs b s t e stop k h = ends_not bs b t (why_of e)
 turn_ends bs b s t e (on f) k h = k f h
 turn_ends bs b s t e ended k h = absurd h
 
-not_semicolon : (b : ℕ) → not (b == 59) ≡ true → (b == 59) ≡ false
-not_semicolon b e = by_test (b == 59) e
-  where
-    by_test : (t : Bool) → not t ≡ true → t ≡ false
-    by_test true e = cc
-    by_test false e = refl
-
 stays_escaped : (bs : List ℕ) (s t : State) (e : Escape) → IsEscape e → Each (λ b. not (b == 59)) bs → run (escaping s e) bs ≡ Ok t → Escaped t
 stays_escaped [] s t e h n q = (s, e, h, is_ok q)
   where
     is_ok : run (escaping s e) [] ≡ Ok t → t ≡ escaping s e
     is_ok q = cc
 stays_escaped (b ∷ bs) s t e h n q =
-    turn_ends bs b s t e (in_escape e b) (λ f i. stays_escaped bs s t f i n.1) (stays e b h (not_semicolon b n.0)) q
+    turn_ends bs b s t e (in_escape e b) (λ f i. stays_escaped bs s t f i n.1) (stays e b h (not-true (b == 59) n.0)) q
 
 -- in an escape
 pub escape_at : (before : List ℕ) (t : State) → InEscape before → run start before ≡ Ok t → (s : State) × (e : Escape) × IsEscape e × (t ≡ escaping s e)

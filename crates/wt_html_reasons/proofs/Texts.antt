@@ -3,14 +3,16 @@ use Rattle.std.proofs.Common.{◌≡◌, ℕ, zero, suc, ◌<◌, ◌≤◌, Boo
 use Rattle.std.specs.Prelude.{◌⊎◌, ◌||◌}
 use Rattle.std.specs.Str.{IsUtf8}
 use Rattle.std.proofs.lemmas.Bool.Decides.{nat_tests}
-use Rattle.std.proofs.lemmas.Bool.{and_parts}
+use Rattle.std.proofs.lemmas.Bool.{and_parts, both_ways}
 use Rattle.std.proofs.lemmas.Str.{encode_ascii, IsUtf8-append, IsUtf8-encode, IsUtf8-past_char}
 use lib.Utf8.{scalar, scalars, encode, encodes, low_scalar}
 use Rattle.wt_html_grammar.specs.Signs.{Follow, follow, between, IsFollow, Follows, is_there, begins_character}
+use Rattle.wt_html_grammar.specs.Grammar.{Well, Front}
+use Rattle.wt_html_grammar.specs.Machine.{inside}
 use Rattle.wt_html_grammar.proofs.Chars.{IsChar, of_bytes, InTable, of_char}
-use Rattle.wt_html_grammar.proofs.Reading.{first_eq, others_eq, high_le, low_lt}
+use Rattle.wt_html_grammar.proofs.Reading.{first_eq, others_eq, high_le, low_lt, well_read}
 use Rattle.wt_html_grammar.proofs.Partial.{InOrder, follow_order}
-use Rattle.wt_html_reasons.proofs.Characters.{InCharacter}
+use Rattle.wt_html_reasons.proofs.Characters.{InCharacter, characters_read}
 
 -- what stands behind whole characters of a text is a text
 behind_chars : (cs rest : List ℕ) → IsUtf8 (encodes cs ++ rest) → IsUtf8 rest
@@ -47,9 +49,6 @@ begins_follow b (Some f) x e h = begins_there (nat_lt b 128) (is_there (follow b
     begins_there true t e = refl
     begins_there false t e = e
 
-opposite : (t : Bool) → t ≡ true → t ≡ false → ⊥
-opposite t e f = let g : true ≡ false = sym e ∙ f in cc
-
 -- behind whole characters, a byte that begins none
 pub no_character : (before : List ℕ) (b : ℕ) → IsUtf8 before → begins_character b ≡ false → (more : List ℕ) → IsUtf8 (before ++ b ∷ more) → ⊥
 no_character before b h e more u = by_case (first_char b more t.0 t.1.0 t.1.1)
@@ -58,8 +57,8 @@ no_character before b h e more u = by_case (first_char b more t.0 t.1.0 t.1.1)
     t = text_behind before (b ∷ more) h u
 
     by_case : (nat_lt b 128 ≡ true) ⊎ ((x rest : List ℕ) × Follows (follow b) x × (more ≡ x ++ rest)) → ⊥
-    by_case (inl l) = opposite (begins_character b) (begins_low b l) e
-    by_case (inr r) = opposite (begins_character b) (begins_follow b (follow b) r.0 refl r.2) e
+    by_case (inl l) = both_ways (begins_character b) e (begins_low b l)
+    by_case (inr r) = both_ways (begins_character b) e (begins_follow b (follow b) r.0 refl r.2)
 
 next_between : (low high n b : ℕ) (more y rest : List ℕ) → IsFollow low high n y → b ∷ more ≡ y ++ rest → between low high b ≡ true
 next_between low high n b more [] rest h e = absurd h
@@ -74,8 +73,8 @@ no_follow before f b h e more u = by_case (first_char h.1 (h.2 ++ b ∷ more) t.
     t = text_behind h.0 (h.1 ∷ (h.2 ++ b ∷ more)) h.3 (subst IsUtf8 (ap (λ x. x ++ b ∷ more) h.4 ∙ append_assoc h.0 (h.1 ∷ h.2) (b ∷ more)) u)
 
     by_case : (nat_lt h.1 128 ≡ true) ⊎ ((x rest : List ℕ) × Follows (follow h.1) x × (h.2 ++ b ∷ more ≡ x ++ rest)) → ⊥
-    by_case (inl l) = opposite (nat_lt h.1 128) l h.5
-    by_case (inr r) = let y = h.7 r.0 r.1 (b ∷ more) r.2 r.3 in opposite (between f.low f.high b) (next_between f.low f.high f.more b more y.0 r.1 y.1 y.2) e
+    by_case (inl l) = both_ways (nat_lt h.1 128) h.5 l
+    by_case (inr r) = let y = h.7 r.0 r.1 (b ∷ more) r.2 r.3 in both_ways (between f.low f.high b) e (next_between f.low f.high f.more b more y.0 r.1 y.1 y.2)
 
 low_between : (low high : ℕ) → low ≤ high → between low high low ≡ true
 low_between low high h = grind (arith, nat_tests)
@@ -101,3 +100,10 @@ goes_on before b h e = by_test (nat_lt b 128) (follow b) refl refl
         let F : Option Follow → Type 0 = λ o. Follows o r.0 in
         let c : IsChar (b ∷ r.0) = of_bytes b r.0 (subst F (sym q) r.1) in
         (r.0, IsUtf8-append before (b ∷ r.0) h (subst IsUtf8 c.2 (IsUtf8-encode c.0 c.1)))
+
+-- what is well-formed
+pub well_utf8 : (bytes : List ℕ) → Well bytes → IsUtf8 bytes
+well_utf8 bytes h = characters_read bytes (inside []) (well_read bytes h)
+
+pub front_utf8 : (bytes : List ℕ) → Front bytes → (more : List ℕ) × IsUtf8 (bytes ++ more)
+front_utf8 bytes h = (h.0, well_utf8 (bytes ++ h.0) h.1)

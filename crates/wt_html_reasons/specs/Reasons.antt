@@ -53,15 +53,15 @@ HoldsBetween why.Syntax before behind = Unit {0}
 abbrev pub Holds : HtmlWhy → List ℕ → ℕ → Type 0
 Holds w bytes place = HoldsBetween w (take place bytes) (drop place bytes)
 
--- the order of the reasons
-abbrev pub order : HtmlWhy → ℕ
-order why.NotUtf8 = 0
-order why.End = 1
-order why.TooDeep = 2
-order why.EndTag = 3
-order why.Escape = 4
-order why.Repeated = 5
-order why.Syntax = 6
+-- the place of a reason in their order
+abbrev pub rank : HtmlWhy → ℕ
+rank why.NotUtf8 = 0
+rank why.End = 1
+rank why.TooDeep = 2
+rank why.EndTag = 3
+rank why.Escape = 4
+rank why.Repeated = 5
+rank why.Syntax = 6
 
 abbrev pub comes_before : HtmlWhy → HtmlWhy → Bool
-comes_before v w = nat_lt (order v) (order w)
+comes_before v w = nat_lt (rank v) (rank w)
