@@ -1,5 +1,5 @@
 -- Worked cases of the reasons, by what is open and begun at the place.
-use Rattle.std.proofs.Common.{◌≡◌, ℕ, zero, suc, ◌<◌, ◌≤◌, true, List, [], ◌∷◌, ◌++◌, length, refl, ap, lit<, codes, arith, inl, inr}
+use Rattle.std.proofs.Common.{◌≡◌, ℕ, zero, suc, ◌≤◌, true, List, [], ◌∷◌, ◌++◌, length, refl, ap, lit<, codes, arith, inl, inr}
 use Rattle.std.specs.Str.{IsUtf8}
 use lib.Utf8.{encode}
 use Rattle.wt_html_grammar.specs.declared.why.HtmlWhy.TheVariants as why

@@ -1,24 +1,24 @@
 -- What is read so far is in UTF-8: whole characters, and maybe a part of one behind them.
-use Rattle.std.proofs.Common.{◌≡◌, ℕ, zero, suc, ◌+◌, ◌*◌, ◌<◌, ◌≤◌, Bool, true, false, Option, Some, None, Result, Ok, Err, List, [], ◌∷◌, ◌++◌, length, map, refl, sym, ap, ◌∙◌, subst, nat_lt, append_assoc, arith, codes, inl, inr}
+use Rattle.std.proofs.Common.{◌≡◌, ℕ, zero, suc, ◌+◌, ◌*◌, ◌<◌, Bool, true, false, Option, Some, None, Result, Ok, Err, List, [], ◌∷◌, ◌++◌, length, map, refl, sym, ap, ◌∙◌, subst, nat_lt, append_assoc, arith, codes, inl, inr}
 use Rattle.std.specs.Prelude.{◌==◌, ◌⊎◌}
 use Rattle.std.specs.Str.{IsUtf8}
 use Rattle.std.specs.Char.{to_ascii_lowercase}
 use Rattle.std.proofs.lemmas.List.{append-nil}
 use Rattle.std.proofs.lemmas.Bool.{eqb-true}
 use Rattle.std.proofs.lemmas.Bool.Decides.{nat_tests}
-use Rattle.std.proofs.lemmas.Str.{encode_ascii, IsUtf8-nil, IsUtf8-append, IsUtf8-encode, IsUtf8-past_char}
-use lib.Utf8.{scalar, scalars, encode, encodes, low_scalar}
+use Rattle.std.proofs.lemmas.Str.{encode_ascii, IsUtf8-nil, IsUtf8-append, IsUtf8-encode}
+use lib.Utf8.{low_scalar}
 use Rattle.wt_html_grammar.specs.declared.names.EscapeName.{EscapeName}
 use Rattle.wt_html_grammar.specs.declared.names.EscapeName.TheVariants.{Amp, Lt, Gt, Quot, Apos, Nbsp}
 use Rattle.wt_html_grammar.specs.declared.names.Radix.{Radix}
 use Rattle.wt_html_grammar.specs.declared.names.Radix.TheVariants.{Decimal, Hexadecimal}
 use Rattle.wt_html_grammar.specs.declared.why.HtmlWhy.{HtmlWhy}
-use Rattle.wt_html_grammar.specs.Signs.{is_quote, is_void, is_among, Follow, follow, between, IsFollow, Follows, is_there, begins_character, is_lower, is_name_byte, is_attribute_byte, is_space, is_digit_of, digit_value, base_of, in_text, in_value, letters_of, number_from, Each, IsName}
-use Rattle.wt_html_grammar.specs.Machine.{State, start, first, doctype, inside, less, naming, gap, attribute, named_so, equals, value, valued, slashed, opened, closing, closed, escaping, Escape, ampersand, apart, letters, sharp, digits, wide, Turn, stop, on, ended, is_begun, is_whole, in_digits, in_escape, begins, special, at_end, at_open, at_name, end_tag, in_contents, in_doctype, is_plain, turned, Tag, with_seen, mended, step, onward, run}
+use Rattle.wt_html_grammar.specs.Signs.{is_quote, is_void, is_among, Follow, follow, between, IsFollow, Follows, begins_character, is_lower, is_name_byte, is_attribute_byte, is_space, is_digit_of, digit_value, base_of, in_text, in_value, letters_of, number_from, Each, IsName}
+use Rattle.wt_html_grammar.specs.Machine.{State, start, inside, value, escaping, Escape, ampersand, apart, letters, sharp, digits, wide, Turn, is_begun, is_whole, in_digits, in_escape, begins, special, at_end, at_open, at_name, end_tag, in_doctype, is_plain, turned, Tag, with_seen, mended, step, onward, run}
 use Rattle.wt_html_grammar.proofs.Steps.{if_case}
-use Rattle.wt_html_grammar.proofs.Chars.{IsChar, of_bytes, InTable, of_char}
-use Rattle.wt_html_grammar.proofs.Partial.{names_of, Level, Opening, Partial, p_text, p_less, p_naming, p_gap, p_attribute, p_named, p_equals, p_value, p_slashed, p_valued, p_closing, p_closed, p_done, p_escaping, Begun, b_ampersand, b_apart, b_letters, b_sharp, b_digits, b_wide, escape_of, IsBegunEscape, TakesPiece, Sound, seen, names, tag, InOrder, follow_order}
-use Rattle.wt_html_grammar.proofs.Whole.{Ahead, a_lead, a_first, a_word, a_gap, state_of, bytes_of, IsAhead, InHead, Behind, Comes, reached}
+use Rattle.wt_html_grammar.proofs.Chars.{IsChar, of_bytes}
+use Rattle.wt_html_grammar.proofs.Partial.{names_of, Partial, p_text, p_less, p_naming, p_gap, p_attribute, p_named, p_equals, p_value, p_slashed, p_valued, p_closing, p_closed, p_done, p_escaping, Begun, b_ampersand, b_apart, b_letters, b_sharp, b_digits, b_wide, escape_of, IsBegunEscape, TakesPiece, Sound, seen, names, tag}
+use Rattle.wt_html_grammar.proofs.Whole.{Ahead, a_lead, a_first, a_word, a_gap, state_of, IsAhead, InHead, Behind, reached}
 use Rattle.wt_html_grammar.proofs.Places.{run_push}
 use Rattle.wt_html_grammar.proofs.Reading.{others_eq}
 

@@ -1,6 +1,6 @@
 -- Where the machine refuses a byte, its reason holds there.
-use Rattle.std.proofs.Common.{◌≡◌, ℕ, suc, ◌+◌, ◌*◌, ◌<◌, ◌≤◌, Bool, true, false, Option, Some, None, Result, Ok, Err, List, [], ◌∷◌, ◌++◌, length, refl, sym, ap, ◌∙◌, subst, nat_lt, append_assoc, arith, codes, inl, inr}
-use Rattle.std.specs.Prelude.{◌==◌, ◌⊎◌, ◌&&◌, ◌||◌, not}
+use Rattle.std.proofs.Common.{◌≡◌, ℕ, ◌<◌, ◌≤◌, Bool, true, false, Option, Some, None, Result, Ok, Err, List, [], ◌∷◌, ◌++◌, length, refl, sym, ap, ◌∙◌, subst, nat_lt, append_assoc, arith, inl, inr}
+use Rattle.std.specs.Prelude.{◌==◌, ◌⊎◌, ◌||◌, not}
 use Rattle.std.specs.Char.{to_ascii_lowercase}
 use Rattle.std.proofs.lemmas.Bool.Decides.{nat_tests}
 use Rattle.wt_html_grammar.specs.declared.names.EscapeName.{EscapeName}
@@ -9,12 +9,12 @@ use Rattle.wt_html_grammar.specs.declared.names.Radix.{Radix}
 use Rattle.wt_html_grammar.specs.declared.names.Radix.TheVariants.{Decimal, Hexadecimal}
 use Rattle.wt_html_grammar.specs.declared.why.HtmlWhy.{HtmlWhy}
 use Rattle.wt_html_grammar.specs.declared.why.HtmlWhy.TheVariants as why
-use Rattle.wt_html_grammar.specs.Signs.{is_quote, is_void, is_among, Follow, follow, is_there, begins_character, is_lower, is_name_byte, is_attribute_byte, is_space, is_digit_of, in_text, in_value, letters_of, sign_of, number_from, Each}
+use Rattle.wt_html_grammar.specs.Signs.{is_quote, is_void, is_among, Follow, follow, is_there, begins_character, is_lower, is_name_byte, is_attribute_byte, is_space, is_digit_of, in_text, in_value, letters_of, Each}
 use Rattle.wt_html_grammar.specs.Grammar.{Head, spell_head, IsHead}
-use Rattle.wt_html_grammar.specs.Machine.{State, start, first, doctype, inside, less, naming, gap, attribute, named_so, equals, value, valued, slashed, closing, closed, escaping, Escape, ampersand, apart, letters, sharp, digits, wide, Turn, stop, on, ended, in_escape, begins, special, at_end, at_open, at_name, end_tag, in_doctype, is_plain, turned, why_of, Tag, with_seen, step}
+use Rattle.wt_html_grammar.specs.Machine.{State, start, first, doctype, inside, less, naming, gap, attribute, named_so, equals, value, valued, slashed, closing, closed, Escape, Turn, stop, on, ended, in_escape, begins, special, at_end, at_open, at_name, end_tag, in_doctype, is_plain, turned, why_of, Tag, with_seen, step}
 use Rattle.wt_html_grammar.proofs.Steps.{if_case}
-use Rattle.wt_html_grammar.proofs.Partial.{Level, Opening, Partial, p_text, p_less, p_naming, p_gap, p_attribute, p_named, p_equals, p_value, p_slashed, p_valued, p_closing, p_closed, p_done, p_escaping, Begun, b_ampersand, b_apart, b_letters, b_sharp, b_digits, b_wide, escape_of, escape_bytes, IsBegunEscape, TakesPiece, Sound, seen, written, names, names_of, tag, opened, levels, IsLevel, AreLevels, length_names}
-use Rattle.wt_html_grammar.proofs.Whole.{Ahead, a_lead, a_first, a_word, a_gap, state_of, IsAhead, InHead, Behind}
+use Rattle.wt_html_grammar.proofs.Partial.{Level, Opening, Partial, p_text, p_less, p_naming, p_gap, p_attribute, p_named, p_equals, p_value, p_slashed, p_valued, p_closing, p_closed, p_done, p_escaping, Begun, b_ampersand, b_apart, b_letters, b_sharp, b_digits, b_wide, escape_of, TakesPiece, Sound, seen, written, names, names_of, tag, opened, levels, AreLevels, length_names}
+use Rattle.wt_html_grammar.proofs.Whole.{Ahead, a_lead, a_first, a_word, a_gap, state_of, InHead, Behind}
 use Rattle.wt_html_reasons.specs.Written.{InContents, InValue}
 use Rattle.wt_html_reasons.specs.Reasons.{InEscape, HoldsBetween}
 use Rattle.wt_html_reasons.proofs.Characters.{left_of}

@@ -1,5 +1,5 @@
 -- The reason of a refusal is the first that holds.
-use Rattle.std.proofs.Common.{◌≡◌, ℕ, zero, suc, ◌+◌, ◌<◌, ◌≤◌, Bool, true, false, Option, Some, None, Result, Ok, Err, List, [], ◌∷◌, ◌++◌, length, take, drop, refl, sym, ap, ◌∙◌, subst, nat_lt, append_assoc, arith, inl, inr}
+use Rattle.std.proofs.Common.{◌≡◌, ℕ, zero, suc, ◌≤◌, Bool, true, false, None, Result, Ok, Err, List, [], ◌∷◌, ◌++◌, length, take, drop, refl, sym, ap, ◌∙◌, subst, nat_lt, append_assoc, arith, inl, inr}
 use Rattle.std.specs.Prelude.{◌==◌, ◌⊎◌, if◌then◌else◌}
 use Rattle.std.specs.Str.{IsUtf8}
 use Rattle.std.proofs.lemmas.List.{append-nil, take-append-drop, length-drop}
@@ -7,21 +7,20 @@ use Rattle.std.proofs.lemmas.Bool.{both_ways}
 use Rattle.std.proofs.lemmas.Bool.Decides.{nat_tests}
 use Rattle.wt_html_grammar.specs.declared.why.HtmlWhy.{HtmlWhy}
 use Rattle.wt_html_grammar.specs.declared.why.HtmlWhy.TheVariants as why
-use Rattle.wt_html_grammar.specs.Signs.{Follow, follow, between, is_lower, is_name_byte, is_attribute_byte, is_among, begins_character}
+use Rattle.wt_html_grammar.specs.Signs.{between, is_lower, is_name_byte, is_attribute_byte, is_among, begins_character}
 use Rattle.wt_html_grammar.specs.Grammar.{Front}
-use Rattle.wt_html_grammar.specs.Machine.{State, start, first, doctype, inside, less, naming, gap, attribute, named_so, equals, value, valued, slashed, closing, closed, escaping, Escape, ampersand, apart, letters, sharp, digits, wide, Turn, stop, on, ended, in_escape, turned, why_of, at_name, at_end, with_seen, mended, step, onward, run}
+use Rattle.wt_html_grammar.specs.Machine.{State, start, less, attribute, closing, escaping, Escape, ampersand, apart, letters, sharp, digits, wide, Turn, stop, on, ended, in_escape, turned, why_of, mended, step, run}
 use Rattle.wt_html_grammar.specs.Places.{IsPlace, Refused, why_in, why_of_refusal}
 use Rattle.wt_html_grammar.proofs.Steps.{if_case}
 use Rattle.wt_html_grammar.proofs.Whole.{reached, front_of}
 use Rattle.wt_html_grammar.proofs.Places.{run_push, run_err, no_front}
 use Rattle.wt_html_grammar.proofs.Reading.{first_eq}
 use Rattle.wt_html_grammar.proofs.Spaces.{one_place}
-use Rattle.wt_html_reasons.specs.Written.{Level, Within, names_of}
 use Rattle.wt_html_reasons.specs.Reasons.{Next, BeginsNoText, IsTooDeep, InEndTagName, InEscape, IsRepeated, HoldsBetween, Holds, rank, comes_before}
 use Rattle.wt_html_reasons.proofs.Characters.{left_of, InCharacter, characters_read}
 use Rattle.wt_html_reasons.proofs.Texts.{no_character, no_follow, goes_on}
 use Rattle.wt_html_reasons.proofs.Explained.{Explains, Told, told}
-use Rattle.wt_html_reasons.proofs.States.{names, as_many_names, deep_at, closing_at, attribute_at, IsEscape, escape_at}
+use Rattle.wt_html_reasons.proofs.States.{names, deep_at, closing_at, attribute_at, IsEscape, escape_at}
 
 -- the input ends, or a byte is refused
 abbrev StopsSo : State → List ℕ → HtmlWhy → Type 0

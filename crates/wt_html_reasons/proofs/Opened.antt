@@ -1,9 +1,9 @@
 -- A document that is written in part, in the words of what is open there.
-use Rattle.std.proofs.Common.{◌≡◌, ℕ, suc, ◌<◌, false, List, [], ◌∷◌, ◌++◌, length, refl, sym, ap, ◌∙◌, subst, append_assoc, arith}
+use Rattle.std.proofs.Common.{◌≡◌, ℕ, suc, List, [], ◌∷◌, ◌++◌, length, refl, sym, ap, ◌∙◌, subst, append_assoc, arith}
 use Rattle.wt_html_grammar.specs.Signs.{is_among}
 use Rattle.wt_html_grammar.specs.Grammar.{Piece, Attribute, spell_attributes, Head, spell_head, IsHead}
 use Rattle.wt_html_grammar.proofs.Partial.{Level as PartLevel, Opening, p_value, opened, levels, in_tag, written, names_of as part_names, IsLevel as IsPartLevel, AreLevels as ArePartLevels, IsOpening, Sound}
-use Rattle.wt_html_reasons.specs.Written.{Level, spell_level, IsLevel, spell_levels, AreLevels, Within, InContents, names_of, InStartTag, spell_unended, InValue}
+use Rattle.wt_html_reasons.specs.Written.{Level, IsLevel, spell_levels, AreLevels, Within, InContents, names_of, InStartTag, spell_unended, InValue}
 
 abbrev pub level_of : PartLevel → Level
 level_of l = record { name = l.name; attributes = l.attributes; gap = l.gap; contents = l.items }

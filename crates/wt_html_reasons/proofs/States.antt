@@ -1,18 +1,18 @@
 -- What is written up to a place determines the machine's state there.
-use Rattle.std.proofs.Common.{◌≡◌, ℕ, suc, ◌+◌, ◌*◌, ◌<◌, Bool, true, false, Result, Ok, Err, List, [], ◌∷◌, ◌++◌, length, refl, sym, ap, ◌∙◌, subst, append_assoc, arith, inl, inr}
+use Rattle.std.proofs.Common.{◌≡◌, ℕ, suc, ◌+◌, ◌*◌, ◌<◌, false, Result, Ok, Err, List, [], ◌∷◌, ◌++◌, length, refl, sym, ap, ◌∙◌, subst, append_assoc, arith, inl, inr}
 use Rattle.std.specs.Prelude.{◌==◌, ◌⊎◌, not}
 use Rattle.std.proofs.lemmas.List.{append-nil}
 use Rattle.std.proofs.lemmas.Bool.{both_ways, not-true}
 use Rattle.wt_html_grammar.specs.declared.names.Radix.{Radix}
-use Rattle.wt_html_grammar.specs.declared.names.Radix.TheVariants.{Decimal, Hexadecimal}
+use Rattle.wt_html_grammar.specs.declared.names.Radix.TheVariants.{Decimal}
 use Rattle.wt_html_grammar.specs.declared.why.HtmlWhy.{HtmlWhy}
-use Rattle.wt_html_grammar.specs.Signs.{is_void, is_quote, begins_character, is_among, is_digit_of, digit_value, base_of, is_attribute_byte, in_value, in_text, Each, IsAttributeName, IsWideGap}
-use Rattle.wt_html_grammar.specs.Grammar.{Attribute, IsAttribute, spell_attributes, AreAttributes, spell_pieces, Items, spell_items, AreItems, Head, spell_head, IsHead}
-use Rattle.wt_html_grammar.specs.Machine.{State, start, inside, less, naming, gap, attribute, equals, value, valued, closing, escaping, Escape, ampersand, apart, letters, sharp, digits, wide, Turn, stop, on, ended, is_begun, is_whole, in_digits, in_escape, turned, why_of, Tag, with_seen, mended, step, onward, run}
+use Rattle.wt_html_grammar.specs.Signs.{is_void, is_quote, begins_character, is_among, is_digit_of, digit_value, base_of, in_value, Each, IsAttributeName, IsWideGap}
+use Rattle.wt_html_grammar.specs.Grammar.{Attribute, IsAttribute, spell_attributes, AreAttributes, spell_pieces, spell_items, AreItems, Head, spell_head, IsHead}
+use Rattle.wt_html_grammar.specs.Machine.{State, start, inside, less, naming, gap, attribute, equals, value, valued, closing, escaping, Escape, ampersand, apart, letters, sharp, digits, wide, Turn, stop, on, ended, is_begun, in_digits, in_escape, turned, why_of, Tag, with_seen, mended, step, onward, run}
 use Rattle.wt_html_grammar.proofs.Steps.{if_true, if_false, if_case, run_step}
 use Rattle.wt_html_grammar.proofs.Complete.{eq_self, quote_ends}
-use Rattle.wt_html_grammar.proofs.Reading.{inner_pieces, inner_attributes, inner_items, pieces_is, attributes_is, items_is, pieces_run, takes_value, takes_text, Opens, opens_gap, opens_naming, wide_run, open_run, attribute_start, left_run, right_run, attributes_run, Names, names_less, start_run, items_run, head_run}
-use Rattle.wt_html_reasons.specs.Written.{Level, spell_level, IsLevel, spell_levels, AreLevels, Within, InContents, names_of, InStartTag, spell_unended, InValue}
+use Rattle.wt_html_grammar.proofs.Reading.{inner_pieces, inner_attributes, pieces_is, attributes_is, items_is, pieces_run, takes_value, Opens, opens_naming, wide_run, open_run, attribute_start, left_run, right_run, attributes_run, Names, names_less, start_run, items_run, head_run}
+use Rattle.wt_html_reasons.specs.Written.{Level, IsLevel, spell_levels, AreLevels, Within, InContents, names_of, InStartTag, spell_unended, InValue}
 use Rattle.wt_html_reasons.specs.Reasons.{InEscape}
 
 -- the names of open elements
@@ -125,14 +125,14 @@ tag_at xs bytes h =
       r.0,
       r.1,
       λ rest. (let b = begins w.1.0 h.0 w.1.1 w.0 h.4 (n ++ (spell_attributes xs ++ rest)) in
-      let same : (h.1 ++ (60 ∷ (n ++ spell_attributes xs))) ++ rest ≡ h.1 ++ (60 ∷ (n ++ (spell_attributes xs ++ rest))) = simp append_assoc in
-      ap (λ x. run start (x ++ rest)) h.7
-      ∙ ap (run start) same
-      ∙ ap (λ x. run start (x ++ (60 ∷ (n ++ (spell_attributes xs ++ rest))))) w.1.2
-      ∙ b.2
-      ∙ start_run n ns b.0 b.1 (spell_attributes xs ++ rest) h.5
-      ∙ ap (run (naming ns n)) (attributes_is xs rest)
-      ∙ r.2 rest),
+          let same : (h.1 ++ (60 ∷ (n ++ spell_attributes xs))) ++ rest ≡ h.1 ++ (60 ∷ (n ++ (spell_attributes xs ++ rest))) = simp append_assoc in
+          ap (λ x. run start (x ++ rest)) h.7
+          ∙ ap (run start) same
+          ∙ ap (λ x. run start (x ++ (60 ∷ (n ++ (spell_attributes xs ++ rest))))) w.1.2
+          ∙ b.2
+          ∙ start_run n ns b.0 b.1 (spell_attributes xs ++ rest) h.5
+          ∙ ap (run (naming ns n)) (attributes_is xs rest)
+          ∙ r.2 rest),
     )
 
 -- behind the name of an attribute
@@ -160,11 +160,11 @@ takes_at bytes (inr h) =
       value u a.quote,
       (takes_value u a.quote h.4.3).1,
       λ rest. (let same : (h.1 ++ spell_unended a) ++ rest ≡ h.1 ++ (a.gap ++ (a.name ++ (a.left ++ (61 ∷ (a.right ++ (a.quote ∷ (spell_pieces a.value ++ rest))))))) = simp append_assoc in
-      ap (λ x. run start (x ++ rest)) h.6
-      ∙ ap (run start) same
-      ∙ b.2 _
-      ∙ ap (λ x. run b.0 (a.gap ++ (a.name ++ (a.left ++ (61 ∷ (a.right ++ (a.quote ∷ x))))))) (pieces_is a.value rest)
-      ∙ unended_run a t b.0 b.1.1 h.4 (ap (is_among a.name) b.1.2 ∙ h.5) rest),
+          ap (λ x. run start (x ++ rest)) h.6
+          ∙ ap (run start) same
+          ∙ b.2 _
+          ∙ ap (λ x. run b.0 (a.gap ++ (a.name ++ (a.left ++ (61 ∷ (a.right ++ (a.quote ∷ x))))))) (pieces_is a.value rest)
+          ∙ unended_run a t b.0 b.1.1 h.4 (ap (is_among a.name) b.1.2 ∙ h.5) rest),
     )
 
 -- an escape, and no character of several bytes

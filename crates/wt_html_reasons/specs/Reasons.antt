@@ -40,6 +40,8 @@ IsRepeated before behind =
     (attributes : List Attribute) × (tag gap name : List ℕ) × InStartTag attributes tag × IsWideGap gap × IsAttributeName name
     × (is_among name (names_of attributes) ≡ true) × (before ≡ tag ++ (gap ++ name)) × (Next is_attribute_byte behind → ⊥)
 
+-- The reason holds between the bytes before the place and those behind it. `Syntax` holds at each
+-- place; so it is the reason where no other one holds.
 abbrev pub HoldsBetween : HtmlWhy → List ℕ → List ℕ → Type 0
 HoldsBetween why.NotUtf8 before behind = BeginsNoText before behind
 HoldsBetween why.End before behind = behind ≡ []
@@ -63,5 +65,6 @@ rank why.Escape = 4
 rank why.Repeated = 5
 rank why.Syntax = 6
 
+-- the first of two reasons
 abbrev pub comes_before : HtmlWhy → HtmlWhy → Bool
 comes_before v w = nat_lt (rank v) (rank w)

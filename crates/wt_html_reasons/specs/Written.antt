@@ -26,7 +26,8 @@ abbrev pub AreLevels : List Level → Type 0
 AreLevels [] = Unit {0}
 AreLevels (l ∷ outer) = IsLevel (length outer) l × AreLevels outer
 
--- a head is written, and these elements are open: the place is in the contents of the first
+-- The bytes are a head and these open elements with their contents so far: what follows them stands
+-- in the contents of the first, or, where none is open, is the root.
 abbrev pub Within : List Level → List ℕ → Type 0
 Within levels bytes = AreLevels levels × ((head : Head) × IsHead head × (bytes ≡ spell_head head ++ spell_levels levels))
 
@@ -34,6 +35,7 @@ Within levels bytes = AreLevels levels × ((head : Head) × IsHead head × (byte
 abbrev pub InContents : List ℕ → Type 0
 InContents bytes = (l : Level) × (outer : List Level) × Within (l ∷ outer) bytes
 
+-- the names of attributes
 abbrev pub names_of : List Attribute → List (List ℕ)
 names_of attributes = map (λ a. a.name) attributes
 
