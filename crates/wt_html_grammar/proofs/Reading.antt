@@ -125,7 +125,7 @@ named_run Apos s rest = refl
 named_run Nbsp s rest = refl
 
 -- characters of several bytes
-pub follow_run : (bs : List ℕ) (low high n : ℕ) (s : State) (rest : List ℕ) → IsFollow low high n bs → run (escaping s (wide low high n)) (bs ++ rest) ≡ run s rest
+follow_run : (bs : List ℕ) (low high n : ℕ) (s : State) (rest : List ℕ) → IsFollow low high n bs → run (escaping s (wide low high n)) (bs ++ rest) ≡ run s rest
 follow_run [] low high n s rest h = absurd h
 follow_run (b ∷ bs) low high zero s rest h =
     run_step (escaping s (wide low high zero)) s b (bs ++ rest) (ap (turned s (wide low high zero)) (if_true (between low high b) _ _ h.0))
@@ -168,7 +168,7 @@ char_run p s t c rest sc pc false e =
     ∙ ap (λ o. onward (λ u. run u (r.1 ++ rest)) (mended r.0 o)) (t.2 r.0 high)
     ∙ follows_run r.0 (follow r.0) r.1 s rest r.3
 
-pub piece_run : (p : ℕ → Bool) (s : State) → Takes p s → (x : Piece) (rest : List ℕ) → IsPiece p x → run s (spell_piece x ++ rest) ≡ run s rest
+piece_run : (p : ℕ → Bool) (s : State) → Takes p s → (x : Piece) (rest : List ℕ) → IsPiece p x → run s (spell_piece x ++ rest) ≡ run s rest
 piece_run p s t (plain c) rest h = char_run p s t c rest h.0 h.1 (nat_lt c 128) refl
 piece_run p s t (named n) rest h = run_step s (escaping s ampersand) 38 ((letters_of n ++ 59 ∷ []) ++ rest) t.1 ∙ named_run n s rest
 piece_run p s t (number r ds) rest h =
