@@ -4,6 +4,7 @@ use Rattle.std.specs.Prelude.{Ok}
 use Rattle.std.proofs.lemmas.Fmt.{IsAscii-decimal}
 use Rattle.std.proofs.lemmas.Str.{IsUtf8-append, IsUtf8-nil, IsUtf8-encode, IsUtf8-from_ascii, encode_ascii}
 use lib.Utf8.{low_scalar}
+use Rattle.json.specs.Token.{Token}
 use Rattle.json.specs.Lex.{tokens}
 use Rattle.json.specs.Json as json
 use Rattle.json.specs.Tree as tree
@@ -16,7 +17,6 @@ use Rattle.serde_json.specs.Data.{Num, unsigned, negative, float, Data, null, bo
 use Rattle.serde_json.specs.Read.{number_of, of_json, read, max_depth}
 use Rattle.serde_json.specs.Written.{outline, comma_if, compact_text, items_text, members_text}
 use Rattle.serde_json.proofs.Numbers.{number_of-decimal}
-use Rattle.serde_json.proofs.Reading.{whole}
 use Rattle.serde_json.proofs.Texts.{print-outline}
 use Rattle.wt_tree.specs.declared.kind.Ranges.{Ranges}
 use Rattle.wt_datamw.specs.declared.sync.Sync.{Sync}
@@ -26,7 +26,7 @@ use Rattle.wt_datamw.proofs.ReadsBack.{reads_small}
 
 -- ---- UTF-8
 
-ascii_then : (x : ℕ) (xs : List ℕ) → x < 128 → IsUtf8 xs → IsUtf8 (x ∷ xs)
+pub ascii_then : (x : ℕ) (xs : List ℕ) → x < 128 → IsUtf8 xs → IsUtf8 (x ∷ xs)
 ascii_then x xs small u = IsUtf8-append (x ∷ []) xs (subst IsUtf8 (encode_ascii x small) (IsUtf8-encode x (low_scalar x (omega arith)))) u
 
 comma_utf8 : (b : Bool) → IsUtf8 (comma_if b)
@@ -82,6 +82,9 @@ mutual
 
 -- ---- what is written is read
 
+abbrev whole : Option (json.Json × List Token) → Option Data
+whole o = option_and_then of_json (option_and_then (λ p. json.if_last p.0 p.1) o)
+
 json_read : (d : Data) → tree.HasNumbers (outline d) → tree.depth (outline d) ≤ max_depth → of_json (outline d) ≡ Some d → read (compact_text d) ≡ Some d
 json_read d numbers shallow same =
     let j : json.Json = outline d in
@@ -95,7 +98,7 @@ parts r o c src = object (put_source src (put_text (codes "o") o (put_dsr r (put
 abbrev AreSmall : Ranges → Type 0
 AreSmall r = (r.start < 2 ^ 64) × (r.end < 2 ^ 64) × (r.open_w < 2 ^ 64) × (r.close_w < 2 ^ 64)
 
-abbrev IsUtf8IfAny : Option (List ℕ) → Type 0
+abbrev pub IsUtf8IfAny : Option (List ℕ) → Type 0
 IsUtf8IfAny None = Unit {0}
 IsUtf8IfAny (Some bs) = IsUtf8 bs
 

@@ -1,3 +1,5 @@
 mod Cases
 pub mod Pieces
 pub mod Json
+pub mod Said
+pub mod Labels
