@@ -3,3 +3,4 @@ pub mod Pieces
 pub mod Json
 pub mod Said
 pub mod Labels
+pub mod Elements
