@@ -4,3 +4,4 @@ pub mod Json
 pub mod Said
 pub mod Labels
 pub mod Elements
+pub mod Fits
