@@ -53,10 +53,10 @@ signs_spelled : (ps : List Piece) (items : Items) → spell_items (signs ps item
 signs_spelled [] items = refl
 signs_spelled (p ∷ ps) items = ap (λ x. spell_piece p ++ x) (signs_spelled ps items) ∙ sym (append_assoc (spell_piece p) (spell_pieces ps) (spell_items items))
 
-attributes_spelled : (l : Label) → IsTold l → l.id < 2 ^ 64 → spell_attributes (attributes_for (said l)) ≡ attributes_of l
+pub attributes_spelled : (l : Label) → IsTold l → l.id < 2 ^ 64 → spell_attributes (attributes_for (said l)) ≡ attributes_of l
 attributes_spelled l t h = said_spelled [] (said l) t.good ∙ said_is l h
 
-element_spelled : (l : Label) (inside : Items) (bytes : List ℕ) → spell_attributes (attributes_for (said l)) ≡ attributes_of l → spell_items inside ≡ bytes
+pub element_spelled : (l : Label) (inside : Items) (bytes : List ℕ) → spell_attributes (attributes_for (said l)) ≡ attributes_of l → spell_items inside ≡ bytes
     → spell (element_for l inside) ≡ start_tag l ++ (bytes ++ end_tag l)
 unfolding start_tag end_tag
 element_spelled l inside bytes e f =

@@ -5,3 +5,4 @@ pub mod Said
 pub mod Labels
 pub mod Elements
 pub mod Fits
+pub mod Whole
