@@ -1,6 +1,6 @@
 -- What stands for a tree fits, as that tree, and each of its elements has a source.
-use Rattle.std.proofs.Common.{◌≡◌, ℕ, suc, ◌+◌, ◌<◌, Bool, true, false, Option, Some, None, Result, List, [], ◌∷◌, refl, sym, ap, ap₂, ◌∙◌, subst}
-use Rattle.std.specs.Prelude.{Ok, ◌&&◌, ◌||◌, if◌then◌else◌}
+use Rattle.std.proofs.Common.{◌≡◌, ℕ, suc, Bool, true, false, Some, None, Result, List, refl, sym, ap, ap₂, ◌∙◌}
+use Rattle.std.specs.Prelude.{Ok, ◌||◌, if◌then◌else◌}
 use Rattle.std.specs.Option.{option_or}
 use Rattle.wt_tree.specs.declared.kind.Kind.{Kind}
 use Rattle.wt_tree.specs.declared.kind.Kind.TheVariants as kind
@@ -9,16 +9,16 @@ use Rattle.wt_datamw.specs.declared.sync.Sync.{Sync}
 use Rattle.wt_markup.specs.declared.writing.Writing.{Writing}
 use Rattle.wt_markup.specs.declared.writing.Writing.TheVariants.{AsText, AsVoid, RoundCharacter, RoundChildren, Unwritten}
 use Rattle.wt_markup.specs.Elements.{writing, element_name}
-use Rattle.wt_html_grammar.specs.Markup.{Pair, Markup, Markups, text, node, empty, more}
+use Rattle.wt_html_grammar.specs.Markup.{Pair, Markups}
 use Rattle.wt_html_grammar.proofs.Steps.{if_true, if_false}
 use Rattle.wt_html_grammar.proofs.Reading.{and_true}
 use Rattle.wt_fitting.specs.Attributes.{is_typed}
-use Rattle.wt_fitting.specs.Rows.{kind_named, row, may_hold, holds_text, data_of}
-use Rattle.wt_fitting.specs.Fit.{Misfit, leaf_label, text_leaf, sep_leaf, leaf_in, label_for, elements, elements_of_all, is_blank, are_blank, onto_told, text_fits, fit_told, fit_as, fit_row, fit_node, fit_nodes}
-use Rattle.wt_fitting.specs.Unsourced.{is_unsourced, unsourced_node, unsourced_nodes}
-use Rattle.wt_round_trip.specs.Written.{label_read, unranged, unranged_all, shown_of, leaf_kind, may_stand, IsTextIn, IsAround, is_childless, NodeIsWritten, WrittenIn, AllWrittenIn}
+use Rattle.wt_fitting.specs.Rows.{row, may_hold, holds_text, data_of}
+use Rattle.wt_fitting.specs.Fit.{Misfit, leaf_label, text_leaf, sep_leaf, leaf_in, label_for, are_blank, onto_told, text_fits, fit_told, fit_as, fit_row, fit_node, fit_nodes}
+use Rattle.wt_fitting.specs.Unsourced.{is_unsourced, unsourced_nodes}
+use Rattle.wt_round_trip.specs.Written.{label_read, unranged, unranged_all, shown_of, leaf_kind, IsTextIn, is_childless, NodeIsWritten, WrittenIn, AllWrittenIn}
 use Rattle.wt_round_trip.proofs.Said.{said}
-use Rattle.wt_round_trip.proofs.Labels.{IsElementKind, IsNamedKind, held_kind, pairs, IsTold, told}
+use Rattle.wt_round_trip.proofs.Labels.{IsNamedKind, held_kind, pairs, IsTold, told}
 use Rattle.wt_round_trip.proofs.Elements.{node_for, marked_up, markup_before, markups_of}
 
 -- ---- texts

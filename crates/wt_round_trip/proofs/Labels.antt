@@ -17,7 +17,7 @@ use Rattle.wt_tree.specs.Kinds.{is_leaf, is_numbered}
 use Rattle.wt_tree.specs.Tree.{Label}
 use Rattle.wt_datamw.specs.declared.sync.Sync.{Sync}
 use Rattle.wt_datamw.specs.Sync.{sync_text}
-use Rattle.wt_datamw.specs.SyncRead.{sync_told, IsSmall}
+use Rattle.wt_datamw.specs.SyncRead.{sync_told}
 use Rattle.wt_markup.specs.declared.writing.Writing.TheVariants.{RoundChildren}
 use Rattle.wt_markup.specs.Elements.{writing, element_name}
 use Rattle.wt_markup.specs.Html.{inner_sync, sync_of}
@@ -31,7 +31,7 @@ use Rattle.wt_html_grammar.proofs.Steps.{if_true, if_false}
 use Rattle.wt_html_grammar.proofs.Reading.{and_true}
 use Rattle.wt_round_trip.specs.Written.{HasPlaces, IsNumber, has_level, IsAround, label_read}
 use Rattle.wt_round_trip.proofs.Json.{ascii_then, sync_utf8, sync_read}
-use Rattle.wt_round_trip.proofs.Said.{Said, double, single, pair_said, said_name, said_value, kind_said, own_said, id_said, mw_said, sync_said, said, AreGood}
+use Rattle.wt_round_trip.proofs.Said.{Said, double, single, pair_said, kind_said, own_said, id_said, mw_said, sync_said, said, AreGood}
 
 -- ---- numbers
 
@@ -193,6 +193,7 @@ short_id id t h = by_test (id == 0) refl
   where
     some : (id : ℕ) → (id == 0) ≡ false → 0 < id
     some id e = grind (arith, nat_tests)
+
     by_test : (b : Bool) → (id == 0) ≡ b → id_of (pairs (short b id t)) ≡ id
     by_test true e = sym (eqb-true id 0 e)
     by_test false e = ap or_zero (number_told id (some id e) h)
