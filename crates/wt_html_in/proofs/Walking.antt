@@ -45,7 +45,7 @@ or_none : (a : Option ℕ) → option_or a None ≡ a
 or_none None = refl
 or_none (Some n) = refl
 
-here_or : (t : Bool) (n : ℕ) (o : Option ℕ) → option_or (if t then Some n else None) o ≡ (if t then Some n else o)
+pub here_or : (t : Bool) (n : ℕ) (o : Option ℕ) → option_or (if t then Some n else None) o ≡ (if t then Some n else o)
 here_or true n o = refl
 here_or false n o = refl
 

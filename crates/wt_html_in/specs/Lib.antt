@@ -1,4 +1,6 @@
 pub mod Texts
 pub mod Told
-pub mod Fits
 pub mod Sources
+pub mod Fits
+pub mod Answers
+pub mod Frame

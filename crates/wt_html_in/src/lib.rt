@@ -4,6 +4,8 @@
 
 mod attributes;
 mod data;
+mod edited;
+mod frame;
 mod head;
 mod nodes;
 mod number;
@@ -11,6 +13,7 @@ mod refusal;
 mod row;
 mod walk;
 
+pub use edited::{Edited, unsourced};
 pub use refusal::HtmlRefusal;
 pub use wt_fitting::FitWhy;
 pub use wt_html_grammar::HtmlWhy;
