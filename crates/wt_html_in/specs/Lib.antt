@@ -4,3 +4,4 @@ pub mod Sources
 pub mod Fits
 pub mod Answers
 pub mod Frame
+pub mod Feeding

@@ -2,6 +2,7 @@
 //! why it is no HTML, or the first element that doesn't fit.
 #![tactic(auto)]
 
+mod answer;
 mod attributes;
 mod data;
 mod edited;
@@ -9,11 +10,15 @@ mod frame;
 mod head;
 mod nodes;
 mod number;
+mod reader;
 mod refusal;
 mod row;
 mod walk;
+mod whole;
 
 pub use edited::{Edited, unsourced};
+pub use reader::Reader;
 pub use refusal::HtmlRefusal;
+pub use whole::read_html;
 pub use wt_fitting::FitWhy;
 pub use wt_html_grammar::HtmlWhy;
