@@ -1,0 +1,54 @@
+-- What the reader of pages answers, by what the reader of elements does.
+use Rattle.std.proofs.Common.{◌≡◌, ℕ, ◌+◌, ◌<◌, ◌^◌, ◌++◌, true, Option, Some, None, Result, Ok, Err, List, [], length, refl, sym, ap, ◌∙◌, arith, subst}
+use Rattle.std.specs.Prelude.{IfErr, IfSome}
+use Rattle.std.specs.Coded.{le_prop}
+use Rattle.std.proofs.Math.Logic.{∥∥₁_elim}
+use Rattle.std.proofs.Props.{props}
+use Rattle.wt_html_grammar.specs.Markup.{Markup, Stands}
+use Rattle.wt_html_elements.specs.declared.content.Content.{Content}
+use Rattle.wt_html_elements.specs.declared.fault.HtmlRefusal.{HtmlRefusal as ElementsRefusal}
+use Rattle.wt_html_elements.specs.declared.fault.HtmlRefusal.TheVariants as elements_refusals
+use Rattle.wt_html_elements.specs.declared.reader.Reader.{Reader as ElementsReader}
+use Rattle.wt_html_elements.specs.Built.{view_content}
+use Rattle.wt_html_elements.specs.Answer.{IsFed as IsFedElements, FedAs, RefusedFor as ElementsRefusedFor}
+use Rattle.wt_fitting.specs.declared.why.FitWhy.{FitWhy}
+use Rattle.wt_fitting.specs.Fit.{elements, body_of}
+use Rattle.wt_fitting.specs.Read.{page, ill, misfit, read}
+use Rattle.wt_fitting.proofs.OneReading.{one_read}
+use Rattle.wt_html_in.specs.Texts.{is_utf8_markup}
+use Rattle.wt_html_in.specs.declared.edited.Edited.{Edited}
+use Rattle.wt_html_in.specs.declared.refusal.FitFault.TheVariants as faults
+use Rattle.wt_html_in.specs.Answers.{body_of as body_told, unsourced_of, RefusedFor}
+use Rattle.wt_html_in.specs.Feeding.{refusal_told}
+use Rattle.wt_html_in.specs.Frame.{FitsBody}
+use Rattle.wt_html_in.proofs.Standing.{stands_few, stands_utf8}
+
+pub page_answer : (m : Markup) (e : Edited) → FitsBody (body_of m) (Ok e) → (bytes : List ℕ) → Stands bytes m → read bytes ≡ page (body_told e) (unsourced_of e)
+page_answer m e h bytes s = one_read bytes (page (body_told e) (unsourced_of e)) (m, s, h.0, h.1)
+
+pub misfit_answer : (m : Markup) (n : ℕ) (w : FitWhy) → FitsBody (body_of m) (Err (faults.Unfit n w)) → (bytes : List ℕ) → Stands bytes m → read bytes ≡ misfit n w
+misfit_answer m n w h bytes s = one_read bytes (misfit n w) (m, s, h)
+
+pub ill_answer : (bytes : List ℕ) (e : ElementsRefusal) → ElementsRefusedFor bytes e → RefusedFor bytes (refusal_told e)
+ill_answer bytes (elements_refusals.Html place w) h = one_read bytes (ill place w) h
+ill_answer bytes elements_refusals.NoMemory h = tt
+
+fed_count : (r : ElementsReader) (bytes : List ℕ) → r.failed ≡ None → IsFedElements r bytes → r.taken ≡ length bytes
+fed_count r bytes e h = let P : Option ElementsRefusal → Type 0 = λ o. FedAs o r bytes in let q : FedAs None r bytes = subst P e h in q.1
+
+pub root_few : (r : ElementsReader) (root : Content) → ∥ ((bytes : List ℕ) × IsFedElements r bytes) ∥₁ → ((bytes : List ℕ) → IsFedElements r bytes → Stands bytes (view_content root))
+    → r.failed ≡ None → r.taken < 2 ^ 32 → elements (view_content root) + 1 < 2 ^ 32
+root_few r root h f e l =
+    ∥∥₁_elim h le_prop (λ (bytes, g). few bytes g)
+  where
+    few : (bytes : List ℕ) → IsFedElements r bytes → elements (view_content root) + 1 < 2 ^ 32
+    few bytes g = omega (arith, stands_few bytes (view_content root) (f bytes g), fed_count r bytes e g, l)
+
+pub root_utf8 : (r : ElementsReader) (root : Content) → ∥ ((bytes : List ℕ) × IsFedElements r bytes) ∥₁ → ((bytes : List ℕ) → IsFedElements r bytes → Stands bytes (view_content root))
+    → is_utf8_markup (view_content root) ≡ true
+root_utf8 r root h f = ∥∥₁_elim h (Prim.hlevel props) (λ (bytes, g). stands_utf8 bytes (view_content root) (f bytes g))
+
+-- what a reader of elements was fed, after one more piece
+pub fed_more : (r q : ElementsReader) (piece : List ℕ) → ∥ ((bytes : List ℕ) × IsFedElements r bytes) ∥₁
+    → ((bytes : List ℕ) → IsFedElements r bytes → IsFedElements q (bytes ++ piece)) → ∥ ((bytes : List ℕ) × IsFedElements q bytes) ∥₁
+fed_more r q piece h f = ∥∥₁_elim h squash₁ (λ (bytes, g). ∣ (bytes ++ piece, f bytes g) ∣₁)

@@ -1,0 +1,28 @@
+-- What a reader of pages was fed.
+use Rattle.std.specs.Prelude.{ℕ, Option, Some, None, List}
+use Rattle.wt_html_elements.specs.Answer.{IsFed as IsFedElements}
+use Rattle.wt_html_elements.specs.declared.fault.HtmlRefusal.{HtmlRefusal as ElementsRefusal}
+use Rattle.wt_html_elements.specs.declared.fault.HtmlRefusal.TheVariants as elements
+use Rattle.wt_html_in.specs.declared.reader.Reader.{Reader}
+use Rattle.wt_html_in.specs.declared.refusal.HtmlRefusal.{HtmlRefusal}
+use Rattle.wt_html_in.specs.declared.refusal.HtmlRefusal.TheVariants as refusals
+
+-- these bytes were fed
+unfoldable pub IsFed : Reader → List ℕ → Type 0
+IsFed r bytes = IsFedElements r.elements bytes
+
+-- how many bytes were taken
+unfoldable pub taken_of : Reader → ℕ
+taken_of r = r.elements.taken
+
+abbrev pub refusal_told : ElementsRefusal → HtmlRefusal
+refusal_told (elements.Html place w) = refusals.Html place w
+refusal_told elements.NoMemory = refusals.NoMemory
+
+abbrev pub failure_told : Option ElementsRefusal → Option HtmlRefusal
+failure_told None = None
+failure_told (Some e) = Some (refusal_told e)
+
+-- the refusal with which it has failed
+unfoldable pub failed_of : Reader → Option HtmlRefusal
+failed_of r = failure_told r.elements.failed

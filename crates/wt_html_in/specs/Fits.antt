@@ -1,0 +1,42 @@
+-- What fitting in code answers: what the definitions say, unless memory ran out.
+use Rattle.std.specs.Prelude.{◌≡◌, ℕ, suc, ◌+◌, Bool, Option, Some, None, Result, Ok, Err, List, if◌then◌else◌}
+use Rattle.std.specs.Option.{option_or}
+use Rattle.wt_tree.specs.declared.kind.Kind.{Kind}
+use Rattle.wt_tree.specs.Tree.{Label, Tree, Trees}
+use Rattle.wt_tree.specs.View.{view, views}
+use Rattle.wt_tree.specs.declared.node.Node.{Node}
+use Rattle.wt_html_grammar.specs.Markup.{Pair, Markup, Markups}
+use Rattle.wt_fitting.specs.Fit.{Misfit, label_with, with_children, elements, elements_of_all, fit_node, fit_nodes}
+use Rattle.wt_fitting.specs.Unsourced.{is_unsourced, unsourced_node, unsourced_nodes}
+use Rattle.wt_html_in.specs.declared.refusal.FitFault.{FitFault}
+use Rattle.wt_html_in.specs.declared.refusal.FitFault.TheVariants as faults
+use Rattle.wt_html_in.specs.declared.head.Head.{Head}
+use Rattle.wt_html_in.specs.declared.walk.Walk.{Walk}
+
+abbrev pub label_of_head : Head → Label
+label_of_head h = label_with h.kind h.id h.mark h.sync
+
+-- what an element is, whatever comes of what stands in it
+abbrev pub HeadFits : ((Kind → Result Trees Misfit) → Result Tree Misfit) → Result Head FitFault → Type 0
+HeadFits told (Ok h) = (inside : Kind → Result Trees Misfit) → told inside ≡ with_children (label_of_head h) (inside h.kind)
+HeadFits told (Err (faults.Unfit n w)) = (inside : Kind → Result Trees Misfit) → told inside ≡ Err (n, w)
+HeadFits told (Err faults.NoMemory) = Unit {0}
+
+-- an element's number, where it has no source
+abbrev pub unsourced_here : ℕ → List Pair → Option ℕ
+unsourced_here n ps = if is_unsourced ps then Some n else None
+
+-- elements were passed: the next one's number, and the first without a source so far
+pub record Passed (w v : Walk) (count : ℕ) (found : Option ℕ) : Type 0 where
+  pub next : v.next ≡ w.next + count
+  pub unsourced : v.unsourced ≡ option_or w.unsourced found
+
+abbrev pub FitsNode : Walk → Kind → Markup → Walk → Result Node FitFault → Type 0
+FitsNode w k m v (Ok n) = (fit_node w.next k m ≡ Ok (view n)) × Passed w v (elements m) (unsourced_node w.next m)
+FitsNode w k m v (Err (faults.Unfit n y)) = fit_node w.next k m ≡ Err (n, y)
+FitsNode w k m v (Err faults.NoMemory) = Unit {0}
+
+abbrev pub FitsNodes : Walk → Kind → Markups → Walk → Result (List Node) FitFault → Type 0
+FitsNodes w k ms v (Ok ns) = (fit_nodes w.next k ms ≡ Ok (views ns)) × Passed w v (elements_of_all ms) (unsourced_nodes w.next ms)
+FitsNodes w k ms v (Err (faults.Unfit n y)) = fit_nodes w.next k ms ≡ Err (n, y)
+FitsNodes w k ms v (Err faults.NoMemory) = Unit {0}

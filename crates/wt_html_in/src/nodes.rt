@@ -1,0 +1,206 @@
+ghost use Rattle.std.specs.Prelude.{◌≡◌, true, Some, None, IfOk, IfErr};
+ghost use Rattle.std.specs.Str.{is_utf8};
+ghost use Rattle.wt_tree.specs.Tree.{tree, none as no_trees};
+ghost use Rattle.wt_tree.specs.View.{view, views, texts_of};
+ghost use Rattle.wt_fitting.specs.Fit.{leaf_label, text_leaf, sep_leaf, leaf_in, source_of};
+ghost use Rattle.wt_html_in.specs.Fits.{label_of_head};
+ghost use Rattle.wt_html_in.specs.Sources.{source_view, source_told, sourced_label};
+
+use crate::attributes::text_of;
+use crate::head::Head;
+use crate::refusal::FitFault;
+use crate::row::holds_text;
+use bumpalo::Bump;
+use std::alloc::Global;
+use wt_datamw::Sync;
+use wt_span::{List, Str, Text};
+use wt_tree::{Kind, Mark, Node, Ranges};
+
+/// A text in the arena; nothing where it is empty. One of 2^32 - 1 bytes or more is answered as want
+/// of memory.
+fn kept<'a>(
+    alloc: Global,
+    arena: &'a Bump<Global>,
+    text: &str,
+) -> Result<List<Text<'a>>, FitFault>
+    ensures texts { IfOk result (λ l. texts_of l ≡ text.now) }
+    ensures memory { IfErr result (λ e. e ≡ FitFault.NoMemory) }
+{
+    match text.as_bytes() {
+        [] => Ok(List::new(alloc)),
+        [_, ..] => {
+            let text = arena.try_alloc_str(text)?;
+            if 4294967295 <= text.len() {
+                return Err(FitFault::NoMemory);
+            }
+            let texts = Vec::from_array(alloc, [Text::new(text, 0)])?;
+            Ok(List::from_vec(texts))
+        }
+    }
+}
+
+/// A leaf without number, ranges and delimiters.
+fn leaf<'a>(alloc: Global, kind: Kind, own: List<Text<'a>>, shown: Str) -> Node<'a>
+    ensures { view result ≡ tree (leaf_label kind (texts_of own.entry) shown) no_trees }
+{
+    Node {
+        kind,
+        id: 0,
+        ranges: None,
+        opening: List::new(alloc),
+        closing: List::new(alloc),
+        own,
+        shown,
+        attrs: List::new(alloc),
+        origin: None,
+        mark: Mark::Nothing,
+        mw: None,
+        children: List::new(alloc),
+    }
+}
+
+fn text_leaf<'a>(alloc: Global, arena: &'a Bump<Global>, text: &str) -> Result<Node<'a>, FitFault>
+    ensures leaf { IfOk result (λ n. view n ≡ text_leaf text.now) }
+    ensures memory { IfErr result (λ e. e ≡ FitFault.NoMemory) }
+{
+    let own = kept(alloc, arena, text)?;
+    let shown = Str::copy_of(alloc, text)?;
+    Ok(leaf(alloc, Kind::Text, own, shown))
+}
+
+fn sep_leaf<'a>(alloc: Global, arena: &'a Bump<Global>, text: &str) -> Result<Node<'a>, FitFault>
+    ensures leaf { IfOk result (λ n. view n ≡ sep_leaf text.now) }
+    ensures memory { IfErr result (λ e. e ≡ FitFault.NoMemory) }
+{
+    let own = kept(alloc, arena, text)?;
+    Ok(leaf(alloc, Kind::Sep, own, Str::new(alloc)))
+}
+
+/// What a text is that stands directly in an element of the kind `outer`.
+pub fn leaf_in<'a>(
+    alloc: Global,
+    arena: &'a Bump<Global>,
+    outer: Kind,
+    bytes: &[u8],
+) -> Result<Node<'a>, FitFault>
+    requires { is_utf8 bytes.now ≡ true }
+    ensures leaf { IfOk result (λ n. view n ≡ leaf_in outer bytes.now) }
+    ensures memory { IfErr result (λ e. e ≡ FitFault.NoMemory) }
+{
+    let text = text_of(bytes);
+    if holds_text(outer) {
+        text_leaf(alloc, arena, text)
+    } else {
+        sep_leaf(alloc, arena, text)
+    }
+}
+
+/// What `data-parsoid` says of a node, with its texts in the arena.
+#[derive(Drop)]
+struct Source<'a> {
+    ranges: Option<Ranges>,
+    opening: List<Text<'a>>,
+    closing: List<Text<'a>>,
+    own: List<Text<'a>>,
+}
+
+fn no_source<'a>(alloc: Global) -> Source<'a>
+    ensures { source_view result ≡ source_told None }
+{
+    Source {
+        ranges: None,
+        opening: List::new(alloc),
+        closing: List::new(alloc),
+        own: List::new(alloc),
+    }
+}
+
+fn own_of<'a>(
+    alloc: Global,
+    arena: &'a Bump<Global>,
+    src: &Option<Str>,
+) -> Result<List<Text<'a>>, FitFault>
+    ensures texts { IfOk result (λ l. texts_of l ≡ source_of src.now) }
+    ensures memory { IfErr result (λ e. e ≡ FitFault.NoMemory) }
+{
+    match src {
+        None => Ok(List::new(alloc)),
+        Some(text) => kept(alloc, arena, text.as_str()),
+    }
+}
+
+fn source_in<'a>(alloc: Global, arena: &'a Bump<Global>, sync: &Sync) -> Result<Source<'a>, FitFault>
+    ensures source { IfOk result (λ s. source_view s ≡ source_told (Some sync.now)) }
+    ensures memory { IfErr result (λ e. e ≡ FitFault.NoMemory) }
+{
+    let opening = kept(alloc, arena, sync.opening.as_str())?;
+    let closing = kept(alloc, arena, sync.closing.as_str())?;
+    let own = own_of(alloc, arena, &sync.src)?;
+    Ok(Source {
+        ranges: Some(sync.dsr),
+        opening,
+        closing,
+        own,
+    })
+}
+
+fn source_for<'a>(
+    alloc: Global,
+    arena: &'a Bump<Global>,
+    sync: &Option<Sync>,
+) -> Result<Source<'a>, FitFault>
+    ensures source { IfOk result (λ s. source_view s ≡ source_told sync.now) }
+    ensures memory { IfErr result (λ e. e ≡ FitFault.NoMemory) }
+{
+    match sync {
+        None => Ok(no_source(alloc)),
+        Some(sync) => source_in(alloc, arena, sync),
+    }
+}
+
+/// A node with this source.
+fn sourced<'a>(
+    alloc: Global,
+    kind: Kind,
+    id: u32,
+    mark: Mark,
+    source: Source<'a>,
+    children: List<Node<'a>>,
+) -> Node<'a>
+    ensures { view result ≡ tree (sourced_label kind id mark (source_view source.entry)) (views children.entry) }
+{
+    let Source {
+        ranges,
+        opening,
+        closing,
+        own,
+    } = source;
+    Node {
+        kind,
+        id,
+        ranges,
+        opening,
+        closing,
+        own,
+        shown: Str::new(alloc),
+        attrs: List::new(alloc),
+        origin: None,
+        mark,
+        mw: None,
+        children,
+    }
+}
+
+/// The node that an element is.
+pub fn node_of<'a>(
+    alloc: Global,
+    arena: &'a Bump<Global>,
+    head: Head,
+    children: List<Node<'a>>,
+) -> Result<Node<'a>, FitFault>
+    ensures node { IfOk result (λ n. view n ≡ tree (label_of_head head) (views children.entry)) }
+    ensures memory { IfErr result (λ e. e ≡ FitFault.NoMemory) }
+{
+    let source = source_for(alloc, arena, &head.sync)?;
+    Ok(sourced(alloc, head.kind, head.id, head.mark, source, children))
+}

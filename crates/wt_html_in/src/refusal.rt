@@ -1,0 +1,57 @@
+ghost use Rattle.std.specs.Prelude.{◌≡◌};
+
+use std::alloc::{AllocError, AllocFailed};
+use wt_fitting::FitWhy;
+use wt_html_grammar::HtmlWhy;
+use wt_span::NoMemory;
+
+/// Why an input is no page.
+///
+/// - `Html`: it isn't well-formed; `place` is the length in bytes of its longest prefix with which
+///   some well-formed input begins.
+/// - `Unfit`: the first element that doesn't fit, by its number, and the first reason for it. The
+///   elements are counted from 1 in document order.
+/// - `NoMemory`: no memory was found. It is answered too where one text has 2^32 - 1 bytes or more.
+#[derive(Clone, Copy, Debug, PartialEq, Eq)]
+pub enum HtmlRefusal {
+    Html { place: u32, why: HtmlWhy },
+    Unfit { element: u32, why: FitWhy },
+    NoMemory,
+}
+
+/// Why a tree of elements is no page.
+#[derive(Clone, Copy, Debug, PartialEq, Eq)]
+pub enum FitFault {
+    Unfit { element: u32, why: FitWhy },
+    NoMemory,
+}
+
+impl From<AllocError> for FitFault {
+    ghost use Rattle.wt_html_in.specs.declared.refusal.FitFault.TheVariants.{NoMemory};
+
+    ghost from_gives = { λ _ e. e ≡ NoMemory };
+
+    fn from(_e: AllocError) -> FitFault {
+        FitFault::NoMemory
+    }
+}
+
+impl<T: Drop> From<AllocFailed<T>> for FitFault {
+    ghost use Rattle.wt_html_in.specs.declared.refusal.FitFault.TheVariants.{NoMemory};
+
+    ghost from_gives = { λ _ e. e ≡ NoMemory };
+
+    fn from(_e: AllocFailed<T>) -> FitFault {
+        FitFault::NoMemory
+    }
+}
+
+impl From<NoMemory> for FitFault {
+    ghost use Rattle.wt_html_in.specs.declared.refusal.FitFault.TheVariants as faults;
+
+    ghost from_gives = { λ _ e. e ≡ faults.NoMemory };
+
+    fn from(_e: NoMemory) -> FitFault {
+        FitFault::NoMemory
+    }
+}

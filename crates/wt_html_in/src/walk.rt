@@ -1,0 +1,112 @@
+ghost use Rattle.std.specs.Prelude.{◌≡◌, ◌+◌, ◌<◌, ◌^◌, true};
+ghost use Rattle.wt_html_elements.specs.Built.{view_content, pairs, views};
+ghost use Rattle.wt_fitting.specs.Rows.{row};
+ghost use Rattle.wt_fitting.specs.Fit.{text_fits, fit_row, elements, elements_of_all};
+ghost use Rattle.wt_html_in.specs.Texts.{are_utf8_values, is_utf8_markup, are_utf8_markups};
+ghost use Rattle.wt_html_in.specs.Fits.{HeadFits, FitsNode, FitsNodes, Passed, unsourced_here};
+
+use crate::attributes::is_unsourced;
+use crate::head::{Head, head_in};
+use crate::nodes::{leaf_in, node_of};
+use crate::refusal::FitFault;
+use bumpalo::Bump;
+use std::alloc::Global;
+use wt_html_elements::{Attribute, Content};
+use wt_span::List;
+use wt_tree::{Kind, Node};
+
+/// Where a walk over elements in document order has come: the number of the next element, and the
+/// first one so far that has no source.
+#[derive(Clone, Copy, Debug)]
+pub struct Walk {
+    pub next: u32,
+    pub unsourced: Option<u32>,
+}
+
+/// Passes the start of an element; it gives the element's number.
+fn enter(walk: &mut Walk, attributes: &[Attribute]) -> u32
+    requires { walk.old.next + 1 < 2 ^ 32 }
+    ensures number { result ≡ walk.old.next }
+    ensures passed { Passed walk.old walk.new 1 (unsourced_here walk.old.next (pairs attributes.now)) }
+{
+    let number = walk.next;
+    if walk.unsourced.is_none() && is_unsourced(attributes) {
+        walk.unsourced = Some(number);
+    }
+    walk.next = number + 1;
+    number
+}
+
+/// What an element is. Its name and its attributes are let go.
+fn begin(
+    alloc: Global,
+    walk: &mut Walk,
+    outer: Kind,
+    name: Vec<u8>,
+    attributes: Vec<Attribute>,
+    contents: &[Content],
+) -> Result<Head, FitFault>
+    requires few { walk.old.next + 1 < 2 ^ 32 }
+    requires utf8 { are_utf8_values (pairs attributes.items) ≡ true }
+    ensures head { HeadFits (λ inside. fit_row walk.old.next outer (row name.items (pairs attributes.items)) (pairs attributes.items) (λ k. text_fits k (views contents.now)) inside) result }
+    ensures passed { Passed walk.old walk.new 1 (unsourced_here walk.old.next (pairs attributes.items)) }
+{
+    let number = enter(walk, attributes.as_slice());
+    head_in(
+        alloc,
+        number,
+        outer,
+        name.as_slice(),
+        attributes.as_slice(),
+        contents,
+    )
+}
+
+/// What a text or an element stands for in one of the kind `outer`.
+#[cycle(fitting)]
+fn node<'a>(
+    alloc: Global,
+    arena: &'a Bump<Global>,
+    walk: &mut Walk,
+    outer: Kind,
+    content: Content,
+) -> Result<Node<'a>, FitFault>
+    requires few { walk.old.next + elements (view_content content) < 2 ^ 32 }
+    requires utf8 { is_utf8_markup (view_content content) ≡ true }
+    ensures { FitsNode walk.old outer (view_content content) walk.new result }
+{
+    match content {
+        Content::Text(bytes) => leaf_in(alloc, arena, outer, bytes.as_slice()),
+        Content::Element {
+            name,
+            attributes,
+            contents,
+        } => {
+            let head = begin(alloc, walk, outer, name, attributes, contents.as_slice())?;
+            let children = nodes(alloc, arena, walk, head.kind, contents)?;
+            node_of(alloc, arena, head, children)
+        }
+    }
+}
+
+/// What stands in an element of the kind `outer`. Each text and element is let go as soon as its
+/// node is made.
+#[cycle(fitting)]
+pub fn nodes<'a>(
+    alloc: Global,
+    arena: &'a Bump<Global>,
+    walk: &mut Walk,
+    outer: Kind,
+    contents: Vec<Content>,
+) -> Result<List<Node<'a>>, FitFault>
+    requires few { walk.old.next + elements_of_all (views contents.items) < 2 ^ 32 }
+    requires utf8 { are_utf8_markups (views contents.items) ≡ true }
+    ensures { FitsNodes walk.old outer (views contents.items) walk.new result }
+{
+    let mut children = Vec::with_capacity(alloc, contents.len())?;
+    for content in contents {
+        let child = node(alloc, arena, walk, outer, content)?;
+        children.push(child)?;
+    }
+    Ok(List::from_vec(children))
+}
