@@ -21,7 +21,8 @@ use Rattle.wt_fitting.specs.Fit.{is_blank as is_white}
 use Rattle.wt_fitting.specs.Rows.{is_empty, holds_text}
 use Rattle.wt_fitting.specs.Read.{read, page as read_page}
 use Rattle.wt_round_trip.specs.Written.{unranged, shown_of, leaf_kind, may_stand, IsNumber, has_level, IsTextIn, IsAround, is_text as is_text_node, begins_with_text, WrittenIn, AllWrittenIn, IsWritten}
-use Rattle.wt_round_trip.proofs.Whole.{written_read, same_source}
+use Rattle.wt_round_trip.proofs.Again.{same_source}
+use Rattle.wt_round_trip.proofs.Whole.{written_read}
 use Rattle.wt_pagetool.specs.declared.line.LineKind.{LineKind}
 use Rattle.wt_pagetool.specs.declared.line.LineKind.TheVariants.{Blank, Heading, Text}
 use Rattle.wt_pagetool.specs.Headings.{is_heading, core, equals, level_of, heading_parts, opening_of, inside_of, closing_of}

@@ -15,7 +15,7 @@ use Rattle.wt_html_grammar.specs.Markup.{Markup, Markups, text, node, empty, mor
 use Rattle.wt_fitting.specs.Rows.{is_empty}
 use Rattle.wt_round_trip.specs.Written.{is_text, is_as_text, begins_with_text, is_childless, NodeIsWritten, WrittenIn, AllWrittenIn}
 use Rattle.wt_round_trip.proofs.Pieces.{text_piece, spells_text, pieces_spelled, pieces_stand, pieces_good}
-use Rattle.wt_round_trip.proofs.Said.{said, said_is, attributes_for, said_spelled, said_pairs, said_good}
+use Rattle.wt_round_trip.proofs.Said.{said_of, said_is, attributes_for, said_spelled, said_pairs, said_good}
 use Rattle.wt_round_trip.proofs.Labels.{pairs, IsTold, around_read}
 
 abbrev pub pieces : List ℕ → List Piece
@@ -26,10 +26,10 @@ signs [] items = items
 signs (p ∷ ps) items = sign p (signs ps items)
 
 abbrev pub element_for : Label → Items → Element
-element_for l inside = element (element_name l.kind) (attributes_for (said l)) [] inside []
+element_for l inside = element (element_name l.kind) (attributes_for (said_of l)) [] inside []
 
 abbrev pub void_for : Label → Element
-void_for l = void (element_name l.kind) (attributes_for (said l)) [] slash
+void_for l = void (element_name l.kind) (attributes_for (said_of l)) [] slash
 
 -- a node round what it holds, before what follows it
 abbrev pub placed : Writing → Label → Items → Items → Items
@@ -73,8 +73,8 @@ signs_spelled (p ∷ ps) items = ap (λ x. spell_piece p ++ x) (signs_spelled ps
 characters_spelled : (bs : List ℕ) (items : Items) → IsUtf8 bs → spell_items (signs (pieces bs) items) ≡ escaped bs ++ spell_items items
 characters_spelled bs items u = signs_spelled (pieces bs) items ∙ ap (λ x. x ++ spell_items items) (pieces_spelled _ _ _ spells_text bs u)
 
-attributes_spelled : {a : Bool} (l : Label) → IsTold a l → spell_attributes (attributes_for (said l)) ≡ attributes_of l
-attributes_spelled l t = said_spelled [] (said l) t.good ∙ said_is l t.small
+attributes_spelled : {a : Bool} (l : Label) → IsTold a l → spell_attributes (attributes_for (said_of l)) ≡ attributes_of l
+attributes_spelled l t = said_spelled [] (said_of l) t.good ∙ said_is l t.small
 
 pub element_spelled : {a : Bool} (l : Label) (inside : Items) (bytes : List ℕ) → IsTold a l → spell_items inside ≡ bytes → spell (element_for l inside) ≡ start_tag l ++ (bytes ++ end_tag l)
 unfolding start_tag end_tag
@@ -115,10 +115,10 @@ characters_good : (bs : List ℕ) (k : ℕ) (items : Items) → IsUtf8 bs → Ar
 characters_good bs k items u i = signs_good (pieces bs) k items (pieces_good _ _ _ spells_text bs u) i
 
 pub element_good : (l : Label) (k : ℕ) (inside : Items) → k < 200 → IsTold false l → AreItems (suc k) inside → IsElement k (element_for l inside)
-element_good l k inside h t i = (h, t.name, said_good [] (said l) t.good, tt, i, tt, t.ends)
+element_good l k inside h t i = (h, t.name, said_good [] (said_of l) t.good, tt, i, tt, t.ends)
 
 void_good : (l : Label) (k : ℕ) → k < 200 → IsTold true l → IsElement k (void_for l)
-void_good l k h t = (h, t.name, said_good [] (said l) t.good, tt, t.ends)
+void_good l k h t = (h, t.name, said_good [] (said_of l) t.good, tt, t.ends)
 
 good_by : (w : Writing) (k : ℕ) (l : Label) (H : Type 0) (inside rest : Items) → IsSpelled w k l H → (H → AreItems (suc k) inside) → AreItems k rest → AreItems k (placed w l inside rest)
 good_by AsText k l H inside rest h f g = characters_good l.own k rest h.0 g
@@ -140,7 +140,7 @@ mutual
 -- ---- what they stand for
 
 abbrev pub node_for : Label → Markups → Markup
-node_for l inside = node (element_name l.kind) (pairs (said l)) inside
+node_for l inside = node (element_name l.kind) (pairs (said_of l)) inside
 
 abbrev pub marked_up : Writing → Label → Markups → Markups → Markups
 marked_up AsText l inside rest = more (text l.own) rest
@@ -163,10 +163,10 @@ signs_stand [] run items = ap (λ r. contents r items) (sym (append-nil run))
 signs_stand (p ∷ ps) run items = signs_stand ps (run ++ unit_of p) items ∙ ap (λ r. contents r items) (append_assoc run (unit_of p) (flat_map unit_of ps))
 
 pub element_stands : {a : Bool} (l : Label) (inside : Items) (m : Markups) → IsTold a l → contents [] inside ≡ m → meaning (element_for l inside) ≡ node_for l m
-element_stands l inside m t e = ap₂ (node (element_name l.kind)) (said_pairs [] (said l) t.good) e
+element_stands l inside m t e = ap₂ (node (element_name l.kind)) (said_pairs [] (said_of l) t.good) e
 
 void_stands : {a : Bool} (l : Label) → IsTold a l → meaning (void_for l) ≡ node_for l empty
-void_stands l t = ap (λ ps. node (element_name l.kind) ps empty) (said_pairs [] (said l) t.good)
+void_stands l t = ap (λ ps. node (element_name l.kind) ps empty) (said_pairs [] (said_of l) t.good)
 
 characters_stand : (bs : List ℕ) → IsUtf8 bs → contents [] (signs (pieces bs) none) ≡ flush bs empty
 characters_stand bs u = signs_stand (pieces bs) [] none ∙ ap (λ r. flush r empty) (pieces_stand _ _ _ spells_text bs u)

@@ -17,7 +17,7 @@ use Rattle.wt_fitting.specs.Rows.{row, may_hold, holds_text, data_of}
 use Rattle.wt_fitting.specs.Fit.{Misfit, leaf_label, text_leaf, sep_leaf, leaf_in, label_for, are_blank, onto_told, text_fits, fit_told, fit_as, fit_row, fit_node, fit_nodes}
 use Rattle.wt_fitting.specs.Unsourced.{is_unsourced, unsourced_nodes}
 use Rattle.wt_round_trip.specs.Written.{label_read, unranged, unranged_all, shown_of, leaf_kind, IsTextIn, is_childless, NodeIsWritten, WrittenIn, AllWrittenIn}
-use Rattle.wt_round_trip.proofs.Said.{said}
+use Rattle.wt_round_trip.proofs.Said.{said_of}
 use Rattle.wt_round_trip.proofs.Labels.{pairs, IsTold, IsReadIn, around_read}
 use Rattle.wt_round_trip.proofs.Elements.{IsSpelled, is_spelled, node_for, marked_up, markup_before, markups_of}
 
@@ -84,7 +84,7 @@ fit_whole n k ps s m us inside d f i =
 element_fit : {a : Bool} (n : ℕ) (parent : Kind) (l : Label) (m : Markups) (us : Trees) → IsReadIn a parent l → text_fits l.kind m ≡ true → fit_nodes (suc n) l.kind m ≡ Ok us
     → fit_node n parent (node_for l m) ≡ Ok (tree (label_read l) us)
 element_fit n parent l m us t f i =
-    let ps : List Pair = pairs (said l) in
+    let ps : List Pair = pairs (said_of l) in
     ap (λ o. fit_row n parent o ps (λ j. text_fits j m) (λ j. fit_nodes (suc n) j m)) t.row_is
     ∙ if_true (may_hold parent l.kind) _ _ t.held
     ∙ fit_whole n l.kind ps t.told.sync m us (fit_nodes (suc n) l.kind m) t.told.data_is f i
@@ -119,9 +119,9 @@ sourced_by : (w : Writing) (k : ℕ) (l : Label) (H : Type 0) (m rest : Markups)
     → IsSpelled w k l H → (H → (n : ℕ) → unsourced_nodes n m ≡ None) → ((n : ℕ) → unsourced_nodes n rest ≡ None)
     → unsourced_nodes n (marked_up w l m rest) ≡ None
 sourced_by AsText k l H m rest n h i g = ap (λ o. option_or None o) (g _)
-sourced_by AsVoid k l H m rest n h i g = ap₂ option_or (if_false (is_unsourced (pairs (said l))) _ _ h.1.sourced) (g _)
-sourced_by RoundCharacter k l H m rest n h i g = ap₂ option_or (if_false (is_unsourced (pairs (said l))) _ _ h.1.sourced ∙ no_element l.shown (suc n)) (g _)
-sourced_by RoundChildren k l H m rest n h i g = ap₂ option_or (if_false (is_unsourced (pairs (said l))) _ _ h.1.sourced ∙ i h.2 (suc n)) (g _)
+sourced_by AsVoid k l H m rest n h i g = ap₂ option_or (if_false (is_unsourced (pairs (said_of l))) _ _ h.1.sourced) (g _)
+sourced_by RoundCharacter k l H m rest n h i g = ap₂ option_or (if_false (is_unsourced (pairs (said_of l))) _ _ h.1.sourced ∙ no_element l.shown (suc n)) (g _)
+sourced_by RoundChildren k l H m rest n h i g = ap₂ option_or (if_false (is_unsourced (pairs (said_of l))) _ _ h.1.sourced ∙ i h.2 (suc n)) (g _)
 sourced_by Unwritten k l H m rest n h i g = absurd h
 
 mutual

@@ -31,7 +31,7 @@ use Rattle.wt_html_grammar.proofs.Steps.{if_true, if_false}
 use Rattle.wt_html_grammar.proofs.Reading.{and_true}
 use Rattle.wt_round_trip.specs.Written.{HasPlaces, IsNumber, has_level, IsAround, label_read}
 use Rattle.wt_round_trip.proofs.Json.{ascii_then, sync_utf8, sync_read}
-use Rattle.wt_round_trip.proofs.Said.{Said, double, single, pair_said, kind_said, own_said, id_said, mw_said, sync_said, said, AreGood}
+use Rattle.wt_round_trip.proofs.Said.{Said, double, single, pair_said, kind_said, own_said, id_said, mw_said, sync_said, said_of, AreGood}
 
 -- ---- numbers
 
@@ -75,7 +75,7 @@ number_told n some small =
 -- an element round its children, which the kind alone tells nothing about
 record IsElementKind (k : Kind) : Type 0 where
   round : writing k ≡ RoundChildren
-  said : kind_said k ≡ []
+  untold : kind_said k ≡ []
   leaf : is_leaf k ≡ false
   name : IsName (element_name k)
   whole : is_void (element_name k) ≡ false
@@ -88,11 +88,11 @@ record IsNamedKind (k : Kind) : Type 0 where
 
 body_kind : IsElementKind kind.Body
 unfolding element_name
-body_kind = record { round = refl; said = refl; leaf = refl; name = (refl, (refl, (refl, (refl, tt)))); whole = refl }
+body_kind = record { round = refl; untold = refl; leaf = refl; name = (refl, (refl, (refl, (refl, tt)))); whole = refl }
 
 para_kind : IsNamedKind kind.Para
 unfolding element_name
-para_kind = record { element = record { round = refl; said = refl; leaf = refl; name = (refl, tt); whole = refl }; numbered = refl; named = refl }
+para_kind = record { element = record { round = refl; untold = refl; leaf = refl; name = (refl, tt); whole = refl }; numbered = refl; named = refl }
 
 level_cases : (P : ℕ → Type 0) → P 1 → P 2 → P 3 → P 4 → P 5 → P 6 → (n : ℕ) → (nat_le 1 n && nat_le n 6) ≡ true → P n
 level_cases P a b c d e f zero h = absurd cc
@@ -110,12 +110,12 @@ level_cases P a b c d e f (suc (suc (suc (suc (suc (suc (suc n))))))) h = absurd
 heading_kind : (n : ℕ) → (nat_le 1 n && nat_le n 6) ≡ true → IsNamedKind (kind.Heading n)
 unfolding element_name digits
 heading_kind = level_cases (λ n. IsNamedKind (kind.Heading n))
-    (record { element = record { round = refl; said = refl; leaf = refl; name = (refl, (refl, tt)); whole = refl }; numbered = refl; named = refl })
-    (record { element = record { round = refl; said = refl; leaf = refl; name = (refl, (refl, tt)); whole = refl }; numbered = refl; named = refl })
-    (record { element = record { round = refl; said = refl; leaf = refl; name = (refl, (refl, tt)); whole = refl }; numbered = refl; named = refl })
-    (record { element = record { round = refl; said = refl; leaf = refl; name = (refl, (refl, tt)); whole = refl }; numbered = refl; named = refl })
-    (record { element = record { round = refl; said = refl; leaf = refl; name = (refl, (refl, tt)); whole = refl }; numbered = refl; named = refl })
-    (record { element = record { round = refl; said = refl; leaf = refl; name = (refl, (refl, tt)); whole = refl }; numbered = refl; named = refl })
+    (record { element = record { round = refl; untold = refl; leaf = refl; name = (refl, (refl, tt)); whole = refl }; numbered = refl; named = refl })
+    (record { element = record { round = refl; untold = refl; leaf = refl; name = (refl, (refl, tt)); whole = refl }; numbered = refl; named = refl })
+    (record { element = record { round = refl; untold = refl; leaf = refl; name = (refl, (refl, tt)); whole = refl }; numbered = refl; named = refl })
+    (record { element = record { round = refl; untold = refl; leaf = refl; name = (refl, (refl, tt)); whole = refl }; numbered = refl; named = refl })
+    (record { element = record { round = refl; untold = refl; leaf = refl; name = (refl, (refl, tt)); whole = refl }; numbered = refl; named = refl })
+    (record { element = record { round = refl; untold = refl; leaf = refl; name = (refl, (refl, tt)); whole = refl }; numbered = refl; named = refl })
 
 block_kind : (k : Kind) → is_block k ≡ true → has_level k ≡ true → IsNamedKind k
 block_kind kind.Para b h = para_kind
@@ -144,9 +144,9 @@ inner_is : (l : Label) (r : Ranges) → is_leaf l.kind ≡ false → sync_of l r
 unfolding sync_of
 inner_is l r e = if_false (is_leaf l.kind) _ _ e
 
-said_short : (l : Label) (r : Ranges) → IsElementKind l.kind → l.attrs ≡ [] → l.mw ≡ None → l.ranges ≡ Some r → said l ≡ short (l.id == 0) l.id (sync_text (inner_sync l r))
+said_short : (l : Label) (r : Ranges) → IsElementKind l.kind → l.attrs ≡ [] → l.mw ≡ None → l.ranges ≡ Some r → said_of l ≡ short (l.id == 0) l.id (sync_text (inner_sync l r))
 said_short l r k a m e =
-    ap₂ (λ x y. x ++ (map own_said y ++ (id_said l.id ++ (mw_said l.mw ++ sync_said l l.ranges)))) k.said a
+    ap₂ (λ x y. x ++ (map own_said y ++ (id_said l.id ++ (mw_said l.mw ++ sync_said l l.ranges)))) k.untold a
     ∙ ap₂ (λ x y. id_said l.id ++ (mw_said x ++ sync_said l y)) m e
     ∙ ap (λ s. id_said l.id ++ (single (codes "data-parsoid") (sync_text s) ∷ [])) (inner_is l r k.leaf)
     ∙ id_short l.id (sync_text (inner_sync l r))
@@ -222,18 +222,18 @@ pub record IsTold (alone : Bool) (l : Label) : Type 0 where
   pub small : l.id < 2 ^ 64
   pub name : IsName (element_name l.kind)
   pub ends : is_void (element_name l.kind) ≡ alone
-  pub good : AreGood [] (said l)
-  pub sourced : is_unsourced (pairs (said l)) ≡ false
-  pub marked : is_marked (pairs (said l)) ≡ false
+  pub good : AreGood [] (said_of l)
+  pub sourced : is_unsourced (pairs (said_of l)) ≡ false
+  pub marked : is_marked (pairs (said_of l)) ≡ false
   pub sync : Sync
-  pub data_is : data_of l.kind (pairs (said l)) ≡ Some (Some sync)
-  pub label_is : label_for l.kind (pairs (said l)) (Some sync) ≡ label_read l
+  pub data_is : data_of l.kind (pairs (said_of l)) ≡ Some (Some sync)
+  pub label_is : label_for l.kind (pairs (said_of l)) (Some sync) ≡ label_read l
 
 -- the same of an element that may stand in one of that kind, by its row
 pub record IsReadIn (alone : Bool) (parent : Kind) (l : Label) : Type 0 where
   pub told : IsTold alone l
   pub held : may_hold parent l.kind ≡ true
-  pub row_is : row (element_name l.kind) (pairs (said l)) ≡ Some l.kind
+  pub row_is : row (element_name l.kind) (pairs (said_of l)) ≡ Some l.kind
 
 with_places : (P : Option Ranges → Type 0) → ((r : Ranges) → HasPlaces (Some r) → P (Some r)) → (o : Option Ranges) → HasPlaces o → P o
 with_places P f None h = absurd h
@@ -247,10 +247,10 @@ told_at l r k h p e =
     let s : Sync = inner_sync l r in
     let t : List ℕ = sync_text s in
     let b : Bool = l.id == 0 in
-    let q : said l ≡ short b l.id t = said_short l r k h.attrs h.mw e in
+    let q : said_of l ≡ short b l.id t = said_short l r k h.attrs h.mw e in
     let small : l.id < 2 ^ 32 = small_number _ l.id h.number in
-    let id : id_of (pairs (said l)) ≡ l.id = ap (λ ss. id_of (pairs ss)) q ∙ short_id l.id t small in
-    let m : mark_of (pairs (said l)) ≡ mark.Nothing = ap (λ ss. mark_of (pairs ss)) q ∙ short_mark b l.id t in
+    let id : id_of (pairs (said_of l)) ≡ l.id = ap (λ ss. id_of (pairs ss)) q ∙ short_id l.id t small in
+    let m : mark_of (pairs (said_of l)) ≡ mark.Nothing = ap (λ ss. mark_of (pairs ss)) q ∙ short_mark b l.id t in
     record {
       small = omega arith;
       name = k.name;
@@ -260,17 +260,17 @@ told_at l r k h p e =
       marked = ap (λ ss. is_marked (pairs ss)) q ∙ short_marked b l.id t;
       sync = s;
       data_is = ap (λ ss. data_of l.kind (pairs ss)) q ∙ short_data b l.id t l.kind ∙ fits l.kind s t (sync_read s p) k.leaf refl;
-      label_is = ap₂ (λ i n. label_with l.kind i n (Some s)) (id_is l.kind (pairs (said l)) l.id h.number id) m ∙ plain_label l r k h e;
+      label_is = ap₂ (λ i n. label_with l.kind i n (Some s)) (id_is l.kind (pairs (said_of l)) l.id h.number id) m ∙ plain_label l r k h e;
     }
 
 told : (l : Label) → IsElementKind l.kind → IsAround l → IsTold false l
 told l k h = with_places (λ o. l.ranges ≡ o → IsTold false l) (λ r p e. told_at l r k h p e) l.ranges h.places refl
 
-typed_at : (l : Label) (r : Ranges) → IsElementKind l.kind → IsAround l → l.ranges ≡ Some r → is_typed (pairs (said l)) ≡ false
+typed_at : (l : Label) (r : Ranges) → IsElementKind l.kind → IsAround l → l.ranges ≡ Some r → is_typed (pairs (said_of l)) ≡ false
 typed_at l r k h e = ap (λ ss. is_typed (pairs ss)) (said_short l r k h.attrs h.mw e) ∙ short_typed (l.id == 0) l.id (sync_text (inner_sync l r))
 
-typed : (l : Label) → IsElementKind l.kind → IsAround l → is_typed (pairs (said l)) ≡ false
-typed l k h = with_places (λ o. l.ranges ≡ o → is_typed (pairs (said l)) ≡ false) (λ r p e. typed_at l r k h e) l.ranges h.places refl
+typed : (l : Label) → IsElementKind l.kind → IsAround l → is_typed (pairs (said_of l)) ≡ false
+typed l k h = with_places (λ o. l.ranges ≡ o → is_typed (pairs (said_of l)) ≡ false) (λ r p e. typed_at l r k h e) l.ranges h.places refl
 
 -- an element round its children
 pub around_read : (parent : Kind) (l : Label) → may_hold parent l.kind ≡ true → IsAround l → IsReadIn false parent l
@@ -279,7 +279,7 @@ around_read parent l e h =
     record {
       told = told l k.element h;
       held = e;
-      row_is = if_false (is_typed (pairs (said l))) _ _ (typed l k.element h) ∙ k.named;
+      row_is = if_false (is_typed (pairs (said_of l))) _ _ (typed l k.element h) ∙ k.named;
     }
 
 -- the body

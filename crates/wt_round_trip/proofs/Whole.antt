@@ -20,7 +20,7 @@ use Rattle.wt_fitting.specs.Fit.{Found, label_for, fit_nodes, fit_body, body_of,
 use Rattle.wt_fitting.specs.Unsourced.{is_marked, unsourced_body, unsourced}
 use Rattle.wt_fitting.specs.Read.{page, read_fit, read_tree, read_root, read_run, read}
 use Rattle.wt_round_trip.specs.Written.{unranged, unranged_all, AllWrittenIn, IsWritten}
-use Rattle.wt_round_trip.proofs.Said.{said}
+use Rattle.wt_round_trip.proofs.Said.{said_of}
 use Rattle.wt_round_trip.proofs.Labels.{pairs, IsTold, body_told, body_round}
 use Rattle.wt_round_trip.proofs.Elements.{element_for, element_spelled, items_of, items_spelled, element_good, items_good, node_for, markups_of, element_stands, items_stand}
 use Rattle.wt_round_trip.proofs.Fits.{texts_fit, fit_whole, items_fit, items_sourced}
@@ -76,7 +76,7 @@ unfolding encode
 document_stands body = refl
 
 abbrev found : Label → Markups → Found
-found l m = record { number = 4; attributes = pairs (said l); contents = m }
+found l m = record { number = 4; attributes = pairs (said_of l); contents = m }
 
 body_found : (l : Label) (m : Markups) → l.kind ≡ kind.Body → body_of (page_markup (node_for l m)) ≡ Some (found l m)
 unfolding element_name
@@ -84,7 +84,7 @@ body_found l m e = if_true (bytes_eq (codes "head") (codes "head") && bytes_eq (
 
 body_fits : (l : Label) (ts : Trees) → l.kind ≡ kind.Body → IsTold false l → AllWrittenIn 2 kind.Body ts → fit (page_markup (node_for l (markups_of ts))) ≡ Ok (unranged (tree l ts))
 body_fits l ts e t h =
-    let ps : List Pair = pairs (said l) in
+    let ps : List Pair = pairs (said_of l) in
     let m : Markups = markups_of ts in
     ap fit_body (body_found l m e)
     ∙ fit_whole 4 kind.Body ps t.sync m (unranged_all ts) (fit_nodes 5 kind.Body m) (ap (λ k. data_of k ps) (sym e) ∙ t.data_is) (texts_fit ts 2 kind.Body h) (items_fit ts 2 kind.Body 5 h)
@@ -93,7 +93,7 @@ body_fits l ts e t h =
 body_sourced : (l : Label) (ts : Trees) → l.kind ≡ kind.Body → IsTold false l → AllWrittenIn 2 kind.Body ts → unsourced (page_markup (node_for l (markups_of ts))) ≡ None
 body_sourced l ts e t h =
     ap unsourced_body (body_found l (markups_of ts) e)
-    ∙ if_false (is_marked (pairs (said l))) _ _ t.marked ∙ items_sourced ts 2 kind.Body 5 h
+    ∙ if_false (is_marked (pairs (said_of l))) _ _ t.marked ∙ items_sourced ts 2 kind.Body 5 h
 
 -- ---- the law
 
@@ -126,11 +126,3 @@ stands_read bytes m t u s f e =
 
 pub written_read : (t : Tree) → IsWritten t → read (html_text t) ≡ page (unranged t) None
 written_read t h = let w = written_stands t h in stands_read (html_text t) w.0 (unranged t) None w.1 w.2 w.3
-
-mutual
-  pub same_source : (t : Tree) → flat (unranged t) ≡ flat t
-  same_source (tree l ts) = ap (λ x. if is_leaf l.kind then l.own else (l.opening ++ x ++ l.closing)) (same_sources ts)
-
-  same_sources : (ts : Trees) → flat_of_all (unranged_all ts) ≡ flat_of_all ts
-  same_sources no_trees = refl
-  same_sources (one_more t ts) = ap₂ (λ (x y : List ℕ). x ++ y) (same_source t) (same_sources ts)
