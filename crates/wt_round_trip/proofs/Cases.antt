@@ -1,5 +1,5 @@
 -- Worked cases by computing: the two smallest pages are read as their own trees.
-use Rattle.std.proofs.Common.{◌++◌, ◌≡◌, ℕ, Some, None, List, [], refl, codes}
+use Rattle.std.proofs.Common.{◌∷◌, ◌++◌, ◌≡◌, ℕ, Some, None, List, [], refl, codes}
 use Rattle.wt_tree.specs.declared.kind.Kind.{Kind}
 use Rattle.wt_tree.specs.declared.kind.Kind.TheVariants as kind
 use Rattle.wt_tree.specs.declared.kind.Mark.TheVariants.{Nothing}

@@ -1,6 +1,6 @@
 -- The elements of a tree as the grammar has them: how they are spelled, that they are good, and what
 -- they stand for.
-use Rattle.std.proofs.Common.{◌≡◌, ℕ, suc, ◌<◌, ◌^◌, Bool, true, false, List, [], ◌∷◌, ◌++◌, map, flat_map, IsUtf8, chars, refl, sym, ap, ap₂, ◌∙◌, append_assoc, append-nil, codes}
+use Rattle.std.proofs.Common.{◌≡◌, ℕ, suc, ◌<◌, Bool, true, false, List, [], ◌∷◌, ◌++◌, map, flat_map, IsUtf8, chars, refl, sym, ap, ap₂, ◌∙◌, append_assoc, append-nil, codes}
 use Rattle.std.specs.Prelude.{◌&&◌}
 use Rattle.wt_tree.specs.declared.kind.Kind.{Kind}
 use Rattle.wt_tree.specs.Tree.{Label, Tree, tree, Trees, none as no_trees, more as one_more}

@@ -8,17 +8,16 @@ use Rattle.wt_tree.specs.Tree.{Label, Tree, tree, Trees, none as no_trees, more 
 use Rattle.wt_datamw.specs.declared.sync.Sync.{Sync}
 use Rattle.wt_markup.specs.declared.writing.Writing.{Writing}
 use Rattle.wt_markup.specs.declared.writing.Writing.TheVariants.{AsText, AsVoid, RoundCharacter, RoundChildren, Unwritten}
-use Rattle.wt_markup.specs.Elements.{writing, element_name}
-use Rattle.wt_html_grammar.specs.Markup.{Pair, Markup, Markups, text, node, empty, more, flush}
+use Rattle.wt_markup.specs.Elements.{writing}
+use Rattle.wt_html_grammar.specs.Markup.{Pair, Markups, empty, flush}
 use Rattle.wt_html_grammar.proofs.Steps.{if_true, if_false}
 use Rattle.wt_html_grammar.proofs.Reading.{and_true}
-use Rattle.wt_fitting.specs.Attributes.{is_typed}
-use Rattle.wt_fitting.specs.Rows.{row, may_hold, holds_text, data_of}
+use Rattle.wt_fitting.specs.Rows.{may_hold, holds_text, data_of}
 use Rattle.wt_fitting.specs.Fit.{Misfit, leaf_label, text_leaf, sep_leaf, leaf_in, label_for, are_blank, onto_told, text_fits, fit_told, fit_as, fit_row, fit_node, fit_nodes}
 use Rattle.wt_fitting.specs.Unsourced.{is_unsourced, unsourced_nodes}
 use Rattle.wt_round_trip.specs.Written.{label_read, unranged, unranged_all, shown_of, leaf_kind, IsTextIn, is_childless, NodeIsWritten, WrittenIn, AllWrittenIn}
 use Rattle.wt_round_trip.proofs.Said.{said_of}
-use Rattle.wt_round_trip.proofs.Labels.{pairs, IsTold, IsReadIn, around_read}
+use Rattle.wt_round_trip.proofs.Labels.{pairs, IsReadIn, around_read}
 use Rattle.wt_round_trip.proofs.Elements.{IsSpelled, is_spelled, node_for, marked_up, markup_before, markups_of}
 
 -- ---- texts

@@ -1,12 +1,10 @@
 -- The page round the body, and the law.
-use Rattle.std.proofs.Common.{◌≡◌, ℕ, Option, Some, None, List, [], ◌∷◌, ◌++◌, map, refl, sym, ap, ap₂, ◌∙◌, subst, append-nil, codes, arith, false}
-use Rattle.std.specs.Prelude.{Ok, ◌&&◌, if◌then◌else◌}
+use Rattle.std.proofs.Common.{◌≡◌, ℕ, Option, Some, None, List, [], ◌∷◌, ◌++◌, map, refl, sym, ap, ap₂, ◌∙◌, append-nil, codes, arith, false}
+use Rattle.std.specs.Prelude.{Ok, ◌&&◌}
 use Rattle.std.specs.Str.{bytes_eq}
 use lib.Utf8.{encode}
 use Rattle.wt_tree.specs.declared.kind.Kind.TheVariants as kind
-use Rattle.wt_tree.specs.Kinds.{is_leaf}
-use Rattle.wt_tree.specs.Source.{flat, flat_of_all}
-use Rattle.wt_tree.specs.Tree.{Label, Tree, tree, Trees, none as no_trees, more as one_more}
+use Rattle.wt_tree.specs.Tree.{Label, Tree, tree, Trees}
 use Rattle.wt_markup.specs.Elements.{element_name}
 use Rattle.wt_markup.specs.Html.{written, html, html_of_all, frame_start, frame_end, html_text}
 use Rattle.wt_html_grammar.specs.Grammar.{plain, Attribute, slash, Element, element, void, none, child, spell, IsElement, Document, spell_document, IsDocument}
