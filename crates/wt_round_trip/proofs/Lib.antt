@@ -7,3 +7,4 @@ pub mod Elements
 pub mod Fits
 pub mod Whole
 pub mod Again
+pub mod MwJson
