@@ -1,6 +1,6 @@
 -- The tree of a plain page is one for which HTML is written that is read as this tree.
-use Rattle.std.proofs.Common.{◌≡◌, ℕ, zero, suc, ◌+◌, ◌-◌, ◌/◌, ◌<◌, ◌≤◌, ◌^◌, min, List, [], ◌∷◌, ◌++◌, length, take, drop, map, reverse, get_or, IsUtf8, true, false, Bool, cond, refl, sym, ap, ap₂, ◌∙◌, subst, append-nil, append_assoc, arith, length-append}
-use Rattle.std.specs.Prelude.{◌==◌, ◌&&◌, ◌||◌, not, nat_lt, nat_le, Option, None, if◌then◌else◌}
+use Rattle.std.proofs.Common.{◌≡◌, ℕ, zero, suc, ◌+◌, ◌-◌, ◌/◌, ◌<◌, ◌≤◌, ◌^◌, min, List, [], ◌∷◌, ◌++◌, length, take, drop, map, reverse, IsUtf8, true, false, Bool, cond, refl, sym, ap, ap₂, ◌∙◌, subst, append-nil, arith, length-append}
+use Rattle.std.specs.Prelude.{◌==◌, ◌&&◌, not, nat_lt, nat_le, None, if◌then◌else◌}
 use Rattle.std.specs.List.{flat_map}
 use Rattle.std.specs.Str.{IsAscii}
 use Rattle.std.proofs.lemmas.Bool.{and_parts}
@@ -14,19 +14,20 @@ use Rattle.wt_tree.specs.declared.kind.Kind.{Kind}
 use Rattle.wt_tree.specs.declared.kind.Kind.TheVariants as kind
 use Rattle.wt_tree.specs.Kinds.{is_numbered}
 use Rattle.wt_tree.specs.Source.{flat}
-use Rattle.wt_tree.specs.Tree.{Label, Tree, tree, trees}
+use Rattle.wt_tree.specs.Tree.{trees}
 use Rattle.wt_markup.specs.Html.{html_text}
 use Rattle.wt_html_grammar.proofs.Steps.{if_true}
 use Rattle.wt_fitting.specs.Fit.{is_blank as is_white}
 use Rattle.wt_fitting.specs.Rows.{is_empty, holds_text}
 use Rattle.wt_fitting.specs.Read.{read, page as read_page}
-use Rattle.wt_round_trip.specs.Written.{unranged, shown_of, leaf_kind, may_stand, IsNumber, has_level, IsTextIn, IsAround, is_text as is_text_node, begins_with_text, WrittenIn, AllWrittenIn, IsWritten}
-use Rattle.wt_round_trip.proofs.Whole.{written_read, same_source}
+use Rattle.wt_round_trip.specs.Written.{unranged, shown_of, leaf_kind, IsNumber, has_level, IsTextIn, IsAround, is_text as is_text_node, begins_with_text, WrittenIn, AllWrittenIn, IsWritten}
+use Rattle.wt_round_trip.proofs.Again.{same_source}
+use Rattle.wt_round_trip.proofs.Whole.{written_read}
 use Rattle.wt_pagetool.specs.declared.line.LineKind.{LineKind}
 use Rattle.wt_pagetool.specs.declared.line.LineKind.TheVariants.{Blank, Heading, Text}
-use Rattle.wt_pagetool.specs.Headings.{is_heading, core, equals, level_of, heading_parts, opening_of, inside_of, closing_of}
+use Rattle.wt_pagetool.specs.Headings.{is_heading, core, equals, heading_parts, opening_of, inside_of, closing_of}
 use Rattle.wt_pagetool.specs.Lines.{lines, goes_on, content, ending, kind_of, line_kind, is_text, same_block}
-use Rattle.wt_pagetool.specs.Blocks.{Block, para, heading, sep, source, sources, sep_of, blocks_by, joined, first_kind, blocks_of, pieces, both_seps, as_one, blocks}
+use Rattle.wt_pagetool.specs.Blocks.{Block, para, heading, sep, source, sources, sep_of, blocks_by, joined, blocks_of, pieces, both_seps, as_one, blocks}
 use Rattle.wt_pagetool.specs.PageTree.{plain_label, text_in, heading_label, next_id, block_tree, block_trees, page_tree}
 use Rattle.wt_pagetool.specs.Unbuilt.{first_unbuilt}
 use Rattle.wt_pagetool.proofs.TreeLaws.{sources_blocks, flat_page}
@@ -282,10 +283,13 @@ level_good line h = by (equals (core line) == length (core line)) refl
   where
     first_run : (n m : ℕ) → (nat_lt 0 n && (nat_lt 0 m && not (nat_le (length (core line)) 2 && n == length (core line)))) ≡ true → (n == length (core line)) ≡ true → 2 < length (core line)
     first_run n m h e = grind (arith, nat_tests, common_steps)
+
     runs_some : (n m k : ℕ) (v : Bool) → (nat_lt 0 n && (nat_lt 0 m && v)) ≡ true → (0 < n) × (0 < m)
     runs_some n m k v h = grind (arith, nat_tests, common_steps)
+
     level_test : (n : ℕ) → 1 ≤ n → n ≤ 6 → (nat_le 1 n && nat_le n 6) ≡ true
     level_test n l h = grind (arith, nat_tests)
+
     by : (v : Bool) → (equals (core line) == length (core line)) ≡ v → has_level (kind.Heading (if v then min 6 ((length (core line) - 1) / 2) else min 6 (min (equals (core line)) (equals (reverse (core line)))))) ≡ true
     by true e = let q = half (length (core line)) (first_run _ _ h e) in level_test (min 6 ((length (core line) - 1) / 2)) (omega arith) (omega arith)
     by false e =
@@ -346,6 +350,7 @@ heading_around id at line h a some small room = record {
   where
     take_small : (n : ℕ) (bs : List ℕ) → length bs < 2 ^ 32 → length (take n bs) < 2 ^ 32
     take_small n bs h = let e = ap length (take-append-drop n bs) in omega (arith, length-append (take n bs) (drop n bs))
+
     drop_small : (n : ℕ) (bs : List ℕ) → length bs < 2 ^ 32 → length (drop n bs) < 2 ^ 32
     drop_small n bs h = let e = ap length (take-append-drop n bs) in omega (arith, length-append (take n bs) (drop n bs))
 

@@ -1,5 +1,5 @@
 -- What stands for a tree fits, as that tree, and each of its elements has a source.
-use Rattle.std.proofs.Common.{◌≡◌, ℕ, suc, Bool, true, false, Some, None, Result, List, refl, sym, ap, ap₂, ◌∙◌}
+use Rattle.std.proofs.Common.{[], ◌≡◌, ℕ, suc, Bool, true, false, Some, None, Result, List, refl, sym, ap, ap₂, ◌∙◌, ◌∷◌}
 use Rattle.std.specs.Prelude.{Ok, ◌||◌, if◌then◌else◌}
 use Rattle.std.specs.Option.{option_or}
 use Rattle.wt_tree.specs.declared.kind.Kind.{Kind}
@@ -8,18 +8,17 @@ use Rattle.wt_tree.specs.Tree.{Label, Tree, tree, Trees, none as no_trees, more 
 use Rattle.wt_datamw.specs.declared.sync.Sync.{Sync}
 use Rattle.wt_markup.specs.declared.writing.Writing.{Writing}
 use Rattle.wt_markup.specs.declared.writing.Writing.TheVariants.{AsText, AsVoid, RoundCharacter, RoundChildren, Unwritten}
-use Rattle.wt_markup.specs.Elements.{writing, element_name}
-use Rattle.wt_html_grammar.specs.Markup.{Pair, Markups}
+use Rattle.wt_markup.specs.Elements.{writing}
+use Rattle.wt_html_grammar.specs.Markup.{Pair, Markups, empty, flush}
 use Rattle.wt_html_grammar.proofs.Steps.{if_true, if_false}
 use Rattle.wt_html_grammar.proofs.Reading.{and_true}
-use Rattle.wt_fitting.specs.Attributes.{is_typed}
-use Rattle.wt_fitting.specs.Rows.{row, may_hold, holds_text, data_of}
+use Rattle.wt_fitting.specs.Rows.{may_hold, holds_text, data_of}
 use Rattle.wt_fitting.specs.Fit.{Misfit, leaf_label, text_leaf, sep_leaf, leaf_in, label_for, are_blank, onto_told, text_fits, fit_told, fit_as, fit_row, fit_node, fit_nodes}
 use Rattle.wt_fitting.specs.Unsourced.{is_unsourced, unsourced_nodes}
 use Rattle.wt_round_trip.specs.Written.{label_read, unranged, unranged_all, shown_of, leaf_kind, IsTextIn, is_childless, NodeIsWritten, WrittenIn, AllWrittenIn}
-use Rattle.wt_round_trip.proofs.Said.{said}
-use Rattle.wt_round_trip.proofs.Labels.{IsNamedKind, held_kind, pairs, IsTold, told}
-use Rattle.wt_round_trip.proofs.Elements.{node_for, marked_up, markup_before, markups_of}
+use Rattle.wt_round_trip.proofs.Said.{said_of}
+use Rattle.wt_round_trip.proofs.Labels.{pairs, IsReadIn, around_read}
+use Rattle.wt_round_trip.proofs.Elements.{IsSpelled, is_spelled, node_for, marked_up, markup_before, markups_of}
 
 -- ---- texts
 
@@ -81,17 +80,14 @@ pub fit_whole : (n : ℕ) (k : Kind) (ps : List Pair) (s : Sync) (m : Markups) (
 fit_whole n k ps s m us inside d f i =
     ap (λ o. fit_told n k ps o (text_fits k m) inside) d ∙ ap₂ (λ b r. fit_told n k ps (Some (Some s)) b r) f i
 
-row_is : (l : Label) → IsNamedKind l.kind → IsTold l → row (element_name l.kind) (pairs (said l)) ≡ Some l.kind
-row_is l k t = if_false (is_typed (pairs (said l))) _ _ t.typed ∙ k.named
-
-element_fit : (n : ℕ) (parent : Kind) (l : Label) (m : Markups) (us : Trees) → IsNamedKind l.kind → IsTold l → may_hold parent l.kind ≡ true → text_fits l.kind m ≡ true → fit_nodes (suc n) l.kind m ≡ Ok us
+element_fit : {a : Bool} (n : ℕ) (parent : Kind) (l : Label) (m : Markups) (us : Trees) → IsReadIn a parent l → text_fits l.kind m ≡ true → fit_nodes (suc n) l.kind m ≡ Ok us
     → fit_node n parent (node_for l m) ≡ Ok (tree (label_read l) us)
-element_fit n parent l m us k t h f i =
-    let ps : List Pair = pairs (said l) in
-    ap (λ o. fit_row n parent o ps (λ j. text_fits j m) (λ j. fit_nodes (suc n) j m)) (row_is l k t)
-    ∙ if_true (may_hold parent l.kind) _ _ h
-    ∙ fit_whole n l.kind ps t.sync m us (fit_nodes (suc n) l.kind m) t.data_is f i
-    ∙ ap (λ x. Ok (tree x us)) t.label_is
+element_fit n parent l m us t f i =
+    let ps : List Pair = pairs (said_of l) in
+    ap (λ o. fit_row n parent o ps (λ j. text_fits j m) (λ j. fit_nodes (suc n) j m)) t.row_is
+    ∙ if_true (may_hold parent l.kind) _ _ t.held
+    ∙ fit_whole n l.kind ps t.told.sync m us (fit_nodes (suc n) l.kind m) t.told.data_is f i
+    ∙ ap (λ x. Ok (tree x us)) t.told.label_is
 
 fit_by : (w : Writing) (k : ℕ) (parent : Kind) (l : Label) (ts : Trees) (H : Type 0) (m rest : Markups) (vs : Trees) (n : ℕ)
     → NodeIsWritten w k parent l (is_childless ts) H → (H → text_fits l.kind m ≡ true) → (H → (n : ℕ) → fit_nodes n l.kind m ≡ Ok (unranged_all ts)) → ((n : ℕ) → fit_nodes n parent rest ≡ Ok vs)
@@ -99,9 +95,7 @@ fit_by : (w : Writing) (k : ℕ) (parent : Kind) (l : Label) (ts : Trees) (H : T
 fit_by AsText k parent l ts H m rest vs n h f i g = ap₂ onto_told (ap Ok (text_fit parent l ts h.0 h.1)) (g _)
 fit_by AsVoid k parent l ts H m rest vs n h f i g = absurd h
 fit_by RoundCharacter k parent l ts H m rest vs n h f i g = absurd h
-fit_by RoundChildren k parent l ts H m rest vs n h f i g =
-    let e = held_kind parent l.kind h.1 h.2.level in
-    ap₂ onto_told (element_fit n parent l m (unranged_all ts) e (told l e.element h.2) h.1 (f h.3) (i h.3 (suc n))) (g _)
+fit_by RoundChildren k parent l ts H m rest vs n h f i g = ap₂ onto_told (element_fit n parent l m (unranged_all ts) (around_read parent l h.1 h.2) (f h.3) (i h.3 (suc n))) (g _)
 fit_by Unwritten k parent l ts H m rest vs n h f i g = absurd h
 
 mutual
@@ -116,21 +110,24 @@ mutual
 
 -- ---- sources
 
-sourced_by : (w : Writing) (k : ℕ) (parent : Kind) (l : Label) (childless : Bool) (H : Type 0) (m rest : Markups) (n : ℕ)
-    → NodeIsWritten w k parent l childless H → (H → (n : ℕ) → unsourced_nodes n m ≡ None) → ((n : ℕ) → unsourced_nodes n rest ≡ None)
+no_element : (bs : List ℕ) (n : ℕ) → unsourced_nodes n (flush bs empty) ≡ None
+no_element [] n = refl
+no_element (b ∷ bs) n = refl
+
+sourced_by : (w : Writing) (k : ℕ) (l : Label) (H : Type 0) (m rest : Markups) (n : ℕ)
+    → IsSpelled w k l H → (H → (n : ℕ) → unsourced_nodes n m ≡ None) → ((n : ℕ) → unsourced_nodes n rest ≡ None)
     → unsourced_nodes n (marked_up w l m rest) ≡ None
-sourced_by AsText k parent l childless H m rest n h i g = ap (λ o. option_or None o) (g _)
-sourced_by AsVoid k parent l childless H m rest n h i g = absurd h
-sourced_by RoundCharacter k parent l childless H m rest n h i g = absurd h
-sourced_by RoundChildren k parent l childless H m rest n h i g =
-    let e = told l (held_kind parent l.kind h.1 h.2.level).element h.2 in
-    ap₂ option_or (if_false (is_unsourced (pairs (said l))) _ _ e.sourced ∙ i h.3 (suc n)) (g _)
-sourced_by Unwritten k parent l childless H m rest n h i g = absurd h
+sourced_by AsText k l H m rest n h i g = ap (λ o. option_or None o) (g _)
+sourced_by AsVoid k l H m rest n h i g = ap₂ option_or (if_false (is_unsourced (pairs (said_of l))) _ _ h.1.sourced) (g _)
+sourced_by RoundCharacter k l H m rest n h i g = ap₂ option_or (if_false (is_unsourced (pairs (said_of l))) _ _ h.1.sourced ∙ no_element l.shown (suc n)) (g _)
+sourced_by RoundChildren k l H m rest n h i g = ap₂ option_or (if_false (is_unsourced (pairs (said_of l))) _ _ h.1.sourced ∙ i h.2 (suc n)) (g _)
+sourced_by Unwritten k l H m rest n h i g = absurd h
 
 mutual
   pub item_sourced : (t : Tree) (k : ℕ) (parent : Kind) (rest : Markups) (n : ℕ) → WrittenIn k parent t → ((n : ℕ) → unsourced_nodes n rest ≡ None) → unsourced_nodes n (markup_before t rest) ≡ None
   item_sourced (tree l ts) k parent rest n h g =
-      sourced_by (writing l.kind) k parent l (is_childless ts) (AllWrittenIn (suc k) l.kind ts) (markups_of ts) rest n h (λ i n. items_sourced ts (suc k) l.kind n i) g
+      let H : Type 0 = AllWrittenIn (suc k) l.kind ts in
+      sourced_by (writing l.kind) k l H (markups_of ts) rest n (is_spelled (writing l.kind) k parent l (is_childless ts) H h) (λ i n. items_sourced ts (suc k) l.kind n i) g
 
   pub items_sourced : (ts : Trees) (k : ℕ) (parent : Kind) (n : ℕ) → AllWrittenIn k parent ts → unsourced_nodes n (markups_of ts) ≡ None
   items_sourced no_trees k parent n h = refl

@@ -24,14 +24,14 @@ use Rattle.wt_markup.specs.Html.{inner_sync, sync_of}
 use Rattle.wt_html_grammar.specs.Signs.{is_digit, is_void, IsName, IsAttributeName}
 use Rattle.wt_html_grammar.specs.Markup.{Pair}
 use Rattle.wt_fitting.specs.Attributes.{is_typed, decimal_from, decimal_of, or_zero, id_of, mark_of}
-use Rattle.wt_fitting.specs.Rows.{kind_named, may_hold, is_block, is_for, sync_for, some_sync, sync_fits, data_of, id_for}
+use Rattle.wt_fitting.specs.Rows.{kind_named, row, may_hold, is_block, is_for, sync_for, some_sync, sync_fits, data_of, id_for}
 use Rattle.wt_fitting.specs.Fit.{label_with, label_for}
 use Rattle.wt_fitting.specs.Unsourced.{is_marked, is_unsourced}
 use Rattle.wt_html_grammar.proofs.Steps.{if_true, if_false}
 use Rattle.wt_html_grammar.proofs.Reading.{and_true}
 use Rattle.wt_round_trip.specs.Written.{HasPlaces, IsNumber, has_level, IsAround, label_read}
 use Rattle.wt_round_trip.proofs.Json.{ascii_then, sync_utf8, sync_read}
-use Rattle.wt_round_trip.proofs.Said.{Said, double, single, pair_said, kind_said, own_said, id_said, mw_said, sync_said, said, AreGood}
+use Rattle.wt_round_trip.proofs.Said.{Said, double, single, pair_said, kind_said, own_said, id_said, mw_said, sync_said, said_of, AreGood}
 
 -- ---- numbers
 
@@ -73,26 +73,26 @@ number_told n some small =
 -- ---- kinds
 
 -- an element round its children, which the kind alone tells nothing about
-pub record IsElementKind (k : Kind) : Type 0 where
-  pub round : writing k ≡ RoundChildren
-  pub said : kind_said k ≡ []
-  pub leaf : is_leaf k ≡ false
-  pub name : IsName (element_name k)
-  pub whole : is_void (element_name k) ≡ false
+record IsElementKind (k : Kind) : Type 0 where
+  round : writing k ≡ RoundChildren
+  untold : kind_said k ≡ []
+  leaf : is_leaf k ≡ false
+  name : IsName (element_name k)
+  whole : is_void (element_name k) ≡ false
 
 -- one that its name tells, with a number
-pub record IsNamedKind (k : Kind) : Type 0 where
-  pub element : IsElementKind k
-  pub numbered : is_numbered k ≡ true
-  pub named : kind_named (element_name k) ≡ Some k
+record IsNamedKind (k : Kind) : Type 0 where
+  element : IsElementKind k
+  numbered : is_numbered k ≡ true
+  named : kind_named (element_name k) ≡ Some k
 
-pub body_kind : IsElementKind kind.Body
+body_kind : IsElementKind kind.Body
 unfolding element_name
-body_kind = record { round = refl; said = refl; leaf = refl; name = (refl, (refl, (refl, (refl, tt)))); whole = refl }
+body_kind = record { round = refl; untold = refl; leaf = refl; name = (refl, (refl, (refl, (refl, tt)))); whole = refl }
 
 para_kind : IsNamedKind kind.Para
 unfolding element_name
-para_kind = record { element = record { round = refl; said = refl; leaf = refl; name = (refl, tt); whole = refl }; numbered = refl; named = refl }
+para_kind = record { element = record { round = refl; untold = refl; leaf = refl; name = (refl, tt); whole = refl }; numbered = refl; named = refl }
 
 level_cases : (P : ℕ → Type 0) → P 1 → P 2 → P 3 → P 4 → P 5 → P 6 → (n : ℕ) → (nat_le 1 n && nat_le n 6) ≡ true → P n
 level_cases P a b c d e f zero h = absurd cc
@@ -110,19 +110,19 @@ level_cases P a b c d e f (suc (suc (suc (suc (suc (suc (suc n))))))) h = absurd
 heading_kind : (n : ℕ) → (nat_le 1 n && nat_le n 6) ≡ true → IsNamedKind (kind.Heading n)
 unfolding element_name digits
 heading_kind = level_cases (λ n. IsNamedKind (kind.Heading n))
-    (record { element = record { round = refl; said = refl; leaf = refl; name = (refl, (refl, tt)); whole = refl }; numbered = refl; named = refl })
-    (record { element = record { round = refl; said = refl; leaf = refl; name = (refl, (refl, tt)); whole = refl }; numbered = refl; named = refl })
-    (record { element = record { round = refl; said = refl; leaf = refl; name = (refl, (refl, tt)); whole = refl }; numbered = refl; named = refl })
-    (record { element = record { round = refl; said = refl; leaf = refl; name = (refl, (refl, tt)); whole = refl }; numbered = refl; named = refl })
-    (record { element = record { round = refl; said = refl; leaf = refl; name = (refl, (refl, tt)); whole = refl }; numbered = refl; named = refl })
-    (record { element = record { round = refl; said = refl; leaf = refl; name = (refl, (refl, tt)); whole = refl }; numbered = refl; named = refl })
+    (record { element = record { round = refl; untold = refl; leaf = refl; name = (refl, (refl, tt)); whole = refl }; numbered = refl; named = refl })
+    (record { element = record { round = refl; untold = refl; leaf = refl; name = (refl, (refl, tt)); whole = refl }; numbered = refl; named = refl })
+    (record { element = record { round = refl; untold = refl; leaf = refl; name = (refl, (refl, tt)); whole = refl }; numbered = refl; named = refl })
+    (record { element = record { round = refl; untold = refl; leaf = refl; name = (refl, (refl, tt)); whole = refl }; numbered = refl; named = refl })
+    (record { element = record { round = refl; untold = refl; leaf = refl; name = (refl, (refl, tt)); whole = refl }; numbered = refl; named = refl })
+    (record { element = record { round = refl; untold = refl; leaf = refl; name = (refl, (refl, tt)); whole = refl }; numbered = refl; named = refl })
 
-pub block_kind : (k : Kind) → is_block k ≡ true → has_level k ≡ true → IsNamedKind k
+block_kind : (k : Kind) → is_block k ≡ true → has_level k ≡ true → IsNamedKind k
 block_kind kind.Para b h = para_kind
 block_kind (kind.Heading n) b h = heading_kind n h
 block_kind k b h = absurd cc
 
-pub held_kind : (parent k : Kind) → may_hold parent k ≡ true → has_level k ≡ true → IsNamedKind k
+held_kind : (parent k : Kind) → may_hold parent k ≡ true → has_level k ≡ true → IsNamedKind k
 held_kind kind.Body k b h = block_kind k b h
 held_kind parent k b h = absurd cc
 
@@ -144,9 +144,9 @@ inner_is : (l : Label) (r : Ranges) → is_leaf l.kind ≡ false → sync_of l r
 unfolding sync_of
 inner_is l r e = if_false (is_leaf l.kind) _ _ e
 
-said_short : (l : Label) (r : Ranges) → IsElementKind l.kind → l.attrs ≡ [] → l.mw ≡ None → l.ranges ≡ Some r → said l ≡ short (l.id == 0) l.id (sync_text (inner_sync l r))
+said_short : (l : Label) (r : Ranges) → IsElementKind l.kind → l.attrs ≡ [] → l.mw ≡ None → l.ranges ≡ Some r → said_of l ≡ short (l.id == 0) l.id (sync_text (inner_sync l r))
 said_short l r k a m e =
-    ap₂ (λ x y. x ++ (map own_said y ++ (id_said l.id ++ (mw_said l.mw ++ sync_said l l.ranges)))) k.said a
+    ap₂ (λ x y. x ++ (map own_said y ++ (id_said l.id ++ (mw_said l.mw ++ sync_said l l.ranges)))) k.untold a
     ∙ ap₂ (λ x y. id_said l.id ++ (mw_said x ++ sync_said l y)) m e
     ∙ ap (λ s. id_said l.id ++ (single (codes "data-parsoid") (sync_text s) ∷ [])) (inner_is l r k.leaf)
     ∙ id_short l.id (sync_text (inner_sync l r))
@@ -217,15 +217,23 @@ id_is k ps id h e = by_test (is_numbered k) h
     by_test true h = e
     by_test false h = sym h
 
--- what is read of the label's attributes
-pub record IsTold (l : Label) : Type 0 where
-  pub good : AreGood [] (said l)
-  pub typed : is_typed (pairs (said l)) ≡ false
-  pub sourced : is_unsourced (pairs (said l)) ≡ false
-  pub marked : is_marked (pairs (said l)) ≡ false
+-- What is read of an element's label, of which the element has no end tag where it stands `alone`.
+pub record IsTold (alone : Bool) (l : Label) : Type 0 where
+  pub small : l.id < 2 ^ 64
+  pub name : IsName (element_name l.kind)
+  pub ends : is_void (element_name l.kind) ≡ alone
+  pub good : AreGood [] (said_of l)
+  pub sourced : is_unsourced (pairs (said_of l)) ≡ false
+  pub marked : is_marked (pairs (said_of l)) ≡ false
   pub sync : Sync
-  pub data_is : data_of l.kind (pairs (said l)) ≡ Some (Some sync)
-  pub label_is : label_for l.kind (pairs (said l)) (Some sync) ≡ label_read l
+  pub data_is : data_of l.kind (pairs (said_of l)) ≡ Some (Some sync)
+  pub label_is : label_for l.kind (pairs (said_of l)) (Some sync) ≡ label_read l
+
+-- the same of an element that may stand in one of that kind, by its row
+pub record IsReadIn (alone : Bool) (parent : Kind) (l : Label) : Type 0 where
+  pub told : IsTold alone l
+  pub held : may_hold parent l.kind ≡ true
+  pub row_is : row (element_name l.kind) (pairs (said_of l)) ≡ Some l.kind
 
 with_places : (P : Option Ranges → Type 0) → ((r : Ranges) → HasPlaces (Some r) → P (Some r)) → (o : Option Ranges) → HasPlaces o → P o
 with_places P f None h = absurd h
@@ -234,27 +242,49 @@ with_places P f (Some r) h = f r h
 plain_label : (l : Label) (r : Ranges) → IsElementKind l.kind → IsAround l → l.ranges ≡ Some r → label_with l.kind l.id mark.Nothing (Some (inner_sync l r)) ≡ label_read l
 plain_label l r k h e = rw (k.round, e, h.own, h.shown, h.attrs, h.mark, h.mw)
 
-told_at : (l : Label) (r : Ranges) → IsElementKind l.kind → IsAround l → HasPlaces (Some r) → l.ranges ≡ Some r → IsTold l
+told_at : (l : Label) (r : Ranges) → IsElementKind l.kind → IsAround l → HasPlaces (Some r) → l.ranges ≡ Some r → IsTold false l
 told_at l r k h p e =
     let s : Sync = inner_sync l r in
     let t : List ℕ = sync_text s in
     let b : Bool = l.id == 0 in
-    let q : said l ≡ short b l.id t = said_short l r k h.attrs h.mw e in
+    let q : said_of l ≡ short b l.id t = said_short l r k h.attrs h.mw e in
     let small : l.id < 2 ^ 32 = small_number _ l.id h.number in
-    let id : id_of (pairs (said l)) ≡ l.id = ap (λ ss. id_of (pairs ss)) q ∙ short_id l.id t small in
-    let m : mark_of (pairs (said l)) ≡ mark.Nothing = ap (λ ss. mark_of (pairs ss)) q ∙ short_mark b l.id t in
+    let id : id_of (pairs (said_of l)) ≡ l.id = ap (λ ss. id_of (pairs ss)) q ∙ short_id l.id t small in
+    let m : mark_of (pairs (said_of l)) ≡ mark.Nothing = ap (λ ss. mark_of (pairs ss)) q ∙ short_mark b l.id t in
     record {
+      small = omega arith;
+      name = k.name;
+      ends = k.whole;
       good = subst (AreGood []) (sym q) (short_good b l.id t (id_utf8 l.id (omega arith)) (sync_utf8 s p h.opening h.closing tt));
-      typed = ap (λ ss. is_typed (pairs ss)) q ∙ short_typed b l.id t;
       sourced = ap (λ ss. is_unsourced (pairs ss)) q ∙ short_unsourced b l.id t;
       marked = ap (λ ss. is_marked (pairs ss)) q ∙ short_marked b l.id t;
       sync = s;
       data_is = ap (λ ss. data_of l.kind (pairs ss)) q ∙ short_data b l.id t l.kind ∙ fits l.kind s t (sync_read s p) k.leaf refl;
-      label_is = ap₂ (λ i n. label_with l.kind i n (Some s)) (id_is l.kind (pairs (said l)) l.id h.number id) m ∙ plain_label l r k h e;
+      label_is = ap₂ (λ i n. label_with l.kind i n (Some s)) (id_is l.kind (pairs (said_of l)) l.id h.number id) m ∙ plain_label l r k h e;
     }
 
-pub told : (l : Label) → IsElementKind l.kind → IsAround l → IsTold l
-told l k h = with_places (λ o. l.ranges ≡ o → IsTold l) (λ r p e. told_at l r k h p e) l.ranges h.places refl
+told : (l : Label) → IsElementKind l.kind → IsAround l → IsTold false l
+told l k h = with_places (λ o. l.ranges ≡ o → IsTold false l) (λ r p e. told_at l r k h p e) l.ranges h.places refl
 
-pub small_id : (l : Label) → IsAround l → l.id < 2 ^ 64
-small_id l h = let small : l.id < 2 ^ 32 = small_number _ l.id h.number in omega arith
+typed_at : (l : Label) (r : Ranges) → IsElementKind l.kind → IsAround l → l.ranges ≡ Some r → is_typed (pairs (said_of l)) ≡ false
+typed_at l r k h e = ap (λ ss. is_typed (pairs ss)) (said_short l r k h.attrs h.mw e) ∙ short_typed (l.id == 0) l.id (sync_text (inner_sync l r))
+
+typed : (l : Label) → IsElementKind l.kind → IsAround l → is_typed (pairs (said_of l)) ≡ false
+typed l k h = with_places (λ o. l.ranges ≡ o → is_typed (pairs (said_of l)) ≡ false) (λ r p e. typed_at l r k h e) l.ranges h.places refl
+
+-- an element round its children
+pub around_read : (parent : Kind) (l : Label) → may_hold parent l.kind ≡ true → IsAround l → IsReadIn false parent l
+around_read parent l e h =
+    let k : IsNamedKind l.kind = held_kind parent l.kind e h.level in
+    record {
+      told = told l k.element h;
+      held = e;
+      row_is = if_false (is_typed (pairs (said_of l))) _ _ (typed l k.element h) ∙ k.named;
+    }
+
+-- the body
+pub body_told : (l : Label) → l.kind ≡ kind.Body → IsAround l → IsTold false l
+body_told l e h = told l (subst IsElementKind (sym e) body_kind) h
+
+pub body_round : (l : Label) → l.kind ≡ kind.Body → writing l.kind ≡ RoundChildren
+body_round l e = ap writing e

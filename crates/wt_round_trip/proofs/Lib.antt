@@ -6,3 +6,5 @@ pub mod Labels
 pub mod Elements
 pub mod Fits
 pub mod Whole
+pub mod Again
+pub mod MwJson
