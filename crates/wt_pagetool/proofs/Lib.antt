@@ -3,8 +3,10 @@ pub mod BlockLaws
 mod Cases
 pub mod LineLaws
 pub mod PageLaws
+pub mod RefusalLines
 pub mod RunLaws
 pub mod TreeLaws
 pub mod UnbuiltLaws
+pub mod WikitextLaws
 pub mod WriteLaws
 pub mod WrittenPages

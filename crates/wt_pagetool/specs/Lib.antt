@@ -4,7 +4,9 @@ pub mod Commands
 pub mod Cuts
 pub mod Headings
 pub mod Lines
+pub mod Inputs
 pub mod Nodes
+pub mod Outputs
 pub mod PageTree
 pub mod Reasons
 pub mod Refusals

@@ -1,24 +1,12 @@
 -- Why a call of the program gives no answer, the status that tells it, and the line that names it.
 use Rattle.std.specs.Prelude.{ℕ, List, ◌++◌, Option, Some, None, codes}
 use Rattle.std.specs.Fmt.{decimal}
+use Rattle.wt_html_grammar.specs.declared.why.HtmlWhy.{HtmlWhy}
+use Rattle.wt_html_grammar.specs.declared.why.HtmlWhy.TheVariants as ill
+use Rattle.wt_fitting.specs.declared.why.FitWhy.{FitWhy}
+use Rattle.wt_fitting.specs.declared.why.FitWhy.TheVariants as unfit
 
--- why an HTML input isn't well-formed; why an element fits nowhere; why the content of a mark is bad
-pub data HtmlWhy : Type 0 where
-  not_utf8 : HtmlWhy
-  ends : HtmlWhy
-  too_deep : HtmlWhy
-  end_tag : HtmlWhy
-  escape : HtmlWhy
-  repeated : HtmlWhy
-  syntax_ : HtmlWhy
-
-pub data FitWhy : Type 0 where
-  root : FitWhy
-  element : FitWhy
-  place : FitWhy
-  data_ : FitWhy
-  text : FitWhy
-
+-- why the content of a mark is bad
 pub data ContentWhy : Type 0 where
   element_in : ContentWhy
   href : ContentWhy
@@ -85,20 +73,20 @@ status_of write_fault = 7
 status_of no_memory = 8
 
 unfoldable pub html_why : HtmlWhy → List ℕ
-html_why not_utf8 = codes "NotUtf8"
-html_why ends = codes "End"
-html_why too_deep = codes "TooDeep"
-html_why end_tag = codes "EndTag"
-html_why escape = codes "Escape"
-html_why repeated = codes "Repeated"
-html_why syntax_ = codes "Syntax"
+html_why ill.NotUtf8 = codes "NotUtf8"
+html_why ill.End = codes "End"
+html_why ill.TooDeep = codes "TooDeep"
+html_why ill.EndTag = codes "EndTag"
+html_why ill.Escape = codes "Escape"
+html_why ill.Repeated = codes "Repeated"
+html_why ill.Syntax = codes "Syntax"
 
 unfoldable pub fit_why : FitWhy → List ℕ
-fit_why root = codes "Root"
-fit_why element = codes "Element"
-fit_why place = codes "Place"
-fit_why data_ = codes "Data"
-fit_why text = codes "Text"
+fit_why unfit.Root = codes "Root"
+fit_why unfit.Element = codes "Element"
+fit_why unfit.Place = codes "Place"
+fit_why unfit.Data = codes "Data"
+fit_why unfit.Text = codes "Text"
 
 unfoldable pub content_why : ContentWhy → List ℕ
 content_why element_in = codes "Element"

@@ -1,15 +1,19 @@
 -- What a call wrote to its two sinks, and what that did to their counts of faults.
-use Rattle.std.specs.Prelude.{◌≡◌, ℕ, ◌⊎◌, List, length, take, Option, Some, Result, Ok, Err}
+use Rattle.std.specs.Prelude.{◌≡◌, ◌≤◌, ℕ, ◌⊎◌, List, length, take, Option, Some, None, Result, Ok, Err}
 use Rattle.std.specs.Io.KnownBytes.{Appends, Keeps}
-use Rattle.wt_outer.specs.Device.{Rose, Pages}
+use Rattle.wt_outer.specs.Device.{Rose}
+use Rattle.wt_tree.specs.Tree.{Tree}
+use Rattle.wt_tree.specs.Source.{flat}
 use Rattle.wt_tree.specs.Tiling.{Tiled, Covers, InPreorder}
 use Rattle.wt_markup.specs.Html.{html_text}
+use Rattle.wt_fitting.specs.Read.{page as as_page, read}
 use Rattle.wt_pagetool.specs.Refusals.{Refusal, write_fault, no_memory, status_of, line_of}
 use Rattle.wt_pagetool.specs.declared.refusal.Reason.{Reason}
+use Rattle.wt_pagetool.specs.declared.output.Output.{Output}
+use Rattle.wt_pagetool.specs.Outputs.{output_bytes}
 use Rattle.wt_pagetool.specs.Reasons.{meant}
-use Rattle.wt_pagetool.specs.Answers.{IsDue}
+use Rattle.wt_pagetool.specs.Answers.{Answer, IsDue}
 use Rattle.wt_pagetool.specs.PageTree.{page_tree}
-use Rattle.wt_pagetool.specs.Words.{html, command_of}
 
 -- a sink took a front of these bytes, which may be all or none of them
 abbrev pub AppendsFront : Option (List ℕ) → Option (List ℕ) → List ℕ → Type 0
@@ -58,30 +62,35 @@ abbrev pub Refused : Refusal → ℕ → Sunk → Sunk → Type 0
 Refused r status out err = Untouched out × (Told r status err ⊎ Told no_memory status err)
 
 -- what was found goes to the sinks: an answer, or a refusal
-abbrev pub Reported : Result (List ℕ) Reason → ℕ → Sunk → Sunk → Type 0
-Reported (Ok bytes) status out err = Gave bytes status out err
+abbrev pub Reported : Result Output Reason → ℕ → Sunk → Sunk → Type 0
+Reported (Ok output) status out err = Gave (output_bytes output) status out err
 Reported (Err reason) status out err = Refused (meant reason) status out err
 
--- `out` took the HTML of the page that stands under the title, whose ranges tile it and whose numbers are in preorder
-pub record WroteHtml (pages : Pages) (words : List (List ℕ)) (old new : Option (List ℕ)) : Type 0 where
-  pub title : List ℕ
+-- a page stands under the title, and `out` took its HTML, whose ranges tile it and whose numbers are in preorder
+pub record WroteHtml (stands : Option (List ℕ)) (old new : Option (List ℕ)) : Type 0 where
   pub page : List ℕ
-  pub command : command_of words ≡ Some (html title)
-  pub stands : pages title ≡ Some page
+  pub found : stands ≡ Some page
   pub wrote : Appends old new (html_text (page_tree page))
   pub tiled : Tiled (page_tree page)
   pub covers : Covers (length page) (page_tree page)
   pub numbered : InPreorder (page_tree page)
 
+-- the input stands for a page each of whose elements tells its source, and `out` took the source of its tree
+pub record WroteSource (input : List ℕ) (old new : Option (List ℕ)) : Type 0 where
+  pub tree : Tree
+  pub within : length input ≤ 67108864
+  pub reads : read input ≡ as_page tree None
+  pub wrote : Appends old new (flat tree)
+
 -- `err` took the one line of a refusal that is due, which has this status
-pub record NamesRefusal (told : Option Pages) (words : List (List ℕ)) (status : ℕ) (old new : Option (List ℕ)) : Type 0 where
+pub record NamesRefusal (told : Option Answer) (words : List (List ℕ)) (status : ℕ) (old new : Option (List ℕ)) : Type 0 where
   pub refusal : Refusal
   pub due : IsDue told words refusal
   pub named : status ≡ status_of refusal
   pub line : Appends old new (line_of refusal)
 
 -- `err` took a front of the line of a refusal that is due
-pub record BeginsRefusal (told : Option Pages) (words : List (List ℕ)) (old new : Option (List ℕ)) : Type 0 where
+pub record BeginsRefusal (told : Option Answer) (words : List (List ℕ)) (old new : Option (List ℕ)) : Type 0 where
   pub refusal : Refusal
   pub due : IsDue told words refusal
   pub line : AppendsFront old new (line_of refusal)

@@ -11,6 +11,8 @@ use wt_span::{List, NoMemory, Str};
 pub enum Command {
     /// The HTML of the page of this full name.
     Html(Str),
+    /// The source of the page whose HTML is the input.
+    Wikitext,
 }
 
 fn whole_name(alloc: Global, title: &Title) -> Result<Option<Str>, NoMemory>
@@ -52,6 +54,12 @@ pub fn command_of(alloc: Global, words: &List<Str>) -> Result<Option<Command>, N
     ensures { IfOk result (λ command. option_map asked command ≡ command_of words.now) }
 {
     match words.as_slice() {
+        [command] => {
+            if command.as_str() != "wikitext" {
+                return Ok(None);
+            }
+            Ok(Some(Command::Wikitext))
+        }
         [command, title] => {
             if command.as_str() != "html" {
                 return Ok(None);

@@ -7,6 +7,7 @@ ghost use Rattle.wt_pagetool.specs.PageTree.{page_tree};
 ghost use Rattle.wt_pagetool.specs.Reasons.{Answered, IsOfPage, IsOfTitle};
 ghost use Rattle.wt_pagetool.specs.Unbuilt.{first_unbuilt};
 
+use crate::output::Output;
 use crate::page::page_of_text;
 use crate::refusal::Reason;
 use crate::unbuilt::first_unbuilt;
@@ -44,18 +45,18 @@ fn html_of_text(alloc: Global, page: &str) -> Result<List<u8>, NoMemory>
 }
 
 /// The HTML of a page, if it is no longer than it may be.
-fn html_within(html: List<u8>) -> Result<List<u8>, Reason>
+fn html_within(html: List<u8>) -> Result<Output, Reason>
     ensures answered { Answered (html_within html) result }
     ensures of_page { IfErr result IsOfPage }
 {
     if html.len() > MOST_HTML {
         return Err(Reason::HtmlTooLong);
     }
-    Ok(html)
+    Ok(Output::Html(html))
 }
 
 /// The answer to `html` over a page that has no form that isn't built.
-fn html_of_built(alloc: Global, page: &[u8]) -> Result<List<u8>, Reason>
+fn html_of_built(alloc: Global, page: &[u8]) -> Result<Output, Reason>
     requires built { first_unbuilt page.now ≡ None }
     requires room { length page.now < 2 ^ 31 }
     ensures answered { Answered (html_built page.now None) result }
@@ -69,7 +70,7 @@ fn html_of_built(alloc: Global, page: &[u8]) -> Result<List<u8>, Reason>
 
 /// The answer to `html` over the bytes of a page.
 #[tactic(auto, unfolding(crate::specs::Answers::html_answer))]
-fn html_of_page(alloc: Global, page: &[u8]) -> Result<List<u8>, Reason>
+fn html_of_page(alloc: Global, page: &[u8]) -> Result<Output, Reason>
     ensures answered { Answered (html_answer (Some page.now)) result }
     ensures of_page { IfErr result IsOfPage }
 {
@@ -84,7 +85,7 @@ fn html_of_page(alloc: Global, page: &[u8]) -> Result<List<u8>, Reason>
 
 /// The answer to `html` over what was fetched.
 #[tactic(auto, unfolding(crate::specs::Answers::html_answer))]
-fn html_of_fetched(alloc: Global, fetched: Fetched) -> Result<List<u8>, Reason>
+fn html_of_fetched(alloc: Global, fetched: Fetched) -> Result<Output, Reason>
     ensures answered { Answered (html_answer (page_of fetched)) result }
     ensures of_page { IfErr result IsOfPage }
 {
@@ -99,7 +100,7 @@ pub fn html_of_title<F: Folder>(
     alloc: Global,
     title: &str,
     folder: &mut F,
-) -> Result<List<u8>, Reason>
+) -> Result<Output, Reason>
     ensures answered { IfSome (F.pages folder.old) (λ pages. Answered (html_answer (pages title.now)) result) }
     ensures of_title { IfErr result IsOfTitle }
     ensures pages_kept { F.pages folder.new ≡ F.pages folder.old }

@@ -10,12 +10,14 @@ mod heading;
 mod html_command;
 mod laws;
 mod line;
+mod output;
 mod page;
 mod refusal;
 mod report;
 mod round_trip;
 mod top;
 mod unbuilt;
+mod wikitext_command;
 mod write;
 
 pub use laws::{one_meaning, smallest_place, whole_tree};

@@ -1,10 +1,12 @@
 ghost use Rattle.std.specs.Prelude.{◌≡◌, IfOk, string_bytes};
 ghost use Rattle.wt_pagetool.specs.Reasons.{meant};
-ghost use Rattle.wt_pagetool.specs.Refusals.{status_of, line_of, no_memory, write_fault};
+ghost use Rattle.wt_pagetool.specs.Refusals.{status_of, line_of, html_why, fit_why, html_refused, does_not_fit, unsourced, no_memory, write_fault};
 
 use std::alloc::{AllocError, Global};
+use wt_html_in::{FitWhy, HtmlWhy};
 
-/// Why a call gives no answer. Places are bytes of the page.
+/// Why a call gives no answer. Places are bytes of the page, or of the input for `Html`; elements are
+/// counted from 1 in document order.
 #[derive(Clone, Copy, Debug, PartialEq, Eq)]
 pub enum Reason {
     Usage,
@@ -12,6 +14,11 @@ pub enum Reason {
     TooLong,
     NotBuilt(u32),
     HtmlTooLong,
+    InputTooLong,
+    Html { place: u32, why: HtmlWhy },
+    Unfit { element: u32, why: FitWhy },
+    Unsourced(u32),
+    ReadFault,
     FolderFault,
     NoMemory,
 }
@@ -23,9 +30,63 @@ pub fn status_of(reason: Reason) -> u8
     match reason {
         Reason::Usage => 1,
         Reason::Absent | Reason::TooLong | Reason::NotBuilt(_) | Reason::HtmlTooLong => 2,
+        Reason::InputTooLong | Reason::Html { .. } | Reason::Unfit { .. } | Reason::Unsourced(_) =>
+            3,
+        Reason::ReadFault => 5,
         Reason::FolderFault => 6,
         Reason::NoMemory => 8,
     }
+}
+
+#[tactic(auto, unfolding(crate::specs::Refusals::html_why))]
+fn html_why(why: HtmlWhy) -> &'static str
+    ensures { result.now ≡ html_why why }
+{
+    match why {
+        HtmlWhy::NotUtf8 => "NotUtf8",
+        HtmlWhy::End => "End",
+        HtmlWhy::TooDeep => "TooDeep",
+        HtmlWhy::EndTag => "EndTag",
+        HtmlWhy::Escape => "Escape",
+        HtmlWhy::Repeated => "Repeated",
+        HtmlWhy::Syntax => "Syntax",
+    }
+}
+
+#[tactic(auto, unfolding(crate::specs::Refusals::fit_why))]
+fn fit_why(why: FitWhy) -> &'static str
+    ensures { result.now ≡ fit_why why }
+{
+    match why {
+        FitWhy::Root => "Root",
+        FitWhy::Element => "Element",
+        FitWhy::Place => "Place",
+        FitWhy::Data => "Data",
+        FitWhy::Text => "Text",
+    }
+}
+
+#[tactic(auto, using(crate::proofs::RefusalLines::html_parts))]
+fn html_line(alloc: Global, place: u32, why: HtmlWhy) -> Result<String, AllocError>
+    ensures { IfOk result (λ line. string_bytes line ≡ line_of (html_refused place why)) }
+{
+    format!(in alloc; "wtround: html refused at {place}: {}\n", html_why(why))
+}
+
+fn unfit_line(alloc: Global, element: u32, why: FitWhy) -> Result<String, AllocError>
+    ensures { IfOk result (λ line. string_bytes line ≡ line_of (does_not_fit element why)) }
+{
+    format!(in alloc;
+        "wtround: element {element} does not fit: {}\n",
+        fit_why(why)
+    )
+}
+
+#[tactic(auto, using(crate::proofs::RefusalLines::unsourced_parts))]
+fn unsourced_line(alloc: Global, element: u32) -> Result<String, AllocError>
+    ensures { IfOk result (λ line. string_bytes line ≡ line_of (unsourced element)) }
+{
+    format!(in alloc; "wtround: element {element} has no source\n")
 }
 
 /// The line that names a refusal.
@@ -41,6 +102,11 @@ pub fn line_of(alloc: Global, reason: Reason) -> Result<String, AllocError>
         Reason::TooLong => format!(in alloc; "wtround: page too long\n"),
         Reason::NotBuilt(place) => format!(in alloc; "wtround: not built at {place}\n"),
         Reason::HtmlTooLong => format!(in alloc; "wtround: html too long\n"),
+        Reason::InputTooLong => format!(in alloc; "wtround: input too long\n"),
+        Reason::Html { place, why } => html_line(alloc, place, why),
+        Reason::Unfit { element, why } => unfit_line(alloc, element, why),
+        Reason::Unsourced(element) => unsourced_line(alloc, element),
+        Reason::ReadFault => format!(in alloc; "wtround: read fault\n"),
         Reason::FolderFault => format!(in alloc; "wtround: folder fault\n"),
         Reason::NoMemory => format!(in alloc; "wtround: no memory\n"),
     }

@@ -3,11 +3,11 @@ ghost use Rattle.wt_pagetool.specs.Refusals.{no_memory};
 ghost use Rattle.wt_pagetool.specs.Reasons.{meant};
 ghost use Rattle.std.specs.Prelude.{◌⊎◌};
 
+use crate::output::Output;
 use crate::refusal::{Reason, line_of, no_memory_line, status_of, write_fault_line};
 use crate::write::write_all;
 use std::alloc::Global;
 use wt_outer::Sink;
-use wt_span::List;
 
 /// Writes an answer to `out`, and the line of a write fault to `err` where `out` fails.
 fn give<W: Sink, E: Sink>(bytes: &[u8], out: &mut W, err: &mut E) -> u8
@@ -46,14 +46,14 @@ fn refuse<E: Sink>(alloc: Global, reason: Reason, err: &mut E) -> u8
 /// Writes what was found: an answer to `out`, or the line of a refusal to `err`. Gives the status.
 pub fn report<W: Sink, E: Sink>(
     alloc: Global,
-    found: Result<List<u8>, Reason>,
+    found: Result<Output, Reason>,
     out: &mut W,
     err: &mut E,
 ) -> u8
     ensures { Reported found result (sunk (W.taken out.old) (W.taken out.new) (W.fault_count out.old) (W.fault_count out.new)) (sunk (E.taken err.old) (E.taken err.new) (E.fault_count err.old) (E.fault_count err.new)) }
 {
     match found {
-        Ok(bytes) => give(bytes.as_slice(), out, err),
+        Ok(output) => give(output.as_bytes(), out, err),
         Err(reason) => refuse(alloc, reason, err),
     }
 }

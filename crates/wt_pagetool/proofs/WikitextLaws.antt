@@ -1,0 +1,61 @@
+-- The answer to `wikitext`, from what the reader of HTML gave.
+use Rattle.std.proofs.Common.{◌≡◌, ℕ, ◌-◌, ◌<◌, ◌≤◌, List, ◌++◌, length, refl, sym, subst, arith, length-append}
+use Rattle.std.specs.Prelude.{Option, Some, None, IfSome, Result, Ok, Err}
+use Rattle.std.specs.Io.KnownBytes.{Consumes}
+use Rattle.std.proofs.KnownBytes.{Consumes-trans}
+use Rattle.wt_tree.specs.Tree.{Tree}
+use Rattle.wt_tree.specs.Source.{flat}
+use Rattle.wt_fitting.specs.Read.{page as as_page, read}
+use Rattle.wt_html_in.specs.Answers.{body_of, unsourced_of, IsFed, Answers}
+use Rattle.wt_html_in.specs.declared.reader.Edited.{Edited}
+use Rattle.wt_html_in.specs.declared.reader.Reader.{Reader}
+use Rattle.wt_html_in.specs.declared.reader.HtmlRefusal.{HtmlRefusal}
+use Rattle.wt_html_in.specs.declared.reader.HtmlRefusal.TheVariants as refusals
+use Rattle.wt_pagetool.specs.declared.output.Output.{Output}
+use Rattle.wt_pagetool.specs.declared.refusal.Reason.{Reason}
+use Rattle.wt_pagetool.specs.declared.refusal.Reason.TheVariants.{ReadFault}
+use Rattle.wt_pagetool.specs.Refusals.{unsourced, input_too_long}
+use Rattle.wt_pagetool.specs.Answers.{done, refused, source_answer, wikitext_answer}
+use Rattle.wt_pagetool.specs.Inputs.{FedWhole}
+use Rattle.wt_pagetool.specs.Reasons.{Answered, Refuses, reason_of}
+use Rattle.wt_pagetool.proofs.AnswerLaws.{too_long_given, answered_by}
+
+-- ---- reading
+
+-- a piece that would pass the limit
+pub past_most : (old mid new : Option (List ℕ)) (bytes piece : List ℕ) → Consumes old mid bytes → Consumes mid new piece → length bytes ≤ 67108864 → 67108864 - length bytes < length piece
+    → IfSome old (λ all. wikitext_answer all ≡ refused input_too_long)
+past_most old mid new bytes piece first second within past =
+    too_long_given old new (bytes ++ piece) (Consumes-trans old mid new bytes piece first second) (simp length-append (omega arith))
+
+abbrev fed_not : Reason → Result Unit Reason
+fed_not reason = Err reason
+
+pub is_read_fault : (reason : Reason) → fed_not reason ≡ Err ReadFault → reason ≡ ReadFault
+is_read_fault reason e = cc
+
+-- ---- what was read
+
+pub source_unsourced : (t : Tree) (o : Option ℕ) (n : ℕ) → o ≡ Some n → source_answer (as_page t o) ≡ refused (unsourced n)
+unfolding source_answer
+source_unsourced t o n e = rw e refl
+
+pub source_sourced : (t : Tree) (o : Option ℕ) (text : List ℕ) → o ≡ None → text ≡ flat t → source_answer (as_page t o) ≡ done text
+unfolding source_answer
+source_sourced t o text none is = rw (none, is) refl
+
+pub answered_read : (edited : Edited) (bytes : List ℕ) (result : Result Output Reason) → Answers (Ok edited) bytes → Answered (source_answer (as_page (body_of edited) (unsourced_of edited))) result
+    → Answered (source_answer (read bytes)) result
+unfolding Answers
+answered_read edited bytes result reads answered = subst (λ r. Answered (source_answer r) result) (sym reads) answered
+
+pub refused_read : (refusal : HtmlRefusal) (bytes : List ℕ) → Answers (Err refusal) bytes → Refuses (reason_of refusal) (source_answer (read bytes))
+unfolding Answers source_answer
+refused_read (refusals.Html place why) bytes reads = rw reads refl
+refused_read (refusals.Unfit n why) bytes reads = rw reads refl
+refused_read refusals.NoMemory bytes reads = tt
+
+-- all of the input was fed, so what was fed decides the answer
+pub answered_whole : (reader : Reader) (old new : Option (List ℕ)) (result : Result Output Reason) → FedWhole reader old new → ((bytes : List ℕ) → IsFed reader bytes → Answered (source_answer (read bytes)) result)
+    → IfSome old (λ all. Answered (wikitext_answer all) result)
+answered_whole reader old new result whole answered = answered_by old whole.bytes result whole.whole whole.within (answered whole.bytes whole.fed)

@@ -1,0 +1,20 @@
+-- What was read of an input: all of it was fed to the reader of HTML.
+use Rattle.std.specs.Prelude.{◌≡◌, ◌≤◌, ℕ, List, length, Option, IfSome}
+use Rattle.std.specs.Io.KnownBytes.{Consumes, IsAtEnd}
+use Rattle.wt_html_in.specs.declared.reader.Reader.{Reader}
+use Rattle.wt_html_in.specs.Answers.{IsFed}
+
+-- the input gave these many bytes, which were fed
+pub record FedSoFar (reader : Reader) (old new : Option (List ℕ)) (taken : ℕ) : Type 0 where
+  pub bytes : List ℕ
+  pub fed : IsFed reader bytes
+  pub count : length bytes ≡ taken
+  pub given : Consumes old new bytes
+
+-- the input is at its end, and all that it had was fed
+pub record FedWhole (reader : Reader) (old new : Option (List ℕ)) : Type 0 where
+  pub bytes : List ℕ
+  pub fed : IsFed reader bytes
+  pub within : length bytes ≤ 67108864
+  pub whole : IfSome old (λ all. all ≡ bytes)
+  pub ended : IsAtEnd new
