@@ -34,6 +34,7 @@ fn find_answer<S: Source, F: Folder>(
     ensures reads { result ≡ Err Reason.ReadFault → command_of words.now ≡ Some wikitext }
     ensures unread { command_of words.now ≢ Some wikitext → input.new ≡ input.old }
     ensures pages_kept { F.pages folder.new ≡ F.pages folder.old }
+    ensures asks { result ≡ Err Reason.FolderFault → command_of words.now ≢ Some wikitext }
     ensures folder_kept { result ≢ Err Reason.FolderFault → F.fault_count folder.new ≡ F.fault_count folder.old }
     ensures folder_fault { result ≡ Err Reason.FolderFault → Rose (F.fault_count folder.old) (F.fault_count folder.new) }
     ensures unasked { command_of words.now ≡ Some wikitext → folder.new ≡ folder.old }
@@ -86,7 +87,7 @@ pub fn run<S: Source, F: Folder, W: Sink, E: Sink>(
 
     // A fault is told only where a device's count rose, and the other statuses leave every count. `wikitext` alone reads the input, and it asks the folder nothing.
     ensures read_fault { result ≡ 5 → (command_of words.now ≡ Some wikitext) × Rose (S.fault_count input.old) (S.fault_count input.new) }
-    ensures folder_fault { result ≡ 6 → Rose (F.fault_count folder.old) (F.fault_count folder.new) }
+    ensures folder_fault { result ≡ 6 → (command_of words.now ≢ Some wikitext) × Rose (F.fault_count folder.old) (F.fault_count folder.new) }
     ensures write_fault { result ≡ 7 → Rose (W.fault_count out.old) (W.fault_count out.new) ⊎ Rose (E.fault_count err.old) (E.fault_count err.new) }
     ensures input_kept { result ≤ 4 → S.fault_count input.new ≡ S.fault_count input.old }
     ensures folder_kept { result ≤ 4 → F.fault_count folder.new ≡ F.fault_count folder.old }
