@@ -162,3 +162,30 @@ pub const NOT_BUILT: [(&str, &str); 15] = [
     ("# a", "wtround: not built at 0\n"),
     (": a", "wtround: not built at 0\n"),
 ];
+
+/// HTML that isn't well-formed, holds an element that fits nowhere, or one without a source; and the
+/// line that tells it.
+pub const REFUSED_HTML: [(&str, &str); 7] = [
+    ("", "wtround: html refused at 0: End\n"),
+    (
+        "<html><body><p id=\"mw",
+        "wtround: html refused at 21: End\n",
+    ),
+    (
+        "<html><body><p><b><i></b></i></p></body></html>",
+        "wtround: html refused at 23: EndTag\n",
+    ),
+    (
+        "<!DOCTYPE html><html><head><meta charset=\"utf-8\"/></head><body data-parsoid='{\"dsr\":[0,1,0,0]}'><p id=\"mw1\" data-parsoid='{\"dsr\":[0,1,0,0]}'>a</p><p>c</p></body></html>",
+        "wtround: element 6 has no source\n",
+    ),
+    ("<p></p>", "wtround: element 1 does not fit: Root\n"),
+    (
+        "<html><body><div></div></body></html>",
+        "wtround: element 3 does not fit: Element\n",
+    ),
+    (
+        "<html><body>a</body></html>",
+        "wtround: element 2 does not fit: Text\n",
+    ),
+];

@@ -1,9 +1,9 @@
-ghost use Rattle.std.specs.Prelude.{◌≡◌, IfOk, length};
+ghost use Rattle.std.specs.Prelude.{◌≡◌, ◌<◌, ◌^◌, IfOk, length};
 
-use crate::cases::{NOT_BUILT, PLAIN};
+use crate::cases::{NOT_BUILT, PLAIN, REFUSED_HTML};
 use std::alloc::{AllocError, Global};
 use std::test::Fail;
-use wt_outer::{Folder, MemFolder, MemSink, NeverFailsSource, Sink};
+use wt_outer::{Folder, MemFolder, MemSink, MemSource, NeverFailsSource, Sink, Source};
 use wt_pagetool::run;
 use wt_span::{List, NoMemory, Str};
 
@@ -61,6 +61,30 @@ fn ends_with(
     Ok(Ended { status, out, err })
 }
 
+/// What `wikitext` comes to over this input.
+fn reads<S: Source>(alloc: Global, input: &mut S) -> Result<Ended, NoMemory> {
+    let words = words_of(alloc, &["wikitext"])?;
+    let mut folder = folder_of(alloc, b"a", &[])?;
+    let (mut out, mut err) = (sink(alloc), sink(alloc));
+    let status = run(alloc, &words, input, &mut folder, &mut out, &mut err);
+    Ok(Ended { status, out, err })
+}
+
+/// What `wikitext` comes to over HTML that comes at most so many bytes a call.
+fn wikitext_of(alloc: Global, html: &[u8], most: usize) -> Result<Ended, NoMemory>
+    requires { 0 < most }
+{
+    let html = List::from_vec(Vec::from_slice(alloc, html)?);
+    let mut input = NeverFailsSource::new(html, most);
+    reads(alloc, &mut input)
+}
+
+fn spaces(alloc: Global, count: usize) -> Result<List<u8>, NoMemory>
+    requires { count < 2 ^ 31 }
+{
+    Ok(List::from_vec(vec![in alloc; b' '; count]?))
+}
+
 /// What `run` comes to over a folder with the page `Main`.
 fn ends(alloc: Global, words: &[&str], page: &[u8]) -> Result<Ended, NoMemory> {
     let mut folder = folder_of(alloc, page, &[])?;
@@ -112,6 +136,8 @@ fn words_of_no_command_are_answered_by_the_usage(rt: HostRuntime) -> Result<(), 
     assert!(rt; is_usage(rt.alloc(), &["Html", "Main"])?);
     assert!(rt; is_usage(rt.alloc(), &["html", "Main", "x"])?);
     assert!(rt; is_usage(rt.alloc(), &["--help"])?);
+    assert!(rt; is_usage(rt.alloc(), &["wikitext", "Main"])?);
+    assert!(rt; is_usage(rt.alloc(), &["wikitext "])?);
     Ok(())
 }
 
@@ -166,5 +192,61 @@ fn a_line_that_cannot_be_written_is_a_write_fault(rt: HostRuntime) -> Result<(),
     assert_eq!(rt; ended.status, 7);
     assert_eq!(rt; ended.out.taken().len(), 0);
     assert_eq!(rt; ended.err.taken(), b"wtround:".as_slice());
+    Ok(())
+}
+
+#[test]
+fn the_html_of_a_page_gives_the_page_back(rt: HostRuntime) -> Result<(), Fail> {
+    for (page, body) in PLAIN {
+        let html = document(rt.alloc(), body)?;
+        let ended = wikitext_of(rt.alloc(), html.as_bytes(), usize::MAX)?;
+        assert_eq!(rt; ended.status, 0);
+        assert_eq!(rt; ended.out.taken(), page.as_bytes());
+        assert_eq!(rt; ended.err.taken().len(), 0);
+    }
+    Ok(())
+}
+
+#[test]
+fn html_that_comes_byte_by_byte_is_read_alike(rt: HostRuntime) -> Result<(), Fail> {
+    let (page, body) = PLAIN[2];
+    let html = document(rt.alloc(), body)?;
+    let ended = wikitext_of(rt.alloc(), html.as_bytes(), 1)?;
+    assert_eq!(rt; ended.status, 0);
+    assert_eq!(rt; ended.out.taken(), page.as_bytes());
+    Ok(())
+}
+
+#[test]
+fn other_html_is_refused_by_this_line(rt: HostRuntime) -> Result<(), Fail> {
+    for (html, line) in REFUSED_HTML {
+        let ended = wikitext_of(rt.alloc(), html.as_bytes(), usize::MAX)?;
+        assert_eq!(rt; ended.status, 3);
+        assert_eq!(rt; ended.out.taken().len(), 0);
+        assert_eq!(rt; ended.err.taken(), line.as_bytes());
+    }
+    Ok(())
+}
+
+#[test]
+fn an_input_that_fails_is_no_end(rt: HostRuntime) -> Result<(), Fail> {
+    let failing = calls(rt.alloc(), &[3])?;
+    let mut input = MemSource::new(spaces(rt.alloc(), 100)?, 4, failing);
+    let ended = reads(rt.alloc(), &mut input)?;
+    assert_eq!(rt; ended.status, 5);
+    assert_eq!(rt; ended.out.taken().len(), 0);
+    assert_eq!(rt; ended.err.taken(), b"wtround: read fault\n".as_slice());
+    assert_eq!(rt; input.faults(), 1);
+    Ok(())
+}
+
+#[test]
+fn an_input_that_is_too_long_is_refused(rt: HostRuntime) -> Result<(), Fail> {
+    let input = spaces(rt.alloc(), 67_108_865)?;
+    let mut input = NeverFailsSource::new(input, usize::MAX);
+    let ended = reads(rt.alloc(), &mut input)?;
+    assert_eq!(rt; ended.status, 3);
+    assert_eq!(rt; ended.out.taken().len(), 0);
+    assert_eq!(rt; ended.err.taken(), b"wtround: input too long\n".as_slice());
     Ok(())
 }
