@@ -8,8 +8,13 @@ use Rattle.wt_pagetool.specs.Unbuilt.{first_unbuilt}
 use Rattle.wt_names.specs.Namespace.{prefix_of, full_name_of}
 use Rattle.wt_names.specs.Reading.{whole_in, cut_namespace, title_in}
 use Rattle.wt_names.specs.Good.{is_forbidden, is_allowed, has_signature, is_step, begins_with_step, holds_step, ends_with_step, is_good, read_text}
-use Rattle.wt_pagetool.specs.Words.{page_name, html, command_of}
-use Rattle.wt_pagetool.specs.Refusals.{not_built, html_too_long, braces_too_deep, edit_refused, bad_content, nested, text_of, edit_why, content_why, line_of}
+use Rattle.wt_pagetool.specs.Words.{page_name, html, wikitext, command_of}
+use Rattle.wt_tree.specs.Tree.{Tree}
+use Rattle.wt_html_grammar.specs.declared.why.HtmlWhy.TheVariants as ill_why
+use Rattle.wt_fitting.specs.declared.why.FitWhy.TheVariants as fit_whys
+use Rattle.wt_fitting.specs.Read.{page as as_page, misfit}
+use Rattle.wt_pagetool.specs.Answers.{refused, source_answer, answer_told}
+use Rattle.wt_pagetool.specs.Refusals.{usage, unsourced, html_refused, does_not_fit, html_why, fit_why, not_built, html_too_long, braces_too_deep, edit_refused, bad_content, nested, text_of, edit_why, content_why, line_of}
 
 -- a heading, a separator of two line breaks, and a paragraph
 a_page : blocks (codes "== A ==\n\nb") ≡ heading (codes "== A ==") ∷ sep (codes "\n\n") ∷ para (codes "b") ∷ []
@@ -87,6 +92,33 @@ html_fragment : command_of (codes "html" ∷ codes "A#b" ∷ []) ≡ None
 unfolding command_of page_name read_text is_allowed is_forbidden title_in whole_in cut_namespace is_good full_name_of prefix_of has_signature is_step begins_with_step holds_step ends_with_step
 html_fragment = refl
 
+wikitext_alone : command_of (codes "wikitext" ∷ []) ≡ Some wikitext
+unfolding command_of
+wikitext_alone = refl
+
+wikitext_title : command_of (codes "wikitext" ∷ codes "Main" ∷ []) ≡ None
+unfolding command_of
+wikitext_title = refl
+
+-- words of no command are answered by the usage, whatever is told
+words_of_none : answer_told None None [] ≡ Some (refused usage)
+unfolding answer_told command_of
+words_of_none = refl
+
+-- `wikitext` has no answer where the input isn't told
+input_not_told : answer_told None None (codes "wikitext" ∷ []) ≡ None
+unfolding answer_told command_of
+input_not_told = refl
+
+-- an element without a source, whatever the tree; an element that doesn't fit
+no_source : (t : Tree) → source_answer (as_page t (Some 6)) ≡ refused (unsourced 6)
+unfolding source_answer
+no_source t = refl
+
+no_place : source_answer (misfit 2 fit_whys.Place) ≡ refused (does_not_fit 2 fit_whys.Place)
+unfolding source_answer
+no_place = refl
+
 -- the lines, with the digits of a number as they stand
 not_built_line : (place : ℕ) → line_of (not_built place) ≡ codes "wtround: not built at " ++ decimal place ++ codes "\n"
 unfolding line_of text_of
@@ -103,3 +135,11 @@ braces_line place = search (rules, append_assoc)
 edit_line : (id : ℕ) → line_of (edit_refused (bad_content id nested)) ≡ codes "wtround: edit refused: BadContent " ++ (decimal id ++ codes " Nested\n")
 unfolding line_of text_of edit_why content_why
 edit_line id = search (rules, append_assoc)
+
+ill_line : (place : ℕ) → line_of (html_refused place ill_why.EndTag) ≡ codes "wtround: html refused at " ++ (decimal place ++ codes ": EndTag\n")
+unfolding line_of text_of html_why
+ill_line place = search (rules, append_assoc)
+
+unfit_line : (n : ℕ) → line_of (does_not_fit n fit_whys.Place) ≡ codes "wtround: element " ++ (decimal n ++ codes " does not fit: Place\n")
+unfolding line_of text_of fit_why
+unfit_line n = search (rules, append_assoc)

@@ -6,11 +6,12 @@ use Rattle.std.proofs.KnownBytes.{Consumes-trans}
 use Rattle.wt_tree.specs.Tree.{Tree}
 use Rattle.wt_tree.specs.Source.{flat}
 use Rattle.wt_fitting.specs.Read.{page as as_page, read}
-use Rattle.wt_html_in.specs.Answers.{body_of, unsourced_of, IsFed, Answers}
-use Rattle.wt_html_in.specs.declared.reader.Edited.{Edited}
+use Rattle.wt_html_in.specs.Answers.{body_of, unsourced_of, Answers}
+use Rattle.wt_html_in.specs.Feeding.{IsFed}
+use Rattle.wt_html_in.specs.declared.edited.Edited.{Edited}
 use Rattle.wt_html_in.specs.declared.reader.Reader.{Reader}
-use Rattle.wt_html_in.specs.declared.reader.HtmlRefusal.{HtmlRefusal}
-use Rattle.wt_html_in.specs.declared.reader.HtmlRefusal.TheVariants as refusals
+use Rattle.wt_html_in.specs.declared.refusal.HtmlRefusal.{HtmlRefusal}
+use Rattle.wt_html_in.specs.declared.refusal.HtmlRefusal.TheVariants as refusals
 use Rattle.wt_pagetool.specs.declared.output.Output.{Output}
 use Rattle.wt_pagetool.specs.declared.refusal.Reason.{Reason}
 use Rattle.wt_pagetool.specs.declared.refusal.Reason.TheVariants.{ReadFault}

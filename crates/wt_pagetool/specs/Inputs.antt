@@ -2,7 +2,7 @@
 use Rattle.std.specs.Prelude.{◌≡◌, ◌≤◌, ℕ, List, length, Option, IfSome}
 use Rattle.std.specs.Io.KnownBytes.{Consumes, IsAtEnd}
 use Rattle.wt_html_in.specs.declared.reader.Reader.{Reader}
-use Rattle.wt_html_in.specs.Answers.{IsFed}
+use Rattle.wt_html_in.specs.Feeding.{IsFed}
 
 -- the input gave these many bytes, which were fed
 pub record FedSoFar (reader : Reader) (old new : Option (List ℕ)) (taken : ℕ) : Type 0 where

@@ -1,7 +1,7 @@
 -- The refusals that the code gives, and the answer that each stands for.
 use Rattle.std.specs.Prelude.{◌≡◌, ⊤, Result, Ok, Err}
-use Rattle.wt_html_in.specs.declared.reader.HtmlRefusal.{HtmlRefusal}
-use Rattle.wt_html_in.specs.declared.reader.HtmlRefusal.TheVariants as refusals
+use Rattle.wt_html_in.specs.declared.refusal.HtmlRefusal.{HtmlRefusal}
+use Rattle.wt_html_in.specs.declared.refusal.HtmlRefusal.TheVariants as refusals
 use Rattle.wt_pagetool.specs.declared.refusal.Reason.{Reason}
 use Rattle.wt_pagetool.specs.declared.refusal.Reason.TheVariants.{Usage, Absent, TooLong, NotBuilt, HtmlTooLong, InputTooLong, Html, Unfit, Unsourced, ReadFault, FolderFault, NoMemory}
 use Rattle.wt_pagetool.specs.declared.output.Output.{Output}

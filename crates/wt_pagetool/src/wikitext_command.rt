@@ -2,7 +2,8 @@ ghost use Rattle.std.specs.Prelude.{◌≡◌, ◌≢◌, ◌<◌, ◌≤◌, �
 ghost use Rattle.std.specs.Io.KnownBytes.{IsAtEnd};
 ghost use Rattle.wt_outer.specs.Device.{Rose};
 ghost use Rattle.wt_fitting.specs.Read.{page, read};
-ghost use Rattle.wt_html_in.specs.Answers.{IsFed, taken_of, body_of, unsourced_of};
+ghost use Rattle.wt_html_in.specs.Answers.{body_of, unsourced_of};
+ghost use Rattle.wt_html_in.specs.Feeding.{IsFed, taken_of};
 ghost use Rattle.wt_pagetool.specs.Answers.{source_answer, wikitext_answer};
 ghost use Rattle.wt_pagetool.specs.Inputs.{FedWhole};
 ghost use Rattle.wt_pagetool.specs.Reasons.{Answered, Refuses, IsOfHtml, IsOfInput, reason_of};

@@ -1,5 +1,6 @@
 //! `wtround` answers one command over the pages of the directory `pages`, a page TITLE in the file
-//! `TITLE.wiki`: `wtround html TITLE` writes the page's HTML to standard output.
+//! `TITLE.wiki`: `wtround html TITLE` writes the page's HTML to standard output, and `wtround wikitext`
+//! the source of the page whose HTML it reads from standard input.
 #![tactic(auto)]
 
 use std::env;

@@ -1,5 +1,5 @@
 use Rattle.std.proofs.Common.{◌≡◌, ◌-◌, ◌≤◌}
-use Rattle.wt_html_in.specs.Answers.{taken_of}
+use Rattle.wt_html_in.specs.Feeding.{taken_of}
 use Rattle.wt_pagetool.specs.Inputs.{FedSoFar}
 use Rattle.wt_pagetool.proofs.wikitext_command.feed_all.Given as goal
 
