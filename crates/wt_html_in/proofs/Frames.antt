@@ -1,11 +1,10 @@
 -- The frame of a document.
 use Rattle.std.proofs.Common.{◌≡◌, ℕ, suc, ◌+◌, ◌<◌, ◌^◌, Bool, true, false, Option, Some, None, Result, Ok, Err, List, [], ◌∷◌, ◌++◌, refl, sym, ap, ◌∙◌, arith, subst, codes, length}
-use Rattle.std.specs.Prelude.{if◌then◌else◌, ◌&&◌, not, IfOk, IfErr, nat_le, ◌≤◌}
+use Rattle.std.specs.Prelude.{if◌then◌else◌, ◌&&◌, ◌≤◌}
 use Rattle.std.specs.Option.{option_or}
 use Rattle.std.specs.Str.{bytes_eq}
-use Rattle.wt_tree.specs.declared.kind.Kind.{Kind}
 use Rattle.wt_tree.specs.declared.kind.Kind.TheVariants as kind
-use Rattle.wt_tree.specs.Tree.{Tree, tree, Trees}
+use Rattle.wt_tree.specs.Tree.{tree}
 use Rattle.wt_tree.specs.View.{view, views}
 use Rattle.wt_tree.specs.declared.node.Node.{Node}
 use Rattle.wt_html_grammar.specs.Markup.{Pair, Markup, Markups, text, node, empty, more}
@@ -13,7 +12,7 @@ use Rattle.wt_html_elements.specs.declared.content.Content.{Content}
 use Rattle.wt_html_elements.specs.Built.{view_content, pairs, views as markups}
 use Rattle.wt_html_grammar.specs.Events.{append}
 use Rattle.wt_html_in.specs.declared.frame.Found.{Found}
-use Rattle.wt_fitting.specs.Fit.{Misfit, with_children, text_fits, elements, elements_of_all, fit_as, fit_nodes, elements_in, body_in, body_of, Found as FoundBody}
+use Rattle.wt_fitting.specs.Fit.{with_children, text_fits, elements, elements_of_all, fit_as, fit_nodes, elements_in, body_in, body_of, Found as FoundBody}
 use Rattle.wt_fitting.specs.Unsourced.{is_marked, unsourced_nodes}
 use Rattle.wt_html_in.specs.Texts.{are_utf8_values, is_utf8_markup, are_utf8_markups}
 use Rattle.wt_html_in.specs.declared.refusal.FitFault.{FitFault}
@@ -130,14 +129,15 @@ pub body_made : (n : ℕ) (ps : List Pair) (c : Markups) (h : Head) (w v : Walk)
     → Bodied n ps c (Ok h) → w.next ≡ n + 1 → w.unsourced ≡ marked_here n ps → FitsNodes w kind.Body c v (Ok ns)
     → view b ≡ tree (label_of_head h) (views ns) → body_told e ≡ view b → unsourced_of e ≡ v.unsourced → FitsBody (Some (found_of n ps c)) (Ok e)
 body_made n ps c h w v ns b e f x y g i j k =
-    let s : w.next ≡ suc n = omega (arith, x) in
-    (f (λ z. fit_nodes (suc n) kind.Body c)
-     ∙ ap (λ z. with_children (label_of_head h) (fit_nodes z kind.Body c)) (sym s)
-     ∙ ap (with_children (label_of_head h)) g.0
-     ∙ ap (λ z. Ok z) (sym (j ∙ i)),
-     sym (k ∙ g.1.unsourced ∙ ap (λ z. option_or z (unsourced_nodes w.next c)) y
-         ∙ here_or (is_marked ps) n (unsourced_nodes w.next c)
-         ∙ ap (λ z. if is_marked ps then Some n else unsourced_nodes z c) s))
+    let s : w.next ≡ suc n = omega (arith, x) in (
+      f (λ z. fit_nodes (suc n) kind.Body c)
+          ∙ ap (λ z. with_children (label_of_head h) (fit_nodes z kind.Body c)) (sym s)
+          ∙ ap (with_children (label_of_head h)) g.0
+          ∙ ap (λ z. Ok z) (sym (j ∙ i)),
+      sym (k ∙ g.1.unsourced ∙ ap (λ z. option_or z (unsourced_nodes w.next c)) y
+          ∙ here_or (is_marked ps) n (unsourced_nodes w.next c)
+          ∙ ap (λ z. if is_marked ps then Some n else unsourced_nodes z c) s),
+    )
 
 pub body_misfit : (n : ℕ) (ps : List Pair) (c : Markups) (e : FitFault) → Bodied n ps c (Err e) → FitsBody (Some (found_of n ps c)) (Err e)
 body_misfit n ps c (faults.Unfit m y) f = f (λ z. fit_nodes (suc n) kind.Body c)

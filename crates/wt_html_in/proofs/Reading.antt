@@ -1,6 +1,5 @@
 -- What the reader of pages answers, by what the reader of elements does.
-use Rattle.std.proofs.Common.{◌≡◌, ℕ, ◌+◌, ◌<◌, ◌^◌, ◌++◌, true, Option, Some, None, Result, Ok, Err, List, [], length, refl, sym, ap, ◌∙◌, arith, subst}
-use Rattle.std.specs.Prelude.{IfErr, IfSome}
+use Rattle.std.proofs.Common.{◌≡◌, ℕ, ◌+◌, ◌<◌, ◌^◌, ◌++◌, true, Option, None, Ok, Err, List, length, sym, arith, subst}
 use Rattle.std.specs.Coded.{le_prop}
 use Rattle.std.proofs.Math.Logic.{∥∥₁_elim}
 use Rattle.std.proofs.Props.{props}
@@ -18,6 +17,7 @@ use Rattle.wt_fitting.proofs.OneReading.{one_read}
 use Rattle.wt_html_in.specs.Texts.{is_utf8_markup}
 use Rattle.wt_html_in.specs.declared.edited.Edited.{Edited}
 use Rattle.wt_html_in.specs.declared.refusal.FitFault.TheVariants as faults
+use Rattle.wt_html_in.specs.declared.refusal.HtmlRefusal.{HtmlRefusal}
 use Rattle.wt_html_in.specs.Answers.{body_of as body_told, unsourced_of, RefusedFor}
 use Rattle.wt_html_in.specs.Feeding.{refusal_told}
 use Rattle.wt_html_in.specs.Frame.{FitsBody}
@@ -52,3 +52,6 @@ root_utf8 r root h f = ∥∥₁_elim h (Prim.hlevel props) (λ (bytes, g). stan
 pub fed_more : (r q : ElementsReader) (piece : List ℕ) → ∥ ((bytes : List ℕ) × IsFedElements r bytes) ∥₁
     → ((bytes : List ℕ) → IsFedElements r bytes → IsFedElements q (bytes ++ piece)) → ∥ ((bytes : List ℕ) × IsFedElements q bytes) ∥₁
 fed_more r q piece h f = ∥∥₁_elim h squash₁ (λ (bytes, g). ∣ (bytes ++ piece, f bytes g) ∣₁)
+
+pub refused_at : (bytes : List ℕ) (e : ElementsRefusal) (r : HtmlRefusal) → r ≡ refusal_told e → ElementsRefusedFor bytes e → RefusedFor bytes r
+refused_at bytes e r d h = let P : HtmlRefusal → Type 0 = RefusedFor bytes in subst P (sym d) (ill_answer bytes e h)

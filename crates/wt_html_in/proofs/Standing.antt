@@ -1,7 +1,7 @@
 -- Trees for which bytes stand: they have fewer elements than bytes, and their texts and values are
 -- UTF-8.
-use Rattle.std.proofs.Common.{◌≡◌, ℕ, suc, ◌+◌, ◌<◌, ◌≤◌, Bool, true, false, List, [], ◌∷◌, ◌++◌, length, length-append, map, refl, sym, ap, ◌∙◌, arith, subst}
-use Rattle.std.specs.Prelude.{◌&&◌, encode_utf8}
+use Rattle.std.proofs.Common.{◌≡◌, ℕ, suc, ◌+◌, ◌≤◌, Bool, true, List, [], ◌∷◌, ◌++◌, length, length-append, map, refl, sym, ap, ◌∙◌, arith}
+use Rattle.std.specs.Prelude.{encode_utf8}
 use Rattle.std.specs.List.{flat_map}
 use Rattle.std.specs.Str.{IsUtf8, is_utf8}
 use Rattle.std.proofs.lemmas.Str.{IsUtf8-append, IsUtf8-nil, IsUtf8-encode, is_utf8-from_IsUtf8}
@@ -10,8 +10,8 @@ use Rattle.wt_html_grammar.specs.declared.names.EscapeName.{EscapeName}
 use Rattle.wt_html_grammar.proofs.Reading.{and_true}
 use Rattle.wt_html_grammar.specs.declared.names.EscapeName.TheVariants.{Amp, Lt, Gt, Quot, Apos, Nbsp}
 use Rattle.wt_html_grammar.specs.Signs.{in_text, in_value, character_of, number_from}
-use Rattle.wt_html_grammar.specs.Grammar.{Piece, plain, named, number, IsPiece, ArePieces, Attribute, IsAttribute, AreAttributes, spell_piece, spell_attributes, Slash, bare, slash, spell_slash, Element, Items, element, void, none, sign, child, spell, spell_items, IsElement, AreItems, Document, IsDocument, spell_head, spell_document}
-use Rattle.wt_html_grammar.specs.Markup.{Pair, Markup, Markups, text, node, empty, more, unit_of, pair_of, flush, meaning, contents, Stands}
+use Rattle.wt_html_grammar.specs.Grammar.{Piece, plain, named, number, IsPiece, ArePieces, Attribute, AreAttributes, spell_piece, spell_attributes, Slash, bare, slash, spell_slash, Element, Items, element, void, none, sign, child, spell, spell_items, IsElement, AreItems, spell_head}
+use Rattle.wt_html_grammar.specs.Markup.{Markup, Markups, empty, more, unit_of, pair_of, flush, meaning, contents, Stands}
 use Rattle.wt_fitting.specs.Fit.{elements, elements_of_all}
 use Rattle.wt_html_in.specs.Texts.{are_utf8_values, is_utf8_markup, are_utf8_markups}
 
@@ -36,7 +36,7 @@ mutual
       let inner : List ℕ = 62 ∷ (spell_items items ++ tail) in
       let a : suc (length (spell_items items)) ≤ length inner = omega (arith, length-append (spell_items items) tail) in
       let b = tail_le name (spell_attributes ps ++ (gap ++ inner)) (suc (length (spell_items items)))
-          (tail_le (spell_attributes ps) (gap ++ inner) (suc (length (spell_items items))) (tail_le gap inner (suc (length (spell_items items))) a)) in
+      (tail_le (spell_attributes ps) (gap ++ inner) (suc (length (spell_items items))) (tail_le gap inner (suc (length (spell_items items))) a)) in
       omega (arith, i, b)
   few_elements (void name ps gap end) =
       let b = tail_le name (spell_attributes ps ++ (gap ++ spell_slash end)) 1 (tail_le (spell_attributes ps) (gap ++ spell_slash end) 1 (tail_le gap (spell_slash end) 1 (slash_one end))) in

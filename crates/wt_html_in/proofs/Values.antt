@@ -1,11 +1,10 @@
 -- Values of attributes: they are texts, and what the data among them say.
-use Rattle.std.proofs.Common.{◌≡◌, ℕ, Bool, true, false, Option, Some, None, List, [], ◌∷◌, refl, sym, ap, ◌∙◌, codes, option_map}
+use Rattle.std.proofs.Common.{◌≡◌, ℕ, Bool, true, false, Option, Some, None, List, [], ◌∷◌, refl, sym, ap, ◌∙◌, codes}
 use Rattle.std.specs.Prelude.{◌&&◌, if◌then◌else◌}
 use Rattle.std.specs.Str.{bytes_eq, is_utf8}
 use Rattle.wt_tree.specs.declared.kind.Kind.{Kind}
 use Rattle.wt_html_grammar.specs.Markup.{Pair}
 use Rattle.wt_html_grammar.proofs.Steps.{if_true, if_false}
-use Rattle.wt_datamw.specs.declared.sync.Sync.{Sync}
 use Rattle.wt_fitting.specs.Attributes.{value_of, has}
 use Rattle.wt_fitting.specs.Rows.{mw_fits, sync_fits, data_of}
 use Rattle.wt_html_in.specs.Texts.{are_utf8_values}
@@ -37,4 +36,4 @@ data_told k ps a m v w ha fa hm tm hv hw =
     ap (sync_fits k) hw
     ∙ sym (if_true (mw_fits (value_of (codes "data-mw") ps)) (sync_fits k (value_of (codes "data-parsoid") ps)) None (ap mw_fits (sym hv) ∙ sym hm ∙ tm))
     ∙ sym (if_false (has (codes "about") ps) None
-        (if mw_fits (value_of (codes "data-mw") ps) then sync_fits k (value_of (codes "data-parsoid") ps) else None) (sym ha ∙ fa))
+    (if mw_fits (value_of (codes "data-mw") ps) then sync_fits k (value_of (codes "data-parsoid") ps) else None) (sym ha ∙ fa))

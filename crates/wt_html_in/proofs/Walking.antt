@@ -1,24 +1,24 @@
 -- A walk over elements, one after another.
-use Rattle.std.proofs.Common.{◌≡◌, ℕ, suc, ◌+◌, ◌<◌, ◌^◌, Bool, true, false, Option, Some, None, Result, Ok, Err, List, [], ◌∷◌, ◌++◌, refl, sym, ap, ◌∙◌, arith, add-one, subst}
-use Rattle.std.specs.Prelude.{if◌then◌else◌, ◌&&◌, IfOk, IfErr, length}
+use Rattle.std.proofs.Common.{◌≡◌, ℕ, suc, ◌+◌, ◌<◌, ◌^◌, Bool, true, false, Option, Some, None, Result, Ok, Err, List, [], ◌∷◌, ◌++◌, refl, sym, ap, ◌∙◌, arith, subst}
+use Rattle.std.specs.Prelude.{if◌then◌else◌, IfOk, IfErr, length}
 use Rattle.std.specs.Option.{option_or}
 use Rattle.wt_tree.specs.declared.kind.Kind.{Kind}
-use Rattle.wt_tree.specs.Tree.{Tree, tree, Trees, none, more as one_more}
+use Rattle.wt_tree.specs.Tree.{tree, Trees, none, more as one_more}
 use Rattle.wt_tree.specs.View.{view, views}
 use Rattle.wt_tree.specs.declared.node.Node.{Node}
-use Rattle.wt_html_grammar.specs.Markup.{Pair, Markup, Markups, text, node, empty, more}
+use Rattle.wt_html_grammar.specs.Markup.{Pair, Markup, Markups, node, empty, more}
 use Rattle.wt_html_elements.specs.declared.content.Content.{Content}
 use Rattle.wt_html_elements.specs.Built.{views as markups}
 use Rattle.wt_fitting.specs.Rows.{row}
-use Rattle.wt_fitting.specs.Fit.{Misfit, onto, onto_told, with_children, text_fits, leaf_in, elements, elements_of_all, fit_row, fit_node, fit_nodes}
+use Rattle.wt_fitting.specs.Fit.{Misfit, onto, onto_told, with_children, text_fits, elements, elements_of_all, fit_row, fit_node, fit_nodes}
 use Rattle.wt_fitting.specs.Unsourced.{is_unsourced, unsourced_node, unsourced_nodes}
-use Rattle.wt_html_in.specs.Texts.{are_utf8_values, is_utf8_markup, are_utf8_markups}
+use Rattle.wt_html_in.specs.Texts.{is_utf8_markup, are_utf8_markups}
 use Rattle.wt_html_in.specs.declared.refusal.FitFault.{FitFault}
 use Rattle.wt_html_in.specs.declared.refusal.FitFault.TheVariants as faults
 use Rattle.wt_html_in.specs.declared.head.Head.{Head}
 use Rattle.wt_html_in.specs.declared.walk.Walk.{Walk}
 use Rattle.wt_html_in.specs.Fits.{label_of_head, HeadFits, unsourced_here, Passed, FitsNode, FitsNodes}
-use Rattle.wt_html_in.proofs.Values.{and_left, and_right}
+use Rattle.wt_html_in.proofs.Values.{and_right}
 
 -- nodes that were made, before what is still to come
 abbrev pub ontos : Trees → Result Trees Misfit → Result Trees Misfit
@@ -74,9 +74,10 @@ going_on w k all ns v u t ts n g f = record {
 }
 
 pub going_end : (w : Walk) (k : Kind) (all : Markups) (ns : List Node) (v : Walk) → Going w k all (views ns) v empty → FitsNodes w k all v (Ok ns)
-going_end w k all ns v g =
-    (sym g.fits ∙ ontos_ok (views ns),
-     record { next = omega (arith, g.count); unsourced = sym (or_none v.unsourced) ∙ g.unsourced })
+going_end w k all ns v g = (
+  sym g.fits ∙ ontos_ok (views ns),
+  record { next = omega (arith, g.count); unsourced = sym (or_none v.unsourced) ∙ g.unsourced },
+)
 
 pub going_err : (w : Walk) (k : Kind) (all : Markups) (ready : Trees) (v u x : Walk) (t : Markup) (ts : Markups) (e : FitFault)
     → Going w k all ready v (more t ts) → FitsNode v k t u (Err e) → FitsNodes w k all x (Err e)
@@ -96,16 +97,17 @@ inside_is w v k name ps c h f e =
 pub element_ok : (w v u : Walk) (k : Kind) (name : List ℕ) (ps : List Pair) (c : Markups) (h : Head) (ns : List Node) (n : Node)
     → Headed w k name ps c (Ok h) → Passed w v 1 (unsourced_here w.next ps) → FitsNodes v h.kind c u (Ok ns) → view n ≡ tree (label_of_head h) (views ns)
     → FitsNode w k (node name ps c) u (Ok n)
-element_ok w v u k name ps c h ns n f p g e =
-    (inside_is w v k name ps c h f p.next ∙ ap (with_children (label_of_head h)) g.0 ∙ ap (λ t. Ok t) (sym e),
-     record {
-       next = omega (arith, p.next, g.1.next);
-       unsourced = g.1.unsourced
-           ∙ ap (λ x. option_or x (unsourced_nodes v.next c)) p.unsourced
-           ∙ or_assoc w.unsourced (unsourced_here w.next ps) (unsourced_nodes v.next c)
-           ∙ ap (option_or w.unsourced) (here_or (is_unsourced ps) w.next (unsourced_nodes v.next c))
-           ∙ ap (λ x. option_or w.unsourced (if is_unsourced ps then Some w.next else unsourced_nodes x c)) (let s : v.next ≡ suc w.next = omega (arith, p.next) in s);
-     })
+element_ok w v u k name ps c h ns n f p g e = (
+  inside_is w v k name ps c h f p.next ∙ ap (with_children (label_of_head h)) g.0 ∙ ap (λ t. Ok t) (sym e),
+  record {
+    next = omega (arith, p.next, g.1.next);
+    unsourced = g.1.unsourced
+        ∙ ap (λ x. option_or x (unsourced_nodes v.next c)) p.unsourced
+        ∙ or_assoc w.unsourced (unsourced_here w.next ps) (unsourced_nodes v.next c)
+        ∙ ap (option_or w.unsourced) (here_or (is_unsourced ps) w.next (unsourced_nodes v.next c))
+        ∙ ap (λ x. option_or w.unsourced (if is_unsourced ps then Some w.next else unsourced_nodes x c)) (let s : v.next ≡ suc w.next = omega (arith, p.next) in s);
+  },
+)
 
 pub element_misfit : (w x : Walk) (k : Kind) (name : List ℕ) (ps : List Pair) (c : Markups) (e : FitFault) → Headed w k name ps c (Err e) → FitsNode w k (node name ps c) x (Err e)
 element_misfit w x k name ps c (faults.Unfit n y) f = f (λ j. fit_nodes (suc w.next) j c)

@@ -3,7 +3,7 @@ use Rattle.std.specs.Prelude.{◌≡◌, ℕ, ◌+◌, ◌&&◌, Bool, true, fal
 use Rattle.std.specs.Str.{bytes_eq}
 use Rattle.wt_html_grammar.specs.Markup.{Pair, Markup, Markups, text, node, empty, more}
 use Rattle.wt_html_elements.specs.Built.{pairs, views}
-use Rattle.wt_fitting.specs.Fit.{Misfit, elements_of_all, is_marked_root, fit_body, Found as FoundBody}
+use Rattle.wt_fitting.specs.Fit.{elements_of_all, is_marked_root, fit_body, Found as FoundBody}
 use Rattle.wt_fitting.specs.Unsourced.{is_marked, unsourced_body}
 use Rattle.wt_html_in.specs.declared.frame.Found.{Found}
 use Rattle.wt_html_in.specs.declared.edited.Edited.{Edited}

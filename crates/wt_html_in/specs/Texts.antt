@@ -1,5 +1,5 @@
 -- The texts and values of a tree of elements are UTF-8.
-use Rattle.std.specs.Prelude.{ℕ, Bool, true, List, [], ◌∷◌, ◌&&◌}
+use Rattle.std.specs.Prelude.{Bool, true, List, [], ◌∷◌, ◌&&◌}
 use Rattle.std.specs.Str.{is_utf8}
 use Rattle.wt_html_grammar.specs.Markup.{Pair, Markup, Markups, text, node, empty, more}
 

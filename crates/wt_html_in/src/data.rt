@@ -100,7 +100,11 @@ pub fn data_of(alloc: Global, kind: Kind, attributes: &[Attribute]) -> Result<Da
     }
     let fits = mw_fits(alloc, text_value(b"data-mw".as_slice(), attributes))?;
     if fits {
-        sync_fits(alloc, kind, text_value(b"data-parsoid".as_slice(), attributes))
+        sync_fits(
+            alloc,
+            kind,
+            text_value(b"data-parsoid".as_slice(), attributes),
+        )
     } else {
         Ok(Data::Bad)
     }

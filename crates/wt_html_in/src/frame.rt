@@ -237,10 +237,12 @@ pub fn page<'a>(
             element: 1,
             why: FitWhy::Root,
         }),
-        Some(Found {
-            number,
-            attributes,
-            contents,
-        }) => edited(alloc, arena, number, attributes, contents),
+        Some(
+            Found {
+                number,
+                attributes,
+                contents,
+            },
+        ) => edited(alloc, arena, number, attributes, contents),
     }
 }

@@ -13,6 +13,8 @@ mod number;
 mod reader;
 mod refusal;
 mod row;
+#[cfg(test)]
+mod tests;
 mod walk;
 mod whole;
 

@@ -18,11 +18,7 @@ use wt_tree::{Kind, Mark, Node, Ranges};
 
 /// A text in the arena; nothing where it is empty. One of 2^32 - 1 bytes or more is answered as want
 /// of memory.
-fn kept<'a>(
-    alloc: Global,
-    arena: &'a Bump<Global>,
-    text: &str,
-) -> Result<List<Text<'a>>, FitFault>
+fn kept<'a>(alloc: Global, arena: &'a Bump<Global>, text: &str) -> Result<List<Text<'a>>, FitFault>
     ensures texts { IfOk result (λ l. texts_of l ≡ text.now) }
     ensures memory { IfErr result (λ e. e ≡ FitFault.NoMemory) }
 {
@@ -129,7 +125,11 @@ fn own_of<'a>(
     }
 }
 
-fn source_in<'a>(alloc: Global, arena: &'a Bump<Global>, sync: &Sync) -> Result<Source<'a>, FitFault>
+fn source_in<'a>(
+    alloc: Global,
+    arena: &'a Bump<Global>,
+    sync: &Sync,
+) -> Result<Source<'a>, FitFault>
     ensures source { IfOk result (λ s. source_view s ≡ source_told (Some sync.now)) }
     ensures memory { IfErr result (λ e. e ≡ FitFault.NoMemory) }
 {

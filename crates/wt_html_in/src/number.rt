@@ -30,13 +30,7 @@ fn decimal_of(digits: &[u8]) -> Option<u32>
 {
     match digits {
         [] => None,
-        [first, ..] => {
-            if *first == 48 {
-                None
-            } else {
-                decimal(digits)
-            }
-        }
+        [first, ..] => { if *first == 48 { None } else { decimal(digits) } }
     }
 }
 

@@ -9,7 +9,7 @@ pub returns-then-fits-clause-fits : goal.returns-then-fits-clause-fits
 returns-then-fits-clause-fits c =
     IfOk-weaker c.sync_fits.result _ _
     (λ v e. e ∙ data_told c.args.kind (pairs c.args.attributes.now) c.has.result c.in_ok-fits.fits _ _
-        (c.has.ensures ∙ ap (λ n. has n (pairs c.args.attributes.now)) c.as_slice.ensures) c.if-has.false c.in_ok-fits.ensures.fits c.if-fits.true
-        (c.text_value.ensures ∙ ap (λ n. value_of n (pairs c.args.attributes.now)) c.as_slice-2.ensures)
-        (c.text_value-then-fits.ensures ∙ ap (λ n. value_of n (pairs c.args.attributes.now)) c.as_slice-then-fits.ensures))
+    (c.has.ensures ∙ ap (λ n. has n (pairs c.args.attributes.now)) c.as_slice.ensures) c.if-has.false c.in_ok-fits.ensures.fits c.if-fits.true
+    (c.text_value.ensures ∙ ap (λ n. value_of n (pairs c.args.attributes.now)) c.as_slice-2.ensures)
+    (c.text_value-then-fits.ensures ∙ ap (λ n. value_of n (pairs c.args.attributes.now)) c.as_slice-then-fits.ensures))
     c.sync_fits.ensures.fits

@@ -1,10 +1,10 @@
-use Rattle.std.proofs.Common.{◌≡◌, rules, Result, Ok, Err, List, [], ◌∷◌, ◌++◌, sym, refl, ◌∙◌}
+use Rattle.std.proofs.Common.{◌≡◌, rules, Ok, Err, [], ◌∷◌, ◌++◌, sym, refl, ◌∙◌}
 use Rattle.std.specs.Vec.Iter.{into_iter_items}
 use Rattle.wt_tree.specs.View.{views}
 use Rattle.wt_html_grammar.specs.Markup.{node}
-use Rattle.wt_html_elements.specs.declared.content.Content.{Content, fold-roll-Content, the_lemmas}
+use Rattle.wt_html_elements.specs.declared.content.Content.{fold-roll-Content, the_lemmas}
 use Rattle.wt_html_elements.specs.Built.{view_content, pairs, views as markups}
-use Rattle.wt_html_in.proofs.Walking.{Headed, headed_at, node_at, nodes_at, element_made, element_misfit, element_inside, no_items, going_on, going_end, going_err, going_at}
+use Rattle.wt_html_in.proofs.Walking.{headed_at, node_at, nodes_at, element_made, element_misfit, element_inside, no_items, going_on, going_end, going_err, going_at}
 use Rattle.wt_html_in.proofs.walk.+fitting.Goals as goal
 
 pub node-returns-in_err-head-in-Element : goal.node-returns-in_err-head-in-Element
@@ -13,8 +13,8 @@ node-returns-in_err-head-in-Element t c =
     let r : c.from_residual.result ≡ Err c.in_err-head-in-Element.field-0.0 = search rules in
     node_at c.args.walk.now c.begin.new.walk c.args.outer (view_content c.args.content) _ c.from_residual.result (Err c.in_err-head-in-Element.field-0.0) e r
     (element_misfit c.args.walk.now c.begin.new.walk c.args.outer c.in-Element.name.items (pairs c.in-Element.attributes.items) (markups c.in-Element.contents.items) c.in_err-head-in-Element.field-0.0
-        (headed_at c.args.walk.now c.args.outer c.in-Element.name.items (pairs c.in-Element.attributes.items) c.as_slice-in-Element.result.now c.in-Element.contents.items
-            (Err c.in_err-head-in-Element.field-0.0) c.as_slice-in-Element.ensures.value c.in_err-head-in-Element.ensures.head))
+    (headed_at c.args.walk.now c.args.outer c.in-Element.name.items (pairs c.in-Element.attributes.items) c.as_slice-in-Element.result.now c.in-Element.contents.items
+    (Err c.in_err-head-in-Element.field-0.0) c.as_slice-in-Element.ensures.value c.in_err-head-in-Element.ensures.head))
 
 pub node-returns-in_err-children-in-Element : goal.node-returns-in_err-children-in-Element
 node-returns-in_err-children-in-Element t c =
@@ -23,10 +23,10 @@ node-returns-in_err-children-in-Element t c =
     node_at c.args.walk.now c.nodes.new.walk c.args.outer (view_content c.args.content) _ c.from_residual-in_err-children-in-Element.result
     (Err c.in_err-children-in-Element.field-0.0) e r
     (element_inside c.args.walk.now c.begin.new.walk c.nodes.new.walk c.nodes.new.walk c.args.outer c.in-Element.name.items (pairs c.in-Element.attributes.items)
-        (markups c.in-Element.contents.items) c.in_ok-head-in-Element.head c.in_err-children-in-Element.field-0.0
-        (headed_at c.args.walk.now c.args.outer c.in-Element.name.items (pairs c.in-Element.attributes.items) c.as_slice-in-Element.result.now c.in-Element.contents.items
-            (Ok c.in_ok-head-in-Element.head) c.as_slice-in-Element.ensures.value c.in_ok-head-in-Element.ensures.head)
-        c.begin.ensures.passed c.in_err-children-in-Element.ensures)
+    (markups c.in-Element.contents.items) c.in_ok-head-in-Element.head c.in_err-children-in-Element.field-0.0
+    (headed_at c.args.walk.now c.args.outer c.in-Element.name.items (pairs c.in-Element.attributes.items) c.as_slice-in-Element.result.now c.in-Element.contents.items
+    (Ok c.in_ok-head-in-Element.head) c.as_slice-in-Element.ensures.value c.in_ok-head-in-Element.ensures.head)
+    c.begin.ensures.passed c.in_err-children-in-Element.ensures)
 
 pub node-returns-in_ok-children-in-Element : goal.node-returns-in_ok-children-in-Element
 node-returns-in_ok-children-in-Element t c =
@@ -34,7 +34,7 @@ node-returns-in_ok-children-in-Element t c =
     element_made c.args.walk.now c.begin.new.walk c.nodes.new.walk c.args.outer c.in-Element.name.items (pairs c.in-Element.attributes.items) (markups c.in-Element.contents.items)
     c.in_ok-head-in-Element.head c.in_ok-children-in-Element.children (view_content c.args.content) c.node_of.result e
     (headed_at c.args.walk.now c.args.outer c.in-Element.name.items (pairs c.in-Element.attributes.items) c.as_slice-in-Element.result.now c.in-Element.contents.items
-        (Ok c.in_ok-head-in-Element.head) c.as_slice-in-Element.ensures.value c.in_ok-head-in-Element.ensures.head)
+    (Ok c.in_ok-head-in-Element.head) c.as_slice-in-Element.ensures.value c.in_ok-head-in-Element.ensures.head)
     c.begin.ensures.passed c.in_ok-children-in-Element.ensures c.node_of.ensures.node c.node_of.ensures.memory
 
 pub nodes-returns-in_err-child : goal.nodes-returns-in_err-child
@@ -44,9 +44,9 @@ nodes-returns-in_err-child t c =
     let b : into_iter_items c.into_iter-content-iterator.result ≡ c.args.contents.items = search rules in
     nodes_at c.args.walk.now c.node.new.walk c.args.outer (markups c.args.contents.items) c.from_residual-in_err-child.result (Err c.in_err-child.field-0.0) r
     (going_err c.args.walk.now c.args.outer (markups c.args.contents.items) (views c.loop-content.children.items) c.loop-content.walk c.node.new.walk c.node.new.walk
-        (view_content c.in-Some.content) (markups (into_iter_items c.next.new.self)) c.in_err-child.field-0.0
-        (going_at c.args.walk.now c.args.outer c.loop-content.children.items c.loop-content.children.items c.loop-content.walk _ _ _ _ refl (sym b) (sym s) c.loop-content.invariant)
-        c.in_err-child.ensures)
+    (view_content c.in-Some.content) (markups (into_iter_items c.next.new.self)) c.in_err-child.field-0.0
+    (going_at c.args.walk.now c.args.outer c.loop-content.children.items c.loop-content.children.items c.loop-content.walk _ _ _ _ refl (sym b) (sym s) c.loop-content.invariant)
+    c.in_err-child.ensures)
 
 pub nodes-loop-content-preserved : goal.nodes-loop-content-preserved
 nodes-loop-content-preserved t c =
@@ -54,9 +54,9 @@ nodes-loop-content-preserved t c =
     going_at c.args.walk.now c.args.outer (c.loop-content.children.items ++ c.in_ok-child.child ∷ []) c.push.new.self.items c.node.new.walk _ _ _ _
     c.in_ok-push.ensures.items refl refl
     (going_on c.args.walk.now c.args.outer (markups (into_iter_items c.into_iter-content-iterator.result)) c.loop-content.children.items c.loop-content.walk c.node.new.walk
-        (view_content c.in-Some.content) (markups (into_iter_items c.next.new.self)) c.in_ok-child.child
-        (going_at c.args.walk.now c.args.outer c.loop-content.children.items c.loop-content.children.items c.loop-content.walk _ _ _ _ refl refl (sym s) c.loop-content.invariant)
-        c.in_ok-child.ensures)
+    (view_content c.in-Some.content) (markups (into_iter_items c.next.new.self)) c.in_ok-child.child
+    (going_at c.args.walk.now c.args.outer c.loop-content.children.items c.loop-content.children.items c.loop-content.walk _ _ _ _ refl refl (sym s) c.loop-content.invariant)
+    c.in_ok-child.ensures)
 
 pub nodes-returns : goal.nodes-returns
 nodes-returns t c =

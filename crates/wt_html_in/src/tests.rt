@@ -1,0 +1,118 @@
+//! Each public call that allocates once on its happy path, in whole inputs and in pieces.
+use crate::{FitWhy, HtmlRefusal, Reader, read_html, unsourced};
+use bumpalo::Bump;
+use std::alloc::Global;
+use std::test::Fail;
+use wt_tree::{find, flat};
+
+/// A page of one paragraph with a source.
+const PAGE: &str =
+    "<html><body id=\"mw1\">\n<p id=\"mw2\" data-parsoid='{\"dsr\":[1,7,0,0]}'>a &lt; b</p></body></html>";
+
+/// The source of the tree that an input is.
+fn source(alloc: Global, input: &[u8]) -> Result<String, Fail> {
+    let mut text = String::new(alloc);
+    let arena = Bump::new(alloc);
+    match read_html(alloc, input, &arena) {
+        Ok(page) => {
+            let whole = flat(alloc, page.body())?;
+            text.push_str(whole.as_str())?;
+        }
+        Err(_) => text.push_str("refused")?,
+    }
+    Ok(text)
+}
+
+#[test]
+fn source_of_a_paragraph(rt: HostRuntime) -> Result<(), Fail> {
+    let text = source(rt.alloc(), PAGE.as_bytes())?;
+    assert_eq!(rt; text.as_str(), "\na < b");
+    Ok(())
+}
+
+/// Whether an input has a node of this number.
+fn has_node(alloc: Global, input: &[u8], id: u32) -> bool {
+    let arena = Bump::new(alloc);
+    match read_html(alloc, input, &arena) {
+        Ok(page) => find(page.body(), id).is_some(),
+        Err(_) => false,
+    }
+}
+
+#[test]
+fn number_of_a_paragraph(rt: HostRuntime) -> Result<(), Fail> {
+    assert!(rt; has_node(rt.alloc(), PAGE.as_bytes(), 2));
+    assert!(rt; !has_node(rt.alloc(), PAGE.as_bytes(), 1));
+    Ok(())
+}
+
+/// The same from two pieces.
+fn source_of_pieces(alloc: Global, first: &[u8], second: &[u8]) -> Result<String, Fail> {
+    let mut text = String::new(alloc);
+    let arena = Bump::new(alloc);
+    let mut reader = Reader::new(alloc);
+    let one = reader.feed(alloc, first);
+    let other = reader.feed(alloc, second);
+    match reader.finish(alloc, &arena) {
+        Ok(page) => {
+            let whole = flat(alloc, page.body())?;
+            text.push_str(whole.as_str())?;
+        }
+        Err(_) => text.push_str("refused")?,
+    }
+    if one.is_err() || other.is_err() {
+        text.push_str(", no HTML")?;
+    }
+    Ok(text)
+}
+
+#[test]
+fn source_in_pieces(rt: HostRuntime) -> Result<(), Fail> {
+    let (first, second) = PAGE.as_bytes().split_at(60);
+    let text = source_of_pieces(rt.alloc(), first, second)?;
+    assert_eq!(rt; text.as_str(), "\na < b");
+    Ok(())
+}
+
+fn is_refused(alloc: Global, input: &[u8], refusal: HtmlRefusal) -> bool {
+    let arena = Bump::new(alloc);
+    matches!(read_html(alloc, input, &arena), Err(told) if told == refusal)
+}
+
+#[test]
+fn paragraph_in_a_paragraph(rt: HostRuntime) -> Result<(), Fail> {
+    let refusal = HtmlRefusal::Unfit {
+        element: 4,
+        why: FitWhy::Place,
+    };
+    assert!(rt;
+        is_refused(
+            rt.alloc(),
+            b"<html><body><p><p></p></p></body></html>".as_slice(),
+            refusal
+        )
+    );
+    Ok(())
+}
+
+/// The first element without a source, 0 where there is none.
+fn first_unsourced(alloc: Global, input: &[u8]) -> u32 {
+    let arena = Bump::new(alloc);
+    match read_html(alloc, input, &arena) {
+        Ok(page) => unsourced(&page).unwrap_or(0),
+        Err(_) => 0,
+    }
+}
+
+#[test]
+fn paragraph_without_source(rt: HostRuntime) -> Result<(), Fail> {
+    assert_eq!(rt;
+        first_unsourced(
+            rt.alloc(),
+            b"<html><head></head><body><p></p></body></html>".as_slice()
+        ),
+        4
+    );
+    assert_eq!(rt; first_unsourced(rt.alloc(), PAGE.as_bytes()), 0);
+    Ok(())
+}
