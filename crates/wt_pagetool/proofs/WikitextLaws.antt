@@ -47,11 +47,10 @@ source_sourced t o text none is = rw (none, is) refl
 
 pub answered_read : (edited : Edited) (bytes : List ℕ) (result : Result Output Reason) → Answers (Ok edited) bytes → Answered (source_answer (as_page (body_of edited) (unsourced_of edited))) result
     → Answered (source_answer (read bytes)) result
-unfolding Answers
 answered_read edited bytes result reads answered = subst (λ r. Answered (source_answer r) result) (sym reads) answered
 
 pub refused_read : (refusal : HtmlRefusal) (bytes : List ℕ) → Answers (Err refusal) bytes → Refuses (reason_of refusal) (source_answer (read bytes))
-unfolding Answers source_answer
+unfolding source_answer
 refused_read (refusals.Html place why) bytes reads = rw reads refl
 refused_read (refusals.Unfit n why) bytes reads = rw reads refl
 refused_read refusals.NoMemory bytes reads = tt

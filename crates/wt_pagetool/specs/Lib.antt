@@ -3,8 +3,8 @@ pub mod Blocks
 pub mod Commands
 pub mod Cuts
 pub mod Headings
-pub mod Lines
 pub mod Inputs
+pub mod Lines
 pub mod Nodes
 pub mod Outputs
 pub mod PageTree
