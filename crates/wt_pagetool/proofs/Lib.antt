@@ -1,6 +1,7 @@
 pub mod AnswerLaws
 pub mod BlockLaws
 mod Cases
+pub mod GivenBackLaws
 pub mod LineLaws
 pub mod PageLaws
 pub mod RefusalLines

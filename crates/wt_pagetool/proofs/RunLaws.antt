@@ -144,7 +144,7 @@ told_html : (told : Option Pages) (input : Option (List ℕ)) (words : List (Lis
 unfolding answer_told
 told_html told input words title e = rw e refl
 
-told_wikitext : (told : Option Pages) (input : Option (List ℕ)) (words : List (List ℕ)) → command_of words ≡ Some wikitext → answer_told told input words ≡ option_map wikitext_answer input
+pub told_wikitext : (told : Option Pages) (input : Option (List ℕ)) (words : List (List ℕ)) → command_of words ≡ Some wikitext → answer_told told input words ≡ option_map wikitext_answer input
 unfolding answer_told
 told_wikitext told input words e = rw e refl
 

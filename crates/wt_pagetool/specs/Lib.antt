@@ -2,6 +2,7 @@ pub mod Answers
 pub mod Blocks
 pub mod Commands
 pub mod Cuts
+pub mod GivenBack
 pub mod Headings
 pub mod Inputs
 pub mod Lines

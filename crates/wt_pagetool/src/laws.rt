@@ -2,6 +2,7 @@ ghost use Rattle.std.specs.Prelude.{◌≡◌, ℕ, ◌<◌, List, length, false
 ghost use Rattle.wt_tree.specs.Source.{flat};
 ghost use Rattle.wt_tree.specs.Tiling.{Tiled, Covers, InPreorder};
 ghost use Rattle.wt_pagetool.specs.Blocks.{Block, blocks, IsMeaning};
+ghost use Rattle.wt_pagetool.specs.GivenBack.{IsGivenBack};
 ghost use Rattle.wt_pagetool.specs.PageTree.{page_tree};
 ghost use Rattle.wt_pagetool.specs.Unbuilt.{first_unbuilt, is_unbuilt_at, IsFirstUnbuilt};
 
@@ -17,6 +18,11 @@ pub fn whole_tree()
     ensures tiled { (page : List ℕ) → Tiled (page_tree page) }
     ensures covers { (page : List ℕ) → Covers (length page) (page_tree page) }
     ensures numbered { (page : List ℕ) → InPreorder (page_tree page) }
+{}
+
+/// `wikitext` of what `html` answers for a page is this very page.
+pub fn pages_come_back()
+    ensures { (page : List ℕ) → IsGivenBack page }
 {}
 
 /// The place that `first_unbuilt` gives is the smallest one at which a form begins that isn't built, and where it gives none there is no such place.

@@ -20,6 +20,6 @@ mod unbuilt;
 mod wikitext_command;
 mod write;
 
-pub use laws::{one_meaning, smallest_place, whole_tree};
+pub use laws::{one_meaning, pages_come_back, smallest_place, whole_tree};
 pub use round_trip::plain_page_is_read;
 pub use top::run;

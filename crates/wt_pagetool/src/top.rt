@@ -1,7 +1,8 @@
 ghost use Rattle.std.specs.Prelude.{◌≡◌, ◌≢◌, ◌≤◌, ◌<◌, ◌⊎◌, ℕ, List, Some, IfSome, IfErr, OnOk, Err, None};
 ghost use Rattle.std.specs.Io.KnownBytes.{Appends, Keeps, IsAtEnd};
 ghost use Rattle.wt_outer.specs.Device.{Rose};
-ghost use Rattle.wt_pagetool.specs.Answers.{answer_told, output_of, status_of_answer, IsDone};
+ghost use Rattle.wt_pagetool.specs.Answers.{done, html_answer, answer_told, output_of, status_of_answer, IsDone};
+ghost use Rattle.wt_pagetool.specs.GivenBack.{GaveBack};
 ghost use Rattle.wt_pagetool.specs.Reasons.{Answered};
 ghost use Rattle.wt_pagetool.specs.Refusals.{line_of, write_fault};
 ghost use Rattle.wt_pagetool.specs.Reports.{AppendsFront, WroteHtml, WroteSource, NamesRefusal, BeginsRefusal};
@@ -68,6 +69,9 @@ pub fn run<S: Source, F: Folder, W: Sink, E: Sink>(
     ensures wikitext { command_of words.now ≡ Some wikitext → result ≡ 0 → IfSome (S.left input.old) (λ bytes. WroteSource bytes (W.taken out.old) (W.taken out.new)) }
     ensures ended { command_of words.now ≡ Some wikitext → result ≡ 0 → IsAtEnd (S.left input.new) }
     ensures silent { result ≡ 0 → Keeps (E.taken err.old) (E.taken err.new) }
+
+    // Where the input is the HTML that `html` answers for a page, `out` took this very page.
+    ensures gives_back { command_of words.now ≡ Some wikitext → IfSome (S.left input.old) (λ bytes. (page : List ℕ) → html_answer (Some page) ≡ done bytes → GaveBack page result (W.taken out.old) (W.taken out.new)) }
 
     // Where the devices tell what the words ask for, the status is that of the answer to the words over this, or that of a fault or of want of memory.
     ensures exact { IfSome (answer_told (F.pages folder.old) (S.left input.old) words.now) (λ a. (result ≡ status_of_answer a) ⊎ (5 ≤ result)) }

@@ -1,4 +1,5 @@
 use Rattle.wt_pagetool.proofs.RunLaws.{run_html, run_wikitext, run_fault_front}
+use Rattle.wt_pagetool.proofs.GivenBackLaws.{run_gives_back}
 use Rattle.wt_pagetool.specs.Answers.{answer_told}
 use Rattle.wt_pagetool.proofs.top.run.Goals as goal
 
@@ -13,3 +14,7 @@ returns-clause-wikitext g c is =
 pub returns-clause-fault_front : goal.returns-clause-fault_front
 returns-clause-fault_front g c =
     run_fault_front (answer_told (g.F.Folder.pages c.args.folder.now) (g.S.Source.left c.args.input.now) c.args.words.now) c.args.words.now c.find_answer-found.result c.report.result _ _ c.find_answer-found.ensures.answered c.find_answer-found.ensures.usage c.report.ensures
+
+pub returns-clause-gives_back : goal.returns-clause-gives_back
+returns-clause-gives_back g c is =
+    run_gives_back (g.F.Folder.pages c.args.folder.now) (g.S.Source.left c.args.input.now) c.args.words.now c.find_answer-found.result c.report.result _ _ is c.find_answer-found.ensures.answered c.report.ensures
