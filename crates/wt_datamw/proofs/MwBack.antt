@@ -20,16 +20,16 @@ use Rattle.wt_datamw.specs.Mw.{wt_data, params_from, params_data, template_data,
 use Rattle.wt_datamw.specs.SyncRead.{small}
 use Rattle.wt_datamw.specs.MwRead.{all_items, all_values, is_source, is_part, is_mw_shape, part_is_small, has_small_numbers, params_of, template_of, part_of, parts_of, mw_of_data, HasOrderedParams, HasOrderedNames}
 
-abbrev pub Param : Type 0
+abbrev Param : Type 0
 Param = List ℕ × List ℕ
 
-abbrev pub names : List Param → List (List ℕ)
+abbrev names : List Param → List (List ℕ)
 names ps = map (λ p. p.0) ps
 
 -- ---- parameters
 
 -- the members that parameters in order are written as
-unfoldable pub sources : List Param → Members
+sources : List Param → Members
 sources [] = no_members
 sources (p ∷ ps) = member p.0 (wt_data p.1) (sources ps)
 
@@ -38,14 +38,14 @@ below_middle n [] p more h = h.0
 below_middle n (d ∷ done) p more h = below_middle n done p more h.1
 
 -- a name that is above those before it goes last
-pub put_last : (done : List Param) (p : Param) (more : List Param) → IsStrictlySortedBy (slice_cmp nat_cmp) (names (done ++ p ∷ more)) → put p.0 (wt_data p.1) (sources done) ≡ sources (done ++ p ∷ [])
+put_last : (done : List Param) (p : Param) (more : List Param) → IsStrictlySortedBy (slice_cmp nat_cmp) (names (done ++ p ∷ more)) → put p.0 (wt_data p.1) (sources done) ≡ sources (done ++ p ∷ [])
 unfolding IsStrictlySortedBy sources
 put_last [] p more h = refl
 put_last (d ∷ done) p more h =
     let above : slice_cmp nat_cmp p.0 d.0 ≡ Greater = nat_list_cmp_total.antisymm p.0 d.0 ∙ ap ordering_reverse (below_middle d.0 done p more h.0) in
     rw above (ap (member d.0 (wt_data d.1)) (put_last done p more h.1))
 
-pub all_last : (done ps : List Param) → IsStrictlySortedBy (slice_cmp nat_cmp) (names (done ++ ps)) → params_from (sources done) ps ≡ sources (done ++ ps)
+all_last : (done ps : List Param) → IsStrictlySortedBy (slice_cmp nat_cmp) (names (done ++ ps)) → params_from (sources done) ps ≡ sources (done ++ ps)
 all_last done [] h = ap sources (sym (append-nil done))
 all_last done (p ∷ ps) h =
     let joins : (done ++ p ∷ []) ++ ps ≡ done ++ p ∷ ps = append_assoc done (p ∷ []) ps in

@@ -22,7 +22,6 @@ use Rattle.wt_datamw.specs.declared.sync.Sync.{Sync}
 use Rattle.wt_datamw.specs.Sync.{put_dsr, put_text, put_source, sync_members, sync_data, sync_text}
 use Rattle.wt_datamw.specs.SyncRead.{sync_of_json, sync_told, IsSmall}
 use Rattle.wt_datamw.proofs.ReadsBack.{reads_small}
-use Rattle.wt_round_trip.specs.Values.{IsUtf8IfAny}
 
 -- ---- UTF-8
 
@@ -85,7 +84,7 @@ mutual
 abbrev whole : Option (json.Json × List Token) → Option Data
 whole o = option_and_then of_json (option_and_then (λ p. json.if_last p.0 p.1) o)
 
-pub json_read : (d : Data) → tree.HasNumbers (outline d) → tree.depth (outline d) ≤ max_depth → of_json (outline d) ≡ Some d → read (compact_text d) ≡ Some d
+json_read : (d : Data) → tree.HasNumbers (outline d) → tree.depth (outline d) ≤ max_depth → of_json (outline d) ≡ Some d → read (compact_text d) ≡ Some d
 json_read d numbers shallow same =
     let j : json.Json = outline d in
     let text : tokens (compact_text d) ≡ tree.json_tokens j = ap tokens (sym (print-outline d)) ∙ tokens-print (tree.json_tokens j) (ArePrintable-json_tokens j numbers) in
@@ -97,6 +96,10 @@ parts r o c src = object (put_source src (put_text (codes "o") o (put_dsr r (put
 
 abbrev AreSmall : Ranges → Type 0
 AreSmall r = (r.start < 2 ^ 64) × (r.end < 2 ^ 64) × (r.open_w < 2 ^ 64) × (r.close_w < 2 ^ 64)
+
+abbrev pub IsUtf8IfAny : Option (List ℕ) → Type 0
+IsUtf8IfAny None = Unit {0}
+IsUtf8IfAny (Some bs) = IsUtf8 bs
 
 parts_utf8 : (r : Ranges) (o c : List ℕ) (src : Option (List ℕ)) → AreSmall r → IsUtf8 o → IsUtf8 c → IsUtf8IfAny src
     → IsUtf8 (codes "c") → IsUtf8 (codes "dsr") → IsUtf8 (codes "o") → IsUtf8 (codes "src") → HasUtf8 (parts r o c src)

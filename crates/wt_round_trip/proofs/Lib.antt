@@ -7,4 +7,3 @@ pub mod Elements
 pub mod Fits
 pub mod Whole
 pub mod Again
-pub mod MwJson

@@ -1,20 +1,13 @@
-ghost use Rattle.std.specs.Prelude.{◌≡◌, Ok, None, IsUtf8};
+ghost use Rattle.std.specs.Prelude.{◌≡◌, Ok, None};
 ghost use Rattle.wt_tree.specs.Tree.{Tree};
 ghost use Rattle.wt_tree.specs.Source.{flat};
 ghost use Rattle.wt_tree.specs.Plain.{plain};
 ghost use Rattle.wt_tree.specs.Tiling.{ids};
-ghost use Rattle.wt_tree.specs.declared.node.DataMw.{DataMw};
-ghost use Rattle.wt_datamw.specs.declared.sync.Sync.{Sync};
-ghost use Rattle.wt_datamw.specs.Sync.{sync_text};
-ghost use Rattle.wt_datamw.specs.SyncRead.{IsSmall, sync_told};
-ghost use Rattle.wt_datamw.specs.Mw.{mw_text};
-ghost use Rattle.wt_datamw.specs.MwRead.{HasOrderedNames, mw_told};
 ghost use Rattle.wt_markup.specs.Html.{html_text};
 ghost use Rattle.wt_html_grammar.specs.Markup.{Markup, Stands};
 ghost use Rattle.wt_fitting.specs.Fit.{fit};
 ghost use Rattle.wt_fitting.specs.Unsourced.{unsourced};
 ghost use Rattle.wt_fitting.specs.Read.{read, page};
-ghost use Rattle.wt_round_trip.specs.Values.{HasSmallNumbers, IsUtf8Mw, IsUtf8Sync};
 ghost use Rattle.wt_round_trip.specs.Written.{unranged, IsWritten};
 
 /// What is written for a page's tree is well-formed HTML. It stands for this very tree, and is read
@@ -32,13 +25,4 @@ pub fn without_ranges()
     ensures written { (t : Tree) → html_text (unranged t) ≡ html_text t }
     ensures shown { (t : Tree) → plain (unranged t) ≡ plain t }
     ensures numbers { (t : Tree) → ids (unranged t) ≡ ids t }
-{}
-
-/// The JSON of the two attributes is read as the value for which it was written, and is UTF-8 where
-/// the value's texts are. (`data-mw` names the parameters of a transclusion in byte order.)
-pub fn attributes_are_read()
-    ensures places { (s : Sync) → IsSmall s → sync_told (sync_text s) ≡ Ok s }
-    ensures places_text { (s : Sync) → IsSmall s → IsUtf8Sync s → IsUtf8 (sync_text s) }
-    ensures parts { (d : DataMw) → HasSmallNumbers d → HasOrderedNames d → mw_told (mw_text d) ≡ Ok d }
-    ensures parts_text { (d : DataMw) → HasSmallNumbers d → HasOrderedNames d → IsUtf8Mw d → IsUtf8 (mw_text d) }
 {}

@@ -3,4 +3,4 @@
 
 mod laws;
 
-pub use laws::{attributes_are_read, without_ranges, written_is_read};
+pub use laws::{without_ranges, written_is_read};
