@@ -1,13 +1,14 @@
 #!/usr/bin/env python3
-"""Measures the proved `wtround` on pages of 64 KiB, 512 KiB and 2 MiB.
+"""Measures the proved `wtround`: `html` on pages of 64 KiB, 512 KiB and 2 MiB, `wikitext` on HTML of 512 KiB,
+8 MiB and 64 MiB less a page's frame.
 
   bench/bench.py PROGRAM [OTHER]
 
 PROGRAM is the proved program (crates/wtround/out/wtround, which ./wtround builds); OTHER a second program
-that takes the same words, which is run in turn on the same pages. For each command and kind of page it
-prints, best of three runs, MB of page for each second of processor time (the program has one thread, and
-so other work of the machine tells less than it does on a clock), the peak memory, and how the time grew from
-512 KiB to 2 MiB (four times the bytes).
+that takes the same words, which is run in turn on the same inputs. For each command and kind of page it
+prints, best of three runs, MB of page or of HTML for each second of processor time (the program has one
+thread, and so other work of the machine tells less than it does on a clock), the peak memory, and how the time
+grew from one size to the next.
 """
 import os
 import subprocess
@@ -41,14 +42,47 @@ KINDS = {
 }
 
 
+def html_of(block):
+    """HTML of blocks of one kind, as `html` writes it, of about so many bytes."""
+    def document(size):
+        out, length, at, number = [], 0, 0, 1
+        while length < size - 400:
+            source, element = block(number, at)
+            out.append(element)
+            length += len(element)
+            at += source
+            number += 1
+        body = "".join(out)
+        head = '<!DOCTYPE html><html><head><meta charset="utf-8"/></head>'
+        return f"""{head}<body data-parsoid='{{"dsr":[0,{at},0,0]}}'>{body}</body></html>""".encode()
+    return document
+
+
+def paragraph(text):
+    def block(number, at):
+        end = at + len(text)
+        return len(text) + 2, f"""<p id="mw{number}" data-parsoid='{{"dsr":[{at},{end},0,0]}}'>{text}</p>\n\n"""
+    return block
+
+
+HTML_SIZES = [512 << 10, 8 << 20, 64 << 20]
+
+HTML_KINDS = {
+    "paragraphs": html_of(paragraph("\n".join([WORDS] * 3))),
+    "one letter a paragraph": html_of(paragraph("a")),
+    "one long text": html_of(lambda number, at: (7000, "<p data-parsoid='{\"dsr\":[0,0,0,0]}'>" + (WORDS + " ") * 5000 + "</p>\n")),
+}
+
+
 def run(program, folder, words):
     """The least processor time in seconds and the most memory in KiB of three runs, or why there is none."""
     best = None
     peak = 0
     timed = ["/usr/bin/time", "-q", "-f", "%M", "-o", "peak"]
     for _ in range(3):
-        with open(os.path.join(folder, "out"), "wb") as out, open(os.path.join(folder, "err"), "w+b") as err:
-            it = subprocess.Popen(timed + [program] + words, cwd=folder, stdout=out, stderr=err, stdin=subprocess.DEVNULL)
+        with open(os.path.join(folder, "out"), "wb") as out, open(os.path.join(folder, "err"), "w+b") as err, \
+                open(os.path.join(folder, "in"), "rb") as given:
+            it = subprocess.Popen(timed + [program] + words, cwd=folder, stdout=out, stderr=err, stdin=given)
             _, status, used = os.wait4(it.pid, 0)
             it.returncode = os.waitstatus_to_exitcode(status)
             err.seek(0)
@@ -61,31 +95,40 @@ def run(program, folder, words):
     return best, peak
 
 
+def measure(programs, title, words, sizes, make):
+    last = [None] * len(programs)
+    for size in sizes:
+        with tempfile.TemporaryDirectory() as folder:
+            os.mkdir(os.path.join(folder, "pages"))
+            made = make(size)
+            with open(os.path.join(folder, "pages", "Main.wiki"), "wb") as out:
+                out.write(made if words[0] == "html" else b"")
+            with open(os.path.join(folder, "in"), "wb") as out:
+                out.write(b"" if words[0] == "html" else made)
+            cells = []
+            for n, program in enumerate(programs):
+                seconds, peak = run(program, folder, words)
+                if seconds is None:
+                    cells.append(peak)
+                    continue
+                speed = f"{len(made) / 1e6 / seconds:7.0f}" if seconds > 0 else "      -"
+                growth = f"{seconds / last[n]:7.1f}" if last[n] else "      -"
+                last[n] = seconds
+                cells.append(f"{speed} {peak / 1000:8.1f} {growth}")
+            print(f"{title:34} {size >> 10:5} " + " ".join(cells), flush=True)
+
+
 def main():
     if len(sys.argv) not in (2, 3):
         print(__doc__)
         return 2
     programs = [os.path.abspath(it) for it in sys.argv[1:]]
-    print(f"{os.cpu_count()} cores; best of three; MB/s of processor time, MB are 1,000,000 bytes of page")
+    print(f"{os.cpu_count()} cores; best of three; MB/s of processor time, MB are 1,000,000 bytes of page or HTML")
     print(f"{'command and page':34} {'KiB':>5} " + " ".join(f"{'MB/s':>7} {'peak MB':>8} {'growth':>7}" for _ in programs))
     for kind, make in KINDS.items():
-        last = [None] * len(programs)
-        for size in SIZES:
-            with tempfile.TemporaryDirectory() as folder:
-                os.mkdir(os.path.join(folder, "pages"))
-                with open(os.path.join(folder, "pages", "Main.wiki"), "wb") as out:
-                    out.write(make(size))
-                cells = []
-                for n, program in enumerate(programs):
-                    seconds, peak = run(program, folder, ["html", "Main"])
-                    if seconds is None:
-                        cells.append(peak)
-                        continue
-                    speed = f"{size / 1e6 / seconds:7.0f}" if seconds > 0 else "      -"
-                    growth = f"{seconds / last[n]:7.1f}" if last[n] else "      -"
-                    last[n] = seconds
-                    cells.append(f"{speed} {peak / 1000:8.1f} {growth}")
-                print(f"{'html, ' + kind:34} {size >> 10:5} " + " ".join(cells), flush=True)
+        measure(programs, f"html, {kind}", ["html", "Main"], SIZES, make)
+    for kind, make in HTML_KINDS.items():
+        measure(programs, f"wikitext, {kind}", ["wikitext"], HTML_SIZES, make)
     return 0
 
 
