@@ -1,4 +1,5 @@
 mod Cases
+pub mod Pieces
 pub mod TreeNumbers
 pub mod TreeRanges
 pub mod TreeSource

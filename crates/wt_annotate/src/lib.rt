@@ -2,6 +2,9 @@
 //! place in bytes and its number, and with what its element carries.
 #![tactic(auto)]
 
+mod cursor;
+mod held;
 mod laws;
+mod piece;
 
 pub use laws::annotated_tree;
