@@ -1,6 +1,7 @@
 -- Worked cases of the definitions, each computed.
 use Rattle.std.proofs.Common.{◌≡◌, ℕ, List, [], ◌∷◌, ◌++◌, Option, Some, None, map, refl}
 use Rattle.std.specs.Prelude.{codes}
+use Rattle.std.proofs.Math.Utf8.{encode}
 use Rattle.wt_tree.specs.declared.kind.Kind.TheVariants as kind
 use Rattle.wt_tree.specs.declared.kind.AttrName.TheVariants as attr
 use Rattle.wt_tree.specs.declared.node.DataMw.TheVariants as mw
@@ -59,4 +60,5 @@ unfolding extension_data opening_tag tag_after
 extension_alone = refl
 
 shown_entity : shown_item (whole (form.Entity 233) None (codes "&#233;")) ≡ 195 ∷ 169 ∷ []
+unfolding encode
 shown_entity = refl

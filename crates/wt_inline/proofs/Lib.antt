@@ -1,1 +1,6 @@
 mod Cases
+pub mod Growing
+pub mod HeldLaws
+pub mod Insides
+pub mod RawTags
+pub mod Trees
