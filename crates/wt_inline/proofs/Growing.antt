@@ -1,9 +1,9 @@
 -- Runs of characters of one origin make one leaf, and the children grow by parts.
-use Rattle.std.proofs.Common.{◌≡◌, ℕ, zero, suc, ◌+◌, ◌<◌, ◌≤◌, Bool, true, false, Option, Some, None, List, [], ◌∷◌, ◌++◌, length, map, refl, sym, ap, ◌∙◌, subst, arith, append_assoc, append-nil}
-use Rattle.std.specs.Prelude.{◌==◌, ◌&&◌}
+use Rattle.std.proofs.Common.{◌≡◌, ℕ, ◌<◌, Bool, true, false, Option, Some, None, List, [], ◌∷◌, ◌++◌, length, map, refl, sym, ap, ◌∙◌, arith, append_assoc, append-nil}
+use Rattle.std.specs.Prelude.{◌&&◌}
 use Rattle.std.specs.List.{AllByRecursion}
 use Rattle.std.proofs.lemmas.Bool.Decides.{nat_tests}
-use Rattle.std.proofs.lemmas.List.{map-append, length-append}
+use Rattle.std.proofs.lemmas.List.{map-append}
 use Rattle.wt_span.specs.declared.form.Form.{Form}
 use Rattle.wt_span.specs.declared.form.Form.TheVariants as form
 use Rattle.wt_span.specs.Items.{Item, char, whole, items_by}
@@ -14,7 +14,7 @@ use Rattle.wt_inline.specs.declared.loose.Loose.{Loose}
 use Rattle.wt_inline.specs.declared.loose.Loose.TheVariants.{Text, Sep}
 use Rattle.wt_inline.specs.ItemTree.{ItemTree, leaf}
 use Rattle.wt_inline.specs.Parts.{Part, loose, node, same_loose, same_origin, are_of, one_leaf, loose_kind, child, children, held_parts, part, parts}
-use Rattle.wt_inline.specs.Grown.{OpenRun, Grown, open_parts, made, Grows, IsStopped, Ends}
+use Rattle.wt_inline.specs.Grown.{OpenRun, Grown, made, Grows, IsStopped, Ends}
 use Rattle.wt_inline.proofs.HeldLaws.{children_node}
 
 -- ---- tests

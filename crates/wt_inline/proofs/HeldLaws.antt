@@ -1,9 +1,7 @@
 -- Trees hold what their parts hold, and parts hold the items that they are made of, opened.
-use Rattle.std.proofs.Common.{◌≡◌, ℕ, zero, suc, ◌+◌, ◌-◌, Bool, true, false, Option, Some, None, List, [], ◌∷◌, ◌++◌, length, take, drop, map, refl, sym, ap, ◌∙◌, append_assoc, append-nil}
-use Rattle.std.specs.List.{flat_map}
+use Rattle.std.proofs.Common.{◌≡◌, ℕ, zero, suc, ◌-◌, false, Option, Some, None, List, [], ◌∷◌, ◌++◌, take, drop, map, refl, sym, ap, ◌∙◌, append-nil}
 use Rattle.std.proofs.lemmas.List.{take-append-drop, map-append}
 use Rattle.std.proofs.lemmas.Grind.{flat_map-append}
-use Rattle.wt_tree.specs.declared.kind.Kind.{Kind}
 use Rattle.wt_span.specs.declared.form.Form.{Form}
 use Rattle.wt_span.specs.declared.form.Form.TheVariants as form
 use Rattle.wt_span.specs.Entities.{entity_at}
@@ -13,7 +11,7 @@ use Rattle.wt_span.proofs.RunLaws.{runs_are, runs_only, runs_alone}
 use Rattle.wt_inline.specs.declared.loose.Loose.{Loose}
 use Rattle.wt_inline.specs.RawTag.{opening_len, inside_len, behind, opening_of, inside_of, closing_of}
 use Rattle.wt_inline.specs.Inside.{read_with, inside_items, opened_whole, opened, opened_all}
-use Rattle.wt_inline.specs.ItemTree.{ItemTree, inner, leaf, forest, held, held_by_all}
+use Rattle.wt_inline.specs.ItemTree.{ItemTree, forest, held, held_by_all}
 use Rattle.wt_inline.specs.Parts.{Part, loose, node, held_part, held_parts, one_leaf, child, children, AreChildren, inside_part, nowiki, whole_tree, part, parts}
 
 -- ---- children

@@ -1,3 +1,4 @@
+pub mod Carrying
 mod Cases
 pub mod Growing
 pub mod HeldLaws

@@ -1,11 +1,13 @@
 -- Nodes of pieces, as trees over items.
-use Rattle.std.proofs.Common.{◌≡◌, ℕ, ◌+◌, ◌<◌, Bool, true, false, Option, List, [], ◌∷◌, ◌++◌, length, take, map, get_or, refl, sym, ap, ◌∙◌, append-nil, append_assoc}
-use Rattle.std.proofs.lemmas.List.{map-append, take_more}
+use Rattle.std.proofs.Common.{◌≡◌, ℕ, ◌+◌, ◌<◌, Bool, true, false, Option, List, [], ◌∷◌, ◌++◌, length, take, map, get_or, refl, sym, ap, ◌∙◌, append-nil, append_assoc, arith}
+use Rattle.std.proofs.lemmas.List.{map-append, take_more, nil_from_length}
+use Rattle.std.specs.Prelude.{◌==◌}
+use Rattle.std.proofs.lemmas.Bool.Decides.{nat_tests}
 use Rattle.std.proofs.lemmas.Grind.{flat_map-append}
 use Rattle.wt_span.specs.declared.form.Piece.{Piece}
 use Rattle.wt_span.specs.declared.form.Form.{Form}
 use Rattle.wt_span.specs.declared.form.Form.TheVariants as form
-use Rattle.wt_span.specs.Items.{Item, char, whole, items, items_of, items_by}
+use Rattle.wt_span.specs.Items.{Item, char, items, items_of, items_by, sources}
 use Rattle.wt_lines.specs.Pieces.{is_chars}
 use Rattle.wt_inline.specs.declared.loose.Loose.{Loose}
 use Rattle.wt_inline.specs.declared.loose.Loose.TheVariants.{Text}
@@ -14,7 +16,9 @@ use Rattle.wt_inline.specs.Parts.{Part, loose, node, children, inside_part, form
 use Rattle.wt_inline.specs.Grown.{Grown, Grows, made}
 use Rattle.wt_inline.proofs.Growing.{grows_both}
 use Rattle.wt_inline.specs.declared.tree.PieceTree.{PieceTree}
-use Rattle.wt_inline.specs.ItemTree.{ItemTree, leaf}
+use Rattle.wt_inline.specs.ItemTree.{ItemTree, leaf, forest, held_by_all}
+use Rattle.wt_inline.specs.Inline.{inline_trees}
+use Rattle.wt_inline.proofs.HeldLaws.{held_children, held_of_parts, sources_opened}
 use Rattle.wt_inline.specs.View.{item_tree, item_trees}
 
 pub pushed : (ns ms : List PieceTree) (n : PieceTree) → ms ≡ ns ++ n ∷ [] → item_trees ms ≡ item_trees ns ++ item_tree n ∷ []
@@ -76,8 +80,17 @@ whole_leaf form.Hidden o bs e n = refl
 whole_leaf form.EmptyCall o bs e n = refl
 
 -- one more piece of several
-pub pieces_step : (g h i : Grown) (k : Loose) (ps : List Piece) (at : ℕ) (d : Piece) → at < length ps → Grows g (parts k (items (take at ps))) h → Grows h (parts k (items_of (get_or ps at d))) i → Grows g (parts k (items (take (at + 1) ps))) i
-pieces_step g h i k ps at d l a b qs =
-    let more : take (at + 1) ps ≡ take at ps ++ get_or ps at d ∷ [] = take_more ps at d l in
-    grows_both g h i (parts k (items (take at ps))) (parts k (items_of (get_or ps at d))) a b qs
-    ∙ ap (λ rs. made g (rs ++ qs)) (sym (map-append (part k) (items (take at ps)) (items_of (get_or ps at d))) ∙ ap (parts k) (sym (items_more (take at ps) (take (at + 1) ps) (get_or ps at d) more)))
+pub pieces_step : (g h i : Grown) (k : Loose) (ps : List Piece) (at : ℕ) (p : Piece) → at < length ps → p ≡ get_or ps at p → Grows g (parts k (items (take at ps))) h → Grows h (parts k (items_of p)) i → Grows g (parts k (items (take (at + 1) ps))) i
+pieces_step g h i k ps at p l e a b qs =
+    let more : take (at + 1) ps ≡ take at ps ++ p ∷ [] = take_more ps at p l ∙ ap (λ q. take at ps ++ q ∷ []) (sym e) in
+    grows_both g h i (parts k (items (take at ps))) (parts k (items_of p)) a b qs
+    ∙ ap (λ rs. made g (rs ++ qs)) (sym (map-append (part k) (items (take at ps)) (items_of p)) ∙ ap (parts k) (sym (items_more (take at ps) (take (at + 1) ps) p more)))
+
+pub no_bytes : (bs text : List ℕ) (v : Bool) → text ≡ bs → v ≡ (length text == 0) → v ≡ true → bs ≡ []
+no_bytes bs text v i e t =
+    let z : length text ≡ 0 = grind (arith, nat_tests) in
+    sym i ∙ nil_from_length text z
+
+pub inline_source : (xs : List Item) → sources (held_by_all (forest (inline_trees xs))) ≡ sources xs
+unfolding inline_trees
+inline_source xs = ap sources (held_children (parts Text xs) ∙ held_of_parts Text xs) ∙ sources_opened xs

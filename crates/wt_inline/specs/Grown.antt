@@ -1,8 +1,8 @@
 -- The children of a node while its parts are read: trees that are made, and the run of characters after them, which may go on.
-use Rattle.std.specs.Prelude.{◌≡◌, ◌<◌, ℕ, false, Option, Some, None, List, [], ◌∷◌, ◌++◌, length}
+use Rattle.std.specs.Prelude.{◌≡◌, ℕ, false, Option, Some, None, List, [], ◌∷◌, ◌++◌}
 use Rattle.std.specs.List.{AllByRecursion}
 use Rattle.std.specs.Option.{option_map}
-use Rattle.wt_span.specs.Items.{Item, char, whole, items, call_of_origin}
+use Rattle.wt_span.specs.Items.{Item, items, call_of_origin}
 use Rattle.wt_inline.specs.declared.loose.Loose.{Loose}
 use Rattle.wt_inline.specs.declared.run.Run.{Run}
 use Rattle.wt_inline.specs.declared.children.Children.{Children}

@@ -1,6 +1,6 @@
 use Rattle.std.proofs.lemmas.Result.{IfOk-weaker}
-use Rattle.std.proofs.Common.{sym, subst, ◌∙◌, List}
-use Rattle.wt_span.specs.Items.{items_of, call_of_origin}
+use Rattle.std.proofs.Common.{sym, subst, List}
+use Rattle.wt_span.specs.Items.{call_of_origin}
 use Rattle.wt_inline.specs.Parts.{Part}
 use Rattle.wt_inline.specs.Grown.{grown, Grows}
 use Rattle.wt_inline.proofs.Trees.{inside_chars_parts}

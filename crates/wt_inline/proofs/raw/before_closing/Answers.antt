@@ -1,4 +1,3 @@
-use Rattle.std.proofs.Common.{arith}
 use Rattle.wt_span.specs.Bytes.{lower}
 use Rattle.wt_inline.proofs.RawTags.{here_value, here_sign, more_value}
 use Rattle.wt_inline.proofs.raw.before_closing.Goals as goal

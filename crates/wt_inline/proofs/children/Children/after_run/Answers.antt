@@ -1,4 +1,4 @@
-use Rattle.std.proofs.Common.{sym, ◌∙◌}
+use Rattle.std.proofs.Common.{sym}
 use Rattle.std.proofs.lemmas.Result.{IfOk-weaker}
 use Rattle.wt_span.specs.Items.{items_of, call_of_origin}
 use Rattle.wt_inline.specs.View.{item_tree, item_trees}

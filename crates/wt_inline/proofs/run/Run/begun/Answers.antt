@@ -1,4 +1,4 @@
-use Rattle.std.proofs.Common.{ap, sym, ◌∙◌, append-nil, subst, ◌<◌, length, List, refl, ◌≡◌, true}
+use Rattle.std.proofs.Common.{ap, sym, ◌∙◌, subst, ◌<◌, length, List, refl, ◌≡◌}
 use Rattle.wt_span.specs.Items.{Item, items, items_of, call_of_origin}
 use Rattle.wt_inline.specs.Parts.{are_of}
 use Rattle.wt_inline.proofs.Trees.{items_first}

@@ -1,6 +1,6 @@
-use Rattle.std.proofs.Common.{ap, sym, ◌∙◌, append-nil, subst, ◌<◌, ◌≡◌, ◌++◌, length, List, refl, arith}
+use Rattle.std.proofs.Common.{ap, ◌∙◌, ◌≡◌, ◌++◌, length, arith}
 use Rattle.std.proofs.lemmas.List.{length-append}
-use Rattle.wt_span.specs.Items.{Item, items, items_of, call_of_origin}
+use Rattle.wt_span.specs.Items.{items, items_of, call_of_origin}
 use Rattle.wt_inline.specs.Parts.{are_of}
 use Rattle.wt_inline.proofs.Trees.{items_more}
 use Rattle.wt_inline.proofs.Growing.{more_are}
