@@ -1,6 +1,7 @@
 -- Worked cases of the definitions, each computed.
-use Rattle.std.proofs.Common.{◌≡◌, ℕ, List, [], ◌∷◌, ◌++◌, Option, Some, None, map, refl}
+use Rattle.std.proofs.Common.{◌≡◌, ℕ, List, [], ◌∷◌, Some, None, map, refl}
 use Rattle.std.specs.Prelude.{codes}
+use Rattle.std.proofs.Math.Utf8.{encode}
 use Rattle.wt_tree.specs.declared.kind.Kind.TheVariants as kind
 use Rattle.wt_tree.specs.declared.kind.AttrName.TheVariants as attr
 use Rattle.wt_tree.specs.declared.node.DataMw.TheVariants as mw
@@ -9,7 +10,6 @@ use Rattle.wt_span.specs.Tags.{opening_tag, closing_tag, tag_after}
 use Rattle.wt_span.specs.Entities.{entity_at, named_entity, entity_names, decimal_entity, hex_entity}
 use Rattle.wt_span.specs.Items.{Item, char, whole}
 use Rattle.wt_inline.specs.ItemTree.{inner, leaf, forest}
-use Rattle.wt_inline.specs.Inside.{opened}
 use Rattle.wt_inline.specs.Parts.{children, nowiki}
 use Rattle.wt_inline.specs.Inline.{inline_trees}
 use Rattle.wt_inline.specs.Carried.{attrs_item, data_item, shown_item, extension_typeof, noinclude_typeof, onlyinclude_typeof, includeonly_typeof, extension_data}
@@ -59,4 +59,5 @@ unfolding extension_data opening_tag tag_after
 extension_alone = refl
 
 shown_entity : shown_item (whole (form.Entity 233) None (codes "&#233;")) ≡ 195 ∷ 169 ∷ []
+unfolding encode
 shown_entity = refl

@@ -1,6 +1,6 @@
 -- Trees over items: what a page means, before places and numbers are given. A node has the items of its opening and of its
 -- closing delimiter, and children between them. A leaf is all opening.
-use Rattle.std.specs.Prelude.{ℕ, ◌+◌, List, [], ◌∷◌, ◌++◌}
+use Rattle.std.specs.Prelude.{List, [], ◌∷◌, ◌++◌}
 use Rattle.wt_tree.specs.declared.kind.Kind.{Kind}
 use Rattle.wt_span.specs.Items.{Item}
 

@@ -1,13 +1,13 @@
 -- What stands in a node is a list of parts: characters by themselves, and nodes. Characters that are neighbours make one
 -- leaf where they are of one kind and of one origin.
-use Rattle.std.specs.Prelude.{ℕ, Bool, true, false, ◌==◌, ◌&&◌, Option, Some, None, List, [], ◌∷◌, map}
-use Rattle.std.specs.List.{flat_map}
+use Rattle.std.specs.Prelude.{◌≡◌, ℕ, Bool, true, false, ◌==◌, ◌&&◌, Option, Some, None, List, [], ◌∷◌, map}
+use Rattle.std.specs.List.{flat_map, list_all}
 use Rattle.wt_tree.specs.declared.kind.Kind.{Kind}
 use Rattle.wt_tree.specs.declared.kind.Kind.TheVariants as kind
 use Rattle.wt_span.specs.declared.form.Form.{Form}
 use Rattle.wt_span.specs.declared.form.Form.TheVariants as form
 use Rattle.wt_span.specs.Items.{Item, char, whole}
-use Rattle.wt_span.specs.Runs.{runs}
+use Rattle.wt_span.specs.Runs.{runs, AreRuns}
 use Rattle.wt_inline.specs.declared.loose.Loose.{Loose}
 use Rattle.wt_inline.specs.declared.loose.Loose.TheVariants.{Text, Sep}
 use Rattle.wt_inline.specs.RawTag.{opening_of, inside_of, closing_of}
@@ -41,6 +41,14 @@ same_origin None (Some k) = false
 same_origin (Some j) None = false
 same_origin (Some j) (Some k) = j == k
 
+-- a character of this origin
+abbrev pub is_of : Option ℕ → Item → Bool
+is_of o (char p b) = same_origin o p
+is_of o (whole f p bs) = false
+
+abbrev pub are_of : Option ℕ → List Item → Bool
+are_of o items = list_all (is_of o) items
+
 -- neighbours that make one leaf
 abbrev pub one_leaf : Part → Part → Bool
 one_leaf (loose k o b) (loose j p c) = same_loose k j && same_origin o p
@@ -60,6 +68,10 @@ child (node t ∷ ps) = t
 unfoldable pub children : List Part → List ItemTree
 children ps = map child (runs one_leaf ps)
 
+-- The same as a relation, by cuts that exist: the parts can be cut where neighbours make no one leaf, and each run is a child.
+abbrev pub AreChildren : List ItemTree → List Part → Type 0
+AreChildren ts ps = (rs : List (List Part)) × AreRuns one_leaf rs ps × (ts ≡ map child rs)
+
 -- ---- the part that an item is by itself
 
 -- an item of the inside of `nowiki`: a character, or an entity
@@ -71,17 +83,22 @@ inside_part (whole f o bs) = node (leaf kind.Entity (whole f o bs ∷ []))
 unfoldable pub nowiki : Option ℕ → List ℕ → ItemTree
 nowiki o bs = inner kind.Nowiki (map (char o) (opening_of bs)) (forest (children (map inside_part (inside_items o 0 (inside_of bs))))) (map (char o) (closing_of bs))
 
--- The node of a whole form. An extension and a function are islands, and a hidden part is written as an include tag.
+-- The kind of a form's node. An extension and a function are islands, and a hidden part is written as an include tag.
+abbrev pub form_kind : Form → Kind
+form_kind form.Chars = kind.Text
+form_kind (form.Entity c) = kind.Entity
+form_kind form.Nowiki = kind.Nowiki
+form_kind form.Extension = kind.Island
+form_kind form.Function = kind.Island
+form_kind form.Comment = kind.Comment
+form_kind form.Include = kind.Include
+form_kind form.Hidden = kind.Include
+form_kind form.EmptyCall = kind.Empty
+
+-- the node of a whole form: of `nowiki` one with an inside, and of any other a leaf
 abbrev pub whole_tree : Form → Option ℕ → List ℕ → ItemTree
-whole_tree form.Chars o bs = leaf kind.Text (whole form.Chars o bs ∷ [])
-whole_tree (form.Entity c) o bs = leaf kind.Entity (whole (form.Entity c) o bs ∷ [])
 whole_tree form.Nowiki o bs = nowiki o bs
-whole_tree form.Extension o bs = leaf kind.Island (whole form.Extension o bs ∷ [])
-whole_tree form.Function o bs = leaf kind.Island (whole form.Function o bs ∷ [])
-whole_tree form.Comment o bs = leaf kind.Comment (whole form.Comment o bs ∷ [])
-whole_tree form.Include o bs = leaf kind.Include (whole form.Include o bs ∷ [])
-whole_tree form.Hidden o bs = leaf kind.Include (whole form.Hidden o bs ∷ [])
-whole_tree form.EmptyCall o bs = leaf kind.Empty (whole form.EmptyCall o bs ∷ [])
+whole_tree f o bs = leaf (form_kind f) (whole f o bs ∷ [])
 
 abbrev pub part : Loose → Item → Part
 part k (char o b) = loose k o b
