@@ -1,4 +1,6 @@
 mod Cases
+pub mod Firsts
+pub mod Passes
 pub mod Pieces
 pub mod TreeNumbers
 pub mod TreeRanges

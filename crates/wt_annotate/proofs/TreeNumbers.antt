@@ -1,5 +1,5 @@
 -- The numbers of an annotated tree count its nodes in preorder.
-use Rattle.std.proofs.Common.{◌≡◌, ℕ, zero, suc, ◌+◌, Bool, true, false, List, [], ◌∷◌, ◌++◌, length, refl, sym, ap, ◌∙◌, arith}
+use Rattle.std.proofs.Common.{◌≡◌, ℕ, zero, suc, ◌+◌, Bool, true, false, List, [], ◌∷◌, ◌++◌, length, refl, sym, ap, subst, ◌∙◌, arith}
 use Rattle.std.specs.Prelude.{All, if◌then◌else◌}
 use Rattle.std.specs.List.{range_with_len, AllByRecursion}
 use Rattle.std.proofs.lemmas.List.FromFn.{length-range_with_len}
@@ -7,7 +7,7 @@ use Rattle.std.proofs.lemmas.List.Elements.{All-nil, All-cons}
 use Rattle.wt_tree.specs.declared.kind.Kind.{Kind}
 use Rattle.wt_tree.specs.declared.kind.Kind.TheVariants as kind
 use Rattle.wt_tree.specs.Kinds.{is_leaf, is_numbered}
-use Rattle.wt_tree.specs.Tree.{Trees}
+use Rattle.wt_tree.specs.Tree.{Tree, Trees}
 use Rattle.wt_tree.specs.Tiling.{is_group, numbers, numbers_of_all, ids_of_all, others, others_of_all, InPreorder}
 use Rattle.wt_inline.specs.ItemTree.{ItemTree, inner, ItemTrees, nothing, further, held}
 use Rattle.wt_annotate.specs.Labels.{width, next_after, label_at}
@@ -99,3 +99,8 @@ numbered_annotated t =
     let all : numbers (annotated_at 0 1 t) ≡ range_with_len 1 (numbered t) = numbers_at 0 1 t in
     let len : length (numbers (annotated_at 0 1 t)) ≡ numbered t = ap length all ∙ length-range_with_len 1 (numbered t) in
     record { counted = all ∙ ap (range_with_len 1) (sym len); unnumbered = zeros_all (others (annotated_at 0 1 t)) (others_at 0 1 t) }
+
+-- the same by its first place and number
+pub numbered_first : (t : ItemTree) (u : Tree) → u ≡ annotated_at 0 1 t → InPreorder u
+unfolding annotated
+numbered_first t u e = subst InPreorder (sym e) (numbered_annotated t)

@@ -2,9 +2,14 @@
 //! place in bytes and its number, and with what its element carries.
 #![tactic(auto)]
 
+mod carry;
 mod cursor;
 mod held;
 mod laws;
+mod node;
+mod page;
+mod pass;
 mod piece;
 
 pub use laws::annotated_tree;
+pub use page::annotate;
