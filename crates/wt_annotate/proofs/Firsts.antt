@@ -30,12 +30,17 @@ none_more ps at p l i e f =
     ∙ f
 
 pub first_found : (ps : List Piece) (at : ℕ) (p : Piece) → at < length ps → p ≡ get_or ps at p → items (take at ps) ≡ [] → 0 < length (items_of p) → IsFirst (Some p) (items ps)
-first_found ps at p l i e h = (h, (items (drop (suc at) ps),
+first_found ps at p l i e h = (
+  h,
+  (
+    items (drop (suc at) ps),
     ap items (sym (take-append-drop at ps))
-    ∙ items_append (take at ps) (drop at ps)
-    ∙ ap (λ xs. xs ++ items (drop at ps)) e
-    ∙ ap items (drop-cons ps at p l)
-    ∙ ap (λ q. items_of q ++ items (drop (suc at) ps)) (sym i)))
+        ∙ items_append (take at ps) (drop at ps)
+        ∙ ap (λ xs. xs ++ items (drop at ps)) e
+        ∙ ap items (drop-cons ps at p l)
+        ∙ ap (λ q. items_of q ++ items (drop (suc at) ps)) (sym i),
+  ),
+)
 
 pub some_items : (v : Bool) (n : ℕ) → v ≡ nat_lt 0 n → v ≡ true → 0 < n
 some_items v zero e t = absurd (let x : false ≡ true = sym e ∙ t in cc)

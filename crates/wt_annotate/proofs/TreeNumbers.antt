@@ -44,6 +44,7 @@ numbers_by false false false next m ts h e = let none : 0 + m ≡ m = omega arit
 
 mutual
   unfolding label_at
+
   pub numbers_at : (at next : ℕ) (t : ItemTree) → numbers (annotated_at at next t) ≡ range_with_len next (numbered t)
   numbers_at at next (inner k opening ts closing) =
       numbers_by (is_numbered k) (is_group k) (is_leaf k) next (numbered_in_all ts) (all_annotated_at (at + width opening) (next_after k next) ts) (group_leaf k) (all_numbers_at (at + width opening) (next_after k next) ts)
@@ -80,6 +81,7 @@ others_by false false false next ts h z = (refl, z)
 
 mutual
   unfolding label_at
+
   pub others_at : (at next : ℕ) (t : ItemTree) → AllZero (others (annotated_at at next t))
   others_at at next (inner k opening ts closing) =
       others_by (is_numbered k) (is_group k) (is_leaf k) next (all_annotated_at (at + width opening) (next_after k next) ts) (group_leaf k) (all_others_at (at + width opening) (next_after k next) ts)

@@ -28,6 +28,7 @@ tiled_by at next false k opening inside closing ts h = (omega (arith, width_thre
 
 mutual
   unfolding label_at
+
   pub tiled_at : (at next : ℕ) (t : ItemTree) → Tiled (annotated_at at next t)
   tiled_at at next (inner k opening ts closing) =
       let own : List Item = opening ++ (held_by_all ts ++ closing) in

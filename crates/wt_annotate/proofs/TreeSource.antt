@@ -21,6 +21,7 @@ flat_by false opening inside closing ts e =
 
 mutual
   unfolding label_at
+
   pub flat_at : (at next : ℕ) (t : ItemTree) → flat (annotated_at at next t) ≡ sources (held t)
   flat_at at next (inner k opening ts closing) =
       flat_by (is_leaf k) opening (held_by_all ts) closing (all_annotated_at (at + width opening) (next_after k next) ts) (flat_all_at (at + width opening) (next_after k next) ts)

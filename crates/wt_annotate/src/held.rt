@@ -20,10 +20,7 @@ fn push_held<'a>(out: &mut List<Piece<'a>>, tree: &PieceTree<'a>) -> Result<(), 
 }
 
 /// All pieces that a node holds, in their order.
-pub fn held_pieces<'a>(
-    alloc: Global,
-    tree: &PieceTree<'a>,
-) -> Result<List<Piece<'a>>, NoMemory>
+pub fn held_pieces<'a>(alloc: Global, tree: &PieceTree<'a>) -> Result<List<Piece<'a>>, NoMemory>
     ensures { IfOk result (λ l. items l ≡ held (item_tree tree.now)) }
 {
     let mut out = List::new(alloc);

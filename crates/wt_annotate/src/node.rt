@@ -7,8 +7,8 @@ ghost use Rattle.wt_tree.specs.declared.node.Node.{out-Node};
 ghost use Rattle.wt_annotate.specs.Labels.{width, leaf_open};
 ghost use Rattle.wt_annotate.specs.Nodes.{bare, leaf_label, inner_label};
 
-use crate::cursor::{Cursor, leaf_open};
 use crate::carry::{leaf_attrs, leaf_data, leaf_origin, leaf_shown};
+use crate::cursor::{Cursor, leaf_open};
 use crate::piece::{texts, width};
 use std::alloc::Global;
 use wt_span::{List, NoMemory, Piece, Str};

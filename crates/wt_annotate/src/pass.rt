@@ -65,7 +65,15 @@ fn around<'a>(
 {
     let AllMade { nodes, behind } = children;
     let end = behind.place + width(closing.as_slice());
-    let node = inner_node(alloc, kind, at, end, opening.as_slice(), nodes, closing.as_slice())?;
+    let node = inner_node(
+        alloc,
+        kind,
+        at,
+        end,
+        opening.as_slice(),
+        nodes,
+        closing.as_slice(),
+    )?;
     Ok(Made {
         node,
         behind: Cursor {
