@@ -1,0 +1,6 @@
+pub mod Around
+pub mod Ends
+pub mod HeadingCuts
+pub mod MeaningLaws
+pub mod Pieces
+pub mod RowRuns
