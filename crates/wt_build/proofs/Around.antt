@@ -12,12 +12,16 @@ use Rattle.wt_span.proofs.RunLaws.{runs_are, are_joined}
 use Rattle.wt_lines.specs.Lines.{content, goes_on, full_lines, is_break_item}
 use Rattle.wt_lines.proofs.PieceRuns.{Some_}
 use Rattle.wt_inline.specs.declared.loose.Loose.TheVariants.{Text, Sep}
-use Rattle.wt_inline.specs.ItemTree.{ItemTree}
+use Rattle.wt_inline.specs.ItemTree.{ItemTree, inner, forest}
+use Rattle.wt_inline.specs.Inline.{inline_trees}
+use Rattle.wt_tree.specs.declared.kind.Kind.TheVariants as kind
+use Rattle.wt_build.specs.declared.heading.HeadingParts.{HeadingParts}
+use Rattle.wt_build.specs.Headings.{heading_parts}
 use Rattle.wt_inline.specs.Parts.{Part, node, part, parts, children}
 use Rattle.wt_build.specs.declared.block.BlockKind.{BlockKind}
 use Rattle.wt_build.specs.declared.block.BlockKind.TheVariants.{Between, Heading, Para}
 use Rattle.wt_build.specs.Rows.{ending}
-use Rattle.wt_build.specs.Blocks.{joined, line_parts, para, heading, block, lead_len, lead, without_lead, last_ending, without_ending, around}
+use Rattle.wt_build.specs.Blocks.{joined, line_parts, para, heading_by, heading, block, lead_len, lead, without_lead, last_ending, without_ending, around}
 use Rattle.wt_build.specs.Cuts.{IsAround}
 use Rattle.wt_build.proofs.Ends.{content_onto, ending_onto, content_ending}
 
@@ -33,7 +37,7 @@ lines_are (l ∷ ls) = ap (λ ps. ps ++ flat_map line_parts ls) (line_is l) ∙ 
 para_joined : (ls ms : List (List Item)) → joined ls ≡ joined ms → para ls ≡ para ms
 unfolding para
 para_joined ls ms e =
-    ap (λ ps. Rattle.wt_inline.specs.ItemTree.inner Rattle.wt_tree.specs.declared.kind.Kind.TheVariants.Para [] (Rattle.wt_inline.specs.ItemTree.forest (children ps)) [])
+    ap (λ ps. inner kind.Para [] (forest (children ps)) [])
     (lines_are ls ∙ ap (parts Text) e ∙ sym (lines_are ms))
 
 pub block_joined : (k : BlockKind) (ls ms : List (List Item)) → joined ls ≡ joined ms → block k ls ≡ block k ms
@@ -116,3 +120,25 @@ pub around_is : (k : BlockKind) (xs before mid after : List Item) → IsAround x
 around_is k xs before mid after a =
     around_lines k (full_lines xs) xs (runs_are goes_on xs)
     ∙ three k _ before _ (block k (mid ∷ [])) _ after a.lead (ap (λ ys. block k (ys ∷ [])) a.block) a.end
+
+-- ---- the block of one list of items
+
+pub para_whole : (xs : List Item) → inner kind.Para [] (forest (inline_trees xs)) [] ≡ para (xs ∷ [])
+unfolding para inline_trees
+para_whole xs = ap (λ ps. inner kind.Para [] (forest (children ps)) []) (sym (lines_are (xs ∷ []) ∙ ap (parts Text) (append-nil xs)))
+
+pub para_block : (xs : List Item) → para (xs ∷ []) ≡ block Para (xs ∷ [])
+unfolding block
+para_block xs = refl
+
+pub between_block : (xs : List Item) → para (xs ∷ []) ≡ block Between (xs ∷ [])
+unfolding block
+between_block xs = refl
+
+pub heading_block : (xs : List Item) → heading xs ≡ block Heading (xs ∷ [])
+unfolding block
+heading_block xs = ap heading (sym (append-nil xs))
+
+pub heading_is : (xs : List Item) (h : HeadingParts) → h ≡ heading_parts (map sign xs) → heading_by h xs ≡ heading xs
+unfolding heading
+heading_is xs h e = ap (λ g. heading_by g xs) e

@@ -113,7 +113,8 @@ open_sign ss s =
 
 inside_level : (ss : List ℕ) (l : ℕ) → l ≡ level_of (core ss) → l ≤ length (core ss) → IsSign ss (length (core ss) - l)
 inside_level ss zero e le = let at : length (core ss) - 0 ≡ length (core ss) = omega arith in subst (IsSign ss) (sym at) (core_end ss)
-inside_level ss (suc l) e le h =
+inside_level ss (suc l) e le =
+    λ h.
     let c = core ss in
     let low : get_or c (length c - level_of c) 0 < 128 = level_last c (omega arith) (omega arith) in
     let is : get_or c (length c - level_of c) 0 ≡ get_or ss (length c - suc l) 0 = ap (λ k. get_or c (length c - k) 0) (sym e) ∙ core_get ss (length c - suc l) (omega arith) in
@@ -124,7 +125,8 @@ inside_by ss o l d zero el ed eb s =
     let c = core ss in
     let at : o + (d - 0) ≡ length c - l = omega arith in
     subst (IsSign ss) (sym at) (inside_level ss l el (omega arith))
-inside_by ss o l d (suc b) el ed eb s h =
+inside_by ss o l d (suc b) el ed eb s =
+    λ h.
     let c = core ss in
     let t = take d (drop o c) in
     let tl : length t ≡ d = length-take-le d (drop o c) (omega (arith, length-drop o c)) in

@@ -1,5 +1,6 @@
 pub mod Around
 pub mod Ends
+pub mod Growing
 pub mod HeadingCuts
 pub mod MeaningLaws
 pub mod Pieces

@@ -1,8 +1,9 @@
 -- Pieces, ready for the cuts of this crate, and the signs of their items.
-use Rattle.std.proofs.Common.{◌≡◌, ℕ, zero, suc, ◌+◌, ◌-◌, ◌<◌, ◌≤◌, Bool, true, false, Option, List, [], ◌∷◌, ◌++◌, length, take, drop, map, get_or, refl, sym, ap, ◌∙◌, subst, arith, append-nil}
+use Rattle.std.proofs.Common.{◌≡◌, ℕ, zero, suc, ◌+◌, ◌-◌, ◌<◌, ◌≤◌, Bool, true, false, Option, List, [], ◌∷◌, ◌++◌, length, take, drop, map, get_or, refl, sym, ap, ◌∙◌, subst, arith, append-nil, length-drop}
 use Rattle.std.specs.Prelude.{All, ◌&&◌, nat_lt}
 use Rattle.std.proofs.lemmas.Bool.Decides.{nat_tests}
-use Rattle.std.proofs.lemmas.List.{length-map, take-map, drop-map}
+use Rattle.std.proofs.lemmas.List.{length-map, take-map, drop-map, drop-drop}
+use Rattle.std.proofs.Math.Seq.{take-add}
 use Rattle.wt_span.proofs.Lists.{take_append, drop_append}
 use Rattle.wt_span.specs.Slice.{bytes_of}
 use Rattle.wt_span.specs.Whole.{IsWhole}
@@ -142,3 +143,20 @@ all_append (p ∷ ps) qs h g = All-cons IsSoundPiece p (ps ++ qs) (All-head IsSo
 
 pub all_one : (p : Piece) → IsSoundPiece p → All IsSoundPiece (p ∷ [])
 all_one p h = All-cons IsSoundPiece p [] h (All-nil IsSoundPiece)
+
+pub sound_rest : (ps qs : List Piece) (n : ℕ) → All IsSoundPiece ps → qs ≡ drop n ps → All IsSoundPiece qs
+sound_rest ps qs n h e = subst (All IsSoundPiece) (sym e) (sound_drop n ps h)
+
+pub some_pieces : (ps : List Piece) (xs : List Item) (n : ℕ) → items ps ≡ drop n xs → n < length xs → 0 < length ps
+some_pieces [] xs n e h = absurd (omega (arith, ap length e, length-drop n xs))
+some_pieces (p ∷ ps) xs n e h = omega arith
+
+pub split_front : (xs ys zs ws : List Item) (n : ℕ) → 0 < n → ys ≡ take (n - 1) xs → zs ≡ drop (n - 1) xs → ws ≡ take 1 zs → ys ++ ws ≡ take n xs
+split_front xs ys zs ws n s ey ez ew =
+    let z : n - 1 + 1 ≡ n = omega arith in
+    ap (λ us. us ++ ws) ey ∙ ap (λ us. take (n - 1) xs ++ us) (ew ∙ ap (take 1) ez) ∙ sym (take-add (n - 1) 1 xs) ∙ ap (λ k. take k xs) z
+
+pub split_back : (xs zs ws : List Item) (n : ℕ) → 0 < n → zs ≡ drop (n - 1) xs → ws ≡ drop 1 zs → ws ≡ drop n xs
+split_back xs zs ws n s ez ew =
+    let z : n - 1 + 1 ≡ n = omega arith in
+    ew ∙ ap (drop 1) ez ∙ drop-drop 1 (n - 1) xs ∙ ap (λ k. drop k xs) z

@@ -124,7 +124,7 @@ pub fn split_behind<'a>(
     n: usize,
 ) -> Result<(List<Piece<'a>>, List<Piece<'a>>), NoMemory>
     requires sound { All IsSoundPiece pieces.now }
-    requires open { IsOpenCut n (items pieces.now) }
+    requires opening { IsOpenCut n (items pieces.now) }
     ensures front { IfOk result (λ r. items r.0 ≡ take n (items pieces.now)) }
     ensures back { IfOk result (λ r. items r.1 ≡ drop n (items pieces.now)) }
     ensures sound_back { IfOk result (λ r. All IsSoundPiece r.1) }

@@ -39,7 +39,7 @@ fn heading_by<'a>(
     line: &[Piece<'a>],
 ) -> Result<PieceTree<'a>, NoMemory>
     requires sound { All IsSoundPiece line.now }
-    requires open { IsOpenCut parts.open_len (items line.now) }
+    requires opening { IsOpenCut parts.open_len (items line.now) }
     requires inside { IsInsideCut parts.open_len parts.inside_len (items line.now) }
     ensures { IfOk result (λ t. item_tree t ≡ heading_by parts (items line.now)) }
 {
