@@ -1,3 +1,7 @@
 //! From the meaning of a page without calls to its annotated tree: each node with its source, its
 //! place in bytes and its number, and with what its element carries.
 #![tactic(auto)]
+
+mod laws;
+
+pub use laws::{annotated_keeps_its_source, annotated_tiles};

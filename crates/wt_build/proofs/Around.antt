@@ -1,10 +1,9 @@
 -- A block's lines, and the items that they hold together.
-use Rattle.std.proofs.Common.{◌≡◌, ℕ, zero, suc, ◌+◌, ◌-◌, ◌<◌, ◌≤◌, Bool, true, false, List, [], ◌∷◌, ◌++◌, length, take, drop, map, refl, sym, ap, ◌∙◌, subst, cond, arith, append-nil, append_assoc}
+use Rattle.std.proofs.Common.{◌≡◌, ℕ, ◌+◌, ◌-◌, ◌≤◌, Bool, true, false, List, [], ◌∷◌, ◌++◌, length, take, drop, map, refl, sym, ap, ◌∙◌, subst, cond, arith, append-nil}
 use Rattle.std.specs.Prelude.{not}
 use Rattle.std.specs.List.{flat_map, prefix_len, AllByRecursion}
 use Rattle.std.proofs.lemmas.List.{map-append}
 use Rattle.std.proofs.lemmas.List.Sums.{prefix_len-le-length}
-use Rattle.std.proofs.Math.Numerals.{one-add}
 use Rattle.wt_span.specs.Items.{Item, char, whole, is_mark, sign}
 use Rattle.wt_span.specs.Runs.{IsRun, AreRuns}
 use Rattle.wt_span.proofs.Lists.{take_append, drop_append}
@@ -17,11 +16,11 @@ use Rattle.wt_inline.specs.Inline.{inline_trees}
 use Rattle.wt_tree.specs.declared.kind.Kind.TheVariants as kind
 use Rattle.wt_build.specs.declared.heading.HeadingParts.{HeadingParts}
 use Rattle.wt_build.specs.Headings.{heading_parts}
-use Rattle.wt_inline.specs.Parts.{Part, node, part, parts, children}
+use Rattle.wt_inline.specs.Parts.{node, part, parts, children}
 use Rattle.wt_build.specs.declared.block.BlockKind.{BlockKind}
 use Rattle.wt_build.specs.declared.block.BlockKind.TheVariants.{Between, Heading, Para}
 use Rattle.wt_build.specs.Rows.{ending}
-use Rattle.wt_build.specs.Blocks.{joined, line_parts, para, heading_by, heading, block, lead_len, lead, without_lead, last_ending, without_ending, around}
+use Rattle.wt_build.specs.Blocks.{joined, line_parts, para, heading_by, heading, block, lead_len, last_ending, without_ending, around}
 use Rattle.wt_build.specs.Cuts.{IsAround}
 use Rattle.wt_build.proofs.Ends.{content_onto, ending_onto, content_ending}
 

@@ -1,5 +1,5 @@
 -- The meaning holds its items, each opened.
-use Rattle.std.proofs.Common.{◌≡◌, ℕ, zero, suc, ◌+◌, ◌-◌, Option, Some, None, List, [], ◌∷◌, ◌++◌, take, drop, map, refl, sym, ap, ◌∙◌, append_assoc, append-nil}
+use Rattle.std.proofs.Common.{◌≡◌, ℕ, zero, suc, ◌-◌, Option, Some, None, List, [], ◌∷◌, ◌++◌, take, drop, map, refl, sym, ap, ◌∙◌, append_assoc, append-nil}
 use Rattle.std.specs.List.{flat_map}
 use Rattle.std.proofs.lemmas.List.{take-append-drop, map-append}
 use Rattle.std.proofs.lemmas.Grind.{flat_map-append}
@@ -8,15 +8,14 @@ use Rattle.wt_span.specs.declared.form.Form.{Form}
 use Rattle.wt_span.specs.declared.form.Form.TheVariants as form
 use Rattle.wt_span.specs.Entities.{entity_at}
 use Rattle.wt_span.specs.Items.{Item, char, whole, sign, sources}
-use Rattle.wt_span.specs.Runs.{runs, AreRuns}
+use Rattle.wt_span.specs.Runs.{runs}
 use Rattle.wt_span.proofs.RunLaws.{runs_are, runs_only, runs_joined}
 use Rattle.wt_lines.specs.Lines.{content, goes_on, full_lines}
-use Rattle.wt_inline.specs.declared.loose.Loose.{Loose}
 use Rattle.wt_inline.specs.declared.loose.Loose.TheVariants.{Text, Sep}
 use Rattle.wt_inline.specs.RawTag.{opening_of, inside_of, closing_of}
 use Rattle.wt_inline.specs.Inside.{read_with, inside_items, opened_whole, opened, opened_all}
 use Rattle.wt_inline.specs.ItemTree.{ItemTree, inner, forest, held, held_by_all}
-use Rattle.wt_inline.specs.Parts.{Part, node, held_parts, parts, children, AreChildren}
+use Rattle.wt_inline.specs.Parts.{node, held_parts, parts, children}
 use Rattle.wt_inline.specs.Inline.{inline_trees}
 use Rattle.wt_inline.proofs.HeldLaws.{held_children, held_of_parts, held_append, opened_append, sources_opened, are_children, only_children}
 use Rattle.wt_build.specs.declared.block.BlockKind.{BlockKind}

@@ -1,6 +1,5 @@
 -- The first block of a page, on pieces.
-use Rattle.std.proofs.Common.{◌≡◌, ℕ, zero, suc, ◌+◌, ◌-◌, ◌<◌, ◌≤◌, Bool, true, false, List, [], ◌∷◌, ◌++◌, length, take, drop, map, refl, sym, ap, ◌∙◌, subst, cond, arith, append-nil, append_assoc, length-drop}
-use Rattle.std.specs.Prelude.{All}
+use Rattle.std.proofs.Common.{◌≡◌, ℕ, ◌+◌, ◌<◌, ◌≤◌, Bool, true, false, List, [], ◌∷◌, ◌++◌, length, take, drop, map, refl, sym, ap, ◌∙◌, subst, arith, append-nil, append_assoc, length-drop}
 use Rattle.std.specs.List.{flat_map, AllByRecursion}
 use Rattle.std.proofs.lemmas.List.{drop-drop, map-append}
 use Rattle.std.proofs.Math.Seq.{take-add}
@@ -10,10 +9,10 @@ use Rattle.wt_span.specs.Items.{Item, items, items_of}
 use Rattle.wt_span.specs.Runs.{runs, IsRun, AreRuns}
 use Rattle.wt_span.proofs.RunLaws.{runs_cut, runs_are, runs_only, are_joined}
 use Rattle.wt_lines.specs.Lines.{full_lines, goes_on}
-use Rattle.wt_lines.specs.Pieces.{AllParted, IsLineCut}
+use Rattle.wt_lines.specs.Pieces.{IsLineCut}
 use Rattle.wt_build.specs.declared.block.BlockKind.{BlockKind}
 use Rattle.wt_build.specs.declared.block.BlockKind.TheVariants.{Between, Heading, Para}
-use Rattle.wt_build.specs.Rows.{Row, row, rows, one_block, same_block}
+use Rattle.wt_build.specs.Rows.{Row, row, one_block, same_block}
 use Rattle.wt_build.specs.Blocks.{joined, parts_by}
 use Rattle.wt_build.specs.Meaning.{row_items, run_parts, body_parts}
 use Rattle.wt_build.specs.Cuts.{IsBlockCut, is_para}

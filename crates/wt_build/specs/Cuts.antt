@@ -1,5 +1,5 @@
 -- How the pieces of a page are cut into blocks, and a block's pieces into what stands before it, itself, and what stands after.
-use Rattle.std.specs.Prelude.{◌≡◌, ◌<◌, ◌+◌, ◌-◌, ℕ, Bool, true, false, All, List, [], ◌∷◌, ◌++◌, length, map, take, drop, slice_get, slice_index}
+use Rattle.std.specs.Prelude.{◌≡◌, ◌<◌, ◌+◌, ◌-◌, ℕ, Bool, true, false, All, List, ◌++◌, length, map, take, drop, slice_get, slice_index}
 use Rattle.wt_span.specs.declared.form.Piece.{Piece}
 use Rattle.wt_span.specs.Items.{Item, sign, items}
 use Rattle.wt_span.specs.Origins.{IsSoundPiece}

@@ -1,4 +1,4 @@
-use Rattle.std.proofs.Common.{sym, ap, ◌∙◌, arith, refl}
+use Rattle.std.proofs.Common.{sym, ap, ◌∙◌, refl}
 use Rattle.wt_span.specs.Items.{items}
 use Rattle.wt_build.specs.declared.block.BlockKind.TheVariants.{Between, Heading}
 use Rattle.wt_build.specs.Rows.{row}

@@ -1,4 +1,4 @@
-use Rattle.std.proofs.Common.{ap, sym, ◌∙◌, ◌-◌}
+use Rattle.std.proofs.Common.{ap, ◌∙◌, ◌-◌}
 use Rattle.wt_span.specs.Items.{items, items_of}
 use Rattle.wt_inline.proofs.Trees.{items_more}
 use Rattle.wt_build.proofs.HeadingCuts.{low_past}

@@ -1,4 +1,4 @@
-use Rattle.std.proofs.Common.{ap, sym, ◌∙◌, map, ◌≡◌}
+use Rattle.std.proofs.Common.{ap, ◌∙◌, map, ◌≡◌}
 use Rattle.std.proofs.lemmas.Result.{IfOk-weaker}
 use Rattle.wt_span.specs.Items.{sign, items}
 use Rattle.wt_build.specs.Headings.{heading_parts}

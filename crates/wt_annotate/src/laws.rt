@@ -1,0 +1,19 @@
+//! What holds of the annotated tree of any meaning.
+
+ghost use Rattle.std.specs.Prelude.{◌≡◌};
+ghost use Rattle.wt_tree.specs.Source.{flat};
+ghost use Rattle.wt_tree.specs.Tiling.{Tiled, InPreorder};
+ghost use Rattle.wt_span.specs.Items.{sources};
+ghost use Rattle.wt_inline.specs.ItemTree.{ItemTree, held};
+ghost use Rattle.wt_annotate.specs.Annotated.{annotated};
+
+/// The ranges of an annotated tree tile it, and its numbers count its nodes in preorder.
+pub fn annotated_tiles()
+    ensures tiled { (t : ItemTree) → Tiled (annotated t) }
+    ensures numbered { (t : ItemTree) → InPreorder (annotated t) }
+{}
+
+/// The source of an annotated tree is the sources of the items that the meaning holds, joined.
+pub fn annotated_keeps_its_source()
+    ensures { (t : ItemTree) → flat (annotated t) ≡ sources (held t) }
+{}
