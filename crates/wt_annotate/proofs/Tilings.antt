@@ -4,7 +4,7 @@ use Rattle.std.specs.Prelude.{All, if◌then◌else◌}
 use Rattle.std.specs.List.{flat_map, range_with_len, AllByRecursion}
 use Rattle.std.proofs.Math.Numerals.{one-add}
 use Rattle.std.proofs.lemmas.Grind.{flat_map-append}
-use Rattle.std.proofs.lemmas.List.{length-range_with_len}
+use Rattle.std.proofs.lemmas.List.FromFn.{length-range_with_len}
 use Rattle.std.proofs.lemmas.List.Elements.{All-nil, All-cons}
 use Rattle.wt_tree.specs.declared.kind.Kind.{Kind}
 use Rattle.wt_tree.specs.declared.kind.Kind.TheVariants as kind
@@ -40,8 +40,9 @@ tiled_by at false k o c hs us h =
     (omega (arith, w, x), subst (λ (n : ℕ). TiledFrom us (at + width o) n) e h)
 
 mutual
-  tiled : (at next : ℕ) (t : ItemTree) → Tiled (annotated_at at next t)
   unfolding label_at
+
+  tiled : (at next : ℕ) (t : ItemTree) → Tiled (annotated_at at next t)
   tiled at next (inner k o ts c) = tiled_by at (is_leaf k) k o c (held_by_all ts) (all_annotated_at (at + width o) (next_after k next) ts) (follow (at + width o) (next_after k next) ts)
 
   follow : (at next : ℕ) (ts : ItemTrees) → TiledFrom (all_annotated_at at next ts) at (at + width (held_by_all ts))
@@ -84,8 +85,9 @@ range_join a (suc n) m =
     ap (λ ns. a ∷ ns) (ap (λ k. range_with_len (a + 1) n ++ range_with_len k m) e ∙ range_join (a + 1) n m) ∙ ap (range_with_len a) (sym y)
 
 mutual
-  counted : (at next : ℕ) (t : ItemTree) → numbers (annotated_at at next t) ≡ range_with_len next (numbered t)
   unfolding label_at
+
+  counted : (at next : ℕ) (t : ItemTree) → numbers (annotated_at at next t) ≡ range_with_len next (numbered t)
   counted at next (inner k o ts c) =
       numbers_by next (numbered_in_all ts) (is_numbered k) (is_leaf k) (is_group k) (all_annotated_at (at + width o) (next_after k next) ts) (group_leaf k) (all_counted (at + width o) (next_after k next) ts)
 
@@ -115,8 +117,9 @@ others_by next false false true us h e = let no = h refl in cc
 others_by next false false false us h e = (refl, e)
 
 mutual
-  unnumbered : (at next : ℕ) (t : ItemTree) → AllZero (others (annotated_at at next t))
   unfolding label_at
+
+  unnumbered : (at next : ℕ) (t : ItemTree) → AllZero (others (annotated_at at next t))
   unnumbered at next (inner k o ts c) =
       others_by next (is_numbered k) (is_leaf k) (is_group k) (all_annotated_at (at + width o) (next_after k next) ts) (group_leaf k) (all_unnumbered (at + width o) (next_after k next) ts)
 
@@ -147,8 +150,9 @@ flat_by false o c hs us e =
     ∙ sym (flat_map-append source o (hs ++ c) ∙ ap (λ bs. sources o ++ bs) (flat_map-append source hs c))
 
 mutual
-  sourced : (at next : ℕ) (t : ItemTree) → flat (annotated_at at next t) ≡ sources (held t)
   unfolding label_at
+
+  sourced : (at next : ℕ) (t : ItemTree) → flat (annotated_at at next t) ≡ sources (held t)
   sourced at next (inner k o ts c) = flat_by (is_leaf k) o c (held_by_all ts) (all_annotated_at (at + width o) (next_after k next) ts) (all_sourced (at + width o) (next_after k next) ts)
 
   all_sourced : (at next : ℕ) (ts : ItemTrees) → flat_of_all (all_annotated_at at next ts) ≡ sources (held_by_all ts)
