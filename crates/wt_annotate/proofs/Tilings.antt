@@ -1,7 +1,7 @@
 -- The ranges of an annotated tree tile it, its numbers are in preorder, and its source is that of the items.
-use Rattle.std.proofs.Common.{◌≡◌, ℕ, zero, suc, ◌+◌, ◌-◌, ◌≤◌, Bool, true, false, Option, Some, None, List, [], ◌∷◌, ◌++◌, length, refl, sym, ap, ◌∙◌, subst, cond, arith, append_assoc, append-nil, length-append}
+use Rattle.std.proofs.Common.{◌≡◌, ℕ, zero, suc, ◌+◌, ◌-◌, Bool, true, false, Some, List, [], ◌∷◌, ◌++◌, length, refl, sym, ap, ◌∙◌, subst, arith, append_assoc, length-append}
 use Rattle.std.specs.Prelude.{All, if◌then◌else◌}
-use Rattle.std.specs.List.{flat_map, range_with_len, AllByRecursion}
+use Rattle.std.specs.List.{range_with_len, AllByRecursion}
 use Rattle.std.proofs.Math.Numerals.{one-add}
 use Rattle.std.proofs.lemmas.Grind.{flat_map-append}
 use Rattle.std.proofs.lemmas.List.FromFn.{length-range_with_len}
@@ -9,12 +9,12 @@ use Rattle.std.proofs.lemmas.List.Elements.{All-nil, All-cons}
 use Rattle.wt_tree.specs.declared.kind.Kind.{Kind}
 use Rattle.wt_tree.specs.declared.kind.Kind.TheVariants as kind
 use Rattle.wt_tree.specs.Kinds.{is_leaf, is_numbered}
-use Rattle.wt_tree.specs.Tree.{Tree, Trees, none, more, label}
+use Rattle.wt_tree.specs.Tree.{Trees, label}
 use Rattle.wt_tree.specs.Source.{flat, flat_of_all}
 use Rattle.wt_tree.specs.Tiling.{BeginsAt, end_of, TiledBy, Tiled, TiledFrom, is_group, numbers, numbers_of_all, ids_of_all, others, others_of_all, InPreorder}
 use Rattle.wt_span.specs.Items.{Item, source, sources}
 use Rattle.wt_inline.specs.ItemTree.{ItemTree, inner, ItemTrees, nothing, further, held, held_by_all}
-use Rattle.wt_annotate.specs.Labels.{width, number_of, next_after, open_width, close_width, if_leaf, if_inner, label_at}
+use Rattle.wt_annotate.specs.Labels.{width, next_after, open_width, close_width, if_leaf, if_inner, label_at}
 use Rattle.wt_annotate.specs.Annotated.{inside_by, count_by, numbered, numbered_in_all, annotated_at, all_annotated_at, annotated}
 
 width_append : (xs ys : List Item) → width (xs ++ ys) ≡ width xs + width ys
@@ -53,7 +53,7 @@ mutual
         begins at next t,
         tiled at next t,
         subst (λ (n : ℕ). TiledFrom (all_annotated_at here (next + numbered t) ts) n (at + width (held t ++ held_by_all ts))) (sym (ends at next t))
-        (subst (λ (n : ℕ). TiledFrom (all_annotated_at here (next + numbered t) ts) here n) e (follow here (next + numbered t) ts)),
+            (subst (λ (n : ℕ). TiledFrom (all_annotated_at here (next + numbered t) ts) here n) e (follow here (next + numbered t) ts)),
       )
 
 pub tree_tiled : (t : ItemTree) → Tiled (annotated t)

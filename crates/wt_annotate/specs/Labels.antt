@@ -3,13 +3,12 @@ use Rattle.std.specs.Prelude.{ℕ, ◌+◌, Bool, true, false, Option, Some, Non
 use Rattle.std.specs.List.{flat_map}
 use Rattle.wt_tree.specs.declared.kind.Kind.{Kind}
 use Rattle.wt_tree.specs.declared.kind.Kind.TheVariants as kind
-use Rattle.wt_tree.specs.declared.kind.Ranges.{Ranges}
 use Rattle.wt_tree.specs.declared.kind.AttrName.{AttrName}
 use Rattle.wt_tree.specs.declared.kind.Mark.TheVariants as marks
 use Rattle.wt_tree.specs.declared.kind.Showing.{Showing}
 use Rattle.wt_tree.specs.declared.kind.Showing.TheVariants.{Characters, Inside, Nothing, Element}
 use Rattle.wt_tree.specs.declared.node.DataMw.{DataMw}
-use Rattle.wt_tree.specs.Kinds.{is_leaf, is_numbered, showing}
+use Rattle.wt_tree.specs.Kinds.{is_numbered, showing}
 use Rattle.wt_tree.specs.Tree.{Label}
 use Rattle.wt_span.specs.Items.{Item, sources}
 use Rattle.wt_inline.specs.Carried.{shown_item, attrs_item, data_item}

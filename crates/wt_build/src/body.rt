@@ -54,10 +54,7 @@ fn with_lines<'a>(
 }
 
 /// The children of a body.
-fn body_children<'a>(
-    alloc: Global,
-    pieces: &[Piece<'a>],
-) -> Result<List<PieceTree<'a>>, NoMemory>
+fn body_children<'a>(alloc: Global, pieces: &[Piece<'a>]) -> Result<List<PieceTree<'a>>, NoMemory>
     requires { AreReady pieces.now }
     ensures { IfOk result (λ l. item_trees l ≡ children (body_parts (rows (items pieces.now)))) }
 {

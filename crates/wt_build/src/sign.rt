@@ -69,7 +69,11 @@ pub fn last_blanks(signs: &[u16]) -> usize
     ensures value { result ≡ blank_len (reverse signs.now) }
     ensures within { result ≤ length signs.now }
 {
-    signs.iter().rev().take_while(|s| **s == 32 || **s == 9).count()
+    signs
+        .iter()
+        .rev()
+        .take_while(|s| **s == 32 || **s == 9)
+        .count()
 }
 
 fn last_idle(signs: &[u16]) -> usize

@@ -60,10 +60,7 @@ fn ascii_len(text: &str) -> usize
 
 /// The first item of a piece, an ASCII character, and the piece after it; none where nothing is
 /// left.
-fn split_sign<'a>(
-    alloc: Global,
-    piece: Piece<'a>,
-) -> Result<(Piece<'a>, List<Piece<'a>>), NoMemory>
+fn split_sign<'a>(alloc: Global, piece: Piece<'a>) -> Result<(Piece<'a>, List<Piece<'a>>), NoMemory>
     requires { slice_index (map sign (items_of piece)) 0 < 128 }
     ensures first { IfOk result (λ r. items_of r.0 ≡ take 1 (items_of piece.entry)) }
     ensures rest { IfOk result (λ r. items r.1 ≡ drop 1 (items_of piece.entry)) }
