@@ -1,2 +1,3 @@
 mod Cases
+mod Covering
 pub mod Tilings

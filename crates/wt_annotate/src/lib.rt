@@ -4,4 +4,4 @@
 
 mod laws;
 
-pub use laws::{annotated_keeps_its_source, annotated_tiles};
+pub use laws::{annotated_keeps_its_source, annotated_tiles, body_covers_its_page};
