@@ -1,5 +1,5 @@
 -- Blocks: what the lines of one block are as a tree, and what stands before and after it.
-use Rattle.std.specs.Prelude.{ℕ, ◌+◌, List, [], ◌∷◌, ◌++◌, map, take, drop}
+use Rattle.std.specs.Prelude.{ℕ, List, [], ◌∷◌, ◌++◌, map, take, drop}
 use Rattle.std.specs.List.{flat_map, prefix_len}
 use Rattle.wt_tree.specs.declared.kind.Kind.TheVariants as kind
 use Rattle.wt_span.specs.Items.{Item, sign, is_mark}

@@ -1,7 +1,7 @@
 -- Where the two delimiters of a heading end, by the signs of its items: a mark has a sign of its own, so it parts a run.
 use Rattle.std.specs.Prelude.{ℕ, ◌+◌, ◌-◌, ◌/◌, min, List, length, take, drop, reverse, ◌==◌, if◌then◌else◌}
 use Rattle.std.specs.List.{prefix_len}
-use Rattle.wt_span.specs.Bytes.{is_blank, blank_len}
+use Rattle.wt_span.specs.Bytes.{blank_len}
 use Rattle.wt_lines.specs.Kinds.{is_idle}
 use Rattle.wt_build.specs.declared.heading.HeadingParts.{HeadingParts}
 

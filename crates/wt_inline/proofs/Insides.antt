@@ -77,10 +77,12 @@ first_by bs (Some e) f h = f.1
 pub chars_border : (text bytes : List ℕ) (n : ℕ) → bytes ≡ text → n ≤ length bytes → (n < length bytes → IsSome (entity_at (drop n bytes))) → IsCharBoundary text n
 chars_border text bytes n i le s =
     let z : n + 0 ≡ n = omega arith in
-    subst (λ (bs : List ℕ). IsCharBoundary bs n) i
-    (le, λ lt high.
-    let is : get_or bytes n 0 ≡ 38 = sym (ap (λ k. get_or bytes k 0) z) ∙ sym (get_or-drop n bytes 0 0) ∙ first_by (drop n bytes) (entity_at (drop n bytes)) (entity_fits (drop n bytes)) (s lt) in
-    absurd (omega arith))
+    subst (λ (bs : List ℕ). IsCharBoundary bs n) i (
+      le,
+      λ lt high.
+          let is : get_or bytes n 0 ≡ 38 = sym (ap (λ k. get_or bytes k 0) z) ∙ sym (get_or-drop n bytes 0 0) ∙ first_by (drop n bytes) (entity_at (drop n bytes)) (entity_fits (drop n bytes)) (s lt) in
+          absurd (omega arith),
+    )
 
 pub split_by : (o : Option ℕ) (bs text front back : List ℕ) (xs : List Item) (m n : ℕ) → text ≡ bs → m ≡ n → n ≤ length text → ((k : ℕ) → k < n → entity_at (drop k text) ≡ None)
     → xs ≡ map (char o) front → front ≡ take m bs → back ≡ drop m bs → xs ++ inside_items o 0 back ≡ inside_items o 0 bs

@@ -8,7 +8,6 @@
 mod carried;
 mod children;
 mod context;
-
 mod inside;
 mod laws;
 mod loose;

@@ -18,11 +18,7 @@ use wt_span::{List, NoMemory, Origin, Piece, Text};
 use wt_tree::Kind;
 
 /// The characters of a text: one piece, or none where it is empty.
-fn chars<'a>(
-    alloc: Global,
-    text: Text<'a>,
-    origin: Origin,
-) -> Result<List<Piece<'a>>, NoMemory>
+fn chars<'a>(alloc: Global, text: Text<'a>, origin: Origin) -> Result<List<Piece<'a>>, NoMemory>
     ensures { IfOk result (λ l. items l ≡ map (char (call_of_origin origin)) (bytes_of text.entry)) }
 {
     let mut pieces = List::new(alloc);
@@ -82,11 +78,7 @@ fn inside<'a>(
 
 /// The node of a `nowiki` with this source.
 #[tactic(auto, unfolding(crate::specs::Parts::nowiki))]
-pub fn nowiki<'a>(
-    alloc: Global,
-    text: Text<'a>,
-    origin: Origin,
-) -> Result<PieceTree<'a>, NoMemory>
+pub fn nowiki<'a>(alloc: Global, text: Text<'a>, origin: Origin) -> Result<PieceTree<'a>, NoMemory>
     ensures { IfOk result (λ t. item_tree t ≡ nowiki (call_of_origin origin) (bytes_of text.entry)) }
 {
     let raw = RawTag::of(text);

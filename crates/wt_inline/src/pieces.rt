@@ -47,11 +47,7 @@ impl<'a> Children<'a> {
     }
 
     /// These and what stands on a line, or in another context that is read alone.
-    pub fn with_line(
-        self,
-        alloc: Global,
-        pieces: &[Piece<'a>],
-    ) -> Result<Children<'a>, NoMemory>
+    pub fn with_line(self, alloc: Global, pieces: &[Piece<'a>]) -> Result<Children<'a>, NoMemory>
         ensures { IfOk result (λ c. Grows (grown self.entry) (inline_parts (items pieces.now)) (grown c)) }
     {
         self.with_pieces(alloc, Loose::Text, pieces)
