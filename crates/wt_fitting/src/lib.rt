@@ -3,6 +3,8 @@
 //! speak of, and the laws that join them to the grammar of HTML.
 #![tactic(auto)]
 
+mod laws;
 mod why;
 
+pub use laws::one_reading;
 pub use why::FitWhy;

@@ -1,4 +1,4 @@
-ghost use Rattle.std.specs.Prelude.{◌≡◌, ℕ, ◌+◌, ◌^◌, ◌<◌, ◌≤◌, ◌++◌, List, [], ◌∷◌, length, None, Some, Ok, Err, IfSome, OnOk, IfErr};
+ghost use Rattle.std.specs.Prelude.{◌≡◌, ℕ, ◌+◌, ◌^◌, ◌<◌, ◌≤◌, ◌++◌, List, [], ◌∷◌, length, None, Some, Ok, Err, IfSome, OnOk, IfOk, IfErr};
 ghost use Rattle.wt_html_grammar.specs.Grammar.{Front};
 ghost use Rattle.wt_html_elements.specs.Answer.{IsAtLeast, IsFed, Answers, RefusedFor, answer_of, refusal_of};
 
@@ -48,6 +48,7 @@ impl Reader {
         ensures fed { (bytes : List ℕ) → IsFed self.old bytes → IsFed self.new (bytes ++ byte ∷ []) }
         ensures answer { result ≡ answer_of self.new.failed }
         ensures count { OnOk result (self.new.taken ≡ self.old.taken + 1) }
+        ensures most { self.new.taken ≤ self.old.taken + 1 }
         ensures going { OnOk result (self.new.failed ≡ None) }
         ensures place { IfErr result (IsAtLeast self.old.taken) }
     {
@@ -76,6 +77,7 @@ impl Reader {
         ensures fed { (bytes : List ℕ) → IsFed self.old bytes → IsFed self.new (bytes ++ piece.now) }
         ensures answer { result ≡ answer_of self.new.failed }
         ensures count { OnOk result (self.new.taken ≡ self.old.taken + length piece.now) }
+        ensures most { self.new.taken ≤ self.old.taken + length piece.now }
         ensures place { IfErr result (IsAtLeast self.old.taken) }
     {
         for byte in piece {
@@ -91,7 +93,9 @@ impl Reader {
         ensures fed { (bytes : List ℕ) → IsFed self.old bytes → IsFed self.new (bytes ++ piece.now) }
         ensures front { OnOk result ((bytes : List ℕ) → IsFed self.new bytes → Front bytes) }
         ensures refused { IfErr result (λ e. (bytes : List ℕ) → IsFed self.new bytes → RefusedFor bytes e) }
+        ensures answer { result ≡ answer_of self.new.failed }
         ensures count { OnOk result (self.new.taken ≡ self.old.taken + length piece.now) }
+        ensures most { self.new.taken ≤ self.old.taken + length piece.now }
         ensures place { self.old.failed ≡ None → IfErr result (IsAtLeast self.old.taken) }
         ensures again { IfSome self.old.failed (λ e. (result ≡ Err e) × (self.new.failed ≡ Some e)) }
     {
@@ -103,7 +107,8 @@ impl Reader {
 
     /// What all that was fed stands for: the root element.
     pub fn finish(self) -> Result<Content, HtmlRefusal>
-        ensures { (bytes : List ℕ) → IsFed self bytes → Answers result bytes }
+        ensures answers { (bytes : List ℕ) → IsFed self bytes → Answers result bytes }
+        ensures going { IfOk result (λ _. self.failed ≡ None) }
     {
         match self.failed {
             Some(refusal) => Err(refusal),

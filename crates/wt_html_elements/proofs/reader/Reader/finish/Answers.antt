@@ -2,12 +2,12 @@ use Rattle.std.proofs.Common.{sym, ◌∙◌}
 use Rattle.wt_html_elements.proofs.Feeding.{failed_right, ends, ends_ill}
 use Rattle.wt_html_elements.proofs.reader.Reader.finish.Goals as goal
 
-pub returns-in-Some : goal.returns-in-Some
-returns-in-Some c = λ bytes h. failed_right c.args.self.failed c.in-Some.refusal c.args.self bytes c.in-Some.is h
+pub returns-in-Some-clause-answers : goal.returns-in-Some-clause-answers
+returns-in-Some-clause-answers c = λ bytes h. failed_right c.args.self.failed c.in-Some.refusal c.args.self bytes c.in-Some.is h
 
-pub returns-then-is_accepted : goal.returns-then-is_accepted
-returns-then-is_accepted c = λ bytes h.
+pub returns-then-is_accepted-clause-answers : goal.returns-then-is_accepted-clause-answers
+returns-then-is_accepted-clause-answers c = λ bytes h.
     ends c.args.self bytes c.root.result c.in-None.is (sym c.is_accepted.ensures ∙ c.if-is_accepted.true) c.root.ensures.root c.root.ensures.memory h
 
-pub returns-else-is_accepted : goal.returns-else-is_accepted
-returns-else-is_accepted c = λ bytes h. ends_ill c.args.self bytes c.in-None.is (sym c.is_accepted.ensures ∙ c.if-is_accepted.false) h
+pub returns-else-is_accepted-clause-answers : goal.returns-else-is_accepted-clause-answers
+returns-else-is_accepted-clause-answers c = λ bytes h. ends_ill c.args.self bytes c.in-None.is (sym c.is_accepted.ensures ∙ c.if-is_accepted.false) h
