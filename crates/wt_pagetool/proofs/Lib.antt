@@ -7,3 +7,4 @@ pub mod RunLaws
 pub mod TreeLaws
 pub mod UnbuiltLaws
 pub mod WriteLaws
+pub mod WrittenPages

@@ -1,0 +1,175 @@
+-- The JSON of `data-parsoid`: it is UTF-8, and read as what was written.
+use Rattle.std.proofs.Common.{◌≡◌, ℕ, ◌+◌, ◌<◌, ◌≤◌, ◌^◌, Bool, true, false, Option, Some, None, List, [], ◌∷◌, ◌++◌, IsUtf8, decimal, refl, sym, ap, ◌∙◌, subst, arith, append-nil, codes, option_map, option_and_then}
+use Rattle.std.specs.Prelude.{Ok}
+use Rattle.std.proofs.lemmas.Fmt.{IsAscii-decimal}
+use Rattle.std.proofs.lemmas.Str.{IsUtf8-append, IsUtf8-nil, IsUtf8-encode, IsUtf8-from_ascii, encode_ascii}
+use lib.Utf8.{low_scalar}
+use Rattle.json.specs.Token.{Token}
+use Rattle.json.specs.Lex.{tokens}
+use Rattle.json.specs.Json as json
+use Rattle.json.specs.Tree as tree
+use Rattle.json.specs.Print.{quoted}
+use Rattle.json.proofs.Printed.Decimals.{IsNumber-decimal}
+use Rattle.json.proofs.Printed.Tokens.{tokens-print}
+use Rattle.json.proofs.Printed.Trees.{value-json_tokens, ArePrintable-json_tokens}
+use Rattle.json.proofs.Printed.Utf8.{IsUtf8-are_ascii, IsUtf8-quoted, IsUtf8-boolean}
+use Rattle.serde_json.specs.Data.{Num, unsigned, negative, float, Data, null, boolean, number, string, array, object, Items, no_items, item, Members, no_members, member}
+use Rattle.serde_json.specs.Read.{number_of, of_json, read, max_depth}
+use Rattle.serde_json.specs.Written.{outline, comma_if, compact_text, items_text, members_text}
+use Rattle.serde_json.proofs.Numbers.{number_of-decimal}
+use Rattle.serde_json.proofs.Texts.{print-outline}
+use Rattle.wt_tree.specs.declared.kind.Ranges.{Ranges}
+use Rattle.wt_datamw.specs.declared.sync.Sync.{Sync}
+use Rattle.wt_datamw.specs.Sync.{put_dsr, put_text, put_source, sync_members, sync_data, sync_text}
+use Rattle.wt_datamw.specs.SyncRead.{sync_of_json, sync_told, IsSmall}
+use Rattle.wt_datamw.proofs.ReadsBack.{reads_small}
+
+-- ---- UTF-8
+
+pub ascii_then : (x : ℕ) (xs : List ℕ) → x < 128 → IsUtf8 xs → IsUtf8 (x ∷ xs)
+ascii_then x xs small u = IsUtf8-append (x ∷ []) xs (subst IsUtf8 (encode_ascii x small) (IsUtf8-encode x (low_scalar x (omega arith)))) u
+
+comma_utf8 : (b : Bool) → IsUtf8 (comma_if b)
+comma_utf8 true = IsUtf8-are_ascii (44 ∷ []) refl
+comma_utf8 false = IsUtf8-nil
+
+-- texts in UTF-8, and natural numbers in 64 bits
+abbrev pub IsNatural : Num → Type 0
+IsNatural (unsigned n) = n < 2 ^ 64
+IsNatural (negative z) = ⊥
+IsNatural (float x) = ⊥
+
+abbrev mutual
+  pub HasUtf8 : Data → Type 0
+  HasUtf8 null = Unit {0}
+  HasUtf8 (boolean b) = Unit {0}
+  HasUtf8 (number n) = IsNatural n
+  HasUtf8 (string s) = IsUtf8 s
+  HasUtf8 (array ds) = ItemsHaveUtf8 ds
+  HasUtf8 (object ms) = MembersHaveUtf8 ms
+
+  pub ItemsHaveUtf8 : Items → Type 0
+  ItemsHaveUtf8 no_items = Unit {0}
+  ItemsHaveUtf8 (item d ds) = HasUtf8 d × ItemsHaveUtf8 ds
+
+  pub MembersHaveUtf8 : Members → Type 0
+  MembersHaveUtf8 no_members = Unit {0}
+  MembersHaveUtf8 (member k d ms) = IsUtf8 k × HasUtf8 d × MembersHaveUtf8 ms
+
+number_utf8 : (n : Num) → IsNatural n → IsUtf8 (compact_text (number n))
+number_utf8 (unsigned n) h = IsUtf8-from_ascii (decimal n) (IsAscii-decimal n h)
+number_utf8 (negative z) h = absurd h
+number_utf8 (float x) h = absurd h
+
+mutual
+  pub data_utf8 : (d : Data) → HasUtf8 d → IsUtf8 (compact_text d)
+  data_utf8 null h = IsUtf8-are_ascii _ refl
+  data_utf8 (boolean b) h = IsUtf8-boolean b
+  data_utf8 (number n) h = number_utf8 n h
+  data_utf8 (string s) h = IsUtf8-quoted s h
+  data_utf8 (array ds) h = ascii_then 91 _ (omega arith) (items_utf8 false ds h)
+  data_utf8 (object ms) h = ascii_then 123 _ (omega arith) (members_utf8 false ms h)
+
+  items_utf8 : (later : Bool) (ds : Items) → ItemsHaveUtf8 ds → IsUtf8 (items_text later ds)
+  items_utf8 later no_items h = IsUtf8-are_ascii (93 ∷ []) refl
+  items_utf8 later (item d ds) h = IsUtf8-append _ _ (comma_utf8 later) (IsUtf8-append _ _ (data_utf8 d h.0) (items_utf8 true ds h.1))
+
+  members_utf8 : (later : Bool) (ms : Members) → MembersHaveUtf8 ms → IsUtf8 (members_text later ms)
+  members_utf8 later no_members h = IsUtf8-are_ascii (125 ∷ []) refl
+  members_utf8 later (member k d ms) h =
+      IsUtf8-append _ _ (comma_utf8 later)
+      (IsUtf8-append _ _ (IsUtf8-quoted k h.0) (ascii_then 58 _ (omega arith) (IsUtf8-append _ _ (data_utf8 d h.1) (members_utf8 true ms h.2))))
+
+-- ---- what is written is read
+
+abbrev whole : Option (json.Json × List Token) → Option Data
+whole o = option_and_then of_json (option_and_then (λ p. json.if_last p.0 p.1) o)
+
+json_read : (d : Data) → tree.HasNumbers (outline d) → tree.depth (outline d) ≤ max_depth → of_json (outline d) ≡ Some d → read (compact_text d) ≡ Some d
+json_read d numbers shallow same =
+    let j : json.Json = outline d in
+    let text : tokens (compact_text d) ≡ tree.json_tokens j = ap tokens (sym (print-outline d)) ∙ tokens-print (tree.json_tokens j) (ArePrintable-json_tokens j numbers) in
+    ap whole (ap (json.value max_depth) (text ∙ sym (append-nil _)) ∙ value-json_tokens j max_depth [] shallow) ∙ same
+
+-- the parts of `data-parsoid`
+abbrev parts : Ranges → List ℕ → List ℕ → Option (List ℕ) → Data
+parts r o c src = object (put_source src (put_text (codes "o") o (put_dsr r (put_text (codes "c") c no_members))))
+
+abbrev AreSmall : Ranges → Type 0
+AreSmall r = (r.start < 2 ^ 64) × (r.end < 2 ^ 64) × (r.open_w < 2 ^ 64) × (r.close_w < 2 ^ 64)
+
+abbrev pub IsUtf8IfAny : Option (List ℕ) → Type 0
+IsUtf8IfAny None = Unit {0}
+IsUtf8IfAny (Some bs) = IsUtf8 bs
+
+parts_utf8 : (r : Ranges) (o c : List ℕ) (src : Option (List ℕ)) → AreSmall r → IsUtf8 o → IsUtf8 c → IsUtf8IfAny src
+    → IsUtf8 (codes "c") → IsUtf8 (codes "dsr") → IsUtf8 (codes "o") → IsUtf8 (codes "src") → HasUtf8 (parts r o c src)
+parts_utf8 r [] [] None n o c s kc kd ko ks = (kd, (n.0, (n.1, (n.2, (n.3, tt)))), tt)
+parts_utf8 r [] [] (Some t) n o c s kc kd ko ks = (kd, (n.0, (n.1, (n.2, (n.3, tt)))), (ks, s, tt))
+parts_utf8 r [] (b ∷ bs) None n o c s kc kd ko ks = (kc, c, (kd, (n.0, (n.1, (n.2, (n.3, tt)))), tt))
+parts_utf8 r [] (b ∷ bs) (Some t) n o c s kc kd ko ks = (kc, c, (kd, (n.0, (n.1, (n.2, (n.3, tt)))), (ks, s, tt)))
+parts_utf8 r (d ∷ ds) [] None n o c s kc kd ko ks = (kd, (n.0, (n.1, (n.2, (n.3, tt)))), (ko, o, tt))
+parts_utf8 r (d ∷ ds) [] (Some t) n o c s kc kd ko ks = (kd, (n.0, (n.1, (n.2, (n.3, tt)))), (ko, o, (ks, s, tt)))
+parts_utf8 r (d ∷ ds) (b ∷ bs) None n o c s kc kd ko ks = (kc, c, (kd, (n.0, (n.1, (n.2, (n.3, tt)))), (ko, o, tt)))
+parts_utf8 r (d ∷ ds) (b ∷ bs) (Some t) n o c s kc kd ko ks = (kc, c, (kd, (n.0, (n.1, (n.2, (n.3, tt)))), (ko, o, (ks, s, tt))))
+
+abbrev AreNumbers : Ranges → Type 0
+AreNumbers r = tree.HasNumbers (json.number (decimal r.start)) × tree.HasNumbers (json.number (decimal r.end)) × tree.HasNumbers (json.number (decimal r.open_w)) × tree.HasNumbers (json.number (decimal r.close_w))
+
+parts_numbers : (r : Ranges) (o c : List ℕ) (src : Option (List ℕ)) → AreNumbers r → tree.HasNumbers (outline (parts r o c src))
+parts_numbers r [] [] None n = ((n.0, (n.1, (n.2, (n.3, tt)))), tt)
+parts_numbers r [] [] (Some t) n = ((n.0, (n.1, (n.2, (n.3, tt)))), (tt, tt))
+parts_numbers r [] (b ∷ bs) None n = (tt, ((n.0, (n.1, (n.2, (n.3, tt)))), tt))
+parts_numbers r [] (b ∷ bs) (Some t) n = (tt, ((n.0, (n.1, (n.2, (n.3, tt)))), (tt, tt)))
+parts_numbers r (d ∷ ds) [] None n = ((n.0, (n.1, (n.2, (n.3, tt)))), (tt, tt))
+parts_numbers r (d ∷ ds) [] (Some t) n = ((n.0, (n.1, (n.2, (n.3, tt)))), (tt, (tt, tt)))
+parts_numbers r (d ∷ ds) (b ∷ bs) None n = (tt, ((n.0, (n.1, (n.2, (n.3, tt)))), (tt, tt)))
+parts_numbers r (d ∷ ds) (b ∷ bs) (Some t) n = (tt, ((n.0, (n.1, (n.2, (n.3, tt)))), (tt, (tt, tt))))
+
+parts_depth : (r : Ranges) (o c : List ℕ) (src : Option (List ℕ)) → tree.depth (outline (parts r o c src)) ≡ 2
+parts_depth r [] [] None = refl
+parts_depth r [] [] (Some t) = refl
+parts_depth r [] (b ∷ bs) None = refl
+parts_depth r [] (b ∷ bs) (Some t) = refl
+parts_depth r (d ∷ ds) [] None = refl
+parts_depth r (d ∷ ds) [] (Some t) = refl
+parts_depth r (d ∷ ds) (b ∷ bs) None = refl
+parts_depth r (d ∷ ds) (b ∷ bs) (Some t) = refl
+
+-- the four numbers are read
+abbrev AreRead : Ranges → Type 0
+AreRead r =
+    (number_of (decimal r.start) ≡ Some (unsigned r.start)) × (number_of (decimal r.end) ≡ Some (unsigned r.end))
+    × (number_of (decimal r.open_w) ≡ Some (unsigned r.open_w)) × (number_of (decimal r.close_w) ≡ Some (unsigned r.close_w))
+
+parts_read : (r : Ranges) (o c : List ℕ) (src : Option (List ℕ)) → AreRead r → of_json (outline (parts r o c src)) ≡ Some (parts r o c src)
+parts_read r [] [] None n = rw (n.0, n.1, n.2, n.3)
+parts_read r [] [] (Some t) n = rw (n.0, n.1, n.2, n.3)
+parts_read r [] (b ∷ bs) None n = rw (n.0, n.1, n.2, n.3)
+parts_read r [] (b ∷ bs) (Some t) n = rw (n.0, n.1, n.2, n.3)
+parts_read r (d ∷ ds) [] None n = rw (n.0, n.1, n.2, n.3)
+parts_read r (d ∷ ds) [] (Some t) n = rw (n.0, n.1, n.2, n.3)
+parts_read r (d ∷ ds) (b ∷ bs) None n = rw (n.0, n.1, n.2, n.3)
+parts_read r (d ∷ ds) (b ∷ bs) (Some t) n = rw (n.0, n.1, n.2, n.3)
+
+are_small : (s : Sync) → IsSmall s → AreSmall s.dsr
+are_small s h = (omega arith, omega arith, omega arith, omega arith)
+
+pub sync_utf8 : (s : Sync) → IsSmall s → IsUtf8 s.opening → IsUtf8 s.closing → IsUtf8IfAny s.src → IsUtf8 (sync_text s)
+unfolding sync_text sync_members
+sync_utf8 s h o c src =
+    data_utf8 (sync_data s)
+    (parts_utf8 s.dsr s.opening s.closing s.src (are_small s h) o c src (IsUtf8-are_ascii (codes "c") refl) (IsUtf8-are_ascii (codes "dsr") refl) (IsUtf8-are_ascii (codes "o") refl)
+    (IsUtf8-are_ascii (codes "src") refl))
+
+pub sync_read : (s : Sync) → IsSmall s → sync_told (sync_text s) ≡ Ok s
+unfolding sync_text sync_told sync_members
+sync_read s h =
+    let n : AreSmall s.dsr = are_small s h in
+    let d : tree.depth (outline (sync_data s)) ≡ 2 = parts_depth s.dsr s.opening s.closing s.src in
+    ap sync_of_json
+    (json_read (sync_data s)
+    (parts_numbers s.dsr s.opening s.closing s.src (IsNumber-decimal _ n.0, IsNumber-decimal _ n.1, IsNumber-decimal _ n.2, IsNumber-decimal _ n.3))
+    (omega arith)
+    (parts_read s.dsr s.opening s.closing s.src (number_of-decimal _ n.0, number_of-decimal _ n.1, number_of-decimal _ n.2, number_of-decimal _ n.3)))
+    ∙ reads_small s h
