@@ -1,8 +1,6 @@
-mod Cases
 pub mod Pieces
 pub mod Json
+pub mod Types
 pub mod Said
-pub mod Labels
-pub mod Elements
-pub mod Fits
-pub mod Whole
+pub mod Numbers
+pub mod Rows
