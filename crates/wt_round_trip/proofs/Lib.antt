@@ -4,3 +4,4 @@ pub mod Types
 pub mod Said
 pub mod Numbers
 pub mod Rows
+pub mod Labels

@@ -1,0 +1,263 @@
+-- What is read of the label of an element: its kind, its number, its places, its source and its data.
+use Rattle.std.proofs.Common.{◌≡◌, ℕ, ◌<◌, ◌^◌, Bool, true, false, Option, Some, None, List, [], ◌∷◌, ◌++◌, map, decimal, IsUtf8, refl, sym, ap, ap₂, ◌∙◌, subst, arith, append_assoc, codes, option_map}
+use Rattle.std.specs.Prelude.{Ok, is_some, not, ◌==◌, ◌&&◌, ◌||◌, if◌then◌else◌}
+use Rattle.std.specs.Str.{bytes_eq}
+use Rattle.std.proofs.lemmas.Bool.{eqb-true}
+use Rattle.std.proofs.lemmas.Bool.Decides.{nat_tests}
+use Rattle.std.proofs.lemmas.Fmt.{IsAscii-decimal}
+use Rattle.std.proofs.lemmas.Str.{IsUtf8-from_ascii, IsUtf8-nil}
+use Rattle.wt_tree.specs.declared.kind.AttrName.{AttrName}
+use Rattle.wt_tree.specs.declared.kind.Kind.{Kind}
+use Rattle.wt_tree.specs.declared.kind.Mark.{Mark}
+use Rattle.wt_tree.specs.declared.kind.Mark.TheVariants as mark
+use Rattle.wt_tree.specs.declared.kind.Ranges.{Ranges}
+use Rattle.wt_tree.specs.declared.node.DataMw.{DataMw}
+use Rattle.wt_tree.specs.declared.node.DataMw.TheVariants as mw
+use Rattle.wt_tree.specs.Kinds.{is_leaf, is_numbered}
+use Rattle.wt_tree.specs.Tree.{Label}
+use Rattle.wt_datamw.specs.declared.sync.Sync.{Sync}
+use Rattle.wt_datamw.specs.Mw.{mw_text}
+use Rattle.wt_datamw.specs.Sync.{sync_text}
+use Rattle.wt_datamw.specs.SyncRead.{sync_told}
+use Rattle.wt_markup.specs.Elements.{writing, element_name}
+use Rattle.wt_markup.specs.Html.{leaf_sync, inner_sync, sync_of}
+use Rattle.wt_html_grammar.specs.Signs.{IsAttributeName}
+use Rattle.wt_html_grammar.specs.Markup.{Pair}
+use Rattle.wt_html_grammar.proofs.Steps.{if_true, if_false}
+use Rattle.wt_fitting.specs.Attributes.{value_of, has, or_zero, id_of_value, id_of, mark_of_value, mark_of}
+use Rattle.wt_fitting.specs.Rows.{row_by, row, shows_text, attrs_for}
+use Rattle.wt_fitting.specs.Data.{Data, is_for, sync_for, some_sync, sync_fits, is_island, extension_data, mw_for, mw_fits, both, data_of, id_for}
+use Rattle.wt_fitting.specs.Fit.{source_of, label_for}
+use Rattle.wt_fitting.specs.Unsourced.{is_marked, is_unsourced}
+use Rattle.wt_round_trip.specs.Written.{label_read, ranges_read, HasPlaces, IsNumber, IsLeafSource, IsInnerSource, HasSource, IsShown, IsUtf8IfAny, IsExtension, HasData, IsElementLabel}
+use Rattle.wt_round_trip.proofs.Json.{ascii_then, sync_utf8, sync_read, extension_utf8, extension_read}
+use Rattle.wt_round_trip.proofs.Said.{Said, double, single, pair_said, kind_said, own_said, id_said, mw_said, sync_said, said, AreGood}
+use Rattle.wt_round_trip.proofs.Numbers.{number_told}
+use Rattle.wt_round_trip.proofs.Rows.{type_said, IsElementKind}
+
+-- ---- the attributes: `typeof`, the number and the data, each where there is one, and the source
+
+abbrev number_said : Bool → ℕ → List Said
+number_said true id = []
+number_said false id = double (codes "id") (109 ∷ 119 ∷ decimal id) ∷ []
+
+abbrev source_said : List ℕ → List Said
+source_said t = single (codes "data-parsoid") t ∷ []
+
+abbrev full : Option (List ℕ) → Bool → ℕ → Option DataMw → List ℕ → List Said
+full o b id d t = type_said o ++ (number_said b id ++ (mw_said d ++ source_said t))
+
+number_is : (id : ℕ) → id_said id ≡ number_said (id == 0) id
+number_is id = by_test (id == 0)
+  where
+    by_test : (b : Bool) → (if b then [] else double (codes "id") (109 ∷ 119 ∷ decimal id) ∷ []) ≡ number_said b id
+    by_test true = refl
+    by_test false = refl
+
+said_full : (l : Label) (r : Ranges) (k : IsElementKind l.kind l.attrs) → l.ranges ≡ Some r → said l ≡ full k.type (l.id == 0) l.id l.mw (sync_text (sync_of l r))
+said_full l r k e =
+    sym (append_assoc (kind_said l.kind) (map own_said l.attrs) _)
+    ∙ ap₂ (λ (x y : List Said). x ++ y) k.said
+    (ap₂ (λ (x y : List Said). x ++ y) (number_is l.id) (ap (λ o. mw_said l.mw ++ sync_said l o) e))
+
+-- ---- they are good
+
+id_utf8 : (id : ℕ) → id < 2 ^ 64 → IsUtf8 (109 ∷ 119 ∷ decimal id)
+id_utf8 id h = ascii_then 109 _ (omega arith) (ascii_then 119 _ (omega arith) (IsUtf8-from_ascii (decimal id) (IsAscii-decimal id h)))
+
+type_name : IsAttributeName (codes "typeof")
+type_name = (refl, (refl, (refl, (refl, (refl, (refl, tt))))))
+
+id_name : IsAttributeName (codes "id")
+id_name = (refl, (refl, tt))
+
+mw_name : IsAttributeName (codes "data-mw")
+mw_name = (refl, (refl, (refl, (refl, (refl, (refl, (refl, tt)))))))
+
+source_name : IsAttributeName (codes "data-parsoid")
+source_name = (refl, (refl, (refl, (refl, (refl, (refl, (refl, (refl, (refl, (refl, (refl, (refl, tt))))))))))))
+
+full_good : (o : Option (List ℕ)) (b : Bool) (id : ℕ) (d : Option DataMw) (t : List ℕ) → IsUtf8IfAny o → IsUtf8 (109 ∷ 119 ∷ decimal id) → IsUtf8IfAny (option_map mw_text d) → IsUtf8 t → AreGood [] (full o b id d t)
+full_good None true id None t o i d u = (source_name, u, refl, tt)
+full_good None true id (Some x) t o i d u = (mw_name, d, refl, (source_name, u, refl, tt))
+full_good None false id None t o i d u = (id_name, i, refl, (source_name, u, refl, tt))
+full_good None false id (Some x) t o i d u = (id_name, i, refl, (mw_name, d, refl, (source_name, u, refl, tt)))
+full_good (Some y) true id None t o i d u = (type_name, o, refl, (source_name, u, refl, tt))
+full_good (Some y) true id (Some x) t o i d u = (type_name, o, refl, (mw_name, d, refl, (source_name, u, refl, tt)))
+full_good (Some y) false id None t o i d u = (type_name, o, refl, (id_name, i, refl, (source_name, u, refl, tt)))
+full_good (Some y) false id (Some x) t o i d u = (type_name, o, refl, (id_name, i, refl, (mw_name, d, refl, (source_name, u, refl, tt))))
+
+-- ---- what they say
+
+abbrev pub pairs : List Said → List Pair
+pairs ss = map pair_said ss
+
+-- the value of the number's attribute
+abbrev number_value : Bool → ℕ → Option (List ℕ)
+number_value true id = None
+number_value false id = Some (109 ∷ 119 ∷ decimal id)
+
+-- the values that attributes have, and none of other names
+record IsSaid (o : Option (List ℕ)) (b : Bool) (n : ℕ) (d : Option DataMw) (t : List ℕ) (ps : List Pair) : Type 0 where
+  pub type : value_of (codes "typeof") ps ≡ o
+  pub id : value_of (codes "id") ps ≡ number_value b n
+  pub mw : value_of (codes "data-mw") ps ≡ option_map mw_text d
+  pub source : value_of (codes "data-parsoid") ps ≡ Some t
+  pub about : value_of (codes "about") ps ≡ None
+  pub rel : value_of (codes "rel") ps ≡ None
+  pub property : value_of (codes "property") ps ≡ None
+  pub edit : value_of (codes "data-wt-edit") ps ≡ None
+
+full_said : (o : Option (List ℕ)) (b : Bool) (n : ℕ) (d : Option DataMw) (t : List ℕ) → IsSaid o b n d t (pairs (full o b n d t))
+full_said None true n None t = record { type = refl; id = refl; mw = refl; source = refl; about = refl; rel = refl; property = refl; edit = refl }
+full_said None true n (Some x) t = record { type = refl; id = refl; mw = refl; source = refl; about = refl; rel = refl; property = refl; edit = refl }
+full_said None false n None t = record { type = refl; id = refl; mw = refl; source = refl; about = refl; rel = refl; property = refl; edit = refl }
+full_said None false n (Some x) t = record { type = refl; id = refl; mw = refl; source = refl; about = refl; rel = refl; property = refl; edit = refl }
+full_said (Some y) true n None t = record { type = refl; id = refl; mw = refl; source = refl; about = refl; rel = refl; property = refl; edit = refl }
+full_said (Some y) true n (Some x) t = record { type = refl; id = refl; mw = refl; source = refl; about = refl; rel = refl; property = refl; edit = refl }
+full_said (Some y) false n None t = record { type = refl; id = refl; mw = refl; source = refl; about = refl; rel = refl; property = refl; edit = refl }
+full_said (Some y) false n (Some x) t = record { type = refl; id = refl; mw = refl; source = refl; about = refl; rel = refl; property = refl; edit = refl }
+
+-- ---- the number
+
+number_said_is : (id : ℕ) → id < 2 ^ 32 → id_of_value (number_value (id == 0) id) ≡ id
+number_said_is id h = by_test (id == 0) refl
+  where
+    some : (id : ℕ) → (id == 0) ≡ false → 0 < id
+    some id e = grind (arith, nat_tests)
+
+    by_test : (b : Bool) → (id == 0) ≡ b → id_of_value (number_value b id) ≡ id
+    by_test true e = sym (eqb-true id 0 e)
+    by_test false e = ap or_zero (number_told id (some id e) h)
+
+small_number : (b : Bool) (n : ℕ) → IsNumber b n → n < 2 ^ 32
+small_number true n h = h.1
+small_number false n h = omega arith
+
+pub small_id : (l : Label) → IsElementLabel l → l.id < 2 ^ 64
+small_id l h = let small : l.id < 2 ^ 32 = small_number _ l.id h.number in omega arith
+
+id_is : (k : Kind) (ps : List Pair) (id : ℕ) → IsNumber (is_numbered k) id → id_of ps ≡ id → id_for k ps ≡ id
+id_is k ps id h e = by_test (is_numbered k) h
+  where
+    by_test : (b : Bool) → IsNumber b id → (if b then id_of ps else 0) ≡ id
+    by_test true h = e
+    by_test false h = sym h
+
+-- ---- the source
+
+-- what the source of a label is written as
+record IsSync (l : Label) (r : Ranges) (s : Sync) : Type 0 where
+  pub places : s.dsr ≡ r
+  pub kind : is_for l.kind s ≡ true
+  pub opening : s.opening ≡ l.opening
+  pub closing : s.closing ≡ l.closing
+  pub own : source_of s.src ≡ l.own
+  pub opening_utf8 : IsUtf8 s.opening
+  pub closing_utf8 : IsUtf8 s.closing
+  pub own_utf8 : IsUtf8IfAny s.src
+
+leaf_is : (l : Label) (r : Ranges) → is_leaf l.kind ≡ true → IsLeafSource l → IsSync l r (leaf_sync l r)
+leaf_is l r e h = record {
+  places = refl;
+  kind = if_true (is_leaf l.kind) _ _ e;
+  opening = sym h.opening;
+  closing = sym h.closing;
+  own = refl;
+  opening_utf8 = IsUtf8-nil;
+  closing_utf8 = IsUtf8-nil;
+  own_utf8 = h.own;
+}
+
+inner_is : (l : Label) (r : Ranges) → is_leaf l.kind ≡ false → IsInnerSource l → IsSync l r (inner_sync l r)
+inner_is l r e h = record {
+  places = refl;
+  kind = if_false (is_leaf l.kind) _ _ e;
+  opening = refl;
+  closing = refl;
+  own = sym h.own;
+  opening_utf8 = h.opening;
+  closing_utf8 = h.closing;
+  own_utf8 = tt;
+}
+
+sync_is : (l : Label) (r : Ranges) → HasSource (is_leaf l.kind) l → IsSync l r (sync_of l r)
+unfolding sync_of
+sync_is l r h = by_test (is_leaf l.kind) refl h
+  where
+    by_test : (b : Bool) → is_leaf l.kind ≡ b → HasSource b l → IsSync l r (if b then leaf_sync l r else inner_sync l r)
+    by_test true e h = leaf_is l r e h
+    by_test false e h = inner_is l r e h
+
+sync_fits_is : (k : Kind) (s : Sync) (t : List ℕ) → sync_told t ≡ Ok s → is_for k s ≡ true → sync_fits k (Some t) ≡ Some (Some s)
+sync_fits_is k s t e f = ap (λ o. some_sync (sync_for k o)) e ∙ ap some_sync (if_true (is_for k s) _ _ f)
+
+-- ---- the data of an extension
+
+mw_utf8 : (b : Bool) (o : Option DataMw) → HasData b o → IsUtf8IfAny (option_map mw_text o)
+mw_utf8 true None h = absurd h
+mw_utf8 true (Some (mw.Parts parts)) h = absurd h
+mw_utf8 true (Some (mw.Extension name body)) h = extension_utf8 name body h.0 h.1
+mw_utf8 false o h = let P : Option DataMw → Type 0 = λ o. IsUtf8IfAny (option_map mw_text o) in subst P (sym h) tt
+
+mw_fits_is : (k : Kind) (o : Option DataMw) → HasData (is_island k) o → mw_fits k (option_map mw_text o) ≡ Some o
+mw_fits_is k o h = by_test (is_island k) refl o h
+  where
+    by_test : (b : Bool) → is_island k ≡ b → (o : Option DataMw) → HasData b o → mw_fits k (option_map mw_text o) ≡ Some o
+    by_test true e None h = absurd h
+    by_test true e (Some (mw.Parts parts)) h = absurd h
+    by_test true e (Some (mw.Extension name body)) h = ap (mw_for k) (extension_read name body) ∙ if_true (is_island k) _ _ e
+    by_test false e o h = ap (λ x. mw_fits k (option_map mw_text x)) h ∙ if_false (is_island k) _ _ e ∙ ap Some (sym h)
+
+-- ---- the whole label
+
+-- what is read of the label's attributes
+pub record IsTold (l : Label) : Type 0 where
+  pub good : AreGood [] (said l)
+  pub row : is_numbered l.kind ≡ true → row (element_name l.kind) (pairs (said l)) ≡ Some l.kind
+  pub sourced : is_unsourced (pairs (said l)) ≡ false
+  pub marked : is_marked (pairs (said l)) ≡ false
+  pub told : Data
+  pub data_is : data_of l.kind (pairs (said l)) ≡ Some told
+  pub label_is : (bs : List ℕ) → (if shows_text l.kind then bs else []) ≡ l.shown → label_for l.kind (pairs (said l)) told bs ≡ label_read l
+
+with_places : (P : Option Ranges → Type 0) → ((r : Ranges) → HasPlaces (Some r) → P (Some r)) → (o : Option Ranges) → HasPlaces o → P o
+with_places P f None h = absurd h
+with_places P f (Some r) h = f r h
+
+abbrev parts_label : Kind → ℕ → Option Ranges → List ℕ → List ℕ → List ℕ → List ℕ → List (AttrName × List ℕ) → Mark → Option DataMw → Label
+parts_label k id r o c w s a m d = record { kind = k; id = id; ranges = r; opening = o; closing = c; own = w; shown = s; attrs = a; mark = m; mw = d }
+
+same_label : (k : Kind) (d : Option DataMw) {i j : ℕ} {q r : Option Ranges} {o p c e w v s t : List ℕ} {a b : List (AttrName × List ℕ)} {m n : Mark}
+    → i ≡ j → q ≡ r → o ≡ p → c ≡ e → w ≡ v → s ≡ t → a ≡ b → m ≡ n
+    → parts_label k i q o c w s a m d ≡ parts_label k j r p e v t b n d
+same_label k d ei eq eo ec ew es ea em = rw (ei, eq, eo, ec, ew, es, ea, em)
+
+row_is : (name : List ℕ) (o : Option (List ℕ)) (ps : List Pair) (k : Kind) → value_of (codes "rel") ps ≡ None → value_of (codes "property") ps ≡ None → value_of (codes "typeof") ps ≡ o → row_by name o ≡ Some k
+    → row name ps ≡ Some k
+row_is name o ps k r p e f =
+    if_false (has (codes "rel") ps || has (codes "property") ps) _ _ (ap₂ (λ x y. is_some x || is_some y) r p) ∙ ap (row_by name) e ∙ f
+
+told_by : (l : Label) (r : Ranges) (s : Sync) (k : IsElementKind l.kind l.attrs) → IsElementLabel l → HasPlaces (Some r) → l.ranges ≡ Some r → IsSync l r s
+    → said l ≡ full k.type (l.id == 0) l.id l.mw (sync_text s) → IsTold l
+told_by l r s k h p e y q =
+    let ps : List Pair = pairs (said l) in
+    let small : l.id < 2 ^ 32 = small_number _ l.id h.number in
+    let v : IsSaid k.type (l.id == 0) l.id l.mw (sync_text s) ps =
+    subst (λ ss. IsSaid k.type (l.id == 0) l.id l.mw (sync_text s) (pairs ss)) (sym q) (full_said k.type (l.id == 0) l.id l.mw (sync_text s)) in
+    let places : HasPlaces (Some s.dsr) = subst (λ x. HasPlaces (Some x)) (sym y.places) p in
+    record {
+      good = subst (AreGood []) (sym q)
+      (full_good k.type (l.id == 0) l.id l.mw (sync_text s) k.characters (id_utf8 l.id (omega arith)) (mw_utf8 _ l.mw h.mw) (sync_utf8 s places y.opening_utf8 y.closing_utf8 y.own_utf8));
+      row = λ n. row_is (element_name l.kind) k.type ps l.kind v.rel v.property v.type (k.row n);
+      sourced = ap₂ (λ x z. not (is_some x) || is_some z) v.source v.edit;
+      marked = ap is_some v.edit;
+      told = record { sync = Some s; mw = l.mw };
+      data_is = if_false (has (codes "about") ps) _ _ (ap is_some v.about)
+      ∙ ap₂ both (ap (sync_fits l.kind) v.source ∙ sync_fits_is l.kind s (sync_text s) (sync_read s places) y.kind) (ap (mw_fits l.kind) v.mw ∙ mw_fits_is l.kind l.mw h.mw);
+      label_is = λ bs f. same_label l.kind l.mw (id_is l.kind ps l.id h.number (ap id_of_value v.id ∙ number_said_is l.id small)) (ap Some y.places ∙ sym e ∙ sym (k.placed l.ranges)) y.opening y.closing y.own f
+      (k.own ps v.type) (ap mark_of_value v.edit ∙ sym h.mark);
+    }
+
+pub told : (l : Label) → IsElementKind l.kind l.attrs → IsElementLabel l → IsTold l
+told l k h = with_places (λ o. l.ranges ≡ o → IsTold l) (λ r p e. told_by l r (sync_of l r) k h p e (sync_is l r h.source) (said_full l r k e)) l.ranges h.places refl
