@@ -5,3 +5,4 @@ pub mod Said
 pub mod Numbers
 pub mod Rows
 pub mod Labels
+pub mod Elements
