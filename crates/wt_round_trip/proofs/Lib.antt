@@ -6,3 +6,4 @@ pub mod Numbers
 pub mod Rows
 pub mod Labels
 pub mod Elements
+pub mod Fits
