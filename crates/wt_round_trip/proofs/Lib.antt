@@ -1,3 +1,4 @@
+mod Cases
 pub mod Pieces
 pub mod Json
 pub mod Types
@@ -7,3 +8,4 @@ pub mod Rows
 pub mod Labels
 pub mod Elements
 pub mod Fits
+pub mod Whole

@@ -1,0 +1,143 @@
+-- The page round the body, and the law.
+use Rattle.std.proofs.Common.{◌≡◌, ℕ, suc, ◌<◌, Bool, true, false, Option, Some, None, Result, List, [], ◌∷◌, ◌++◌, map, flat_map, refl, sym, ap, ap₂, ◌∙◌, subst, append_assoc, append-nil, codes, arith}
+use Rattle.std.specs.Prelude.{Ok, ◌&&◌, if◌then◌else◌}
+use Rattle.std.specs.Str.{bytes_eq}
+use lib.Utf8.{encode}
+use Rattle.wt_tree.specs.declared.kind.Kind.{Kind}
+use Rattle.wt_tree.specs.declared.kind.Kind.TheVariants as kind
+use Rattle.wt_tree.specs.Kinds.{is_leaf}
+use Rattle.wt_tree.specs.Source.{flat, flat_of_all}
+use Rattle.wt_tree.specs.Tree.{Label, Tree, tree, Trees, none as no_trees, more as one_more}
+use Rattle.wt_markup.specs.Elements.{writing, element_name}
+use Rattle.wt_markup.specs.Html.{start_tag, end_tag, written, html, html_of_all, frame_start, frame_end, html_text}
+use Rattle.wt_html_grammar.specs.Grammar.{plain, Attribute, slash, Element, element, void, none, child, spell, IsElement, Document, spell_document, IsDocument, Well}
+use Rattle.wt_html_grammar.specs.Machine.{State, start, run}
+use Rattle.wt_html_grammar.specs.Markup.{Pair, Markup, Markups, node, empty, more, meaning, Stands}
+use Rattle.wt_html_grammar.specs.Events.{Building, built}
+use Rattle.wt_html_grammar.proofs.Steps.{if_true, if_false}
+use Rattle.wt_html_grammar.proofs.Reading.{well_read}
+use Rattle.wt_html_grammar.proofs.Telling.{stands_told}
+use Rattle.wt_fitting.specs.Data.{data_of}
+use Rattle.wt_fitting.specs.Rows.{shows_text}
+use Rattle.wt_fitting.specs.Fit.{Found, texts_in, label_for, fit_nodes, fit_body, body_of, fit}
+use Rattle.wt_fitting.specs.Unsourced.{is_marked, unsourced_nodes, unsourced_body, unsourced}
+use Rattle.wt_fitting.specs.Read.{page, read_fit, read_tree, read_root, read_run, read}
+use Rattle.wt_round_trip.specs.Written.{label_read, unranged, unranged_all, IsShown, IsElementLabel, AllWrittenIn, IsWritten}
+use Rattle.wt_round_trip.proofs.Said.{said}
+use Rattle.wt_round_trip.proofs.Rows.{is_as_void, IsElementKind, body_is_kind}
+use Rattle.wt_round_trip.proofs.Labels.{pairs, IsTold, told, small_id}
+use Rattle.wt_round_trip.proofs.Elements.{element_for, attributes_spelled, element_spelled, items_of, items_spelled, element_good, items_good, node_for, markups_of, element_stands, items_stand}
+use Rattle.wt_round_trip.proofs.Fits.{texts_fit, fit_whole, items_fit, items_sourced}
+
+-- ---- the document
+
+abbrev charset : Attribute
+charset = record { gap = 32 ∷ []; name = codes "charset"; left = []; right = []; quote = 34; value = map plain (codes "utf-8") }
+
+abbrev meta : Element
+meta = void (codes "meta") (charset ∷ []) [] slash
+
+abbrev page_head : Element
+page_head = element (codes "head") [] [] (child meta none) []
+
+abbrev root : Element → Element
+root body = element (codes "html") [] [] (child page_head (child body none)) []
+
+abbrev document : Element → Document
+document body = record { head = record { lead = []; doctype = codes "<!DOCTYPE html>"; gap = [] }; root = root body; end = [] }
+
+document_spelled : (body : Element) → frame_start ++ (spell body ++ frame_end) ≡ spell_document (document body)
+unfolding frame_start frame_end encode
+document_spelled body =
+    let ends : (x : List ℕ) → x ++ codes "</html>" ≡ ((x ++ []) ++ codes "</html>") ++ [] = λ x. sym (append-nil _ ∙ ap (λ y. y ++ codes "</html>") (append-nil x)) in
+    ap (λ x. codes "<!DOCTYPE html><html><head><meta charset=\"utf-8\"/></head>" ++ x) (ends (spell body))
+
+meta_good : IsElement 2 meta
+meta_good = (
+  omega arith,
+  (refl, (refl, (refl, (refl, tt)))),
+  (((refl, tt), (refl, (refl, (refl, (refl, (refl, (refl, (refl, tt))))))), ((refl, refl), ((refl, refl), ((refl, refl), ((refl, refl), ((refl, refl), tt))))), refl, tt, tt), refl, tt),
+  tt,
+  refl,
+)
+
+head_good : IsElement 1 page_head
+head_good = (omega arith, (refl, (refl, (refl, (refl, tt)))), tt, tt, (meta_good, tt), tt, refl)
+
+document_good : (body : Element) → IsElement 1 body → IsDocument (document body)
+document_good body h = ((tt, refl, tt), (omega arith, (refl, (refl, (refl, (refl, tt)))), tt, tt, (head_good, (h, tt)), tt, refl), tt)
+
+-- ---- the tree of elements
+
+abbrev head_markup : Markup
+head_markup = node (codes "head") [] (more (node (codes "meta") ((codes "charset", codes "utf-8") ∷ []) empty) empty)
+
+abbrev page_markup : Markup → Markup
+page_markup body = node (codes "html") [] (more head_markup (more body empty))
+
+document_stands : (body : Element) → meaning (root body) ≡ page_markup (meaning body)
+unfolding encode
+document_stands body = refl
+
+abbrev found : Label → Markups → Found
+found l m = record { number = 4; attributes = pairs (said l); contents = m }
+
+body_found : (l : Label) (m : Markups) → l.kind ≡ kind.Body → body_of (page_markup (node_for l m)) ≡ Some (found l m)
+unfolding element_name
+body_found l m e = if_true (bytes_eq (codes "head") (codes "head") && bytes_eq (element_name l.kind) (codes "body")) _ _ (ap (λ k. bytes_eq (codes "head") (codes "head") && bytes_eq (element_name k) (codes "body")) e)
+
+body_fits : (l : Label) (ts : Trees) → l.kind ≡ kind.Body → IsElementLabel l → IsTold l → AllWrittenIn 2 kind.Body ts → fit (page_markup (node_for l (markups_of ts))) ≡ Ok (unranged (tree l ts))
+body_fits l ts e w t h =
+    let ps : List Pair = pairs (said l) in
+    let m : Markups = markups_of ts in
+    let s : [] ≡ l.shown = sym (subst (λ k. IsShown (shows_text k) l.shown) e w.shown) in
+    ap fit_body (body_found l m e)
+    ∙ fit_whole 4 kind.Body ps t.told m (unranged_all ts) (fit_nodes 5 kind.Body m) (ap (λ k. data_of k ps) (sym e) ∙ t.data_is) (texts_fit ts 2 kind.Body h) (items_fit ts 2 kind.Body 5 refl h)
+    ∙ ap (λ x. Ok (tree x (unranged_all ts)))
+    (ap (λ k. label_for k ps t.told (texts_in m)) (sym e) ∙ t.label_is (texts_in m) (ap (λ k. if shows_text k then texts_in m else []) e ∙ s))
+
+body_sourced : (l : Label) (ts : Trees) → l.kind ≡ kind.Body → IsTold l → AllWrittenIn 2 kind.Body ts → unsourced (page_markup (node_for l (markups_of ts))) ≡ None
+body_sourced l ts e t h =
+    ap unsourced_body (body_found l (markups_of ts) e)
+    ∙ if_false (is_marked (pairs (said l))) _ _ t.marked ∙ items_sourced ts 2 kind.Body 5 h
+
+-- ---- the law
+
+pub written_stands : (t : Tree) → IsWritten t → (m : Markup) × Stands (html_text t) m × (fit m ≡ Ok (unranged t)) × (unsourced m ≡ None)
+unfolding html_text
+written_stands (tree l ts) h =
+    let k : IsElementKind l.kind l.attrs = body_is_kind l h.0 h.1 in
+    let t : IsTold l = told l k h.1 in
+    let e : Element = element_for l (items_of ts) in
+    let same : html (tree l ts) ≡ spell e =
+    ap (λ j. written (writing j) l (html_of_all ts)) h.0
+    ∙ sym (element_spelled l (items_of ts) (html_of_all ts) (attributes_spelled l t (small_id l h.1)) (items_spelled ts 2 kind.Body h.2)) in (
+      page_markup (node_for l (markups_of ts)),
+      (
+        document e,
+        document_good e (element_good l 1 (items_of ts) (omega arith) k (ap (λ j. is_as_void (writing j)) h.0) t (items_good ts 2 kind.Body h.2)),
+        ap (λ x. frame_start ++ (x ++ frame_end)) same ∙ document_spelled e,
+        document_stands e ∙ ap page_markup (element_stands l (items_of ts) (markups_of ts) t (items_stand ts 2 kind.Body [] h.2 tt)),
+      ),
+      body_fits l ts h.0 h.1 t h.2,
+      body_sourced l ts h.0 t h.2,
+    )
+
+-- what stands for a tree of elements that fits is read as its page
+stands_read : (bytes : List ℕ) (m : Markup) (t : Tree) (u : Option ℕ) → Stands bytes m → fit m ≡ Ok t → unsourced m ≡ u → read bytes ≡ page t u
+unfolding read read_tree
+stands_read bytes m t u s f e =
+    ap (read_run bytes) (well_read bytes (s.0, s.1, s.2))
+    ∙ ap (λ (x : Building). read_root bytes x.root) (stands_told bytes m s)
+    ∙ ap₂ read_fit e f
+
+pub written_read : (t : Tree) → IsWritten t → read (html_text t) ≡ page (unranged t) None
+written_read t h = let w = written_stands t h in stands_read (html_text t) w.0 (unranged t) None w.1 w.2 w.3
+
+mutual
+  pub same_source : (t : Tree) → flat (unranged t) ≡ flat t
+  same_source (tree l ts) = ap (λ x. if is_leaf l.kind then l.own else (l.opening ++ x ++ l.closing)) (same_sources ts)
+
+  same_sources : (ts : Trees) → flat_of_all (unranged_all ts) ≡ flat_of_all ts
+  same_sources no_trees = refl
+  same_sources (one_more t ts) = ap₂ (λ (x y : List ℕ). x ++ y) (same_source t) (same_sources ts)
