@@ -1,7 +1,6 @@
 -- What is read of the label of an element: its kind, its number, its places, its source and its data.
 use Rattle.std.proofs.Common.{◌≡◌, ℕ, ◌<◌, ◌^◌, Bool, true, false, Option, Some, None, List, [], ◌∷◌, ◌++◌, map, decimal, IsUtf8, refl, sym, ap, ap₂, ◌∙◌, subst, arith, append_assoc, codes, option_map}
-use Rattle.std.specs.Prelude.{Ok, is_some, not, ◌==◌, ◌&&◌, ◌||◌, if◌then◌else◌}
-use Rattle.std.specs.Str.{bytes_eq}
+use Rattle.std.specs.Prelude.{Ok, is_some, not, ◌==◌, ◌||◌, if◌then◌else◌}
 use Rattle.std.proofs.lemmas.Bool.{eqb-true}
 use Rattle.std.proofs.lemmas.Bool.Decides.{nat_tests}
 use Rattle.std.proofs.lemmas.Fmt.{IsAscii-decimal}
@@ -9,7 +8,6 @@ use Rattle.std.proofs.lemmas.Str.{IsUtf8-from_ascii, IsUtf8-nil}
 use Rattle.wt_tree.specs.declared.kind.AttrName.{AttrName}
 use Rattle.wt_tree.specs.declared.kind.Kind.{Kind}
 use Rattle.wt_tree.specs.declared.kind.Mark.{Mark}
-use Rattle.wt_tree.specs.declared.kind.Mark.TheVariants as mark
 use Rattle.wt_tree.specs.declared.kind.Ranges.{Ranges}
 use Rattle.wt_tree.specs.declared.node.DataMw.{DataMw}
 use Rattle.wt_tree.specs.declared.node.DataMw.TheVariants as mw
@@ -19,17 +17,17 @@ use Rattle.wt_datamw.specs.declared.sync.Sync.{Sync}
 use Rattle.wt_datamw.specs.Mw.{mw_text}
 use Rattle.wt_datamw.specs.Sync.{sync_text}
 use Rattle.wt_datamw.specs.SyncRead.{sync_told}
-use Rattle.wt_markup.specs.Elements.{writing, element_name}
+use Rattle.wt_markup.specs.Elements.{element_name}
 use Rattle.wt_markup.specs.Html.{leaf_sync, inner_sync, sync_of}
 use Rattle.wt_html_grammar.specs.Signs.{IsAttributeName}
 use Rattle.wt_html_grammar.specs.Markup.{Pair}
 use Rattle.wt_html_grammar.proofs.Steps.{if_true, if_false}
-use Rattle.wt_fitting.specs.Attributes.{value_of, has, or_zero, id_of_value, id_of, mark_of_value, mark_of}
-use Rattle.wt_fitting.specs.Rows.{row_by, row, shows_text, attrs_for}
-use Rattle.wt_fitting.specs.Data.{Data, is_for, sync_for, some_sync, sync_fits, is_island, extension_data, mw_for, mw_fits, both, data_of, id_for}
+use Rattle.wt_fitting.specs.Attributes.{value_of, has, or_zero, id_of_value, id_of, mark_of_value}
+use Rattle.wt_fitting.specs.Rows.{row_by, row, shows_text}
+use Rattle.wt_fitting.specs.Data.{Data, is_for, sync_for, some_sync, sync_fits, is_island, mw_for, mw_fits, both, data_of, id_for}
 use Rattle.wt_fitting.specs.Fit.{source_of, label_for}
 use Rattle.wt_fitting.specs.Unsourced.{is_marked, is_unsourced}
-use Rattle.wt_round_trip.specs.Written.{label_read, ranges_read, HasPlaces, IsNumber, IsLeafSource, IsInnerSource, HasSource, IsShown, IsUtf8IfAny, IsExtension, HasData, IsElementLabel}
+use Rattle.wt_round_trip.specs.Written.{label_read, HasPlaces, IsNumber, IsLeafSource, IsInnerSource, HasSource, IsUtf8IfAny, HasData, IsElementLabel}
 use Rattle.wt_round_trip.proofs.Json.{ascii_then, sync_utf8, sync_read, extension_utf8, extension_read}
 use Rattle.wt_round_trip.proofs.Said.{Said, double, single, pair_said, kind_said, own_said, id_said, mw_said, sync_said, said, AreGood}
 use Rattle.wt_round_trip.proofs.Numbers.{number_told}
@@ -248,15 +246,15 @@ told_by l r s k h p e y q =
     let places : HasPlaces (Some s.dsr) = subst (λ x. HasPlaces (Some x)) (sym y.places) p in
     record {
       good = subst (AreGood []) (sym q)
-      (full_good k.type (l.id == 0) l.id l.mw (sync_text s) k.characters (id_utf8 l.id (omega arith)) (mw_utf8 _ l.mw h.mw) (sync_utf8 s places y.opening_utf8 y.closing_utf8 y.own_utf8));
+          (full_good k.type (l.id == 0) l.id l.mw (sync_text s) k.characters (id_utf8 l.id (omega arith)) (mw_utf8 _ l.mw h.mw) (sync_utf8 s places y.opening_utf8 y.closing_utf8 y.own_utf8));
       row = λ n. row_is (element_name l.kind) k.type ps l.kind v.rel v.property v.type (k.row n);
       sourced = ap₂ (λ x z. not (is_some x) || is_some z) v.source v.edit;
       marked = ap is_some v.edit;
       told = record { sync = Some s; mw = l.mw };
       data_is = if_false (has (codes "about") ps) _ _ (ap is_some v.about)
-      ∙ ap₂ both (ap (sync_fits l.kind) v.source ∙ sync_fits_is l.kind s (sync_text s) (sync_read s places) y.kind) (ap (mw_fits l.kind) v.mw ∙ mw_fits_is l.kind l.mw h.mw);
+          ∙ ap₂ both (ap (sync_fits l.kind) v.source ∙ sync_fits_is l.kind s (sync_text s) (sync_read s places) y.kind) (ap (mw_fits l.kind) v.mw ∙ mw_fits_is l.kind l.mw h.mw);
       label_is = λ bs f. same_label l.kind l.mw (id_is l.kind ps l.id h.number (ap id_of_value v.id ∙ number_said_is l.id small)) (ap Some y.places ∙ sym e ∙ sym (k.placed l.ranges)) y.opening y.closing y.own f
-      (k.own ps v.type) (ap mark_of_value v.edit ∙ sym h.mark);
+          (k.own ps v.type) (ap mark_of_value v.edit ∙ sym h.mark);
     }
 
 pub told : (l : Label) → IsElementKind l.kind l.attrs → IsElementLabel l → IsTold l

@@ -1,19 +1,19 @@
 -- Characters as they are spelled: as they are, by a name or by a number.
-use Rattle.std.proofs.Common.{◌≡◌, ℕ, zero, suc, ◌+◌, ◌/◌, ◌%◌, ◌<◌, ◌≤◌, Bool, true, false, cond, nat_lt, List, [], ◌∷◌, ◌++◌, length, map, flat_map, decimal, IsUtf8, chars, inl, inr, refl, sym, ap, ap₂, ◌∙◌, subst, arith, append_assoc, append-nil, codes}
-use Rattle.std.specs.Prelude.{◌==◌, ◌&&◌, not, encode_utf8, if◌then◌else◌}
+use Rattle.std.proofs.Common.{◌≡◌, ℕ, zero, suc, ◌<◌, ◌≤◌, Bool, true, false, nat_lt, List, [], ◌∷◌, ◌++◌, length, map, flat_map, decimal, IsUtf8, chars, inl, inr, refl, sym, ap, ap₂, ◌∙◌, arith, append-nil, codes}
+use Rattle.std.specs.Prelude.{◌==◌, ◌&&◌, encode_utf8, if◌then◌else◌}
 use Rattle.std.specs.Fmt.{digits}
-use Rattle.std.proofs.lemmas.Bool.{eqb-true, ltb-true, ltb-false, and_parts, cases_lt, cases_eq}
+use Rattle.std.proofs.lemmas.Bool.{eqb-true, ltb-true, and_parts, cases_lt, cases_eq}
 use Rattle.std.proofs.lemmas.Bool.Decides.{nat_tests}
 use Rattle.std.proofs.lemmas.Grind.{flat_map-append}
 use Rattle.std.proofs.lemmas.Str.{encode_ascii, encodes-chars, scalars-chars}
-use lib.Utf8.{scalar, scalars, encode, encodes, low_scalar}
+use lib.Utf8.{scalar, scalars, encode, encodes}
 use Rattle.wt_markup.specs.Escapes.{is_control, escape, escape_double, escape_single}
 use Rattle.wt_html_grammar.specs.declared.names.EscapeName.TheVariants.{Amp, Lt, Gt, Quot}
 use Rattle.wt_html_grammar.specs.declared.names.Radix.TheVariants.{Decimal}
-use Rattle.wt_html_grammar.specs.Signs.{is_digit, in_text, in_value, most_digits, is_digit_of, number_from, Each}
+use Rattle.wt_html_grammar.specs.Signs.{is_digit, in_text, in_value, is_digit_of, number_from, Each}
 use Rattle.wt_html_grammar.specs.Grammar.{Piece, plain, named, number, spell_piece, IsPiece, spell_pieces, ArePieces}
 use Rattle.wt_html_grammar.specs.Markup.{unit_of}
-use Rattle.wt_html_grammar.proofs.Steps.{if_true, if_false, if_case}
+use Rattle.wt_html_grammar.proofs.Steps.{if_false, if_case}
 
 -- the piece for a character of a text, of a value in `"` and of a value in `'`
 abbrev pub text_piece : ℕ → Piece
@@ -112,6 +112,7 @@ high_plain c h =
   where
     other : (c d : ℕ) → d < c → (c == d) ≡ false
     other c d h = grind (arith, nat_tests)
+
     no_control : (c : ℕ) → 128 ≤ c → is_control c ≡ false
     no_control c h = grind (arith, nat_tests)
 
@@ -123,6 +124,7 @@ high_same c h =
   where
     other : (c d : ℕ) → d < c → (c == d) ≡ false
     other c d h = grind (arith, nat_tests)
+
     no_control : (c : ℕ) → 128 ≤ c → is_control c ≡ false
     no_control c h = grind (arith, nat_tests)
 

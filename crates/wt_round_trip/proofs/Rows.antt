@@ -1,6 +1,6 @@
 -- The elements that are written: what the kind and the attributes of each tell.
-use Rattle.std.proofs.Common.{◌≡◌, ℕ, zero, suc, ◌<◌, Bool, true, false, nat_le, Option, Some, None, List, [], ◌∷◌, ◌++◌, map, refl, sym, ap, ◌∙◌, subst, arith, codes}
-use Rattle.std.specs.Prelude.{◌&&◌, ◌||◌, IsUtf8}
+use Rattle.std.proofs.Common.{◌≡◌, ℕ, zero, suc, ◌<◌, Bool, true, false, nat_le, Option, Some, None, List, [], ◌∷◌, ◌++◌, map, refl, sym, ap, subst, arith, codes}
+use Rattle.std.specs.Prelude.{◌&&◌, ◌||◌}
 use Rattle.std.specs.Fmt.{digits}
 use Rattle.std.proofs.lemmas.Bool.Decides.{nat_tests}
 use Rattle.json.proofs.Printed.Utf8.{IsUtf8-are_ascii}
@@ -12,13 +12,13 @@ use Rattle.wt_tree.specs.declared.kind.Ranges.{Ranges}
 use Rattle.wt_tree.specs.Kinds.{is_numbered}
 use Rattle.wt_tree.specs.Tree.{Label}
 use Rattle.wt_markup.specs.declared.writing.Writing.{Writing}
-use Rattle.wt_markup.specs.declared.writing.Writing.TheVariants.{AsText, AsVoid, RoundCharacter, RoundChildren, Unwritten}
+use Rattle.wt_markup.specs.declared.writing.Writing.TheVariants.{AsVoid, RoundCharacter}
 use Rattle.wt_markup.specs.Elements.{writing, element_name, attribute_name}
 use Rattle.wt_html_grammar.specs.Signs.{is_void, IsName}
 use Rattle.wt_html_grammar.specs.Markup.{Pair}
 use Rattle.wt_fitting.specs.Attributes.{value_of}
 use Rattle.wt_fitting.specs.Rows.{entity_type, nowiki_type, comment_type, is_extension_type, is_include_type, row_by, is_block, is_inline, is_anywhere, is_entity, may_hold, holds, shows_text, with_type, attrs_for}
-use Rattle.wt_round_trip.specs.Written.{ranges_read, has_level, IsUtf8IfAny, IsTypeof, HasAttributes, IsElementLabel}
+use Rattle.wt_round_trip.specs.Written.{ranges_read, has_level, IsUtf8IfAny, HasAttributes, IsElementLabel}
 use Rattle.wt_round_trip.proofs.Said.{Said, double, kind_said, own_said}
 use Rattle.wt_round_trip.proofs.Types.{extension_utf8, extension_row, include_utf8, include_row}
 

@@ -1,16 +1,14 @@
 -- The attributes of an element as a list: each has a name, says something and stands in a quote.
-use Rattle.std.proofs.Common.{◌≡◌, ℕ, suc, ◌+◌, ◌<◌, ◌≤◌, ◌^◌, Bool, true, false, Option, Some, None, List, [], ◌∷◌, ◌++◌, map, flat_map, decimal, IsUtf8, chars, refl, sym, ap, ap₂, ◌∙◌, arith, append_assoc, append-nil, codes, length, get_or}
+use Rattle.std.proofs.Common.{◌≡◌, ℕ, ◌<◌, ◌≤◌, ◌^◌, Bool, true, false, Option, Some, None, List, [], ◌∷◌, ◌++◌, map, flat_map, decimal, IsUtf8, chars, refl, ap, ap₂, ◌∙◌, arith, append-nil, codes}
 use Rattle.std.specs.Prelude.{◌==◌, if◌then◌else◌}
 use Rattle.std.proofs.lemmas.Bool.Decides.{nat_tests}
 use Rattle.std.proofs.lemmas.Grind.{flat_map-append}
 use Rattle.std.proofs.lemmas.Fmt.{decimal_is_IsNumeral}
 use Rattle.std.specs.Str.Parse.{AllDigits}
-use Rattle.std.specs.Char.{digit_value}
 use Rattle.std.proofs.lemmas.Str.Parse.{digit_from_value}
 use Rattle.wt_tree.specs.declared.kind.Kind.{Kind}
 use Rattle.wt_tree.specs.declared.kind.Kind.TheVariants as kind
 use Rattle.wt_tree.specs.declared.kind.AttrName.{AttrName}
-use Rattle.wt_tree.specs.declared.kind.AttrName.TheVariants as attr
 use Rattle.wt_tree.specs.declared.kind.Ranges.{Ranges}
 use Rattle.wt_tree.specs.declared.node.DataMw.{DataMw}
 use Rattle.wt_tree.specs.Tree.{Label}
@@ -19,10 +17,10 @@ use Rattle.wt_datamw.specs.Mw.{mw_text}
 use Rattle.wt_markup.specs.Elements.{attribute_name, kind_attribute}
 use Rattle.wt_markup.specs.Escapes.{is_control, escape, escape_double, escaped_double, escaped_single}
 use Rattle.wt_markup.specs.Html.{attribute, attributes, id_attribute, mw_attribute, sync_of, sync_start, sync_value, sync_attribute, attributes_of}
-use Rattle.wt_html_grammar.specs.Signs.{in_value, is_among, IsAttributeName}
-use Rattle.wt_html_grammar.specs.Grammar.{Attribute, spell_attribute, spell_attributes, spell_pieces, IsAttribute, AreAttributes}
-use Rattle.wt_html_grammar.specs.Markup.{Pair, unit_of, pair_of}
-use Rattle.wt_html_grammar.proofs.Steps.{if_true, if_false}
+use Rattle.wt_html_grammar.specs.Signs.{is_among, IsAttributeName}
+use Rattle.wt_html_grammar.specs.Grammar.{Attribute, spell_attribute, spell_attributes, IsAttribute, AreAttributes}
+use Rattle.wt_html_grammar.specs.Markup.{Pair, pair_of}
+use Rattle.wt_html_grammar.proofs.Steps.{if_false}
 use Rattle.wt_round_trip.proofs.Pieces.{double_piece, single_piece, spells_double, spells_single, pieces_spelled, pieces_stand, pieces_good}
 
 -- in `"` or in `'`
@@ -102,8 +100,10 @@ digit_plain d l h =
   where
     differ : (c d : ℕ) → d < c → (c == d) ≡ false
     differ c d h = grind (arith, nat_tests)
+
     differ_up : (c d : ℕ) → c < d → (c == d) ≡ false
     differ_up c d h = grind (arith, nat_tests)
+
     no_control : (c : ℕ) → 48 ≤ c → is_control c ≡ false
     no_control c h = grind (arith, nat_tests)
 
@@ -175,7 +175,6 @@ said_pairs before (s ∷ ss) h = ap₂ (λ x y. x ∷ y) (pair_one s h.1) (said_
 good_one : (s : Said) → IsAttributeName (said_name s) → IsUtf8 (said_value s) → IsAttribute (attribute_for s)
 good_one (double n v) h u = ((refl, tt), h, pieces_good _ _ _ spells_double v u, refl, tt, tt)
 good_one (single n v) h u = ((refl, tt), h, pieces_good _ _ _ spells_single v u, refl, tt, tt)
-
 
 pub said_good : (before : List (List ℕ)) (ss : List Said) → AreGood before ss → AreAttributes before (attributes_for ss)
 said_good before [] h = tt

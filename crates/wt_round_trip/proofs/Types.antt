@@ -1,6 +1,6 @@
 -- The values of `typeof`: which element each tells, and that they are UTF-8.
 use Rattle.std.proofs.Common.{◌≡◌, ℕ, Bool, true, false, List, [], ◌∷◌, ◌++◌, length, take, drop, IsUtf8, refl, sym, ap, ◌∙◌, subst, codes}
-use Rattle.std.specs.Prelude.{◌&&◌, ◌||◌, Some, if◌then◌else◌}
+use Rattle.std.specs.Prelude.{◌||◌, Some}
 use Rattle.std.specs.List.{list_any, list_all}
 use Rattle.std.specs.Str.{bytes_eq}
 use Rattle.std.proofs.lemmas.Bool.{and_parts, true≢false}

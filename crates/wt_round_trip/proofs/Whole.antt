@@ -1,28 +1,26 @@
 -- The page round the body, and the law.
-use Rattle.std.proofs.Common.{◌≡◌, ℕ, suc, ◌<◌, Bool, true, false, Option, Some, None, Result, List, [], ◌∷◌, ◌++◌, map, flat_map, refl, sym, ap, ap₂, ◌∙◌, subst, append_assoc, append-nil, codes, arith}
+use Rattle.std.proofs.Common.{◌≡◌, ℕ, Option, Some, None, List, [], ◌∷◌, ◌++◌, map, refl, sym, ap, ap₂, ◌∙◌, subst, append-nil, codes, arith}
 use Rattle.std.specs.Prelude.{Ok, ◌&&◌, if◌then◌else◌}
 use Rattle.std.specs.Str.{bytes_eq}
 use lib.Utf8.{encode}
-use Rattle.wt_tree.specs.declared.kind.Kind.{Kind}
 use Rattle.wt_tree.specs.declared.kind.Kind.TheVariants as kind
 use Rattle.wt_tree.specs.Kinds.{is_leaf}
 use Rattle.wt_tree.specs.Source.{flat, flat_of_all}
 use Rattle.wt_tree.specs.Tree.{Label, Tree, tree, Trees, none as no_trees, more as one_more}
 use Rattle.wt_markup.specs.Elements.{writing, element_name}
-use Rattle.wt_markup.specs.Html.{start_tag, end_tag, written, html, html_of_all, frame_start, frame_end, html_text}
-use Rattle.wt_html_grammar.specs.Grammar.{plain, Attribute, slash, Element, element, void, none, child, spell, IsElement, Document, spell_document, IsDocument, Well}
-use Rattle.wt_html_grammar.specs.Machine.{State, start, run}
+use Rattle.wt_markup.specs.Html.{written, html, html_of_all, frame_start, frame_end, html_text}
+use Rattle.wt_html_grammar.specs.Grammar.{plain, Attribute, slash, Element, element, void, none, child, spell, IsElement, Document, spell_document, IsDocument}
 use Rattle.wt_html_grammar.specs.Markup.{Pair, Markup, Markups, node, empty, more, meaning, Stands}
-use Rattle.wt_html_grammar.specs.Events.{Building, built}
+use Rattle.wt_html_grammar.specs.Events.{Building}
 use Rattle.wt_html_grammar.proofs.Steps.{if_true, if_false}
 use Rattle.wt_html_grammar.proofs.Reading.{well_read}
 use Rattle.wt_html_grammar.proofs.Telling.{stands_told}
 use Rattle.wt_fitting.specs.Data.{data_of}
 use Rattle.wt_fitting.specs.Rows.{shows_text}
 use Rattle.wt_fitting.specs.Fit.{Found, texts_in, label_for, fit_nodes, fit_body, body_of, fit}
-use Rattle.wt_fitting.specs.Unsourced.{is_marked, unsourced_nodes, unsourced_body, unsourced}
+use Rattle.wt_fitting.specs.Unsourced.{is_marked, unsourced_body, unsourced}
 use Rattle.wt_fitting.specs.Read.{page, read_fit, read_tree, read_root, read_run, read}
-use Rattle.wt_round_trip.specs.Written.{label_read, unranged, unranged_all, IsShown, IsElementLabel, AllWrittenIn, IsWritten}
+use Rattle.wt_round_trip.specs.Written.{unranged, unranged_all, IsShown, IsElementLabel, AllWrittenIn, IsWritten}
 use Rattle.wt_round_trip.proofs.Said.{said}
 use Rattle.wt_round_trip.proofs.Rows.{is_as_void, IsElementKind, body_is_kind}
 use Rattle.wt_round_trip.proofs.Labels.{pairs, IsTold, told, small_id}

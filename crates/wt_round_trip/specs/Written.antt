@@ -11,7 +11,7 @@ use Rattle.wt_tree.specs.declared.node.DataMw.TheVariants as mw
 use Rattle.wt_tree.specs.Kinds.{is_leaf, is_numbered}
 use Rattle.wt_tree.specs.Tree.{Label, Tree, tree, Trees, none, more, label}
 use Rattle.wt_markup.specs.declared.writing.Writing.{Writing}
-use Rattle.wt_markup.specs.declared.writing.Writing.TheVariants.{AsText, AsVoid, RoundCharacter, RoundChildren, Unwritten}
+use Rattle.wt_markup.specs.declared.writing.Writing.TheVariants.{AsText, Unwritten}
 use Rattle.wt_markup.specs.Elements.{writing}
 use Rattle.wt_fitting.specs.Data.{is_empty, is_island}
 use Rattle.wt_fitting.specs.Fit.{is_blank}
