@@ -13,9 +13,11 @@ mod line;
 mod page;
 mod refusal;
 mod report;
+mod round_trip;
 mod top;
 mod unbuilt;
 mod write;
 
 pub use laws::{one_meaning, smallest_place, whole_tree};
+pub use round_trip::plain_page_is_read;
 pub use top::run;

@@ -1,5 +1,5 @@
 -- Worked cases by computing: small pages are read as their own trees.
-use Rattle.std.proofs.Common.{◌≡◌, ℕ, Some, None, List, [], ◌∷◌, refl, codes}
+use Rattle.std.proofs.Common.{◌++◌, ◌≡◌, ℕ, Some, None, List, [], ◌∷◌, refl, codes}
 use Rattle.wt_tree.specs.declared.kind.AttrName.TheVariants as attr
 use Rattle.wt_tree.specs.declared.kind.Kind.{Kind}
 use Rattle.wt_tree.specs.declared.kind.Kind.TheVariants as kind
@@ -88,3 +88,27 @@ marks_page = body 19 (more (tree (record (wide kind.Comment 1 0 8 8 0) { own = c
 two_marks : read (html_text marks_page) ≡ page (unranged marks_page) None
 unfolding marks_page read read_tree sync_told sync_of_data is_sync_shape html_text frame_start frame_end start_tag void_tag end_tag attributes_of attribute attribute_name id_attribute mw_attribute sync_of sync_start sync_value sync_attribute element_name kind_attribute sync_text sync_members escape escape_double escape_single serde_json_on_literals digits lib.Utf8.encode comment_type no_include no_include_end only_include only_include_end include_only
 two_marks = refl
+
+-- a heading with its delimiters, a quote among them; characters that are escaped, one of two bytes
+-- and a control; a separator
+abbrev heading_page : Tree
+heading_page =
+    body 17
+    (more (tree (record (blank (kind.Heading 2) 1 0 13) { opening = codes "== "; closing = codes " =='" }) (more (text_leaf 3 9 (codes "<&>" ++ (195 ∷ 169 ∷ 1 ∷ []))) none))
+    (more (tree (record (blank kind.Sep 0 13 15) { own = codes "\n\t" }) none)
+    (more (tree (blank kind.Para 2 15 17) (more (text_leaf 15 17 (codes "\"'")) none)) none)))
+
+heading : read (html_text heading_page) ≡ page (unranged heading_page) None
+unfolding read read_tree sync_told sync_of_data is_sync_shape html_text frame_start frame_end start_tag end_tag attributes_of id_attribute mw_attribute sync_of sync_start sync_value sync_attribute element_name kind_attribute sync_text sync_members escape escape_single serde_json_on_literals digits
+heading = refl
+
+-- two texts next to each other are read as one
+abbrev two_texts : Tree
+two_texts = body 2 (more (tree (blank kind.Para 1 0 2) (more (text_leaf 0 1 (codes "a")) (more (text_leaf 1 2 (codes "b")) none))) none)
+
+abbrev one_text : Tree
+one_text = body 2 (more (tree (blank kind.Para 1 0 2) (more (text_leaf 0 2 (codes "ab")) none)) none)
+
+two_as_one : read (html_text two_texts) ≡ page (unranged one_text) None
+unfolding read read_tree sync_told sync_of_data is_sync_shape html_text frame_start frame_end start_tag end_tag attributes_of id_attribute mw_attribute sync_of sync_start sync_value sync_attribute element_name kind_attribute sync_text sync_members escape escape_single serde_json_on_literals digits
+two_as_one = refl

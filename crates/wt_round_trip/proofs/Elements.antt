@@ -16,7 +16,7 @@ use Rattle.wt_fitting.specs.Rows.{may_hold, shows_text}
 use Rattle.wt_fitting.specs.Data.{is_empty}
 use Rattle.wt_round_trip.specs.Written.{IsShown, IsElementLabel, is_text, is_as_text, begins_with_text, is_childless, NodeIsWritten, WrittenIn, AllWrittenIn}
 use Rattle.wt_round_trip.proofs.Pieces.{text_piece, spells_text, pieces_spelled, pieces_stand, pieces_good}
-use Rattle.wt_round_trip.proofs.Said.{said, said_is, attributes_for, said_spelled, said_pairs, said_good}
+use Rattle.wt_round_trip.proofs.Said.{said_of, said_is, attributes_for, said_spelled, said_pairs, said_good}
 use Rattle.wt_round_trip.proofs.Rows.{is_as_void, is_round_character, IsElementKind, held_kind}
 use Rattle.wt_round_trip.proofs.Labels.{pairs, IsTold, told, small_id}
 
@@ -28,10 +28,10 @@ signs [] items = items
 signs (p ∷ ps) items = sign p (signs ps items)
 
 abbrev pub element_for : Label → Items → Element
-element_for l inside = element (element_name l.kind) (attributes_for (said l)) [] inside []
+element_for l inside = element (element_name l.kind) (attributes_for (said_of l)) [] inside []
 
 abbrev pub void_for : Label → Element
-void_for l = void (element_name l.kind) (attributes_for (said l)) [] slash
+void_for l = void (element_name l.kind) (attributes_for (said_of l)) [] slash
 
 -- a node round what it holds, before what follows it
 abbrev pub placed : Writing → Label → Items → Items → Items
@@ -55,17 +55,17 @@ signs_spelled : (ps : List Piece) (items : Items) → spell_items (signs ps item
 signs_spelled [] items = refl
 signs_spelled (p ∷ ps) items = ap (λ x. spell_piece p ++ x) (signs_spelled ps items) ∙ sym (append_assoc (spell_piece p) (spell_pieces ps) (spell_items items))
 
-pub attributes_spelled : (l : Label) → IsTold l → l.id < 2 ^ 64 → spell_attributes (attributes_for (said l)) ≡ attributes_of l
-attributes_spelled l t h = said_spelled [] (said l) t.good ∙ said_is l h
+pub attributes_spelled : (l : Label) → IsTold l → l.id < 2 ^ 64 → spell_attributes (attributes_for (said_of l)) ≡ attributes_of l
+attributes_spelled l t h = said_spelled [] (said_of l) t.good ∙ said_is l h
 
-pub element_spelled : (l : Label) (inside : Items) (bytes : List ℕ) → spell_attributes (attributes_for (said l)) ≡ attributes_of l → spell_items inside ≡ bytes
+pub element_spelled : (l : Label) (inside : Items) (bytes : List ℕ) → spell_attributes (attributes_for (said_of l)) ≡ attributes_of l → spell_items inside ≡ bytes
     → spell (element_for l inside) ≡ start_tag l ++ (bytes ++ end_tag l)
 unfolding start_tag end_tag
 element_spelled l inside bytes e f =
     let n : List ℕ = element_name l.kind in
     ap₂ (λ (a b : List ℕ). 60 ∷ (n ++ (a ++ (62 ∷ (b ++ (60 ∷ 47 ∷ (n ++ 62 ∷ []))))))) e f ∙ simp append_assoc
 
-pub void_spelled : (l : Label) → spell_attributes (attributes_for (said l)) ≡ attributes_of l → spell (void_for l) ≡ void_tag l
+pub void_spelled : (l : Label) → spell_attributes (attributes_for (said_of l)) ≡ attributes_of l → spell (void_for l) ≡ void_tag l
 unfolding void_tag
 void_spelled l e = ap (λ (a : List ℕ). 60 ∷ (element_name l.kind ++ (a ++ codes "/>"))) e
 
@@ -77,7 +77,7 @@ pub shown_utf8 : (l : Label) → IsElementKind l.kind l.attrs → IsElementLabel
 shown_utf8 l k h e = let f : shows_text l.kind ≡ true = k.shows ∙ ap is_round_character e in subst (λ b. IsShown b l.shown) f h.shown
 
 -- by how the node is written
-held_spelled : (parent : Kind) (l : Label) → may_hold parent l.kind ≡ true → IsElementLabel l → spell_attributes (attributes_for (said l)) ≡ attributes_of l
+held_spelled : (parent : Kind) (l : Label) → may_hold parent l.kind ≡ true → IsElementLabel l → spell_attributes (attributes_for (said_of l)) ≡ attributes_of l
 held_spelled parent l m h = attributes_spelled l (told l (held_kind parent l m h) h) (small_id l h)
 
 spelled_by : (w : Writing) (k : ℕ) (parent : Kind) (l : Label) (childless : Bool) (H : Type 0) (inside : Items) (bytes : List ℕ) (rest : Items) → writing l.kind ≡ w
@@ -107,10 +107,10 @@ signs_good [] k items h i = i
 signs_good (p ∷ ps) k items h i = (h.0, signs_good ps k items h.1 i)
 
 pub element_good : (l : Label) (k : ℕ) (inside : Items) → k < 200 → IsElementKind l.kind l.attrs → is_as_void (writing l.kind) ≡ false → IsTold l → AreItems (suc k) inside → IsElement k (element_for l inside)
-element_good l k inside h e w t i = (h, e.name, said_good [] (said l) t.good, tt, i, tt, e.whole ∙ w)
+element_good l k inside h e w t i = (h, e.name, said_good [] (said_of l) t.good, tt, i, tt, e.whole ∙ w)
 
 void_good : (l : Label) (k : ℕ) → k < 200 → IsElementKind l.kind l.attrs → is_as_void (writing l.kind) ≡ true → IsTold l → IsElement k (void_for l)
-void_good l k h e w t = (h, e.name, said_good [] (said l) t.good, tt, e.whole ∙ w)
+void_good l k h e w t = (h, e.name, said_good [] (said_of l) t.good, tt, e.whole ∙ w)
 
 good_by : (w : Writing) (k : ℕ) (parent : Kind) (l : Label) (childless : Bool) (H : Type 0) (inside rest : Items) → writing l.kind ≡ w
     → NodeIsWritten w k parent l childless H → (H → AreItems (suc k) inside) → AreItems k rest → AreItems k (placed w l inside rest)
@@ -139,7 +139,7 @@ mutual
 -- ---- what they stand for
 
 abbrev pub node_for : Label → Markups → Markup
-node_for l inside = node (element_name l.kind) (pairs (said l)) inside
+node_for l inside = node (element_name l.kind) (pairs (said_of l)) inside
 
 abbrev pub marked_up : Writing → Label → Markups → Markups → Markups
 marked_up AsText l inside rest = more (text l.own) rest
@@ -162,7 +162,7 @@ signs_stand [] run items = ap (λ r. contents r items) (sym (append-nil run))
 signs_stand (p ∷ ps) run items = signs_stand ps (run ++ unit_of p) items ∙ ap (λ r. contents r items) (append_assoc run (unit_of p) (flat_map unit_of ps))
 
 pub element_stands : (l : Label) (inside : Items) (m : Markups) → IsTold l → contents [] inside ≡ m → meaning (element_for l inside) ≡ node_for l m
-element_stands l inside m t e = ap₂ (node (element_name l.kind)) (said_pairs [] (said l) t.good) e
+element_stands l inside m t e = ap₂ (node (element_name l.kind)) (said_pairs [] (said_of l) t.good) e
 
 -- where a run of characters goes before, no text comes next
 abbrev EndsRun : List ℕ → Bool → Type 0
@@ -185,7 +185,7 @@ ends_run [] b e = tt
 ends_run (c ∷ cs) b e = e
 
 void_stands : (l : Label) → IsTold l → meaning (void_for l) ≡ node_for l empty
-void_stands l t = ap (λ ps. node (element_name l.kind) ps empty) (said_pairs [] (said l) t.good)
+void_stands l t = ap (λ ps. node (element_name l.kind) ps empty) (said_pairs [] (said_of l) t.good)
 
 character_stands : (bs : List ℕ) → IsUtf8 bs → contents [] (signs (pieces bs) none) ≡ flush bs empty
 character_stands bs u = signs_stand (pieces bs) [] none ∙ ap (λ r. flush r empty) (pieces_stand _ _ _ spells_text bs u)

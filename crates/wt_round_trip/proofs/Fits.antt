@@ -17,7 +17,7 @@ use Rattle.wt_fitting.specs.Data.{Data, data_of}
 use Rattle.wt_fitting.specs.Fit.{Misfit, leaf_label, text_leaf, sep_leaf, leaf_in, label_for, texts_in, are_blank, onto_told, with_children, one_tree, text_fits, fit_told, fit_as, fit_row, fit_node, fit_nodes}
 use Rattle.wt_fitting.specs.Unsourced.{is_unsourced, unsourced_nodes}
 use Rattle.wt_round_trip.specs.Written.{label_read, unranged, unranged_all, shown_of, leaf_kind, IsTextIn, IsShown, IsElementLabel, is_childless, NodeIsWritten, WrittenIn, AllWrittenIn}
-use Rattle.wt_round_trip.proofs.Said.{said}
+use Rattle.wt_round_trip.proofs.Said.{said_of}
 use Rattle.wt_round_trip.proofs.Rows.{is_as_void, is_round_character, IsElementKind, held_kind, held_numbered}
 use Rattle.wt_round_trip.proofs.Labels.{pairs, IsTold, told}
 use Rattle.wt_round_trip.proofs.Elements.{node_for, marked_up, markup_before, markups_of}
@@ -87,7 +87,7 @@ fit_whole n k ps d m us inside e f i =
 element_fit : (n : ℕ) (parent : Kind) (l : Label) (m : Markups) (us : Trees) → IsTold l → may_hold parent l.kind ≡ true → (if shows_text l.kind then texts_in m else []) ≡ l.shown → text_fits l.kind m ≡ true
     → fit_nodes (suc n) l.kind m ≡ Ok us → fit_node n parent (node_for l m) ≡ Ok (Some (tree (label_read l) us))
 element_fit n parent l m us t h s f i =
-    let ps : List Pair = pairs (said l) in
+    let ps : List Pair = pairs (said_of l) in
     ap (λ o. fit_row n parent o ps m (λ j. fit_nodes (suc n) j m)) (t.row (held_numbered parent l h))
     ∙ if_true (may_hold parent l.kind) _ _ h
     ∙ ap one_tree (fit_whole n l.kind ps t.told m us (fit_nodes (suc n) l.kind m) t.data_is f i)
@@ -193,7 +193,7 @@ element_sourced : (parent : Kind) (l : Label) (m rest : Markups) (n : ℕ) → m
     → unsourced_nodes n (more (node_for l m) rest) ≡ None
 element_sourced parent l m rest n h e i g =
     let t : IsTold l = told l (held_kind parent l h e) e in
-    ap₂ option_or (if_false (is_unsourced (pairs (said l))) _ _ t.sourced ∙ i) (g _)
+    ap₂ option_or (if_false (is_unsourced (pairs (said_of l))) _ _ t.sourced ∙ i) (g _)
 
 sourced_by : (w : Writing) (k : ℕ) (parent : Kind) (l : Label) (childless : Bool) (H : Type 0) (m rest : Markups) (n : ℕ)
     → NodeIsWritten w k parent l childless H → (H → (n : ℕ) → unsourced_nodes n m ≡ None) → ((n : ℕ) → unsourced_nodes n rest ≡ None)

@@ -29,7 +29,7 @@ use Rattle.wt_fitting.specs.Fit.{source_of, label_for}
 use Rattle.wt_fitting.specs.Unsourced.{is_marked, is_unsourced}
 use Rattle.wt_round_trip.specs.Written.{label_read, HasPlaces, IsNumber, IsLeafSource, IsInnerSource, HasSource, IsUtf8IfAny, HasData, IsElementLabel}
 use Rattle.wt_round_trip.proofs.Json.{ascii_then, sync_utf8, sync_read, extension_utf8, extension_read}
-use Rattle.wt_round_trip.proofs.Said.{Said, double, single, pair_said, kind_said, own_said, id_said, mw_said, sync_said, said, AreGood}
+use Rattle.wt_round_trip.proofs.Said.{Said, double, single, pair_said, kind_said, own_said, id_said, mw_said, sync_said, said_of, AreGood}
 use Rattle.wt_round_trip.proofs.Numbers.{number_told}
 use Rattle.wt_round_trip.proofs.Rows.{type_said, IsElementKind}
 
@@ -52,10 +52,10 @@ number_is id = by_test (id == 0)
     by_test true = refl
     by_test false = refl
 
-said_full : (l : Label) (r : Ranges) (k : IsElementKind l.kind l.attrs) → l.ranges ≡ Some r → said l ≡ full k.type (l.id == 0) l.id l.mw (sync_text (sync_of l r))
+said_full : (l : Label) (r : Ranges) (k : IsElementKind l.kind l.attrs) → l.ranges ≡ Some r → said_of l ≡ full k.type (l.id == 0) l.id l.mw (sync_text (sync_of l r))
 said_full l r k e =
     sym (append_assoc (kind_said l.kind) (map own_said l.attrs) _)
-    ∙ ap₂ (λ (x y : List Said). x ++ y) k.said
+    ∙ ap₂ (λ (x y : List Said). x ++ y) k.told
     (ap₂ (λ (x y : List Said). x ++ y) (number_is l.id) (ap (λ o. mw_said l.mw ++ sync_said l o) e))
 
 -- ---- they are good
@@ -211,13 +211,13 @@ mw_fits_is k o h = by_test (is_island k) refl o h
 
 -- what is read of the label's attributes
 pub record IsTold (l : Label) : Type 0 where
-  pub good : AreGood [] (said l)
-  pub row : is_numbered l.kind ≡ true → row (element_name l.kind) (pairs (said l)) ≡ Some l.kind
-  pub sourced : is_unsourced (pairs (said l)) ≡ false
-  pub marked : is_marked (pairs (said l)) ≡ false
+  pub good : AreGood [] (said_of l)
+  pub row : is_numbered l.kind ≡ true → row (element_name l.kind) (pairs (said_of l)) ≡ Some l.kind
+  pub sourced : is_unsourced (pairs (said_of l)) ≡ false
+  pub marked : is_marked (pairs (said_of l)) ≡ false
   pub told : Data
-  pub data_is : data_of l.kind (pairs (said l)) ≡ Some told
-  pub label_is : (bs : List ℕ) → (if shows_text l.kind then bs else []) ≡ l.shown → label_for l.kind (pairs (said l)) told bs ≡ label_read l
+  pub data_is : data_of l.kind (pairs (said_of l)) ≡ Some told
+  pub label_is : (bs : List ℕ) → (if shows_text l.kind then bs else []) ≡ l.shown → label_for l.kind (pairs (said_of l)) told bs ≡ label_read l
 
 with_places : (P : Option Ranges → Type 0) → ((r : Ranges) → HasPlaces (Some r) → P (Some r)) → (o : Option Ranges) → HasPlaces o → P o
 with_places P f None h = absurd h
@@ -237,9 +237,9 @@ row_is name o ps k r p e f =
     if_false (has (codes "rel") ps || has (codes "property") ps) _ _ (ap₂ (λ x y. is_some x || is_some y) r p) ∙ ap (row_by name) e ∙ f
 
 told_by : (l : Label) (r : Ranges) (s : Sync) (k : IsElementKind l.kind l.attrs) → IsElementLabel l → HasPlaces (Some r) → l.ranges ≡ Some r → IsSync l r s
-    → said l ≡ full k.type (l.id == 0) l.id l.mw (sync_text s) → IsTold l
+    → said_of l ≡ full k.type (l.id == 0) l.id l.mw (sync_text s) → IsTold l
 told_by l r s k h p e y q =
-    let ps : List Pair = pairs (said l) in
+    let ps : List Pair = pairs (said_of l) in
     let small : l.id < 2 ^ 32 = small_number _ l.id h.number in
     let v : IsSaid k.type (l.id == 0) l.id l.mw (sync_text s) ps =
     subst (λ ss. IsSaid k.type (l.id == 0) l.id l.mw (sync_text s) (pairs ss)) (sym q) (full_said k.type (l.id == 0) l.id l.mw (sync_text s)) in

@@ -9,3 +9,4 @@ pub mod Labels
 pub mod Elements
 pub mod Fits
 pub mod Whole
+pub mod Again

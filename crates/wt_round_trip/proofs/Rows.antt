@@ -42,7 +42,7 @@ pub record IsElementKind (k : Kind) (xs : List (AttrName × List ℕ)) : Type 0 
   pub placed : (r : Option Ranges) → ranges_read (writing k) r ≡ r
   pub shows : shows_text k ≡ is_round_character (writing k)
   pub type : Option (List ℕ)
-  pub said : kind_said k ++ map own_said xs ≡ type_said type
+  pub told : kind_said k ++ map own_said xs ≡ type_said type
   pub characters : IsUtf8IfAny type
   pub row : is_numbered k ≡ true → row_by (element_name k) type ≡ Some k
   pub own : (ps : List Pair) → value_of (codes "typeof") ps ≡ type → attrs_for k ps ≡ xs
@@ -55,7 +55,7 @@ body_kind = record {
   placed = λ r. refl;
   shows = refl;
   type = None;
-  said = refl;
+  told = refl;
   characters = tt;
   row = λ h. cc;
   own = λ ps e. refl;
@@ -63,7 +63,7 @@ body_kind = record {
 
 para_kind : IsElementKind kind.Para []
 unfolding element_name
-para_kind = record { name = (refl, tt); whole = refl; placed = λ r. refl; shows = refl; type = None; said = refl; characters = tt; row = λ h. refl; own = λ ps e. refl }
+para_kind = record { name = (refl, tt); whole = refl; placed = λ r. refl; shows = refl; type = None; told = refl; characters = tt; row = λ h. refl; own = λ ps e. refl }
 
 level_cases : (P : ℕ → Type 0) → P 1 → P 2 → P 3 → P 4 → P 5 → P 6 → (n : ℕ) → (nat_le 1 n && nat_le n 6) ≡ true → P n
 level_cases P a b c d e f zero h = absurd cc
@@ -97,7 +97,7 @@ heading_name = level_cases IsHeadingName
 heading_kind : (n : ℕ) → (nat_le 1 n && nat_le n 6) ≡ true → IsElementKind (kind.Heading n) []
 heading_kind n h =
     let q = heading_name n h in
-    record { name = q.name; whole = q.whole; placed = λ r. refl; shows = refl; type = None; said = refl; characters = tt; row = λ h. q.row; own = λ ps e. refl }
+    record { name = q.name; whole = q.whole; placed = λ r. refl; shows = refl; type = None; told = refl; characters = tt; row = λ h. q.row; own = λ ps e. refl }
 
 -- ---- `span` and `meta`
 
@@ -115,7 +115,7 @@ entity_kind = record {
   placed = λ r. refl;
   shows = refl;
   type = Some entity_type;
-  said = refl;
+  told = refl;
   characters = IsUtf8-are_ascii entity_type refl;
   row = λ h. refl;
   own = λ ps e. refl;
@@ -129,7 +129,7 @@ nowiki_kind = record {
   placed = λ r. refl;
   shows = refl;
   type = Some nowiki_type;
-  said = refl;
+  told = refl;
   characters = IsUtf8-are_ascii nowiki_type refl;
   row = λ h. refl;
   own = λ ps e. refl;
@@ -143,7 +143,7 @@ comment_kind = record {
   placed = λ r. refl;
   shows = refl;
   type = Some comment_type;
-  said = refl;
+  told = refl;
   characters = IsUtf8-are_ascii comment_type refl;
   row = λ h. refl;
   own = λ ps e. refl;
@@ -157,7 +157,7 @@ island_kind t h = record {
   placed = λ r. refl;
   shows = refl;
   type = Some t;
-  said = refl;
+  told = refl;
   characters = extension_utf8 t h;
   row = λ _. extension_row t h;
   own = λ ps e. ap with_type e;
@@ -171,7 +171,7 @@ include_kind t h = record {
   placed = λ r. refl;
   shows = refl;
   type = Some t;
-  said = refl;
+  told = refl;
   characters = include_utf8 t h;
   row = λ _. include_row t h;
   own = λ ps e. ap with_type e;

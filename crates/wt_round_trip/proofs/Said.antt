@@ -71,8 +71,8 @@ abbrev pub sync_said : Label → Option Ranges → List Said
 sync_said l None = []
 sync_said l (Some r) = single (codes "data-parsoid") (sync_text (sync_of l r)) ∷ []
 
-abbrev pub said : Label → List Said
-said l = kind_said l.kind ++ (map own_said l.attrs ++ (id_said l.id ++ (mw_said l.mw ++ sync_said l l.ranges)))
+abbrev pub said_of : Label → List Said
+said_of l = kind_said l.kind ++ (map own_said l.attrs ++ (id_said l.id ++ (mw_said l.mw ++ sync_said l l.ranges)))
 
 -- ---- they are spelled as they are written
 
@@ -130,7 +130,7 @@ unfolding sync_attribute sync_value sync_start
 sync_said_text l None = refl
 sync_said_text l (Some r) = append-nil _
 
-pub said_is : (l : Label) → l.id < 2 ^ 64 → flat_map said_text (said l) ≡ attributes_of l
+pub said_is : (l : Label) → l.id < 2 ^ 64 → flat_map said_text (said_of l) ≡ attributes_of l
 unfolding attributes_of
 said_is l h =
     flat_map-append said_text (kind_said l.kind) _

@@ -4,9 +4,7 @@ use Rattle.std.specs.Prelude.{Ok, ◌&&◌, if◌then◌else◌}
 use Rattle.std.specs.Str.{bytes_eq}
 use lib.Utf8.{encode}
 use Rattle.wt_tree.specs.declared.kind.Kind.TheVariants as kind
-use Rattle.wt_tree.specs.Kinds.{is_leaf}
-use Rattle.wt_tree.specs.Source.{flat, flat_of_all}
-use Rattle.wt_tree.specs.Tree.{Label, Tree, tree, Trees, none as no_trees, more as one_more}
+use Rattle.wt_tree.specs.Tree.{Label, Tree, tree, Trees}
 use Rattle.wt_markup.specs.Elements.{writing, element_name}
 use Rattle.wt_markup.specs.Html.{written, html, html_of_all, frame_start, frame_end, html_text}
 use Rattle.wt_html_grammar.specs.Grammar.{plain, Attribute, slash, Element, element, void, none, child, spell, IsElement, Document, spell_document, IsDocument}
@@ -21,7 +19,7 @@ use Rattle.wt_fitting.specs.Fit.{Found, texts_in, label_for, fit_nodes, fit_body
 use Rattle.wt_fitting.specs.Unsourced.{is_marked, unsourced_body, unsourced}
 use Rattle.wt_fitting.specs.Read.{page, read_fit, read_tree, read_root, read_run, read}
 use Rattle.wt_round_trip.specs.Written.{unranged, unranged_all, IsShown, IsElementLabel, AllWrittenIn, IsWritten}
-use Rattle.wt_round_trip.proofs.Said.{said}
+use Rattle.wt_round_trip.proofs.Said.{said_of}
 use Rattle.wt_round_trip.proofs.Rows.{is_as_void, IsElementKind, body_is_kind}
 use Rattle.wt_round_trip.proofs.Labels.{pairs, IsTold, told, small_id}
 use Rattle.wt_round_trip.proofs.Elements.{element_for, attributes_spelled, element_spelled, items_of, items_spelled, element_good, items_good, node_for, markups_of, element_stands, items_stand}
@@ -78,7 +76,7 @@ unfolding encode
 document_stands body = refl
 
 abbrev found : Label → Markups → Found
-found l m = record { number = 4; attributes = pairs (said l); contents = m }
+found l m = record { number = 4; attributes = pairs (said_of l); contents = m }
 
 body_found : (l : Label) (m : Markups) → l.kind ≡ kind.Body → body_of (page_markup (node_for l m)) ≡ Some (found l m)
 unfolding element_name
@@ -86,7 +84,7 @@ body_found l m e = if_true (bytes_eq (codes "head") (codes "head") && bytes_eq (
 
 body_fits : (l : Label) (ts : Trees) → l.kind ≡ kind.Body → IsElementLabel l → IsTold l → AllWrittenIn 2 kind.Body ts → fit (page_markup (node_for l (markups_of ts))) ≡ Ok (unranged (tree l ts))
 body_fits l ts e w t h =
-    let ps : List Pair = pairs (said l) in
+    let ps : List Pair = pairs (said_of l) in
     let m : Markups = markups_of ts in
     let s : [] ≡ l.shown = sym (subst (λ k. IsShown (shows_text k) l.shown) e w.shown) in
     ap fit_body (body_found l m e)
@@ -97,7 +95,7 @@ body_fits l ts e w t h =
 body_sourced : (l : Label) (ts : Trees) → l.kind ≡ kind.Body → IsTold l → AllWrittenIn 2 kind.Body ts → unsourced (page_markup (node_for l (markups_of ts))) ≡ None
 body_sourced l ts e t h =
     ap unsourced_body (body_found l (markups_of ts) e)
-    ∙ if_false (is_marked (pairs (said l))) _ _ t.marked ∙ items_sourced ts 2 kind.Body 5 h
+    ∙ if_false (is_marked (pairs (said_of l))) _ _ t.marked ∙ items_sourced ts 2 kind.Body 5 h
 
 -- ---- the law
 
@@ -131,11 +129,3 @@ stands_read bytes m t u s f e =
 
 pub written_read : (t : Tree) → IsWritten t → read (html_text t) ≡ page (unranged t) None
 written_read t h = let w = written_stands t h in stands_read (html_text t) w.0 (unranged t) None w.1 w.2 w.3
-
-mutual
-  pub same_source : (t : Tree) → flat (unranged t) ≡ flat t
-  same_source (tree l ts) = ap (λ x. if is_leaf l.kind then l.own else (l.opening ++ x ++ l.closing)) (same_sources ts)
-
-  same_sources : (ts : Trees) → flat_of_all (unranged_all ts) ≡ flat_of_all ts
-  same_sources no_trees = refl
-  same_sources (one_more t ts) = ap₂ (λ (x y : List ℕ). x ++ y) (same_source t) (same_sources ts)

@@ -1,6 +1,8 @@
 ghost use Rattle.std.specs.Prelude.{◌≡◌, Ok, None};
 ghost use Rattle.wt_tree.specs.Tree.{Tree};
 ghost use Rattle.wt_tree.specs.Source.{flat};
+ghost use Rattle.wt_tree.specs.Plain.{plain};
+ghost use Rattle.wt_tree.specs.Tiling.{ids};
 ghost use Rattle.wt_markup.specs.Html.{html_text};
 ghost use Rattle.wt_html_grammar.specs.Markup.{Markup, Stands};
 ghost use Rattle.wt_fitting.specs.Fit.{fit};
@@ -15,4 +17,12 @@ pub fn written_is_read()
     ensures stands { (t : Tree) → IsWritten t → (m : Markup) × Stands (html_text t) m × (fit m ≡ Ok (unranged t)) × (unsourced m ≡ None) }
     ensures read { (t : Tree) → IsWritten t → read (html_text t) ≡ page (unranged t) None }
     ensures source { (t : Tree) → flat (unranged t) ≡ flat t }
+{}
+
+/// The tree that is read, which has no ranges of texts and separators, is written with the same
+/// bytes as the tree with them. It shows the same, and has the same numbers.
+pub fn without_ranges()
+    ensures written { (t : Tree) → html_text (unranged t) ≡ html_text t }
+    ensures shown { (t : Tree) → plain (unranged t) ≡ plain t }
+    ensures numbers { (t : Tree) → ids (unranged t) ≡ ids t }
 {}

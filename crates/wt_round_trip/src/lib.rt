@@ -1,6 +1,6 @@
-//! The law that joins writing and reading: the HTML that is written for a tree is read as that tree.
+//! The laws that join writing and reading: the HTML that is written for a tree is read as that tree.
 #![tactic(auto)]
 
 mod laws;
 
-pub use laws::written_is_read;
+pub use laws::{without_ranges, written_is_read};

@@ -1,4 +1,5 @@
-use Rattle.wt_round_trip.proofs.Whole.{written_stands, written_read, same_source}
+use Rattle.wt_round_trip.proofs.Whole.{written_stands, written_read}
+use Rattle.wt_round_trip.proofs.Again.{same_source}
 use Rattle.wt_round_trip.proofs.laws.written_is_read.Goals as goal
 
 pub returns : goal.returns

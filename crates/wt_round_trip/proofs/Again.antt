@@ -1,0 +1,68 @@
+-- The tree that is read is written as it was, shows the same, and has the same source and numbers.
+use Rattle.std.proofs.Common.{◌≡◌, ℕ, List, ◌∷◌, ◌++◌, refl, ap, ap₂, ◌∙◌}
+use Rattle.std.specs.Prelude.{if◌then◌else◌}
+use Rattle.wt_tree.specs.declared.kind.Showing.{Showing}
+use Rattle.wt_tree.specs.declared.kind.Showing.TheVariants.{Characters, Inside, Nothing, Element}
+use Rattle.wt_tree.specs.Kinds.{is_leaf, showing}
+use Rattle.wt_tree.specs.Tree.{Label, Tree, tree, Trees, none as no_trees, more as one_more}
+use Rattle.wt_tree.specs.Source.{flat, flat_of_all}
+use Rattle.wt_tree.specs.Plain.{Plains, ended, along, element, face, text_before, shown_before, plain_before, plains_before, plain}
+use Rattle.wt_tree.specs.Tiling.{ids, ids_of_all}
+use Rattle.wt_markup.specs.declared.writing.Writing.{Writing}
+use Rattle.wt_markup.specs.declared.writing.Writing.TheVariants.{AsText, AsVoid, RoundCharacter, RoundChildren, Unwritten}
+use Rattle.wt_markup.specs.Elements.{writing}
+use Rattle.wt_markup.specs.Html.{written, html, html_of_all, frame_start, frame_end, html_text}
+use Rattle.wt_round_trip.specs.Written.{ranges_read, label_read, unranged, unranged_all}
+
+mutual
+  pub same_source : (t : Tree) → flat (unranged t) ≡ flat t
+  same_source (tree l ts) = ap (λ x. if is_leaf l.kind then l.own else (l.opening ++ x ++ l.closing)) (same_sources ts)
+
+  same_sources : (ts : Trees) → flat_of_all (unranged_all ts) ≡ flat_of_all ts
+  same_sources no_trees = refl
+  same_sources (one_more t ts) = ap₂ (λ (x y : List ℕ). x ++ y) (same_source t) (same_sources ts)
+
+-- the ranges of a text aren't written
+same_label : (w : Writing) (l : Label) (inside : List ℕ) → written w (record (l) { ranges = ranges_read w l.ranges }) inside ≡ written w l inside
+same_label AsText l inside = refl
+same_label AsVoid l inside = refl
+same_label RoundCharacter l inside = refl
+same_label RoundChildren l inside = refl
+same_label Unwritten l inside = refl
+
+mutual
+  same_html : (t : Tree) → html (unranged t) ≡ html t
+  same_html (tree l ts) = same_label (writing l.kind) l (html_of_all (unranged_all ts)) ∙ ap (written (writing l.kind) l) (same_html_all ts)
+
+  same_html_all : (ts : Trees) → html_of_all (unranged_all ts) ≡ html_of_all ts
+  same_html_all no_trees = refl
+  same_html_all (one_more t ts) = ap₂ (λ (x y : List ℕ). x ++ y) (same_html t) (same_html_all ts)
+
+pub written_again : (t : Tree) → html_text (unranged t) ≡ html_text t
+unfolding html_text
+written_again t = ap (λ x. frame_start ++ (x ++ frame_end)) (same_html t)
+
+same_shown : (s : Showing) (l m : Label) (f g : Plains → Plains) (rest : Plains) → l.shown ≡ m.shown → face l ≡ face m → ((ps : Plains) → f ps ≡ g ps) → shown_before s l f rest ≡ shown_before s m g rest
+same_shown Characters l m f g rest e d h = ap (λ bs. text_before bs rest) e
+same_shown Inside l m f g rest e d h = h rest
+same_shown Nothing l m f g rest e d h = refl
+same_shown Element l m f g rest e d h = ap₂ (λ x ps. along (element x ps) rest) d (h ended)
+
+mutual
+  same_before : (t : Tree) (rest : Plains) → plain_before (unranged t) rest ≡ plain_before t rest
+  same_before (tree l ts) rest = same_shown (showing l.kind) (label_read l) l (λ ps. plains_before (unranged_all ts) ps) (λ ps. plains_before ts ps) rest refl refl (λ ps. same_all_before ts ps)
+
+  same_all_before : (ts : Trees) (rest : Plains) → plains_before (unranged_all ts) rest ≡ plains_before ts rest
+  same_all_before no_trees rest = refl
+  same_all_before (one_more t ts) rest = ap (plain_before (unranged t)) (same_all_before ts rest) ∙ same_before t (plains_before ts rest)
+
+pub same_plain : (t : Tree) → plain (unranged t) ≡ plain t
+same_plain t = same_before t ended
+
+mutual
+  pub same_numbers : (t : Tree) → ids (unranged t) ≡ ids t
+  same_numbers (tree l ts) = ap (λ x. l.id ∷ x) (same_all_numbers ts)
+
+  same_all_numbers : (ts : Trees) → ids_of_all (unranged_all ts) ≡ ids_of_all ts
+  same_all_numbers no_trees = refl
+  same_all_numbers (one_more t ts) = ap₂ (λ (x y : List ℕ). x ++ y) (same_numbers t) (same_all_numbers ts)
