@@ -1,8 +1,8 @@
 -- Characters of several bytes that stand at the front of bytes, whole or begun.
-use Rattle.std.proofs.Common.{◌≡◌, ℕ, zero, suc, ◌+◌, ◌<◌, ◌≤◌, Bool, true, false, Option, Some, None, List, [], ◌∷◌, ◌++◌, length, take, refl, sym, ap, ◌∙◌, subst, arith}
+use Rattle.std.proofs.Common.{◌≡◌, ℕ, zero, suc, ◌<◌, ◌≤◌, Bool, true, false, Option, Some, None, List, [], ◌∷◌, ◌++◌, length, take, refl, sym, ap, ◌∙◌, arith}
 use Rattle.std.specs.Prelude.{if◌then◌else◌, ◌==◌}
 use Rattle.std.proofs.lemmas.Bool.Decides.{nat_tests}
-use Rattle.wt_html_grammar.specs.Signs.{Follow, follow, between, IsFollow, Follows}
+use Rattle.wt_html_grammar.specs.Signs.{Follow, follow, between, IsFollow}
 use Rattle.wt_html_grammar.proofs.Steps.{if_true, if_case}
 use Rattle.wt_utf8.specs.Begun.{following_len}
 

@@ -1,5 +1,5 @@
 -- How much of a character stands at the front of bytes.
-use Rattle.std.specs.Prelude.{ℕ, zero, suc, ◌+◌, Option, Some, None, List, [], ◌∷◌, if◌then◌else◌}
+use Rattle.std.specs.Prelude.{ℕ, zero, suc, Option, Some, None, List, [], ◌∷◌, if◌then◌else◌}
 use Rattle.wt_html_grammar.specs.Signs.{Follow, follow, between}
 use Rattle.wt_utf8.specs.declared.character.Following.{Following}
 
