@@ -20,4 +20,5 @@ pub use entity::entity_at;
 pub use laws::{one_reading, whole_forms};
 pub use lexeme::Lexeme;
 pub use scan::lex;
+pub use tag::{ReadTag, closing_tag, is_same_name, opening_tag};
 pub use wt_span::{LexKind, Mode};
