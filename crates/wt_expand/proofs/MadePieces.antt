@@ -115,7 +115,7 @@ raw_is form.EmptyCall bs h = absurd h
 raw_whole : (bs : List ℕ) → IsRawTag is_nowiki bs ⊎ IsRawTag is_extension bs → IsWhole (raw_form bs) bs
 raw_whole bs h = raw_is (raw_form bs) bs (raw_any (opening_tag bs) bs h)
 
-word_whole : (after : Bool) (kind : LexKind) (n : ℕ) (bs : List ℕ) → 0 < n → n ≤ length bs → Stands Page after kind n bs → IsWhole (form_of kind (take n bs)) (take n bs)
+pub word_whole : (after : Bool) (kind : LexKind) (n : ℕ) (bs : List ℕ) → 0 < n → n ≤ length bs → Stands Page after kind n bs → IsWhole (form_of kind (take n bs)) (take n bs)
 word_whole after lex.Chars n bs some le s = omega (arith, length-take n bs)
 word_whole after lex.CommentLine n bs some le s = form_whole after lex.CommentLine n bs s
 word_whole after lex.Comment n bs some le s = form_whole after lex.Comment n bs s

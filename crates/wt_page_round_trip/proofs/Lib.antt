@@ -1,0 +1,3 @@
+pub mod TextItems
+pub mod OfPage
+pub mod Parts
