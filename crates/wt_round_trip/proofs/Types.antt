@@ -45,7 +45,7 @@ extensions =
     codes "ref" ∷ codes "references" ∷ codes "gallery" ∷ codes "math" ∷ codes "pre" ∷ codes "poem"
     ∷ codes "syntaxhighlight" ∷ codes "source" ∷ codes "score" ∷ codes "timeline" ∷ codes "imagemap" ∷ codes "templatestyles" ∷ []
 
-extension_ascii : (name : List ℕ) → is_extension name ≡ true → are_ascii name ≡ true
+pub extension_ascii : (name : List ℕ) → is_extension name ≡ true → are_ascii name ≡ true
 unfolding is_extension
 extension_ascii name h = ascii_among name extensions h refl
 
