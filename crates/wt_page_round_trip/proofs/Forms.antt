@@ -112,7 +112,7 @@ entity_node k parent c bs small e h = record {
 
 -- ---- comments and include tags, which may stand anywhere
 
-or_right : (b : Bool) → (b || true) ≡ true
+pub or_right : (b : Bool) → (b || true) ≡ true
 or_right true = refl
 or_right false = refl
 
@@ -224,7 +224,7 @@ tag_place bs (Some t) e u = tag_border bs t u e
 opening_place : (bs : List ℕ) → IsUtf8 bs → IsCharBoundary bs (opening_len bs)
 opening_place bs u = tag_place bs (opening_tag bs) refl u
 
-opening_utf8 : (bs : List ℕ) → IsUtf8 bs → IsUtf8 (opening_of bs)
+pub opening_utf8 : (bs : List ℕ) → IsUtf8 bs → IsUtf8 (opening_of bs)
 opening_utf8 bs u = IsUtf8-take bs (opening_len bs) u (opening_place bs u)
 
 behind_utf8 : (bs : List ℕ) → IsUtf8 bs → IsUtf8 (behind bs)
@@ -250,10 +250,10 @@ before_sign name (b ∷ bs) h = by_test (is_some (len_if_named name (closing_tag
 inside_place : (bs : List ℕ) → IsCharBoundary (behind bs) (inside_len bs)
 inside_place bs = sign_border (behind bs) (inside_len bs) (before_le (name_of (opening_tag bs)) (behind bs)) (before_sign (name_of (opening_tag bs)) (behind bs))
 
-inside_utf8 : (bs : List ℕ) → IsUtf8 bs → IsUtf8 (inside_of bs)
+pub inside_utf8 : (bs : List ℕ) → IsUtf8 bs → IsUtf8 (inside_of bs)
 inside_utf8 bs u = IsUtf8-take (behind bs) (inside_len bs) (behind_utf8 bs u) (inside_place bs)
 
-closing_utf8 : (bs : List ℕ) → IsUtf8 bs → IsUtf8 (closing_of bs)
+pub closing_utf8 : (bs : List ℕ) → IsUtf8 bs → IsUtf8 (closing_of bs)
 closing_utf8 bs u = IsUtf8-drop (behind bs) (inside_len bs) (behind_utf8 bs u) (inside_place bs)
 
 -- ---- extensions
@@ -273,7 +273,7 @@ extension_has : (bs : List ℕ) → is_extension (name_of (opening_tag bs)) ≡ 
 unfolding extension_data
 extension_has bs h u = (IsUtf8-are_ascii (name_of (opening_tag bs)) (extension_ascii (name_of (opening_tag bs)) h), body_utf8 (is_alone (opening_tag bs)) (inside_of bs) (inside_utf8 bs u))
 
-extension_node : (k : ℕ) (parent : Kind) (bs : List ℕ) → k < 200 → may_hold parent kind.Island ≡ true → IsPageForm form.Extension bs → IsWrittenNode k parent (leaf kind.Island (whole form.Extension None bs ∷ []))
+pub extension_node : (k : ℕ) (parent : Kind) (bs : List ℕ) → k < 200 → may_hold parent kind.Island ≡ true → IsPageForm form.Extension bs → IsWrittenNode k parent (leaf kind.Island (whole form.Extension None bs ∷ []))
 unfolding label_at
 extension_node k parent bs small e h =
     let n : is_extension (name_of (opening_tag bs)) ≡ true = named_tag is_extension bs h.0 in

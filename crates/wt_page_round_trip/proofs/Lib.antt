@@ -2,3 +2,4 @@ pub mod TextItems
 pub mod OfPage
 pub mod Parts
 pub mod Forms
+pub mod Inline

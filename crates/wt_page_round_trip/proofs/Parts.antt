@@ -145,7 +145,7 @@ no_text_first k parent ([] ∷ rs) ps at next h w e = absurd h.2
 no_text_first k parent ((loose j o b ∷ r) ∷ rs) ps at next h w e = absurd (let f = ap begins_loose (sym h.1) ∙ e in cc)
 no_text_first k parent ((node t ∷ r) ∷ rs) ps at next h w e = (subst (AreWrittenParts k parent []) h.1 w).1.element at next
 
-wide_append : (xs ys : List Item) → width (xs ++ ys) ≡ width xs + width ys
+pub wide_append : (xs ys : List Item) → width (xs ++ ys) ≡ width xs + width ys
 wide_append xs ys = ap length (sources_append xs ys) ∙ length-append (sources xs) (sources ys)
 
 runs_written : (k : ℕ) (parent : Kind) (rs : List (List Part)) (ps : List Part) (at next : ℕ) → AreRuns one_leaf rs ps → AreWrittenParts k parent [] ps
