@@ -3,3 +3,4 @@ pub mod OfPage
 pub mod Parts
 pub mod Forms
 pub mod Inline
+pub mod PageLines
