@@ -4,3 +4,4 @@ pub mod Parts
 pub mod Forms
 pub mod Inline
 pub mod PageLines
+pub mod BodyParts

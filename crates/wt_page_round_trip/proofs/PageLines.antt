@@ -89,7 +89,7 @@ joined_line (l ∷ ls) h =
 
 -- ---- marks and line breaks
 
-abbrev is_white_byte : ℕ → Bool
+abbrev pub is_white_byte : ℕ → Bool
 is_white_byte b = is_white (b ∷ [])
 
 -- an item that stands between blocks: a space, a tab, a line break or a mark
