@@ -5,3 +5,6 @@ pub mod Forms
 pub mod Inline
 pub mod PageLines
 pub mod BodyParts
+pub mod Idle
+pub mod HeadingLines
+pub mod Body

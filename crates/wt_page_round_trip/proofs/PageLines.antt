@@ -131,7 +131,7 @@ break_between (char o b) = by_test (b == 10) refl
     by_test false e = tt
 break_between (whole f o bs) = tt
 
-ending_between : (l : List Item) → AllByRecursion IsBetween (ending l)
+pub ending_between : (l : List Item) → AllByRecursion IsBetween (ending l)
 ending_between [] = tt
 ending_between (x ∷ []) = break_between x
 ending_between (x ∷ y ∷ ys) = ending_between (y ∷ ys)
