@@ -8,3 +8,4 @@ pub mod BodyParts
 pub mod Idle
 pub mod HeadingLines
 pub mod Body
+pub mod Counts
