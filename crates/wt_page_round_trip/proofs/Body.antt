@@ -32,7 +32,7 @@ unfolding row
 rows_good [] h = tt
 rows_good (l ∷ ls) h = (record { line = h.0; kind = refl }, rows_good ls h.1)
 
-lines_good : (rs : List Row) → AllByRecursion IsGoodRow rs → AllByRecursion IsPageLine (row_items rs)
+pub lines_good : (rs : List Row) → AllByRecursion IsGoodRow rs → AllByRecursion IsPageLine (row_items rs)
 lines_good [] h = tt
 lines_good (r ∷ rs) h = (h.0.line, lines_good rs h.1)
 
@@ -82,5 +82,8 @@ runs_good ((r ∷ s) ∷ ss) rs h g =
     let v : AllByRecursion IsGoodRow ((r ∷ s) ++ h.0) = subst (λ (ts : List Row). AllByRecursion IsGoodRow ts) h.1 g in
     all_both IsBodyPart (run_parts (r ∷ s)) (flat_map run_parts ss) (run_good r s h.0 h.2 (all_left IsGoodRow (r ∷ s) h.0 v)) (runs_good ss h.0 h.3 (all_right IsGoodRow (r ∷ s) h.0 v))
 
+pub body_rows : (xs : List Item) → AreTexts [] xs → AreOfPage xs → AllByRecursion IsGoodRow (rows xs)
+body_rows xs t p = rows_good (full_lines xs) (page_lines (full_lines xs) xs (runs_are goes_on xs) t p)
+
 pub body_good : (xs : List Item) → AreTexts [] xs → AreOfPage xs → AllByRecursion IsBodyPart (body_parts (rows xs))
-body_good xs t p = runs_good (runs same_block (rows xs)) (rows xs) (runs_are same_block (rows xs)) (rows_good (full_lines xs) (page_lines (full_lines xs) xs (runs_are goes_on xs) t p))
+body_good xs t p = runs_good (runs same_block (rows xs)) (rows xs) (runs_are same_block (rows xs)) (body_rows xs t p)

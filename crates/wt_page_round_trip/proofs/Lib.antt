@@ -6,6 +6,8 @@ pub mod Inline
 pub mod PageLines
 pub mod BodyParts
 pub mod Idle
+pub mod Delimiters
 pub mod HeadingLines
 pub mod Body
 pub mod Counts
+pub mod Pages
