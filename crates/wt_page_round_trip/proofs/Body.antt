@@ -1,10 +1,9 @@
 -- What stands in the body of a page is written.
-use Rattle.std.proofs.Common.{◌≡◌, ℕ, Bool, true, false, List, [], ◌∷◌, ◌++◌, drop, map, refl, sym, ap, ◌∙◌, subst, append-nil}
+use Rattle.std.proofs.Common.{◌≡◌, false, List, [], ◌∷◌, ◌++◌, drop, map, refl, sym, ap, ◌∙◌, subst, append-nil}
 use Rattle.std.specs.List.{flat_map, AllByRecursion}
-use Rattle.wt_span.specs.Items.{Item, sign}
+use Rattle.wt_span.specs.Items.{Item}
 use Rattle.wt_span.specs.Runs.{runs, IsRun, AreRuns}
 use Rattle.wt_span.proofs.RunLaws.{runs_are}
-use Rattle.wt_tree.specs.declared.kind.Kind.TheVariants as kind
 use Rattle.wt_lines.specs.declared.kind.LineKind.TheVariants as line
 use Rattle.wt_lines.specs.Kinds.{line_kind}
 use Rattle.wt_lines.specs.Lines.{content, full_lines, goes_on}
@@ -17,7 +16,6 @@ use Rattle.wt_build.specs.Blocks.{joined, block, lead_len, without_lead, without
 use Rattle.wt_build.specs.Meaning.{row_items, run_parts, body_parts}
 use Rattle.wt_page_round_trip.proofs.TextItems.{AreTexts}
 use Rattle.wt_page_round_trip.proofs.OfPage.{AreOfPage}
-use Rattle.wt_page_round_trip.proofs.Parts.{IsWrittenNode}
 use Rattle.wt_page_round_trip.proofs.PageLines.{IsPageLine, IsBetween, page_lines, joined_line, block_parts, all_left, all_right, all_both}
 use Rattle.wt_page_round_trip.proofs.Idle.{texts_small, block_blank, block_heading, blank_line}
 use Rattle.wt_page_round_trip.proofs.BodyParts.{para_node, heading_node, IsBodyPart, between_parts, around_parts}

@@ -1,28 +1,24 @@
 -- Blocks are nodes that are written, and what stands between them is separators.
-use Rattle.std.proofs.Common.{◌≡◌, ℕ, ◌+◌, ◌<◌, ◌≤◌, ◌^◌, Bool, true, false, Option, Some, None, List, [], ◌∷◌, ◌++◌, length, take, drop, map, IsUtf8, refl, sym, ap, ◌∙◌, subst, arith, append_assoc, append-nil}
-use Rattle.std.specs.Prelude.{◌==◌, ◌&&◌, ◌||◌, if◌then◌else◌}
+use Rattle.std.proofs.Common.{◌≡◌, ℕ, ◌+◌, ◌<◌, Bool, true, false, None, List, [], ◌∷◌, ◌++◌, take, drop, map, IsUtf8, refl, sym, ap, ◌∙◌, subst, arith, append_assoc, append-nil}
+use Rattle.std.specs.Prelude.{◌==◌, ◌&&◌, ◌||◌}
 use Rattle.std.specs.List.{flat_map, AllByRecursion}
 use Rattle.std.proofs.lemmas.Bool.Decides.{nat_tests}
 use Rattle.std.proofs.lemmas.List.{map-append, take-append-drop}
 use Rattle.std.proofs.lemmas.Str.{IsUtf8-nil, IsUtf8-append}
-use Rattle.json.proofs.Printed.Utf8.{IsUtf8-are_ascii}
 use Rattle.wt_span.specs.declared.form.Form.{Form}
 use Rattle.wt_span.specs.declared.form.Form.TheVariants as form
 use Rattle.wt_span.specs.Items.{Item, char, whole, sources, sign}
-use Rattle.wt_tree.specs.declared.kind.Kind.{Kind}
 use Rattle.wt_tree.specs.declared.kind.Kind.TheVariants as kind
 use Rattle.wt_lines.specs.Lines.{content}
 use Rattle.wt_fitting.specs.Fit.{is_blank as is_white}
 use Rattle.wt_fitting.specs.Rows.{is_inline}
 use Rattle.wt_round_trip.specs.Written.{has_level}
 use Rattle.wt_round_trip.proofs.Json.{ascii_then}
-use Rattle.wt_inline.specs.declared.loose.Loose.{Loose}
 use Rattle.wt_inline.specs.declared.loose.Loose.TheVariants.{Text, Sep}
 use Rattle.wt_inline.specs.Inline.{inline_trees}
-use Rattle.wt_inline.specs.ItemTree.{ItemTree, ItemTrees, forest, held_by_all}
+use Rattle.wt_inline.specs.ItemTree.{ItemTrees, forest, held_by_all}
 use Rattle.wt_inline.specs.Parts.{Part, loose, node, part, parts, children, whole_tree, loose_kind}
 use Rattle.wt_build.specs.declared.block.BlockKind.{BlockKind}
-use Rattle.wt_build.specs.declared.block.BlockKind.TheVariants.{Between, Heading, Para}
 use Rattle.wt_build.specs.declared.heading.HeadingParts.{HeadingParts}
 use Rattle.wt_build.specs.Headings.{heading_parts}
 use Rattle.wt_build.specs.Rows.{ending}
@@ -30,8 +26,8 @@ use Rattle.wt_build.specs.Blocks.{joined, line_parts, para, heading_by, heading,
 use Rattle.wt_annotate.specs.Labels.{width, label_at}
 use Rattle.wt_page_round_trip.proofs.TextItems.{AreTexts, BeginsLow, EndsLow, cut_after, cut_items_before}
 use Rattle.wt_page_round_trip.proofs.OfPage.{IsPageItem, IsPageForm, AreOfPage}
-use Rattle.wt_page_round_trip.proofs.Parts.{IsTextRun, IsWrittenNode, AreWrittenParts, wide_append, children_written}
-use Rattle.wt_page_round_trip.proofs.Forms.{mark_node, or_right}
+use Rattle.wt_page_round_trip.proofs.Parts.{IsWrittenNode, AreWrittenParts, wide_append, children_written}
+use Rattle.wt_page_round_trip.proofs.Forms.{mark_node}
 use Rattle.wt_page_round_trip.proofs.Inline.{IsInlineParent, text_parts}
 use Rattle.wt_page_round_trip.proofs.PageLines.{IsPageLine, IsBetween, AreBlockParts, is_white_byte, all_left, all_right, all_both, last_between, content_ending}
 
@@ -63,8 +59,7 @@ para_node ls h =
     let a : width (held_by_all ts ++ []) ≡ width (held_by_all ts) + 0 = wide_append (held_by_all ts) [] in
     record {
       element = λ at next. refl;
-      written = λ at next room some few.
-      (
+      written = λ at next room some few. (
         omega arith,
         refl,
         record {
@@ -127,8 +122,7 @@ heading_by_node xs h l c =
     let b : width (held_by_all ts ++ cs) ≡ width (held_by_all ts) + width cs = wide_append (held_by_all ts) cs in
     record {
       element = λ at next. refl;
-      written = λ at next room some few.
-      (
+      written = λ at next room some few. (
         omega arith,
         refl,
         record {

@@ -1,7 +1,7 @@
 -- The meaning of a page holds the page's bytes, and has at most two numbers for each byte.
-use Rattle.std.proofs.Common.{◌≡◌, ℕ, zero, suc, ◌+◌, ◌-◌, ◌*◌, ◌<◌, ◌≤◌, Bool, true, false, Option, Some, None, List, [], ◌∷◌, ◌++◌, length, take, drop, map, refl, sym, ap, ap₂, ◌∙◌, subst, arith, append-nil, length-append, length-take, length-drop}
-use Rattle.std.specs.Prelude.{◌⊎◌, if◌then◌else◌}
-use Rattle.std.specs.List.{flat_map, AllByRecursion}
+use Rattle.std.proofs.Common.{◌≡◌, ℕ, zero, suc, ◌+◌, ◌-◌, ◌<◌, ◌≤◌, Bool, Option, Some, None, List, [], ◌∷◌, ◌++◌, length, take, drop, map, refl, sym, ap, ap₂, ◌∙◌, subst, arith, append-nil, length-append, length-take, length-drop}
+use Rattle.std.specs.Prelude.{◌⊎◌}
+use Rattle.std.specs.List.{flat_map}
 use Rattle.std.proofs.Common.{⊎_elim}
 use Rattle.std.proofs.lemmas.List.{take-append-drop}
 use Rattle.wt_span.specs.declared.form.LexKind.{LexKind}
@@ -10,23 +10,21 @@ use Rattle.wt_span.specs.declared.form.Form.{Form}
 use Rattle.wt_span.specs.declared.form.Form.TheVariants as form
 use Rattle.wt_span.specs.Comments.{comment_len, comment_line_len}
 use Rattle.wt_span.specs.Entities.{entity_at}
-use Rattle.wt_span.specs.Items.{Item, char, whole, source, sources, sign}
+use Rattle.wt_span.specs.Items.{Item, char, whole, sources, sign}
 use Rattle.wt_span.specs.Runs.{runs, IsRun, AreRuns}
 use Rattle.wt_span.specs.Tags.{Tag, opening_tag, closing_tag, include_at, raw_by}
 use Rattle.wt_span.proofs.RunLaws.{runs_are}
-use Rattle.wt_tree.specs.declared.kind.Kind.TheVariants as kind
 use Rattle.wt_lex.proofs.TagForms.{OptTag, TagFits, opening_fits}
 use Rattle.wt_lex.proofs.WholeTags.{raw_at}
 use Rattle.wt_inline.specs.declared.loose.Loose.{Loose}
 use Rattle.wt_inline.specs.declared.loose.Loose.TheVariants.{Text, Sep}
-use Rattle.wt_inline.specs.RawTag.{len_of, opening_len, behind, inside_len, inside_of, opening_of, closing_of}
+use Rattle.wt_inline.specs.RawTag.{len_of, opening_len, behind, inside_len, inside_of}
 use Rattle.wt_inline.specs.Inside.{read_with, inside_items}
 use Rattle.wt_inline.specs.Inline.{inline_trees}
 use Rattle.wt_inline.specs.ItemTree.{ItemTree, leaf, forest, held, held_by_all}
 use Rattle.wt_inline.specs.Parts.{Part, loose, node, held_parts, one_leaf, loose_kind, child, children, inside_part, nowiki, whole_tree, parts}
 use Rattle.wt_inline.proofs.HeldLaws.{held_children, held_of_parts, held_append, sources_append, sources_opened}
 use Rattle.wt_inline.proofs.Insides.{entity_some}
-use Rattle.wt_inline.proofs.Trees.{inline_source}
 use Rattle.wt_build.specs.declared.block.BlockKind.{BlockKind}
 use Rattle.wt_build.specs.declared.block.BlockKind.TheVariants.{Between, Heading, Para}
 use Rattle.wt_build.specs.declared.heading.HeadingParts.{HeadingParts}
@@ -199,8 +197,8 @@ heading_by_few h xs p =
     let ts : List Item = held_by_all (forest (children (parts Text is))) in
     record {
       same = sources_append os (ts ++ cs)
-      ∙ ap (λ x. sources os ++ x) (sources_append ts cs ∙ ap (λ x. x ++ sources cs) (ap sources (held_children (parts Text is)) ∙ parts_hold Text is) ∙ sym (sources_append is cs) ∙ ap sources (take-append-drop h.inside_len rest))
-      ∙ sym (sources_append os rest) ∙ ap sources (take-append-drop h.open_len xs);
+          ∙ ap (λ x. sources os ++ x) (sources_append ts cs ∙ ap (λ x. x ++ sources cs) (ap sources (held_children (parts Text is)) ∙ parts_hold Text is) ∙ sym (sources_append is cs) ∙ ap sources (take-append-drop h.inside_len rest))
+          ∙ sym (sources_append os rest) ∙ ap sources (take-append-drop h.open_len xs);
       few = omega (arith, a, b, c, d, e, f);
     }
 
@@ -232,10 +230,10 @@ around_few k ls p =
     let f : width (lead ls ++ joined rest) ≡ width (joined ls) = ap width (lead_joined ls) in
     record {
       same = ap sources (held_append (parts Sep (lead ls)) (node t ∷ parts Sep last))
-      ∙ sources_append (held_parts (parts Sep (lead ls))) (held t ++ held_parts (parts Sep last))
-      ∙ ap₂ (λ (x y : List ℕ). x ++ y) (parts_hold Sep (lead ls))
-      (sources_append (held t) (held_parts (parts Sep last)) ∙ ap₂ (λ (x y : List ℕ). x ++ y) b.same (parts_hold Sep last) ∙ sym (sources_append inner last) ∙ ap sources (end_joined rest))
-      ∙ sym (sources_append (lead ls) (joined rest)) ∙ ap sources (lead_joined ls);
+          ∙ sources_append (held_parts (parts Sep (lead ls))) (held t ++ held_parts (parts Sep last))
+          ∙ ap₂ (λ (x y : List ℕ). x ++ y) (parts_hold Sep (lead ls))
+          (sources_append (held t) (held_parts (parts Sep last)) ∙ ap₂ (λ (x y : List ℕ). x ++ y) b.same (parts_hold Sep last) ∙ sym (sources_append inner last) ∙ ap sources (end_joined rest))
+          ∙ sym (sources_append (lead ls) (joined rest)) ∙ ap sources (lead_joined ls);
       few = omega (arith, numbered_append (parts Sep (lead ls)) (node t ∷ parts Sep last), m, n, few, c, d, e, f);
     }
 

@@ -91,8 +91,7 @@ pub entity_node : (k : ℕ) (parent : Kind) (c : ℕ) (bs : List ℕ) → k < 20
 unfolding label_at
 entity_node k parent c bs small e h = record {
   element = λ at next. refl;
-  written = λ at next room some few.
-  (
+  written = λ at next room some few. (
     small,
     e,
     record {
@@ -120,8 +119,7 @@ comment_node : (k : ℕ) (parent : Kind) (bs : List ℕ) → k < 200 → IsUtf8 
 unfolding label_at
 comment_node k parent bs small h = record {
   element = λ at next. refl;
-  written = λ at next room some few.
-  (
+  written = λ at next room some few. (
     small,
     or_right (holds parent kind.Comment),
     record {
@@ -157,8 +155,7 @@ include_node : (k : ℕ) (parent : Kind) (bs : List ℕ) → k < 200 → IsUtf8 
 unfolding label_at
 include_node k parent bs small h = record {
   element = λ at next. refl;
-  written = λ at next room some few.
-  (
+  written = λ at next room some few. (
     small,
     or_right (holds parent kind.Include),
     record {
@@ -184,8 +181,7 @@ hidden_node : (k : ℕ) (parent : Kind) (bs : List ℕ) → k < 200 → IsUtf8 b
 unfolding label_at
 hidden_node k parent bs small h = record {
   element = λ at next. refl;
-  written = λ at next room some few.
-  (
+  written = λ at next room some few. (
     small,
     or_right (holds parent kind.Include),
     record {
@@ -279,8 +275,7 @@ extension_node k parent bs small e h =
     let n : is_extension (name_of (opening_tag bs)) ≡ true = named_tag is_extension bs h.0 in
     record {
       element = λ at next. refl;
-      written = λ at next room some few.
-      (
+      written = λ at next room some few. (
         small,
         e,
         record {

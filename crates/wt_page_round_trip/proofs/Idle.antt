@@ -1,6 +1,6 @@
 -- Blank lines hold spaces, tabs and marks alone.
-use Rattle.std.proofs.Common.{◌≡◌, ℕ, suc, ◌+◌, ◌<◌, ◌≤◌, Bool, true, false, Option, Some, None, List, [], ◌∷◌, ◌++◌, length, map, flat_map, IsUtf8, chars, nat_lt, refl, sym, ap, ◌∙◌, subst, arith}
-use Rattle.std.specs.Prelude.{◌==◌, ◌&&◌, ◌||◌, reverse, codes, if◌then◌else◌}
+use Rattle.std.proofs.Common.{◌≡◌, ℕ, suc, ◌<◌, Bool, true, false, List, [], ◌∷◌, ◌++◌, length, map, IsUtf8, chars, nat_lt, refl, sym, ap, ◌∙◌, subst, arith}
+use Rattle.std.specs.Prelude.{◌==◌, ◌&&◌, reverse, codes, if◌then◌else◌}
 use Rattle.std.specs.List.{AllByRecursion}
 use Rattle.std.specs.Option.{unwrap_or}
 use Rattle.std.proofs.lemmas.Bool.{eqb-true, ltb-true, and_parts}
@@ -9,7 +9,6 @@ use Rattle.std.proofs.lemmas.Str.{encodes-chars, scalars-chars}
 use lib.Utf8.{scalar, scalars, encode, encodes}
 use Rattle.wt_html_grammar.proofs.Steps.{if_case}
 use Rattle.wt_span.specs.Bytes.{begins}
-use Rattle.wt_span.specs.declared.form.Form.{Form}
 use Rattle.wt_span.specs.Items.{Item, char, whole, sign, is_mark_form}
 use Rattle.wt_lines.specs.declared.kind.LineKind.{LineKind}
 use Rattle.wt_lines.specs.declared.kind.LineKind.TheVariants as line

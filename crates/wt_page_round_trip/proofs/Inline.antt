@@ -1,31 +1,29 @@
 -- What stands in a line, and in `nowiki`: texts and nodes that are written.
-use Rattle.std.proofs.Common.{◌≡◌, ℕ, zero, suc, ◌+◌, ◌-◌, ◌<◌, ◌≤◌, ◌^◌, Bool, true, false, Option, Some, None, List, [], ◌∷◌, ◌++◌, length, take, drop, map, get_or, IsUtf8, refl, sym, ap, ◌∙◌, subst, arith, append_assoc, append-nil, length-take}
-use Rattle.std.specs.Prelude.{◌||◌, if◌then◌else◌}
-use Rattle.std.specs.Str.{IsCharBoundary}
+use Rattle.std.proofs.Common.{◌≡◌, ℕ, zero, suc, ◌+◌, ◌-◌, ◌<◌, ◌≤◌, true, Option, Some, None, List, [], ◌∷◌, ◌++◌, length, take, drop, map, IsUtf8, refl, sym, ap, ◌∙◌, subst, arith, append_assoc, append-nil, length-take}
 use Rattle.std.proofs.lemmas.Str.{IsUtf8-take, IsUtf8-drop}
 use Rattle.wt_span.specs.declared.form.Form.{Form}
 use Rattle.wt_span.specs.declared.form.Form.TheVariants as form
 use Rattle.wt_span.specs.Entities.{entity_at}
-use Rattle.wt_span.specs.Items.{Item, char, whole, sources}
+use Rattle.wt_span.specs.Items.{Item, char, whole}
 use Rattle.wt_tree.specs.declared.kind.Kind.{Kind}
 use Rattle.wt_tree.specs.declared.kind.Kind.TheVariants as kind
 use Rattle.wt_lex.proofs.AllForms.{OptEntity, entity_fits}
 use Rattle.wt_lex.proofs.Forms.{Fits}
 use Rattle.wt_lex.proofs.WholeEntities.{entity_front}
 use Rattle.wt_html_grammar.proofs.Steps.{if_true}
-use Rattle.wt_fitting.specs.Rows.{is_inline, is_anywhere, holds, may_hold, holds_text}
-use Rattle.wt_round_trip.specs.Written.{leaf_kind, may_stand}
+use Rattle.wt_fitting.specs.Rows.{is_inline, may_hold, holds_text}
+use Rattle.wt_round_trip.specs.Written.{leaf_kind}
 use Rattle.wt_inline.specs.declared.loose.Loose.TheVariants.{Text}
 use Rattle.wt_inline.specs.RawTag.{opening_of, inside_of, closing_of}
 use Rattle.wt_inline.specs.Inside.{read_with, inside_items}
-use Rattle.wt_inline.specs.ItemTree.{ItemTree, ItemTrees, forest, held_by_all}
+use Rattle.wt_inline.specs.ItemTree.{ItemTrees, forest, held_by_all}
 use Rattle.wt_inline.specs.Parts.{Part, children, inside_part, nowiki, whole_tree, parts}
 use Rattle.wt_inline.proofs.HeldLaws.{sources_chars}
 use Rattle.wt_inline.proofs.Insides.{entity_some, entity_within, entity_border}
 use Rattle.wt_annotate.specs.Labels.{width, label_at}
 use Rattle.wt_page_round_trip.proofs.TextItems.{AreTexts, before_low}
 use Rattle.wt_page_round_trip.proofs.OfPage.{IsPageForm, AreOfPage}
-use Rattle.wt_page_round_trip.proofs.Parts.{IsTextRun, IsWrittenNode, AreWrittenParts, no_run, wide_append, children_written}
+use Rattle.wt_page_round_trip.proofs.Parts.{IsTextRun, IsWrittenNode, AreWrittenParts, wide_append, children_written}
 use Rattle.wt_page_round_trip.proofs.Forms.{entity_node, mark_node, extension_node, opening_utf8, inside_utf8, closing_utf8}
 
 -- where text stands, each run in UTF-8 may stand
@@ -61,8 +59,7 @@ inside_first k small (Some (c, zero)) run b bs e u more = absurd (omega (arith, 
 inside_first k small (Some (c, suc m)) run b bs e u more =
     let q : IsUtf8 run × IsUtf8 (b ∷ bs) = before_low run b (first_low b bs c (suc m) e) bs u in
     let z : suc m - 1 ≡ m = omega arith in
-    subst (λ i. AreWrittenParts k kind.Nowiki run (map inside_part (whole (form.Entity c) None (b ∷ take i bs) ∷ inside_items None i bs))) (sym z)
-    (
+    subst (λ i. AreWrittenParts k kind.Nowiki run (map inside_part (whole (form.Entity c) None (b ∷ take i bs) ∷ inside_items None i bs))) (sym z) (
       text_run kind.Nowiki run refl q.0,
       entity_node k kind.Nowiki c (b ∷ take m bs) small refl (entity_form b bs c m q.1 e),
       more m [] (IsUtf8-drop (b ∷ bs) (suc m) q.1 (entity_border (b ∷ bs) c (suc m) q.1 e)),
@@ -86,8 +83,7 @@ nowiki_node k parent bs small e h =
     let w : AreWrittenParts (suc k) kind.Nowiki [] ps = inside_parts (suc k) (omega arith) 0 [] (inside_of bs) (subst IsUtf8 (sym (drop_none (inside_of bs))) (inside_utf8 bs h.1)) in
     record {
       element = λ at next. refl;
-      written = λ at next room some few.
-      (
+      written = λ at next room some few. (
         omega arith,
         e,
         record {

@@ -1,12 +1,11 @@
 -- The lines of a page: texts in UTF-8 and whole forms.
-use Rattle.std.proofs.Common.{◌≡◌, ℕ, suc, ◌+◌, ◌<◌, ◌≤◌, Bool, true, false, Option, None, List, [], ◌∷◌, ◌++◌, length, take, drop, map, IsUtf8, refl, sym, ap, ◌∙◌, subst, arith, append_assoc, append-nil}
+use Rattle.std.proofs.Common.{◌≡◌, ℕ, suc, ◌+◌, Bool, true, false, List, [], ◌∷◌, ◌++◌, take, drop, IsUtf8, refl, sym, ap, ◌∙◌, subst, arith, append_assoc, append-nil}
 use Rattle.std.specs.Prelude.{◌==◌, not, if◌then◌else◌}
 use Rattle.std.specs.List.{AllByRecursion, prefix_len}
 use Rattle.std.proofs.lemmas.Bool.{eqb-true}
 use Rattle.std.proofs.lemmas.List.{take-append-drop}
 use Rattle.std.proofs.lemmas.Str.{IsUtf8-append, IsUtf8-nil}
 use Rattle.wt_fitting.specs.Fit.{is_blank as is_white}
-use Rattle.wt_span.specs.declared.form.Form.{Form}
 use Rattle.wt_span.specs.Items.{Item, char, whole, is_mark, is_mark_form}
 use Rattle.wt_span.specs.Runs.{IsRun, AreRuns}
 use Rattle.wt_lines.specs.Lines.{is_break_item, goes_on, content}

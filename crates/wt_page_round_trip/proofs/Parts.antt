@@ -1,22 +1,19 @@
 -- The children of a node, from its parts: each run of characters is a text or a separator that is written, and so is each node.
-use Rattle.std.proofs.Common.{◌≡◌, ℕ, suc, ◌+◌, ◌<◌, ◌≤◌, ◌^◌, Bool, true, false, Option, Some, None, List, [], ◌∷◌, ◌++◌, length, map, flat_map, IsUtf8, refl, sym, ap, ap₂, ◌∙◌, subst, arith, append_assoc, append-nil, length-append}
+use Rattle.std.proofs.Common.{◌≡◌, ℕ, ◌+◌, ◌<◌, ◌≤◌, ◌^◌, Bool, true, false, Option, None, List, [], ◌∷◌, ◌++◌, length, map, flat_map, IsUtf8, refl, sym, ap, ap₂, ◌∙◌, subst, arith, append_assoc, length-append}
 use Rattle.std.specs.Prelude.{◌&&◌, if◌then◌else◌}
 use Rattle.std.proofs.lemmas.Str.{IsUtf8-nil}
-use Rattle.wt_span.specs.Items.{Item, char, whole, sources}
+use Rattle.wt_span.specs.Items.{Item, char, sources}
 use Rattle.wt_span.specs.Runs.{runs, IsRun, AreRuns}
 use Rattle.wt_span.proofs.RunLaws.{runs_are}
 use Rattle.wt_tree.specs.declared.kind.Kind.{Kind}
-use Rattle.wt_tree.specs.declared.kind.Kind.TheVariants as kind
-use Rattle.wt_tree.specs.Tree.{Tree, Trees}
 use Rattle.wt_fitting.specs.Rows.{holds_text}
-use Rattle.wt_fitting.specs.Data.{is_empty}
-use Rattle.wt_round_trip.specs.Written.{shown_of, leaf_kind, may_stand, IsTextIn, is_text, begins_with_text, WrittenIn, AllWrittenIn}
+use Rattle.wt_round_trip.specs.Written.{shown_of, leaf_kind, may_stand, is_text, begins_with_text, WrittenIn, AllWrittenIn}
 use Rattle.wt_inline.specs.declared.loose.Loose.{Loose}
 use Rattle.wt_inline.specs.declared.loose.Loose.TheVariants.{Text, Sep}
 use Rattle.wt_inline.specs.Carried.{shown_item}
-use Rattle.wt_inline.specs.ItemTree.{ItemTree, ItemTrees, leaf, forest, held, held_by_all}
+use Rattle.wt_inline.specs.ItemTree.{ItemTree, leaf, forest, held, held_by_all}
 use Rattle.wt_inline.specs.Parts.{Part, loose, node, held_parts, same_loose, same_origin, one_leaf, loose_kind, child, children}
-use Rattle.wt_inline.proofs.HeldLaws.{sources_append, sources_chars}
+use Rattle.wt_inline.proofs.HeldLaws.{sources_append}
 use Rattle.wt_annotate.specs.Labels.{width, label_at}
 use Rattle.wt_annotate.specs.Annotated.{numbered, numbered_in_all, annotated_at, all_annotated_at}
 

@@ -1,11 +1,9 @@
 -- Items whose runs of characters are texts in UTF-8, and where they can be cut.
-use Rattle.std.proofs.Common.{◌≡◌, ℕ, suc, ◌+◌, ◌<◌, Bool, true, false, Option, List, [], ◌∷◌, ◌++◌, length, take, drop, map, get_or, IsUtf8, refl, sym, ap, ◌∙◌, subst, arith, append_assoc, append-nil, length-append}
+use Rattle.std.proofs.Common.{◌≡◌, ℕ, ◌+◌, ◌<◌, List, [], ◌∷◌, ◌++◌, length, get_or, IsUtf8, sym, subst, arith, append_assoc, append-nil, length-append}
 use Rattle.std.specs.Str.{IsCharBoundary}
-use Rattle.std.specs.List.{AllByRecursion}
 use Rattle.std.proofs.Math.Seq.{get_or-append_seam, take-append_seam, drop-append_seam}
 use Rattle.std.proofs.lemmas.Str.{IsUtf8-nil, IsUtf8-take, IsUtf8-drop, IsCharBoundary-before_ascii, IsCharBoundary-after_ascii}
-use Rattle.wt_span.specs.declared.form.Form.{Form}
-use Rattle.wt_span.specs.Items.{Item, char, whole, source, sources}
+use Rattle.wt_span.specs.Items.{Item, char, whole}
 
 -- these bytes, and then the characters up to the next form, and those between any two forms
 abbrev pub AreTexts : List ℕ → List Item → Type 0
