@@ -1,3 +1,4 @@
+mod Cases
 pub mod TextItems
 pub mod OfPage
 pub mod Parts
