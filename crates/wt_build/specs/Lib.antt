@@ -1,4 +1,5 @@
 pub mod Blocks
+pub mod Cuts
 pub mod Headings
 pub mod Meaning
 pub mod Rows

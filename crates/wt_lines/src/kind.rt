@@ -1,6 +1,7 @@
 ghost use Rattle.std.specs.Prelude.{◌≡◌, ◌&&◌, [], nat_lt, codes, if◌then◌else◌};
 ghost use Rattle.std.specs.Option.{unwrap_or};
 ghost use Rattle.wt_span.specs.Bytes.{begins};
+ghost use Rattle.wt_span.specs.Items.{items};
 ghost use Rattle.wt_lines.specs.declared.kind.LineKind.TheVariants as kind;
 ghost use Rattle.wt_lines.specs.Kinds.{is_heading, is_list, is_idle, past, first_of, table_rows, text_rows, line_kind};
 ghost use Rattle.wt_lines.specs.Pieces.{line_items};
@@ -9,6 +10,7 @@ ghost use Rattle.wt_lines.specs.Signs.{left, right};
 use crate::back::BackSigns;
 use crate::line::Line;
 use crate::sign::Signs;
+use wt_span::Piece;
 
 /// What a line is, as MediaWiki's block pass and table pass tell it by the line's first and last
 /// signs. In the profile's order: the first kind that fits is taken.
@@ -101,14 +103,11 @@ fn text_kind(first: Signs<'_, '_>, line: BackSigns<'_, '_>) -> LineKind
     }
 }
 
-/// The kind of a line at which `tables` tables are open, by MediaWiki's rules in the profile's
-/// form. In a table means that `tables` isn't 0; where 16 are open, a `{|` opens no further one.
-/// The call takes no memory, and reads the line's ends: it stops at the first and the last visible
-/// item that tell the kind.
-pub fn classify(line: &Line<'_>, tables: u32) -> LineKind
-    ensures { result ≡ line_kind tables (line_items line.now) }
+/// The kind of the line that these pieces are, at which `tables` tables are open. It is `classify`
+/// for a layer that keeps the pieces of many lines in one list.
+pub fn kind_of_pieces(pieces: &[Piece<'_>], tables: u32) -> LineKind
+    ensures { result ≡ line_kind tables (items pieces.now) }
 {
-    let pieces = line.pieces.as_slice();
     let all = Signs::of(pieces);
     let sign = all.past_idle();
     if sign.is_empty() {
@@ -121,4 +120,14 @@ pub fn classify(line: &Line<'_>, tables: u32) -> LineKind
         Some(kind) => kind,
         None => text_kind(all.past_marks(), BackSigns::of(pieces)),
     }
+}
+
+/// The kind of a line at which `tables` tables are open, by MediaWiki's rules in the profile's
+/// form. In a table means that `tables` isn't 0; where 16 are open, a `{|` opens no further one.
+/// The call takes no memory, and reads the line's ends: it stops at the first and the last visible
+/// item that tell the kind.
+pub fn classify(line: &Line<'_>, tables: u32) -> LineKind
+    ensures { result ≡ line_kind tables (line_items line.now) }
+{
+    kind_of_pieces(line.pieces.as_slice(), tables)
 }

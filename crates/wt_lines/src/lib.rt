@@ -20,7 +20,7 @@ mod tables;
 mod tests;
 
 pub use back::BackSigns;
-pub use kind::{LineKind, classify};
+pub use kind::{LineKind, classify, kind_of_pieces};
 pub use laws::{one_set_of_lines, one_split};
 pub use line::{Line, lines};
 pub use partition::{chars_piece, is_break, is_chars, parted};

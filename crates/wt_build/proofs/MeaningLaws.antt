@@ -1,0 +1,204 @@
+-- The meaning holds its items, each opened.
+use Rattle.std.proofs.Common.{◌≡◌, ℕ, zero, suc, ◌+◌, ◌-◌, Option, Some, None, List, [], ◌∷◌, ◌++◌, take, drop, map, refl, sym, ap, ◌∙◌, append_assoc, append-nil}
+use Rattle.std.specs.List.{flat_map}
+use Rattle.std.proofs.lemmas.List.{take-append-drop, map-append}
+use Rattle.std.proofs.lemmas.Grind.{flat_map-append}
+use Rattle.wt_tree.specs.declared.kind.Kind.TheVariants as kind
+use Rattle.wt_span.specs.declared.form.Form.{Form}
+use Rattle.wt_span.specs.declared.form.Form.TheVariants as form
+use Rattle.wt_span.specs.Entities.{entity_at}
+use Rattle.wt_span.specs.Items.{Item, char, whole, sign, sources}
+use Rattle.wt_span.specs.Runs.{runs, AreRuns}
+use Rattle.wt_span.proofs.RunLaws.{runs_are, runs_only, runs_joined}
+use Rattle.wt_lines.specs.Lines.{content, goes_on, full_lines}
+use Rattle.wt_inline.specs.declared.loose.Loose.{Loose}
+use Rattle.wt_inline.specs.declared.loose.Loose.TheVariants.{Text, Sep}
+use Rattle.wt_inline.specs.RawTag.{opening_of, inside_of, closing_of}
+use Rattle.wt_inline.specs.Inside.{read_with, inside_items, opened_whole, opened, opened_all}
+use Rattle.wt_inline.specs.ItemTree.{ItemTree, inner, forest, held, held_by_all}
+use Rattle.wt_inline.specs.Parts.{Part, node, held_parts, parts, children, AreChildren}
+use Rattle.wt_inline.specs.Inline.{inline_trees}
+use Rattle.wt_inline.proofs.HeldLaws.{held_children, held_of_parts, held_append, opened_append, sources_opened, are_children, only_children}
+use Rattle.wt_build.specs.declared.block.BlockKind.{BlockKind}
+use Rattle.wt_build.specs.declared.block.BlockKind.TheVariants.{Between, Heading, Para}
+use Rattle.wt_build.specs.declared.heading.HeadingParts.{HeadingParts}
+use Rattle.wt_build.specs.Headings.{heading_parts}
+use Rattle.wt_build.specs.Rows.{Row, row, rows, same_block, ending}
+use Rattle.wt_build.specs.Blocks.{joined, line_parts, para, heading_by, heading, block, lead_len, lead, without_lead, last_ending, without_ending, around, parts_by}
+use Rattle.wt_build.specs.Meaning.{row_items, run_parts, body_parts, meaning, IsMeaning}
+use Rattle.wt_build.proofs.Ends.{content_ending}
+
+-- ---- opened twice is opened once
+
+opened_bytes : (o : Option ℕ) (bs : List ℕ) → opened_all (map (char o) bs) ≡ map (char o) bs
+opened_bytes o [] = refl
+opened_bytes o (b ∷ bs) = ap (λ xs. char o b ∷ xs) (opened_bytes o bs)
+
+opened_read : (o : Option ℕ) (e : Option (ℕ × ℕ)) (b : ℕ) (bs : List ℕ) → ((n : ℕ) → opened_all (inside_items o n bs) ≡ inside_items o n bs) → opened_all (read_with o e b bs (λ n. inside_items o n bs)) ≡ read_with o e b bs (λ n. inside_items o n bs)
+opened_read o None b bs h = ap (λ xs. char o b ∷ xs) (h 0)
+opened_read o (Some e) b bs h = ap (λ xs. whole (form.Entity e.0) o (b ∷ take (e.1 - 1) bs) ∷ xs) (h (e.1 - 1))
+
+opened_inside : (o : Option ℕ) (n : ℕ) (bs : List ℕ) → opened_all (inside_items o n bs) ≡ inside_items o n bs
+opened_inside o zero [] = refl
+opened_inside o (suc n) [] = refl
+opened_inside o (suc n) (b ∷ bs) = opened_inside o n bs
+opened_inside o zero (b ∷ bs) = opened_read o (entity_at (b ∷ bs)) b bs (λ n. opened_inside o n bs)
+
+opened_nowiki : (o : Option ℕ) (bs : List ℕ) → opened_all (opened_whole form.Nowiki o bs) ≡ opened_whole form.Nowiki o bs
+opened_nowiki o bs =
+    let xs = inside_items o 0 (inside_of bs) in
+    let front = map (char o) (opening_of bs) in
+    let back = map (char o) (closing_of bs) in
+    opened_append front (xs ++ back)
+    ∙ ap (λ ys. ys ++ opened_all (xs ++ back)) (opened_bytes o (opening_of bs))
+    ∙ ap (λ ys. front ++ ys) (opened_append xs back ∙ ap (λ ys. ys ++ opened_all back) (opened_inside o 0 (inside_of bs)) ∙ ap (λ ys. xs ++ ys) (opened_bytes o (closing_of bs)))
+
+opened_form : (f : Form) (o : Option ℕ) (bs : List ℕ) → opened_all (opened_whole f o bs) ≡ opened_whole f o bs
+opened_form form.Chars o bs = refl
+opened_form (form.Entity c) o bs = refl
+opened_form form.Nowiki o bs = opened_nowiki o bs
+opened_form form.Extension o bs = refl
+opened_form form.Function o bs = refl
+opened_form form.Comment o bs = refl
+opened_form form.Include o bs = refl
+opened_form form.Hidden o bs = refl
+opened_form form.EmptyCall o bs = refl
+
+opened_one : (x : Item) → opened_all (opened x) ≡ opened x
+opened_one (char o b) = refl
+opened_one (whole f o bs) = opened_form f o bs
+
+opened_twice : (xs : List Item) → opened_all (opened_all xs) ≡ opened_all xs
+opened_twice [] = refl
+opened_twice (x ∷ xs) = opened_append (opened x) (opened_all xs) ∙ ap (λ ys. ys ++ opened_all (opened_all xs)) (opened_one x) ∙ ap (λ ys. opened x ++ ys) (opened_twice xs)
+
+-- ---- blocks
+
+held_line : (l : List Item) → held_parts (line_parts l) ≡ opened_all l
+held_line l =
+    held_append (parts Text (content l)) (parts Text (ending l))
+    ∙ ap (λ ys. ys ++ held_parts (parts Text (ending l))) (held_of_parts Text (content l))
+    ∙ ap (λ ys. opened_all (content l) ++ ys) (held_of_parts Text (ending l))
+    ∙ sym (opened_append (content l) (ending l))
+    ∙ ap opened_all (content_ending l)
+
+held_lines : (ls : List (List Item)) → held_parts (flat_map line_parts ls) ≡ opened_all (joined ls)
+held_lines [] = refl
+held_lines (l ∷ ls) =
+    held_append (line_parts l) (flat_map line_parts ls)
+    ∙ ap (λ ys. ys ++ held_parts (flat_map line_parts ls)) (held_line l)
+    ∙ ap (λ ys. opened_all l ++ ys) (held_lines ls)
+    ∙ sym (opened_append l (joined ls))
+
+held_para : (ls : List (List Item)) → opened_all (held (para ls)) ≡ opened_all (joined ls)
+unfolding para
+held_para ls = ap opened_all (append-nil (held_by_all (forest (children (flat_map line_parts ls)))) ∙ held_children (flat_map line_parts ls) ∙ held_lines ls) ∙ opened_twice (joined ls)
+
+held_inline : (xs : List Item) → held_by_all (forest (inline_trees xs)) ≡ opened_all xs
+unfolding inline_trees
+held_inline xs = held_children (parts Text xs) ∙ held_of_parts Text xs
+
+held_heading_by : (h : HeadingParts) (xs : List Item) → opened_all (held (heading_by h xs)) ≡ opened_all xs
+held_heading_by h xs =
+    let a = take h.open_len xs in
+    let rest = drop h.open_len xs in
+    let b = take h.inside_len rest in
+    let c = drop h.inside_len rest in
+    opened_append a (held_by_all (forest (inline_trees b)) ++ c)
+    ∙ ap (λ ys. opened_all a ++ ys) (opened_append (held_by_all (forest (inline_trees b))) c ∙ ap (λ ys. opened_all ys ++ opened_all c) (held_inline b) ∙ ap (λ ys. ys ++ opened_all c) (opened_twice b) ∙ sym (opened_append b c) ∙ ap opened_all (take-append-drop h.inside_len rest))
+    ∙ sym (opened_append a rest)
+    ∙ ap opened_all (take-append-drop h.open_len xs)
+
+held_heading : (xs : List Item) → opened_all (held (heading xs)) ≡ opened_all xs
+unfolding heading
+held_heading xs = held_heading_by (heading_parts (map sign xs)) xs
+
+held_block : (k : BlockKind) (ls : List (List Item)) → opened_all (held (block k ls)) ≡ opened_all (joined ls)
+unfolding block
+held_block Between ls = held_para ls
+held_block Heading ls = held_heading (joined ls)
+held_block Para ls = held_para ls
+
+lead_joined : (ls : List (List Item)) → lead ls ++ joined (without_lead ls) ≡ joined ls
+lead_joined [] = refl
+lead_joined (l ∷ ls) = sym (append_assoc (take (lead_len l) l) (drop (lead_len l) l) (joined ls)) ∙ ap (λ ys. ys ++ joined ls) (take-append-drop (lead_len l) l)
+
+end_joined : (ls : List (List Item)) → joined (without_ending ls) ++ last_ending ls ≡ joined ls
+end_joined [] = refl
+end_joined (l ∷ []) = ap (λ ys. ys ++ ending l) (append-nil (content l)) ∙ content_ending l ∙ sym (append-nil l)
+end_joined (l ∷ m ∷ ls) = append_assoc l (joined (without_ending (m ∷ ls))) (last_ending (m ∷ ls)) ∙ ap (λ ys. l ++ ys) (end_joined (m ∷ ls))
+
+held_around : (k : BlockKind) (ls : List (List Item)) → opened_all (held_parts (around k ls)) ≡ opened_all (joined ls)
+held_around k ls =
+    let rest = without_lead ls in
+    let b = block k (without_ending rest) in
+    let c = parts Sep (last_ending rest) in
+    ap opened_all (held_append (parts Sep (lead ls)) (node b ∷ c) ∙ ap (λ ys. ys ++ (held b ++ held_parts c)) (held_of_parts Sep (lead ls)) ∙ ap (λ ys. opened_all (lead ls) ++ (held b ++ ys)) (held_of_parts Sep (last_ending rest)))
+    ∙ opened_append (opened_all (lead ls)) (held b ++ opened_all (last_ending rest))
+    ∙ ap (λ ys. ys ++ opened_all (held b ++ opened_all (last_ending rest))) (opened_twice (lead ls))
+    ∙ ap (λ ys. opened_all (lead ls) ++ ys)
+    (opened_append (held b) (opened_all (last_ending rest)) ∙ ap (λ ys. ys ++ opened_all (opened_all (last_ending rest))) (held_block k (without_ending rest)) ∙ ap (λ ys. opened_all (joined (without_ending rest)) ++ ys) (opened_twice (last_ending rest)) ∙ sym (opened_append (joined (without_ending rest)) (last_ending rest)) ∙ ap opened_all (end_joined rest))
+    ∙ sym (opened_append (lead ls) (joined rest))
+    ∙ ap opened_all (lead_joined ls)
+
+held_parts_by : (k : BlockKind) (ls : List (List Item)) → opened_all (held_parts (parts_by k ls)) ≡ opened_all (joined ls)
+held_parts_by Between ls = ap opened_all (held_of_parts Sep (joined ls)) ∙ opened_twice (joined ls)
+held_parts_by Heading ls = held_around Heading ls
+held_parts_by Para ls = held_around Para ls
+
+-- ---- the body
+
+held_run : (rs : List Row) → opened_all (held_parts (run_parts rs)) ≡ opened_all (joined (row_items rs))
+unfolding run_parts
+held_run [] = refl
+held_run (r ∷ rs) = held_parts_by r.block (row_items (r ∷ rs))
+
+joined_append : (ls ms : List (List Item)) → joined (ls ++ ms) ≡ joined ls ++ joined ms
+joined_append ls ms = flat_map-append (λ l. l) ls ms
+
+held_blocks : (rs : List (List Row)) → opened_all (held_parts (flat_map run_parts rs)) ≡ opened_all (joined (row_items (flat_map (λ r. r) rs)))
+held_blocks [] = refl
+held_blocks (r ∷ rs) =
+    let others = flat_map (λ s. s) rs in
+    ap opened_all (held_append (run_parts r) (flat_map run_parts rs))
+    ∙ opened_append (held_parts (run_parts r)) (held_parts (flat_map run_parts rs))
+    ∙ ap (λ ys. ys ++ opened_all (held_parts (flat_map run_parts rs))) (held_run r)
+    ∙ ap (λ ys. opened_all (joined (row_items r)) ++ ys) (held_blocks rs)
+    ∙ sym (opened_append (joined (row_items r)) (joined (row_items others)))
+    ∙ ap opened_all (sym (joined_append (row_items r) (row_items others)) ∙ ap joined (sym (map-append (λ s. s.items) r others)))
+
+pub row_items_are : (ls : List (List Item)) → row_items (map row ls) ≡ ls
+unfolding row
+row_items_are [] = refl
+row_items_are (l ∷ ls) = ap (λ ms. l ∷ ms) (row_items_are ls)
+
+pub held_meaning : (xs : List Item) → opened_all (held (meaning xs)) ≡ opened_all xs
+unfolding meaning
+held_meaning xs =
+    ap opened_all (append-nil (held_by_all (forest (children (body_parts (rows xs))))) ∙ held_children (body_parts (rows xs)))
+    ∙ held_blocks (runs same_block (rows xs))
+    ∙ ap opened_all (ap (λ rs. joined (row_items rs)) (runs_joined same_block (rows xs)) ∙ ap joined (row_items_are (full_lines xs)) ∙ runs_joined goes_on xs)
+
+pub sources_meaning : (xs : List Item) → sources (held (meaning xs)) ≡ sources xs
+sources_meaning xs = sym (sources_opened (held (meaning xs))) ∙ ap sources (held_meaning xs) ∙ sources_opened xs
+
+-- ---- one meaning
+
+pub is_meaning : (xs : List Item) → IsMeaning (meaning xs) xs
+unfolding meaning
+is_meaning xs = record {
+  its_lines = full_lines xs;
+  its_blocks = runs same_block (rows xs);
+  its_children = children (body_parts (rows xs));
+  are_lines = runs_are goes_on xs;
+  are_blocks = runs_are same_block (rows xs);
+  are_children = are_children (body_parts (rows xs));
+  is_body = refl;
+}
+
+pub only_meaning : (t : ItemTree) (xs : List Item) → IsMeaning t xs → t ≡ meaning xs
+unfolding meaning
+only_meaning t xs m =
+    let ls : m.its_lines ≡ full_lines xs = runs_only goes_on m.its_lines xs m.are_lines in
+    let rs : m.its_blocks ≡ runs same_block (rows xs) = runs_only same_block m.its_blocks (map row m.its_lines) m.are_blocks ∙ ap (λ ns. runs same_block (map row ns)) ls in
+    m.is_body ∙ ap (λ ts. inner kind.Body [] (forest ts) []) (only_children m.its_children (flat_map run_parts m.its_blocks) m.are_children ∙ ap (λ bs. children (flat_map run_parts bs)) rs)
