@@ -1,6 +1,7 @@
 -- The first form that isn't built, from the left.
-use Rattle.std.specs.Prelude.{◌≡◌, ℕ, ◌+◌, ◌<◌, Bool, false, Option, Some, None, option_map, List, [], ◌∷◌, ◌++◌, length, if◌then◌else◌}
+use Rattle.std.specs.Prelude.{◌≡◌, ℕ, ◌+◌, ◌<◌, Bool, true, false, Option, Some, None, option_map, List, [], ◌∷◌, ◌++◌, length, if◌then◌else◌}
 use Rattle.wt_span.specs.Items.{Item, source}
+use Rattle.wt_expand.specs.PageItems.{page_items}
 use Rattle.wt_not_built.specs.Unbuilt.{begins_dashes, is_unbuilt, is_front_after}
 use Rattle.wt_not_built.specs.declared.reading.Reading.{Reading}
 use Rattle.wt_not_built.specs.declared.reading.Reading.TheVariants.{Stopped, Passed}
@@ -9,6 +10,10 @@ use Rattle.wt_not_built.specs.declared.reading.Reading.TheVariants.{Stopped, Pas
 abbrev pub first_from : Bool → List Item → Option ℕ
 first_from front [] = None
 first_from front (x ∷ xs) = if is_unbuilt front (x ∷ xs) then Some 0 else option_map (λ n. length (source x) + n) (first_from (is_front_after front x) xs)
+
+-- of a page: the place, in bytes, of its first form that isn't built
+unfoldable pub first_unbuilt : List ℕ → Option ℕ
+first_unbuilt page = first_from true (page_items page)
 
 -- what reading some items says of it, where these items follow
 abbrev pub outcome : ℕ → Reading → List Item → Option ℕ

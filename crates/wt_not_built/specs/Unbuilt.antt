@@ -54,3 +54,4 @@ pub record IsFirstUnbuilt (page : List ℕ) (place : ℕ) : Type 0 where
   pub here : is_unbuilt_at (page_items page) item ≡ true
   pub before : (k : ℕ) → k < item → is_unbuilt_at (page_items page) k ≡ false
   pub at : place ≡ length (sources (take item (page_items page)))
+  pub on_page : place < length page

@@ -9,5 +9,5 @@ mod tag_name;
 #[cfg(test)]
 mod tests;
 
-pub use laws::smallest_place;
+pub use laws::{exact_place, smallest_place};
 pub use page::first_unbuilt;

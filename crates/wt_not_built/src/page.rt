@@ -1,8 +1,7 @@
-ghost use Rattle.std.specs.Prelude.{◌≡◌, MatchOption, true};
+ghost use Rattle.std.specs.Prelude.{◌≡◌, ◌<◌, IfSome, true, length};
 ghost use Rattle.wt_span.specs.Items.{items};
 ghost use Rattle.wt_expand.specs.PageItems.{page_items};
-ghost use Rattle.wt_not_built.specs.Unbuilt.{IsBuilt, IsFirstUnbuilt};
-ghost use Rattle.wt_not_built.specs.FirstPlace.{first_from};
+ghost use Rattle.wt_not_built.specs.FirstPlace.{first_from, first_unbuilt};
 
 use crate::reading::{Reading, read_piece};
 use wt_span::{Piece, rest_of};
@@ -29,9 +28,11 @@ fn bytes_before(page: &str, pieces: &[Piece<'_>]) -> Option<usize>
 
 /// The place of the first form of the page that isn't built, in bytes; None where all are built.
 /// The pieces are those of the page's items.
+#[tactic(auto, unfolding(crate::specs::FirstPlace::first_unbuilt))]
 pub fn first_unbuilt(page: &str, pieces: &[Piece<'_>]) -> Option<usize>
     requires { items pieces.now ≡ page_items page.now }
-    ensures { MatchOption result (IsBuilt page.now) (λ place. IsFirstUnbuilt page.now place) }
+    ensures value { result ≡ first_unbuilt page.now }
+    ensures within { IfSome result (λ place. place < length page.now) }
 {
     bytes_before(page, pieces)
 }

@@ -11,7 +11,11 @@ use lib.Utf8.{scalar, scalars, encode, encodes, low_scalar}
 use Rattle.wt_html_grammar.specs.Signs.{Follow, follow, between, Follows}
 use Rattle.wt_html_grammar.proofs.Chars.{IsChar, of_bytes, of_char}
 use Rattle.wt_utf8.specs.Begun.{following_len, begun_by, begun_len}
-use Rattle.wt_utf8.specs.Places.{BeginsText, IsPlace}
+use Rattle.wt_utf8.specs.Places.{BeginsText, IsPlace, not_utf8_place}
+use Rattle.std.specs.Str.{is_utf8}
+use Rattle.std.specs.Str.Lossy.{utf8_valid_len, valid_len_up_to}
+use Rattle.std.specs.Prelude.{MatchOption}
+use Rattle.std.proofs.lemmas.Str.{is_utf8-from_IsUtf8, IsUtf8-from_is_utf8}
 use Rattle.wt_utf8.proofs.Characters.{completed, whole, blocked, ordered, IsOrdered}
 
 -- what is left of a text behind a text is a text
@@ -187,3 +191,79 @@ same_place bytes m n p q =
     let less : m < n → ⊥ = none_longer bytes m n p q in
     let greater : n < m → ⊥ = none_longer bytes n m q p in
     omega arith
+
+-- ---- the place by computing
+
+abbrev Cut : List ℕ → ℕ → Bool
+Cut bs n = is_utf8 (take n bs)
+
+front_by_test : (bs : List ℕ) (n : ℕ) (t : Bool) → Cut bs (suc n) ≡ t → Cut bs (valid_len_up_to bs n) ≡ true → Cut bs (if t then suc n else valid_len_up_to bs n) ≡ true
+front_by_test bs n true e h = e
+front_by_test bs n false e h = h
+
+valid_front : (bs : List ℕ) (n : ℕ) → Cut bs (valid_len_up_to bs n) ≡ true
+valid_front bs zero = is_utf8-from_IsUtf8 [] IsUtf8-nil
+valid_front bs (suc n) = front_by_test bs n (is_utf8 (take (suc n) bs)) refl (valid_front bs n)
+
+last_or_less : (m n : ℕ) (t : Bool) → nat_lt m (suc n) ≡ t → m ≤ suc n → (m ≤ n) ⊎ (m ≡ suc n)
+last_or_less m n true e le = inl (let lt = ltb-true m (suc n) e in omega arith)
+last_or_less m n false e le = inr (let ge = ltb-false m (suc n) e in omega arith)
+
+most_by_test : (bs : List ℕ) (n m : ℕ) (t : Bool) → Cut bs (suc n) ≡ t → ((k : ℕ) → valid_len_up_to bs n < k → k ≤ n → Cut bs k ≡ false)
+    → (if t then suc n else valid_len_up_to bs n) < m → m ≤ suc n → Cut bs m ≡ false
+most_by_test bs n m true e rest lt le = absurd (omega arith)
+most_by_test bs n m false e rest lt le = ⊎_elim (λ less. rest m lt less) (λ same. ap (Cut bs) same ∙ e) (last_or_less m n (nat_lt m (suc n)) refl le)
+
+valid_most : (bs : List ℕ) (n m : ℕ) → valid_len_up_to bs n < m → m ≤ n → Cut bs m ≡ false
+valid_most bs zero m lt le = absurd (omega arith)
+valid_most bs (suc n) m lt le = most_by_test bs n m (is_utf8 (take (suc n) bs)) refl (valid_most bs n) lt le
+
+whole_cut : (bs : List ℕ) (m : ℕ) → length bs ≤ m → is_utf8 bs ≡ false → Cut bs m ≡ false
+whole_cut bs m le e = ap is_utf8 (take_all m bs le) ∙ e
+
+shorter : (bs : List ℕ) (v : ℕ) (t : Bool) → nat_lt v (length bs) ≡ t → is_utf8 bs ≡ false → Cut bs v ≡ true → v < length bs
+shorter bs v true e ill front = ltb-true v (length bs) e
+shorter bs v false e ill front = absurd (let z : true ≡ false = sym front ∙ whole_cut bs v (ltb-false v (length bs) e) ill in cc)
+
+no_longer : (bs : List ℕ) (m : ℕ) (t : Bool) → nat_lt m (length bs) ≡ t → is_utf8 bs ≡ false → valid_len_up_to bs (length bs) < m → Cut bs m ≡ false
+no_longer bs m true e ill lt = let less = ltb-true m (length bs) e in valid_most bs (length bs) m lt (omega arith)
+no_longer bs m false e ill lt = whole_cut bs m (ltb-false m (length bs) e) ill
+
+valid_up_to_there : (bs : List ℕ) → is_utf8 bs ≡ false → IsValidUpTo bs (utf8_valid_len bs)
+unfolding utf8_valid_len
+valid_up_to_there bs ill =
+    let v = valid_len_up_to bs (length bs) in
+    let front : Cut bs v ≡ true = valid_front bs (length bs) in
+    record {
+      short = shorter bs v (nat_lt v (length bs)) refl ill front;
+      front = IsUtf8-from_is_utf8 (take v bs) front;
+      longest = λ m lt u. (let z : true ≡ false = sym (is_utf8-from_IsUtf8 (take m bs) u) ∙ no_longer bs m (nat_lt m (length bs)) refl ill lt in cc);
+    }
+
+exact_by : (bs : List ℕ) (t : Bool) → is_utf8 bs ≡ t → MatchOption (if t then None else Some (utf8_valid_len bs + begun_len (drop (utf8_valid_len bs) bs))) (IsUtf8 bs) (λ n. IsPlace bs n)
+exact_by bs true e = IsUtf8-from_is_utf8 bs e
+exact_by bs false e = place_of bs (drop (utf8_valid_len bs) bs) (utf8_valid_len bs) (utf8_valid_len bs) (begun_len (drop (utf8_valid_len bs) bs)) (valid_up_to_there bs e) refl refl refl
+
+pub exact : (bs : List ℕ) → MatchOption (not_utf8_place bs) (IsUtf8 bs) (λ n. IsPlace bs n)
+unfolding not_utf8_place
+exact bs = exact_by bs (is_utf8 bs) refl
+
+pub no_place : (bs : List ℕ) → IsUtf8 bs → not_utf8_place bs ≡ None
+unfolding not_utf8_place
+no_place bs u = ap (λ t. if t then None else Some (utf8_valid_len bs + begun_len (drop (utf8_valid_len bs) bs))) (is_utf8-from_IsUtf8 bs u)
+
+ill_test : (bs : List ℕ) (t : Bool) → is_utf8 bs ≡ t → (IsUtf8 bs → ⊥) → is_utf8 bs ≡ false
+ill_test bs true e ill = absurd (ill (IsUtf8-from_is_utf8 bs e))
+ill_test bs false e ill = e
+
+pub some_place : (bs rest : List ℕ) (u v n : ℕ) → (IsUtf8 bs → ⊥) → v ≡ u → u ≡ utf8_valid_len bs → rest ≡ drop v bs → n ≡ begun_len rest → not_utf8_place bs ≡ Some (v + n)
+unfolding not_utf8_place
+some_place bs rest u v n ill same valid e h =
+    let there : v ≡ utf8_valid_len bs = same ∙ valid in
+    let begun : n ≡ begun_len (drop (utf8_valid_len bs) bs) = h ∙ ap begun_len (e ∙ ap (λ m. drop m bs) there) in
+    ap (λ t. if t then None else Some (utf8_valid_len bs + begun_len (drop (utf8_valid_len bs) bs))) (ill_test bs (is_utf8 bs) refl ill)
+    ∙ ap (λ (m : ℕ). Some (m + begun_len (drop (utf8_valid_len bs) bs))) (sym there)
+    ∙ ap (λ (m : ℕ). Some (v + m)) (sym begun)
+
+pub at_place : (bs : List ℕ) (n : ℕ) → not_utf8_place bs ≡ Some n → IsPlace bs n
+at_place bs n e = let P : Option ℕ → Type 0 = λ o. MatchOption o (IsUtf8 bs) (λ m. IsPlace bs m) in subst P e (exact bs)

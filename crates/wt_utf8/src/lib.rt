@@ -7,5 +7,5 @@ mod place;
 #[cfg(test)]
 mod tests;
 
-pub use laws::one_end;
-pub use place::not_utf8_place;
+pub use laws::{exact_place, one_end};
+pub use place::{not_utf8_place, read_text};

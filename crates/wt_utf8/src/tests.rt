@@ -1,4 +1,4 @@
-use crate::not_utf8_place;
+use crate::{not_utf8_place, read_text};
 use std::test::Fail;
 
 #[test]
@@ -13,5 +13,9 @@ fn finds_where_text_ends(rt: HostRuntime) -> Result<(), Fail> {
     assert_eq!(rt; not_utf8_place(b"\xC0\x80"), Some(0));
     assert_eq!(rt; not_utf8_place(b"a\xC3a"), Some(2));
     assert_eq!(rt; not_utf8_place(b"ok \xF0\x9F\x98"), Some(6));
+    assert_eq!(rt;
+        read_text(b"ok \xC3\xA9").map_err(|_| "no text")?,
+        "ok \u{e9}"
+    );
     Ok(())
 }
