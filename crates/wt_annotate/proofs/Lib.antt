@@ -1,1 +1,8 @@
 mod Cases
+pub mod Firsts
+pub mod Passes
+pub mod Pieces
+pub mod TreeNumbers
+pub mod TreeRanges
+pub mod TreeSource
+pub mod Widths

@@ -1,2 +1,4 @@
 pub mod Annotated
 pub mod Labels
+pub mod Made
+pub mod Nodes

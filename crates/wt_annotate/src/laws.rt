@@ -1,0 +1,20 @@
+//! What holds of the annotated tree of any tree of items.
+
+ghost use Rattle.std.specs.Prelude.{◌≡◌, [], length};
+ghost use Rattle.wt_span.specs.Items.{sources};
+ghost use Rattle.wt_tree.specs.declared.kind.Kind.TheVariants as node_kind;
+ghost use Rattle.wt_tree.specs.Source.{flat};
+ghost use Rattle.wt_tree.specs.Tiling.{Tiled, Covers, numbers, InPreorder};
+ghost use Rattle.wt_inline.specs.ItemTree.{ItemTree, inner, ItemTrees, held};
+ghost use Rattle.wt_annotate.specs.Labels.{width};
+ghost use Rattle.wt_annotate.specs.Annotated.{numbered, annotated};
+
+/// The annotated tree joins to the sources of the items that the tree holds, its ranges tile it,
+/// that of a body covers all its bytes, and its numbers are in preorder, as many as are counted.
+pub fn annotated_tree()
+    ensures source { (t : ItemTree) → flat (annotated t) ≡ sources (held t) }
+    ensures tiled { (t : ItemTree) → Tiled (annotated t) }
+    ensures covers { (ts : ItemTrees) → Covers (width (held (inner node_kind.Body [] ts []))) (annotated (inner node_kind.Body [] ts [])) }
+    ensures numbered { (t : ItemTree) → InPreorder (annotated t) }
+    ensures count { (t : ItemTree) → length (numbers (annotated t)) ≡ numbered t }
+{}

@@ -1,0 +1,98 @@
+ghost use Rattle.std.specs.Prelude.{◌≡◌, ◌+◌, ◌^◌, ◌<◌, true, false, IfOk};
+ghost use Rattle.wt_span.specs.Items.{items};
+ghost use Rattle.wt_tree.specs.Kinds.{is_leaf};
+ghost use Rattle.wt_tree.specs.Tree.{tree, none};
+ghost use Rattle.wt_tree.specs.View.{view, views};
+ghost use Rattle.wt_tree.specs.declared.node.Node.{out-Node};
+ghost use Rattle.wt_annotate.specs.Labels.{width, leaf_open};
+ghost use Rattle.wt_annotate.specs.Nodes.{bare, leaf_label, inner_label};
+
+use crate::carry::{leaf_attrs, leaf_data, leaf_origin, leaf_shown};
+use crate::cursor::{Cursor, leaf_open};
+use crate::piece::{texts, width};
+use std::alloc::Global;
+use wt_span::{List, NoMemory, Piece, Str};
+use wt_tree::{Kind, Mark, Node, Ranges};
+
+/// A node that holds nothing yet.
+fn bare_node<'a>(alloc: Global, kind: Kind, id: u32, ranges: Ranges) -> Node<'a>
+    ensures { out-Node result ≡ bare kind id ranges.start ranges.end ranges.open_w ranges.close_w }
+{
+    Node {
+        kind,
+        id,
+        ranges: Some(ranges),
+        opening: List::new(alloc),
+        closing: List::new(alloc),
+        own: List::new(alloc),
+        shown: Str::new(alloc),
+        attrs: List::new(alloc),
+        origin: None,
+        mark: Mark::Nothing,
+        mw: None,
+        children: List::new(alloc),
+    }
+}
+
+/// The ranges of a leaf of so many bytes.
+fn leaf_ranges(kind: Kind, start: u32, width: u32) -> Ranges
+    requires { start + width < 2 ^ 32 }
+    ensures { result ≡ record { start = start; end = start + width; open_w = leaf_open kind width; close_w = 0 } }
+{
+    Ranges {
+        start,
+        end: start + width,
+        open_w: leaf_open(kind, width),
+        close_w: 0,
+    }
+}
+
+/// A leaf that holds these pieces.
+#[tactic(auto, unfolding(crate::specs::Labels::label_at))]
+pub fn leaf_node<'a>(
+    alloc: Global,
+    kind: Kind,
+    at: Cursor,
+    own: &[Piece<'a>],
+) -> Result<Node<'a>, NoMemory>
+    requires { at.place + width (items own.now) < 2 ^ 32 }
+    ensures { IfOk result (λ n. view n ≡ tree (leaf_label at.place at.next kind (items own.now)) none) }
+{
+    let ranges = leaf_ranges(kind, at.place, width(own));
+    Ok(Node {
+        own: texts(alloc, own)?,
+        shown: leaf_shown(alloc, kind, own)?,
+        attrs: leaf_attrs(alloc, own)?,
+        origin: leaf_origin(own),
+        mw: leaf_data(alloc, own)?,
+        ..bare_node(alloc, kind, at.number(kind), ranges)
+    })
+}
+
+/// A node of these delimiters and children, which ends at a place.
+pub fn inner_node<'a>(
+    alloc: Global,
+    kind: Kind,
+    at: Cursor,
+    end: u32,
+    opening: &[Piece<'a>],
+    children: List<Node<'a>>,
+    closing: &[Piece<'a>],
+) -> Result<Node<'a>, NoMemory>
+    requires opening { width (items opening.now) < 2 ^ 32 }
+    requires closing { width (items closing.now) < 2 ^ 32 }
+    ensures { IfOk result (λ n. view n ≡ tree (inner_label at.place at.next kind end (items opening.now) (items closing.now)) (views children.entry)) }
+{
+    let ranges = Ranges {
+        start: at.place,
+        end,
+        open_w: width(opening),
+        close_w: width(closing),
+    };
+    Ok(Node {
+        opening: texts(alloc, opening)?,
+        closing: texts(alloc, closing)?,
+        children,
+        ..bare_node(alloc, kind, at.number(kind), ranges)
+    })
+}
