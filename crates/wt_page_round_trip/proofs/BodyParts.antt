@@ -1,0 +1,186 @@
+-- Blocks are nodes that are written, and what stands between them is separators.
+use Rattle.std.proofs.Common.{◌≡◌, ℕ, ◌+◌, ◌<◌, Bool, true, false, None, List, [], ◌∷◌, ◌++◌, take, drop, map, IsUtf8, refl, sym, ap, ◌∙◌, subst, arith, append_assoc, append-nil}
+use Rattle.std.specs.Prelude.{◌==◌, ◌&&◌, ◌||◌}
+use Rattle.std.specs.List.{flat_map, AllByRecursion}
+use Rattle.std.proofs.lemmas.Bool.Decides.{nat_tests}
+use Rattle.std.proofs.lemmas.List.{map-append, take-append-drop}
+use Rattle.std.proofs.lemmas.Str.{IsUtf8-nil, IsUtf8-append}
+use Rattle.wt_span.specs.declared.form.Form.{Form}
+use Rattle.wt_span.specs.declared.form.Form.TheVariants as form
+use Rattle.wt_span.specs.Items.{Item, char, whole, sources, sign}
+use Rattle.wt_tree.specs.declared.kind.Kind.TheVariants as kind
+use Rattle.wt_lines.specs.Lines.{content}
+use Rattle.wt_fitting.specs.Fit.{is_blank as is_white}
+use Rattle.wt_fitting.specs.Rows.{is_inline}
+use Rattle.wt_round_trip.specs.Written.{has_level}
+use Rattle.wt_round_trip.proofs.Json.{ascii_then}
+use Rattle.wt_inline.specs.declared.loose.Loose.TheVariants.{Text, Sep}
+use Rattle.wt_inline.specs.Inline.{inline_trees}
+use Rattle.wt_inline.specs.ItemTree.{ItemTrees, forest, held_by_all}
+use Rattle.wt_inline.specs.Parts.{Part, loose, node, part, parts, children, whole_tree, loose_kind}
+use Rattle.wt_build.specs.declared.block.BlockKind.{BlockKind}
+use Rattle.wt_build.specs.declared.heading.HeadingParts.{HeadingParts}
+use Rattle.wt_build.specs.Headings.{heading_parts}
+use Rattle.wt_build.specs.Rows.{ending}
+use Rattle.wt_build.specs.Blocks.{joined, line_parts, para, heading_by, heading, block, lead, without_lead, last_ending, without_ending, around}
+use Rattle.wt_annotate.specs.Labels.{width, label_at}
+use Rattle.wt_page_round_trip.proofs.TextItems.{AreTexts, BeginsLow, EndsLow, cut_after, cut_items_before}
+use Rattle.wt_page_round_trip.proofs.OfPage.{IsPageItem, IsPageForm, AreOfPage}
+use Rattle.wt_page_round_trip.proofs.Parts.{IsWrittenNode, AreWrittenParts, wide_append, children_written}
+use Rattle.wt_page_round_trip.proofs.Forms.{mark_node}
+use Rattle.wt_page_round_trip.proofs.Inline.{IsInlineParent, text_parts}
+use Rattle.wt_page_round_trip.proofs.PageLines.{IsPageLine, IsBetween, AreBlockParts, is_white_byte, all_left, all_right, all_both, last_between, content_ending}
+
+-- ---- paragraphs
+
+line_is : (l : List Item) → line_parts l ≡ parts Text l
+line_is l = sym (map-append (part Text) (content l) (ending l)) ∙ ap (parts Text) (content_ending l)
+
+pub lines_are : (ls : List (List Item)) → flat_map line_parts ls ≡ parts Text (joined ls)
+lines_are [] = refl
+lines_are (l ∷ ls) = ap (λ ps. ps ++ flat_map line_parts ls) (line_is l) ∙ ap (λ ps. parts Text l ++ ps) (lines_are ls) ∙ sym (map-append (part Text) l (joined ls))
+
+inline_held : (b : Bool) → b ≡ true → (c : Bool) → (b || c) ≡ true
+inline_held true e c = refl
+inline_held false e c = absurd cc
+
+para_parent : IsInlineParent kind.Para
+para_parent = record { text = refl; elements = λ k h. inline_held (is_inline k) h _ }
+
+heading_parent : (n : ℕ) → IsInlineParent (kind.Heading n)
+heading_parent n = record { text = refl; elements = λ k h. inline_held (is_inline k) h _ }
+
+pub para_node : (ls : List (List Item)) → IsPageLine (joined ls) → IsWrittenNode 2 kind.Body (para ls)
+unfolding para label_at
+para_node ls h =
+    let ps : List Part = flat_map line_parts ls in
+    let ts : ItemTrees = forest (children ps) in
+    let w : AreWrittenParts 3 kind.Para [] ps = subst (AreWrittenParts 3 kind.Para []) (sym (lines_are ls)) (text_parts 3 kind.Para (omega arith) para_parent [] (joined ls) h.texts h.page) in
+    let a : width (held_by_all ts ++ []) ≡ width (held_by_all ts) + 0 = wide_append (held_by_all ts) [] in
+    record {
+      element = λ at next. refl;
+      written = λ at next room some few. (
+        omega arith,
+        refl,
+        record {
+          level = refl;
+          number = (some, omega arith);
+          places = (omega arith, room, omega arith, omega arith);
+          source = record { own = refl; opening = IsUtf8-nil; closing = IsUtf8-nil };
+          shown = refl;
+          attrs = refl;
+          mark = refl;
+          mw = refl;
+        },
+        refl,
+        children_written 3 kind.Para ps (at + 0) (next + 1) w (omega arith) (omega arith) (omega arith),
+      );
+    }
+
+-- ---- headings
+
+form_utf8 : (f : Form) (bs : List ℕ) → IsPageForm f bs → IsUtf8 bs
+form_utf8 form.Chars bs h = absurd h
+form_utf8 (form.Entity c) bs h = h.1
+form_utf8 form.Nowiki bs h = h.1
+form_utf8 form.Extension bs h = h.1
+form_utf8 form.Function bs h = absurd h
+form_utf8 form.Comment bs h = h.1
+form_utf8 form.Include bs h = h.1
+form_utf8 form.Hidden bs h = h.1
+form_utf8 form.EmptyCall bs h = absurd h
+
+-- texts with the forms between them are UTF-8
+texts_utf8 : (run : List ℕ) (xs : List Item) → AreTexts run xs → AreOfPage xs → IsUtf8 (run ++ sources xs)
+texts_utf8 run [] t p = subst IsUtf8 (sym (append-nil run)) t
+texts_utf8 run (char o b ∷ xs) t p = subst IsUtf8 (append_assoc run (b ∷ []) (sources xs)) (texts_utf8 (run ++ b ∷ []) xs t p.1)
+texts_utf8 run (whole f o bs ∷ xs) t p = IsUtf8-append run (bs ++ sources xs) t.0 (IsUtf8-append bs (sources xs) (form_utf8 f bs p.0.1) (texts_utf8 [] xs t.1 p.1))
+
+-- where the delimiters of a heading end, and its level
+pub record IsHeadingLine (xs : List Item) (h : HeadingParts) : Type 0 where
+  pub level : has_level (kind.Heading h.level) ≡ true
+  pub open_ends : EndsLow (take h.open_len xs)
+  pub close_begins : BeginsLow (drop h.inside_len (drop h.open_len xs))
+
+heading_by_node : (xs : List Item) (h : HeadingParts) → IsPageLine xs → IsHeadingLine xs h → IsWrittenNode 2 kind.Body (heading_by h xs)
+unfolding label_at inline_trees
+heading_by_node xs h l c =
+    let os : List Item = take h.open_len xs in
+    let rest : List Item = drop h.open_len xs in
+    let is : List Item = take h.inside_len rest in
+    let cs : List Item = drop h.inside_len rest in
+    let t : AreTexts [] (os ++ rest) = subst (AreTexts []) (sym (take-append-drop h.open_len xs)) l.texts in
+    let p : AreOfPage (os ++ rest) = subst AreOfPage (sym (take-append-drop h.open_len xs)) l.page in
+    let q : AreTexts [] os × AreTexts [] rest = cut_after os rest c.open_ends t in
+    let u : AreTexts [] (is ++ cs) = subst (AreTexts []) (sym (take-append-drop h.inside_len rest)) q.1 in
+    let v : AreOfPage (is ++ cs) = subst AreOfPage (sym (take-append-drop h.inside_len rest)) (all_right IsPageItem os rest p) in
+    let r : AreTexts [] is × AreTexts [] cs = cut_items_before [] is cs c.close_begins u in
+    let ps : List Part = parts Text is in
+    let ts : ItemTrees = forest (children ps) in
+    let w : AreWrittenParts 3 (kind.Heading h.level) [] ps = text_parts 3 (kind.Heading h.level) (omega arith) (heading_parent h.level) [] is r.0 (all_left IsPageItem is cs v) in
+    let a : width (os ++ (held_by_all ts ++ cs)) ≡ width os + width (held_by_all ts ++ cs) = wide_append os (held_by_all ts ++ cs) in
+    let b : width (held_by_all ts ++ cs) ≡ width (held_by_all ts) + width cs = wide_append (held_by_all ts) cs in
+    record {
+      element = λ at next. refl;
+      written = λ at next room some few. (
+        omega arith,
+        refl,
+        record {
+          level = c.level;
+          number = (some, omega arith);
+          places = (omega arith, room, omega arith, omega arith);
+          source = record { own = refl; opening = texts_utf8 [] os q.0 (all_left IsPageItem os rest p); closing = texts_utf8 [] cs r.1 (all_right IsPageItem is cs v) };
+          shown = refl;
+          attrs = refl;
+          mark = refl;
+          mw = refl;
+        },
+        refl,
+        children_written 3 (kind.Heading h.level) ps (at + width os) (next + 1) w (omega arith) (omega arith) (omega arith),
+      );
+    }
+
+pub heading_node : (xs : List Item) → IsPageLine xs → IsHeadingLine xs (heading_parts (map sign xs)) → IsWrittenNode 2 kind.Body (heading xs)
+unfolding heading
+heading_node xs l c = heading_by_node xs (heading_parts (map sign xs)) l c
+
+-- ---- what stands in a body
+
+-- a white character by itself, or a node that is written
+abbrev pub IsBodyPart : Part → Type 0
+IsBodyPart (loose j o b) = (j ≡ Sep) × (o ≡ None) × (is_white_byte b ≡ true)
+IsBodyPart (node t) = IsWrittenNode 2 kind.Body t
+
+white_on : (run : List ℕ) (b : ℕ) → is_white run ≡ true → is_white_byte b ≡ true → is_white (run ++ b ∷ []) ≡ true
+white_on [] b h e = e
+white_on (r ∷ run) b h e = by_test (r == 32 || (r == 9 || r == 10)) h (λ g. white_on run b g e)
+  where
+    by_test : (t : Bool) → (t && is_white run) ≡ true → (is_white run ≡ true → is_white (run ++ b ∷ []) ≡ true) → (t && is_white (run ++ b ∷ [])) ≡ true
+    by_test true h f = f h
+    by_test false h f = h
+
+white_low : (b : ℕ) → is_white_byte b ≡ true → b < 128
+white_low b e = grind (arith, nat_tests)
+
+body_written : (run : List ℕ) (ps : List Part) → is_white run ≡ true → IsUtf8 run → AllByRecursion IsBodyPart ps → AreWrittenParts 2 kind.Body run ps
+body_written run [] w u h = (u, w)
+body_written run (loose j o b ∷ ps) w u h =
+    (ap loose_kind h.0.0, h.0.1, body_written (run ++ b ∷ []) ps (white_on run b w h.0.2) (IsUtf8-append run (b ∷ []) u (ascii_then b [] (white_low b h.0.2) IsUtf8-nil)) h.1)
+body_written run (node t ∷ ps) w u h = ((u, w), h.0, body_written [] ps refl IsUtf8-nil h.1)
+
+pub body_parts_written : (ps : List Part) → AllByRecursion IsBodyPart ps → AreWrittenParts 2 kind.Body [] ps
+body_parts_written ps h = body_written [] ps refl IsUtf8-nil h
+
+pub between_parts : (xs : List Item) → AreOfPage xs → AllByRecursion IsBetween xs → AllByRecursion IsBodyPart (parts Sep xs)
+between_parts [] p h = tt
+between_parts (char o b ∷ xs) p h = ((refl, p.0, h.0), between_parts xs p.1 h.1)
+between_parts (whole f o bs ∷ xs) p h =
+    let n : IsWrittenNode 2 kind.Body (whole_tree f o bs) = subst (λ x. IsWrittenNode 2 kind.Body (whole_tree f x bs)) (sym p.0.0) (mark_node 2 kind.Body f bs (omega arith) h.0 p.0.1) in
+    (n, between_parts xs p.1 h.1)
+
+-- a block with what stands before and behind it
+pub around_parts : (k : BlockKind) (ls : List (List Item)) → AreBlockParts ls → IsWrittenNode 2 kind.Body (block k (without_ending (without_lead ls))) → AllByRecursion IsBodyPart (around k ls)
+around_parts k ls h n =
+    let rest : List (List Item) = without_lead ls in
+    all_both IsBodyPart (parts Sep (lead ls)) (node (block k (without_ending rest)) ∷ parts Sep (last_ending rest)) (between_parts (lead ls) h.before_page h.before)
+    (n, between_parts (last_ending rest) h.behind_page (last_between rest))

@@ -1,0 +1,203 @@
+-- The lines of a page: texts in UTF-8 and whole forms.
+use Rattle.std.proofs.Common.{◌≡◌, ℕ, suc, ◌+◌, Bool, true, false, List, [], ◌∷◌, ◌++◌, take, drop, IsUtf8, refl, sym, ap, ◌∙◌, subst, arith, append_assoc, append-nil}
+use Rattle.std.specs.Prelude.{◌==◌, not, if◌then◌else◌}
+use Rattle.std.specs.List.{AllByRecursion, prefix_len}
+use Rattle.std.proofs.lemmas.Bool.{eqb-true}
+use Rattle.std.proofs.lemmas.List.{take-append-drop}
+use Rattle.std.proofs.lemmas.Str.{IsUtf8-append, IsUtf8-nil}
+use Rattle.wt_fitting.specs.Fit.{is_blank as is_white}
+use Rattle.wt_span.specs.Items.{Item, char, whole, is_mark, is_mark_form}
+use Rattle.wt_span.specs.Runs.{IsRun, AreRuns}
+use Rattle.wt_lines.specs.Lines.{is_break_item, goes_on, content}
+use Rattle.wt_build.specs.Rows.{ending}
+use Rattle.wt_build.specs.Blocks.{joined, lead_len, lead, without_lead, last_ending, without_ending}
+use Rattle.wt_page_round_trip.proofs.TextItems.{AreTexts, BeginsLow, EndsLow, cut_after, cut_items_before}
+use Rattle.wt_page_round_trip.proofs.OfPage.{IsPageItem, AreOfPage}
+
+-- ---- all items of a list
+
+pub all_left : {A : Type 0} (P : A → Type 0) (xs ys : List A) → AllByRecursion P (xs ++ ys) → AllByRecursion P xs
+all_left P [] ys h = tt
+all_left P (x ∷ xs) ys h = (h.0, all_left P xs ys h.1)
+
+pub all_right : {A : Type 0} (P : A → Type 0) (xs ys : List A) → AllByRecursion P (xs ++ ys) → AllByRecursion P ys
+all_right P [] ys h = h
+all_right P (x ∷ xs) ys h = all_right P xs ys h.1
+
+pub all_both : {A : Type 0} (P : A → Type 0) (xs ys : List A) → AllByRecursion P xs → AllByRecursion P ys → AllByRecursion P (xs ++ ys)
+all_both P [] ys h k = k
+all_both P (x ∷ xs) ys h k = (h.0, all_both P xs ys h.1 k)
+
+pub all_taken : {A : Type 0} (P : A → Type 0) (n : ℕ) (xs : List A) → AllByRecursion P xs → AllByRecursion P (take n xs)
+all_taken {A} P n xs h = all_left P (take n xs) (drop n xs) (subst (λ (ys : List A). AllByRecursion P ys) (sym (take-append-drop n xs)) h)
+
+pub all_dropped : {A : Type 0} (P : A → Type 0) (n : ℕ) (xs : List A) → AllByRecursion P xs → AllByRecursion P (drop n xs)
+all_dropped {A} P n xs h = all_right P (take n xs) (drop n xs) (subst (λ (ys : List A). AllByRecursion P ys) (sym (take-append-drop n xs)) h)
+
+-- ---- texts that are put together
+
+texts_behind : (run s : List ℕ) (ys : List Item) → IsUtf8 run → AreTexts s ys → AreTexts (run ++ s) ys
+texts_behind run s [] u t = IsUtf8-append run s u t
+texts_behind run s (char o b ∷ ys) u t = subst (λ r. AreTexts r ys) (sym (append_assoc run s (b ∷ []))) (texts_behind run (s ++ b ∷ []) ys u t)
+texts_behind run s (whole f o bs ∷ ys) u t = (IsUtf8-append run s u t.0, t.1)
+
+texts_both : (run : List ℕ) (xs ys : List Item) → AreTexts run xs → AreTexts [] ys → AreTexts run (xs ++ ys)
+texts_both run [] ys h t = subst (λ r. AreTexts r ys) (append-nil run) (texts_behind run [] ys h t)
+texts_both run (char o b ∷ xs) ys h t = texts_both (run ++ b ∷ []) xs ys h t
+texts_both run (whole f o bs ∷ xs) ys h t = (h.0, texts_both [] xs ys h.1 t)
+
+-- ---- lines
+
+pub record IsPageLine (l : List Item) : Type 0 where
+  pub texts : AreTexts [] l
+  pub page : AreOfPage l
+
+break_low : (x : Item) → is_break_item x ≡ true → EndsLow (x ∷ [])
+break_low (char o b) e = let f : b ≡ 10 = eqb-true b 10 e in omega (arith, f)
+break_low (whole f o bs) e = absurd cc
+
+not_goes : (b : Bool) → not b ≡ false → b ≡ true
+not_goes true e = refl
+not_goes false e = absurd cc
+
+-- a line before another ends with its line break
+line_ends : (r : List Item) (y : Item) (others : List Item) → IsRun goes_on r (y ∷ others) → EndsLow r
+line_ends [] y others h = absurd h
+line_ends (x ∷ []) y others h = break_low x (not_goes (is_break_item x) h)
+line_ends (x ∷ z ∷ zs) y others h = line_ends (z ∷ zs) y others h.1
+
+cut_line : (r others : List Item) → IsRun goes_on r others → AreTexts [] (r ++ others) → AreTexts [] r × AreTexts [] others
+cut_line r [] h t = (subst (AreTexts []) (append-nil r) t, cut_none)
+  where
+    cut_none : AreTexts [] []
+    cut_none = (cut_after [] [] tt IsUtf8-nil).1
+cut_line r (y ∷ others) h t = cut_after r (y ∷ others) (line_ends r y others h) t
+
+pub page_lines : (rs : List (List Item)) (xs : List Item) → AreRuns goes_on rs xs → AreTexts [] xs → AreOfPage xs → AllByRecursion IsPageLine rs
+page_lines [] xs h t p = tt
+page_lines (r ∷ rs) xs h t p =
+    let q : AreTexts [] r × AreTexts [] h.0 = cut_line r h.0 h.2 (subst (AreTexts []) h.1 t) in
+    let v : AreOfPage (r ++ h.0) = subst AreOfPage h.1 p in
+    (record { texts = q.0; page = all_left IsPageItem r h.0 v }, page_lines rs h.0 h.3 q.1 (all_right IsPageItem r h.0 v))
+
+pub joined_line : (ls : List (List Item)) → AllByRecursion IsPageLine ls → IsPageLine (joined ls)
+joined_line [] h = record { texts = IsUtf8-nil; page = tt }
+joined_line (l ∷ ls) h =
+    let q : IsPageLine (joined ls) = joined_line ls h.1 in
+    record { texts = texts_both [] l (joined ls) h.0.texts q.texts; page = all_both IsPageItem l (joined ls) h.0.page q.page }
+
+-- ---- marks and line breaks
+
+abbrev pub is_white_byte : ℕ → Bool
+is_white_byte b = is_white (b ∷ [])
+
+-- an item that stands between blocks: a space, a tab, a line break or a mark
+abbrev pub IsBetween : Item → Type 0
+IsBetween (char o b) = is_white_byte b ≡ true
+IsBetween (whole f o bs) = is_mark_form f ≡ true
+
+abbrev IsMark : Item → Type 0
+IsMark x = is_mark x ≡ true
+
+marks_low : (xs : List Item) → AllByRecursion IsMark xs → EndsLow xs
+marks_low [] h = tt
+marks_low (char o b ∷ []) h = absurd (let e = h.0 in cc)
+marks_low (whole f o bs ∷ []) h = tt
+marks_low (x ∷ y ∷ xs) h = marks_low (y ∷ xs) h.1
+
+marks_between : (xs : List Item) → AllByRecursion IsMark xs → AllByRecursion IsBetween xs
+marks_between [] h = tt
+marks_between (char o b ∷ xs) h = absurd (let e = h.0 in cc)
+marks_between (whole f o bs ∷ xs) h = (h.0, marks_between xs h.1)
+
+taken_marks : (l : List Item) → AllByRecursion IsMark (take (prefix_len is_mark l) l)
+taken_marks [] = tt
+taken_marks (x ∷ xs) = by_test (is_mark x) refl (taken_marks xs)
+  where
+    by_test : (b : Bool) → is_mark x ≡ b → AllByRecursion IsMark (take (prefix_len is_mark xs) xs) → AllByRecursion IsMark (take (if b then 1 + prefix_len is_mark xs else 0) (x ∷ xs))
+    by_test true e h = let z : 1 + prefix_len is_mark xs ≡ suc (prefix_len is_mark xs) = omega arith in subst (λ n. AllByRecursion IsMark (take n (x ∷ xs))) (sym z) (e, h)
+    by_test false e h = tt
+
+lead_marks : (ls : List (List Item)) → AllByRecursion IsMark (lead ls)
+lead_marks [] = tt
+lead_marks (l ∷ ls) = taken_marks l
+
+break_between : (x : Item) → AllByRecursion IsBetween (if is_break_item x then x ∷ [] else [])
+break_between (char o b) = by_test (b == 10) refl
+  where
+    by_test : (t : Bool) → (b == 10) ≡ t → AllByRecursion IsBetween (if t then char o b ∷ [] else [])
+    by_test true e = (ap is_white_byte (eqb-true b 10 e), tt)
+    by_test false e = tt
+break_between (whole f o bs) = tt
+
+pub ending_between : (l : List Item) → AllByRecursion IsBetween (ending l)
+ending_between [] = tt
+ending_between (x ∷ []) = break_between x
+ending_between (x ∷ y ∷ ys) = ending_between (y ∷ ys)
+
+pub last_between : (ls : List (List Item)) → AllByRecursion IsBetween (last_ending ls)
+last_between [] = tt
+last_between (l ∷ []) = ending_between l
+last_between (l ∷ m ∷ ls) = last_between (m ∷ ls)
+
+break_begins : (x : Item) → BeginsLow (if is_break_item x then x ∷ [] else [])
+break_begins (char o b) = by_test (b == 10) refl
+  where
+    by_test : (t : Bool) → (b == 10) ≡ t → BeginsLow (if t then char o b ∷ [] else [])
+    by_test true e = let f : b ≡ 10 = eqb-true b 10 e in omega (arith, f)
+    by_test false e = tt
+break_begins (whole f o bs) = tt
+
+ending_begins : (l : List Item) → BeginsLow (ending l)
+ending_begins [] = tt
+ending_begins (x ∷ []) = break_begins x
+ending_begins (x ∷ y ∷ ys) = ending_begins (y ∷ ys)
+
+last_begins : (ls : List (List Item)) → BeginsLow (last_ending ls)
+last_begins [] = tt
+last_begins (l ∷ []) = ending_begins l
+last_begins (l ∷ m ∷ ls) = last_begins (m ∷ ls)
+
+-- ---- the parts of a block's lines
+
+ending_by : (x : Item) (v : Bool) → (if v then [] else x ∷ []) ++ (if v then x ∷ [] else []) ≡ x ∷ []
+ending_by x true = refl
+ending_by x false = refl
+
+pub content_ending : (xs : List Item) → content xs ++ ending xs ≡ xs
+content_ending [] = refl
+content_ending (x ∷ []) = ending_by x (is_break_item x)
+content_ending (x ∷ y ∷ ys) = ap (λ zs. x ∷ zs) (content_ending (y ∷ ys))
+
+pub lead_joined : (ls : List (List Item)) → lead ls ++ joined (without_lead ls) ≡ joined ls
+lead_joined [] = refl
+lead_joined (l ∷ ls) = sym (append_assoc (take (lead_len l) l) (drop (lead_len l) l) (joined ls)) ∙ ap (λ ys. ys ++ joined ls) (take-append-drop (lead_len l) l)
+
+pub end_joined : (ls : List (List Item)) → joined (without_ending ls) ++ last_ending ls ≡ joined ls
+end_joined [] = refl
+end_joined (l ∷ []) = ap (λ ys. ys ++ ending l) (append-nil (content l)) ∙ content_ending l ∙ sym (append-nil l)
+end_joined (l ∷ m ∷ ls) = append_assoc l (joined (without_ending (m ∷ ls))) (last_ending (m ∷ ls)) ∙ ap (λ ys. l ++ ys) (end_joined (m ∷ ls))
+
+-- what stands before a block, the block and what stands behind it
+pub record AreBlockParts (ls : List (List Item)) : Type 0 where
+  pub before : AllByRecursion IsBetween (lead ls)
+  pub before_page : AreOfPage (lead ls)
+  pub line : IsPageLine (joined (without_ending (without_lead ls)))
+  pub behind_page : AreOfPage (last_ending (without_lead ls))
+
+pub block_parts : (ls : List (List Item)) → IsPageLine (joined ls) → AreBlockParts ls
+block_parts ls h =
+    let rest : List (List Item) = without_lead ls in
+    let a : AreTexts [] (lead ls ++ joined rest) = subst (AreTexts []) (sym (lead_joined ls)) h.texts in
+    let p : AreOfPage (lead ls ++ joined rest) = subst AreOfPage (sym (lead_joined ls)) h.page in
+    let b : AreTexts [] (joined (without_ending rest) ++ last_ending rest) = subst (AreTexts []) (sym (end_joined rest)) (cut_after (lead ls) (joined rest) (marks_low (lead ls) (lead_marks ls)) a).1 in
+    let q : AreOfPage (joined (without_ending rest) ++ last_ending rest) = subst AreOfPage (sym (end_joined rest)) (all_right IsPageItem (lead ls) (joined rest) p) in
+    record {
+      before = marks_between (lead ls) (lead_marks ls);
+      before_page = all_left IsPageItem (lead ls) (joined rest) p;
+      line = record {
+        texts = (cut_items_before [] (joined (without_ending rest)) (last_ending rest) (last_begins rest) b).0;
+        page = all_left IsPageItem (joined (without_ending rest)) (last_ending rest) q;
+      };
+      behind_page = all_right IsPageItem (joined (without_ending rest)) (last_ending rest) q;
+    }

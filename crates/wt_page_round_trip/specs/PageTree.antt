@@ -1,0 +1,9 @@
+-- The annotated tree of a page: its items, what they mean, and where each part of that stands.
+use Rattle.std.specs.Prelude.{ℕ, List}
+use Rattle.wt_tree.specs.Tree.{Tree}
+use Rattle.wt_expand.specs.PageItems.{page_items}
+use Rattle.wt_build.specs.Meaning.{meaning}
+use Rattle.wt_annotate.specs.Annotated.{annotated}
+
+abbrev pub page_tree : List ℕ → Tree
+page_tree page = annotated (meaning (page_items page))

@@ -1,0 +1,7 @@
+//! The law that joins pages and their HTML: what is written for a page is read as the page's own
+//! annotated tree.
+#![tactic(auto)]
+
+mod laws;
+
+pub use laws::page_is_read;
