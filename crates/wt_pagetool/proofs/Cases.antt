@@ -1,84 +1,29 @@
 -- Worked cases of the definitions, each computed.
-use Rattle.std.proofs.Common.{◌≡◌, ℕ, [], ◌∷◌, ◌++◌, true, false, refl, append_assoc, rules}
+use Rattle.std.proofs.Common.{◌≡◌, ℕ, [], ◌∷◌, ◌++◌, refl, append_assoc, rules}
 use Rattle.std.specs.Prelude.{Some, None, codes, decimal}
-use Rattle.wt_pagetool.specs.Headings.{is_heading, heading_parts}
-use Rattle.wt_pagetool.specs.Lines.{line_kind}
-use Rattle.wt_pagetool.specs.Blocks.{para, heading, sep, pieces, blocks}
-use Rattle.wt_pagetool.specs.Unbuilt.{first_unbuilt}
 use Rattle.wt_names.specs.Namespace.{prefix_of, full_name_of}
 use Rattle.wt_names.specs.Reading.{whole_in, cut_namespace, title_in}
 use Rattle.wt_names.specs.Good.{is_forbidden, is_allowed, has_signature, is_step, begins_with_step, holds_step, ends_with_step, is_good, read_text}
-use Rattle.wt_pagetool.specs.Words.{page_name, html, wikitext, command_of}
+use Rattle.wt_pagetool.specs.Words.{page_name, html, ranges, wikitext, command_of}
 use Rattle.wt_tree.specs.Tree.{Tree}
 use Rattle.wt_html_grammar.specs.declared.why.HtmlWhy.TheVariants as ill_why
 use Rattle.wt_fitting.specs.declared.why.FitWhy.TheVariants as fit_whys
 use Rattle.wt_fitting.specs.Read.{page as as_page, misfit}
-use Rattle.wt_pagetool.specs.Answers.{refused, source_answer, answer_told}
-use Rattle.wt_pagetool.specs.Refusals.{usage, unsourced, html_refused, does_not_fit, html_why, fit_why, not_built, html_too_long, braces_too_deep, edit_refused, bad_content, nested, text_of, edit_why, content_why, line_of}
-
--- a heading, a separator of two line breaks, and a paragraph
-a_page : blocks (codes "== A ==\n\nb") ≡ heading (codes "== A ==") ∷ sep (codes "\n\n") ∷ para (codes "b") ∷ []
-unfolding blocks pieces line_kind is_heading
-a_page = refl
-
--- text lines that follow one another are one paragraph, and its last line break stands after it
-two_lines : blocks (codes "a\nb\n\nc\n") ≡ para (codes "a\nb") ∷ sep (codes "\n\n") ∷ para (codes "c") ∷ sep (codes "\n") ∷ []
-unfolding blocks pieces line_kind is_heading
-two_lines = refl
-
--- a heading ends a paragraph, and the line break between them is a separator
-heading_after : blocks (codes "a\n= B =") ≡ para (codes "a") ∷ sep (codes "\n") ∷ heading (codes "= B =") ∷ []
-unfolding blocks pieces line_kind is_heading
-heading_after = refl
-
--- the empty page has no blocks
-empty_page : blocks [] ≡ []
-unfolding blocks pieces
-empty_page = refl
-
--- a page of line breaks alone is one separator
-breaks_alone : blocks (codes "\n\n") ≡ sep (codes "\n\n") ∷ []
-unfolding blocks pieces line_kind is_heading
-breaks_alone = refl
-
--- five signs alone: a heading of level 2 round one sign
-five_signs : heading_parts (codes "=====") ≡ record { level = 2; open_len = 2; inside_len = 1 }
-unfolding heading_parts
-five_signs = refl
-
--- the smaller run decides, and the rest of the larger one is text
-uneven : heading_parts (codes "=== x ==") ≡ record { level = 2; open_len = 2; inside_len = 3 }
-unfolding heading_parts
-uneven = refl
-
--- one sign on both sides of a space: the space is of the open delimiter, and nothing stands inside
-one_space : heading_parts (codes "= =") ≡ record { level = 1; open_len = 2; inside_len = 0 }
-unfolding heading_parts
-one_space = refl
-
--- `==` alone, also with spaces after it, is no heading
-two_signs : is_heading (codes "==  ") ≡ false
-unfolding is_heading
-two_signs = refl
-
-three_signs : is_heading (codes "===") ≡ true
-unfolding is_heading
-three_signs = refl
-
--- the first place of a form that isn't built
-a_star : first_unbuilt (codes "a*b") ≡ Some 1
-a_star = refl
-
-a_rule : first_unbuilt (codes "a\n---- x") ≡ Some 2
-a_rule = refl
-
-spaces_inside : first_unbuilt (codes "a  b --- c") ≡ None
-spaces_inside = refl
+use Rattle.wt_pagetool.specs.Answers.{refused, page_answer, ranges_of, source_answer, answer_told}
+use Rattle.wt_pagetool.specs.Refusals.{usage, absent, not_utf8_at, unsourced, html_refused, does_not_fit, html_why, fit_why, not_built, html_too_long, braces_too_deep, edit_refused, bad_content, nested, text_of, edit_why, content_why, line_of}
 
 -- the words
 html_main : command_of (codes "html" ∷ codes "main page" ∷ []) ≡ Some (html (codes "Main page"))
 unfolding command_of page_name read_text is_allowed is_forbidden title_in whole_in cut_namespace is_good full_name_of prefix_of has_signature is_step begins_with_step holds_step ends_with_step
 html_main = refl
+
+ranges_main : command_of (codes "ranges" ∷ codes "main page" ∷ []) ≡ Some (ranges (codes "Main page"))
+unfolding command_of page_name read_text is_allowed is_forbidden title_in whole_in cut_namespace is_good full_name_of prefix_of has_signature is_step begins_with_step holds_step ends_with_step
+ranges_main = refl
+
+ranges_alone : command_of (codes "ranges" ∷ []) ≡ None
+unfolding command_of
+ranges_alone = refl
 
 html_alone : command_of (codes "html" ∷ []) ≡ None
 unfolding command_of
@@ -119,10 +64,19 @@ no_place : source_answer (misfit 2 fit_whys.Place) ≡ refused (does_not_fit 2 f
 unfolding source_answer
 no_place = refl
 
+-- a folder without a page of this title, and a page that isn't UTF-8, whatever is made of a page
+no_page : page_answer None ranges_of ≡ refused absent
+unfolding page_answer
+no_page = refl
+
 -- the lines, with the digits of a number as they stand
 not_built_line : (place : ℕ) → line_of (not_built place) ≡ codes "wtround: not built at " ++ decimal place ++ codes "\n"
 unfolding line_of text_of
 not_built_line place = refl
+
+not_utf8_line : (place : ℕ) → line_of (not_utf8_at place) ≡ codes "wtround: page not UTF-8 at " ++ decimal place ++ codes "\n"
+unfolding line_of text_of
+not_utf8_line place = refl
 
 html_line : line_of html_too_long ≡ codes "wtround: html too long\n"
 unfolding line_of text_of

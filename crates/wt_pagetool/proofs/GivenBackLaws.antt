@@ -1,6 +1,6 @@
 -- From reading back to `run`: what `wikitext` answers for the HTML of a page.
 use Rattle.std.proofs.Common.{◌≡◌, ℕ, ◌≤◌, List, length, true, false, Bool, cond, refl, sym, ap, ◌∙◌, subst, arith, inl, inr}
-use Rattle.std.specs.Prelude.{nat_lt, Option, Some, None, option_map, IfSome, Result, Ok, Err}
+use Rattle.std.specs.Prelude.{IsUtf8, nat_lt, Option, Some, None, option_map, IfSome, Result, Ok, Err}
 use Rattle.std.specs.Io.KnownBytes.{Appends}
 use Rattle.std.proofs.lemmas.Bool.Decides.{nat_tests}
 use Rattle.wt_outer.specs.Device.{Pages}
@@ -8,59 +8,58 @@ use Rattle.wt_markup.specs.Html.{html_text}
 use Rattle.wt_fitting.specs.Read.{read}
 use Rattle.wt_pagetool.specs.declared.output.Output.{Output}
 use Rattle.wt_pagetool.specs.declared.refusal.Reason.{Reason}
-use Rattle.wt_pagetool.specs.declared.refusal.Reason.TheVariants.{Usage, Absent, TooLong, NotBuilt, HtmlTooLong, InputTooLong, Html, Unfit, Unsourced, ReadFault, FolderFault, NoMemory}
+use Rattle.wt_pagetool.specs.declared.refusal.Reason.TheVariants.{Usage, Absent, TooLong, NotUtf8, NotBuilt, HtmlTooLong, InputTooLong, Html, Unfit, Unsourced, ReadFault, FolderFault, NoMemory}
 use Rattle.wt_pagetool.specs.Outputs.{output_bytes}
-use Rattle.wt_pagetool.specs.Refusals.{html_too_long, too_long}
+use Rattle.wt_pagetool.specs.Refusals.{html_too_long}
 use Rattle.wt_pagetool.specs.PageTree.{page_tree}
-use Rattle.wt_pagetool.specs.Unbuilt.{first_unbuilt}
+use Rattle.wt_not_built.specs.Unbuilt.{IsBuilt}
 use Rattle.wt_pagetool.specs.Words.{wikitext, command_of}
-use Rattle.wt_pagetool.specs.Answers.{done, refused, html_built, html_answer, source_answer, wikitext_answer, answer_told}
+use Rattle.wt_pagetool.specs.Answers.{done, refused, html_of, html_answer, source_answer, wikitext_answer, answer_told}
 use Rattle.wt_pagetool.specs.Reasons.{Answered}
 use Rattle.wt_pagetool.specs.Reports.{Sunk, Reported}
 use Rattle.wt_pagetool.specs.GivenBack.{IsReadBack, IsGivenBack, GaveBack}
+use Rattle.wt_pagetool.proofs.PageLaws.{text_of, built_of, page_made}
 use Rattle.wt_pagetool.proofs.AnswerLaws.{wikitext_within}
 use Rattle.wt_pagetool.proofs.WikitextLaws.{source_sourced}
 use Rattle.wt_pagetool.proofs.RunLaws.{told_wikitext}
-use Rattle.wt_pagetool.proofs.WrittenPages.{page_is_read, same_page}
+use Rattle.wt_pagetool.proofs.WrittenPages.{tree_is_read, same_page}
 use Rattle.wt_round_trip.specs.Written.{unranged}
 
 -- what an answer that is HTML says of the page
 record Written (page bytes : List ℕ) : Type 0 where
   pub within : length page ≤ 2097152
-  pub built : first_unbuilt page ≡ None
+  pub text : IsUtf8 page
+  pub built : IsBuilt page
   pub is : bytes ≡ html_text (page_tree page)
   pub few : length bytes ≤ 67108864
 
-within_parts : (page bytes : List ℕ) (v : Bool) → length page ≤ 2097152 → first_unbuilt page ≡ None → nat_lt 67108864 (length (html_text (page_tree page))) ≡ v
-    → cond v (refused html_too_long) (done (html_text (page_tree page))) ≡ done bytes → Written page bytes
-within_parts page bytes true within built is e = cc
-within_parts page bytes false within built is e =
-    let same : bytes ≡ html_text (page_tree page) = cc in
-    let few : length (html_text (page_tree page)) ≤ 67108864 = grind (arith, nat_tests) in
-    record { within = within; built = built; is = same; few = subst (λ bs. length bs ≤ 67108864) (sym same) few }
+abbrev IsFew : List ℕ → List ℕ → Type 0
+IsFew html bytes = (bytes ≡ html) × (length bytes ≤ 67108864)
 
-built_parts : (page bytes : List ℕ) (o : Option ℕ) → length page ≤ 2097152 → first_unbuilt page ≡ o → html_built page o ≡ done bytes → Written page bytes
-built_parts page bytes (Some place) within is e = cc
-built_parts page bytes None within is e = within_parts page bytes (nat_lt 67108864 (length (html_text (page_tree page)))) within is refl e
-
-page_parts : (page bytes : List ℕ) (v : Bool) → nat_lt 2097152 (length page) ≡ v → cond v (refused too_long) (html_built page (first_unbuilt page)) ≡ done bytes → Written page bytes
-page_parts page bytes true is e = cc
-page_parts page bytes false is e = built_parts page bytes (first_unbuilt page) (grind (arith, nat_tests)) refl e
+few_html : (html bytes : List ℕ) (v : Bool) → nat_lt 67108864 (length html) ≡ v → cond v (refused html_too_long) (done html) ≡ done bytes → IsFew html bytes
+few_html html bytes true is e = cc
+few_html html bytes false is e =
+    let same : bytes ≡ html = cc in
+    let few : length html ≤ 67108864 = grind (arith, nat_tests) in
+    (same, subst (λ bs. length bs ≤ 67108864) (sym same) few)
 
 written : (page bytes : List ℕ) → html_answer (Some page) ≡ done bytes → Written page bytes
-unfolding html_answer
-written page bytes e = page_parts page bytes (nat_lt 2097152 (length page)) refl e
+written page bytes e =
+    let m = page_made page bytes html_of e in
+    let html = html_text (page_tree page) in
+    let few = few_html html bytes (nat_lt 67108864 (length html)) refl m.is in
+    record { within = m.within; text = text_of page m.text; built = built_of page m.built; is = few.0; few = few.1 }
 
 -- a page whose HTML is read back is given back
-given_back : (page : List ℕ) → (first_unbuilt page ≡ None → length page ≤ 2097152 → IsReadBack page) → IsGivenBack page
+given_back : (page : List ℕ) → (IsUtf8 page → IsBuilt page → length page ≤ 2097152 → IsReadBack page) → IsGivenBack page
 given_back page back bytes e =
     let w = written page bytes e in
-    let b = back w.built w.within in
+    let b = back w.text w.built w.within in
     wikitext_within bytes w.few ∙ ap source_answer (ap read w.is ∙ b.reads) ∙ source_sourced b.tree None page refl (sym b.source)
 
 pub all_given_back : (page : List ℕ) → IsGivenBack page
 all_given_back page =
-    given_back page (λ built within. record { tree = unranged (page_tree page); reads = page_is_read page built (omega arith); source = same_page page })
+    given_back page (λ text built within. record { tree = unranged (page_tree page); reads = tree_is_read page text built (omega arith); source = same_page page })
 
 -- ---- the clause
 
@@ -72,6 +71,7 @@ gave_step page (Ok output) status o e a (inr r) = inr (omega arith)
 gave_step page (Err Usage) status o e a r = cc
 gave_step page (Err Absent) status o e a r = cc
 gave_step page (Err TooLong) status o e a r = cc
+gave_step page (Err (NotUtf8 place)) status o e a r = cc
 gave_step page (Err (NotBuilt place)) status o e a r = cc
 gave_step page (Err HtmlTooLong) status o e a r = cc
 gave_step page (Err InputTooLong) status o e a r = cc

@@ -1,32 +1,167 @@
--- The nodes of a plain page.
-use Rattle.std.proofs.Common.{◌≡◌, ℕ, ◌+◌, ◌<◌, ◌≤◌, List, [], ◌∷◌, ◌++◌, length, refl, sym, ap, ◌∙◌, append-nil, arith}
-use Rattle.std.specs.Str.{IsAscii}
-use Rattle.wt_tree.specs.Tree.{Tree, none, more}
-use Rattle.wt_pagetool.specs.Blocks.{pieces, blocks}
-use Rattle.wt_pagetool.specs.PageTree.{text_leaf, text_in, block_trees}
+-- What stands under a title: a page that is answered, or one that is refused.
+use Rattle.std.proofs.Common.{◌≡◌, ℕ, ◌<◌, ◌≤◌, List, length, take, true, false, Bool, cond, refl, sym, ap, ◌∙◌, subst, arith, length-take-le, inl, inr, ⊎_elim}
+use Rattle.std.specs.Prelude.{◌⊎◌, IsUtf8, nat_lt, Option, Some, None, option_map, MatchOption, IfSome, Result, Ok, Err}
+use Rattle.std.proofs.lemmas.Bool.Decides.{nat_tests}
+use Rattle.std.proofs.lemmas.List.{take_all}
+use Rattle.std.proofs.str.Laws.{order}
+use Rattle.wt_outer.specs.Device.{Pages, Gives, page_of}
+use Rattle.wt_outer.specs.declared.device.Fetched.TheVariants as fetched
+use Rattle.wt_tree.specs.Tree.{Tree}
+use Rattle.wt_markup.specs.Html.{html_text}
+use Rattle.wt_listing.specs.Listing.{listing}
+use Rattle.wt_utf8.specs.Places.{IsPlace, not_utf8_place}
+use Rattle.wt_utf8.proofs.PlaceLaws.{exact as exact_text, at_place}
+use Rattle.wt_not_built.specs.Unbuilt.{IsBuilt, IsFirstUnbuilt}
+use Rattle.wt_not_built.specs.FirstPlace.{first_unbuilt}
+use Rattle.wt_not_built.proofs.PlaceLaws.{exact as exact_form}
+use Rattle.wt_pagetool.specs.PageTree.{page_tree}
+use Rattle.wt_pagetool.specs.Refusals.{absent, too_long, not_utf8_at, not_built}
+use Rattle.wt_pagetool.specs.Answers.{Answer, done, refused, built_answer, text_answer, page_answer, IsAnswered, html_within, html_of, html_answer, ranges_of, ranges_answer}
+use Rattle.wt_pagetool.specs.declared.output.Output.{Output}
+use Rattle.wt_pagetool.specs.declared.refusal.Reason.{Reason}
+use Rattle.wt_pagetool.specs.declared.refusal.Reason.TheVariants.{Usage, Absent, TooLong, NotUtf8, NotBuilt, HtmlTooLong, InputTooLong, Html, Unfit, Unsourced, ReadFault, FolderFault, NoMemory}
+use Rattle.wt_pagetool.specs.Reasons.{Refuses, RefusesPage, IsUnbuilt, IsFetched, Answered}
 
-pub text_in_none : (at : ℕ) (bs : List ℕ) → length bs ≡ 0 → text_in at bs ≡ none
-text_in_none at [] e = refl
-text_in_none at (b ∷ bs) e = cc
+-- ---- texts and built pages
 
-pub text_in_some : (at : ℕ) (bs : List ℕ) → 0 < length bs → text_in at bs ≡ more (text_leaf at bs) none
-text_in_some at [] lt = absurd (omega arith)
-text_in_some at (b ∷ bs) lt = refl
+pub text_of : (page : List ℕ) → not_utf8_place page ≡ None → IsUtf8 page
+text_of page e = let P : Option ℕ → Type 0 = λ o. MatchOption o (IsUtf8 page) (λ n. IsPlace page n) in subst P e (exact_text page)
 
--- what is left to read makes the rest of the trees
-pub record NodesSoFar (done : List Tree) (id at : ℕ) (rest : List ℕ) (start : ℕ) (page : List ℕ) : Type 0 where
-  pub trees : done ++ block_trees id at (blocks rest) ≡ block_trees 1 start (blocks page)
-  pub ascii : IsAscii rest
-  pub room : id + length rest ≤ 1 + length page
+pub built_of : (page : List ℕ) → first_unbuilt page ≡ None → IsBuilt page
+built_of page e = let P : Option ℕ → Type 0 = λ o. MatchOption o (IsBuilt page) (λ n. IsFirstUnbuilt page n) in subst P e (exact_form page)
 
-no_blocks : blocks [] ≡ []
-unfolding blocks pieces
-no_blocks = refl
+pub place_within : (page : List ℕ) (n : ℕ) → not_utf8_place page ≡ Some n → n ≤ length page
+place_within page n e = (at_place page n e).within
 
-is_nil : (bs : List ℕ) → length bs ≡ 0 → bs ≡ []
-is_nil [] e = refl
-is_nil (b ∷ bs) e = cc
+-- ---- answers
 
-pub nodes_done : (done : List Tree) (id at : ℕ) (rest : List ℕ) (start : ℕ) (page : List ℕ) → NodesSoFar done id at rest start page → length rest ≡ 0 → done ≡ block_trees 1 start (blocks page)
-nodes_done done id at rest start page so e =
-    sym (append-nil done) ∙ ap (λ bs. done ++ block_trees id at bs) (sym (ap blocks (is_nil rest e) ∙ no_blocks)) ∙ so.trees
+short : (page : List ℕ) → length page ≤ 2097152 → nat_lt 2097152 (length page) ≡ false
+short page h = grind (arith, nat_tests)
+
+long : (page : List ℕ) → 2097152 < length page → nat_lt 2097152 (length page) ≡ true
+long page h = grind (arith, nat_tests)
+
+pub none_absent : RefusesPage None Absent
+unfolding page_answer
+none_absent made = refl
+
+pub page_too_long : (page : List ℕ) → 2097152 < length page → RefusesPage (Some page) TooLong
+unfolding page_answer
+page_too_long page h made = rw (long page h) refl
+
+pub page_not_utf8 : (page : List ℕ) (place : ℕ) → length page ≤ 2097152 → not_utf8_place page ≡ Some place → RefusesPage (Some page) (NotUtf8 place)
+unfolding page_answer
+page_not_utf8 page place h e made = rw (short page h, e) refl
+
+page_not_built : (page : List ℕ) (place : ℕ) → length page ≤ 2097152 → not_utf8_place page ≡ None → first_unbuilt page ≡ Some place → RefusesPage (Some page) (NotBuilt place)
+unfolding page_answer
+page_not_built page place h e f made = rw (short page h, e, f) refl
+
+pub page_unbuilt : (page : List ℕ) (reason : Reason) → length page ≤ 2097152 → not_utf8_place page ≡ None → IsUnbuilt (first_unbuilt page) reason → RefusesPage (Some page) reason
+page_unbuilt page Usage h e u = absurd u
+page_unbuilt page Absent h e u = absurd u
+page_unbuilt page TooLong h e u = absurd u
+page_unbuilt page (NotUtf8 place) h e u = absurd u
+page_unbuilt page (NotBuilt place) h e u = page_not_built page place h e u
+page_unbuilt page HtmlTooLong h e u = absurd u
+page_unbuilt page InputTooLong h e u = absurd u
+page_unbuilt page (Html place why) h e u = absurd u
+page_unbuilt page (Unfit n why) h e u = absurd u
+page_unbuilt page (Unsourced n) h e u = absurd u
+page_unbuilt page ReadFault h e u = absurd u
+page_unbuilt page FolderFault h e u = absurd u
+page_unbuilt page NoMemory h e u = λ made. tt
+
+pub page_answered : (page : List ℕ) → length page ≤ 2097152 → not_utf8_place page ≡ None → first_unbuilt page ≡ None → IsAnswered page
+unfolding page_answer
+page_answered page h e f made = rw (short page h, e, f) refl
+
+-- ---- what an answer that is done says of the page
+
+pub record IsMade (page : List ℕ) (made : List ℕ → Answer) (bytes : List ℕ) : Type 0 where
+  pub within : length page ≤ 2097152
+  pub text : not_utf8_place page ≡ None
+  pub built : first_unbuilt page ≡ None
+  pub is : made page ≡ done bytes
+
+built_made : (page bytes : List ℕ) (made : List ℕ → Answer) (o : Option ℕ) → length page ≤ 2097152 → not_utf8_place page ≡ None → first_unbuilt page ≡ o → built_answer page made o ≡ done bytes → IsMade page made bytes
+built_made page bytes made (Some place) within text is e = cc
+built_made page bytes made None within text is e = record { within = within; text = text; built = is; is = e }
+
+text_made : (page bytes : List ℕ) (made : List ℕ → Answer) (o : Option ℕ) → length page ≤ 2097152 → not_utf8_place page ≡ o → text_answer page made o ≡ done bytes → IsMade page made bytes
+text_made page bytes made (Some place) within is e = cc
+text_made page bytes made None within is e = built_made page bytes made (first_unbuilt page) within is refl e
+
+long_made : (page bytes : List ℕ) (made : List ℕ → Answer) (v : Bool) → nat_lt 2097152 (length page) ≡ v → cond v (refused too_long) (text_answer page made (not_utf8_place page)) ≡ done bytes → IsMade page made bytes
+long_made page bytes made true is e = cc
+long_made page bytes made false is e = text_made page bytes made (not_utf8_place page) (grind (arith, nat_tests)) refl e
+
+pub page_made : (page bytes : List ℕ) (made : List ℕ → Answer) → page_answer (Some page) made ≡ done bytes → IsMade page made bytes
+unfolding page_answer
+page_made page bytes made e = long_made page bytes made (nat_lt 2097152 (length page)) refl e
+
+abbrev pub IsOfPage : Option (List ℕ) → (List ℕ → Answer) → List ℕ → Type 0
+IsOfPage stands made bytes = (page : List ℕ) × (stands ≡ Some page) × (made page ≡ done bytes)
+
+pub stands_made : (stands : Option (List ℕ)) (made : List ℕ → Answer) (bytes : List ℕ) → page_answer stands made ≡ done bytes → IsOfPage stands made bytes
+unfolding page_answer
+stands_made None made bytes e = cc
+stands_made (Some page) made bytes e = (page, refl, (page_made page bytes made e).is)
+
+-- ---- what was fetched
+
+-- a page that is cut past the limit is too long all the same
+long_is : (page : List ℕ) (made : List ℕ → Answer) → 2097152 < length page → page_answer (Some page) made ≡ refused too_long
+long_is page made h = page_too_long page h made
+
+cut_step : (page : List ℕ) (made : List ℕ → Answer) → (length page ≤ 2097153) ⊎ (2097153 < length page) → page_answer (Some page) made ≡ page_answer (Some (take 2097153 page)) made
+cut_step page made (inl le) = ap (λ bs. page_answer (Some bs) made) (sym (take_all 2097153 page le))
+cut_step page made (inr lt) =
+    let len : length (take 2097153 page) ≡ 2097153 = length-take-le 2097153 page (omega arith) in
+    long_is page made (omega arith) ∙ sym (long_is (take 2097153 page) made (omega arith))
+
+cut_same : (page : List ℕ) (made : List ℕ → Answer) → page_answer (Some page) made ≡ page_answer (Some (take 2097153 page)) made
+cut_same page made = cut_step page made (either (length page) 2097153)
+  where
+    either : (m n : ℕ) → (m ≤ n) ⊎ (n < m)
+    either m n = ⊎_elim (λ lt. inr lt) (λ le. inl le) (order n m)
+
+found_step : (stands : Option (List ℕ)) (page : List ℕ) → Some page ≡ option_map (take 2097153) stands → IsFetched stands (Ok page)
+found_step None page e = cc
+found_step (Some whole) page e made =
+    let same : page ≡ take 2097153 whole = cc in
+    cut_same whole made ∙ ap (λ bs. page_answer (Some bs) made) (sym same)
+
+absent_step : (stands : Option (List ℕ)) → None ≡ option_map (take 2097153) stands → IsFetched stands (Err Absent)
+absent_step None e = none_absent
+absent_step (Some whole) e = cc
+
+pub found_is : (told : Option Pages) (title page : List ℕ) → Gives told title 2097153 (fetched.Found page) → IfSome told (λ pages. IsFetched (pages title) (Ok page))
+found_is None title page gives = tt
+found_is (Some pages) title page gives = found_step (pages title) page gives
+
+pub absent_is : (told : Option Pages) (title : List ℕ) → Gives told title 2097153 fetched.Absent → IfSome told (λ pages. IsFetched (pages title) (Err Absent))
+absent_is None title gives = tt
+absent_is (Some pages) title gives = absent_step (pages title) gives
+
+-- ---- from the tree of a page to the answer
+
+pub html_answered : (page : List ℕ) (t : Tree) (result : Result Output Reason) → IsAnswered page → t ≡ page_tree page → Answered (html_within (html_text t)) result → Answered (html_answer (Some page)) result
+html_answered page t result answered is a = subst (λ x. Answered x result) (ap (λ u. html_within (html_text u)) is ∙ sym (answered html_of)) a
+
+pub ranges_answered : (page : List ℕ) (t : Tree) (result : Result Output Reason) → IsAnswered page → t ≡ page_tree page → Answered (done (listing t)) result → Answered (ranges_answer (Some page)) result
+ranges_answered page t result answered is a = subst (λ x. Answered x result) (ap (λ u. done (listing u)) is ∙ sym (answered ranges_of)) a
+
+abbrev refused_by : Reason → Result Output Reason
+refused_by reason = Err reason
+
+-- from what was fetched to what stands under the title
+pub title_answered : (told : Option Pages) (title page : List ℕ) (made : List ℕ → Answer) (result : Result Output Reason) → IfSome told (λ pages. IsFetched (pages title) (Ok page)) → Answered (page_answer (Some page) made) result
+    → IfSome told (λ pages. Answered (page_answer (pages title) made) result)
+title_answered None title page made result f a = tt
+title_answered (Some pages) title page made result f a = subst (λ x. Answered x result) (sym (f made)) a
+
+pub title_refused : (told : Option Pages) (title : List ℕ) (made : List ℕ → Answer) (reason : Reason) → IfSome told (λ pages. IsFetched (pages title) (Err reason))
+    → IfSome told (λ pages. Answered (page_answer (pages title) made) (refused_by reason))
+title_refused None title made reason f = tt
+title_refused (Some pages) title made reason f = f made

@@ -8,53 +8,55 @@ use Rattle.wt_outer.specs.Device.{Pages}
 use Rattle.wt_tree.specs.Tree.{Tree}
 use Rattle.wt_tree.specs.Source.{flat}
 use Rattle.wt_markup.specs.Html.{html_text}
+use Rattle.wt_listing.specs.Listing.{listing}
 use Rattle.wt_fitting.specs.Read.{Read, page as as_page, ill, misfit, read}
 use Rattle.wt_pagetool.specs.declared.output.Output.{Output}
 use Rattle.wt_pagetool.specs.declared.refusal.Reason.{Reason}
-use Rattle.wt_pagetool.specs.declared.refusal.Reason.TheVariants.{Usage, Absent, TooLong, NotBuilt, HtmlTooLong, InputTooLong, Html, Unfit, Unsourced, ReadFault, FolderFault, NoMemory}
+use Rattle.wt_pagetool.specs.declared.refusal.Reason.TheVariants.{Usage, Absent, TooLong, NotUtf8, NotBuilt, HtmlTooLong, InputTooLong, Html, Unfit, Unsourced, ReadFault, FolderFault, NoMemory}
 use Rattle.wt_pagetool.specs.Outputs.{output_bytes}
-use Rattle.wt_pagetool.specs.Refusals.{too_long, html_too_long, input_too_long, write_fault, no_memory, status_of, line_of}
+use Rattle.wt_pagetool.specs.Refusals.{html_too_long, input_too_long, write_fault, no_memory, status_of, line_of}
 use Rattle.wt_pagetool.specs.PageTree.{page_tree}
-use Rattle.wt_pagetool.specs.Unbuilt.{first_unbuilt}
-use Rattle.wt_pagetool.specs.Words.{html, wikitext, command_of}
-use Rattle.wt_pagetool.specs.Answers.{Answer, done, refused, html_built, html_answer, source_answer, wikitext_answer, answer_told, IsDue}
+use Rattle.wt_pagetool.specs.Words.{html, ranges, wikitext, command_of}
+use Rattle.wt_pagetool.specs.Answers.{Answer, done, refused, html_of, html_answer, ranges_of, ranges_answer, source_answer, wikitext_answer, answer_told, IsDue}
 use Rattle.wt_pagetool.specs.Reasons.{meant, Answered}
-use Rattle.wt_pagetool.specs.Reports.{AppendsFront, Sunk, Reported, WroteHtml, WroteSource, BeginsRefusal}
+use Rattle.wt_pagetool.specs.Reports.{AppendsFront, Sunk, Reported, WroteHtml, WroteRanges, WroteSource, BeginsRefusal}
+use Rattle.wt_pagetool.proofs.PageLaws.{stands_made}
 use Rattle.wt_pagetool.proofs.TreeLaws.{page_tiled, page_covered, page_numbered}
 
--- ---- an answer that is HTML is that of a page
-
-abbrev IsPageHtml : Option (List ℕ) → List ℕ → Type 0
-IsPageHtml o bytes = (page : List ℕ) × (o ≡ Some page) × (bytes ≡ html_text (page_tree page))
+-- ---- an answer over a page is made of what stands under the title
 
 within_done : (text bytes : List ℕ) (v : Bool) → cond v (refused html_too_long) (done text) ≡ done bytes → bytes ≡ text
 within_done text bytes true e = cc
 within_done text bytes false e = cc
 
-built_done : (page bytes : List ℕ) (o : Option ℕ) → html_built page o ≡ done bytes → bytes ≡ html_text (page_tree page)
-built_done page bytes (Some place) e = cc
-built_done page bytes None e = within_done (html_text (page_tree page)) bytes (nat_lt 67108864 (length (html_text (page_tree page)))) e
+html_is : (page bytes : List ℕ) → html_of page ≡ done bytes → bytes ≡ html_text (page_tree page)
+html_is page bytes e = within_done (html_text (page_tree page)) bytes (nat_lt 67108864 (length (html_text (page_tree page)))) e
 
-page_done : (page bytes : List ℕ) (v : Bool) → cond v (refused too_long) (html_built page (first_unbuilt page)) ≡ done bytes → bytes ≡ html_text (page_tree page)
-page_done page bytes true e = cc
-page_done page bytes false e = built_done page bytes (first_unbuilt page) e
-
-html_done : (o : Option (List ℕ)) (bytes : List ℕ) → html_answer o ≡ done bytes → IsPageHtml o bytes
-unfolding html_answer
-html_done None bytes e = cc
-html_done (Some page) bytes e = (page, refl, page_done page bytes (nat_lt 2097152 (length page)) e)
+ranges_is : (page bytes : List ℕ) → ranges_of page ≡ done bytes → bytes ≡ listing (page_tree page)
+ranges_is page bytes e = cc
 
 wrote_html : (stands : Option (List ℕ)) (bytes : List ℕ) (old new : Option (List ℕ)) → html_answer stands ≡ done bytes → Appends old new bytes → WroteHtml stands old new
 wrote_html stands bytes old new e wrote =
-    let h = html_done stands bytes e in
-    let page = h.0 in
+    let h = stands_made stands html_of bytes e in
     record {
-      page = page;
+      page = h.0;
       found = h.1;
-      wrote = subst (Appends old new) h.2 wrote;
-      tiled = page_tiled page;
-      covers = page_covered page;
-      numbered = page_numbered page;
+      wrote = subst (Appends old new) (html_is h.0 bytes h.2) wrote;
+      tiled = page_tiled h.0;
+      covers = page_covered h.0;
+      numbered = page_numbered h.0;
+    }
+
+wrote_ranges : (stands : Option (List ℕ)) (bytes : List ℕ) (old new : Option (List ℕ)) → ranges_answer stands ≡ done bytes → Appends old new bytes → WroteRanges stands old new
+wrote_ranges stands bytes old new e wrote =
+    let h = stands_made stands ranges_of bytes e in
+    record {
+      page = h.0;
+      found = h.1;
+      wrote = subst (Appends old new) (ranges_is h.0 bytes h.2) wrote;
+      tiled = page_tiled h.0;
+      covers = page_covered h.0;
+      numbered = page_numbered h.0;
     }
 
 -- ---- an answer that is wikitext is the source of what was read
@@ -96,6 +98,7 @@ status_some : (reason : Reason) → 0 < status_of (meant reason)
 status_some Usage = omega arith
 status_some Absent = omega arith
 status_some TooLong = omega arith
+status_some (NotUtf8 place) = omega arith
 status_some (NotBuilt place) = omega arith
 status_some HtmlTooLong = omega arith
 status_some InputTooLong = omega arith
@@ -110,6 +113,7 @@ status_seven : (reason : Reason) → status_of (meant reason) ≡ 7 → ⊥
 status_seven Usage e = omega arith
 status_seven Absent e = omega arith
 status_seven TooLong e = omega arith
+status_seven (NotUtf8 place) e = omega arith
 status_seven (NotBuilt place) e = omega arith
 status_seven HtmlTooLong e = omega arith
 status_seven InputTooLong e = omega arith
@@ -144,6 +148,10 @@ told_html : (told : Option Pages) (input : Option (List ℕ)) (words : List (Lis
 unfolding answer_told
 told_html told input words title e = rw e refl
 
+told_ranges : (told : Option Pages) (input : Option (List ℕ)) (words : List (List ℕ)) (title : List ℕ) → command_of words ≡ Some (ranges title) → answer_told told input words ≡ option_map (λ ps. ranges_answer (ps title)) told
+unfolding answer_told
+told_ranges told input words title e = rw e refl
+
 pub told_wikitext : (told : Option Pages) (input : Option (List ℕ)) (words : List (List ℕ)) → command_of words ≡ Some wikitext → answer_told told input words ≡ option_map wikitext_answer input
 unfolding answer_told
 told_wikitext told input words e = rw e refl
@@ -152,6 +160,11 @@ html_found : (told : Option Pages) (title : List ℕ) (found : Result Output Rea
     → IfSome told (λ pages. WroteHtml (pages title) o.old o.new)
 html_found None title found o a f = tt
 html_found (Some pages) title found o a f = wrote_html (pages title) (output_bytes f.0) o.old o.new (subst (Answered (html_answer (pages title))) f.1 a) f.2
+
+ranges_found : (told : Option Pages) (title : List ℕ) (found : Result Output Reason) (o : Sunk) → IfSome (option_map (λ ps. ranges_answer (ps title)) told) (λ a. Answered a found) → IsFound found o
+    → IfSome told (λ pages. WroteRanges (pages title) o.old o.new)
+ranges_found None title found o a f = tt
+ranges_found (Some pages) title found o a f = wrote_ranges (pages title) (output_bytes f.0) o.old o.new (subst (Answered (ranges_answer (pages title))) f.1 a) f.2
 
 wikitext_found : (input : Option (List ℕ)) (found : Result Output Reason) (o : Sunk) → IfSome (option_map wikitext_answer input) (λ a. Answered a found) → IsFound found o
     → IfSome input (λ bytes. WroteSource bytes o.old o.new)
@@ -163,6 +176,11 @@ pub run_html : (told : Option Pages) (input : Option (List ℕ)) (words : List (
 run_html told input words title found status o e is a r zero =
     html_found told title found o (subst (λ x. IfSome x (λ a. Answered a found)) (told_html told input words title is) a) (found_done found status o e r zero)
 
+pub run_ranges : (told : Option Pages) (input : Option (List ℕ)) (words : List (List ℕ)) (title : List ℕ) (found : Result Output Reason) (status : ℕ) (o e : Sunk) → command_of words ≡ Some (ranges title)
+    → IfSome (answer_told told input words) (λ a. Answered a found) → Reported found status o e → status ≡ 0 → IfSome told (λ pages. WroteRanges (pages title) o.old o.new)
+run_ranges told input words title found status o e is a r zero =
+    ranges_found told title found o (subst (λ x. IfSome x (λ a. Answered a found)) (told_ranges told input words title is) a) (found_done found status o e r zero)
+
 pub run_wikitext : (told : Option Pages) (input : Option (List ℕ)) (words : List (List ℕ)) (found : Result Output Reason) (status : ℕ) (o e : Sunk) → command_of words ≡ Some wikitext
     → IfSome (answer_told told input words) (λ a. Answered a found) → Reported found status o e → status ≡ 0 → IfSome input (λ bytes. WroteSource bytes o.old o.new)
 run_wikitext told input words found status o e is a r zero =
@@ -173,6 +191,7 @@ due_of : (told : Option Answer) (words : List (List ℕ)) (reason : Reason) → 
 due_of told words Usage a h = h refl
 due_of told words Absent a h = a
 due_of told words TooLong a h = a
+due_of told words (NotUtf8 place) a h = a
 due_of told words (NotBuilt place) a h = a
 due_of told words HtmlTooLong a h = a
 due_of told words InputTooLong a h = a

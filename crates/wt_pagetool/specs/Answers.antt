@@ -3,28 +3,59 @@ use Rattle.std.specs.Prelude.{◌≡◌, ℕ, List, [], length, nat_lt, ⊤, Opt
 use Rattle.wt_outer.specs.Device.{Pages}
 use Rattle.wt_tree.specs.Source.{flat}
 use Rattle.wt_markup.specs.Html.{html_text}
+use Rattle.wt_listing.specs.Listing.{listing}
+use Rattle.wt_utf8.specs.Places.{not_utf8_place}
+use Rattle.wt_not_built.specs.FirstPlace.{first_unbuilt}
 use Rattle.wt_fitting.specs.Read.{Read, page as as_page, ill, misfit, read}
 use Rattle.wt_pagetool.specs.Refusals.{Refusal, usage, absent, too_long, not_utf8_at, not_built, braces_too_deep, expansion_too_large, template_not_utf8, template_too_long, html_too_long, input_too_long, html_refused, does_not_fit, unsourced, edit_refused, read_fault, folder_fault, write_fault, no_memory, status_of}
 use Rattle.wt_pagetool.specs.PageTree.{page_tree}
-use Rattle.wt_pagetool.specs.Unbuilt.{first_unbuilt}
-use Rattle.wt_pagetool.specs.Words.{Command, html, wikitext, command_of}
+use Rattle.wt_pagetool.specs.Words.{Command, html, ranges, wikitext, command_of}
 
 pub data Answer : Type 0 where
   done : List ℕ → Answer
   refused : Refusal → Answer
 
--- a page may have 2,097,152 bytes, and HTML 67,108,864
+-- ---- what stands under a title
+
+-- a page that is text, by the place of its first form that isn't built
+abbrev pub built_answer : List ℕ → (List ℕ → Answer) → Option ℕ → Answer
+built_answer page made (Some place) = refused (not_built place)
+built_answer page made None = made page
+
+-- a page by the place where it stops being UTF-8
+abbrev pub text_answer : List ℕ → (List ℕ → Answer) → Option ℕ → Answer
+text_answer page made (Some place) = refused (not_utf8_at place)
+text_answer page made None = built_answer page made (first_unbuilt page)
+
+-- The refusals of what stands under a title, in their order: no page; one of more than 2,097,152 bytes; one that isn't
+-- UTF-8; one with a form that isn't built. Any other page is answered by what is made of it.
+unfoldable pub page_answer : Option (List ℕ) → (List ℕ → Answer) → Answer
+page_answer None made = refused absent
+page_answer (Some page) made = if nat_lt 2097152 (length page) then refused too_long else text_answer page made (not_utf8_place page)
+
+-- nothing refuses the page, whatever is made of it
+abbrev pub IsAnswered : List ℕ → Type 0
+IsAnswered page = (made : List ℕ → Answer) → page_answer (Some page) made ≡ made page
+
+-- ---- commands
+
+-- HTML may have 67,108,864 bytes
 abbrev pub html_within : List ℕ → Answer
 html_within bytes = if nat_lt 67108864 (length bytes) then refused html_too_long else done bytes
 
-abbrev pub html_built : List ℕ → Option ℕ → Answer
-html_built page (Some place) = refused (not_built place)
-html_built page None = html_within (html_text (page_tree page))
+abbrev pub html_of : List ℕ → Answer
+html_of page = html_within (html_text (page_tree page))
 
--- `html` of what stands under the title: its refusals come in this order
-unfoldable pub html_answer : Option (List ℕ) → Answer
-html_answer None = refused absent
-html_answer (Some page) = if nat_lt 2097152 (length page) then refused too_long else html_built page (first_unbuilt page)
+-- `html` of what stands under the title
+abbrev pub html_answer : Option (List ℕ) → Answer
+html_answer stands = page_answer stands html_of
+
+abbrev pub ranges_of : List ℕ → Answer
+ranges_of page = done (listing (page_tree page))
+
+-- `ranges` of what stands under the title: a line for each node that has a number
+abbrev pub ranges_answer : Option (List ℕ) → Answer
+ranges_answer stands = page_answer stands ranges_of
 
 -- the source of the page that was read, each of whose elements has to tell its own
 unfoldable pub source_answer : Read → Answer
@@ -42,6 +73,7 @@ wikitext_answer input = if nat_lt 67108864 (length input) then refused input_too
 abbrev pub answer_to : Option Pages → Option (List ℕ) → Option Command → Option Answer
 answer_to pages input None = Some (refused usage)
 answer_to pages input (Some (html title)) = option_map (λ ps. html_answer (ps title)) pages
+answer_to pages input (Some (ranges title)) = option_map (λ ps. ranges_answer (ps title)) pages
 answer_to pages input (Some wikitext) = option_map wikitext_answer input
 
 -- the answer to these words over a folder of these pages and this input

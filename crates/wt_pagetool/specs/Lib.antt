@@ -1,16 +1,10 @@
 pub mod Answers
-pub mod Blocks
 pub mod Commands
-pub mod Cuts
 pub mod GivenBack
-pub mod Headings
 pub mod Inputs
-pub mod Lines
-pub mod Nodes
 pub mod Outputs
 pub mod PageTree
 pub mod Reasons
 pub mod Refusals
 pub mod Reports
-pub mod Unbuilt
 pub mod Words

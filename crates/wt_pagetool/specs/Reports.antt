@@ -6,6 +6,7 @@ use Rattle.wt_tree.specs.Tree.{Tree}
 use Rattle.wt_tree.specs.Source.{flat}
 use Rattle.wt_tree.specs.Tiling.{Tiled, Covers, InPreorder}
 use Rattle.wt_markup.specs.Html.{html_text}
+use Rattle.wt_listing.specs.Listing.{listing}
 use Rattle.wt_fitting.specs.Read.{page as as_page, read}
 use Rattle.wt_pagetool.specs.Refusals.{Refusal, write_fault, no_memory, status_of, line_of}
 use Rattle.wt_pagetool.specs.declared.refusal.Reason.{Reason}
@@ -71,6 +72,15 @@ pub record WroteHtml (stands : Option (List ℕ)) (old new : Option (List ℕ)) 
   pub page : List ℕ
   pub found : stands ≡ Some page
   pub wrote : Appends old new (html_text (page_tree page))
+  pub tiled : Tiled (page_tree page)
+  pub covers : Covers (length page) (page_tree page)
+  pub numbered : InPreorder (page_tree page)
+
+-- a page stands under the title, and `out` took the listing of its tree, whose ranges tile it and whose numbers are in preorder
+pub record WroteRanges (stands : Option (List ℕ)) (old new : Option (List ℕ)) : Type 0 where
+  pub page : List ℕ
+  pub found : stands ≡ Some page
+  pub wrote : Appends old new (listing (page_tree page))
   pub tiled : Tiled (page_tree page)
   pub covers : Covers (length page) (page_tree page)
   pub numbered : InPreorder (page_tree page)

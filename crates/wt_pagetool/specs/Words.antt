@@ -16,11 +16,20 @@ page_name word = option_and_then whole_name (read_text word)
 pub data Command : Type 0 where
   -- `html TITLE`: the HTML of the page of this full name
   html : List ℕ → Command
+  -- `ranges TITLE`: the numbered nodes of this page, with their places
+  ranges : List ℕ → Command
   -- `wikitext`: the source of the page whose HTML is the input
   wikitext : Command
+
+-- a command over a page, and its title
+abbrev pub page_command : List ℕ → List ℕ → Option Command
+page_command word title =
+    if bytes_eq word (codes "html") then option_map html (page_name title)
+    else if bytes_eq word (codes "ranges") then option_map ranges (page_name title)
+    else None
 
 -- the command that the words name, or none
 unfoldable pub command_of : List (List ℕ) → Option Command
 command_of (word ∷ []) = if bytes_eq word (codes "wikitext") then Some wikitext else None
-command_of (word ∷ title ∷ []) = if bytes_eq word (codes "html") then option_map html (page_name title) else None
+command_of (word ∷ title ∷ []) = page_command word title
 command_of words = None

@@ -1,6 +1,6 @@
 ghost use Rattle.std.specs.Prelude.{◌≡◌, IfOk, option_map};
 ghost use Rattle.wt_pagetool.specs.Commands.{asked};
-ghost use Rattle.wt_pagetool.specs.Words.{whole_name, page_name, command_of, html};
+ghost use Rattle.wt_pagetool.specs.Words.{whole_name, page_name, page_command, command_of, html, ranges};
 
 use std::alloc::Global;
 use wt_names::{Title, full_name, read_title};
@@ -11,6 +11,8 @@ use wt_span::{List, NoMemory, Str};
 pub enum Command {
     /// The HTML of the page of this full name.
     Html(Str),
+    /// The numbered nodes of the page of this full name, with their places.
+    Ranges(Str),
     /// The source of the page whose HTML is the input.
     Wikitext,
 }
@@ -48,25 +50,41 @@ fn html_command(alloc: Global, title: &str) -> Result<Option<Command>, NoMemory>
     }
 }
 
+fn ranges_command(alloc: Global, title: &str) -> Result<Option<Command>, NoMemory>
+    ensures { IfOk result (λ command. option_map asked command ≡ option_map ranges (page_name title.now)) }
+{
+    match page_name(alloc, title)? {
+        Some(name) => Ok(Some(Command::Ranges(name))),
+        None => Ok(None),
+    }
+}
+
+/// A command over a page, and its title.
+fn page_command(alloc: Global, word: &str, title: &str) -> Result<Option<Command>, NoMemory>
+    ensures { IfOk result (λ command. option_map asked command ≡ page_command word.now title.now) }
+{
+    if word == "html" {
+        return html_command(alloc, title);
+    }
+    if word == "ranges" {
+        return ranges_command(alloc, title);
+    }
+    Ok(None)
+}
+
 /// The command that the words name, or None where they name none.
 #[tactic(auto, unfolding(crate::specs::Words::command_of))]
 pub fn command_of(alloc: Global, words: &List<Str>) -> Result<Option<Command>, NoMemory>
     ensures { IfOk result (λ command. option_map asked command ≡ command_of words.now) }
 {
     match words.as_slice() {
-        [command] => {
-            if command.as_str() != "wikitext" {
+        [word] => {
+            if word.as_str() != "wikitext" {
                 return Ok(None);
             }
             Ok(Some(Command::Wikitext))
         }
-        [command, title] => {
-            if command.as_str() != "html" {
-                return Ok(None);
-            }
-            let asked = html_command(alloc, title.as_str())?;
-            Ok(asked)
-        }
+        [word, title] => page_command(alloc, word.as_str(), title.as_str()),
         _ => Ok(None),
     }
 }

@@ -1,25 +1,24 @@
 //! The program's commands over its devices: `run` answers the words of a command line.
 //!
-//! Until the layers for templates, lists, tables and inline forms stand, the pages that are answered
-//! are plain ones: paragraphs, headings and blank lines.
+//! Until the layers for templates, lists, tables, links and quotes stand, the pages that are answered
+//! are those of paragraphs and headings, with comments, entities, `nowiki`, extension tags and include
+//! tags in them.
 #![tactic(auto)]
 
-mod block;
 mod command;
-mod heading;
+mod fetch;
 mod html_command;
 mod laws;
-mod line;
 mod output;
 mod page;
+mod ranges_command;
 mod refusal;
 mod report;
 mod round_trip;
 mod top;
-mod unbuilt;
 mod wikitext_command;
 mod write;
 
-pub use laws::{one_meaning, pages_come_back, smallest_place, whole_tree};
-pub use round_trip::plain_page_is_read;
+pub use laws::{pages_come_back, whole_tree};
+pub use round_trip::page_is_read;
 pub use top::run;

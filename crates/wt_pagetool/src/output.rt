@@ -8,6 +8,8 @@ use wt_span::{List, Str};
 pub enum Output {
     /// The HTML of a page.
     Html(List<u8>),
+    /// The listing of a page's numbered nodes.
+    Ranges(List<u8>),
     /// The source of a page.
     Wikitext(Str),
 }
@@ -18,6 +20,7 @@ impl Output {
     {
         match self {
             Output::Html(bytes) => bytes.as_slice(),
+            Output::Ranges(bytes) => bytes.as_slice(),
             Output::Wikitext(text) => text.as_str().as_bytes(),
         }
     }

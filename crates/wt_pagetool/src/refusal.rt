@@ -4,6 +4,7 @@ ghost use Rattle.wt_pagetool.specs.Refusals.{status_of, line_of, html_why, fit_w
 
 use std::alloc::{AllocError, Global};
 use wt_html_in::{FitWhy, HtmlWhy};
+use wt_span::NoMemory;
 
 /// Why a call gives no answer. Places are bytes of the page, or of the input for `Html`; elements are
 /// counted from 1 in document order.
@@ -12,6 +13,7 @@ pub enum Reason {
     Usage,
     Absent,
     TooLong,
+    NotUtf8(u32),
     NotBuilt(u32),
     HtmlTooLong,
     InputTooLong,
@@ -23,13 +25,27 @@ pub enum Reason {
     NoMemory,
 }
 
+impl From<NoMemory> for Reason {
+    ghost use Rattle.wt_pagetool.specs.declared.refusal.Reason.TheVariants.{NoMemory};
+
+    ghost from_gives = { λ _ e. e ≡ NoMemory };
+
+    fn from(_e: NoMemory) -> Reason {
+        Reason::NoMemory
+    }
+}
+
 /// The status that the program ends with.
 pub fn status_of(reason: Reason) -> u8
     ensures { result ≡ status_of (meant reason) }
 {
     match reason {
         Reason::Usage => 1,
-        Reason::Absent | Reason::TooLong | Reason::NotBuilt(_) | Reason::HtmlTooLong => 2,
+        Reason::Absent
+        | Reason::TooLong
+        | Reason::NotUtf8(_)
+        | Reason::NotBuilt(_)
+        | Reason::HtmlTooLong => 2,
         Reason::InputTooLong | Reason::Html { .. } | Reason::Unfit { .. } | Reason::Unsourced(_) =>
             3,
         Reason::ReadFault => 5,
@@ -100,6 +116,7 @@ pub fn line_of(alloc: Global, reason: Reason) -> Result<String, AllocError>
         ),
         Reason::Absent => format!(in alloc; "wtround: no such page\n"),
         Reason::TooLong => format!(in alloc; "wtround: page too long\n"),
+        Reason::NotUtf8(place) => format!(in alloc; "wtround: page not UTF-8 at {place}\n"),
         Reason::NotBuilt(place) => format!(in alloc; "wtround: not built at {place}\n"),
         Reason::HtmlTooLong => format!(in alloc; "wtround: html too long\n"),
         Reason::InputTooLong => format!(in alloc; "wtround: input too long\n"),

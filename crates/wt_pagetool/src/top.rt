@@ -5,12 +5,13 @@ ghost use Rattle.wt_pagetool.specs.Answers.{done, html_answer, answer_told, outp
 ghost use Rattle.wt_pagetool.specs.GivenBack.{GaveBack};
 ghost use Rattle.wt_pagetool.specs.Reasons.{Answered};
 ghost use Rattle.wt_pagetool.specs.Refusals.{line_of, write_fault};
-ghost use Rattle.wt_pagetool.specs.Reports.{AppendsFront, WroteHtml, WroteSource, NamesRefusal, BeginsRefusal};
-ghost use Rattle.wt_pagetool.specs.Words.{html, wikitext, command_of};
+ghost use Rattle.wt_pagetool.specs.Reports.{AppendsFront, WroteHtml, WroteRanges, WroteSource, NamesRefusal, BeginsRefusal};
+ghost use Rattle.wt_pagetool.specs.Words.{html, ranges, wikitext, command_of};
 
 use crate::command::{Command, command_of};
 use crate::html_command::html_of_title;
 use crate::output::Output;
+use crate::ranges_command::ranges_of_title;
 use crate::refusal::Reason;
 use crate::report::report;
 use crate::wikitext_command::wikitext_of_input;
@@ -42,6 +43,7 @@ fn find_answer<S: Source, F: Folder>(
 {
     match command_of(alloc, words) {
         Ok(Some(Command::Html(title))) => html_of_title(alloc, title.as_str(), folder),
+        Ok(Some(Command::Ranges(title))) => ranges_of_title(alloc, title.as_str(), folder),
         Ok(Some(Command::Wikitext)) => wikitext_of_input(alloc, input),
         Ok(None) => Err(Reason::Usage),
         Err(_) => Err(Reason::NoMemory),
@@ -50,9 +52,10 @@ fn find_answer<S: Source, F: Folder>(
 
 /// Answers the words of a command line, without the program's name, and gives the status to end with.
 ///
-/// `html TITLE` writes to `out` the HTML of the page that stands in `folder` under the title.
-/// `wikitext` reads the HTML of `input` to its end and writes to `out` the source of the page for
-/// which it stands. The statuses are: 0 done; 1 the words are none of a command; 2 the page is
+/// `html TITLE` writes to `out` the HTML of the page that stands in `folder` under the title, and
+/// `ranges TITLE` a line for each of its nodes that has a number: `mwN KIND START END OPEN CLOSE`, in
+/// bytes. `wikitext` reads the HTML of `input` to its end and writes to `out` the source of the page
+/// for which it stands. The statuses are: 0 done; 1 the words are none of a command; 2 the page is
 /// refused; 3 the HTML is refused; 5 the input failed; 6 the folder failed; 7 `out` or `err` failed;
 /// 8 no memory was found. Nothing goes to `out` before the whole answer is known, and each refusal
 /// has its one line on `err`.
@@ -64,8 +67,9 @@ pub fn run<S: Source, F: Folder, W: Sink, E: Sink>(
     out: &mut W,
     err: &mut E,
 ) -> u8
-    // With status 0 of `html` `out` took the HTML of the page, whose ranges tile it; of `wikitext` the source of the tree for which the whole input stands. `err` took nothing.
+    // With status 0 of `html` `out` took the HTML of the page, and of `ranges` the listing of its tree, whose ranges tile it; of `wikitext` the source of the tree for which the whole input stands. `err` took nothing.
     ensures html { (title : List ℕ) → command_of words.now ≡ Some (html title) → result ≡ 0 → IfSome (F.pages folder.old) (λ pages. WroteHtml (pages title) (W.taken out.old) (W.taken out.new)) }
+    ensures ranges { (title : List ℕ) → command_of words.now ≡ Some (ranges title) → result ≡ 0 → IfSome (F.pages folder.old) (λ pages. WroteRanges (pages title) (W.taken out.old) (W.taken out.new)) }
     ensures wikitext { command_of words.now ≡ Some wikitext → result ≡ 0 → IfSome (S.left input.old) (λ bytes. WroteSource bytes (W.taken out.old) (W.taken out.new)) }
     ensures ended { command_of words.now ≡ Some wikitext → result ≡ 0 → IsAtEnd (S.left input.new) }
     ensures silent { result ≡ 0 → Keeps (E.taken err.old) (E.taken err.new) }
