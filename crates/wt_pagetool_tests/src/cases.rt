@@ -144,23 +144,134 @@ pub const PLAIN: [(&str, &str); 37] = [
     ),
 ];
 
+/// A page with comments, entities, raw tags, include tags or characters past ASCII, and the body of its
+/// HTML.
+pub const MARKED: [(&str, &str); 11] = [
+    (
+        "x<",
+        "<body data-parsoid='{\"dsr\":[0,2,0,0]}'><p id=\"mw1\" data-parsoid='{\"dsr\":[0,2,0,0]}'>x&lt;</p></body>",
+    ),
+    (
+        "& cx,\n",
+        "<body data-parsoid='{\"dsr\":[0,6,0,0]}'><p id=\"mw1\" data-parsoid='{\"dsr\":[0,5,0,0]}'>&amp; cx,</p>\n</body>",
+    ),
+    (
+        "&amp;\n",
+        "<body data-parsoid='{\"dsr\":[0,6,0,0]}'><p id=\"mw1\" data-parsoid='{\"dsr\":[0,5,0,0]}'><span typeof=\"mw:Entity\" id=\"mw2\" data-parsoid='{\"dsr\":[0,5,5,0],\"src\":\"&amp;amp;\"}'>&amp;</span></p>\n</body>",
+    ),
+    (
+        "\t<!---->",
+        "<body data-parsoid='{\"dsr\":[0,8,0,0]}'>\t<meta typeof=\"mw:Comment\" id=\"mw1\" data-parsoid='{\"dsr\":[1,8,7,0],\"src\":\"&lt;!----&gt;\"}'/></body>",
+    ),
+    (
+        "a<nowiki/>\n",
+        "<body data-parsoid='{\"dsr\":[0,11,0,0]}'><p id=\"mw1\" data-parsoid='{\"dsr\":[0,10,0,0]}'>a<span typeof=\"mw:Nowiki\" id=\"mw2\" data-parsoid='{\"dsr\":[1,10,9,0],\"o\":\"&lt;nowiki/&gt;\"}'></span></p>\n</body>",
+    ),
+    (
+        "\n\n<!-- open\n",
+        "<body data-parsoid='{\"dsr\":[0,12,0,0]}'>\n\n<meta typeof=\"mw:Comment\" id=\"mw1\" data-parsoid='{\"dsr\":[2,12,10,0],\"src\":\"&lt;!-- open\\n\"}'/></body>",
+    ),
+    (
+        ",,<!---->\n<\n",
+        "<body data-parsoid='{\"dsr\":[0,12,0,0]}'><p id=\"mw1\" data-parsoid='{\"dsr\":[0,11,0,0]}'>,,<meta typeof=\"mw:Comment\" id=\"mw2\" data-parsoid='{\"dsr\":[2,9,7,0],\"src\":\"&lt;!----&gt;\"}'/>\n&lt;</p>\n</body>",
+    ),
+    (
+        "<REF>y</Ref>",
+        "<body data-parsoid='{\"dsr\":[0,12,0,0]}'><p id=\"mw1\" data-parsoid='{\"dsr\":[0,12,0,0]}'><span typeof=\"mw:Extension/ref\" id=\"mw2\" data-mw='{\"body\":{\"extsrc\":\"y\"},\"name\":\"ref\"}' data-parsoid='{\"dsr\":[0,12,12,0],\"src\":\"&lt;REF&gt;y&lt;/Ref&gt;\"}'></span></p></body>",
+    ),
+    (
+        "</noinclude>\n",
+        "<body data-parsoid='{\"dsr\":[0,13,0,0]}'><meta typeof=\"mw:Includes/NoInclude/End\" id=\"mw1\" data-parsoid='{\"dsr\":[0,12,12,0],\"src\":\"&lt;/noinclude&gt;\"}'/>\n</body>",
+    ),
+    (
+        "\n1bé\n&nbsp;\n",
+        "<body data-parsoid='{\"dsr\":[0,13,0,0]}'>\n<p id=\"mw1\" data-parsoid='{\"dsr\":[1,12,0,0]}'>1bé\n<span typeof=\"mw:Entity\" id=\"mw2\" data-parsoid='{\"dsr\":[6,12,6,0],\"src\":\"&amp;nbsp;\"}'> </span></p>\n</body>",
+    ),
+    (
+        "<foo>é&#91;\n",
+        "<body data-parsoid='{\"dsr\":[0,13,0,0]}'><p id=\"mw1\" data-parsoid='{\"dsr\":[0,12,0,0]}'>&lt;foo&gt;é<span typeof=\"mw:Entity\" id=\"mw2\" data-parsoid='{\"dsr\":[7,12,5,0],\"src\":\"&amp;#91;\"}'>[</span></p>\n</body>",
+    ),
+];
+
+/// A page, and the listing of its numbered nodes.
+pub const RANGES: [(&str, &str); 12] = [
+    (
+        "a\n<!-- c -->\nb",
+        "mw1 p 0 14 0 0\nmw2 comment 2 13 11 0\n",
+    ),
+    (
+        "=====",
+        "mw1 h2 0 5 2 2\n",
+    ),
+    (
+        "=== x ==",
+        "mw1 h2 0 8 2 3\n",
+    ),
+    (
+        "&lt;<nowiki>''x''</nowiki>",
+        "mw1 p 0 26 0 0\nmw2 entity 0 4 4 0\nmw3 nowiki 4 26 8 9\n",
+    ),
+    (
+        "<noinclude>a</noinclude><includeonly>b</includeonly>",
+        "mw1 include 0 11 11 0\nmw2 p 11 52 0 0\nmw3 include 12 24 12 0\nmw4 include 24 52 28 0\n",
+    ),
+    (
+        "",
+        "",
+    ),
+    (
+        "\t<!---->",
+        "mw1 comment 1 8 7 0\n",
+    ),
+    (
+        "== .1 ==\n< ",
+        "mw1 h2 0 8 3 3\nmw2 p 9 11 0 0\n",
+    ),
+    (
+        "a<nowiki/>\n",
+        "mw1 p 0 10 0 0\nmw2 nowiki 1 10 9 0\n",
+    ),
+    (
+        ",\n== &  ==\n\n",
+        "mw1 p 0 1 0 0\nmw2 h2 2 10 3 4\n",
+    ),
+    (
+        "\n1bé\n&nbsp;\n",
+        "mw1 p 1 12 0 0\nmw2 entity 6 12 6 0\n",
+    ),
+    (
+        ",, &#x5B;Opava",
+        "mw1 p 0 14 0 0\nmw2 entity 3 9 6 0\n",
+    ),
+];
+
+/// Bytes that aren't UTF-8, and the line that tells where.
+pub const NOT_UTF8: [(&[u8], &str); 6] = [
+    (b"a\xFF", "wtround: page not UTF-8 at 1\n"),
+    (b"a\xC3", "wtround: page not UTF-8 at 2\n"),
+    (b"\xE2\x82", "wtround: page not UTF-8 at 2\n"),
+    (b"\xED\xA0\x80", "wtround: page not UTF-8 at 1\n"),
+    (b"\xC0\x80", "wtround: page not UTF-8 at 0\n"),
+    (b"*\xFF", "wtround: page not UTF-8 at 1\n"),
+];
+
 /// A page that holds a form that isn't built, and the line that tells where.
 pub const NOT_BUILT: [(&str, &str); 15] = [
-    ("a\né", "wtround: not built at 2\n"),
     ("a*b", "wtround: not built at 1\n"),
     (" a", "wtround: not built at 0\n"),
     ("a\n b", "wtround: not built at 2\n"),
     ("-----", "wtround: not built at 0\n"),
     ("a\n---- x", "wtround: not built at 2\n"),
-    ("a\x09b", "wtround: not built at 1\n"),
     ("x_y", "wtround: not built at 1\n"),
     ("[[a]]", "wtround: not built at 0\n"),
     ("{{a}}", "wtround: not built at 0\n"),
-    ("a&b", "wtround: not built at 1\n"),
     ("<b>", "wtround: not built at 0\n"),
+    ("a <BR/>", "wtround: not built at 2\n"),
     ("it's", "wtround: not built at 2\n"),
     ("# a", "wtround: not built at 0\n"),
     (": a", "wtround: not built at 0\n"),
+    ("a\n<!-- c --> b", "wtround: not built at 12\n"),
+    ("<!-- * -->&#42;<nowiki>*</nowiki>x\u{e9}_", "wtround: not built at 36\n"),
 ];
 
 /// HTML that isn't well-formed, holds an element that fits nowhere, or one without a source; and the

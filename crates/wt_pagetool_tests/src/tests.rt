@@ -1,6 +1,6 @@
 ghost use Rattle.std.specs.Prelude.{◌≡◌, ◌<◌, ◌^◌, IfOk, length};
 
-use crate::cases::{NOT_BUILT, PLAIN, REFUSED_HTML};
+use crate::cases::{MARKED, NOT_BUILT, NOT_UTF8, PLAIN, RANGES, REFUSED_HTML};
 use std::alloc::{AllocError, Global};
 use std::test::Fail;
 use wt_outer::{Folder, MemFolder, MemSink, MemSource, NeverFailsSource, Sink, Source};
@@ -112,10 +112,50 @@ fn plain_pages_have_this_html(rt: HostRuntime) -> Result<(), Fail> {
 #[test]
 fn other_pages_are_not_built_at_this_place(rt: HostRuntime) -> Result<(), Fail> {
     for (page, line) in NOT_BUILT {
-        let ended = ends(rt.alloc(), &["html", "Main"], page.as_bytes())?;
-        assert_eq!(rt; ended.status, 2);
-        assert_eq!(rt; ended.out.taken().len(), 0);
-        assert_eq!(rt; ended.err.taken(), line.as_bytes());
+        assert!(rt; is_refused(rt.alloc(), page.as_bytes(), line)?);
+    }
+    Ok(())
+}
+
+/// Whether `html` of the page is a document with this body, and `wikitext` of it the page.
+fn goes_and_comes(alloc: Global, page: &str, body: &str) -> Result<bool, NoMemory> {
+    let html = document(alloc, body)?;
+    let there = ends(alloc, &["html", "Main"], page.as_bytes())?;
+    let back = wikitext_of(alloc, html.as_bytes(), usize::MAX)?;
+    Ok(there.out.taken() == html.as_bytes() && back.out.taken() == page.as_bytes())
+}
+
+#[test]
+fn pages_with_marks_go_and_come_back(rt: HostRuntime) -> Result<(), Fail> {
+    for (page, body) in MARKED {
+        assert!(rt; goes_and_comes(rt.alloc(), page, body)?);
+    }
+    Ok(())
+}
+
+#[test]
+fn pages_have_these_ranges(rt: HostRuntime) -> Result<(), Fail> {
+    for (page, lines) in RANGES {
+        let ended = ends(rt.alloc(), &["ranges", "Main"], page.as_bytes())?;
+        assert_eq!(rt; ended.status, 0);
+        assert_eq!(rt; ended.out.taken(), lines.as_bytes());
+        assert_eq!(rt; ended.err.taken().len(), 0);
+    }
+    Ok(())
+}
+
+/// Whether both commands refuse the page with this line.
+fn is_refused(alloc: Global, page: &[u8], line: &str) -> Result<bool, NoMemory> {
+    let html = ends(alloc, &["html", "Main"], page)?;
+    let ranges = ends(alloc, &["ranges", "Main"], page)?;
+    let both = html.status == 2 && ranges.status == 2;
+    Ok(both && html.err.taken() == line.as_bytes() && ranges.err.taken() == line.as_bytes())
+}
+
+#[test]
+fn bytes_that_are_no_text_are_refused_at_this_place(rt: HostRuntime) -> Result<(), Fail> {
+    for (page, line) in NOT_UTF8 {
+        assert!(rt; is_refused(rt.alloc(), page, line)?);
     }
     Ok(())
 }
@@ -137,6 +177,8 @@ fn words_of_no_command_are_answered_by_the_usage(rt: HostRuntime) -> Result<(), 
     assert!(rt; is_usage(rt.alloc(), &["html", "Main", "x"])?);
     assert!(rt; is_usage(rt.alloc(), &["--help"])?);
     assert!(rt; is_usage(rt.alloc(), &["wikitext", "Main"])?);
+    assert!(rt; is_usage(rt.alloc(), &["ranges"])?);
+    assert!(rt; is_usage(rt.alloc(), &["ranges", "Main", "x"])?);
     assert!(rt; is_usage(rt.alloc(), &["wikitext "])?);
     Ok(())
 }
