@@ -11,25 +11,23 @@ use Rattle.wt_pagetool.specs.declared.refusal.Reason.{Reason}
 use Rattle.wt_pagetool.specs.declared.refusal.Reason.TheVariants.{Usage, Absent, TooLong, NotUtf8, NotBuilt, HtmlTooLong, InputTooLong, Html, Unfit, Unsourced, ReadFault, FolderFault, NoMemory}
 use Rattle.wt_pagetool.specs.Outputs.{output_bytes}
 use Rattle.wt_pagetool.specs.Refusals.{html_too_long}
-use Rattle.wt_pagetool.specs.PageTree.{page_tree}
-use Rattle.wt_not_built.specs.Unbuilt.{IsBuilt}
+use Rattle.wt_page_round_trip.specs.PageTree.{page_tree}
 use Rattle.wt_pagetool.specs.Words.{wikitext, command_of}
 use Rattle.wt_pagetool.specs.Answers.{done, refused, html_of, html_answer, source_answer, wikitext_answer, answer_told}
 use Rattle.wt_pagetool.specs.Reasons.{Answered}
 use Rattle.wt_pagetool.specs.Reports.{Sunk, Reported}
 use Rattle.wt_pagetool.specs.GivenBack.{IsReadBack, IsGivenBack, GaveBack}
-use Rattle.wt_pagetool.proofs.PageLaws.{text_of, built_of, page_made}
+use Rattle.wt_pagetool.proofs.PageLaws.{text_of, page_made}
 use Rattle.wt_pagetool.proofs.AnswerLaws.{wikitext_within}
 use Rattle.wt_pagetool.proofs.WikitextLaws.{source_sourced}
 use Rattle.wt_pagetool.proofs.RunLaws.{told_wikitext}
-use Rattle.wt_pagetool.proofs.WrittenPages.{tree_is_read, same_page}
+use Rattle.wt_page_round_trip.proofs.Pages.{page_is_read, same_page}
 use Rattle.wt_round_trip.specs.Written.{unranged}
 
 -- what an answer that is HTML says of the page
 record Written (page bytes : List ℕ) : Type 0 where
   pub within : length page ≤ 2097152
   pub text : IsUtf8 page
-  pub built : IsBuilt page
   pub is : bytes ≡ html_text (page_tree page)
   pub few : length bytes ≤ 67108864
 
@@ -48,18 +46,18 @@ written page bytes e =
     let m = page_made page bytes html_of e in
     let html = html_text (page_tree page) in
     let few = few_html html bytes (nat_lt 67108864 (length html)) refl m.is in
-    record { within = m.within; text = text_of page m.text; built = built_of page m.built; is = few.0; few = few.1 }
+    record { within = m.within; text = text_of page m.text; is = few.0; few = few.1 }
 
 -- a page whose HTML is read back is given back
-given_back : (page : List ℕ) → (IsUtf8 page → IsBuilt page → length page ≤ 2097152 → IsReadBack page) → IsGivenBack page
+given_back : (page : List ℕ) → (IsUtf8 page → length page ≤ 2097152 → IsReadBack page) → IsGivenBack page
 given_back page back bytes e =
     let w = written page bytes e in
-    let b = back w.text w.built w.within in
+    let b = back w.text w.within in
     wikitext_within bytes w.few ∙ ap source_answer (ap read w.is ∙ b.reads) ∙ source_sourced b.tree None page refl (sym b.source)
 
 pub all_given_back : (page : List ℕ) → IsGivenBack page
 all_given_back page =
-    given_back page (λ text built within. record { tree = unranged (page_tree page); reads = tree_is_read page text built (omega arith); source = same_page page })
+    given_back page (λ text within. record { tree = unranged (page_tree page); reads = page_is_read page text (omega arith); source = same_page page text })
 
 -- ---- the clause
 

@@ -8,4 +8,3 @@ pub mod RunLaws
 pub mod TreeLaws
 pub mod WikitextLaws
 pub mod WriteLaws
-pub mod WrittenPages

@@ -10,7 +10,7 @@ use Rattle.wt_span.specs.declared.form.Form.TheVariants as form
 use Rattle.wt_span.specs.declared.form.Mode.TheVariants.{Page}
 use Rattle.wt_span.specs.Bytes.{is_break}
 use Rattle.wt_span.specs.Entities.{entity_at}
-use Rattle.wt_span.specs.Items.{Item, char, whole, source, sources, items_by}
+use Rattle.wt_span.specs.Items.{Item, char, whole, sign, sources, items_by}
 use Rattle.wt_span.specs.Lexemes.{Word, words}
 use Rattle.wt_span.specs.Runs.{runs, IsRun, AreRuns}
 use Rattle.wt_span.proofs.RunLaws.{runs_are, runs_joined}
@@ -154,7 +154,7 @@ heading_by_count h xs =
 
 heading_count : (xs : List Item) → numbered (heading xs) ≤ 1 + weight xs
 unfolding heading
-heading_count xs = heading_by_count _ xs
+heading_count xs = heading_by_count (heading_parts (map sign xs)) xs
 
 block_count : (k : BlockKind) (ls : List (List Item)) → numbered (block k ls) ≤ 1 + weight (joined ls)
 unfolding block
@@ -224,12 +224,12 @@ meaning_count xs =
     let body : counts (body_parts (rows xs)) ≤ length rs + weight xs = subst (λ ys. counts (flat_map run_parts rs) ≤ length rs + weight ys) all (blocks_count rs) in
     let few_runs : length rs ≤ length (rows xs) = runs_few same_block rs (rows xs) (runs_are same_block (rows xs)) in
     let few_lines : length (full_lines xs) ≤ length xs = runs_few goes_on (full_lines xs) xs (runs_are goes_on xs) in
-    omega (arith, children_count (body_parts (rows xs)), length-map row (full_lines xs))
+    omega (arith, children_count (body_parts (rows xs)), length-map (full_lines xs) row)
 
 -- ---- the items of a page
 
 chars_length : (bs : List ℕ) → length (map (char None) bs) ≡ length bs
-chars_length bs = length-map (char None) bs
+chars_length bs = length-map bs (char None)
 
 form_length : (f : Form) (bs : List ℕ) → 0 < length bs → length (items_by f None bs) ≤ length bs
 form_length form.Chars bs some = omega (arith, chars_length bs)

@@ -1,20 +1,19 @@
 -- What stands under a title: a page that is answered, or one that is refused.
 use Rattle.std.proofs.Common.{◌≡◌, ℕ, ◌<◌, ◌≤◌, List, length, take, true, false, Bool, cond, refl, sym, ap, ◌∙◌, subst, arith, length-take-le, inl, inr, ⊎_elim}
-use Rattle.std.specs.Prelude.{◌⊎◌, IsUtf8, nat_lt, Option, Some, None, option_map, MatchOption, IfSome, Result, Ok, Err}
+use Rattle.std.specs.Prelude.{◌⊎◌, IsUtf8, nat_lt, Option, Some, None, option_map, MatchOption, IfSome, IfOk, IfErr, Result, Ok, Err}
 use Rattle.std.proofs.lemmas.Bool.Decides.{nat_tests}
 use Rattle.std.proofs.lemmas.List.{take_all}
 use Rattle.std.proofs.str.Laws.{order}
 use Rattle.wt_outer.specs.Device.{Pages, Gives, page_of}
 use Rattle.wt_outer.specs.declared.device.Fetched.TheVariants as fetched
 use Rattle.wt_tree.specs.Tree.{Tree}
+use Rattle.wt_tree.specs.declared.annotated.Annotated.{Annotated}
 use Rattle.wt_markup.specs.Html.{html_text}
 use Rattle.wt_listing.specs.Listing.{listing}
 use Rattle.wt_utf8.specs.Places.{IsPlace, not_utf8_place}
 use Rattle.wt_utf8.proofs.PlaceLaws.{exact as exact_text, at_place}
-use Rattle.wt_not_built.specs.Unbuilt.{IsBuilt, IsFirstUnbuilt}
 use Rattle.wt_not_built.specs.FirstPlace.{first_unbuilt}
-use Rattle.wt_not_built.proofs.PlaceLaws.{exact as exact_form}
-use Rattle.wt_pagetool.specs.PageTree.{page_tree}
+use Rattle.wt_page_round_trip.specs.PageTree.{page_tree}
 use Rattle.wt_pagetool.specs.Refusals.{absent, too_long, not_utf8_at, not_built}
 use Rattle.wt_pagetool.specs.Answers.{Answer, done, refused, built_answer, text_answer, page_answer, IsAnswered, html_within, html_of, html_answer, ranges_of, ranges_answer}
 use Rattle.wt_pagetool.specs.declared.output.Output.{Output}
@@ -22,13 +21,10 @@ use Rattle.wt_pagetool.specs.declared.refusal.Reason.{Reason}
 use Rattle.wt_pagetool.specs.declared.refusal.Reason.TheVariants.{Usage, Absent, TooLong, NotUtf8, NotBuilt, HtmlTooLong, InputTooLong, Html, Unfit, Unsourced, ReadFault, FolderFault, NoMemory}
 use Rattle.wt_pagetool.specs.Reasons.{Refuses, RefusesPage, IsUnbuilt, IsFetched, Answered}
 
--- ---- texts and built pages
+-- ---- texts
 
 pub text_of : (page : List ℕ) → not_utf8_place page ≡ None → IsUtf8 page
 text_of page e = let P : Option ℕ → Type 0 = λ o. MatchOption o (IsUtf8 page) (λ n. IsPlace page n) in subst P e (exact_text page)
-
-pub built_of : (page : List ℕ) → first_unbuilt page ≡ None → IsBuilt page
-built_of page e = let P : Option ℕ → Type 0 = λ o. MatchOption o (IsBuilt page) (λ n. IsFirstUnbuilt page n) in subst P e (exact_form page)
 
 pub place_within : (page : List ℕ) (n : ℕ) → not_utf8_place page ≡ Some n → n ≤ length page
 place_within page n e = (at_place page n e).within
@@ -75,6 +71,14 @@ page_unbuilt page NoMemory h e u = λ made. tt
 pub page_answered : (page : List ℕ) → length page ≤ 2097152 → not_utf8_place page ≡ None → first_unbuilt page ≡ None → IsAnswered page
 unfolding page_answer
 page_answered page h e f made = rw (short page h, e, f) refl
+
+pub tree_answered : (page text : List ℕ) (result : Result Annotated Reason) → text ≡ page → length page ≤ 2097152 → not_utf8_place page ≡ None → IfOk result (λ t. first_unbuilt text ≡ None) → IfOk result (λ t. IsAnswered page)
+tree_answered page text (Ok t) same h e f = page_answered page h e (sym (ap first_unbuilt same) ∙ f)
+tree_answered page text (Err reason) same h e f = tt
+
+pub tree_refused : (page text : List ℕ) (result : Result Annotated Reason) → text ≡ page → length page ≤ 2097152 → not_utf8_place page ≡ None → IfErr result (IsUnbuilt (first_unbuilt text)) → IfErr result (RefusesPage (Some page))
+tree_refused page text (Ok t) same h e u = tt
+tree_refused page text (Err reason) same h e u = page_unbuilt page reason h e (subst (λ bs. IsUnbuilt (first_unbuilt bs) reason) same u)
 
 -- ---- what an answer that is done says of the page
 
@@ -127,14 +131,14 @@ cut_same page made = cut_step page made (either (length page) 2097153)
     either m n = ⊎_elim (λ lt. inr lt) (λ le. inl le) (order n m)
 
 found_step : (stands : Option (List ℕ)) (page : List ℕ) → Some page ≡ option_map (take 2097153) stands → IsFetched stands (Ok page)
-found_step None page e = cc
-found_step (Some whole) page e made =
+found_step None page e = absurd cc
+found_step (Some whole) page e =
     let same : page ≡ take 2097153 whole = cc in
-    cut_same whole made ∙ ap (λ bs. page_answer (Some bs) made) (sym same)
+    λ made. cut_same whole made ∙ ap (λ bs. page_answer (Some bs) made) (sym same)
 
 absent_step : (stands : Option (List ℕ)) → None ≡ option_map (take 2097153) stands → IsFetched stands (Err Absent)
 absent_step None e = none_absent
-absent_step (Some whole) e = cc
+absent_step (Some whole) e = absurd cc
 
 pub found_is : (told : Option Pages) (title page : List ℕ) → Gives told title 2097153 (fetched.Found page) → IfSome told (λ pages. IsFetched (pages title) (Ok page))
 found_is None title page gives = tt

@@ -15,7 +15,7 @@ use Rattle.wt_pagetool.specs.declared.refusal.Reason.{Reason}
 use Rattle.wt_pagetool.specs.declared.refusal.Reason.TheVariants.{Usage, Absent, TooLong, NotUtf8, NotBuilt, HtmlTooLong, InputTooLong, Html, Unfit, Unsourced, ReadFault, FolderFault, NoMemory}
 use Rattle.wt_pagetool.specs.Outputs.{output_bytes}
 use Rattle.wt_pagetool.specs.Refusals.{html_too_long, input_too_long, write_fault, no_memory, status_of, line_of}
-use Rattle.wt_pagetool.specs.PageTree.{page_tree}
+use Rattle.wt_page_round_trip.specs.PageTree.{page_tree}
 use Rattle.wt_pagetool.specs.Words.{html, ranges, wikitext, command_of}
 use Rattle.wt_pagetool.specs.Answers.{Answer, done, refused, html_of, html_answer, ranges_of, ranges_answer, source_answer, wikitext_answer, answer_told, IsDue}
 use Rattle.wt_pagetool.specs.Reasons.{meant, Answered}

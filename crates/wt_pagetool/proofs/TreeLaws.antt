@@ -1,4 +1,4 @@
--- The annotated tree of a page: its source, its ranges and its numbers.
+-- The annotated tree of a page: its source, its ranges and its numbers; places and numbers are small.
 use Rattle.std.proofs.Common.{◌≡◌, ℕ, ◌+◌, ◌*◌, ◌<◌, ◌≤◌, ◌^◌, List, length, ap, ◌∙◌, subst, arith}
 use Rattle.wt_tree.specs.Source.{flat}
 use Rattle.wt_tree.specs.Tiling.{Tiled, Covers, InPreorder}
@@ -15,18 +15,16 @@ use Rattle.wt_annotate.specs.Annotated.{numbered, annotated}
 use Rattle.wt_annotate.proofs.TreeSource.{flat_annotated}
 use Rattle.wt_annotate.proofs.TreeRanges.{tiled_annotated, body_covers}
 use Rattle.wt_annotate.proofs.TreeNumbers.{numbered_annotated}
-use Rattle.wt_pagetool.specs.PageTree.{page_tree}
+use Rattle.wt_page_round_trip.specs.PageTree.{page_tree}
 use Rattle.wt_pagetool.proofs.NumberLaws.{few_numbers}
 
 meaning_sources : (page : List ℕ) → sources (held (meaning (page_items page))) ≡ page
 meaning_sources page = sources_meaning (page_items page) ∙ page_sources page
 
 pub flat_page : (page : List ℕ) → flat (page_tree page) ≡ page
-unfolding page_tree
 flat_page page = flat_annotated (meaning (page_items page)) ∙ meaning_sources page
 
 pub page_tiled : (page : List ℕ) → Tiled (page_tree page)
-unfolding page_tree
 page_tiled page = tiled_annotated (meaning (page_items page))
 
 covers_width : (xs : List Item) → Covers (width (held (meaning xs))) (annotated (meaning xs))
@@ -34,14 +32,15 @@ unfolding meaning
 covers_width xs = body_covers (forest (children (body_parts (rows xs))))
 
 pub page_covered : (page : List ℕ) → Covers (length page) (page_tree page)
-unfolding page_tree
 page_covered page = subst (λ n. Covers n (annotated (meaning (page_items page)))) (ap length (meaning_sources page)) (covers_width (page_items page))
 
 pub page_numbered : (page : List ℕ) → InPreorder (page_tree page)
-unfolding page_tree
 page_numbered page = numbered_annotated (meaning (page_items page))
 
--- ---- places and numbers are small
+-- ---- from the meaning that was found
+
+pub tree_is : (page : List ℕ) (xs : List Item) (t : ItemTree) → t ≡ meaning xs → xs ≡ page_items page → annotated t ≡ page_tree page
+tree_is page xs t is items = ap annotated (is ∙ ap meaning items)
 
 pub small_width : (page : List ℕ) (xs : List Item) (t : ItemTree) → length page ≤ 2097152 → t ≡ meaning xs → xs ≡ page_items page → width (held t) < 2 ^ 32
 small_width page xs t room is items =

@@ -8,7 +8,7 @@ use Rattle.wt_utf8.specs.Places.{not_utf8_place}
 use Rattle.wt_not_built.specs.FirstPlace.{first_unbuilt}
 use Rattle.wt_fitting.specs.Read.{Read, page as as_page, ill, misfit, read}
 use Rattle.wt_pagetool.specs.Refusals.{Refusal, usage, absent, too_long, not_utf8_at, not_built, braces_too_deep, expansion_too_large, template_not_utf8, template_too_long, html_too_long, input_too_long, html_refused, does_not_fit, unsourced, edit_refused, read_fault, folder_fault, write_fault, no_memory, status_of}
-use Rattle.wt_pagetool.specs.PageTree.{page_tree}
+use Rattle.wt_page_round_trip.specs.PageTree.{page_tree}
 use Rattle.wt_pagetool.specs.Words.{Command, html, ranges, wikitext, command_of}
 
 pub data Answer : Type 0 where

@@ -5,7 +5,7 @@ use Rattle.wt_tree.specs.Tree.{Tree}
 use Rattle.wt_tree.specs.Source.{flat}
 use Rattle.wt_markup.specs.Html.{html_text}
 use Rattle.wt_fitting.specs.Read.{page as as_page, read}
-use Rattle.wt_pagetool.specs.PageTree.{page_tree}
+use Rattle.wt_page_round_trip.specs.PageTree.{page_tree}
 use Rattle.wt_pagetool.specs.Answers.{done, html_answer, wikitext_answer}
 
 -- the HTML of a page stands for a tree whose every element tells its source, and whose source is the page

@@ -3,7 +3,6 @@ pub mod Commands
 pub mod GivenBack
 pub mod Inputs
 pub mod Outputs
-pub mod PageTree
 pub mod Reasons
 pub mod Refusals
 pub mod Reports

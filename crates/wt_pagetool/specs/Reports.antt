@@ -14,7 +14,7 @@ use Rattle.wt_pagetool.specs.declared.output.Output.{Output}
 use Rattle.wt_pagetool.specs.Outputs.{output_bytes}
 use Rattle.wt_pagetool.specs.Reasons.{meant}
 use Rattle.wt_pagetool.specs.Answers.{Answer, IsDue}
-use Rattle.wt_pagetool.specs.PageTree.{page_tree}
+use Rattle.wt_page_round_trip.specs.PageTree.{page_tree}
 
 -- a sink took a front of these bytes, which may be all or none of them
 abbrev pub AppendsFront : Option (List ℕ) → Option (List ℕ) → List ℕ → Type 0

@@ -2,7 +2,7 @@ ghost use Rattle.std.specs.Prelude.{◌≡◌, ℕ, List, length};
 ghost use Rattle.wt_tree.specs.Source.{flat};
 ghost use Rattle.wt_tree.specs.Tiling.{Tiled, Covers, InPreorder};
 ghost use Rattle.wt_pagetool.specs.GivenBack.{IsGivenBack};
-ghost use Rattle.wt_pagetool.specs.PageTree.{page_tree};
+ghost use Rattle.wt_page_round_trip.specs.PageTree.{page_tree};
 
 /// The tree of a page joins to the page, its ranges tile the page, and its numbers are in preorder.
 pub fn whole_tree()

@@ -14,11 +14,9 @@ mod page;
 mod ranges_command;
 mod refusal;
 mod report;
-mod round_trip;
 mod top;
 mod wikitext_command;
 mod write;
 
 pub use laws::{pages_come_back, whole_tree};
-pub use round_trip::page_is_read;
 pub use top::run;

@@ -3,7 +3,7 @@ ghost use Rattle.wt_tree.specs.View.{view};
 ghost use Rattle.wt_expand.specs.PageItems.{page_items};
 ghost use Rattle.wt_not_built.specs.FirstPlace.{first_unbuilt};
 ghost use Rattle.wt_pagetool.specs.Answers.{IsAnswered};
-ghost use Rattle.wt_pagetool.specs.PageTree.{page_tree};
+ghost use Rattle.wt_page_round_trip.specs.PageTree.{page_tree};
 ghost use Rattle.wt_pagetool.specs.Reasons.{IsUnbuilt, RefusesPage, IsOfPage};
 
 use crate::refusal::Reason;
