@@ -5,6 +5,7 @@ use Rattle.std.proofs.lemmas.Bool.Decides.{nat_tests}
 use Rattle.std.proofs.lemmas.List.{take_all}
 use Rattle.std.proofs.str.Laws.{order}
 use Rattle.wt_outer.specs.Device.{Pages, Gives, page_of}
+use Rattle.wt_outer.specs.declared.device.Fetched.{Fetched}
 use Rattle.wt_outer.specs.declared.device.Fetched.TheVariants as fetched
 use Rattle.wt_tree.specs.Tree.{Tree}
 use Rattle.wt_tree.specs.declared.annotated.Annotated.{Annotated}
@@ -140,13 +141,13 @@ absent_step : (stands : Option (List ℕ)) → None ≡ option_map (take 2097153
 absent_step None e = none_absent
 absent_step (Some whole) e = absurd cc
 
-pub found_is : (told : Option Pages) (title page : List ℕ) → Gives told title 2097153 (fetched.Found page) → IfSome told (λ pages. IsFetched (pages title) (Ok page))
-found_is None title page gives = tt
-found_is (Some pages) title page gives = found_step (pages title) page gives
+pub found_is : (told : Option Pages) (title page : List ℕ) (answer : Fetched) → answer ≡ fetched.Found page → Gives told title 2097153 answer → IfSome told (λ pages. IsFetched (pages title) (Ok page))
+found_is None title page answer is gives = tt
+found_is (Some pages) title page answer is gives = found_step (pages title) page (sym (ap page_of is) ∙ gives)
 
-pub absent_is : (told : Option Pages) (title : List ℕ) → Gives told title 2097153 fetched.Absent → IfSome told (λ pages. IsFetched (pages title) (Err Absent))
-absent_is None title gives = tt
-absent_is (Some pages) title gives = absent_step (pages title) gives
+pub absent_is : (told : Option Pages) (title : List ℕ) (answer : Fetched) → answer ≡ fetched.Absent → Gives told title 2097153 answer → IfSome told (λ pages. IsFetched (pages title) (Err Absent))
+absent_is None title answer is gives = tt
+absent_is (Some pages) title answer is gives = absent_step (pages title) (sym (ap page_of is) ∙ gives)
 
 -- ---- from the tree of a page to the answer
 

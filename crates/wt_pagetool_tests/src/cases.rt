@@ -199,14 +199,8 @@ pub const RANGES: [(&str, &str); 12] = [
         "a\n<!-- c -->\nb",
         "mw1 p 0 14 0 0\nmw2 comment 2 13 11 0\n",
     ),
-    (
-        "=====",
-        "mw1 h2 0 5 2 2\n",
-    ),
-    (
-        "=== x ==",
-        "mw1 h2 0 8 2 3\n",
-    ),
+    ("=====", "mw1 h2 0 5 2 2\n"),
+    ("=== x ==", "mw1 h2 0 8 2 3\n"),
     (
         "&lt;<nowiki>''x''</nowiki>",
         "mw1 p 0 26 0 0\nmw2 entity 0 4 4 0\nmw3 nowiki 4 26 8 9\n",
@@ -215,34 +209,13 @@ pub const RANGES: [(&str, &str); 12] = [
         "<noinclude>a</noinclude><includeonly>b</includeonly>",
         "mw1 include 0 11 11 0\nmw2 p 11 52 0 0\nmw3 include 12 24 12 0\nmw4 include 24 52 28 0\n",
     ),
-    (
-        "",
-        "",
-    ),
-    (
-        "\t<!---->",
-        "mw1 comment 1 8 7 0\n",
-    ),
-    (
-        "== .1 ==\n< ",
-        "mw1 h2 0 8 3 3\nmw2 p 9 11 0 0\n",
-    ),
-    (
-        "a<nowiki/>\n",
-        "mw1 p 0 10 0 0\nmw2 nowiki 1 10 9 0\n",
-    ),
-    (
-        ",\n== &  ==\n\n",
-        "mw1 p 0 1 0 0\nmw2 h2 2 10 3 4\n",
-    ),
-    (
-        "\n1bé\n&nbsp;\n",
-        "mw1 p 1 12 0 0\nmw2 entity 6 12 6 0\n",
-    ),
-    (
-        ",, &#x5B;Opava",
-        "mw1 p 0 14 0 0\nmw2 entity 3 9 6 0\n",
-    ),
+    ("", ""),
+    ("\t<!---->", "mw1 comment 1 8 7 0\n"),
+    ("== .1 ==\n< ", "mw1 h2 0 8 3 3\nmw2 p 9 11 0 0\n"),
+    ("a<nowiki/>\n", "mw1 p 0 10 0 0\nmw2 nowiki 1 10 9 0\n"),
+    (",\n== &  ==\n\n", "mw1 p 0 1 0 0\nmw2 h2 2 10 3 4\n"),
+    ("\n1bé\n&nbsp;\n", "mw1 p 1 12 0 0\nmw2 entity 6 12 6 0\n"),
+    (",, &#x5B;Opava", "mw1 p 0 14 0 0\nmw2 entity 3 9 6 0\n"),
 ];
 
 /// Bytes that aren't UTF-8, and the line that tells where.
@@ -271,7 +244,10 @@ pub const NOT_BUILT: [(&str, &str); 15] = [
     ("# a", "wtround: not built at 0\n"),
     (": a", "wtround: not built at 0\n"),
     ("a\n<!-- c --> b", "wtround: not built at 12\n"),
-    ("<!-- * -->&#42;<nowiki>*</nowiki>x\u{e9}_", "wtround: not built at 36\n"),
+    (
+        "<!-- * -->&#42;<nowiki>*</nowiki>x\u{e9}_",
+        "wtround: not built at 36\n",
+    ),
 ];
 
 /// HTML that isn't well-formed, holds an element that fits nowhere, or one without a source; and the
