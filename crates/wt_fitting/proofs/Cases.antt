@@ -1,34 +1,41 @@
 -- Worked cases of reading, each by computing.
-use Rattle.std.proofs.Common.{◌≡◌, ℕ, Some, None, refl, codes}
+use Rattle.std.proofs.Common.{◌≡◌, ℕ, [], ◌∷◌, Some, refl, codes}
+use Rattle.wt_span.specs.Tags.{is_extension}
+use Rattle.wt_tree.specs.declared.kind.AttrName.TheVariants as attr
 use Rattle.wt_tree.specs.declared.kind.Kind.{Kind}
 use Rattle.wt_tree.specs.declared.kind.Kind.TheVariants as kind
+use Rattle.wt_tree.specs.declared.kind.Mark.{Mark}
 use Rattle.wt_tree.specs.declared.kind.Mark.TheVariants as mark
-use Rattle.wt_tree.specs.Tree.{Tree, tree, Trees, none as no_trees, more as one_more}
+use Rattle.wt_tree.specs.Tree.{Label, Tree, tree, Trees, none as no_trees, more as one_more}
 use Rattle.wt_html_grammar.specs.declared.why.HtmlWhy.TheVariants as html_why
 use Rattle.wt_fitting.specs.declared.why.FitWhy.TheVariants as why
-use Rattle.wt_fitting.specs.Fit.{text_leaf, sep_leaf, label_with}
+use Rattle.wt_fitting.specs.Rows.{entity_type, nowiki_type, comment_type, extension_prefix, no_include, no_include_end, only_include, only_include_end, include_only}
+use Rattle.wt_fitting.specs.Fit.{leaf_label, text_leaf, sep_leaf}
 use Rattle.wt_fitting.specs.Read.{page, ill, misfit, read_tree, read}
 
 -- a node without data
-bare : Kind → ℕ → Trees → Tree
-bare k id ts = tree (label_with k id mark.Nothing None) ts
+abbrev label_with : Kind → ℕ → Mark → Label
+label_with k id m = record (leaf_label k [] []) { id = id; mark = m }
+
+abbrev bare : Kind → ℕ → Trees → Tree
+bare k id ts = tree (label_with k id mark.Nothing) ts
 
 -- an escape, a separator and a head; no paragraph has a source
 escaped : read (codes "<html>\n<head><meta/></head><body>\n<p>a &lt; b</p></body></html>")
     ≡ page (bare kind.Body 0 (one_more (sep_leaf (codes "\n")) (one_more (bare kind.Para 0 (one_more (text_leaf (codes "a < b")) no_trees)) no_trees))) (Some 5)
-unfolding read read_tree bare lib.Utf8.encode
+unfolding read read_tree lib.Utf8.encode
 escaped = refl
 
 -- a number, a mark, and a heading of the last level; the body has a mark of its own
 marked : read (codes "<html><body id='mw1' data-wt-edit='children'><h6 id='mw27' data-wt-edit='content'></h6></body></html>")
-    ≡ page (tree (label_with kind.Body 0 mark.Children None) (one_more (tree (label_with (kind.Heading 6) 27 mark.Content None) no_trees) no_trees)) (Some 2)
+    ≡ page (tree (label_with kind.Body 0 mark.Children) (one_more (tree (label_with (kind.Heading 6) 27 mark.Content) no_trees) no_trees)) (Some 2)
 unfolding read read_tree
 marked = refl
 
 -- no number: one with a leading zero, and one past 4,294,967,295
 no_number : read (codes "<html><body><p id='mw01'></p><p id='mw4294967296'></p></body></html>")
     ≡ page (bare kind.Body 0 (one_more (bare kind.Para 0 no_trees) (one_more (bare kind.Para 0 no_trees) no_trees))) (Some 3)
-unfolding read read_tree bare
+unfolding read read_tree
 no_number = refl
 
 -- a misfit of each reason
@@ -56,3 +63,23 @@ text_in_body = refl
 cut : read (codes "<html><body>") ≡ ill 12 html_why.End
 unfolding read
 cut = refl
+
+-- an entity by its character, nowiki round a text, a comment and an include tag
+few_rows : read (codes "<html><body><p><span typeof='mw:Entity'>&lt;</span><span typeof='mw:Nowiki'>''</span><meta typeof='mw:Comment'/></p><meta typeof='mw:Includes/NoInclude'/></body></html>")
+    ≡ page (bare kind.Body 0 (one_more (bare kind.Para 0 (one_more (tree (record (label_with kind.Entity 0 mark.Nothing) { shown = codes "<" }) no_trees) (one_more (bare kind.Nowiki 0 (one_more (text_leaf (codes "''")) no_trees)) (one_more (bare kind.Comment 0 no_trees) no_trees)))) (one_more (tree (record (label_with kind.Include 0 mark.Nothing) { attrs = (attr.Typeof, codes "mw:Includes/NoInclude") ∷ [] }) no_trees) no_trees))) (Some 3)
+unfolding read read_tree lib.Utf8.encode entity_type nowiki_type comment_type extension_prefix no_include no_include_end only_include only_include_end include_only
+few_rows = refl
+
+-- an island of an extension needs the data of one
+without_data : read (codes "<html><body><p><span typeof='mw:Extension/ref'></span></p></body></html>") ≡ misfit 4 why.Data
+unfolding read read_tree entity_type nowiki_type extension_prefix is_extension
+without_data = refl
+
+-- an extension that is none of the known, and nowiki in nowiki
+no_extension : read (codes "<html><body><p><span typeof='mw:Extension/other'></span></p></body></html>") ≡ misfit 4 why.Element
+unfolding read read_tree entity_type nowiki_type extension_prefix is_extension
+no_extension = refl
+
+no_nowiki : read (codes "<html><body><p><span typeof='mw:Nowiki'><span typeof='mw:Nowiki'></span></span></p></body></html>") ≡ misfit 5 why.Place
+unfolding read read_tree entity_type nowiki_type
+no_nowiki = refl

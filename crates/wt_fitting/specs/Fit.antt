@@ -1,10 +1,9 @@
 -- Which trees of elements are pages, and what page each is. The elements are counted from 1 in
 -- document order; the first that doesn't fit is told, with the first reason for it.
-use Rattle.std.specs.Prelude.{ℕ, suc, ◌+◌, ◌==◌, ◌&&◌, ◌||◌, Bool, true, not, Option, Some, None, Result, Ok, Err, List, [], ◌∷◌, codes, if◌then◌else◌}
+use Rattle.std.specs.Prelude.{ℕ, suc, ◌+◌, ◌++◌, ◌==◌, ◌&&◌, ◌||◌, Bool, true, not, Option, Some, None, Result, Ok, Err, List, [], ◌∷◌, codes, if◌then◌else◌}
 use Rattle.std.specs.Str.{bytes_eq}
 use Rattle.wt_tree.specs.declared.kind.Kind.{Kind}
 use Rattle.wt_tree.specs.declared.kind.Kind.TheVariants as kind
-use Rattle.wt_tree.specs.declared.kind.Mark.{Mark}
 use Rattle.wt_tree.specs.declared.kind.Mark.TheVariants as mark
 use Rattle.wt_tree.specs.Tree.{Label, Tree, tree, Trees, none as no_trees, more as one_more}
 use Rattle.wt_datamw.specs.declared.sync.Sync.{Sync}
@@ -12,7 +11,8 @@ use Rattle.wt_html_grammar.specs.Markup.{Pair, Markup, Markups, text, node, empt
 use Rattle.wt_fitting.specs.declared.why.FitWhy.{FitWhy}
 use Rattle.wt_fitting.specs.declared.why.FitWhy.TheVariants as why
 use Rattle.wt_fitting.specs.Attributes.{has, is_typed, id_of, mark_of}
-use Rattle.wt_fitting.specs.Rows.{row, may_hold, holds_text, data_of, id_for}
+use Rattle.wt_fitting.specs.Rows.{row, may_hold, holds_text, shows_text, attrs_for}
+use Rattle.wt_fitting.specs.Data.{Data, data_of, id_for}
 
 -- ---- labels
 
@@ -26,20 +26,23 @@ text_leaf bs = tree (leaf_label kind.Text bs bs) no_trees
 abbrev pub sep_leaf : List ℕ → Tree
 sep_leaf bs = tree (leaf_label kind.Sep bs []) no_trees
 
-abbrev pub leaf_in : Kind → List ℕ → Tree
-leaf_in parent bs = if holds_text parent then text_leaf bs else sep_leaf bs
+-- a text in a parent of this kind; the character of an entity is no node
+abbrev pub leaf_in : Kind → List ℕ → Option Tree
+leaf_in parent bs = if shows_text parent then None else if holds_text parent then Some (text_leaf bs) else Some (sep_leaf bs)
 
 abbrev pub source_of : Option (List ℕ) → List ℕ
 source_of None = []
 source_of (Some bs) = bs
 
 -- a node with what `data-parsoid` says of it, if it is there
-abbrev pub label_with : Kind → ℕ → Mark → Option Sync → Label
-label_with k id m None = record { kind = k; id = id; ranges = None; opening = []; closing = []; own = []; shown = []; attrs = []; mark = m; mw = None }
-label_with k id m (Some s) = record { kind = k; id = id; ranges = Some s.dsr; opening = s.opening; closing = s.closing; own = source_of s.src; shown = []; attrs = []; mark = m; mw = None }
+abbrev pub with_sync : Label → Option Sync → Label
+with_sync l None = l
+with_sync l (Some s) = record l { ranges = Some s.dsr; opening = s.opening; closing = s.closing; own = source_of s.src }
 
-abbrev pub label_for : Kind → List Pair → Option Sync → Label
-label_for k ps s = label_with k (id_for k ps) (mark_of ps) s
+-- an element of this kind with this data, and these characters in it
+abbrev pub label_for : Kind → List Pair → Data → List ℕ → Label
+label_for k ps d shown =
+    with_sync (record { kind = k; id = id_for k ps; ranges = None; opening = []; closing = []; own = []; shown = if shows_text k then shown else []; attrs = attrs_for k ps; mark = mark_of ps; mw = d.mw }) d.sync
 
 -- ---- counting
 
@@ -59,6 +62,12 @@ abbrev pub is_blank : List ℕ → Bool
 is_blank [] = true
 is_blank (b ∷ bs) = (b == 32 || (b == 9 || b == 10)) && is_blank bs
 
+-- the texts directly there, joined
+abbrev pub texts_in : Markups → List ℕ
+texts_in empty = []
+texts_in (more (text bs) ts) = bs ++ texts_in ts
+texts_in (more (node name ps c) ts) = texts_in ts
+
 -- all texts directly there are spaces, tabs and line breaks
 abbrev pub are_blank : Markups → Bool
 are_blank empty = true
@@ -75,37 +84,42 @@ abbrev pub onto : Tree → Result Trees Misfit → Result Trees Misfit
 onto t (Ok ts) = Ok (one_more t ts)
 onto t (Err e) = Err e
 
--- a tree before others; its misfit comes first
-abbrev pub onto_told : Result Tree Misfit → Result Trees Misfit → Result Trees Misfit
-onto_told (Ok t) r = onto t r
+-- a tree, or none, before others; its misfit comes first
+abbrev pub onto_told : Result (Option Tree) Misfit → Result Trees Misfit → Result Trees Misfit
+onto_told (Ok None) r = r
+onto_told (Ok (Some t)) r = onto t r
 onto_told (Err e) r = Err e
 
 abbrev pub with_children : Label → Result Trees Misfit → Result Tree Misfit
 with_children l (Ok ts) = Ok (tree l ts)
 with_children l (Err e) = Err e
 
+abbrev pub one_tree : Result Tree Misfit → Result (Option Tree) Misfit
+one_tree (Ok t) = Ok (Some t)
+one_tree (Err e) = Err e
+
 -- whether the texts directly in an element of this kind may stand there
 abbrev pub text_fits : Kind → Markups → Bool
 text_fits k c = holds_text k || are_blank c
 
 -- element n is of this kind, with this data and this inside
-abbrev pub fit_told : ℕ → Kind → List Pair → Option (Option Sync) → Bool → Result Trees Misfit → Result Tree Misfit
-fit_told n k ps None fits inside = Err (n, why.Data)
-fit_told n k ps (Some s) fits inside = if fits then with_children (label_for k ps s) inside else Err (n, why.Text)
+abbrev pub fit_told : ℕ → Kind → List Pair → Option Data → Markups → Result Trees Misfit → Result Tree Misfit
+fit_told n k ps None c inside = Err (n, why.Data)
+fit_told n k ps (Some d) c inside = if text_fits k c then with_children (label_for k ps d (texts_in c)) inside else Err (n, why.Text)
 
-abbrev pub fit_as : ℕ → Kind → List Pair → Bool → Result Trees Misfit → Result Tree Misfit
-fit_as n k ps fits inside = fit_told n k ps (data_of k ps) fits inside
+abbrev pub fit_as : ℕ → Kind → List Pair → Markups → Result Trees Misfit → Result Tree Misfit
+fit_as n k ps c inside = fit_told n k ps (data_of k ps) c inside
 
 -- element n in a parent of that kind, by its row
-abbrev pub fit_row : ℕ → Kind → Option Kind → List Pair → (Kind → Bool) → (Kind → Result Trees Misfit) → Result Tree Misfit
-fit_row n parent None ps fits inside = Err (n, why.Element)
-fit_row n parent (Some k) ps fits inside = if may_hold parent k then fit_as n k ps (fits k) (inside k) else Err (n, why.Place)
+abbrev pub fit_row : ℕ → Kind → Option Kind → List Pair → Markups → (Kind → Result Trees Misfit) → Result (Option Tree) Misfit
+fit_row n parent None ps c inside = Err (n, why.Element)
+fit_row n parent (Some k) ps c inside = if may_hold parent k then one_tree (fit_as n k ps c (inside k)) else Err (n, why.Place)
 
 -- What stands in a parent of that kind: its first element, if it has one, is number n.
 abbrev mutual
-  pub fit_node : ℕ → Kind → Markup → Result Tree Misfit
+  pub fit_node : ℕ → Kind → Markup → Result (Option Tree) Misfit
   fit_node n parent (text bs) = Ok (leaf_in parent bs)
-  fit_node n parent (node name ps c) = fit_row n parent (row name ps) ps (λ k. text_fits k c) (λ k. fit_nodes (suc n) k c)
+  fit_node n parent (node name ps c) = fit_row n parent (row name ps) ps c (λ k. fit_nodes (suc n) k c)
 
   pub fit_nodes : ℕ → Kind → Markups → Result Trees Misfit
   fit_nodes n parent empty = Ok no_trees
@@ -143,7 +157,7 @@ body_of (node name ps c) = if bytes_eq name (codes "html") && not (is_marked_roo
 
 abbrev pub fit_body : Option Found → Result Tree Misfit
 fit_body None = Err (1, why.Root)
-fit_body (Some f) = fit_as f.number kind.Body f.attributes (text_fits kind.Body f.contents) (fit_nodes (suc f.number) kind.Body f.contents)
+fit_body (Some f) = fit_as f.number kind.Body f.attributes f.contents (fit_nodes (suc f.number) kind.Body f.contents)
 
 -- the page that a tree of elements is, or its first misfit
 abbrev pub fit : Markup → Result Tree Misfit

@@ -1,16 +1,17 @@
 -- Tables over the kinds of nodes that are read so far, a row for each: the element that each is, what
--- it may hold, and what its data must say. Paragraphs and headings are the elements that are built.
-use Rattle.std.specs.Prelude.{ℕ, ◌-◌, ◌==◌, ◌&&◌, nat_le, Bool, true, false, not, is_some, Option, Some, None, Result, Ok, Err, List, [], ◌∷◌, codes, if◌then◌else◌}
+-- it may hold, and what it takes from its attributes and texts. The elements that are built are
+-- paragraphs, headings, entities, nowiki, islands of extensions, comments and include tags.
+use Rattle.std.specs.Prelude.{ℕ, ◌-◌, ◌==◌, ◌&&◌, ◌||◌, nat_le, Bool, true, false, Option, Some, None, List, [], ◌∷◌, length, drop, codes, if◌then◌else◌}
+use Rattle.std.specs.List.{list_any}
+use Rattle.std.specs.Str.{bytes_eq}
+use Rattle.wt_span.specs.Bytes.{begins}
+use Rattle.wt_span.specs.Tags.{is_extension}
+use Rattle.wt_tree.specs.declared.kind.AttrName.{AttrName}
+use Rattle.wt_tree.specs.declared.kind.AttrName.TheVariants as attr
 use Rattle.wt_tree.specs.declared.kind.Kind.{Kind}
 use Rattle.wt_tree.specs.declared.kind.Kind.TheVariants as kind
-use Rattle.wt_tree.specs.declared.node.DataMw.{DataMw}
-use Rattle.wt_tree.specs.Kinds.{is_leaf, is_numbered}
-use Rattle.wt_datamw.specs.declared.sync.Sync.{Sync}
-use Rattle.wt_datamw.specs.declared.refusal.DataWhy.{DataWhy}
-use Rattle.wt_datamw.specs.SyncRead.{sync_told}
-use Rattle.wt_datamw.specs.MwRead.{mw_told}
 use Rattle.wt_html_grammar.specs.Markup.{Pair}
-use Rattle.wt_fitting.specs.Attributes.{value_of, has, is_typed, id_of}
+use Rattle.wt_fitting.specs.Attributes.{value_of, has}
 
 -- ---- which element is which kind
 
@@ -20,10 +21,64 @@ kind_named (p ∷ []) = if p == 112 then Some kind.Para else None
 kind_named (h ∷ d ∷ []) = if h == 104 && (nat_le 49 d && nat_le d 54) then Some (kind.Heading (d - 48)) else None
 kind_named bs = None
 
--- None where the element is no row; one with a `typeof`, `rel` or `property` that its row doesn't
--- have is none
+unfoldable pub entity_type : List ℕ
+entity_type = codes "mw:Entity"
+
+unfoldable pub nowiki_type : List ℕ
+nowiki_type = codes "mw:Nowiki"
+
+unfoldable pub comment_type : List ℕ
+comment_type = codes "mw:Comment"
+
+unfoldable pub extension_prefix : List ℕ
+extension_prefix = codes "mw:Extension/"
+
+unfoldable pub no_include : List ℕ
+no_include = codes "mw:Includes/NoInclude"
+
+unfoldable pub no_include_end : List ℕ
+no_include_end = codes "mw:Includes/NoInclude/End"
+
+unfoldable pub only_include : List ℕ
+only_include = codes "mw:Includes/OnlyInclude"
+
+unfoldable pub only_include_end : List ℕ
+only_include_end = codes "mw:Includes/OnlyInclude/End"
+
+unfoldable pub include_only : List ℕ
+include_only = codes "mw:Includes/IncludeOnly"
+
+-- `mw:Extension/` and the name of an extension
+abbrev pub is_extension_type : List ℕ → Bool
+is_extension_type t = begins extension_prefix t && is_extension (drop (length extension_prefix) t)
+
+abbrev pub is_include_type : List ℕ → Bool
+is_include_type t = list_any (bytes_eq t) (no_include ∷ no_include_end ∷ only_include ∷ only_include_end ∷ include_only ∷ [])
+
+-- a `span`, by its `typeof`
+abbrev pub span_row : Option (List ℕ) → Option Kind
+span_row None = None
+span_row (Some t) =
+    if bytes_eq t entity_type then Some kind.Entity
+    else if bytes_eq t nowiki_type then Some kind.Nowiki
+    else if is_extension_type t then Some kind.Island else None
+
+-- a `meta`, by its `typeof`
+abbrev pub meta_row : Option (List ℕ) → Option Kind
+meta_row None = None
+meta_row (Some t) = if bytes_eq t comment_type then Some kind.Comment else if is_include_type t then Some kind.Include else None
+
+-- another element: one with a `typeof` is no row
+abbrev pub named_row : List ℕ → Option (List ℕ) → Option Kind
+named_row name None = kind_named name
+named_row name (Some t) = None
+
+abbrev pub row_by : List ℕ → Option (List ℕ) → Option Kind
+row_by name t = if bytes_eq name (codes "span") then span_row t else if bytes_eq name (codes "meta") then meta_row t else named_row name t
+
+-- None where the element is no row; one with a `rel` or `property`, which no row here has, is none
 abbrev pub row : List ℕ → List Pair → Option Kind
-row name ps = if is_typed ps then None else kind_named name
+row name ps = if has (codes "rel") ps || has (codes "property") ps then None else row_by name (value_of (codes "typeof") ps)
 
 -- ---- what may stand in which
 
@@ -32,53 +87,54 @@ is_block kind.Para = true
 is_block (kind.Heading n) = true
 is_block k = false
 
+abbrev pub is_inline : Kind → Bool
+is_inline kind.Entity = true
+is_inline kind.Nowiki = true
+is_inline kind.Island = true
+is_inline k = false
+
+-- these may stand anywhere below the body
+abbrev pub is_anywhere : Kind → Bool
+is_anywhere kind.Comment = true
+is_anywhere kind.Include = true
+is_anywhere k = false
+
+abbrev pub is_entity : Kind → Bool
+is_entity kind.Entity = true
+is_entity k = false
+
+-- what an element holds of those that may not stand anywhere
+abbrev pub holds : Kind → Kind → Bool
+holds kind.Body k = is_block k
+holds kind.Para k = is_inline k
+holds (kind.Heading n) k = is_inline k
+holds kind.Nowiki k = is_entity k
+holds parent k = false
+
 -- an element of this kind may stand directly in that one
 abbrev pub may_hold : Kind → Kind → Bool
-may_hold kind.Body k = is_block k
-may_hold parent k = false
+may_hold parent k = holds parent k || is_anywhere k
+
+-- ---- texts
 
 -- directly in the body all text is separators; elsewhere it is text
 abbrev pub holds_text : Kind → Bool
 holds_text kind.Body = false
 holds_text k = true
 
--- ---- data
+-- the texts in an entity are its character, and no texts of the page
+abbrev pub shows_text : Kind → Bool
+shows_text kind.Entity = true
+shows_text k = false
 
-abbrev pub is_good_mw : Result DataMw DataWhy → Bool
-is_good_mw (Err w) = false
-is_good_mw (Ok d) = true
+-- ---- attributes of the node's own
 
-abbrev pub mw_fits : Option (List ℕ) → Bool
-mw_fits None = true
-mw_fits (Some v) = is_good_mw (mw_told v)
+abbrev pub with_type : Option (List ℕ) → List (AttrName × List ℕ)
+with_type None = []
+with_type (Some t) = (attr.Typeof, t) ∷ []
 
-abbrev pub is_empty : List ℕ → Bool
-is_empty [] = true
-is_empty (b ∷ bs) = false
-
--- a leaf has a source and no delimiters; another node has no source of its own
-abbrev pub is_for : Kind → Sync → Bool
-is_for k s = if is_leaf k then is_some s.src && (is_empty s.opening && is_empty s.closing) else not (is_some s.src)
-
-abbrev pub sync_for : Kind → Result Sync DataWhy → Option Sync
-sync_for k (Err w) = None
-sync_for k (Ok s) = if is_for k s then Some s else None
-
-abbrev pub some_sync : Option Sync → Option (Option Sync)
-some_sync None = None
-some_sync (Some s) = Some (Some s)
-
--- what `data-parsoid` says, where it is there; None where it is bad
-abbrev pub sync_fits : Kind → Option (List ℕ) → Option (Option Sync)
-sync_fits k None = Some None
-sync_fits k (Some v) = some_sync (sync_for k (sync_told v))
-
--- the data of a node that stands in no group; None where it is bad
-abbrev pub data_of : Kind → List Pair → Option (Option Sync)
-data_of k ps =
-    if has (codes "about") ps then None
-    else if mw_fits (value_of (codes "data-mw") ps) then sync_fits k (value_of (codes "data-parsoid") ps) else None
-
--- the number, of kinds that have one
-abbrev pub id_for : Kind → List Pair → ℕ
-id_for k ps = if is_numbered k then id_of ps else 0
+-- an island tells its extension by `typeof`, and an include tag which it is
+abbrev pub attrs_for : Kind → List Pair → List (AttrName × List ℕ)
+attrs_for kind.Island ps = with_type (value_of (codes "typeof") ps)
+attrs_for kind.Include ps = with_type (value_of (codes "typeof") ps)
+attrs_for k ps = []

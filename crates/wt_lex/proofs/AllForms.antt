@@ -37,7 +37,7 @@ word_fits word bs h e =
 
 -- ---- entities
 
-abbrev OptEntity : List ℕ → Option (ℕ × ℕ) → Type 0
+abbrev pub OptEntity : List ℕ → Option (ℕ × ℕ) → Type 0
 OptEntity bs None = Unit {0}
 OptEntity bs (Some e) = Fits bs e.1 × (get_or bs 0 0 ≡ 38)
 

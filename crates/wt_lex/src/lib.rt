@@ -16,8 +16,9 @@ mod tag;
 #[cfg(test)]
 mod tests;
 
-pub use entity::entity_at;
+pub use entity::{entity_at, read_entity};
 pub use laws::{one_reading, whole_forms};
 pub use lexeme::Lexeme;
 pub use scan::lex;
+pub use tag::{ReadTag, closing_len, closing_tag, is_same_name, opening_tag};
 pub use wt_span::{LexKind, Mode};

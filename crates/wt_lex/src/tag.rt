@@ -100,7 +100,7 @@ pub fn closing_tag(bytes: &[u8]) -> Option<ReadTag<'_>>
 }
 
 /// How many bytes the closing tag of this name takes that begins a text.
-fn closing_len(name: &[u8], bytes: &[u8]) -> Option<usize>
+pub fn closing_len(name: &[u8], bytes: &[u8]) -> Option<usize>
     ensures value { result ≡ len_if_named (lower name.now) (closing_tag bytes.now) }
     ensures within { IfSome result (λ n. n ≤ length bytes.now) }
 {

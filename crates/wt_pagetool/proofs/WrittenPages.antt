@@ -12,15 +12,15 @@ use Rattle.wt_span.specs.Runs.{runs, IsRun, AreRuns}
 use Rattle.wt_span.proofs.RunLaws.{runs_are}
 use Rattle.wt_tree.specs.declared.kind.Kind.{Kind}
 use Rattle.wt_tree.specs.declared.kind.Kind.TheVariants as kind
-use Rattle.wt_tree.specs.Kinds.{is_numbered}
 use Rattle.wt_tree.specs.Source.{flat}
 use Rattle.wt_tree.specs.Tree.{trees}
 use Rattle.wt_markup.specs.Html.{html_text}
 use Rattle.wt_html_grammar.proofs.Steps.{if_true}
 use Rattle.wt_fitting.specs.Fit.{is_blank as is_white}
-use Rattle.wt_fitting.specs.Rows.{is_empty, holds_text}
+use Rattle.wt_fitting.specs.Data.{is_empty}
+use Rattle.wt_fitting.specs.Rows.{holds_text}
 use Rattle.wt_fitting.specs.Read.{read, page as read_page}
-use Rattle.wt_round_trip.specs.Written.{unranged, shown_of, leaf_kind, IsNumber, has_level, IsTextIn, IsAround, is_text as is_text_node, begins_with_text, WrittenIn, AllWrittenIn, IsWritten}
+use Rattle.wt_round_trip.specs.Written.{unranged, shown_of, leaf_kind, has_level, IsTextIn, IsElementLabel, is_text as is_text_node, begins_with_text, WrittenIn, AllWrittenIn, IsWritten}
 use Rattle.wt_round_trip.proofs.Again.{same_source}
 use Rattle.wt_round_trip.proofs.Whole.{written_read}
 use Rattle.wt_pagetool.specs.declared.line.LineKind.{LineKind}
@@ -298,14 +298,24 @@ level_good line h = by (equals (core line) == length (core line)) refl
 
 -- ---- the tree
 
-small_around : (k : Kind) (id start end : ℕ) → has_level k ≡ true → IsNumber (is_numbered k) id → start < 2 ^ 32 → end < 2 ^ 32 → IsAround (plain_label k id start end)
-small_around k id start end l n s e = record {
-  level = l;
-  number = n;
+body_label : (size : ℕ) → size < 2 ^ 32 → IsElementLabel (plain_label kind.Body 0 0 size)
+body_label size e = record {
+  level = refl;
+  number = refl;
+  places = (omega arith, e, omega arith, omega arith);
+  source = record { own = refl; opening = IsUtf8-nil; closing = IsUtf8-nil };
+  shown = refl;
+  attrs = refl;
+  mark = refl;
+  mw = refl;
+}
+
+para_label : (id start end : ℕ) → 0 < id → id < 2 ^ 32 → start < 2 ^ 32 → end < 2 ^ 32 → IsElementLabel (plain_label kind.Para id start end)
+para_label id start end some small s e = record {
+  level = refl;
+  number = (some, small);
   places = (s, e, omega arith, omega arith);
-  opening = IsUtf8-nil;
-  closing = IsUtf8-nil;
-  own = refl;
+  source = record { own = refl; opening = IsUtf8-nil; closing = IsUtf8-nil };
   shown = refl;
   attrs = refl;
   mark = refl;
@@ -334,14 +344,16 @@ text_written : (k at : ℕ) (parent : Kind) (bs : List ℕ) → holds_text paren
 text_written k at parent [] e h = tt
 text_written k at parent (b ∷ bs) e h = ((text_leaf_written at parent (b ∷ bs) e (utf8_of_all (b ∷ bs) h) refl, refl), refl, tt)
 
-heading_around : (id at : ℕ) (line : List ℕ) → is_heading line ≡ true → AllAscii line → 0 < id → id < 2 ^ 32 → at + length line < 2 ^ 32 → IsAround (heading_label id at line)
-heading_around id at line h a some small room = record {
+heading_written : (id at : ℕ) (line : List ℕ) → is_heading line ≡ true → AllAscii line → 0 < id → id < 2 ^ 32 → at + length line < 2 ^ 32 → IsElementLabel (heading_label id at line)
+heading_written id at line h a some small room = record {
   level = level_good line h;
   number = (some, small);
   places = (omega arith, omega arith, take_small (heading_parts line).open_len line (omega arith), drop_small ((heading_parts line).open_len + (heading_parts line).inside_len) line (omega arith));
-  opening = utf8_of_all (opening_of line) (all_take (heading_parts line).open_len line a);
-  closing = utf8_of_all (closing_of line) (all_drop ((heading_parts line).open_len + (heading_parts line).inside_len) line a);
-  own = refl;
+  source = record {
+    own = refl;
+    opening = utf8_of_all (opening_of line) (all_take (heading_parts line).open_len line a);
+    closing = utf8_of_all (closing_of line) (all_drop ((heading_parts line).open_len + (heading_parts line).inside_len) line a);
+  };
   shown = refl;
   attrs = refl;
   mark = refl;
@@ -371,11 +383,12 @@ sep_written at bs w s a = record {
 
 block_written : (id at : ℕ) (b : Block) → IsGood b → AllAscii (source b) → 0 < id → id < 2 ^ 32 → at + length (source b) < 2 ^ 32 → WrittenIn 2 kind.Body (block_tree id at b)
 block_written id at (para bs) g a some small room =
-    (omega arith, refl, small_around kind.Para id at (at + length bs) refl (some, small) (omega arith) room, text_written 3 at kind.Para bs refl a)
+    (omega arith, refl, para_label id at (at + length bs) some small (omega arith) room, refl, text_written 3 at kind.Para bs refl a)
 block_written id at (heading bs) g a some small room = (
   omega arith,
   refl,
-  heading_around id at bs g a some small room,
+  heading_written id at bs g a some small room,
+  refl,
   text_written 3 (at + length (opening_of bs)) (kind.Heading (heading_parts bs).level) (inside_of bs) refl
       (all_take (heading_parts bs).inside_len (drop (heading_parts bs).open_len bs) (all_drop (heading_parts bs).open_len bs a)),
 )
@@ -434,7 +447,7 @@ page_written page h room =
     let len : length (sources (blocks page)) ≡ length page = ap length (sources_blocks page) in
     let ascii : AllAscii (sources (blocks page)) = subst AllAscii (sym (sources_blocks page)) (all_of_ascii page (built_is_ascii page h)) in (
       refl,
-      small_around kind.Body 0 0 (length page) refl refl (omega arith) (omega arith),
+      body_label (length page) (omega arith),
       blocks_written 1 0 (blocks page) (blocks_good page) (blocks_apart page) ascii (omega arith) (omega arith) (omega arith),
     )
 

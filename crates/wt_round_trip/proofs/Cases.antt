@@ -1,16 +1,22 @@
--- Worked cases by computing: the two smallest pages are read as their own trees.
-use Rattle.std.proofs.Common.{◌∷◌, ◌++◌, ◌≡◌, ℕ, Some, None, List, [], refl, codes}
+-- Worked cases by computing: small pages are read as their own trees.
+use Rattle.std.proofs.Common.{◌++◌, ◌≡◌, ℕ, Some, None, List, [], ◌∷◌, refl, codes}
+use Rattle.wt_tree.specs.declared.kind.AttrName.TheVariants as attr
 use Rattle.wt_tree.specs.declared.kind.Kind.{Kind}
 use Rattle.wt_tree.specs.declared.kind.Kind.TheVariants as kind
 use Rattle.wt_tree.specs.declared.kind.Mark.TheVariants.{Nothing}
+use Rattle.wt_tree.specs.declared.node.DataMw.TheVariants as mw
 use Rattle.wt_tree.specs.Tree.{Label, Tree, tree, Trees, none, more}
 use Rattle.std.specs.Fmt.{digits}
 use Rattle.serde_json.proofs.OnLiterals.{serde_json_on_literals}
+use Rattle.wt_span.specs.Tags.{is_extension}
+use Rattle.wt_datamw.specs.Mw.{mw_text}
+use Rattle.wt_datamw.specs.MwRead.{is_mw_shape, has_small_numbers, mw_of_data, mw_told}
 use Rattle.wt_datamw.specs.Sync.{sync_text, sync_members}
 use Rattle.wt_datamw.specs.SyncRead.{sync_told, sync_of_data, is_sync_shape}
-use Rattle.wt_markup.specs.Elements.{element_name, kind_attribute}
-use Rattle.wt_markup.specs.Escapes.{escape, escape_single}
-use Rattle.wt_markup.specs.Html.{id_attribute, mw_attribute, sync_of, sync_start, sync_value, sync_attribute, attributes_of, start_tag, end_tag, frame_start, frame_end, html_text}
+use Rattle.wt_markup.specs.Elements.{element_name, attribute_name, kind_attribute}
+use Rattle.wt_markup.specs.Escapes.{escape, escape_double, escape_single}
+use Rattle.wt_markup.specs.Html.{attribute, id_attribute, mw_attribute, sync_of, sync_start, sync_value, sync_attribute, attributes_of, start_tag, void_tag, end_tag, frame_start, frame_end, html_text}
+use Rattle.wt_fitting.specs.Rows.{entity_type, nowiki_type, comment_type, extension_prefix, no_include, no_include_end, only_include, only_include_end, include_only}
 use Rattle.wt_fitting.specs.Read.{read, read_tree, page}
 use Rattle.wt_round_trip.specs.Written.{unranged}
 
@@ -27,6 +33,10 @@ blank k id start end = record {
   mark = Nothing;
   mw = None;
 }
+
+-- with delimiters of these widths
+abbrev wide : Kind → ℕ → ℕ → ℕ → ℕ → ℕ → Label
+wide k id start end open_w close_w = record (blank k id start end) { ranges = Some (record { start = start; end = end; open_w = open_w; close_w = close_w }) }
 
 abbrev body : ℕ → Trees → Tree
 body size ts = tree (blank kind.Body 0 0 size) ts
@@ -46,6 +56,38 @@ letter_page = body 1 (more (tree (blank kind.Para 1 0 1) (more (text_leaf 0 1 (c
 one_letter : read (html_text letter_page) ≡ page (unranged letter_page) None
 unfolding read read_tree sync_told sync_of_data is_sync_shape html_text frame_start frame_end start_tag end_tag attributes_of id_attribute mw_attribute sync_of sync_start sync_value sync_attribute element_name kind_attribute sync_text sync_members escape escape_single serde_json_on_literals digits
 one_letter = refl
+
+-- `&lt;` in a paragraph
+entity_page : Tree
+entity_page = body 4 (more (tree (blank kind.Para 1 0 4) (more (tree (record (wide kind.Entity 2 0 4 4 0) { own = codes "&lt;"; shown = codes "<" }) none) none)) none)
+
+one_entity : read (html_text entity_page) ≡ page (unranged entity_page) None
+unfolding entity_page read read_tree sync_told sync_of_data is_sync_shape html_text frame_start frame_end start_tag void_tag end_tag attributes_of attribute attribute_name id_attribute mw_attribute sync_of sync_start sync_value sync_attribute element_name kind_attribute sync_text sync_members escape escape_double escape_single serde_json_on_literals digits lib.Utf8.encode entity_type
+one_entity = refl
+
+-- an apostrophe as nowiki
+nowiki_page : Tree
+nowiki_page = body 18 (more (tree (blank kind.Para 1 0 18) (more (tree (record (wide kind.Nowiki 2 0 18 8 9) { opening = codes "<nowiki>"; closing = codes "</nowiki>" }) (more (text_leaf 8 9 (codes "'")) none)) none)) none)
+
+one_nowiki : read (html_text nowiki_page) ≡ page (unranged nowiki_page) None
+unfolding nowiki_page read read_tree sync_told sync_of_data is_sync_shape html_text frame_start frame_end start_tag void_tag end_tag attributes_of attribute attribute_name id_attribute mw_attribute sync_of sync_start sync_value sync_attribute element_name kind_attribute sync_text sync_members escape escape_double escape_single serde_json_on_literals digits lib.Utf8.encode entity_type nowiki_type
+one_nowiki = refl
+
+-- an extension tag that closes itself
+island_page : Tree
+island_page = body 6 (more (tree (blank kind.Para 1 0 6) (more (tree (record (wide kind.Island 2 0 6 6 0) { own = codes "<ref/>"; attrs = (attr.Typeof, codes "mw:Extension/ref") ∷ []; mw = Some (mw.Extension (codes "ref") None) }) none) none)) none)
+
+one_island : read (html_text island_page) ≡ page (unranged island_page) None
+unfolding island_page read read_tree sync_told sync_of_data is_sync_shape html_text frame_start frame_end start_tag void_tag end_tag attributes_of attribute attribute_name id_attribute mw_attribute sync_of sync_start sync_value sync_attribute element_name kind_attribute sync_text sync_members escape escape_double escape_single serde_json_on_literals digits lib.Utf8.encode mw_text mw_told mw_of_data is_mw_shape has_small_numbers entity_type nowiki_type extension_prefix is_extension
+one_island = refl
+
+-- a comment and an include tag, directly in the body
+marks_page : Tree
+marks_page = body 19 (more (tree (record (wide kind.Comment 1 0 8 8 0) { own = codes "<!--a-->" }) none) (more (tree (record (wide kind.Include 2 8 19 11 0) { own = codes "<noinclude>"; attrs = (attr.Typeof, codes "mw:Includes/NoInclude") ∷ [] }) none) none))
+
+two_marks : read (html_text marks_page) ≡ page (unranged marks_page) None
+unfolding marks_page read read_tree sync_told sync_of_data is_sync_shape html_text frame_start frame_end start_tag void_tag end_tag attributes_of attribute attribute_name id_attribute mw_attribute sync_of sync_start sync_value sync_attribute element_name kind_attribute sync_text sync_members escape escape_double escape_single serde_json_on_literals digits lib.Utf8.encode comment_type no_include no_include_end only_include only_include_end include_only
+two_marks = refl
 
 -- a heading with its delimiters, a quote among them; characters that are escaped, one of two bytes
 -- and a control; a separator

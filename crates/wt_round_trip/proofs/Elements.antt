@@ -1,6 +1,6 @@
 -- The elements of a tree as the grammar has them: how they are spelled, that they are good, and what
 -- they stand for.
-use Rattle.std.proofs.Common.{◌≡◌, ℕ, suc, ◌<◌, Bool, true, false, List, [], ◌∷◌, ◌++◌, map, flat_map, IsUtf8, chars, refl, sym, ap, ap₂, ◌∙◌, append_assoc, append-nil, codes}
+use Rattle.std.proofs.Common.{◌≡◌, ℕ, suc, ◌<◌, ◌^◌, Bool, true, false, List, [], ◌∷◌, ◌++◌, map, flat_map, IsUtf8, chars, refl, sym, ap, ap₂, ◌∙◌, subst, append_assoc, append-nil, codes}
 use Rattle.std.specs.Prelude.{◌&&◌}
 use Rattle.wt_tree.specs.declared.kind.Kind.{Kind}
 use Rattle.wt_tree.specs.Tree.{Label, Tree, tree, Trees, none as no_trees, more as one_more}
@@ -12,11 +12,13 @@ use Rattle.wt_markup.specs.Html.{attributes_of, start_tag, void_tag, end_tag, wr
 use Rattle.wt_html_grammar.specs.Signs.{in_text}
 use Rattle.wt_html_grammar.specs.Grammar.{Piece, spell_piece, spell_pieces, ArePieces, spell_attributes, slash, Element, Items, element, void, none, sign, child, spell, spell_items, IsElement, AreItems}
 use Rattle.wt_html_grammar.specs.Markup.{Markup, Markups, text, node, empty, more, unit_of, flush, meaning, contents}
-use Rattle.wt_fitting.specs.Rows.{is_empty}
-use Rattle.wt_round_trip.specs.Written.{is_text, is_as_text, begins_with_text, is_childless, NodeIsWritten, WrittenIn, AllWrittenIn}
+use Rattle.wt_fitting.specs.Rows.{may_hold, shows_text}
+use Rattle.wt_fitting.specs.Data.{is_empty}
+use Rattle.wt_round_trip.specs.Written.{IsShown, IsElementLabel, is_text, is_as_text, begins_with_text, is_childless, NodeIsWritten, WrittenIn, AllWrittenIn}
 use Rattle.wt_round_trip.proofs.Pieces.{text_piece, spells_text, pieces_spelled, pieces_stand, pieces_good}
 use Rattle.wt_round_trip.proofs.Said.{said_of, said_is, attributes_for, said_spelled, said_pairs, said_good}
-use Rattle.wt_round_trip.proofs.Labels.{pairs, IsTold, around_read}
+use Rattle.wt_round_trip.proofs.Rows.{is_as_void, is_round_character, IsElementKind, held_kind}
+use Rattle.wt_round_trip.proofs.Labels.{pairs, IsTold, told, small_id}
 
 abbrev pub pieces : List ℕ → List Piece
 pieces bs = map text_piece (chars bs)
@@ -47,59 +49,52 @@ abbrev mutual
   items_of no_trees = none
   items_of (one_more t ts) = item_before t (items_of ts)
 
--- ---- what a node needs for this, by how it is written
-
--- texts in UTF-8, labels that are told, and less than 200 elements round an element
-abbrev pub IsSpelled : Writing → ℕ → Label → Type 0 → Type 0
-IsSpelled AsText k l inside = IsUtf8 l.own × (is_empty l.own ≡ false)
-IsSpelled AsVoid k l inside = (k < 200) × IsTold true l
-IsSpelled RoundCharacter k l inside = (k < 200) × IsTold false l × IsUtf8 l.shown
-IsSpelled RoundChildren k l inside = (k < 200) × IsTold false l × inside
-IsSpelled Unwritten k l inside = ⊥
-
-pub is_spelled : (w : Writing) (k : ℕ) (parent : Kind) (l : Label) (childless : Bool) (H : Type 0) → NodeIsWritten w k parent l childless H → IsSpelled w k l H
-is_spelled AsText k parent l childless H h = (h.0.characters, h.0.some)
-is_spelled AsVoid k parent l childless H h = absurd h
-is_spelled RoundCharacter k parent l childless H h = absurd h
-is_spelled RoundChildren k parent l childless H h = (h.0, (around_read parent l h.1 h.2).told, h.3)
-is_spelled Unwritten k parent l childless H h = absurd h
-
 -- ---- spelling
 
 signs_spelled : (ps : List Piece) (items : Items) → spell_items (signs ps items) ≡ spell_pieces ps ++ spell_items items
 signs_spelled [] items = refl
 signs_spelled (p ∷ ps) items = ap (λ x. spell_piece p ++ x) (signs_spelled ps items) ∙ sym (append_assoc (spell_piece p) (spell_pieces ps) (spell_items items))
 
-characters_spelled : (bs : List ℕ) (items : Items) → IsUtf8 bs → spell_items (signs (pieces bs) items) ≡ escaped bs ++ spell_items items
-characters_spelled bs items u = signs_spelled (pieces bs) items ∙ ap (λ x. x ++ spell_items items) (pieces_spelled _ _ _ spells_text bs u)
+pub attributes_spelled : (l : Label) → IsTold l → l.id < 2 ^ 64 → spell_attributes (attributes_for (said_of l)) ≡ attributes_of l
+attributes_spelled l t h = said_spelled [] (said_of l) t.good ∙ said_is l h
 
-attributes_spelled : {a : Bool} (l : Label) → IsTold a l → spell_attributes (attributes_for (said_of l)) ≡ attributes_of l
-attributes_spelled l t = said_spelled [] (said_of l) t.good ∙ said_is l t.small
-
-pub element_spelled : {a : Bool} (l : Label) (inside : Items) (bytes : List ℕ) → IsTold a l → spell_items inside ≡ bytes → spell (element_for l inside) ≡ start_tag l ++ (bytes ++ end_tag l)
+pub element_spelled : (l : Label) (inside : Items) (bytes : List ℕ) → spell_attributes (attributes_for (said_of l)) ≡ attributes_of l → spell_items inside ≡ bytes
+    → spell (element_for l inside) ≡ start_tag l ++ (bytes ++ end_tag l)
 unfolding start_tag end_tag
-element_spelled l inside bytes t f =
+element_spelled l inside bytes e f =
     let n : List ℕ = element_name l.kind in
-    ap₂ (λ (a b : List ℕ). 60 ∷ (n ++ (a ++ (62 ∷ (b ++ (60 ∷ 47 ∷ (n ++ 62 ∷ []))))))) (attributes_spelled l t) f ∙ simp append_assoc
+    ap₂ (λ (a b : List ℕ). 60 ∷ (n ++ (a ++ (62 ∷ (b ++ (60 ∷ 47 ∷ (n ++ 62 ∷ []))))))) e f ∙ simp append_assoc
 
-void_spelled : {a : Bool} (l : Label) → IsTold a l → spell (void_for l) ≡ void_tag l
+pub void_spelled : (l : Label) → spell_attributes (attributes_for (said_of l)) ≡ attributes_of l → spell (void_for l) ≡ void_tag l
 unfolding void_tag
-void_spelled l t = ap (λ x. 60 ∷ (element_name l.kind ++ (x ++ codes "/>"))) (attributes_spelled l t)
+void_spelled l e = ap (λ (a : List ℕ). 60 ∷ (element_name l.kind ++ (a ++ codes "/>"))) e
 
-spelled_by : (w : Writing) (k : ℕ) (l : Label) (H : Type 0) (inside : Items) (bytes : List ℕ) (rest : Items) → IsSpelled w k l H → (H → spell_items inside ≡ bytes)
-    → spell_items (placed w l inside rest) ≡ written w l bytes ++ spell_items rest
-spelled_by AsText k l H inside bytes rest h f = characters_spelled l.own rest h.0
-spelled_by AsVoid k l H inside bytes rest h f = ap (λ x. x ++ spell_items rest) (void_spelled l h.1)
-spelled_by RoundCharacter k l H inside bytes rest h f =
-    ap (λ x. x ++ spell_items rest) (element_spelled l (signs (pieces l.shown) none) (escaped l.shown) h.1 (characters_spelled l.shown none h.2 ∙ append-nil (escaped l.shown)))
-spelled_by RoundChildren k l H inside bytes rest h f = ap (λ x. x ++ spell_items rest) (element_spelled l inside bytes h.1 (f h.2))
-spelled_by Unwritten k l H inside bytes rest h f = absurd h
+character_spelled : (bs : List ℕ) → IsUtf8 bs → spell_items (signs (pieces bs) none) ≡ escaped bs
+character_spelled bs u = signs_spelled (pieces bs) none ∙ append-nil _ ∙ pieces_spelled _ _ _ spells_text bs u
+
+-- the character of an entity
+pub shown_utf8 : (l : Label) → IsElementKind l.kind l.attrs → IsElementLabel l → writing l.kind ≡ RoundCharacter → IsUtf8 l.shown
+shown_utf8 l k h e = let f : shows_text l.kind ≡ true = k.shows ∙ ap is_round_character e in subst (λ b. IsShown b l.shown) f h.shown
+
+-- by how the node is written
+held_spelled : (parent : Kind) (l : Label) → may_hold parent l.kind ≡ true → IsElementLabel l → spell_attributes (attributes_for (said_of l)) ≡ attributes_of l
+held_spelled parent l m h = attributes_spelled l (told l (held_kind parent l m h) h) (small_id l h)
+
+spelled_by : (w : Writing) (k : ℕ) (parent : Kind) (l : Label) (childless : Bool) (H : Type 0) (inside : Items) (bytes : List ℕ) (rest : Items) → writing l.kind ≡ w
+    → NodeIsWritten w k parent l childless H → (H → spell_items inside ≡ bytes) → spell_items (placed w l inside rest) ≡ written w l bytes ++ spell_items rest
+spelled_by AsText k parent l childless H inside bytes rest e h f =
+    signs_spelled (pieces l.own) rest ∙ ap (λ x. x ++ spell_items rest) (pieces_spelled _ _ _ spells_text l.own h.0.characters)
+spelled_by AsVoid k parent l childless H inside bytes rest e h f = ap (λ x. x ++ spell_items rest) (void_spelled l (held_spelled parent l h.1 h.2))
+spelled_by RoundCharacter k parent l childless H inside bytes rest e h f =
+    let u : IsUtf8 l.shown = shown_utf8 l (held_kind parent l h.1 h.2) h.2 e in
+    ap (λ x. x ++ spell_items rest) (element_spelled l (signs (pieces l.shown) none) (escaped l.shown) (held_spelled parent l h.1 h.2) (character_spelled l.shown u))
+spelled_by RoundChildren k parent l childless H inside bytes rest e h f = ap (λ x. x ++ spell_items rest) (element_spelled l inside bytes (held_spelled parent l h.1 h.2) (f h.4))
+spelled_by Unwritten k parent l childless H inside bytes rest e h f = absurd h
 
 mutual
   pub item_spelled : (t : Tree) (k : ℕ) (parent : Kind) (rest : Items) → WrittenIn k parent t → spell_items (item_before t rest) ≡ html t ++ spell_items rest
   item_spelled (tree l ts) k parent rest h =
-      let H : Type 0 = AllWrittenIn (suc k) l.kind ts in
-      spelled_by (writing l.kind) k l H (items_of ts) (html_of_all ts) rest (is_spelled (writing l.kind) k parent l (is_childless ts) H h) (λ i. items_spelled ts (suc k) l.kind i)
+      spelled_by (writing l.kind) k parent l (is_childless ts) (AllWrittenIn (suc k) l.kind ts) (items_of ts) (html_of_all ts) rest refl h (λ i. items_spelled ts (suc k) l.kind i)
 
   pub items_spelled : (ts : Trees) (k : ℕ) (parent : Kind) → AllWrittenIn k parent ts → spell_items (items_of ts) ≡ html_of_all ts
   items_spelled no_trees k parent h = refl
@@ -111,27 +106,31 @@ signs_good : (ps : List Piece) (k : ℕ) (items : Items) → ArePieces in_text p
 signs_good [] k items h i = i
 signs_good (p ∷ ps) k items h i = (h.0, signs_good ps k items h.1 i)
 
-characters_good : (bs : List ℕ) (k : ℕ) (items : Items) → IsUtf8 bs → AreItems k items → AreItems k (signs (pieces bs) items)
-characters_good bs k items u i = signs_good (pieces bs) k items (pieces_good _ _ _ spells_text bs u) i
+pub element_good : (l : Label) (k : ℕ) (inside : Items) → k < 200 → IsElementKind l.kind l.attrs → is_as_void (writing l.kind) ≡ false → IsTold l → AreItems (suc k) inside → IsElement k (element_for l inside)
+element_good l k inside h e w t i = (h, e.name, said_good [] (said_of l) t.good, tt, i, tt, e.whole ∙ w)
 
-pub element_good : (l : Label) (k : ℕ) (inside : Items) → k < 200 → IsTold false l → AreItems (suc k) inside → IsElement k (element_for l inside)
-element_good l k inside h t i = (h, t.name, said_good [] (said_of l) t.good, tt, i, tt, t.ends)
+void_good : (l : Label) (k : ℕ) → k < 200 → IsElementKind l.kind l.attrs → is_as_void (writing l.kind) ≡ true → IsTold l → IsElement k (void_for l)
+void_good l k h e w t = (h, e.name, said_good [] (said_of l) t.good, tt, e.whole ∙ w)
 
-void_good : (l : Label) (k : ℕ) → k < 200 → IsTold true l → IsElement k (void_for l)
-void_good l k h t = (h, t.name, said_good [] (said_of l) t.good, tt, t.ends)
-
-good_by : (w : Writing) (k : ℕ) (l : Label) (H : Type 0) (inside rest : Items) → IsSpelled w k l H → (H → AreItems (suc k) inside) → AreItems k rest → AreItems k (placed w l inside rest)
-good_by AsText k l H inside rest h f g = characters_good l.own k rest h.0 g
-good_by AsVoid k l H inside rest h f g = (void_good l k h.0 h.1, g)
-good_by RoundCharacter k l H inside rest h f g = (element_good l k _ h.0 h.1 (characters_good l.shown (suc k) none h.2 tt), g)
-good_by RoundChildren k l H inside rest h f g = (element_good l k inside h.0 h.1 (f h.2), g)
-good_by Unwritten k l H inside rest h f g = absurd h
+good_by : (w : Writing) (k : ℕ) (parent : Kind) (l : Label) (childless : Bool) (H : Type 0) (inside rest : Items) → writing l.kind ≡ w
+    → NodeIsWritten w k parent l childless H → (H → AreItems (suc k) inside) → AreItems k rest → AreItems k (placed w l inside rest)
+good_by AsText k parent l childless H inside rest e h f g = signs_good (pieces l.own) k rest (pieces_good _ _ _ spells_text l.own h.0.characters) g
+good_by AsVoid k parent l childless H inside rest e h f g =
+    let q : IsElementKind l.kind l.attrs = held_kind parent l h.1 h.2 in
+    (void_good l k h.0 q (ap is_as_void e) (told l q h.2), g)
+good_by RoundCharacter k parent l childless H inside rest e h f g =
+    let q : IsElementKind l.kind l.attrs = held_kind parent l h.1 h.2 in
+    let u : IsUtf8 l.shown = shown_utf8 l q h.2 e in
+    (element_good l k _ h.0 q (ap is_as_void e) (told l q h.2) (signs_good (pieces l.shown) (suc k) none (pieces_good _ _ _ spells_text l.shown u) tt), g)
+good_by RoundChildren k parent l childless H inside rest e h f g =
+    let q : IsElementKind l.kind l.attrs = held_kind parent l h.1 h.2 in
+    (element_good l k inside h.0 q (ap is_as_void e) (told l q h.2) (f h.4), g)
+good_by Unwritten k parent l childless H inside rest e h f g = absurd h
 
 mutual
   pub item_good : (t : Tree) (k : ℕ) (parent : Kind) (rest : Items) → WrittenIn k parent t → AreItems k rest → AreItems k (item_before t rest)
   item_good (tree l ts) k parent rest h g =
-      let H : Type 0 = AllWrittenIn (suc k) l.kind ts in
-      good_by (writing l.kind) k l H (items_of ts) rest (is_spelled (writing l.kind) k parent l (is_childless ts) H h) (λ i. items_good ts (suc k) l.kind i) g
+      good_by (writing l.kind) k parent l (is_childless ts) (AllWrittenIn (suc k) l.kind ts) (items_of ts) rest refl h (λ i. items_good ts (suc k) l.kind i) g
 
   pub items_good : (ts : Trees) (k : ℕ) (parent : Kind) → AllWrittenIn k parent ts → AreItems k (items_of ts)
   items_good no_trees k parent h = tt
@@ -162,14 +161,8 @@ signs_stand : (ps : List Piece) (run : List ℕ) (items : Items) → contents ru
 signs_stand [] run items = ap (λ r. contents r items) (sym (append-nil run))
 signs_stand (p ∷ ps) run items = signs_stand ps (run ++ unit_of p) items ∙ ap (λ r. contents r items) (append_assoc run (unit_of p) (flat_map unit_of ps))
 
-pub element_stands : {a : Bool} (l : Label) (inside : Items) (m : Markups) → IsTold a l → contents [] inside ≡ m → meaning (element_for l inside) ≡ node_for l m
+pub element_stands : (l : Label) (inside : Items) (m : Markups) → IsTold l → contents [] inside ≡ m → meaning (element_for l inside) ≡ node_for l m
 element_stands l inside m t e = ap₂ (node (element_name l.kind)) (said_pairs [] (said_of l) t.good) e
-
-void_stands : {a : Bool} (l : Label) → IsTold a l → meaning (void_for l) ≡ node_for l empty
-void_stands l t = ap (λ ps. node (element_name l.kind) ps empty) (said_pairs [] (said_of l) t.good)
-
-characters_stand : (bs : List ℕ) → IsUtf8 bs → contents [] (signs (pieces bs) none) ≡ flush bs empty
-characters_stand bs u = signs_stand (pieces bs) [] none ∙ ap (λ r. flush r empty) (pieces_stand _ _ _ spells_text bs u)
 
 -- where a run of characters goes before, no text comes next
 abbrev EndsRun : List ℕ → Bool → Type 0
@@ -191,22 +184,33 @@ ends_run : (bs : List ℕ) (b : Bool) → b ≡ false → EndsRun bs b
 ends_run [] b e = tt
 ends_run (c ∷ cs) b e = e
 
-stands_by : (w : Writing) (k : ℕ) (l : Label) (H : Type 0) (inside rest : Items) (m n : Markups) (run : List ℕ) (next : Bool)
-    → IsSpelled w k l H → (H → contents [] inside ≡ m) → EndsRun run (is_as_text w) → (is_as_text w && next) ≡ false
+void_stands : (l : Label) → IsTold l → meaning (void_for l) ≡ node_for l empty
+void_stands l t = ap (λ ps. node (element_name l.kind) ps empty) (said_pairs [] (said_of l) t.good)
+
+character_stands : (bs : List ℕ) → IsUtf8 bs → contents [] (signs (pieces bs) none) ≡ flush bs empty
+character_stands bs u = signs_stand (pieces bs) [] none ∙ ap (λ r. flush r empty) (pieces_stand _ _ _ spells_text bs u)
+
+stands_by : (w : Writing) (k : ℕ) (parent : Kind) (l : Label) (childless : Bool) (H : Type 0) (inside rest : Items) (m n : Markups) (run : List ℕ) (next : Bool) → writing l.kind ≡ w
+    → NodeIsWritten w k parent l childless H → (H → contents [] inside ≡ m) → EndsRun run (is_as_text w) → (is_as_text w && next) ≡ false
     → ((r : List ℕ) → EndsRun r next → contents r rest ≡ flush r n)
     → contents run (placed w l inside rest) ≡ flush run (marked_up w l m n)
-stands_by AsText k l H inside rest m n run next h f q a g = text_after run l.own rest n q h.0 h.1 (g l.own (ends_run l.own next a))
-stands_by AsVoid k l H inside rest m n run next h f q a g = ap₂ (λ x y. flush run (more x y)) (void_stands l h.1) (g [] tt)
-stands_by RoundCharacter k l H inside rest m n run next h f q a g = ap₂ (λ x y. flush run (more x y)) (element_stands l (signs (pieces l.shown) none) (flush l.shown empty) h.1 (characters_stand l.shown h.2)) (g [] tt)
-stands_by RoundChildren k l H inside rest m n run next h f q a g = ap₂ (λ x y. flush run (more x y)) (element_stands l inside m h.1 (f h.2)) (g [] tt)
-stands_by Unwritten k l H inside rest m n run next h f q a g = absurd h
+stands_by AsText k parent l childless H inside rest m n run next e h f q a g =
+    text_after run l.own rest n q h.0.characters h.0.some (g l.own (ends_run l.own next a))
+stands_by AsVoid k parent l childless H inside rest m n run next e h f q a g =
+    ap₂ (λ x y. flush run (more x y)) (void_stands l (told l (held_kind parent l h.1 h.2) h.2)) (g [] tt)
+stands_by RoundCharacter k parent l childless H inside rest m n run next e h f q a g =
+    let i : IsElementKind l.kind l.attrs = held_kind parent l h.1 h.2 in
+    let u : IsUtf8 l.shown = shown_utf8 l i h.2 e in
+    ap₂ (λ x y. flush run (more x y)) (element_stands l (signs (pieces l.shown) none) (flush l.shown empty) (told l i h.2) (character_stands l.shown u)) (g [] tt)
+stands_by RoundChildren k parent l childless H inside rest m n run next e h f q a g =
+    ap₂ (λ x y. flush run (more x y)) (element_stands l inside m (told l (held_kind parent l h.1 h.2) h.2) (f h.4)) (g [] tt)
+stands_by Unwritten k parent l childless H inside rest m n run next e h f q a g = absurd h
 
 mutual
   pub item_stands : (t : Tree) (k : ℕ) (parent : Kind) (rest : Items) (n : Markups) (run : List ℕ) (next : Bool) → WrittenIn k parent t → EndsRun run (is_text t) → (is_text t && next) ≡ false
       → ((r : List ℕ) → EndsRun r next → contents r rest ≡ flush r n) → contents run (item_before t rest) ≡ flush run (markup_before t n)
   item_stands (tree l ts) k parent rest n run next h q a g =
-      let H : Type 0 = AllWrittenIn (suc k) l.kind ts in
-      stands_by (writing l.kind) k l H (items_of ts) rest (markups_of ts) n run next (is_spelled (writing l.kind) k parent l (is_childless ts) H h)
+      stands_by (writing l.kind) k parent l (is_childless ts) (AllWrittenIn (suc k) l.kind ts) (items_of ts) rest (markups_of ts) n run next refl h
       (λ i. items_stand ts (suc k) l.kind [] i tt) q a g
 
   pub items_stand : (ts : Trees) (k : ℕ) (parent : Kind) (run : List ℕ) → AllWrittenIn k parent ts → EndsRun run (begins_with_text ts) → contents run (items_of ts) ≡ flush run (markups_of ts)

@@ -1,4 +1,5 @@
--- The JSON of `data-parsoid`: it is UTF-8, and read as what was written.
+-- The JSON of `data-parsoid`, and that of `data-mw` of an extension: it is UTF-8, and read as what was
+-- written.
 use Rattle.std.proofs.Common.{◌≡◌, ℕ, ◌<◌, ◌≤◌, ◌^◌, Bool, true, false, Option, Some, None, List, [], ◌∷◌, IsUtf8, decimal, refl, sym, ap, ◌∙◌, subst, arith, append-nil, codes, option_and_then}
 use Rattle.std.specs.Prelude.{Ok}
 use Rattle.std.proofs.lemmas.Fmt.{IsAscii-decimal}
@@ -22,6 +23,12 @@ use Rattle.wt_datamw.specs.declared.sync.Sync.{Sync}
 use Rattle.wt_datamw.specs.Sync.{put_dsr, put_text, put_source, sync_members, sync_data, sync_text}
 use Rattle.wt_datamw.specs.SyncRead.{sync_of_json, sync_told, IsSmall}
 use Rattle.wt_datamw.proofs.ReadsBack.{reads_small}
+use Rattle.wt_tree.specs.declared.node.DataMw.{DataMw}
+use Rattle.wt_tree.specs.declared.node.DataMw.TheVariants as mw
+use Rattle.wt_datamw.specs.Mw.{mw_data, mw_text}
+use Rattle.wt_datamw.specs.MwRead.{has_small_numbers, mw_of_json, mw_told}
+use Rattle.wt_datamw.proofs.MwBack.{reads_ordered}
+use Rattle.wt_round_trip.specs.Written.{IsUtf8IfAny}
 
 -- ---- UTF-8
 
@@ -97,10 +104,6 @@ parts r o c src = object (put_source src (put_text (codes "o") o (put_dsr r (put
 abbrev AreSmall : Ranges → Type 0
 AreSmall r = (r.start < 2 ^ 64) × (r.end < 2 ^ 64) × (r.open_w < 2 ^ 64) × (r.close_w < 2 ^ 64)
 
-abbrev pub IsUtf8IfAny : Option (List ℕ) → Type 0
-IsUtf8IfAny None = Unit {0}
-IsUtf8IfAny (Some bs) = IsUtf8 bs
-
 parts_utf8 : (r : Ranges) (o c : List ℕ) (src : Option (List ℕ)) → AreSmall r → IsUtf8 o → IsUtf8 c → IsUtf8IfAny src
     → IsUtf8 (codes "c") → IsUtf8 (codes "dsr") → IsUtf8 (codes "o") → IsUtf8 (codes "src") → HasUtf8 (parts r o c src)
 parts_utf8 r [] [] None n o c s kc kd ko ks = (kd, (n.0, (n.1, (n.2, (n.3, tt)))), tt)
@@ -172,3 +175,39 @@ sync_read s h =
     (omega arith)
     (parts_read s.dsr s.opening s.closing s.src (number_of-decimal _ n.0, number_of-decimal _ n.1, number_of-decimal _ n.2, number_of-decimal _ n.3)))
     ∙ reads_small s h
+
+-- ---- the data of an extension
+
+extension_has_utf8 : (name : List ℕ) (body : Option (List ℕ)) → IsUtf8 name → IsUtf8IfAny body → IsUtf8 (codes "body") → IsUtf8 (codes "extsrc") → IsUtf8 (codes "name") → HasUtf8 (mw_data (mw.Extension name body))
+extension_has_utf8 name None n b kb ke kn = (kn, n, tt)
+extension_has_utf8 name (Some text) n b kb ke kn = (kb, (ke, b, tt), (kn, n, tt))
+
+pub extension_utf8 : (name : List ℕ) (body : Option (List ℕ)) → IsUtf8 name → IsUtf8IfAny body → IsUtf8 (mw_text (mw.Extension name body))
+unfolding mw_text
+extension_utf8 name body n b =
+    data_utf8 (mw_data (mw.Extension name body))
+    (extension_has_utf8 name body n b (IsUtf8-are_ascii (codes "body") refl) (IsUtf8-are_ascii (codes "extsrc") refl) (IsUtf8-are_ascii (codes "name") refl))
+
+extension_numbers : (name : List ℕ) (body : Option (List ℕ)) → tree.HasNumbers (outline (mw_data (mw.Extension name body)))
+extension_numbers name None = (tt, tt)
+extension_numbers name (Some text) = ((tt, tt), (tt, tt))
+
+extension_depth : (name : List ℕ) (body : Option (List ℕ)) → tree.depth (outline (mw_data (mw.Extension name body))) ≤ 2
+extension_depth name None = omega arith
+extension_depth name (Some text) = omega arith
+
+extension_same : (name : List ℕ) (body : Option (List ℕ)) → of_json (outline (mw_data (mw.Extension name body))) ≡ Some (mw_data (mw.Extension name body))
+extension_same name None = refl
+extension_same name (Some text) = refl
+
+extension_small : (name : List ℕ) (body : Option (List ℕ)) → has_small_numbers (mw_data (mw.Extension name body)) ≡ true
+unfolding has_small_numbers
+extension_small name None = refl
+extension_small name (Some text) = refl
+
+pub extension_read : (name : List ℕ) (body : Option (List ℕ)) → mw_told (mw_text (mw.Extension name body)) ≡ Ok (mw.Extension name body)
+unfolding mw_text mw_told
+extension_read name body =
+    let d : DataMw = mw.Extension name body in
+    let l : tree.depth (outline (mw_data d)) ≤ 2 = extension_depth name body in
+    ap mw_of_json (json_read (mw_data d) (extension_numbers name body) (omega arith) (extension_same name body)) ∙ reads_ordered d (extension_small name body) tt

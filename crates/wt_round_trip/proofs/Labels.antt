@@ -1,214 +1,139 @@
--- What is read of the label of an element: its kind, its number, its places and its delimiters.
-use Rattle.std.proofs.Common.{◌≡◌, ℕ, zero, suc, ◌+◌, ◌-◌, ◌*◌, ◌<◌, ◌≤◌, ◌^◌, Bool, true, false, nat_le, Option, Some, None, List, [], ◌∷◌, ◌++◌, map, decimal, IsUtf8, refl, sym, ap, ap₂, ◌∙◌, subst, arith, codes, get_or}
-use Rattle.std.specs.Prelude.{Ok, is_some, not, ◌==◌, ◌&&◌, if◌then◌else◌}
-use Rattle.std.specs.Fmt.{digits}
-use Rattle.std.specs.Char.{digit_value}
-use Rattle.std.specs.Str.Parse.{AllDigits, digits_value_after}
+-- What is read of the label of an element: its kind, its number, its places, its source and its data.
+use Rattle.std.proofs.Common.{◌≡◌, ℕ, ◌<◌, ◌^◌, Bool, true, false, Option, Some, None, List, [], ◌∷◌, ◌++◌, map, decimal, IsUtf8, refl, sym, ap, ap₂, ◌∙◌, subst, arith, append_assoc, codes, option_map}
+use Rattle.std.specs.Prelude.{Ok, is_some, not, ◌==◌, ◌||◌, if◌then◌else◌}
 use Rattle.std.proofs.lemmas.Bool.{eqb-true}
 use Rattle.std.proofs.lemmas.Bool.Decides.{nat_tests}
-use Rattle.std.proofs.lemmas.Fmt.{decimal_is_IsNumeral, first_decimal, IsAscii-decimal}
-use Rattle.std.proofs.lemmas.Str.{IsUtf8-from_ascii, digit_value_digit}
-use Rattle.std.proofs.lemmas.Str.Parse.{digit_from_value}
+use Rattle.std.proofs.lemmas.Fmt.{IsAscii-decimal}
+use Rattle.std.proofs.lemmas.Str.{IsUtf8-from_ascii, IsUtf8-nil}
+use Rattle.wt_tree.specs.declared.kind.AttrName.{AttrName}
 use Rattle.wt_tree.specs.declared.kind.Kind.{Kind}
-use Rattle.wt_tree.specs.declared.kind.Kind.TheVariants as kind
-use Rattle.wt_tree.specs.declared.kind.Mark.TheVariants as mark
+use Rattle.wt_tree.specs.declared.kind.Mark.{Mark}
 use Rattle.wt_tree.specs.declared.kind.Ranges.{Ranges}
+use Rattle.wt_tree.specs.declared.node.DataMw.{DataMw}
+use Rattle.wt_tree.specs.declared.node.DataMw.TheVariants as mw
 use Rattle.wt_tree.specs.Kinds.{is_leaf, is_numbered}
 use Rattle.wt_tree.specs.Tree.{Label}
 use Rattle.wt_datamw.specs.declared.sync.Sync.{Sync}
+use Rattle.wt_datamw.specs.Mw.{mw_text}
 use Rattle.wt_datamw.specs.Sync.{sync_text}
 use Rattle.wt_datamw.specs.SyncRead.{sync_told}
-use Rattle.wt_markup.specs.declared.writing.Writing.TheVariants.{RoundChildren}
-use Rattle.wt_markup.specs.Elements.{writing, element_name}
-use Rattle.wt_markup.specs.Html.{inner_sync, sync_of}
-use Rattle.wt_html_grammar.specs.Signs.{is_digit, is_void, IsName, IsAttributeName}
+use Rattle.wt_markup.specs.Elements.{element_name}
+use Rattle.wt_markup.specs.Html.{leaf_sync, inner_sync, sync_of}
+use Rattle.wt_html_grammar.specs.Signs.{IsAttributeName}
 use Rattle.wt_html_grammar.specs.Markup.{Pair}
-use Rattle.wt_fitting.specs.Attributes.{is_typed, decimal_from, decimal_of, or_zero, id_of, mark_of}
-use Rattle.wt_fitting.specs.Rows.{kind_named, row, may_hold, is_block, is_for, sync_for, some_sync, sync_fits, data_of, id_for}
-use Rattle.wt_fitting.specs.Fit.{label_with, label_for}
-use Rattle.wt_fitting.specs.Unsourced.{is_marked, is_unsourced}
 use Rattle.wt_html_grammar.proofs.Steps.{if_true, if_false}
-use Rattle.wt_html_grammar.proofs.Reading.{and_true}
-use Rattle.wt_round_trip.specs.Written.{HasPlaces, IsNumber, has_level, IsAround, label_read}
-use Rattle.wt_round_trip.proofs.Json.{ascii_then, sync_utf8, sync_read}
+use Rattle.wt_fitting.specs.Attributes.{value_of, has, or_zero, id_of_value, id_of, mark_of_value}
+use Rattle.wt_fitting.specs.Rows.{row_by, row, shows_text}
+use Rattle.wt_fitting.specs.Data.{Data, is_for, sync_for, some_sync, sync_fits, is_island, mw_for, mw_fits, both, data_of, id_for}
+use Rattle.wt_fitting.specs.Fit.{source_of, label_for}
+use Rattle.wt_fitting.specs.Unsourced.{is_marked, is_unsourced}
+use Rattle.wt_round_trip.specs.Written.{label_read, HasPlaces, IsNumber, IsLeafSource, IsInnerSource, HasSource, IsUtf8IfAny, HasData, IsElementLabel}
+use Rattle.wt_round_trip.proofs.Json.{ascii_then, sync_utf8, sync_read, extension_utf8, extension_read}
 use Rattle.wt_round_trip.proofs.Said.{Said, double, single, pair_said, kind_said, own_said, id_said, mw_said, sync_said, said_of, AreGood}
+use Rattle.wt_round_trip.proofs.Numbers.{number_told}
+use Rattle.wt_round_trip.proofs.Rows.{type_said, IsElementKind}
 
--- ---- numbers
+-- ---- the attributes: `typeof`, the number and the data, each where there is one, and the source
 
-value_le : (ds : List ℕ) (n : ℕ) → n ≤ digits_value_after 10 n ds
-value_le [] n = omega arith
-value_le (d ∷ ds) n = omega (arith, value_le ds (n * 10 + digit_value d))
+abbrev number_said : Bool → ℕ → List Said
+number_said true id = []
+number_said false id = double (codes "id") (109 ∷ 119 ∷ decimal id) ∷ []
 
-value_of_digit : (d : ℕ) → digit_value d < 10 → digit_value d ≡ d - 48
-value_of_digit d h = omega (arith, digit_value_digit d (digit_from_value d h))
+abbrev source_said : List ℕ → List Said
+source_said t = single (codes "data-parsoid") t ∷ []
 
-is_digit_is : (d : ℕ) → 48 ≤ d → d ≤ 57 → is_digit d ≡ true
-is_digit_is d l h = grind (arith, nat_tests)
+abbrev full : Option (List ℕ) → Bool → ℕ → Option DataMw → List ℕ → List Said
+full o b id d t = type_said o ++ (number_said b id ++ (mw_said d ++ source_said t))
 
-le_test : (m n : ℕ) → m ≤ n → nat_le m n ≡ true
-le_test m n h = grind (arith, nat_tests)
-
-digits_told : (ds : List ℕ) (n : ℕ) → AllDigits 10 ds → digits_value_after 10 n ds ≤ 4294967295 → decimal_from n ds ≡ Some (digits_value_after 10 n ds)
-digits_told [] n h l = refl
-digits_told (d ∷ ds) n h l =
-    let q = digit_from_value d h.0 in
-    let e : digit_value d ≡ d - 48 = value_of_digit d h.0 in
-    let m : n * 10 + digit_value d ≤ 4294967295 = omega (arith, value_le ds (n * 10 + digit_value d)) in
-    if_true (is_digit d && nat_le (n * 10 + (d - 48)) 4294967295) _ _
-    (and_true _ _ (is_digit_is d (omega arith) (omega arith)) (le_test _ _ (omega arith)))
-    ∙ ap (λ x. decimal_from (n * 10 + x) ds) (sym e) ∙ digits_told ds (n * 10 + digit_value d) h.1 l
-
-not_zero : (ds : List ℕ) → 48 < get_or ds 0 0 → decimal_of ds ≡ decimal_from 0 ds
-not_zero [] h = absurd (omega arith)
-not_zero (d ∷ ds) h = if_false (d == 48) _ _ (differ d h)
+number_is : (id : ℕ) → id_said id ≡ number_said (id == 0) id
+number_is id = by_test (id == 0)
   where
-    differ : (d : ℕ) → 48 < d → (d == 48) ≡ false
-    differ d h = grind (arith, nat_tests)
-
-number_told : (n : ℕ) → 0 < n → n < 2 ^ 32 → decimal_of (decimal n) ≡ Some n
-number_told n some small =
-    let q = decimal_is_IsNumeral n (omega arith) in
-    not_zero (decimal n) (first_decimal n some (omega arith)) ∙ digits_told (decimal n) 0 q.0.1 (omega (arith, q.1)) ∙ ap Some q.1
-
--- ---- kinds
-
--- an element round its children, which the kind alone tells nothing about
-record IsElementKind (k : Kind) : Type 0 where
-  round : writing k ≡ RoundChildren
-  untold : kind_said k ≡ []
-  leaf : is_leaf k ≡ false
-  name : IsName (element_name k)
-  whole : is_void (element_name k) ≡ false
-
--- one that its name tells, with a number
-record IsNamedKind (k : Kind) : Type 0 where
-  element : IsElementKind k
-  numbered : is_numbered k ≡ true
-  named : kind_named (element_name k) ≡ Some k
-
-body_kind : IsElementKind kind.Body
-unfolding element_name
-body_kind = record { round = refl; untold = refl; leaf = refl; name = (refl, (refl, (refl, (refl, tt)))); whole = refl }
-
-para_kind : IsNamedKind kind.Para
-unfolding element_name
-para_kind = record { element = record { round = refl; untold = refl; leaf = refl; name = (refl, tt); whole = refl }; numbered = refl; named = refl }
-
-level_cases : (P : ℕ → Type 0) → P 1 → P 2 → P 3 → P 4 → P 5 → P 6 → (n : ℕ) → (nat_le 1 n && nat_le n 6) ≡ true → P n
-level_cases P a b c d e f zero h = absurd cc
-level_cases P a b c d e f (suc zero) h = a
-level_cases P a b c d e f (suc (suc zero)) h = b
-level_cases P a b c d e f (suc (suc (suc zero))) h = c
-level_cases P a b c d e f (suc (suc (suc (suc zero)))) h = d
-level_cases P a b c d e f (suc (suc (suc (suc (suc zero))))) h = e
-level_cases P a b c d e f (suc (suc (suc (suc (suc (suc zero)))))) h = f
-level_cases P a b c d e f (suc (suc (suc (suc (suc (suc (suc n))))))) h = absurd (too_large (suc (suc (suc (suc (suc (suc (suc n))))))) (omega arith) h)
-  where
-    too_large : (n : ℕ) → 6 < n → (nat_le 1 n && nat_le n 6) ≡ true → ⊥
-    too_large n l h = grind (arith, nat_tests)
-
-heading_kind : (n : ℕ) → (nat_le 1 n && nat_le n 6) ≡ true → IsNamedKind (kind.Heading n)
-unfolding element_name digits
-heading_kind = level_cases (λ n. IsNamedKind (kind.Heading n))
-    (record { element = record { round = refl; untold = refl; leaf = refl; name = (refl, (refl, tt)); whole = refl }; numbered = refl; named = refl })
-    (record { element = record { round = refl; untold = refl; leaf = refl; name = (refl, (refl, tt)); whole = refl }; numbered = refl; named = refl })
-    (record { element = record { round = refl; untold = refl; leaf = refl; name = (refl, (refl, tt)); whole = refl }; numbered = refl; named = refl })
-    (record { element = record { round = refl; untold = refl; leaf = refl; name = (refl, (refl, tt)); whole = refl }; numbered = refl; named = refl })
-    (record { element = record { round = refl; untold = refl; leaf = refl; name = (refl, (refl, tt)); whole = refl }; numbered = refl; named = refl })
-    (record { element = record { round = refl; untold = refl; leaf = refl; name = (refl, (refl, tt)); whole = refl }; numbered = refl; named = refl })
-
-block_kind : (k : Kind) → is_block k ≡ true → has_level k ≡ true → IsNamedKind k
-block_kind kind.Para b h = para_kind
-block_kind (kind.Heading n) b h = heading_kind n h
-block_kind k b h = absurd cc
-
-held_kind : (parent k : Kind) → may_hold parent k ≡ true → has_level k ≡ true → IsNamedKind k
-held_kind kind.Body k b h = block_kind k b h
-held_kind parent k b h = absurd cc
-
--- ---- the attributes
-
--- the number, if there is one, and the data
-abbrev short : Bool → ℕ → List ℕ → List Said
-short true id t = single (codes "data-parsoid") t ∷ []
-short false id t = double (codes "id") (109 ∷ 119 ∷ decimal id) ∷ single (codes "data-parsoid") t ∷ []
-
-id_short : (id : ℕ) (t : List ℕ) → id_said id ++ (single (codes "data-parsoid") t ∷ []) ≡ short (id == 0) id t
-id_short id t = by_test (id == 0)
-  where
-    by_test : (b : Bool) → (if b then [] else double (codes "id") (109 ∷ 119 ∷ decimal id) ∷ []) ++ (single (codes "data-parsoid") t ∷ []) ≡ short b id t
+    by_test : (b : Bool) → (if b then [] else double (codes "id") (109 ∷ 119 ∷ decimal id) ∷ []) ≡ number_said b id
     by_test true = refl
     by_test false = refl
 
-inner_is : (l : Label) (r : Ranges) → is_leaf l.kind ≡ false → sync_of l r ≡ inner_sync l r
-unfolding sync_of
-inner_is l r e = if_false (is_leaf l.kind) _ _ e
+said_full : (l : Label) (r : Ranges) (k : IsElementKind l.kind l.attrs) → l.ranges ≡ Some r → said_of l ≡ full k.type (l.id == 0) l.id l.mw (sync_text (sync_of l r))
+said_full l r k e =
+    sym (append_assoc (kind_said l.kind) (map own_said l.attrs) _)
+    ∙ ap₂ (λ (x y : List Said). x ++ y) k.told
+    (ap₂ (λ (x y : List Said). x ++ y) (number_is l.id) (ap (λ o. mw_said l.mw ++ sync_said l o) e))
 
-said_short : (l : Label) (r : Ranges) → IsElementKind l.kind → l.attrs ≡ [] → l.mw ≡ None → l.ranges ≡ Some r → said_of l ≡ short (l.id == 0) l.id (sync_text (inner_sync l r))
-said_short l r k a m e =
-    ap₂ (λ x y. x ++ (map own_said y ++ (id_said l.id ++ (mw_said l.mw ++ sync_said l l.ranges)))) k.untold a
-    ∙ ap₂ (λ x y. id_said l.id ++ (mw_said x ++ sync_said l y)) m e
-    ∙ ap (λ s. id_said l.id ++ (single (codes "data-parsoid") (sync_text s) ∷ [])) (inner_is l r k.leaf)
-    ∙ id_short l.id (sync_text (inner_sync l r))
+-- ---- they are good
 
 id_utf8 : (id : ℕ) → id < 2 ^ 64 → IsUtf8 (109 ∷ 119 ∷ decimal id)
 id_utf8 id h = ascii_then 109 _ (omega arith) (ascii_then 119 _ (omega arith) (IsUtf8-from_ascii (decimal id) (IsAscii-decimal id h)))
 
-data_name : IsAttributeName (codes "data-parsoid")
-data_name = (refl, (refl, (refl, (refl, (refl, (refl, (refl, (refl, (refl, (refl, (refl, (refl, tt))))))))))))
+type_name : IsAttributeName (codes "typeof")
+type_name = (refl, (refl, (refl, (refl, (refl, (refl, tt))))))
 
 id_name : IsAttributeName (codes "id")
 id_name = (refl, (refl, tt))
 
-short_good : (b : Bool) (id : ℕ) (t : List ℕ) → IsUtf8 (109 ∷ 119 ∷ decimal id) → IsUtf8 t → AreGood [] (short b id t)
-short_good true id t i u = (data_name, u, refl, tt)
-short_good false id t i u = (id_name, i, refl, (data_name, u, refl, tt))
+mw_name : IsAttributeName (codes "data-mw")
+mw_name = (refl, (refl, (refl, (refl, (refl, (refl, (refl, tt)))))))
 
--- what the attributes say
+source_name : IsAttributeName (codes "data-parsoid")
+source_name = (refl, (refl, (refl, (refl, (refl, (refl, (refl, (refl, (refl, (refl, (refl, (refl, tt))))))))))))
+
+full_good : (o : Option (List ℕ)) (b : Bool) (id : ℕ) (d : Option DataMw) (t : List ℕ) → IsUtf8IfAny o → IsUtf8 (109 ∷ 119 ∷ decimal id) → IsUtf8IfAny (option_map mw_text d) → IsUtf8 t → AreGood [] (full o b id d t)
+full_good None true id None t o i d u = (source_name, u, refl, tt)
+full_good None true id (Some x) t o i d u = (mw_name, d, refl, (source_name, u, refl, tt))
+full_good None false id None t o i d u = (id_name, i, refl, (source_name, u, refl, tt))
+full_good None false id (Some x) t o i d u = (id_name, i, refl, (mw_name, d, refl, (source_name, u, refl, tt)))
+full_good (Some y) true id None t o i d u = (type_name, o, refl, (source_name, u, refl, tt))
+full_good (Some y) true id (Some x) t o i d u = (type_name, o, refl, (mw_name, d, refl, (source_name, u, refl, tt)))
+full_good (Some y) false id None t o i d u = (type_name, o, refl, (id_name, i, refl, (source_name, u, refl, tt)))
+full_good (Some y) false id (Some x) t o i d u = (type_name, o, refl, (id_name, i, refl, (mw_name, d, refl, (source_name, u, refl, tt))))
+
+-- ---- what they say
+
 abbrev pub pairs : List Said → List Pair
 pairs ss = map pair_said ss
 
-short_typed : (b : Bool) (id : ℕ) (t : List ℕ) → is_typed (pairs (short b id t)) ≡ false
-short_typed true id t = refl
-short_typed false id t = refl
+-- the value of the number's attribute
+abbrev number_value : Bool → ℕ → Option (List ℕ)
+number_value true id = None
+number_value false id = Some (109 ∷ 119 ∷ decimal id)
 
-short_unsourced : (b : Bool) (id : ℕ) (t : List ℕ) → is_unsourced (pairs (short b id t)) ≡ false
-short_unsourced true id t = refl
-short_unsourced false id t = refl
+-- the values that attributes have, and none of other names
+record IsSaid (o : Option (List ℕ)) (b : Bool) (n : ℕ) (d : Option DataMw) (t : List ℕ) (ps : List Pair) : Type 0 where
+  pub type : value_of (codes "typeof") ps ≡ o
+  pub id : value_of (codes "id") ps ≡ number_value b n
+  pub mw : value_of (codes "data-mw") ps ≡ option_map mw_text d
+  pub source : value_of (codes "data-parsoid") ps ≡ Some t
+  pub about : value_of (codes "about") ps ≡ None
+  pub rel : value_of (codes "rel") ps ≡ None
+  pub property : value_of (codes "property") ps ≡ None
+  pub edit : value_of (codes "data-wt-edit") ps ≡ None
 
-short_marked : (b : Bool) (id : ℕ) (t : List ℕ) → is_marked (pairs (short b id t)) ≡ false
-short_marked true id t = refl
-short_marked false id t = refl
+full_said : (o : Option (List ℕ)) (b : Bool) (n : ℕ) (d : Option DataMw) (t : List ℕ) → IsSaid o b n d t (pairs (full o b n d t))
+full_said None true n None t = record { type = refl; id = refl; mw = refl; source = refl; about = refl; rel = refl; property = refl; edit = refl }
+full_said None true n (Some x) t = record { type = refl; id = refl; mw = refl; source = refl; about = refl; rel = refl; property = refl; edit = refl }
+full_said None false n None t = record { type = refl; id = refl; mw = refl; source = refl; about = refl; rel = refl; property = refl; edit = refl }
+full_said None false n (Some x) t = record { type = refl; id = refl; mw = refl; source = refl; about = refl; rel = refl; property = refl; edit = refl }
+full_said (Some y) true n None t = record { type = refl; id = refl; mw = refl; source = refl; about = refl; rel = refl; property = refl; edit = refl }
+full_said (Some y) true n (Some x) t = record { type = refl; id = refl; mw = refl; source = refl; about = refl; rel = refl; property = refl; edit = refl }
+full_said (Some y) false n None t = record { type = refl; id = refl; mw = refl; source = refl; about = refl; rel = refl; property = refl; edit = refl }
+full_said (Some y) false n (Some x) t = record { type = refl; id = refl; mw = refl; source = refl; about = refl; rel = refl; property = refl; edit = refl }
 
-short_mark : (b : Bool) (id : ℕ) (t : List ℕ) → mark_of (pairs (short b id t)) ≡ mark.Nothing
-short_mark true id t = refl
-short_mark false id t = refl
+-- ---- the number
 
-short_data : (b : Bool) (id : ℕ) (t : List ℕ) (k : Kind) → data_of k (pairs (short b id t)) ≡ sync_fits k (Some t)
-short_data true id t k = refl
-short_data false id t k = refl
-
-short_id : (id : ℕ) (t : List ℕ) → id < 2 ^ 32 → id_of (pairs (short (id == 0) id t)) ≡ id
-short_id id t h = by_test (id == 0) refl
+number_said_is : (id : ℕ) → id < 2 ^ 32 → id_of_value (number_value (id == 0) id) ≡ id
+number_said_is id h = by_test (id == 0) refl
   where
     some : (id : ℕ) → (id == 0) ≡ false → 0 < id
     some id e = grind (arith, nat_tests)
 
-    by_test : (b : Bool) → (id == 0) ≡ b → id_of (pairs (short b id t)) ≡ id
+    by_test : (b : Bool) → (id == 0) ≡ b → id_of_value (number_value b id) ≡ id
     by_test true e = sym (eqb-true id 0 e)
     by_test false e = ap or_zero (number_told id (some id e) h)
-
--- ---- the whole label
-
-is_for_is : (k : Kind) (s : Sync) → is_leaf k ≡ false → s.src ≡ None → is_for k s ≡ true
-is_for_is k s e f = if_false (is_leaf k) _ _ e ∙ ap (λ o. not (is_some o)) f
-
-fits : (k : Kind) (s : Sync) (t : List ℕ) → sync_told t ≡ Ok s → is_leaf k ≡ false → s.src ≡ None → sync_fits k (Some t) ≡ Some (Some s)
-fits k s t e l f = ap (λ o. some_sync (sync_for k o)) e ∙ ap some_sync (if_true (is_for k s) _ _ (is_for_is k s l f))
 
 small_number : (b : Bool) (n : ℕ) → IsNumber b n → n < 2 ^ 32
 small_number true n h = h.1
 small_number false n h = omega arith
+
+pub small_id : (l : Label) → IsElementLabel l → l.id < 2 ^ 64
+small_id l h = let small : l.id < 2 ^ 32 = small_number _ l.id h.number in omega arith
 
 id_is : (k : Kind) (ps : List Pair) (id : ℕ) → IsNumber (is_numbered k) id → id_of ps ≡ id → id_for k ps ≡ id
 id_is k ps id h e = by_test (is_numbered k) h
@@ -217,74 +142,120 @@ id_is k ps id h e = by_test (is_numbered k) h
     by_test true h = e
     by_test false h = sym h
 
--- What is read of an element's label, of which the element has no end tag where it stands `alone`.
-pub record IsTold (alone : Bool) (l : Label) : Type 0 where
-  pub small : l.id < 2 ^ 64
-  pub name : IsName (element_name l.kind)
-  pub ends : is_void (element_name l.kind) ≡ alone
+-- ---- the source
+
+-- what the source of a label is written as
+record IsSync (l : Label) (r : Ranges) (s : Sync) : Type 0 where
+  pub places : s.dsr ≡ r
+  pub kind : is_for l.kind s ≡ true
+  pub opening : s.opening ≡ l.opening
+  pub closing : s.closing ≡ l.closing
+  pub own : source_of s.src ≡ l.own
+  pub opening_utf8 : IsUtf8 s.opening
+  pub closing_utf8 : IsUtf8 s.closing
+  pub own_utf8 : IsUtf8IfAny s.src
+
+leaf_is : (l : Label) (r : Ranges) → is_leaf l.kind ≡ true → IsLeafSource l → IsSync l r (leaf_sync l r)
+leaf_is l r e h = record {
+  places = refl;
+  kind = if_true (is_leaf l.kind) _ _ e;
+  opening = sym h.opening;
+  closing = sym h.closing;
+  own = refl;
+  opening_utf8 = IsUtf8-nil;
+  closing_utf8 = IsUtf8-nil;
+  own_utf8 = h.own;
+}
+
+inner_is : (l : Label) (r : Ranges) → is_leaf l.kind ≡ false → IsInnerSource l → IsSync l r (inner_sync l r)
+inner_is l r e h = record {
+  places = refl;
+  kind = if_false (is_leaf l.kind) _ _ e;
+  opening = refl;
+  closing = refl;
+  own = sym h.own;
+  opening_utf8 = h.opening;
+  closing_utf8 = h.closing;
+  own_utf8 = tt;
+}
+
+sync_is : (l : Label) (r : Ranges) → HasSource (is_leaf l.kind) l → IsSync l r (sync_of l r)
+unfolding sync_of
+sync_is l r h = by_test (is_leaf l.kind) refl h
+  where
+    by_test : (b : Bool) → is_leaf l.kind ≡ b → HasSource b l → IsSync l r (if b then leaf_sync l r else inner_sync l r)
+    by_test true e h = leaf_is l r e h
+    by_test false e h = inner_is l r e h
+
+sync_fits_is : (k : Kind) (s : Sync) (t : List ℕ) → sync_told t ≡ Ok s → is_for k s ≡ true → sync_fits k (Some t) ≡ Some (Some s)
+sync_fits_is k s t e f = ap (λ o. some_sync (sync_for k o)) e ∙ ap some_sync (if_true (is_for k s) _ _ f)
+
+-- ---- the data of an extension
+
+mw_utf8 : (b : Bool) (o : Option DataMw) → HasData b o → IsUtf8IfAny (option_map mw_text o)
+mw_utf8 true None h = absurd h
+mw_utf8 true (Some (mw.Parts parts)) h = absurd h
+mw_utf8 true (Some (mw.Extension name body)) h = extension_utf8 name body h.0 h.1
+mw_utf8 false o h = let P : Option DataMw → Type 0 = λ o. IsUtf8IfAny (option_map mw_text o) in subst P (sym h) tt
+
+mw_fits_is : (k : Kind) (o : Option DataMw) → HasData (is_island k) o → mw_fits k (option_map mw_text o) ≡ Some o
+mw_fits_is k o h = by_test (is_island k) refl o h
+  where
+    by_test : (b : Bool) → is_island k ≡ b → (o : Option DataMw) → HasData b o → mw_fits k (option_map mw_text o) ≡ Some o
+    by_test true e None h = absurd h
+    by_test true e (Some (mw.Parts parts)) h = absurd h
+    by_test true e (Some (mw.Extension name body)) h = ap (mw_for k) (extension_read name body) ∙ if_true (is_island k) _ _ e
+    by_test false e o h = ap (λ x. mw_fits k (option_map mw_text x)) h ∙ if_false (is_island k) _ _ e ∙ ap Some (sym h)
+
+-- ---- the whole label
+
+-- what is read of the label's attributes
+pub record IsTold (l : Label) : Type 0 where
   pub good : AreGood [] (said_of l)
+  pub row : is_numbered l.kind ≡ true → row (element_name l.kind) (pairs (said_of l)) ≡ Some l.kind
   pub sourced : is_unsourced (pairs (said_of l)) ≡ false
   pub marked : is_marked (pairs (said_of l)) ≡ false
-  pub sync : Sync
-  pub data_is : data_of l.kind (pairs (said_of l)) ≡ Some (Some sync)
-  pub label_is : label_for l.kind (pairs (said_of l)) (Some sync) ≡ label_read l
-
--- the same of an element that may stand in one of that kind, by its row
-pub record IsReadIn (alone : Bool) (parent : Kind) (l : Label) : Type 0 where
-  pub told : IsTold alone l
-  pub held : may_hold parent l.kind ≡ true
-  pub row_is : row (element_name l.kind) (pairs (said_of l)) ≡ Some l.kind
+  pub told : Data
+  pub data_is : data_of l.kind (pairs (said_of l)) ≡ Some told
+  pub label_is : (bs : List ℕ) → (if shows_text l.kind then bs else []) ≡ l.shown → label_for l.kind (pairs (said_of l)) told bs ≡ label_read l
 
 with_places : (P : Option Ranges → Type 0) → ((r : Ranges) → HasPlaces (Some r) → P (Some r)) → (o : Option Ranges) → HasPlaces o → P o
 with_places P f None h = absurd h
 with_places P f (Some r) h = f r h
 
-plain_label : (l : Label) (r : Ranges) → IsElementKind l.kind → IsAround l → l.ranges ≡ Some r → label_with l.kind l.id mark.Nothing (Some (inner_sync l r)) ≡ label_read l
-plain_label l r k h e = rw (k.round, e, h.own, h.shown, h.attrs, h.mark, h.mw)
+abbrev parts_label : Kind → ℕ → Option Ranges → List ℕ → List ℕ → List ℕ → List ℕ → List (AttrName × List ℕ) → Mark → Option DataMw → Label
+parts_label k id r o c w s a m d = record { kind = k; id = id; ranges = r; opening = o; closing = c; own = w; shown = s; attrs = a; mark = m; mw = d }
 
-told_at : (l : Label) (r : Ranges) → IsElementKind l.kind → IsAround l → HasPlaces (Some r) → l.ranges ≡ Some r → IsTold false l
-told_at l r k h p e =
-    let s : Sync = inner_sync l r in
-    let t : List ℕ = sync_text s in
-    let b : Bool = l.id == 0 in
-    let q : said_of l ≡ short b l.id t = said_short l r k h.attrs h.mw e in
+same_label : (k : Kind) (d : Option DataMw) {i j : ℕ} {q r : Option Ranges} {o p c e w v s t : List ℕ} {a b : List (AttrName × List ℕ)} {m n : Mark}
+    → i ≡ j → q ≡ r → o ≡ p → c ≡ e → w ≡ v → s ≡ t → a ≡ b → m ≡ n
+    → parts_label k i q o c w s a m d ≡ parts_label k j r p e v t b n d
+same_label k d ei eq eo ec ew es ea em = rw (ei, eq, eo, ec, ew, es, ea, em)
+
+row_is : (name : List ℕ) (o : Option (List ℕ)) (ps : List Pair) (k : Kind) → value_of (codes "rel") ps ≡ None → value_of (codes "property") ps ≡ None → value_of (codes "typeof") ps ≡ o → row_by name o ≡ Some k
+    → row name ps ≡ Some k
+row_is name o ps k r p e f =
+    if_false (has (codes "rel") ps || has (codes "property") ps) _ _ (ap₂ (λ x y. is_some x || is_some y) r p) ∙ ap (row_by name) e ∙ f
+
+told_by : (l : Label) (r : Ranges) (s : Sync) (k : IsElementKind l.kind l.attrs) → IsElementLabel l → HasPlaces (Some r) → l.ranges ≡ Some r → IsSync l r s
+    → said_of l ≡ full k.type (l.id == 0) l.id l.mw (sync_text s) → IsTold l
+told_by l r s k h p e y q =
+    let ps : List Pair = pairs (said_of l) in
     let small : l.id < 2 ^ 32 = small_number _ l.id h.number in
-    let id : id_of (pairs (said_of l)) ≡ l.id = ap (λ ss. id_of (pairs ss)) q ∙ short_id l.id t small in
-    let m : mark_of (pairs (said_of l)) ≡ mark.Nothing = ap (λ ss. mark_of (pairs ss)) q ∙ short_mark b l.id t in
+    let v : IsSaid k.type (l.id == 0) l.id l.mw (sync_text s) ps =
+    subst (λ ss. IsSaid k.type (l.id == 0) l.id l.mw (sync_text s) (pairs ss)) (sym q) (full_said k.type (l.id == 0) l.id l.mw (sync_text s)) in
+    let places : HasPlaces (Some s.dsr) = subst (λ x. HasPlaces (Some x)) (sym y.places) p in
     record {
-      small = omega arith;
-      name = k.name;
-      ends = k.whole;
-      good = subst (AreGood []) (sym q) (short_good b l.id t (id_utf8 l.id (omega arith)) (sync_utf8 s p h.opening h.closing tt));
-      sourced = ap (λ ss. is_unsourced (pairs ss)) q ∙ short_unsourced b l.id t;
-      marked = ap (λ ss. is_marked (pairs ss)) q ∙ short_marked b l.id t;
-      sync = s;
-      data_is = ap (λ ss. data_of l.kind (pairs ss)) q ∙ short_data b l.id t l.kind ∙ fits l.kind s t (sync_read s p) k.leaf refl;
-      label_is = ap₂ (λ i n. label_with l.kind i n (Some s)) (id_is l.kind (pairs (said_of l)) l.id h.number id) m ∙ plain_label l r k h e;
+      good = subst (AreGood []) (sym q)
+          (full_good k.type (l.id == 0) l.id l.mw (sync_text s) k.characters (id_utf8 l.id (omega arith)) (mw_utf8 _ l.mw h.mw) (sync_utf8 s places y.opening_utf8 y.closing_utf8 y.own_utf8));
+      row = λ n. row_is (element_name l.kind) k.type ps l.kind v.rel v.property v.type (k.row n);
+      sourced = ap₂ (λ x z. not (is_some x) || is_some z) v.source v.edit;
+      marked = ap is_some v.edit;
+      told = record { sync = Some s; mw = l.mw };
+      data_is = if_false (has (codes "about") ps) _ _ (ap is_some v.about)
+          ∙ ap₂ both (ap (sync_fits l.kind) v.source ∙ sync_fits_is l.kind s (sync_text s) (sync_read s places) y.kind) (ap (mw_fits l.kind) v.mw ∙ mw_fits_is l.kind l.mw h.mw);
+      label_is = λ bs f. same_label l.kind l.mw (id_is l.kind ps l.id h.number (ap id_of_value v.id ∙ number_said_is l.id small)) (ap Some y.places ∙ sym e ∙ sym (k.placed l.ranges)) y.opening y.closing y.own f
+          (k.own ps v.type) (ap mark_of_value v.edit ∙ sym h.mark);
     }
 
-told : (l : Label) → IsElementKind l.kind → IsAround l → IsTold false l
-told l k h = with_places (λ o. l.ranges ≡ o → IsTold false l) (λ r p e. told_at l r k h p e) l.ranges h.places refl
-
-typed_at : (l : Label) (r : Ranges) → IsElementKind l.kind → IsAround l → l.ranges ≡ Some r → is_typed (pairs (said_of l)) ≡ false
-typed_at l r k h e = ap (λ ss. is_typed (pairs ss)) (said_short l r k h.attrs h.mw e) ∙ short_typed (l.id == 0) l.id (sync_text (inner_sync l r))
-
-typed : (l : Label) → IsElementKind l.kind → IsAround l → is_typed (pairs (said_of l)) ≡ false
-typed l k h = with_places (λ o. l.ranges ≡ o → is_typed (pairs (said_of l)) ≡ false) (λ r p e. typed_at l r k h e) l.ranges h.places refl
-
--- an element round its children
-pub around_read : (parent : Kind) (l : Label) → may_hold parent l.kind ≡ true → IsAround l → IsReadIn false parent l
-around_read parent l e h =
-    let k : IsNamedKind l.kind = held_kind parent l.kind e h.level in
-    record {
-      told = told l k.element h;
-      held = e;
-      row_is = if_false (is_typed (pairs (said_of l))) _ _ (typed l k.element h) ∙ k.named;
-    }
-
--- the body
-pub body_told : (l : Label) → l.kind ≡ kind.Body → IsAround l → IsTold false l
-body_told l e h = told l (subst IsElementKind (sym e) body_kind) h
-
-pub body_round : (l : Label) → l.kind ≡ kind.Body → writing l.kind ≡ RoundChildren
-body_round l e = ap writing e
+pub told : (l : Label) → IsElementKind l.kind l.attrs → IsElementLabel l → IsTold l
+told l k h = with_places (λ o. l.ranges ≡ o → IsTold l) (λ r p e. told_by l r (sync_of l r) k h p e (sync_is l r h.source) (said_full l r k e)) l.ranges h.places refl

@@ -1,7 +1,10 @@
 mod Cases
 pub mod Pieces
 pub mod Json
+pub mod Types
 pub mod Said
+pub mod Numbers
+pub mod Rows
 pub mod Labels
 pub mod Elements
 pub mod Fits

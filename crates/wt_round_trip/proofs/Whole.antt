@@ -1,11 +1,11 @@
 -- The page round the body, and the law.
-use Rattle.std.proofs.Common.{◌≡◌, ℕ, Option, Some, None, List, [], ◌∷◌, ◌++◌, map, refl, sym, ap, ap₂, ◌∙◌, append-nil, codes, arith, false}
-use Rattle.std.specs.Prelude.{Ok, ◌&&◌}
+use Rattle.std.proofs.Common.{◌≡◌, ℕ, Option, Some, None, List, [], ◌∷◌, ◌++◌, map, refl, sym, ap, ap₂, ◌∙◌, subst, append-nil, codes, arith}
+use Rattle.std.specs.Prelude.{Ok, ◌&&◌, if◌then◌else◌}
 use Rattle.std.specs.Str.{bytes_eq}
 use lib.Utf8.{encode}
 use Rattle.wt_tree.specs.declared.kind.Kind.TheVariants as kind
 use Rattle.wt_tree.specs.Tree.{Label, Tree, tree, Trees}
-use Rattle.wt_markup.specs.Elements.{element_name}
+use Rattle.wt_markup.specs.Elements.{writing, element_name}
 use Rattle.wt_markup.specs.Html.{written, html, html_of_all, frame_start, frame_end, html_text}
 use Rattle.wt_html_grammar.specs.Grammar.{plain, Attribute, slash, Element, element, void, none, child, spell, IsElement, Document, spell_document, IsDocument}
 use Rattle.wt_html_grammar.specs.Markup.{Pair, Markup, Markups, node, empty, more, meaning, Stands}
@@ -13,14 +13,16 @@ use Rattle.wt_html_grammar.specs.Events.{Building}
 use Rattle.wt_html_grammar.proofs.Steps.{if_true, if_false}
 use Rattle.wt_html_grammar.proofs.Reading.{well_read}
 use Rattle.wt_html_grammar.proofs.Telling.{stands_told}
-use Rattle.wt_fitting.specs.Rows.{data_of}
-use Rattle.wt_fitting.specs.Fit.{Found, label_for, fit_nodes, fit_body, body_of, fit}
+use Rattle.wt_fitting.specs.Data.{data_of}
+use Rattle.wt_fitting.specs.Rows.{shows_text}
+use Rattle.wt_fitting.specs.Fit.{Found, texts_in, label_for, fit_nodes, fit_body, body_of, fit}
 use Rattle.wt_fitting.specs.Unsourced.{is_marked, unsourced_body, unsourced}
 use Rattle.wt_fitting.specs.Read.{page, read_fit, read_tree, read_root, read_run, read}
-use Rattle.wt_round_trip.specs.Written.{unranged, unranged_all, AllWrittenIn, IsWritten}
+use Rattle.wt_round_trip.specs.Written.{unranged, unranged_all, IsShown, IsElementLabel, AllWrittenIn, IsWritten}
 use Rattle.wt_round_trip.proofs.Said.{said_of}
-use Rattle.wt_round_trip.proofs.Labels.{pairs, IsTold, body_told, body_round}
-use Rattle.wt_round_trip.proofs.Elements.{element_for, element_spelled, items_of, items_spelled, element_good, items_good, node_for, markups_of, element_stands, items_stand}
+use Rattle.wt_round_trip.proofs.Rows.{is_as_void, IsElementKind, body_is_kind}
+use Rattle.wt_round_trip.proofs.Labels.{pairs, IsTold, told, small_id}
+use Rattle.wt_round_trip.proofs.Elements.{element_for, attributes_spelled, element_spelled, items_of, items_spelled, element_good, items_good, node_for, markups_of, element_stands, items_stand}
 use Rattle.wt_round_trip.proofs.Fits.{texts_fit, fit_whole, items_fit, items_sourced}
 
 -- ---- the document
@@ -80,15 +82,17 @@ body_found : (l : Label) (m : Markups) → l.kind ≡ kind.Body → body_of (pag
 unfolding element_name
 body_found l m e = if_true (bytes_eq (codes "head") (codes "head") && bytes_eq (element_name l.kind) (codes "body")) _ _ (ap (λ k. bytes_eq (codes "head") (codes "head") && bytes_eq (element_name k) (codes "body")) e)
 
-body_fits : (l : Label) (ts : Trees) → l.kind ≡ kind.Body → IsTold false l → AllWrittenIn 2 kind.Body ts → fit (page_markup (node_for l (markups_of ts))) ≡ Ok (unranged (tree l ts))
-body_fits l ts e t h =
+body_fits : (l : Label) (ts : Trees) → l.kind ≡ kind.Body → IsElementLabel l → IsTold l → AllWrittenIn 2 kind.Body ts → fit (page_markup (node_for l (markups_of ts))) ≡ Ok (unranged (tree l ts))
+body_fits l ts e w t h =
     let ps : List Pair = pairs (said_of l) in
     let m : Markups = markups_of ts in
+    let s : [] ≡ l.shown = sym (subst (λ k. IsShown (shows_text k) l.shown) e w.shown) in
     ap fit_body (body_found l m e)
-    ∙ fit_whole 4 kind.Body ps t.sync m (unranged_all ts) (fit_nodes 5 kind.Body m) (ap (λ k. data_of k ps) (sym e) ∙ t.data_is) (texts_fit ts 2 kind.Body h) (items_fit ts 2 kind.Body 5 h)
-    ∙ ap (λ x. Ok (tree x (unranged_all ts))) (ap (λ k. label_for k ps (Some t.sync)) (sym e) ∙ t.label_is)
+    ∙ fit_whole 4 kind.Body ps t.told m (unranged_all ts) (fit_nodes 5 kind.Body m) (ap (λ k. data_of k ps) (sym e) ∙ t.data_is) (texts_fit ts 2 kind.Body h) (items_fit ts 2 kind.Body 5 refl h)
+    ∙ ap (λ x. Ok (tree x (unranged_all ts)))
+    (ap (λ k. label_for k ps t.told (texts_in m)) (sym e) ∙ t.label_is (texts_in m) (ap (λ k. if shows_text k then texts_in m else []) e ∙ s))
 
-body_sourced : (l : Label) (ts : Trees) → l.kind ≡ kind.Body → IsTold false l → AllWrittenIn 2 kind.Body ts → unsourced (page_markup (node_for l (markups_of ts))) ≡ None
+body_sourced : (l : Label) (ts : Trees) → l.kind ≡ kind.Body → IsTold l → AllWrittenIn 2 kind.Body ts → unsourced (page_markup (node_for l (markups_of ts))) ≡ None
 body_sourced l ts e t h =
     ap unsourced_body (body_found l (markups_of ts) e)
     ∙ if_false (is_marked (pairs (said_of l))) _ _ t.marked ∙ items_sourced ts 2 kind.Body 5 h
@@ -98,19 +102,20 @@ body_sourced l ts e t h =
 pub written_stands : (t : Tree) → IsWritten t → (m : Markup) × Stands (html_text t) m × (fit m ≡ Ok (unranged t)) × (unsourced m ≡ None)
 unfolding html_text
 written_stands (tree l ts) h =
-    let t : IsTold false l = body_told l h.0 h.1 in
+    let k : IsElementKind l.kind l.attrs = body_is_kind l h.0 h.1 in
+    let t : IsTold l = told l k h.1 in
     let e : Element = element_for l (items_of ts) in
     let same : html (tree l ts) ≡ spell e =
-    ap (λ w. written w l (html_of_all ts)) (body_round l h.0)
-    ∙ sym (element_spelled l (items_of ts) (html_of_all ts) t (items_spelled ts 2 kind.Body h.2)) in (
+    ap (λ j. written (writing j) l (html_of_all ts)) h.0
+    ∙ sym (element_spelled l (items_of ts) (html_of_all ts) (attributes_spelled l t (small_id l h.1)) (items_spelled ts 2 kind.Body h.2)) in (
       page_markup (node_for l (markups_of ts)),
       (
         document e,
-        document_good e (element_good l 1 (items_of ts) (omega arith) t (items_good ts 2 kind.Body h.2)),
+        document_good e (element_good l 1 (items_of ts) (omega arith) k (ap (λ j. is_as_void (writing j)) h.0) t (items_good ts 2 kind.Body h.2)),
         ap (λ x. frame_start ++ (x ++ frame_end)) same ∙ document_spelled e,
         document_stands e ∙ ap page_markup (element_stands l (items_of ts) (markups_of ts) t (items_stand ts 2 kind.Body [] h.2 tt)),
       ),
-      body_fits l ts h.0 t h.2,
+      body_fits l ts h.0 h.1 t h.2,
       body_sourced l ts h.0 t h.2,
     )
 

@@ -1,16 +1,21 @@
 -- The trees for which HTML is written: what each kind of node may be, and what is read of it again.
-use Rattle.std.specs.Prelude.{◌≡◌, ℕ, suc, ◌<◌, ◌^◌, ◌&&◌, Bool, true, false, nat_le, IsUtf8, Option, Some, None, List, [], if◌then◌else◌}
+use Rattle.std.specs.Prelude.{◌≡◌, ℕ, suc, ◌<◌, ◌^◌, ◌&&◌, ◌||◌, Bool, true, false, not, nat_le, IsUtf8, Option, Some, None, List, [], ◌∷◌, if◌then◌else◌}
+use Rattle.wt_tree.specs.declared.kind.AttrName.{AttrName}
+use Rattle.wt_tree.specs.declared.kind.AttrName.TheVariants as attr
 use Rattle.wt_tree.specs.declared.kind.Kind.{Kind}
 use Rattle.wt_tree.specs.declared.kind.Kind.TheVariants as kind
 use Rattle.wt_tree.specs.declared.kind.Mark.TheVariants as mark
 use Rattle.wt_tree.specs.declared.kind.Ranges.{Ranges}
-use Rattle.wt_tree.specs.Kinds.{is_numbered}
+use Rattle.wt_tree.specs.declared.node.DataMw.{DataMw}
+use Rattle.wt_tree.specs.declared.node.DataMw.TheVariants as mw
+use Rattle.wt_tree.specs.Kinds.{is_leaf, is_numbered}
 use Rattle.wt_tree.specs.Tree.{Label, Tree, tree, Trees, none, more, label}
 use Rattle.wt_markup.specs.declared.writing.Writing.{Writing}
-use Rattle.wt_markup.specs.declared.writing.Writing.TheVariants.{AsText, AsVoid, RoundCharacter, RoundChildren, Unwritten}
+use Rattle.wt_markup.specs.declared.writing.Writing.TheVariants.{AsText, Unwritten}
 use Rattle.wt_markup.specs.Elements.{writing}
+use Rattle.wt_fitting.specs.Data.{is_empty, is_island}
 use Rattle.wt_fitting.specs.Fit.{is_blank}
-use Rattle.wt_fitting.specs.Rows.{may_hold, holds_text, is_empty}
+use Rattle.wt_fitting.specs.Rows.{is_extension_type, is_include_type, may_hold, holds_text, shows_text}
 
 -- ---- what is read again
 
@@ -87,18 +92,62 @@ abbrev pub has_level : Kind → Bool
 has_level (kind.Heading n) = nat_le 1 n && nat_le n 6
 has_level k = true
 
--- an element round what it holds: its places, its number and its delimiters, and nothing else
-pub record IsAround (l : Label) : Type 0 where
+-- a leaf has its source and no delimiters; another element has delimiters and no source of its own
+pub record IsLeafSource (l : Label) : Type 0 where
+  pub own : IsUtf8 l.own
+  pub opening : l.opening ≡ []
+  pub closing : l.closing ≡ []
+
+pub record IsInnerSource (l : Label) : Type 0 where
+  pub own : l.own ≡ []
+  pub opening : IsUtf8 l.opening
+  pub closing : IsUtf8 l.closing
+
+abbrev pub HasSource : Bool → Label → Type 0
+HasSource true l = IsLeafSource l
+HasSource false l = IsInnerSource l
+
+-- an entity shows its character, and other elements nothing of their own
+abbrev pub IsShown : Bool → List ℕ → Type 0
+IsShown true bs = IsUtf8 bs
+IsShown false bs = bs ≡ []
+
+-- one attribute, a `typeof` that passes a test
+pub record IsTypeof (test : List ℕ → Bool) (xs : List (AttrName × List ℕ)) : Type 0 where
+  pub type : List ℕ
+  pub passes : test type ≡ true
+  pub alone : xs ≡ (attr.Typeof, type) ∷ []
+
+-- attributes of the node's own: an island tells its extension, and an include tag which it is
+abbrev pub HasAttributes : Kind → List (AttrName × List ℕ) → Type 0
+HasAttributes kind.Island xs = IsTypeof is_extension_type xs
+HasAttributes kind.Include xs = IsTypeof is_include_type xs
+HasAttributes k xs = xs ≡ []
+
+-- an island has the name and the inside of its extension tag, and other elements no data
+abbrev pub IsUtf8IfAny : Option (List ℕ) → Type 0
+IsUtf8IfAny None = Unit {0}
+IsUtf8IfAny (Some bs) = IsUtf8 bs
+
+abbrev pub IsExtension : Option DataMw → Type 0
+IsExtension None = ⊥
+IsExtension (Some (mw.Parts parts)) = ⊥
+IsExtension (Some (mw.Extension name body)) = IsUtf8 name × IsUtf8IfAny body
+
+abbrev pub HasData : Bool → Option DataMw → Type 0
+HasData true d = IsExtension d
+HasData false d = d ≡ None
+
+-- an element, by the tables above
+pub record IsElementLabel (l : Label) : Type 0 where
   pub level : has_level l.kind ≡ true
   pub number : IsNumber (is_numbered l.kind) l.id
   pub places : HasPlaces l.ranges
-  pub opening : IsUtf8 l.opening
-  pub closing : IsUtf8 l.closing
-  pub own : l.own ≡ []
-  pub shown : l.shown ≡ []
-  pub attrs : l.attrs ≡ []
+  pub source : HasSource (is_leaf l.kind) l
+  pub shown : IsShown (shows_text l.kind) l.shown
+  pub attrs : HasAttributes l.kind l.attrs
   pub mark : l.mark ≡ mark.Nothing
-  pub mw : l.mw ≡ None
+  pub mw : HasData (is_island l.kind) l.mw
 
 -- ---- trees
 
@@ -117,15 +166,12 @@ abbrev pub is_childless : Trees → Bool
 is_childless none = true
 is_childless (more t ts) = false
 
--- A node by how it is written, within k elements, the innermost of which has the kind `parent`: the
--- kinds that are read so far are written as text or round their children. HTML nests at most 200
--- elements.
+-- A node by how it is written, within k elements, the innermost of which has the kind `parent`. HTML
+-- nests at most 200 elements. No leaf has children.
 abbrev pub NodeIsWritten : Writing → ℕ → Kind → Label → Bool → Type 0 → Type 0
 NodeIsWritten AsText k parent l childless inside = IsTextIn parent l × (childless ≡ true)
-NodeIsWritten AsVoid k parent l childless inside = ⊥
-NodeIsWritten RoundCharacter k parent l childless inside = ⊥
-NodeIsWritten RoundChildren k parent l childless inside = (k < 200) × (may_hold parent l.kind ≡ true) × IsAround l × inside
 NodeIsWritten Unwritten k parent l childless inside = ⊥
+NodeIsWritten w k parent l childless inside = (k < 200) × (may_hold parent l.kind ≡ true) × IsElementLabel l × ((not (is_leaf l.kind) || childless) ≡ true) × inside
 
 -- No two texts stand next to each other: they would be read as one.
 abbrev mutual
@@ -138,4 +184,4 @@ abbrev mutual
 
 -- the tree of a page: a body, which stands within `html`
 abbrev pub IsWritten : Tree → Type 0
-IsWritten (tree l ts) = (l.kind ≡ kind.Body) × IsAround l × AllWrittenIn 2 kind.Body ts
+IsWritten (tree l ts) = (l.kind ≡ kind.Body) × IsElementLabel l × AllWrittenIn 2 kind.Body ts

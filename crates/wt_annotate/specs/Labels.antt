@@ -1,0 +1,121 @@
+-- What a node of the annotated tree has beside its children.
+use Rattle.std.specs.Prelude.{ℕ, ◌+◌, Bool, true, false, Option, Some, None, List, [], ◌∷◌, length, if◌then◌else◌}
+use Rattle.std.specs.List.{flat_map}
+use Rattle.wt_tree.specs.declared.kind.Kind.{Kind}
+use Rattle.wt_tree.specs.declared.kind.Kind.TheVariants as kind
+use Rattle.wt_tree.specs.declared.kind.Ranges.{Ranges}
+use Rattle.wt_tree.specs.declared.kind.AttrName.{AttrName}
+use Rattle.wt_tree.specs.declared.kind.Mark.TheVariants as marks
+use Rattle.wt_tree.specs.declared.kind.Showing.{Showing}
+use Rattle.wt_tree.specs.declared.kind.Showing.TheVariants.{Characters, Inside, Nothing, Element}
+use Rattle.wt_tree.specs.declared.node.DataMw.{DataMw}
+use Rattle.wt_tree.specs.Kinds.{is_leaf, is_numbered, showing}
+use Rattle.wt_tree.specs.Tree.{Label}
+use Rattle.wt_span.specs.Items.{Item, sources}
+use Rattle.wt_inline.specs.Carried.{shown_item, attrs_item, data_item}
+
+-- how many bytes items have
+abbrev pub width : List Item → ℕ
+width items = length (sources items)
+
+-- ---- numbers
+
+-- a node's number, where the next one is this; 0 where it has none
+abbrev pub number_of : Kind → ℕ → ℕ
+number_of k next = if is_numbered k then next else 0
+
+abbrev pub next_after : Kind → ℕ → ℕ
+next_after k next = if is_numbered k then next + 1 else next
+
+-- ---- ranges
+
+-- The open width of a leaf with so many bytes: of an element all, of what is written as text nothing, and of a group nothing.
+abbrev pub leaf_open : Kind → ℕ → ℕ
+leaf_open kind.Body n = n
+leaf_open kind.Para n = n
+leaf_open (kind.Heading l) n = n
+leaf_open kind.Rule n = n
+leaf_open kind.Ul n = n
+leaf_open kind.Ol n = n
+leaf_open kind.Dl n = n
+leaf_open kind.Li n = n
+leaf_open kind.Dt n = n
+leaf_open kind.Dd n = n
+leaf_open kind.Pre n = n
+leaf_open kind.Table n = n
+leaf_open kind.Tbody n = n
+leaf_open kind.Tr n = n
+leaf_open kind.Caption n = n
+leaf_open kind.Td n = n
+leaf_open kind.Th n = n
+leaf_open kind.Bold n = n
+leaf_open kind.Italic n = n
+leaf_open kind.WikiLink n = n
+leaf_open kind.ExtLink n = n
+leaf_open kind.Category n = n
+leaf_open (kind.Tag t) n = n
+leaf_open kind.Br n = n
+leaf_open kind.Entity n = n
+leaf_open kind.Nowiki n = n
+leaf_open kind.Island n = n
+leaf_open kind.Switch n = n
+leaf_open kind.Comment n = n
+leaf_open kind.Include n = n
+leaf_open kind.Skip n = n
+leaf_open kind.Sep n = 0
+leaf_open kind.Text n = 0
+leaf_open kind.Group n = 0
+leaf_open kind.Empty n = n
+
+abbrev pub open_width : Bool → Kind → List Item → List Item → ℕ
+open_width true k opening own = leaf_open k (width own)
+open_width false k opening own = width opening
+
+abbrev pub close_width : Bool → List Item → ℕ
+close_width true closing = 0
+close_width false closing = width closing
+
+-- ---- what a leaf alone has
+
+abbrev pub if_leaf : {A : Type 0} → Bool → List A → List A
+if_leaf true xs = xs
+if_leaf false xs = []
+
+abbrev pub if_inner : {A : Type 0} → Bool → List A → List A
+if_inner true xs = []
+if_inner false xs = xs
+
+abbrev pub shown_by : Showing → List Item → List ℕ
+shown_by Characters own = flat_map shown_item own
+shown_by Inside own = []
+shown_by Nothing own = []
+shown_by Element own = []
+
+-- an element that is a leaf is one item
+abbrev pub first_attrs : List Item → List (AttrName × List ℕ)
+first_attrs [] = []
+first_attrs (x ∷ xs) = attrs_item x
+
+abbrev pub first_data : List Item → Option DataMw
+first_data [] = None
+first_data (x ∷ xs) = data_item x
+
+abbrev pub data_by : Bool → List Item → Option DataMw
+data_by true own = first_data own
+data_by false own = None
+
+-- The label of a node of a kind that is a leaf or isn't, from this place on, whose number is the next one if it has one; `own`
+-- are all items that it holds.
+unfoldable pub label_at : ℕ → ℕ → Bool → Kind → List Item → List Item → List Item → Label
+label_at at next is k opening own closing = record {
+  kind = k;
+  id = number_of k next;
+  ranges = Some (record { start = at; end = at + width own; open_w = open_width is k opening own; close_w = close_width is closing });
+  opening = if_inner is (sources opening);
+  closing = if_inner is (sources closing);
+  own = if_leaf is (sources own);
+  shown = shown_by (showing k) own;
+  attrs = if_leaf is (first_attrs own);
+  mark = marks.Nothing;
+  mw = data_by is own;
+}

@@ -1,0 +1,80 @@
+-- Blocks: what the lines of one block are as a tree, and what stands before and after it.
+use Rattle.std.specs.Prelude.{ℕ, ◌+◌, List, [], ◌∷◌, ◌++◌, map, take, drop}
+use Rattle.std.specs.List.{flat_map, prefix_len}
+use Rattle.wt_tree.specs.declared.kind.Kind.TheVariants as kind
+use Rattle.wt_span.specs.Items.{Item, sign, is_mark}
+use Rattle.wt_lines.specs.Lines.{content}
+use Rattle.wt_inline.specs.declared.loose.Loose.TheVariants.{Text, Sep}
+use Rattle.wt_inline.specs.ItemTree.{ItemTree, inner, forest}
+use Rattle.wt_inline.specs.Parts.{Part, node, parts, children}
+use Rattle.wt_inline.specs.Inline.{inline_parts, inline_trees}
+use Rattle.wt_build.specs.declared.block.BlockKind.{BlockKind}
+use Rattle.wt_build.specs.declared.block.BlockKind.TheVariants.{Between, Heading, Para}
+use Rattle.wt_build.specs.declared.heading.HeadingParts.{HeadingParts}
+use Rattle.wt_build.specs.Headings.{heading_parts}
+use Rattle.wt_build.specs.Rows.{ending}
+
+abbrev pub joined : List (List Item) → List Item
+joined ls = flat_map (λ l. l) ls
+
+-- ---- a paragraph
+
+-- each line is read alone; the line breaks between them are text
+abbrev pub line_parts : List Item → List Part
+line_parts l = inline_parts (content l) ++ parts Text (ending l)
+
+unfoldable pub para : List (List Item) → ItemTree
+para ls = inner kind.Para [] (forest (children (flat_map line_parts ls))) []
+
+-- ---- a heading
+
+abbrev pub heading_by : HeadingParts → List Item → ItemTree
+heading_by h line =
+    inner (kind.Heading h.level) (take h.open_len line) (forest (inline_trees (take h.inside_len (drop h.open_len line)))) (drop h.inside_len (drop h.open_len line))
+
+-- of a line without its line break, from its first `=` on
+unfoldable pub heading : List Item → ItemTree
+heading line = heading_by (heading_parts (map sign line)) line
+
+-- ---- any block
+
+-- of lines from the first visible item on and without the last line break
+unfoldable pub block : BlockKind → List (List Item) → ItemTree
+block Between ls = para ls
+block Heading ls = heading (joined ls)
+block Para ls = para ls
+
+-- the marks before the first visible item of a line
+abbrev pub lead_len : List Item → ℕ
+lead_len l = prefix_len is_mark l
+
+abbrev pub lead : List (List Item) → List Item
+lead [] = []
+lead (l ∷ ls) = take (lead_len l) l
+
+abbrev pub without_lead : List (List Item) → List (List Item)
+without_lead [] = []
+without_lead (l ∷ ls) = drop (lead_len l) l ∷ ls
+
+-- the line break of the last line
+abbrev pub last_ending : List (List Item) → List Item
+last_ending [] = []
+last_ending (l ∷ []) = ending l
+last_ending (l ∷ m ∷ ls) = last_ending (m ∷ ls)
+
+abbrev pub without_ending : List (List Item) → List (List Item)
+without_ending [] = []
+without_ending (l ∷ []) = content l ∷ []
+without_ending (l ∷ m ∷ ls) = l ∷ without_ending (m ∷ ls)
+
+-- A block begins at its first visible item: the marks before it are no part of it, and neither is its last line break.
+abbrev pub around : BlockKind → List (List Item) → List Part
+around k ls =
+    let rest = without_lead ls in
+    parts Sep (lead ls) ++ (node (block k (without_ending rest)) ∷ parts Sep (last_ending rest))
+
+-- the parts that the lines of a block give
+abbrev pub parts_by : BlockKind → List (List Item) → List Part
+parts_by Between ls = parts Sep (joined ls)
+parts_by Heading ls = around Heading ls
+parts_by Para ls = around Para ls

@@ -1,0 +1,39 @@
+-- Where the two delimiters of a heading end, by the signs of its items: a mark has a sign of its own, so it parts a run.
+use Rattle.std.specs.Prelude.{ℕ, ◌+◌, ◌-◌, ◌/◌, min, List, length, take, drop, reverse, ◌==◌, if◌then◌else◌}
+use Rattle.std.specs.List.{prefix_len}
+use Rattle.wt_span.specs.Bytes.{is_blank, blank_len}
+use Rattle.wt_lines.specs.Kinds.{is_idle}
+use Rattle.wt_build.specs.declared.heading.HeadingParts.{HeadingParts}
+
+-- how many `=` the signs begin with
+abbrev pub equals : List ℕ → ℕ
+equals ss = prefix_len (λ s. s == 61) ss
+
+-- up to the last sign that is neither blank nor mark
+abbrev pub core : List ℕ → List ℕ
+core ss = take (length ss - prefix_len is_idle (reverse ss)) ss
+
+-- The level is the smaller of the two runs of `=`, and at most 6; of n `=` alone it is the half of n - 1, rounded down.
+abbrev pub level_of : List ℕ → ℕ
+level_of c =
+    if equals c == length c then min 6 ((length c - 1) / 2)
+    else min 6 (min (equals c) (equals (reverse c)))
+
+-- the open delimiter: that many `=`, and the blanks after them
+abbrev pub open_len : List ℕ → ℕ
+open_len c = level_of c + blank_len (drop (level_of c) c)
+
+-- signs without the blanks at their end, by their number
+abbrev pub trimmed_len : List ℕ → ℕ
+trimmed_len ss = length ss - blank_len (reverse ss)
+
+-- The level, and how many items the open delimiter has and how many stand between the delimiters. The close delimiter is
+-- the rest: the blanks before the last `=`, as many of these as the level, and all after them.
+unfoldable pub heading_parts : List ℕ → HeadingParts
+heading_parts ss =
+    let c = core ss in
+    record {
+      level = level_of c;
+      open_len = open_len c;
+      inside_len = trimmed_len (take (length c - level_of c - open_len c) (drop (open_len c) c));
+    }

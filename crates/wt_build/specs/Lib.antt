@@ -1,0 +1,4 @@
+pub mod Blocks
+pub mod Headings
+pub mod Meaning
+pub mod Rows

@@ -1,0 +1,3 @@
+mod Cases
+pub mod MadePieces
+pub mod PageLaws

@@ -1,0 +1,12 @@
+//! The items of a page: its characters, atoms and invisible marks, each with where it comes from.
+//! Pages without calls are read so far.
+#![tactic(auto)]
+
+mod laws;
+mod page;
+mod piece;
+#[cfg(test)]
+mod tests;
+
+pub use laws::whole_page;
+pub use page::page_items;

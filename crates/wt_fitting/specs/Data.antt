@@ -1,0 +1,70 @@
+-- What an element's `data-parsoid` and `data-mw` say, or that they are bad.
+use Rattle.std.specs.Prelude.{ℕ, ◌&&◌, Bool, true, false, not, is_some, Option, Some, None, Result, Ok, Err, List, [], ◌∷◌, codes, if◌then◌else◌}
+use Rattle.wt_tree.specs.declared.kind.Kind.{Kind}
+use Rattle.wt_tree.specs.declared.kind.Kind.TheVariants as kind
+use Rattle.wt_tree.specs.declared.node.DataMw.{DataMw}
+use Rattle.wt_tree.specs.declared.node.DataMw.TheVariants as mw
+use Rattle.wt_tree.specs.Kinds.{is_leaf, is_numbered}
+use Rattle.wt_datamw.specs.declared.sync.Sync.{Sync}
+use Rattle.wt_datamw.specs.declared.refusal.DataWhy.{DataWhy}
+use Rattle.wt_datamw.specs.SyncRead.{sync_told}
+use Rattle.wt_datamw.specs.MwRead.{mw_told}
+use Rattle.wt_html_grammar.specs.Markup.{Pair}
+use Rattle.wt_fitting.specs.Attributes.{value_of, has, id_of}
+
+abbrev pub is_empty : List ℕ → Bool
+is_empty [] = true
+is_empty (b ∷ bs) = false
+
+-- a leaf has a source and no delimiters; another node has no source of its own
+abbrev pub is_for : Kind → Sync → Bool
+is_for k s = if is_leaf k then is_some s.src && (is_empty s.opening && is_empty s.closing) else not (is_some s.src)
+
+abbrev pub sync_for : Kind → Result Sync DataWhy → Option Sync
+sync_for k (Err w) = None
+sync_for k (Ok s) = if is_for k s then Some s else None
+
+abbrev pub some_sync : Option Sync → Option (Option Sync)
+some_sync None = None
+some_sync (Some s) = Some (Some s)
+
+-- what `data-parsoid` says, where it is there; None where it is bad
+abbrev pub sync_fits : Kind → Option (List ℕ) → Option (Option Sync)
+sync_fits k None = Some None
+sync_fits k (Some v) = some_sync (sync_for k (sync_told v))
+
+-- an island of an extension has the data of one; elsewhere what `data-mw` says counts for nothing
+abbrev pub is_island : Kind → Bool
+is_island kind.Island = true
+is_island k = false
+
+abbrev pub extension_data : DataMw → Option (Option DataMw)
+extension_data (mw.Extension name body) = Some (Some (mw.Extension name body))
+extension_data (mw.Parts parts) = None
+
+abbrev pub mw_for : Kind → Result DataMw DataWhy → Option (Option DataMw)
+mw_for k (Err w) = None
+mw_for k (Ok d) = if is_island k then extension_data d else Some None
+
+abbrev pub mw_fits : Kind → Option (List ℕ) → Option (Option DataMw)
+mw_fits k None = if is_island k then None else Some None
+mw_fits k (Some v) = mw_for k (mw_told v)
+
+-- both of a node
+pub record Data : Type 0 where
+  pub sync : Option Sync
+  pub mw : Option DataMw
+
+abbrev pub both : Option (Option Sync) → Option (Option DataMw) → Option Data
+both (Some s) (Some d) = Some (record { sync = s; mw = d })
+both s d = None
+
+-- the data of a node that stands in no group; None where it is bad
+abbrev pub data_of : Kind → List Pair → Option Data
+data_of k ps =
+    if has (codes "about") ps then None
+    else both (sync_fits k (value_of (codes "data-parsoid") ps)) (mw_fits k (value_of (codes "data-mw") ps))
+
+-- the number, of kinds that have one
+abbrev pub id_for : Kind → List Pair → ℕ
+id_for k ps = if is_numbered k then id_of ps else 0

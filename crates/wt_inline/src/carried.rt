@@ -1,0 +1,159 @@
+//! What an element has beside its source: characters that it shows, attributes, and the data of an
+//! extension.
+
+ghost use Rattle.std.specs.Prelude.{◌≡◌, ◌++◌, ◌∷◌, [], OnOk, IfOk, encode_utf8};
+ghost use Rattle.std.specs.List.{flat_map};
+ghost use Rattle.std.specs.Str.{IsAscii};
+ghost use Rattle.wt_span.specs.Bytes.{lower};
+ghost use Rattle.wt_span.specs.Slice.{bytes_of};
+ghost use Rattle.wt_span.specs.Tags.{opening_tag, closing_tag};
+ghost use Rattle.wt_span.specs.Items.{items_of};
+ghost use Rattle.wt_tree.specs.View.{attrs_of};
+ghost use Rattle.wt_inline.specs.RawTag.{name_of};
+ghost use Rattle.wt_inline.specs.Carried.{shown_item, include_name, include_typeof, extension_typeof, extension_data, typeof, attrs_whole, data_whole};
+
+use crate::raw::{RawTag, closes_itself, opening_name};
+use std::alloc::Global;
+use wt_lex::{closing_tag, is_same_name, opening_tag};
+use wt_span::{Form, List, NoMemory, Piece, Str, Text};
+use wt_tree::{Attr, AttrName, DataMw};
+
+fn push_char(out: &mut Str, character: char) -> Result<(), NoMemory>
+    ensures { OnOk result (out.new ≡ out.old ++ encode_utf8 character) }
+{
+    let mut bytes = [0_u8; 4];
+    let encoded = character.encode_utf8(&mut bytes);
+    out.push_str(encoded)?;
+    Ok(())
+}
+
+/// Appends what a piece shows: characters themselves, and an entity the character that it stands
+/// for; anything else shows nothing.
+pub fn push_shown(out: &mut Str, piece: &Piece<'_>) -> Result<(), NoMemory>
+    ensures { OnOk result (out.new ≡ out.old ++ flat_map shown_item (items_of piece.now)) }
+{
+    match piece.form {
+        Form::Chars => out.push_str(piece.text.as_str()),
+        Form::Entity(character) => push_char(out, character),
+        _ => Ok(()),
+    }
+}
+
+/// One attribute, with the value of `typeof` in two parts.
+fn typeof_attr(alloc: Global, front: &str, back: &str) -> Result<List<Attr>, NoMemory>
+    ensures { IfOk result (λ l. attrs_of l ≡ typeof (front.now ++ back.now)) }
+{
+    let mut value = Str::copy_of(alloc, front)?;
+    value.push_str(back)?;
+    let mut attrs = List::new(alloc);
+    attrs.push(Attr {
+        name: AttrName::Typeof,
+        value,
+    })?;
+    Ok(attrs)
+}
+
+/// The name of a tag, in lower case.
+fn lower_name(alloc: Global, bytes: &[u8]) -> Result<Str, NoMemory>
+    ensures { IfOk result (λ s. s ≡ name_of (opening_tag bytes.now)) }
+{
+    let name = name_text(bytes);
+    let lower = name.to_ascii_lowercase(alloc)?;
+    Ok(Str::from_string(lower))
+}
+
+/// The name of the opening tag that begins a text, as it is written.
+fn name_text(bytes: &[u8]) -> &str
+    ensures { lower result.now ≡ name_of (opening_tag bytes.entry.now) }
+{
+    ascii_text(opening_name(bytes))
+}
+
+fn ascii_text(bytes: &[u8]) -> &str
+    requires { IsAscii bytes.now }
+    ensures { result.now ≡ bytes.entry.now }
+{
+    match str::from_utf8(bytes) {
+        Ok(text) => text,
+        Err(_) => unreachable!(),
+    }
+}
+
+/// What an include tag of this name is.
+fn include_name(name: &[u8]) -> &'static str
+    ensures { result.now ≡ include_name (lower name.now) }
+{
+    if is_same_name(name, b"noinclude") {
+        "mw:Includes/NoInclude"
+    } else {
+        "mw:Includes/OnlyInclude"
+    }
+}
+
+/// The name of the closing tag that begins a text; empty where none does.
+fn closing_name(bytes: &[u8]) -> &[u8]
+    ensures { lower result.now ≡ name_of (closing_tag bytes.entry.now) }
+{
+    match closing_tag(bytes) {
+        Some(tag) => tag.name,
+        None => &[],
+    }
+}
+
+/// The attributes of an include tag that stands by itself.
+fn include_attrs(alloc: Global, bytes: &[u8]) -> Result<List<Attr>, NoMemory>
+    ensures { IfOk result (λ l. attrs_of l ≡ typeof (include_typeof (opening_tag bytes.now) (closing_tag bytes.now))) }
+{
+    match opening_tag(bytes) {
+        Some(tag) => typeof_attr(alloc, include_name(tag.name), ""),
+        None => typeof_attr(alloc, include_name(closing_name(bytes)), "/End"),
+    }
+}
+
+fn extension_attrs(alloc: Global, bytes: &[u8]) -> Result<List<Attr>, NoMemory>
+    ensures { IfOk result (λ l. attrs_of l ≡ typeof (extension_typeof (name_of (opening_tag bytes.now)))) }
+{
+    let name = lower_name(alloc, bytes)?;
+    typeof_attr(alloc, "mw:Extension/", name.as_str())
+}
+
+/// The attributes of a piece that is one item, beside those that the kind of its node tells.
+pub fn attrs<'a>(alloc: Global, piece: &Piece<'a>) -> Result<List<Attr>, NoMemory>
+    ensures { IfOk result (λ l. attrs_of l ≡ attrs_whole piece.now.form (bytes_of piece.now.text)) }
+{
+    let bytes = piece.text.as_str().as_bytes();
+    match piece.form {
+        Form::Extension => extension_attrs(alloc, bytes),
+        Form::Function => typeof_attr(alloc, "mw:Placeholder", ""),
+        Form::Include => include_attrs(alloc, bytes),
+        Form::Hidden => typeof_attr(alloc, "mw:Includes/IncludeOnly", ""),
+        _ => Ok(List::new(alloc)),
+    }
+}
+
+/// The data of an extension with this source.
+fn extension_data(alloc: Global, text: Text<'_>) -> Result<DataMw, NoMemory>
+    ensures { IfOk result (λ d. d ≡ extension_data (bytes_of text.entry)) }
+{
+    let bytes = text.as_str().as_bytes();
+    let name = lower_name(alloc, bytes)?;
+    if closes_itself(bytes) {
+        return Ok(DataMw::Extension { name, body: None });
+    }
+    let raw = RawTag::of(text);
+    let body = Str::copy_of(alloc, raw.inside.as_str())?;
+    Ok(DataMw::Extension {
+        name,
+        body: Some(body),
+    })
+}
+
+/// The data of a piece that is an extension; any other has none.
+pub fn data_mw(alloc: Global, piece: &Piece<'_>) -> Result<Option<DataMw>, NoMemory>
+    ensures { IfOk result (λ d. d ≡ data_whole piece.now.form (bytes_of piece.now.text)) }
+{
+    match piece.form {
+        Form::Extension => Ok(Some(extension_data(alloc, piece.text)?)),
+        _ => Ok(None),
+    }
+}

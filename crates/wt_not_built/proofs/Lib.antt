@@ -1,0 +1,4 @@
+mod Cases
+pub mod DashLaws
+pub mod PlaceLaws
+pub mod ReadingLaws

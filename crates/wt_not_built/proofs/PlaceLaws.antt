@@ -1,0 +1,70 @@
+-- What is found from the left is the smallest place.
+use mathlib.Core.List.{reverse_aux}
+use Rattle.std.proofs.Common.{◌≡◌, ℕ, zero, suc, ◌+◌, ◌<◌, Bool, true, false, Option, Some, None, List, [], ◌∷◌, length, take, drop, refl, sym, ap, ◌∙◌, subst, arith, length-append}
+use Rattle.std.specs.Prelude.{option_map, MatchOption, if◌then◌else◌}
+use Rattle.wt_span.specs.Items.{Item, source, sources}
+use Rattle.wt_expand.specs.PageItems.{page_items}
+use Rattle.wt_not_built.specs.Unbuilt.{is_unbuilt, is_front, is_front_after, IsBuilt, IsFirstUnbuilt}
+use Rattle.wt_not_built.specs.FirstPlace.{first_from}
+
+-- the same behind other items, the nearest first
+abbrev at_from : List Item → List Item → ℕ → Bool
+at_from before items k = is_unbuilt (is_front (reverse_aux (take k items) before)) (drop k items)
+
+record FirstFrom (before items : List Item) (place : ℕ) : Type 0 where
+  item : ℕ
+  within : item < length items
+  here : at_from before items item ≡ true
+  earlier : (k : ℕ) → k < item → at_from before items k ≡ false
+  at : place ≡ length (sources (take item items))
+
+NoneFrom : List Item → List Item → Type 0
+NoneFrom before items = (k : ℕ) → k < length items → at_from before items k ≡ false
+
+first_here : (before xs : List Item) (x : Item) → is_unbuilt (is_front before) (x ∷ xs) ≡ true → FirstFrom before (x ∷ xs) 0
+first_here before xs x e = record { item = 0; within = omega arith; here = e; earlier = λ k lt. absurd (omega arith); at = refl }
+
+first_later : (before xs : List Item) (x : Item) (n : ℕ) → is_unbuilt (is_front before) (x ∷ xs) ≡ false → FirstFrom (x ∷ before) xs n → FirstFrom before (x ∷ xs) (length (source x) + n)
+first_later before xs x n e first = record {
+  item = suc first.item;
+  within = omega (arith, first.within);
+  here = first.here;
+  earlier = earlier;
+  at = ap (λ m. length (source x) + m) first.at ∙ sym (length-append (source x) (sources (take first.item xs)));
+}
+  where
+    earlier : (k : ℕ) → k < suc first.item → at_from before (x ∷ xs) k ≡ false
+    earlier zero lt = e
+    earlier (suc k) lt = first.earlier k (omega arith)
+
+abbrev Found : List Item → List Item → Option ℕ → Type 0
+Found before items r = MatchOption r (NoneFrom before items) (λ n. FirstFrom before items n)
+
+none_later : (before xs : List Item) (x : Item) → is_unbuilt (is_front before) (x ∷ xs) ≡ false → NoneFrom (x ∷ before) xs → NoneFrom before (x ∷ xs)
+unfolding NoneFrom
+none_later before xs x e rest zero lt = e
+none_later before xs x e rest (suc k) lt = rest k (omega arith)
+
+found_by : (before xs : List Item) (x : Item) (t : Bool) (o : Option ℕ) → is_unbuilt (is_front before) (x ∷ xs) ≡ t → Found (x ∷ before) xs o
+    → Found before (x ∷ xs) (if t then Some 0 else option_map (λ n. length (source x) + n) o)
+found_by before xs x true o e rest = first_here before xs x e
+found_by before xs x false None e rest = none_later before xs x e rest
+found_by before xs x false (Some n) e rest = first_later before xs x n e rest
+
+found : (before xs : List Item) → Found before xs (first_from (is_front before) xs)
+unfolding NoneFrom
+found before [] = λ k lt. absurd (omega arith)
+found before (x ∷ xs) = found_by before xs x (is_unbuilt (is_front before) (x ∷ xs)) (first_from (is_front_after (is_front before) x) xs) refl (found (x ∷ before) xs)
+
+page_first : (page : List ℕ) (n : ℕ) → FirstFrom [] (page_items page) n → IsFirstUnbuilt page n
+page_first page n first = record { item = first.item; within = first.within; here = first.here; before = first.earlier; at = first.at }
+
+page_found : (page : List ℕ) (o : Option ℕ) → Found [] (page_items page) o → MatchOption o (IsBuilt page) (λ n. IsFirstUnbuilt page n)
+unfolding NoneFrom
+page_found page None h = h
+page_found page (Some n) h = page_first page n h
+
+pub smallest : (page : List ℕ) (o : Option ℕ) → o ≡ first_from true (page_items page) → MatchOption o (IsBuilt page) (λ n. IsFirstUnbuilt page n)
+smallest page o e =
+    let P : Option ℕ → Type 0 = λ r. MatchOption r (IsBuilt page) (λ n. IsFirstUnbuilt page n) in
+    subst P (sym e) (page_found page (first_from true (page_items page)) (found [] (page_items page)))

@@ -1,0 +1,3 @@
+pub mod FirstPlace
+pub mod TagNames
+pub mod Unbuilt

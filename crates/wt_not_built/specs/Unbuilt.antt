@@ -1,0 +1,56 @@
+-- The forms that aren't built yet, by the items of a page: links, calls and tables by their signs, apostrophes, signs of
+-- lists, switches, tags, and lines that begin with a space or a rule.
+use Rattle.std.specs.Prelude.{◌≡◌, ℕ, zero, suc, ◌<◌, ◌==◌, ◌&&◌, ◌||◌, Bool, true, false, List, [], ◌∷◌, length, take, drop, reverse, codes}
+use Rattle.std.specs.List.{list_any}
+use Rattle.wt_span.specs.Bytes.{is_break}
+use Rattle.wt_span.specs.Items.{Item, char, whole, sources, is_mark, is_mark_form, is_char_in}
+use Rattle.wt_expand.specs.PageItems.{page_items}
+use Rattle.wt_not_built.specs.TagNames.{begins_tag}
+
+-- a character with which a form begins wherever it stands
+abbrev pub is_sign : ℕ → Bool
+is_sign b = list_any (λ sign. sign == b) (codes "{['*#:;|!_")
+
+-- the first visible items are so many `-`
+abbrev pub begins_dashes : ℕ → List Item → Bool
+begins_dashes zero xs = true
+begins_dashes (suc n) [] = false
+begins_dashes (suc n) (char o b ∷ xs) = b == 45 && begins_dashes n xs
+begins_dashes (suc n) (whole f o bs ∷ xs) = is_mark_form f && begins_dashes (suc n) xs
+
+-- a form begins with this character wherever it stands: it is a sign, or the `<` of a tag
+abbrev pub begins_anywhere : ℕ → List ℕ → Bool
+begins_anywhere b text = is_sign b || (b == 60 && begins_tag text)
+
+-- A form begins with the first of these items: one that may stand anywhere; or, where it is the first visible item of its
+-- line, a space or the first of four `-`.
+abbrev pub is_unbuilt : Bool → List Item → Bool
+is_unbuilt first [] = false
+is_unbuilt first (whole f o bs ∷ xs) = false
+is_unbuilt first (char o b ∷ xs) = begins_anywhere b (b ∷ sources xs) || (first && (b == 32 || begins_dashes 4 (char o b ∷ xs)))
+
+-- ---- by places
+
+-- whether no visible item stands between the line break before and what comes after this item
+abbrev pub is_front_after : Bool → Item → Bool
+is_front_after front x = is_char_in is_break x || (is_mark x && front)
+
+-- the same after these items, of which the last stands first
+abbrev pub is_front : List Item → Bool
+is_front [] = true
+is_front (x ∷ before) = is_front_after (is_front before) x
+
+-- a form that isn't built begins with the item of this number, counted from 0
+abbrev pub is_unbuilt_at : List Item → ℕ → Bool
+is_unbuilt_at items k = is_unbuilt (is_front (reverse (take k items))) (drop k items)
+
+abbrev pub IsBuilt : List ℕ → Type 0
+IsBuilt page = (k : ℕ) → k < length (page_items page) → is_unbuilt_at (page_items page) k ≡ false
+
+-- the smallest place, in bytes, of a form that isn't built
+pub record IsFirstUnbuilt (page : List ℕ) (place : ℕ) : Type 0 where
+  pub item : ℕ
+  pub within : item < length (page_items page)
+  pub here : is_unbuilt_at (page_items page) item ≡ true
+  pub before : (k : ℕ) → k < item → is_unbuilt_at (page_items page) k ≡ false
+  pub at : place ≡ length (sources (take item (page_items page)))

@@ -1,0 +1,4 @@
+pub mod TextItems
+pub mod OfPage
+pub mod Parts
+pub mod Forms

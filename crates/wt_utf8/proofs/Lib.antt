@@ -1,0 +1,3 @@
+mod Cases
+pub mod Characters
+pub mod PlaceLaws

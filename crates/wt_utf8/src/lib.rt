@@ -1,0 +1,11 @@
+//! Where bytes stop being UTF-8: exactly the length of their longest prefix that begins a text.
+#![tactic(auto)]
+
+mod character;
+mod laws;
+mod place;
+#[cfg(test)]
+mod tests;
+
+pub use laws::one_end;
+pub use place::not_utf8_place;
