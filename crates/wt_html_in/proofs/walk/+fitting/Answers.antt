@@ -30,7 +30,11 @@ node-returns-in_err-children-in-Element t c =
     c.begin.ensures.passed c.in_err-children-in-Element.ensures)
 
 pub node-returns-in_err-node-in-Element : goal.node-returns-in_err-node-in-Element
-node-returns-in_err-node-in-Element t c = node_memory c.args.walk.now c.nodes.new.walk c.args.outer (view_content c.args.content) _ (search rules)
+node-returns-in_err-node-in-Element t c =
+    let e = c.in_err-node-in-Element.field-0.0 in
+    let r : c.from_residual-in_err-node-in-Element.result ≡ Err e = search rules in
+    node_at c.args.walk.now c.nodes.new.walk c.args.outer (view_content c.args.content) (view_content c.args.content) c.from_residual-in_err-node-in-Element.result (Err e) refl r
+    (node_memory c.args.walk.now c.nodes.new.walk c.args.outer (view_content c.args.content) e c.in_err-node-in-Element.ensures.memory)
 
 pub node-returns-in_ok-node-in-Element : goal.node-returns-in_ok-node-in-Element
 node-returns-in_ok-node-in-Element t c =
