@@ -10,7 +10,8 @@ const PAGE: &str =
     "<html><body id=\"mw1\">\n<p id=\"mw2\" data-parsoid='{\"dsr\":[1,7,0,0]}'>a &lt; b</p></body></html>";
 
 /// A page of a paragraph with an entity, nowiki, an extension and a comment, and an include tag.
-const FORMS: &str = r#"<html><body><p data-parsoid='{"dsr":[0,48,0,0]}'><span typeof="mw:Entity" id="mw1" data-parsoid='{"dsr":[0,4,4,0],"src":"&amp;lt;"}'>&lt;</span><span typeof="mw:Nowiki" data-parsoid='{"dsr":[4,23,8,9],"o":"&lt;nowiki>","c":"&lt;/nowiki>"}'>[[</span><span typeof="mw:Extension/ref" id="mw2" data-mw='{"name":"ref","body":{"extsrc":"a"}}' data-parsoid='{"dsr":[23,35,12,0],"src":"&lt;ref>a&lt;/ref>"}'></span><meta typeof="mw:Comment" data-parsoid='{"dsr":[35,43,8,0],"src":"&lt;!--b-->"}'/></p><meta typeof="mw:Includes/NoInclude" id="mw3" data-parsoid='{"dsr":[43,54,11,0],"src":"&lt;noinclude>"}'/></body></html>"#;
+const FORMS: &str =
+    r#"<html><body><p data-parsoid='{"dsr":[0,48,0,0]}'><span typeof="mw:Entity" id="mw1" data-parsoid='{"dsr":[0,4,4,0],"src":"&amp;lt;"}'>&lt;</span><span typeof="mw:Nowiki" data-parsoid='{"dsr":[4,23,8,9],"o":"&lt;nowiki>","c":"&lt;/nowiki>"}'>[[</span><span typeof="mw:Extension/ref" id="mw2" data-mw='{"name":"ref","body":{"extsrc":"a"}}' data-parsoid='{"dsr":[23,35,12,0],"src":"&lt;ref>a&lt;/ref>"}'></span><meta typeof="mw:Comment" data-parsoid='{"dsr":[35,43,8,0],"src":"&lt;!--b-->"}'/></p><meta typeof="mw:Includes/NoInclude" id="mw3" data-parsoid='{"dsr":[43,54,11,0],"src":"&lt;noinclude>"}'/></body></html>"#;
 
 /// What a short input is.
 fn read_short<'a>(
@@ -48,7 +49,10 @@ fn source_of_a_paragraph(rt: HostRuntime) -> Result<(), Fail> {
 #[test]
 fn source_of_forms(rt: HostRuntime) -> Result<(), Fail> {
     let text = source(rt.alloc(), FORMS.as_bytes())?;
-    assert_eq!(rt; text.as_str(), "&lt;<nowiki>[[</nowiki><ref>a</ref><!--b--><noinclude>");
+    assert_eq!(rt;
+        text.as_str(),
+        "&lt;<nowiki>[[</nowiki><ref>a</ref><!--b--><noinclude>"
+    );
     Ok(())
 }
 
