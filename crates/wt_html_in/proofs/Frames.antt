@@ -12,7 +12,7 @@ use Rattle.wt_html_elements.specs.declared.content.Content.{Content}
 use Rattle.wt_html_elements.specs.Built.{view_content, pairs, views as markups}
 use Rattle.wt_html_grammar.specs.Events.{append}
 use Rattle.wt_html_in.specs.declared.frame.Found.{Found}
-use Rattle.wt_fitting.specs.Fit.{with_children, text_fits, elements, elements_of_all, fit_as, fit_nodes, elements_in, body_in, body_of, Found as FoundBody}
+use Rattle.wt_fitting.specs.Fit.{with_children, elements, elements_of_all, fit_as, fit_nodes, elements_in, body_in, body_of, Found as FoundBody}
 use Rattle.wt_fitting.specs.Unsourced.{is_marked, unsourced_nodes}
 use Rattle.wt_html_in.specs.Texts.{are_utf8_values, is_utf8_markup, are_utf8_markups}
 use Rattle.wt_html_in.specs.declared.refusal.FitFault.{FitFault}
@@ -120,7 +120,7 @@ found_sound (node name ps c) f e u = root_sound (is_root name ps) c f e (and_rig
 -- ---- the page of a body
 
 abbrev pub Bodied : ℕ → List Pair → Markups → Result Head FitFault → Type 0
-Bodied n ps c r = HeadFits (λ inside. fit_as n kind.Body ps (text_fits kind.Body c) (inside kind.Body)) r
+Bodied n ps c r = HeadFits (λ inside. fit_as n kind.Body ps c (inside kind.Body)) r
 
 pub bodied_at : (n : ℕ) (ps qs : List Pair) (xs ys : List Content) (r : Result Head FitFault) → ps ≡ qs → xs ≡ ys → Bodied n ps (markups xs) r → Bodied n qs (markups ys) r
 bodied_at n ps qs xs ys r d e h = rw (sym d, sym e) h

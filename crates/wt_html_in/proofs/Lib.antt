@@ -1,4 +1,6 @@
 pub mod Values
+pub mod Labels
+pub mod Joining
 pub mod Walking
 pub mod Frames
 pub mod Standing

@@ -3,10 +3,12 @@ use Rattle.std.proofs.Common.{◌≡◌, ℕ, Bool, true, false, Option, Some, N
 use Rattle.std.specs.Prelude.{◌&&◌, if◌then◌else◌}
 use Rattle.std.specs.Str.{bytes_eq, is_utf8}
 use Rattle.wt_tree.specs.declared.kind.Kind.{Kind}
+use Rattle.wt_tree.specs.declared.node.DataMw.{DataMw}
+use Rattle.wt_datamw.specs.declared.sync.Sync.{Sync}
 use Rattle.wt_html_grammar.specs.Markup.{Pair}
-use Rattle.wt_html_grammar.proofs.Steps.{if_true, if_false}
+use Rattle.wt_html_grammar.proofs.Steps.{if_false}
 use Rattle.wt_fitting.specs.Attributes.{value_of, has}
-use Rattle.wt_fitting.specs.Rows.{mw_fits, sync_fits, data_of}
+use Rattle.wt_fitting.specs.Data.{mw_fits, sync_fits, both, data_of}
 use Rattle.wt_html_in.specs.Texts.{are_utf8_values}
 
 pub and_left : (a b : Bool) → (a && b) ≡ true → a ≡ true
@@ -29,11 +31,11 @@ value_utf8 name (p ∷ ps) v h e =
     picked (bytes_eq p.0 name) p.1 (value_of name ps) v (and_left (is_utf8 p.1) (are_utf8_values ps) h)
     (λ u f. value_utf8 name ps u (and_right (is_utf8 p.1) (are_utf8_values ps) h) f) e
 
--- good data of an element that stands in no group
-pub data_told : (k : Kind) (ps : List Pair) (a m : Bool) (v w : Option (List ℕ)) → a ≡ has (codes "about") ps → a ≡ false
-    → m ≡ mw_fits v → m ≡ true → v ≡ value_of (codes "data-mw") ps → w ≡ value_of (codes "data-parsoid") ps → sync_fits k w ≡ data_of k ps
-data_told k ps a m v w ha fa hm tm hv hw =
-    ap (sync_fits k) hw
-    ∙ sym (if_true (mw_fits (value_of (codes "data-mw") ps)) (sync_fits k (value_of (codes "data-parsoid") ps)) None (ap mw_fits (sym hv) ∙ sym hm ∙ tm))
-    ∙ sym (if_false (has (codes "about") ps) None
-    (if mw_fits (value_of (codes "data-mw") ps) then sync_fits k (value_of (codes "data-parsoid") ps) else None) (sym ha ∙ fa))
+-- the data of an element that stands in no group
+pub data_told : (k : Kind) (ps : List Pair) (a : Bool) (s : Option (Option Sync)) (m : Option (Option DataMw)) (v w : Option (List ℕ))
+    → a ≡ has (codes "about") ps → a ≡ false → s ≡ sync_fits k v → v ≡ value_of (codes "data-parsoid") ps → m ≡ mw_fits k w → w ≡ value_of (codes "data-mw") ps
+    → both s m ≡ data_of k ps
+data_told k ps a s m v w ha fa hs hv hm hw =
+    ap (λ x. both x m) (hs ∙ ap (sync_fits k) hv)
+    ∙ ap (both (sync_fits k (value_of (codes "data-parsoid") ps))) (hm ∙ ap (mw_fits k) hw)
+    ∙ sym (if_false (has (codes "about") ps) None (both (sync_fits k (value_of (codes "data-parsoid") ps)) (mw_fits k (value_of (codes "data-mw") ps))) (sym ha ∙ fa))

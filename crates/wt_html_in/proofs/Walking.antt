@@ -1,7 +1,7 @@
 -- A walk over elements, one after another.
 use Rattle.std.proofs.Common.{◌≡◌, ℕ, suc, ◌+◌, ◌<◌, ◌^◌, Bool, true, false, Option, Some, None, Result, Ok, Err, List, [], ◌∷◌, ◌++◌, refl, sym, ap, ◌∙◌, arith, subst}
-use Rattle.std.specs.Prelude.{if◌then◌else◌, IfOk, IfErr, length}
-use Rattle.std.specs.Option.{option_or}
+use Rattle.std.specs.Prelude.{if◌then◌else◌, length}
+use Rattle.std.specs.Option.{option_or, option_map}
 use Rattle.wt_tree.specs.declared.kind.Kind.{Kind}
 use Rattle.wt_tree.specs.Tree.{tree, Trees, none, more as one_more}
 use Rattle.wt_tree.specs.View.{view, views}
@@ -10,14 +10,14 @@ use Rattle.wt_html_grammar.specs.Markup.{Pair, Markup, Markups, node, empty, mor
 use Rattle.wt_html_elements.specs.declared.content.Content.{Content}
 use Rattle.wt_html_elements.specs.Built.{views as markups}
 use Rattle.wt_fitting.specs.Rows.{row}
-use Rattle.wt_fitting.specs.Fit.{Misfit, onto, onto_told, with_children, text_fits, elements, elements_of_all, fit_row, fit_node, fit_nodes}
+use Rattle.wt_fitting.specs.Fit.{Misfit, onto, onto_told, with_children, one_tree, elements, elements_of_all, fit_row, fit_node, fit_nodes}
 use Rattle.wt_fitting.specs.Unsourced.{is_unsourced, unsourced_node, unsourced_nodes}
 use Rattle.wt_html_in.specs.Texts.{is_utf8_markup, are_utf8_markups}
 use Rattle.wt_html_in.specs.declared.refusal.FitFault.{FitFault}
 use Rattle.wt_html_in.specs.declared.refusal.FitFault.TheVariants as faults
 use Rattle.wt_html_in.specs.declared.head.Head.{Head}
 use Rattle.wt_html_in.specs.declared.walk.Walk.{Walk}
-use Rattle.wt_html_in.specs.Fits.{label_of_head, HeadFits, unsourced_here, Passed, FitsNode, FitsNodes}
+use Rattle.wt_html_in.specs.Fits.{label_of_head, RowFits, listed, unsourced_here, Passed, FitsNode, FitsNodes}
 use Rattle.wt_html_in.proofs.Values.{and_right}
 
 -- nodes that were made, before what is still to come
@@ -36,6 +36,14 @@ ontos_ok (one_more t ts) = ap (onto t) (ontos_ok ts)
 ontos_err : (ts : Trees) (e : Misfit) → ontos ts (Err e) ≡ Err e
 ontos_err none e = refl
 ontos_err (one_more t ts) e = ap (onto t) (ontos_err ts e)
+
+append_none : (ns : List Node) → ns ++ [] ≡ ns
+append_none [] = refl
+append_none (n ∷ ns) = ap (λ xs. n ∷ xs) (append_none ns)
+
+ontos_add : (ns : List Node) (o : Option Node) (r : Result Trees Misfit) → ontos (views (ns ++ listed o)) r ≡ ontos (views ns) (onto_told (Ok (option_map view o)) r)
+ontos_add ns None r = ap (λ xs. ontos (views xs) r) (append_none ns)
+ontos_add ns (Some n) r = ontos_push ns n r
 
 or_assoc : (a b c : Option ℕ) → option_or (option_or a b) c ≡ option_or a (option_or b c)
 or_assoc None b c = refl
@@ -57,11 +65,11 @@ pub record Going (w : Walk) (k : Kind) (all : Markups) (done : Trees) (v : Walk)
   pub few : v.next + elements_of_all rest < 2 ^ 32
   pub utf8 : are_utf8_markups rest ≡ true
 
-pub going_on : (w : Walk) (k : Kind) (all : Markups) (ns : List Node) (v u : Walk) (t : Markup) (ts : Markups) (n : Node)
-    → Going w k all (views ns) v (more t ts) → FitsNode v k t u (Ok n) → Going w k all (views (ns ++ n ∷ [])) u ts
-going_on w k all ns v u t ts n g f = record {
-  fits = ontos_push ns n (fit_nodes u.next k ts)
-      ∙ ap (λ x. ontos (views ns) (onto (view n) (fit_nodes x k ts))) f.1.next
+pub going_on : (w : Walk) (k : Kind) (all : Markups) (ns : List Node) (v u : Walk) (t : Markup) (ts : Markups) (o : Option Node)
+    → Going w k all (views ns) v (more t ts) → FitsNode v k t u (Ok o) → Going w k all (views (ns ++ listed o)) u ts
+going_on w k all ns v u t ts o g f = record {
+  fits = ontos_add ns o (fit_nodes u.next k ts)
+      ∙ ap (λ x. ontos (views ns) (onto_told (Ok (option_map view o)) (fit_nodes x k ts))) f.1.next
       ∙ ap (λ x. ontos (views ns) (onto_told x (fit_nodes (v.next + elements t) k ts))) (sym f.0)
       ∙ g.fits;
   count = omega (arith, g.count, f.1.next);
@@ -87,18 +95,18 @@ going_err w k all ready v u x t ts faults.NoMemory g f = tt
 
 -- an element, by what it is and by what stands in it
 abbrev pub Headed : Walk → Kind → List ℕ → List Pair → Markups → Result Head FitFault → Type 0
-Headed w k name ps c r = HeadFits (λ inside. fit_row w.next k (row name ps) ps (λ j. text_fits j c) inside) r
+Headed w k name ps c r = RowFits (λ inside. fit_row w.next k (row name ps) ps c inside) r
 
 inside_is : (w v : Walk) (k : Kind) (name : List ℕ) (ps : List Pair) (c : Markups) (h : Head) → Headed w k name ps c (Ok h) → v.next ≡ w.next + 1
-    → fit_node w.next k (node name ps c) ≡ with_children (label_of_head h) (fit_nodes v.next h.kind c)
+    → fit_node w.next k (node name ps c) ≡ one_tree (with_children (label_of_head h) (fit_nodes v.next h.kind c))
 inside_is w v k name ps c h f e =
-    f (λ j. fit_nodes (suc w.next) j c) ∙ ap (λ x. with_children (label_of_head h) (fit_nodes x h.kind c)) (let s : suc w.next ≡ v.next = omega (arith, e) in s)
+    f (λ j. fit_nodes (suc w.next) j c) ∙ ap (λ x. one_tree (with_children (label_of_head h) (fit_nodes x h.kind c))) (let s : suc w.next ≡ v.next = omega (arith, e) in s)
 
 pub element_ok : (w v u : Walk) (k : Kind) (name : List ℕ) (ps : List Pair) (c : Markups) (h : Head) (ns : List Node) (n : Node)
     → Headed w k name ps c (Ok h) → Passed w v 1 (unsourced_here w.next ps) → FitsNodes v h.kind c u (Ok ns) → view n ≡ tree (label_of_head h) (views ns)
-    → FitsNode w k (node name ps c) u (Ok n)
+    → FitsNode w k (node name ps c) u (Ok (Some n))
 element_ok w v u k name ps c h ns n f p g e = (
-  inside_is w v k name ps c h f p.next ∙ ap (with_children (label_of_head h)) g.0 ∙ ap (λ t. Ok t) (sym e),
+  inside_is w v k name ps c h f p.next ∙ ap (λ r. one_tree (with_children (label_of_head h) r)) g.0 ∙ ap (λ t. Ok (Some t)) (sym e),
   record {
     next = omega (arith, p.next, g.1.next);
     unsourced = g.1.unsourced
@@ -115,7 +123,7 @@ element_misfit w x k name ps c faults.NoMemory f = tt
 
 pub element_inside : (w v u x : Walk) (k : Kind) (name : List ℕ) (ps : List Pair) (c : Markups) (h : Head) (e : FitFault)
     → Headed w k name ps c (Ok h) → Passed w v 1 (unsourced_here w.next ps) → FitsNodes v h.kind c u (Err e) → FitsNode w k (node name ps c) x (Err e)
-element_inside w v u x k name ps c h (faults.Unfit n y) f p g = inside_is w v k name ps c h f p.next ∙ ap (with_children (label_of_head h)) g
+element_inside w v u x k name ps c h (faults.Unfit n y) f p g = inside_is w v k name ps c h f p.next ∙ ap (λ r. one_tree (with_children (label_of_head h) r)) g
 element_inside w v u x k name ps c h faults.NoMemory f p g = tt
 
 -- no memory
@@ -130,7 +138,7 @@ pub headed_at : (w : Walk) (k : Kind) (name : List ℕ) (ps : List Pair) (xs ys 
     → Headed w k name ps (markups xs) r → Headed w k name ps (markups ys) r
 headed_at w k name ps xs ys r e h = let P : List Content → Type 0 = λ zs. Headed w k name ps (markups zs) r in subst P e h
 
-pub node_at : (w v : Walk) (k : Kind) (m n : Markup) (r s : Result Node FitFault) → m ≡ n → r ≡ s → FitsNode w k n v s → FitsNode w k m v r
+pub node_at : (w v : Walk) (k : Kind) (m n : Markup) (r s : Result (Option Node) FitFault) → m ≡ n → r ≡ s → FitsNode w k n v s → FitsNode w k m v r
 node_at w v k m n r s e f h = rw (e, f) h
 
 pub nodes_at : (w v : Walk) (k : Kind) (ms : Markups) (r s : Result (List Node) FitFault) → r ≡ s → FitsNodes w k ms v s → FitsNodes w k ms v r
@@ -139,12 +147,6 @@ nodes_at w v k ms r s f h = rw f h
 pub going_at : (w : Walk) (k : Kind) (ns ms : List Node) (v : Walk) (cs bs xs ys : List Content) → ms ≡ ns → bs ≡ cs → ys ≡ xs
     → Going w k (markups cs) (views ns) v (markups xs) → Going w k (markups bs) (views ms) v (markups ys)
 going_at w k ns ms v cs bs xs ys d e f h = rw (d, e, f) h
-
-pub element_made : (w v u : Walk) (k : Kind) (name : List ℕ) (ps : List Pair) (c : Markups) (h : Head) (ns : List Node) (m : Markup) (r : Result Node FitFault)
-    → m ≡ node name ps c → Headed w k name ps c (Ok h) → Passed w v 1 (unsourced_here w.next ps) → FitsNodes v h.kind c u (Ok ns)
-    → IfOk r (λ n. view n ≡ tree (label_of_head h) (views ns)) → IfErr r (λ e. e ≡ faults.NoMemory) → FitsNode w k m u r
-element_made w v u k name ps c h ns m (Ok n) e f p g o x = node_at w u k m (node name ps c) (Ok n) (Ok n) e refl (element_ok w v u k name ps c h ns n f p g o)
-element_made w v u k name ps c h ns m (Err y) e f p g o x = node_memory w u k m y x
 
 pub no_items : {A : Type 0} (xs : List A) → length xs ≡ 0 → xs ≡ []
 no_items [] e = refl

@@ -1,12 +1,11 @@
 -- The ranges, delimiters and source of a node, as `data-parsoid` tells them.
 use Rattle.std.specs.Prelude.{ℕ, Option, Some, None, List, []}
-use Rattle.wt_tree.specs.declared.kind.Kind.{Kind}
-use Rattle.wt_tree.specs.declared.kind.Mark.{Mark}
 use Rattle.wt_tree.specs.declared.kind.Ranges.{Ranges}
 use Rattle.wt_tree.specs.Tree.{Label}
-use Rattle.wt_tree.specs.View.{texts_of}
+use Rattle.wt_tree.specs.View.{texts_of, attrs_of}
 use Rattle.wt_datamw.specs.declared.sync.Sync.{Sync}
 use Rattle.wt_fitting.specs.Fit.{source_of}
+use Rattle.wt_html_in.specs.declared.head.Head.{Head}
 use Rattle.wt_html_in.specs.declared.nodes.Source.{Source}
 
 pub record Told : Type 0 where
@@ -22,6 +21,7 @@ abbrev pub source_told : Option Sync → Told
 source_told None = record { ranges = None; opening = []; closing = []; own = [] }
 source_told (Some s) = record { ranges = Some s.dsr; opening = s.opening; closing = s.closing; own = source_of s.src }
 
-abbrev pub sourced_label : Kind → ℕ → Mark → Told → Label
-sourced_label k id m t =
-    record { kind = k; id = id; ranges = t.ranges; opening = t.opening; closing = t.closing; own = t.own; shown = []; attrs = []; mark = m; mw = None }
+-- the label of an element with this source
+abbrev pub sourced_label : Head → Told → Label
+sourced_label h t =
+    record { kind = h.kind; id = h.id; ranges = t.ranges; opening = t.opening; closing = t.closing; own = t.own; shown = h.shown; attrs = attrs_of h.attrs; mark = h.mark; mw = h.mw }

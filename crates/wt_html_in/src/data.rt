@@ -1,10 +1,10 @@
-ghost use Rattle.std.specs.Prelude.{◌≡◌, true, option_map, IfOk, IfErr};
+ghost use Rattle.std.specs.Prelude.{◌≡◌, true, None, option_map, IfOk, IfErr};
 ghost use Rattle.wt_datamw.specs.MwRead.{mw_told};
 ghost use Rattle.wt_datamw.specs.SyncRead.{sync_told};
 ghost use Rattle.wt_html_elements.specs.Built.{pairs};
-ghost use Rattle.wt_fitting.specs.Rows.{is_good_mw, mw_fits, is_for, sync_for, some_sync, sync_fits, data_of, is_empty};
+ghost use Rattle.wt_fitting.specs.Data.{is_empty, is_for, sync_for, some_sync, sync_fits, is_island, extension_data, mw_for, mw_fits, both, data_of};
 ghost use Rattle.wt_html_in.specs.Texts.{are_utf8_values};
-ghost use Rattle.wt_html_in.specs.Told.{told};
+ghost use Rattle.wt_html_in.specs.Told.{sync_said, mw_said, data_said};
 
 use crate::attributes::{has, text_value};
 use crate::refusal::FitFault;
@@ -12,34 +12,30 @@ use std::alloc::Global;
 use wt_datamw::{DataRefusal, Sync, read, read_sync};
 use wt_html_elements::Attribute;
 use wt_span::Str;
-use wt_tree::Kind;
+use wt_tree::{DataMw, Kind};
 
 /// What `data-parsoid` says of a node: it is bad, or good, and says nothing where it isn't there.
 #[derive(Drop)]
-pub enum Data {
+pub enum SyncData {
     Bad,
     Good(Option<Sync>),
 }
 
-fn is_good_mw(alloc: Global, text: &str) -> Result<bool, FitFault>
-    ensures good { IfOk result (λ good. good ≡ is_good_mw (mw_told text.now)) }
-    ensures memory { IfErr result (λ e. e ≡ FitFault.NoMemory) }
-{
-    match read(alloc, text) {
-        Ok(_) => Ok(true),
-        Err(DataRefusal::BadData(_)) => Ok(false),
-        Err(DataRefusal::NoMemory) => Err(FitFault::NoMemory),
-    }
+/// What `data-mw` says of a node: it is bad, or good, and says nothing where the node keeps none of it.
+#[derive(Drop)]
+pub enum MwData {
+    Bad,
+    Good(Option<DataMw>),
 }
 
-fn mw_fits(alloc: Global, value: Option<&str>) -> Result<bool, FitFault>
-    ensures fits { IfOk result (λ fits. fits ≡ mw_fits (option_map (λ v. v.now) value.entry)) }
-    ensures memory { IfErr result (λ e. e ≡ FitFault.NoMemory) }
-{
-    match value {
-        None => Ok(true),
-        Some(text) => is_good_mw(alloc, text),
-    }
+/// What both say of a node: one of them is bad, or they are good.
+#[derive(Drop)]
+pub enum Data {
+    Bad,
+    Good {
+        sync: Option<Sync>,
+        mw: Option<DataMw>,
+    },
 }
 
 fn is_empty(text: &Str) -> bool
@@ -62,50 +58,112 @@ fn is_for(kind: Kind, sync: &Sync) -> bool
     }
 }
 
-fn sync_for(alloc: Global, kind: Kind, text: &str) -> Result<Data, FitFault>
-    ensures sync { IfOk result (λ d. told d ≡ some_sync (sync_for kind (sync_told text.now))) }
+fn sync_for(alloc: Global, kind: Kind, text: &str) -> Result<SyncData, FitFault>
+    ensures sync { IfOk result (λ d. sync_said d ≡ some_sync (sync_for kind (sync_told text.now))) }
     ensures memory { IfErr result (λ e. e ≡ FitFault.NoMemory) }
 {
     match read_sync(alloc, text) {
         Ok(sync) => {
             if is_for(kind, &sync) {
-                Ok(Data::Good(Some(sync)))
+                Ok(SyncData::Good(Some(sync)))
             } else {
-                Ok(Data::Bad)
+                Ok(SyncData::Bad)
             }
         }
-        Err(DataRefusal::BadData(_)) => Ok(Data::Bad),
+        Err(DataRefusal::BadData(_)) => Ok(SyncData::Bad),
         Err(DataRefusal::NoMemory) => Err(FitFault::NoMemory),
     }
 }
 
-fn sync_fits(alloc: Global, kind: Kind, value: Option<&str>) -> Result<Data, FitFault>
-    ensures fits { IfOk result (λ d. told d ≡ sync_fits kind (option_map (λ v. v.now) value.entry)) }
+fn sync_fits(alloc: Global, kind: Kind, value: Option<&str>) -> Result<SyncData, FitFault>
+    ensures fits { IfOk result (λ d. sync_said d ≡ sync_fits kind (option_map (λ v. v.now) value.entry)) }
     ensures memory { IfErr result (λ e. e ≡ FitFault.NoMemory) }
 {
     match value {
-        None => Ok(Data::Good(None)),
+        None => Ok(SyncData::Good(None)),
         Some(text) => sync_for(alloc, kind, text),
+    }
+}
+
+/// Whether nodes of this kind keep what `data-mw` says.
+fn is_island(kind: Kind) -> bool
+    ensures { result ≡ is_island kind }
+{
+    matches!(kind, Kind::Island)
+}
+
+/// The data of an island: those of an extension are good.
+fn extension_data(data_mw: DataMw) -> MwData
+    ensures { mw_said result ≡ extension_data data_mw }
+{
+    match data_mw {
+        DataMw::Extension { name, body } => MwData::Good(Some(DataMw::Extension { name, body })),
+        DataMw::Parts(_) => MwData::Bad,
+    }
+}
+
+fn mw_for(alloc: Global, kind: Kind, text: &str) -> Result<MwData, FitFault>
+    ensures mw { IfOk result (λ d. mw_said d ≡ mw_for kind (mw_told text.now)) }
+    ensures memory { IfErr result (λ e. e ≡ FitFault.NoMemory) }
+{
+    match read(alloc, text) {
+        Ok(data_mw) => {
+            if is_island(kind) {
+                Ok(extension_data(data_mw))
+            } else {
+                Ok(MwData::Good(None))
+            }
+        }
+        Err(DataRefusal::BadData(_)) => Ok(MwData::Bad),
+        Err(DataRefusal::NoMemory) => Err(FitFault::NoMemory),
+    }
+}
+
+/// What is said where `data-mw` isn't there.
+fn no_mw(kind: Kind) -> MwData
+    ensures { mw_said result ≡ mw_fits kind None }
+{
+    if is_island(kind) {
+        MwData::Bad
+    } else {
+        MwData::Good(None)
+    }
+}
+
+fn mw_fits(alloc: Global, kind: Kind, value: Option<&str>) -> Result<MwData, FitFault>
+    ensures fits { IfOk result (λ d. mw_said d ≡ mw_fits kind (option_map (λ v. v.now) value.entry)) }
+    ensures memory { IfErr result (λ e. e ≡ FitFault.NoMemory) }
+{
+    match value {
+        None => Ok(no_mw(kind)),
+        Some(text) => mw_for(alloc, kind, text),
+    }
+}
+
+fn both(sync_data: SyncData, mw_data: MwData) -> Data
+    ensures { data_said result ≡ both (sync_said sync_data) (mw_said mw_data) }
+{
+    match (sync_data, mw_data) {
+        (SyncData::Good(sync), MwData::Good(mw)) => Data::Good { sync, mw },
+        (SyncData::Good(_), MwData::Bad) => Data::Bad,
+        (SyncData::Bad, _) => Data::Bad,
     }
 }
 
 /// The data of a node of this kind that stands in no group.
 pub fn data_of(alloc: Global, kind: Kind, attributes: &[Attribute]) -> Result<Data, FitFault>
     requires { are_utf8_values (pairs attributes.now) ≡ true }
-    ensures fits { IfOk result (λ d. told d ≡ data_of kind (pairs attributes.now)) }
+    ensures fits { IfOk result (λ d. data_said d ≡ data_of kind (pairs attributes.now)) }
     ensures memory { IfErr result (λ e. e ≡ FitFault.NoMemory) }
 {
     if has(b"about".as_slice(), attributes) {
         return Ok(Data::Bad);
     }
-    let fits = mw_fits(alloc, text_value(b"data-mw".as_slice(), attributes))?;
-    if fits {
-        sync_fits(
-            alloc,
-            kind,
-            text_value(b"data-parsoid".as_slice(), attributes),
-        )
-    } else {
-        Ok(Data::Bad)
-    }
+    let sync_data = sync_fits(
+        alloc,
+        kind,
+        text_value(b"data-parsoid".as_slice(), attributes),
+    )?;
+    let mw_data = mw_fits(alloc, kind, text_value(b"data-mw".as_slice(), attributes))?;
+    Ok(both(sync_data, mw_data))
 }

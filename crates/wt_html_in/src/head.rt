@@ -1,11 +1,13 @@
-ghost use Rattle.std.specs.Prelude.{◌≡◌, true};
+ghost use Rattle.std.specs.Prelude.{◌≡◌, true, IfOk, IfErr};
 ghost use Rattle.wt_html_elements.specs.Built.{pairs, views};
 ghost use Rattle.wt_fitting.specs.Rows.{row};
-ghost use Rattle.wt_fitting.specs.Fit.{text_fits, fit_as, fit_row};
-ghost use Rattle.wt_html_in.specs.Texts.{are_utf8_values};
-ghost use Rattle.wt_html_in.specs.Fits.{HeadFits};
+ghost use Rattle.wt_fitting.specs.Fit.{texts_in, fit_as, fit_row};
+ghost use Rattle.wt_html_in.specs.Texts.{are_utf8_values, are_utf8_markups};
+ghost use Rattle.wt_html_in.specs.Told.{data_both};
+ghost use Rattle.wt_html_in.specs.Fits.{IsHeadOf, HeadFits, RowFits};
 
 use crate::attributes::mark_of;
+use crate::carried::{attrs_for, shown_in};
 use crate::data::{Data, data_of};
 use crate::number::id_for;
 use crate::refusal::FitFault;
@@ -14,15 +16,46 @@ use std::alloc::Global;
 use wt_datamw::Sync;
 use wt_fitting::FitWhy;
 use wt_html_elements::{Attribute, Content};
-use wt_tree::{Kind, Mark};
+use wt_span::{List, Str};
+use wt_tree::{Attr, DataMw, Kind, Mark};
 
 /// What an element is, without what stands in it.
 #[derive(Drop)]
 pub struct Head {
     pub kind: Kind,
     pub id: u32,
+    pub shown: Str,
+    pub attrs: List<Attr>,
     pub mark: Mark,
+    pub mw: Option<DataMw>,
     pub sync: Option<Sync>,
+}
+
+/// What an element of this kind with this data is.
+fn head_with(
+    alloc: Global,
+    kind: Kind,
+    attributes: &[Attribute],
+    contents: &[Content],
+    sync: Option<Sync>,
+    mw: Option<DataMw>,
+) -> Result<Head, FitFault>
+    requires values { are_utf8_values (pairs attributes.now) ≡ true }
+    requires texts { are_utf8_markups (views contents.now) ≡ true }
+    ensures head { IfOk result (IsHeadOf kind (pairs attributes.now) (data_both sync mw) (texts_in (views contents.now))) }
+    ensures memory { IfErr result (λ e. e ≡ FitFault.NoMemory) }
+{
+    let shown = shown_in(alloc, kind, contents)?;
+    let attrs = attrs_for(alloc, kind, attributes)?;
+    Ok(Head {
+        kind,
+        id: id_for(kind, attributes),
+        shown,
+        attrs,
+        mark: mark_of(attributes),
+        mw,
+        sync,
+    })
 }
 
 /// What the element of this number is as one of this kind.
@@ -33,30 +66,26 @@ pub fn head_as(
     attributes: &[Attribute],
     contents: &[Content],
 ) -> Result<Head, FitFault>
-    requires { are_utf8_values (pairs attributes.now) ≡ true }
-    ensures { HeadFits (λ inside. fit_as number kind (pairs attributes.now) (text_fits kind (views contents.now)) (inside kind)) result }
+    requires values { are_utf8_values (pairs attributes.now) ≡ true }
+    requires texts { are_utf8_markups (views contents.now) ≡ true }
+    ensures { HeadFits (λ inside. fit_as number kind (pairs attributes.now) (views contents.now) (inside kind)) result }
 {
-    let sync = match data_of(alloc, kind, attributes)? {
-        Data::Bad => {
-            return Err(FitFault::Unfit {
-                element: number,
-                why: FitWhy::Data,
-            });
-        }
-        Data::Good(sync) => sync,
-    };
-    if !text_fits(kind, contents) {
-        return Err(FitFault::Unfit {
+    match data_of(alloc, kind, attributes)? {
+        Data::Bad => Err(FitFault::Unfit {
             element: number,
-            why: FitWhy::Text,
-        });
+            why: FitWhy::Data,
+        }),
+        Data::Good { sync, mw } => {
+            if text_fits(kind, contents) {
+                head_with(alloc, kind, attributes, contents, sync, mw)
+            } else {
+                Err(FitFault::Unfit {
+                    element: number,
+                    why: FitWhy::Text,
+                })
+            }
+        }
     }
-    Ok(Head {
-        kind,
-        id: id_for(kind, attributes),
-        mark: mark_of(attributes),
-        sync,
-    })
 }
 
 /// What the element of this number is in one of the kind `outer`.
@@ -68,8 +97,9 @@ pub fn head_in(
     attributes: &[Attribute],
     contents: &[Content],
 ) -> Result<Head, FitFault>
-    requires { are_utf8_values (pairs attributes.now) ≡ true }
-    ensures { HeadFits (λ inside. fit_row number outer (row name.now (pairs attributes.now)) (pairs attributes.now) (λ k. text_fits k (views contents.now)) inside) result }
+    requires values { are_utf8_values (pairs attributes.now) ≡ true }
+    requires texts { are_utf8_markups (views contents.now) ≡ true }
+    ensures { RowFits (λ inside. fit_row number outer (row name.now (pairs attributes.now)) (pairs attributes.now) (views contents.now) inside) result }
 {
     match row(name, attributes) {
         None => Err(FitFault::Unfit {

@@ -4,6 +4,7 @@
 
 mod answer;
 mod attributes;
+mod carried;
 mod data;
 mod edited;
 mod frame;
@@ -15,6 +16,7 @@ mod refusal;
 mod row;
 #[cfg(test)]
 mod tests;
+mod typed;
 mod walk;
 mod whole;
 

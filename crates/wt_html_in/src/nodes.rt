@@ -1,4 +1,4 @@
-ghost use Rattle.std.specs.Prelude.{◌≡◌, true, Some, None, IfOk, IfErr};
+ghost use Rattle.std.specs.Prelude.{◌≡◌, true, Some, None, option_map, IfOk, IfErr};
 ghost use Rattle.std.specs.Str.{is_utf8};
 ghost use Rattle.wt_tree.specs.Tree.{tree, none as no_trees};
 ghost use Rattle.wt_tree.specs.View.{view, views, texts_of};
@@ -9,7 +9,7 @@ ghost use Rattle.wt_html_in.specs.Sources.{source_view, source_told, sourced_lab
 use crate::attributes::text_of;
 use crate::head::Head;
 use crate::refusal::FitFault;
-use crate::row::holds_text;
+use crate::row::{holds_text, shows_text};
 use bumpalo::Bump;
 use std::alloc::Global;
 use wt_datamw::Sync;
@@ -72,22 +72,28 @@ fn sep_leaf<'a>(alloc: Global, arena: &'a Bump<Global>, text: &str) -> Result<No
     Ok(leaf(alloc, Kind::Sep, own, Str::new(alloc)))
 }
 
-/// What a text is that stands directly in an element of the kind `outer`.
+/// What a text is that stands directly in an element of the kind `outer`: no node where it is the
+/// element's character.
 pub fn leaf_in<'a>(
     alloc: Global,
     arena: &'a Bump<Global>,
     outer: Kind,
     bytes: &[u8],
-) -> Result<Node<'a>, FitFault>
+) -> Result<Option<Node<'a>>, FitFault>
     requires { is_utf8 bytes.now ≡ true }
-    ensures leaf { IfOk result (λ n. view n ≡ leaf_in outer bytes.now) }
+    ensures leaf { IfOk result (λ o. option_map view o ≡ leaf_in outer bytes.now) }
     ensures memory { IfErr result (λ e. e ≡ FitFault.NoMemory) }
 {
+    if shows_text(outer) {
+        return Ok(None);
+    }
     let text = text_of(bytes);
     if holds_text(outer) {
-        text_leaf(alloc, arena, text)
+        let node = text_leaf(alloc, arena, text)?;
+        Ok(Some(node))
     } else {
-        sep_leaf(alloc, arena, text)
+        let node = sep_leaf(alloc, arena, text)?;
+        Ok(Some(node))
     }
 }
 
@@ -158,16 +164,9 @@ fn source_for<'a>(
     }
 }
 
-/// A node with this source.
-fn sourced<'a>(
-    alloc: Global,
-    kind: Kind,
-    id: u32,
-    mark: Mark,
-    source: Source<'a>,
-    children: List<Node<'a>>,
-) -> Node<'a>
-    ensures { view result ≡ tree (sourced_label kind id mark (source_view source.entry)) (views children.entry) }
+/// The node with this source.
+fn sourced<'a>(head: Head, source: Source<'a>, children: List<Node<'a>>) -> Node<'a>
+    ensures { view result ≡ tree (sourced_label head (source_view source.entry)) (views children.entry) }
 {
     let Source {
         ranges,
@@ -175,6 +174,15 @@ fn sourced<'a>(
         closing,
         own,
     } = source;
+    let Head {
+        kind,
+        id,
+        shown,
+        attrs,
+        mark,
+        mw,
+        sync: _,
+    } = head;
     Node {
         kind,
         id,
@@ -182,16 +190,17 @@ fn sourced<'a>(
         opening,
         closing,
         own,
-        shown: Str::new(alloc),
-        attrs: List::new(alloc),
+        shown,
+        attrs,
         origin: None,
         mark,
-        mw: None,
+        mw,
         children,
     }
 }
 
 /// The node that an element is.
+#[tactic(auto, using(crate::proofs::Labels::sourced_is))]
 pub fn node_of<'a>(
     alloc: Global,
     arena: &'a Bump<Global>,
@@ -202,5 +211,5 @@ pub fn node_of<'a>(
     ensures memory { IfErr result (λ e. e ≡ FitFault.NoMemory) }
 {
     let source = source_for(alloc, arena, &head.sync)?;
-    Ok(sourced(alloc, head.kind, head.id, head.mark, source, children))
+    Ok(sourced(head, source, children))
 }

@@ -3,11 +3,15 @@ use crate::{Edited, FitWhy, HtmlRefusal, Reader, read_html, unsourced};
 use bumpalo::Bump;
 use std::alloc::Global;
 use std::test::Fail;
-use wt_tree::{find, flat};
+use wt_tree::{DataMw, find, flat};
 
 /// A page of one paragraph with a source.
 const PAGE: &str =
     "<html><body id=\"mw1\">\n<p id=\"mw2\" data-parsoid='{\"dsr\":[1,7,0,0]}'>a &lt; b</p></body></html>";
+
+/// A page of a paragraph with an entity, nowiki, an extension and a comment, and an include tag.
+const FORMS: &str =
+    r#"<html><body><p data-parsoid='{"dsr":[0,48,0,0]}'><span typeof="mw:Entity" id="mw1" data-parsoid='{"dsr":[0,4,4,0],"src":"&amp;lt;"}'>&lt;</span><span typeof="mw:Nowiki" data-parsoid='{"dsr":[4,23,8,9],"o":"&lt;nowiki>","c":"&lt;/nowiki>"}'>[[</span><span typeof="mw:Extension/ref" id="mw2" data-mw='{"name":"ref","body":{"extsrc":"a"}}' data-parsoid='{"dsr":[23,35,12,0],"src":"&lt;ref>a&lt;/ref>"}'></span><meta typeof="mw:Comment" data-parsoid='{"dsr":[35,43,8,0],"src":"&lt;!--b-->"}'/></p><meta typeof="mw:Includes/NoInclude" id="mw3" data-parsoid='{"dsr":[43,54,11,0],"src":"&lt;noinclude>"}'/></body></html>"#;
 
 /// What a short input is.
 fn read_short<'a>(
@@ -15,7 +19,7 @@ fn read_short<'a>(
     input: &'a [u8],
     arena: &'a Bump<Global>,
 ) -> Result<Edited<'a>, HtmlRefusal> {
-    if 1000 < input.len() {
+    if 2000 < input.len() {
         return Err(HtmlRefusal::NoMemory);
     }
     read_html(alloc, input, arena)
@@ -39,6 +43,67 @@ fn source(alloc: Global, input: &[u8]) -> Result<String, Fail> {
 fn source_of_a_paragraph(rt: HostRuntime) -> Result<(), Fail> {
     let text = source(rt.alloc(), PAGE.as_bytes())?;
     assert_eq!(rt; text.as_str(), "\na < b");
+    Ok(())
+}
+
+#[test]
+fn source_of_forms(rt: HostRuntime) -> Result<(), Fail> {
+    let text = source(rt.alloc(), FORMS.as_bytes())?;
+    assert_eq!(rt;
+        text.as_str(),
+        "&lt;<nowiki>[[</nowiki><ref>a</ref><!--b--><noinclude>"
+    );
+    Ok(())
+}
+
+/// What the node of this number shows.
+fn shown_of(alloc: Global, input: &[u8], id: u32) -> Result<String, Fail> {
+    let mut text = String::new(alloc);
+    let arena = Bump::new(alloc);
+    if let Ok(page) = read_short(alloc, input, &arena) {
+        if let Some(node) = find(page.body(), id) {
+            text.push_str(node.shown.as_str())?;
+        }
+    }
+    Ok(text)
+}
+
+#[test]
+fn character_of_an_entity(rt: HostRuntime) -> Result<(), Fail> {
+    let text = shown_of(rt.alloc(), FORMS.as_bytes(), 1)?;
+    assert_eq!(rt; text.as_str(), "<");
+    Ok(())
+}
+
+/// The values of the attributes that the node of this number keeps, and the name of its extension.
+fn kept_of(alloc: Global, input: &[u8], id: u32) -> Result<String, Fail> {
+    let mut text = String::new(alloc);
+    let arena = Bump::new(alloc);
+    if let Ok(page) = read_short(alloc, input, &arena) {
+        if let Some(node) = find(page.body(), id) {
+            for attr in node.attrs.as_slice() {
+                text.push_str(attr.value.as_str())?;
+            }
+            if let Some(DataMw::Extension { name, .. }) = &node.mw {
+                text.push_str(" ")?;
+                text.push_str(name.as_str())?;
+            }
+        }
+    }
+    Ok(text)
+}
+
+#[test]
+fn data_of_an_extension(rt: HostRuntime) -> Result<(), Fail> {
+    let text = kept_of(rt.alloc(), FORMS.as_bytes(), 2)?;
+    assert_eq!(rt; text.as_str(), "mw:Extension/ref ref");
+    Ok(())
+}
+
+#[test]
+fn type_of_an_include_tag(rt: HostRuntime) -> Result<(), Fail> {
+    let text = kept_of(rt.alloc(), FORMS.as_bytes(), 3)?;
+    assert_eq!(rt; text.as_str(), "mw:Includes/NoInclude");
     Ok(())
 }
 

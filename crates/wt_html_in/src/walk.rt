@@ -1,9 +1,9 @@
-ghost use Rattle.std.specs.Prelude.{◌≡◌, ◌+◌, ◌<◌, ◌^◌, true};
+ghost use Rattle.std.specs.Prelude.{◌≡◌, ◌+◌, ◌<◌, ◌^◌, ◌++◌, true, OnOk, IfErr};
 ghost use Rattle.wt_html_elements.specs.Built.{view_content, pairs, views};
 ghost use Rattle.wt_fitting.specs.Rows.{row};
-ghost use Rattle.wt_fitting.specs.Fit.{text_fits, fit_row, elements, elements_of_all};
+ghost use Rattle.wt_fitting.specs.Fit.{fit_row, elements, elements_of_all};
 ghost use Rattle.wt_html_in.specs.Texts.{are_utf8_values, is_utf8_markup, are_utf8_markups};
-ghost use Rattle.wt_html_in.specs.Fits.{HeadFits, FitsNode, FitsNodes, Passed, unsourced_here};
+ghost use Rattle.wt_html_in.specs.Fits.{RowFits, listed, FitsNode, FitsNodes, Passed, unsourced_here};
 
 use crate::attributes::is_unsourced;
 use crate::head::{Head, head_in};
@@ -47,8 +47,9 @@ fn begin(
     contents: &[Content],
 ) -> Result<Head, FitFault>
     requires few { walk.old.next + 1 < 2 ^ 32 }
-    requires utf8 { are_utf8_values (pairs attributes.items) ≡ true }
-    ensures head { HeadFits (λ inside. fit_row walk.old.next outer (row name.items (pairs attributes.items)) (pairs attributes.items) (λ k. text_fits k (views contents.now)) inside) result }
+    requires values { are_utf8_values (pairs attributes.items) ≡ true }
+    requires texts { are_utf8_markups (views contents.now) ≡ true }
+    ensures head { RowFits (λ inside. fit_row walk.old.next outer (row name.items (pairs attributes.items)) (pairs attributes.items) (views contents.now) inside) result }
     ensures passed { Passed walk.old walk.new 1 (unsourced_here walk.old.next (pairs attributes.items)) }
 {
     let number = enter(walk, attributes.as_slice());
@@ -62,6 +63,20 @@ fn begin(
     )
 }
 
+/// Puts a node behind others, where there is one.
+fn push_if_any<'a>(nodes: &mut Vec<Node<'a>>, node: Option<Node<'a>>) -> Result<(), FitFault>
+    ensures pushed { OnOk result (nodes.new.items ≡ nodes.old.items ++ listed node.entry) }
+    ensures memory { IfErr result (λ e. e ≡ FitFault.NoMemory) }
+{
+    match node {
+        None => Ok(()),
+        Some(node) => {
+            nodes.push(node)?;
+            Ok(())
+        }
+    }
+}
+
 /// What a text or an element stands for in one of the kind `outer`.
 #[cycle(fitting)]
 fn node<'a>(
@@ -70,7 +85,7 @@ fn node<'a>(
     walk: &mut Walk,
     outer: Kind,
     content: Content,
-) -> Result<Node<'a>, FitFault>
+) -> Result<Option<Node<'a>>, FitFault>
     requires few { walk.old.next + elements (view_content content) < 2 ^ 32 }
     requires utf8 { is_utf8_markup (view_content content) ≡ true }
     ensures { FitsNode walk.old outer (view_content content) walk.new result }
@@ -84,7 +99,8 @@ fn node<'a>(
         } => {
             let head = begin(alloc, walk, outer, name, attributes, contents.as_slice())?;
             let children = nodes(alloc, arena, walk, head.kind, contents)?;
-            node_of(alloc, arena, head, children)
+            let node = node_of(alloc, arena, head, children)?;
+            Ok(Some(node))
         }
     }
 }
@@ -106,7 +122,7 @@ pub fn nodes<'a>(
     let mut children = Vec::with_capacity(alloc, contents.len())?;
     for content in contents {
         let child = node(alloc, arena, walk, outer, content)?;
-        children.push(child)?;
+        push_if_any(&mut children, child)?;
     }
     Ok(List::from_vec(children))
 }

@@ -1,10 +1,11 @@
-use Rattle.std.proofs.Common.{◌≡◌, rules, Ok, Err, [], ◌∷◌, ◌++◌, sym, refl, ◌∙◌}
+use Rattle.std.proofs.Common.{◌≡◌, rules, Some, Ok, Err, [], ◌∷◌, ◌++◌, sym, refl, ◌∙◌}
 use Rattle.std.specs.Vec.Iter.{into_iter_items}
 use Rattle.wt_tree.specs.View.{views}
 use Rattle.wt_html_grammar.specs.Markup.{node}
 use Rattle.wt_html_elements.specs.declared.content.Content.{fold-roll-Content, the_lemmas}
 use Rattle.wt_html_elements.specs.Built.{view_content, pairs, views as markups}
-use Rattle.wt_html_in.proofs.Walking.{headed_at, node_at, nodes_at, element_made, element_misfit, element_inside, no_items, going_on, going_end, going_err, going_at}
+use Rattle.wt_html_in.specs.Fits.{listed}
+use Rattle.wt_html_in.proofs.Walking.{headed_at, node_at, nodes_at, node_memory, element_ok, element_misfit, element_inside, no_items, going_on, going_end, going_err, going_at}
 use Rattle.wt_html_in.proofs.walk.+fitting.Goals as goal
 
 pub node-returns-in_err-head-in-Element : goal.node-returns-in_err-head-in-Element
@@ -28,14 +29,23 @@ node-returns-in_err-children-in-Element t c =
     (Ok c.in_ok-head-in-Element.head) c.as_slice-in-Element.ensures.value c.in_ok-head-in-Element.ensures.head)
     c.begin.ensures.passed c.in_err-children-in-Element.ensures)
 
-pub node-returns-in_ok-children-in-Element : goal.node-returns-in_ok-children-in-Element
-node-returns-in_ok-children-in-Element t c =
+pub node-returns-in_err-node-in-Element : goal.node-returns-in_err-node-in-Element
+node-returns-in_err-node-in-Element t c =
+    let e = c.in_err-node-in-Element.field-0.0 in
+    let r : c.from_residual-in_err-node-in-Element.result ≡ Err e = search rules in
+    node_at c.args.walk.now c.nodes.new.walk c.args.outer (view_content c.args.content) (view_content c.args.content) c.from_residual-in_err-node-in-Element.result (Err e) refl r
+    (node_memory c.args.walk.now c.nodes.new.walk c.args.outer (view_content c.args.content) e c.in_err-node-in-Element.ensures.memory)
+
+pub node-returns-in_ok-node-in-Element : goal.node-returns-in_ok-node-in-Element
+node-returns-in_ok-node-in-Element t c =
     let e : view_content c.args.content ≡ node c.in-Element.name.items (pairs c.in-Element.attributes.items) (markups c.in-Element.contents.items) = search (rules, the_lemmas, fold-roll-Content) in
-    element_made c.args.walk.now c.begin.new.walk c.nodes.new.walk c.args.outer c.in-Element.name.items (pairs c.in-Element.attributes.items) (markups c.in-Element.contents.items)
-    c.in_ok-head-in-Element.head c.in_ok-children-in-Element.children (view_content c.args.content) c.node_of.result e
+    let n = c.in_ok-node-in-Element.node in
+    node_at c.args.walk.now c.nodes.new.walk c.args.outer (view_content c.args.content) _ (Ok (Some n)) (Ok (Some n)) e refl
+    (element_ok c.args.walk.now c.begin.new.walk c.nodes.new.walk c.args.outer c.in-Element.name.items (pairs c.in-Element.attributes.items) (markups c.in-Element.contents.items)
+    c.in_ok-head-in-Element.head c.in_ok-children-in-Element.children n
     (headed_at c.args.walk.now c.args.outer c.in-Element.name.items (pairs c.in-Element.attributes.items) c.as_slice-in-Element.result.now c.in-Element.contents.items
     (Ok c.in_ok-head-in-Element.head) c.as_slice-in-Element.ensures.value c.in_ok-head-in-Element.ensures.head)
-    c.begin.ensures.passed c.in_ok-children-in-Element.ensures c.node_of.ensures.node c.node_of.ensures.memory
+    c.begin.ensures.passed c.in_ok-children-in-Element.ensures c.in_ok-node-in-Element.ensures.node)
 
 pub nodes-returns-in_err-child : goal.nodes-returns-in_err-child
 nodes-returns-in_err-child t c =
@@ -51,8 +61,8 @@ nodes-returns-in_err-child t c =
 pub nodes-loop-content-preserved : goal.nodes-loop-content-preserved
 nodes-loop-content-preserved t c =
     let s : into_iter_items c.loop-content.content-iterator ≡ c.in-Some.content ∷ into_iter_items c.next.new.self = search rules in
-    going_at c.args.walk.now c.args.outer (c.loop-content.children.items ++ c.in_ok-child.child ∷ []) c.push.new.self.items c.node.new.walk _ _ _ _
-    c.in_ok-push.ensures.items refl refl
+    going_at c.args.walk.now c.args.outer (c.loop-content.children.items ++ listed c.in_ok-child.child) c.push_if_any.new.nodes.items c.node.new.walk _ _ _ _
+    c.in_ok-push_if_any.ensures.pushed refl refl
     (going_on c.args.walk.now c.args.outer (markups (into_iter_items c.into_iter-content-iterator.result)) c.loop-content.children.items c.loop-content.walk c.node.new.walk
     (view_content c.in-Some.content) (markups (into_iter_items c.next.new.self)) c.in_ok-child.child
     (going_at c.args.walk.now c.args.outer c.loop-content.children.items c.loop-content.children.items c.loop-content.walk _ _ _ _ refl refl (sym s) c.loop-content.invariant)
