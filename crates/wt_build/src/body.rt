@@ -82,6 +82,13 @@ impl<'a> Tree<'a> {
     {
         &self.body
     }
+
+    /// The body by itself.
+    pub fn into_body(self) -> PieceTree<'a>
+        ensures { result ≡ self.entry.body }
+    {
+        self.body
+    }
 }
 
 /// The meaning of a page's items: blocks with what stands in them, and separators between them, by

@@ -1,10 +1,9 @@
 -- How many nodes of a page have a number: at most three for each of its bytes.
-use Rattle.std.proofs.Common.{◌≡◌, ℕ, zero, suc, ◌+◌, ◌-◌, ◌*◌, ◌<◌, ◌≤◌, Bool, true, false, Option, Some, None, List, [], ◌∷◌, ◌++◌, length, take, drop, map, refl, sym, ap, ◌∙◌, subst, append_assoc, append-nil, arith, length-append, length-take, length-drop}
+use Rattle.std.proofs.Common.{◌≡◌, ℕ, zero, suc, ◌+◌, ◌-◌, ◌*◌, ◌<◌, ◌≤◌, Bool, false, Option, Some, None, List, [], ◌∷◌, ◌++◌, length, take, drop, map, refl, sym, ap, ◌∙◌, subst, append_assoc, append-nil, arith, length-append, length-take, length-drop}
 use Rattle.std.specs.Prelude.{slice_index}
 use Rattle.std.specs.List.{flat_map}
 use Rattle.std.proofs.lemmas.List.{take-append-drop, map-append, length-map}
 use Rattle.std.proofs.lemmas.Grind.{flat_map-append}
-use Rattle.wt_tree.specs.declared.kind.Kind.TheVariants as kind
 use Rattle.wt_span.specs.declared.form.Form.{Form}
 use Rattle.wt_span.specs.declared.form.Form.TheVariants as form
 use Rattle.wt_span.specs.declared.form.Mode.TheVariants.{Page}
@@ -21,10 +20,10 @@ use Rattle.wt_expand.specs.PageItems.{form_of, items_of_word, items_of_words, pa
 use Rattle.wt_expand.proofs.PageLaws.{page_sources}
 use Rattle.wt_inline.specs.declared.loose.Loose.{Loose}
 use Rattle.wt_inline.specs.declared.loose.Loose.TheVariants.{Text, Sep}
-use Rattle.wt_inline.specs.RawTag.{inside_len, behind, opening_of, inside_of, closing_of, opening_len}
+use Rattle.wt_inline.specs.RawTag.{inside_len, behind, inside_of, opening_len}
 use Rattle.wt_inline.specs.Inside.{read_with, inside_items}
-use Rattle.wt_inline.specs.ItemTree.{ItemTree, inner, forest}
-use Rattle.wt_inline.specs.Parts.{Part, loose, node, one_leaf, child, children, inside_part, nowiki, whole_tree, part, parts}
+use Rattle.wt_inline.specs.ItemTree.{forest}
+use Rattle.wt_inline.specs.Parts.{Part, loose, node, one_leaf, child, children, inside_part, nowiki, whole_tree, parts}
 use Rattle.wt_inline.specs.Inline.{inline_parts, inline_trees}
 use Rattle.wt_build.specs.declared.block.BlockKind.{BlockKind}
 use Rattle.wt_build.specs.declared.block.BlockKind.TheVariants.{Between, Heading, Para}

@@ -15,12 +15,12 @@ use Rattle.wt_utf8.specs.Places.{IsPlace, not_utf8_place}
 use Rattle.wt_utf8.proofs.PlaceLaws.{exact as exact_text, at_place}
 use Rattle.wt_not_built.specs.FirstPlace.{first_unbuilt}
 use Rattle.wt_page_round_trip.specs.PageTree.{page_tree}
-use Rattle.wt_pagetool.specs.Refusals.{absent, too_long, not_utf8_at, not_built}
+use Rattle.wt_pagetool.specs.Refusals.{too_long}
 use Rattle.wt_pagetool.specs.Answers.{Answer, done, refused, built_answer, text_answer, page_answer, IsAnswered, html_within, html_of, html_answer, ranges_of, ranges_answer}
 use Rattle.wt_pagetool.specs.declared.output.Output.{Output}
 use Rattle.wt_pagetool.specs.declared.refusal.Reason.{Reason}
 use Rattle.wt_pagetool.specs.declared.refusal.Reason.TheVariants.{Usage, Absent, TooLong, NotUtf8, NotBuilt, HtmlTooLong, InputTooLong, Html, Unfit, Unsourced, ReadFault, FolderFault, NoMemory}
-use Rattle.wt_pagetool.specs.Reasons.{Refuses, RefusesPage, IsUnbuilt, IsFetched, Answered}
+use Rattle.wt_pagetool.specs.Reasons.{RefusesPage, IsUnbuilt, IsFetched, Answered}
 
 -- ---- texts
 
