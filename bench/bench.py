@@ -1,6 +1,6 @@
 #!/usr/bin/env python3
 """Measures the proved `wtround`: `html` on pages of 64 KiB, 512 KiB and 2 MiB, `wikitext` on HTML of 512 KiB,
-8 MiB and 64 MiB less a page's frame.
+8 MiB and 64 MiB less a page's frame, and of the HTML of pages with comments and entities.
 
   bench/bench.py PROGRAM [OTHER]
 
@@ -35,6 +35,7 @@ WORDS = "the river runs past the town and on to the sea beyond the hills of the 
 
 KINDS = {
     "paragraphs": lines(lambda k: (WORDS + "\n") * 3 + "\n"),
+    "comment and entity in each": lines(lambda k: WORDS + "<!-- a note on this -->\n" + WORDS + "&nbsp;&ndash; " + WORDS + "\n\n"),
     "headings": lines(lambda k: f"== Part {k} ==\n{WORDS}\n\n"),
     "one letter a paragraph": lines(lambda k: "a\n\n"),
     "one long line": lines(lambda k: WORDS + " "),
@@ -67,7 +68,25 @@ def paragraph(text):
 
 HTML_SIZES = [512 << 10, 8 << 20, 64 << 20]
 
+def marked(number, at):
+    """A paragraph with a comment and two entities, as `html` writes it."""
+    parts = [(WORDS, None), ("<!-- a note on this -->", "comment"), ("\n" + WORDS, None), ("&nbsp;", "\u00a0"), ("&ndash;", "\u2013"), (" " + WORDS, None)]
+    out, place, inner = "", at, 3 * number + number - 3
+    first = inner
+    for source, kind in parts:
+        if kind is None:
+            out += source
+        else:
+            inner += 1
+            escaped = source.replace("&", "&amp;").replace("<", "&lt;").replace(">", "&gt;")
+            data = f"""id="mw{inner}" data-parsoid='{{"dsr":[{place},{place + len(source)},{len(source)},0],"src":"{escaped}"}}'"""
+            out += f'<meta typeof="mw:Comment" {data}/>' if kind == "comment" else f'<span typeof="mw:Entity" {data}>{kind}</span>'
+        place += len(source)
+    return place - at + 2, f"""<p id="mw{first}" data-parsoid='{{"dsr":[{at},{place},0,0]}}'>{out}</p>\n\n"""
+
+
 HTML_KINDS = {
+    "comment and entity in each": html_of(marked),
     "paragraphs": html_of(paragraph("\n".join([WORDS] * 3))),
     "one letter a paragraph": html_of(paragraph("a")),
     "one long text": html_of(lambda number, at: (7000, "<p data-parsoid='{\"dsr\":[0,0,0,0]}'>" + (WORDS + " ") * 5000 + "</p>\n")),
