@@ -13,8 +13,6 @@ mod lexeme;
 mod scan;
 mod sign;
 mod tag;
-#[cfg(test)]
-mod tests;
 
 pub use entity::{entity_at, read_entity};
 pub use laws::{one_reading, whole_forms};

@@ -9,8 +9,6 @@ mod laws;
 mod look;
 mod node;
 mod source;
-#[cfg(test)]
-mod tests;
 
 pub use annotated::Annotated;
 pub use compare::plain_eq;
