@@ -14,9 +14,10 @@ use Rattle.wt_inline.specs.View.{item_tree, item_trees}
 use Rattle.wt_inline.specs.declared.tree.PieceTree.{PieceTree, out-PieceTree}
 use Rattle.wt_annotate.proofs.Pieces.{item_tree_out}
 use Rattle.wt_inline.specs.ItemTree.{ItemTree, inner, ItemTrees, nothing, further, forest, held, held_by_all}
-use Rattle.wt_annotate.specs.Labels.{width, next_after, shown_by, label_at}
-use Rattle.wt_annotate.specs.Annotated.{count_by, inside_by, numbered, numbered_in_all, annotated_at, all_annotated_at}
-use Rattle.wt_annotate.specs.Made.{IsMade, AreMade}
+use Rattle.wt_annotate.specs.Labels.{width, shown_by, label_at}
+use Rattle.wt_annotate.specs.Numbering.{number_of, next_after}
+use Rattle.wt_annotate.specs.Annotated.{count_by, inside_by, numbered, numbered_in_all}
+use Rattle.wt_annotate.specs.Made.{annotated_at, all_annotated_at, IsMade, AreMade}
 use Rattle.wt_annotate.specs.Nodes.{leaf_label, inner_label}
 use Rattle.wt_annotate.proofs.Widths.{width_append, width_three}
 
@@ -39,7 +40,7 @@ number_inner k o c ts next e =
 
 -- ---- one node
 
-leaf_by : (is : Bool) (at next : ℕ) (k : Kind) (o own c : List Item) (us : Trees) → is ≡ true → tree (label_at at next is k o own c) (inside_by is us) ≡ tree (leaf_label at next k own) none
+leaf_by : (is : Bool) (at next : ℕ) (k : Kind) (o own c : List Item) (us : Trees) → is ≡ true → tree (label_at at (number_of k next) is k o own c) (inside_by is us) ≡ tree (leaf_label at next k own) none
 unfolding label_at
 leaf_by true at next k o own c us e = refl
 leaf_by false at next k o own c us e = cc
@@ -58,7 +59,7 @@ inner_shows kind.Text own e = cc
 inner_shows kind.Entity own e = cc
 inner_shows k own e = refl
 
-inner_by : (is : Bool) (at next : ℕ) (k : Kind) (o own c : List Item) (us : Trees) → is ≡ false → shown_by (showing k) own ≡ [] → tree (label_at at next is k o own c) (inside_by is us) ≡ tree (inner_label at next k (at + width own) o c) us
+inner_by : (is : Bool) (at next : ℕ) (k : Kind) (o own c : List Item) (us : Trees) → is ≡ false → shown_by (showing k) own ≡ [] → tree (label_at at (number_of k next) is k o own c) (inside_by is us) ≡ tree (inner_label at next k (at + width own) o c) us
 unfolding label_at
 inner_by true at next k o own c us e s = cc
 inner_by false at next k o own c us e s = ap (λ bs. tree (record (inner_label at next k (at + width own) o c) { shown = bs }) us) s

@@ -1,5 +1,5 @@
 -- The ranges of an annotated tree tile it.
-use Rattle.std.proofs.Common.{◌≡◌, ℕ, ◌+◌, ◌-◌, ◌≤◌, Bool, true, false, List, [], ◌∷◌, ◌++◌, length, Some, refl, sym, ap, ◌∙◌, arith}
+use Rattle.std.proofs.Common.{◌≡◌, ℕ, ◌+◌, ◌-◌, ◌≤◌, Bool, true, false, List, [], ◌∷◌, ◌++◌, length, Some, refl, sym, ap, subst, ◌∙◌, arith}
 use Rattle.wt_tree.specs.declared.kind.Kind.{Kind}
 use Rattle.wt_tree.specs.declared.kind.Kind.TheVariants as kind
 use Rattle.wt_tree.specs.Kinds.{is_leaf}
@@ -7,8 +7,11 @@ use Rattle.wt_tree.specs.Tree.{Trees, label}
 use Rattle.wt_tree.specs.Tiling.{BeginsAt, end_of, TiledBy, Tiled, TiledFrom, Covers}
 use Rattle.wt_span.specs.Items.{Item}
 use Rattle.wt_inline.specs.ItemTree.{ItemTree, inner, ItemTrees, nothing, further, held, held_by_all}
-use Rattle.wt_annotate.specs.Labels.{width, next_after, label_at}
-use Rattle.wt_annotate.specs.Annotated.{inside_by, numbered, annotated_at, all_annotated_at, annotated}
+use Rattle.wt_annotate.specs.Labels.{width, label_at}
+use Rattle.wt_annotate.specs.Numbering.{number_of, next_after}
+use Rattle.wt_annotate.specs.Annotated.{inside_by, numbered, annotated}
+use Rattle.wt_annotate.specs.Made.{annotated_at, all_annotated_at}
+use Rattle.wt_annotate.proofs.OnePass.{annotated_is}
 use Rattle.wt_annotate.proofs.Widths.{width_append, width_three}
 
 begins_at : (at next : ℕ) (t : ItemTree) → BeginsAt at (label (annotated_at at next t)).ranges
@@ -42,10 +45,12 @@ mutual
       (begins_at from next t, tiled_at from next t, rw (ends_at from next t) (all_tiled_at (from + width (held t)) (next + numbered t) to ts more))
 
 pub tiled_annotated : (t : ItemTree) → Tiled (annotated t)
-unfolding annotated
-tiled_annotated t = tiled_at 0 1 t
+tiled_annotated t = subst Tiled (sym (annotated_is t)) (tiled_at 0 1 t)
+
+body_at : (ts : ItemTrees) → Covers (width (held (inner kind.Body [] ts []))) (annotated_at 0 1 (inner kind.Body [] ts []))
+unfolding label_at
+body_at ts = let n : ℕ = width (held (inner kind.Body [] ts [])) in let e : 0 + n ≡ n = omega arith in ap (λ m. Some (record { start = 0; end = m; open_w = 0; close_w = 0 })) e
 
 -- a body covers all that it holds
 pub body_covers : (ts : ItemTrees) → Covers (width (held (inner kind.Body [] ts []))) (annotated (inner kind.Body [] ts []))
-unfolding annotated label_at
-body_covers ts = let n : ℕ = width (held (inner kind.Body [] ts [])) in let e : 0 + n ≡ n = omega arith in ap (λ m. Some (record { start = 0; end = m; open_w = 0; close_w = 0 })) e
+body_covers ts = let t : ItemTree = inner kind.Body [] ts [] in subst (Covers (width (held t))) (sym (annotated_is t)) (body_at ts)

@@ -1,5 +1,5 @@
 -- What a node of the annotated tree has beside its children.
-use Rattle.std.specs.Prelude.{ℕ, ◌+◌, Bool, true, false, Option, Some, None, List, [], ◌∷◌, length, if◌then◌else◌}
+use Rattle.std.specs.Prelude.{ℕ, ◌+◌, Bool, true, false, Option, Some, None, List, [], ◌∷◌, length}
 use Rattle.std.specs.List.{flat_map}
 use Rattle.wt_tree.specs.declared.kind.Kind.{Kind}
 use Rattle.wt_tree.specs.declared.kind.Kind.TheVariants as kind
@@ -9,7 +9,7 @@ use Rattle.wt_tree.specs.declared.kind.Mark.TheVariants as marks
 use Rattle.wt_tree.specs.declared.kind.Showing.{Showing}
 use Rattle.wt_tree.specs.declared.kind.Showing.TheVariants.{Characters, Inside, Nothing, Element}
 use Rattle.wt_tree.specs.declared.node.DataMw.{DataMw}
-use Rattle.wt_tree.specs.Kinds.{is_leaf, is_numbered, showing}
+use Rattle.wt_tree.specs.Kinds.{showing}
 use Rattle.wt_tree.specs.Tree.{Label}
 use Rattle.wt_span.specs.Items.{Item, sources}
 use Rattle.wt_inline.specs.Carried.{shown_item, attrs_item, data_item}
@@ -17,15 +17,6 @@ use Rattle.wt_inline.specs.Carried.{shown_item, attrs_item, data_item}
 -- how many bytes items have
 abbrev pub width : List Item → ℕ
 width items = length (sources items)
-
--- ---- numbers
-
--- a node's number, where the next one is this; 0 where it has none
-abbrev pub number_of : Kind → ℕ → ℕ
-number_of k next = if is_numbered k then next else 0
-
-abbrev pub next_after : Kind → ℕ → ℕ
-next_after k next = if is_numbered k then next + 1 else next
 
 -- ---- ranges
 
@@ -104,12 +95,12 @@ abbrev pub data_by : Bool → List Item → Option DataMw
 data_by true own = first_data own
 data_by false own = None
 
--- The label of a node of a kind that is a leaf or isn't, from this place on, whose number is the next one if it has one; `own`
--- are all items that it holds.
+-- The label of a node of a kind that is a leaf or isn't, from this place on and with this number; `own` are all items that it
+-- holds.
 unfoldable pub label_at : ℕ → ℕ → Bool → Kind → List Item → List Item → List Item → Label
-label_at at next is k opening own closing = record {
+label_at at id is k opening own closing = record {
   kind = k;
-  id = number_of k next;
+  id = id;
   ranges = Some (record { start = at; end = at + width own; open_w = open_width is k opening own; close_w = close_width is closing });
   opening = if_inner is (sources opening);
   closing = if_inner is (sources closing);

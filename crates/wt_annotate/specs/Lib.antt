@@ -2,3 +2,5 @@ pub mod Annotated
 pub mod Labels
 pub mod Made
 pub mod Nodes
+pub mod Numbering
+pub mod Slices

@@ -6,7 +6,8 @@ use Rattle.wt_tree.specs.declared.node.Node.{Node, Node-F}
 use Rattle.wt_tree.specs.Tree.{Label}
 use Rattle.wt_span.specs.declared.form.Piece.{Piece}
 use Rattle.wt_span.specs.Items.{Item, items_of, sources}
-use Rattle.wt_annotate.specs.Labels.{width, number_of, label_at}
+use Rattle.wt_annotate.specs.Labels.{width, label_at}
+use Rattle.wt_annotate.specs.Numbering.{number_of}
 
 -- a node that holds nothing yet, from this place up to the second, with these widths of its delimiters
 abbrev pub bare : Kind → ℕ → ℕ → ℕ → ℕ → ℕ → Node-F Node
@@ -27,7 +28,7 @@ bare k id start end open_w close_w = record {
 
 -- the label of a leaf that holds these items
 abbrev pub leaf_label : ℕ → ℕ → Kind → List Item → Label
-leaf_label at next k own = label_at at next true k [] own []
+leaf_label at next k own = label_at at (number_of k next) true k [] own []
 
 -- the label of any other node, from this place up to the second
 abbrev pub inner_label : ℕ → ℕ → Kind → ℕ → List Item → List Item → Label

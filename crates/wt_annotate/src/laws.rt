@@ -8,6 +8,7 @@ ghost use Rattle.wt_tree.specs.Tiling.{Tiled, Covers, numbers, InPreorder};
 ghost use Rattle.wt_inline.specs.ItemTree.{ItemTree, inner, ItemTrees, held};
 ghost use Rattle.wt_annotate.specs.Labels.{width};
 ghost use Rattle.wt_annotate.specs.Annotated.{numbered, annotated};
+ghost use Rattle.wt_annotate.specs.Slices.{AreSlices};
 
 /// The annotated tree joins to the sources of the items that the tree holds, its ranges tile it,
 /// that of a body covers all its bytes, and its numbers are in preorder, as many as are counted.
@@ -17,4 +18,10 @@ pub fn annotated_tree()
     ensures covers { (ts : ItemTrees) → Covers (width (held (inner node_kind.Body [] ts []))) (annotated (inner node_kind.Body [] ts [])) }
     ensures numbered { (t : ItemTree) → InPreorder (annotated t) }
     ensures count { (t : ItemTree) → length (numbers (annotated t)) ≡ numbered t }
+{}
+
+/// Each node's range is a slice of what the tree holds: from its start to its end stands the node's
+/// source, its open width is the length of its opening and its close width that of its closing.
+pub fn ranges_are_slices()
+    ensures { (t : ItemTree) → AreSlices (sources (held t)) (annotated t) }
 {}

@@ -20,7 +20,7 @@ pub fn kinds() -> &'static str {
      Text 0|{ |\n\
      TableOpen 15| {|\n\
      Text 16|{|\n\
-     Pre 16| {|\n\
+     Text 16| {|\n\
      Text 17|^{|\n\
      Text 0||}\n\
      Text 0|| a\n\
