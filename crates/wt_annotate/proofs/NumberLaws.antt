@@ -192,16 +192,16 @@ inside_length o zero (b ∷ bs) = inside_read o (entity_at (b ∷ bs)) b bs (λ 
 inside_of_le : (bs : List ℕ) → length (inside_of bs) ≤ length bs
 inside_of_le bs = omega (arith, length-take (inside_len bs) (behind bs), length-drop (opening_len bs) bs)
 
-nowiki_count : (o : Option ℕ) (bs : List ℕ) → numbered (nowiki o bs) ≤ 1 + length bs
+pub nowiki_inside : (o : Option ℕ) (bs : List ℕ) → numbered (nowiki o bs) ≤ 1 + length (inside_of bs)
 unfolding nowiki
-nowiki_count o bs =
+nowiki_inside o bs =
     let xs = inside_items o 0 (inside_of bs) in
-    omega (arith, children_count (map inside_part xs), inside_count xs, inside_length o 0 (inside_of bs), inside_of_le bs)
+    omega (arith, children_count (map inside_part xs), inside_count xs, inside_length o 0 (inside_of bs))
 
 whole_count : (f : Form) (o : Option ℕ) (bs : List ℕ) → numbered (whole_tree f o bs) ≤ 1 + length bs
 whole_count form.Chars o bs = omega arith
 whole_count (form.Entity c) o bs = omega arith
-whole_count form.Nowiki o bs = nowiki_count o bs
+whole_count form.Nowiki o bs = omega (arith, nowiki_inside o bs, inside_of_le bs)
 whole_count form.Extension o bs = omega arith
 whole_count form.Function o bs = omega arith
 whole_count form.Comment o bs = omega arith
