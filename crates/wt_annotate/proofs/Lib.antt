@@ -1,5 +1,6 @@
 mod Cases
 pub mod Firsts
+pub mod NumberLaws
 pub mod OnePass
 pub mod Passes
 pub mod Pieces

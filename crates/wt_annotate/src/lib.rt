@@ -11,5 +11,5 @@ mod page;
 mod pass;
 mod piece;
 
-pub use laws::{annotated_tree, ranges_are_slices};
+pub use laws::{annotated_tree, few_numbers, ranges_are_slices};
 pub use page::annotate;

@@ -15,7 +15,8 @@ use Rattle.wt_inline.specs.ItemTree.{ItemTree, leaf, forest, held, held_by_all}
 use Rattle.wt_inline.specs.Parts.{Part, loose, node, held_parts, same_loose, same_origin, one_leaf, loose_kind, child, children}
 use Rattle.wt_inline.proofs.HeldLaws.{sources_append}
 use Rattle.wt_annotate.specs.Labels.{width, label_at}
-use Rattle.wt_annotate.specs.Annotated.{numbered, numbered_in_all, annotated_at, all_annotated_at}
+use Rattle.wt_annotate.specs.Annotated.{numbered, numbered_in_all}
+use Rattle.wt_annotate.specs.Made.{annotated_at, all_annotated_at}
 
 -- a text or a separator that may stand in a node of this kind
 abbrev pub IsTextRun : Kind → List ℕ → Type 0
