@@ -1,0 +1,4 @@
+pub mod ListTree
+pub mod Nesting
+pub mod View
+pub mod Slices

@@ -1,0 +1,9 @@
+//! Lists, paragraphs and headings as runs of lines.
+//!
+//! `nest_lists` nests the lines of a list by their prefixes, `paragraphs` finds the runs of text
+//! lines, and `heading_parts` the delimiters of a heading. The layer above joins these to blocks.
+#![tactic(auto)]
+
+mod nest;
+
+pub use nest::{ListNode, nest_lists};
