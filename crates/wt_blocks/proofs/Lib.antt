@@ -1,2 +1,4 @@
 pub mod Fronts
 pub mod Nests
+pub mod Begun
+pub mod SameRows

@@ -2,3 +2,4 @@ pub mod ListTree
 pub mod Nesting
 pub mod View
 pub mod Slices
+pub mod Starts

@@ -4,6 +4,8 @@
 //! lines, and `heading_parts` the delimiters of a heading. The layer above joins these to blocks.
 #![tactic(auto)]
 
+mod laws;
 mod nest;
 
+pub use laws::nested_by_neighbours;
 pub use nest::{ListNode, nest_lists};
