@@ -2,3 +2,5 @@ pub mod Fronts
 pub mod Nests
 pub mod Begun
 pub mod SameRows
+pub mod Measures
+pub mod Cuts

@@ -3,3 +3,5 @@ pub mod Nesting
 pub mod View
 pub mod Slices
 pub mod Starts
+pub mod Headings
+pub mod Classes

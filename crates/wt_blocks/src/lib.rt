@@ -4,8 +4,12 @@
 //! lines, and `heading_parts` the delimiters of a heading. The layer above joins these to blocks.
 #![tactic(auto)]
 
+mod ends;
+mod heading;
 mod laws;
+mod measure;
 mod nest;
 
+pub use heading::heading_parts;
 pub use laws::nested_by_neighbours;
 pub use nest::{ListNode, nest_lists};
