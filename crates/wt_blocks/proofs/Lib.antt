@@ -4,3 +4,4 @@ pub mod Begun
 pub mod SameRows
 pub mod Measures
 pub mod Cuts
+pub mod TextRuns

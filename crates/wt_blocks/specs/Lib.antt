@@ -5,3 +5,4 @@ pub mod Slices
 pub mod Starts
 pub mod Headings
 pub mod Classes
+pub mod Paragraphs

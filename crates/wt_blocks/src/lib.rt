@@ -9,7 +9,9 @@ mod heading;
 mod laws;
 mod measure;
 mod nest;
+mod paragraph;
 
 pub use heading::heading_parts;
-pub use laws::nested_by_neighbours;
+pub use laws::{nested_by_neighbours, paragraphs_by_places};
 pub use nest::{ListNode, nest_lists};
+pub use paragraph::paragraphs;
