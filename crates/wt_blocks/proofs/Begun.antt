@@ -1,12 +1,12 @@
 -- The nest by runs, and what begins at each line.
-use Rattle.std.proofs.Common.{◌≡◌, ℕ, zero, suc, ◌+◌, ◌-◌, ◌*◌, ◌<◌, ◌≤◌, Bool, true, false, List, [], ◌∷◌, ◌++◌, length, get_or, drop, map, refl, sym, ap, ◌∙◌, subst, cond, arith, append_assoc, append-nil}
-use Rattle.std.specs.Prelude.{◌==◌, filter, nat_lt}
+use Rattle.std.proofs.Common.{◌≡◌, ℕ, zero, suc, ◌+◌, ◌-◌, ◌*◌, ◌<◌, ◌≤◌, Bool, true, false, List, [], ◌∷◌, ◌++◌, length, get_or, drop, map, refl, sym, ap, ◌∙◌, subst, cond, arith, append_assoc}
+use Rattle.std.specs.Prelude.{◌==◌, nat_lt}
 use Rattle.std.specs.List.{All, AllByRecursion}
 use Rattle.std.proofs.lemmas.Bool.Decides.{nat_tests}
 use Rattle.wt_span.specs.Runs.{runs, IsRun, AreRuns}
 use Rattle.wt_span.proofs.RunLaws.{runs_are}
-use Rattle.wt_blocks.specs.ListTree.{ListTree, node, ListTrees, none, more, forest}
-use Rattle.wt_blocks.specs.Nesting.{ListLine, IsPrefix, numbered, nested, same_list, sign_of, one_list, goes_on, one_item, without_sign, inner, node_of, item_by, items_by, list_by, lists}
+use Rattle.wt_blocks.specs.ListTree.{forest}
+use Rattle.wt_blocks.specs.Nesting.{ListLine, IsPrefix, numbered, nested, same_list, sign_of, one_list, goes_on, one_item, without_sign, inner, node_of, item_by, list_by, lists}
 use Rattle.wt_blocks.specs.Starts.{Row, rows, rows_of_all, common, last_sign, opened, begun_by, begun}
 
 -- ---- lines

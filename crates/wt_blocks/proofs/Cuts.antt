@@ -1,9 +1,8 @@
 -- The delimiters of a heading, counted from both ends of its line.
-use Rattle.std.proofs.Common.{◌≡◌, ℕ, zero, suc, ◌+◌, ◌-◌, ◌/◌, ◌<◌, ◌≤◌, Bool, true, false, List, [], ◌∷◌, length, get_or, take, drop, map, refl, sym, ap, ◌∙◌, subst, cond, arith, length-drop}
+use Rattle.std.proofs.Common.{◌≡◌, ℕ, zero, suc, ◌+◌, ◌-◌, ◌/◌, ◌<◌, ◌≤◌, Bool, true, false, List, [], ◌∷◌, length, get_or, take, drop, map, refl, sym, ap, ◌∙◌, cond, arith, length-drop}
 use Rattle.std.specs.Prelude.{◌==◌, min, reverse, if◌then◌else◌}
 use Rattle.std.specs.List.{prefix_len}
 use Rattle.std.proofs.Math.Numerals.{one-add}
-use Rattle.std.proofs.lemmas.Bool.Decides.{nat_tests}
 use Rattle.std.proofs.lemmas.List.{get_or-take, get_or-drop, get_or-reverse, length-take-le, length-reverse, take_all, same_lists, drop-drop}
 use Rattle.std.proofs.lemmas.List.Sums.{prefix_len-le-length}
 use Rattle.wt_span.specs.Bytes.{is_blank, blank_len}
@@ -27,7 +26,7 @@ past_by : (p : ℕ → Bool) (x : ℕ) (xs : List ℕ) (v : Bool) → past p xs 
 past_by p x xs true e = rw (one-add (prefix_len p xs)) e
 past_by p x xs false e = refl
 
-past_is : (p : ℕ → Bool) (xs : List ℕ) → past p xs ≡ drop (prefix_len p xs) xs
+pub past_is : (p : ℕ → Bool) (xs : List ℕ) → past p xs ≡ drop (prefix_len p xs) xs
 past_is p [] = refl
 past_is p (x ∷ xs) = past_by p x xs (p x) (past_is p xs)
 
@@ -42,7 +41,7 @@ dropped_taken (suc l) (suc c) [] = sym (none_taken (suc c - suc l))
 dropped_taken (suc l) (suc c) (x ∷ xs) = let e : suc c - suc l ≡ c - l = omega arith in dropped_taken l c xs ∙ ap (λ n. take n (drop l xs)) (sym e)
 
 -- a middle part from the back
-middle : (xs : List ℕ) (o d l : ℕ) → o + d + l ≡ length xs → reverse (take d (drop o xs)) ≡ take d (drop l (reverse xs))
+pub middle : (xs : List ℕ) (o d l : ℕ) → o + d + l ≡ length xs → reverse (take d (drop o xs)) ≡ take d (drop l (reverse xs))
 middle xs o d l e =
     let r = length-reverse xs in
     let tl : length (take d (drop o xs)) ≡ d = length-take-le d (drop o xs) (omega (arith, length-drop o xs)) in
@@ -60,16 +59,16 @@ middle xs o d l e =
 
 -- ---- up to the last visible sign that is no blank
 
-idle_within : (ss : List ℕ) → prefix_len is_idle (reverse ss) ≤ length ss
+pub idle_within : (ss : List ℕ) → prefix_len is_idle (reverse ss) ≤ length ss
 idle_within ss = let a = prefix_len-le-length is_idle (reverse ss) in let b = length-reverse ss in omega (arith, a, b)
 
-core_is : (ss : List ℕ) → length (core ss) ≡ length ss - prefix_len is_idle (reverse ss)
+pub core_is : (ss : List ℕ) → length (core ss) ≡ length ss - prefix_len is_idle (reverse ss)
 core_is ss = length-take-le (length ss - prefix_len is_idle (reverse ss)) ss (omega arith)
 
 pub core_len : (ss : List ℕ) (count idle : ℕ) → count ≡ length ss → idle ≡ min count (prefix_len is_idle (reverse ss)) → count - idle ≡ length (core ss)
 core_len ss count idle e f = let a = idle_within ss in let b = core_is ss in omega (arith, a, b, e, f)
 
-core_back : (ss : List ℕ) → reverse (core ss) ≡ past is_idle (reverse ss)
+pub core_back : (ss : List ℕ) → reverse (core ss) ≡ past is_idle (reverse ss)
 core_back ss =
     let j = prefix_len is_idle (reverse ss) in
     let a = idle_within ss in
@@ -102,7 +101,7 @@ small_by : (c a b : ℕ) (v : Bool) → a ≤ c → (cond v (min 6 ((c - 1) / 2)
 small_by c a b true h = (omega arith, omega arith)
 small_by c a b false h = (omega arith, omega arith)
 
-level_small : (c : List ℕ) → (level_of c ≤ 6) × (level_of c ≤ length c)
+pub level_small : (c : List ℕ) → (level_of c ≤ 6) × (level_of c ≤ length c)
 level_small c = small_by (length c) (equals c) (equals (reverse c)) (equals c == length c) (prefix_len-le-length (λ s. s == 61) c)
 
 pub level_fits : (c : List ℕ) (level : ℕ) → level ≡ level_of c → level < 256
@@ -118,7 +117,7 @@ open_is ss c level rest blanks ec el er eb =
         ∙ ap blank_len (sym (dropped_taken level (length ss - prefix_len is_idle (reverse ss)) ss)) in
     ap (λ n. level + n) b ∙ ap (λ n. n + blank_len (drop n (core ss))) el
 
-between : (c : List ℕ) (o d l : ℕ) → d ≡ length c - l - o → blank_len (reverse (take d (drop o c))) ≡ min d (blank_len (drop l (reverse c)))
+pub between : (c : List ℕ) (o d l : ℕ) → d ≡ length c - l - o → blank_len (reverse (take d (drop o c))) ≡ min d (blank_len (drop l (reverse c)))
 between c o zero l e = omega arith
 between c o (suc d) l e = ap blank_len (middle c o (suc d) l (omega arith)) ∙ prefix_taken is_blank (suc d) (drop l (reverse c))
 

@@ -5,3 +5,5 @@ pub mod SameRows
 pub mod Measures
 pub mod Cuts
 pub mod TextRuns
+pub mod HeadingLaws
+pub mod Rows

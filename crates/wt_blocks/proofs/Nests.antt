@@ -1,13 +1,13 @@
 -- Lists and items, run by run.
-use Rattle.std.proofs.Common.{◌≡◌, ℕ, zero, suc, ◌+◌, ◌-◌, ◌<◌, ◌≤◌, Bool, true, false, List, [], ◌∷◌, ◌++◌, length, get_or, take, drop, map, refl, sym, ap, ◌∙◌, subst, cond, arith, append_assoc, append-nil, length-drop}
-use Rattle.std.specs.Prelude.{filter, nat_lt}
+use Rattle.std.proofs.Common.{◌≡◌, ℕ, zero, suc, ◌+◌, ◌-◌, ◌<◌, ◌≤◌, Bool, true, false, List, [], ◌∷◌, ◌++◌, length, get_or, take, drop, map, refl, sym, ap, ◌∙◌, subst, arith, append_assoc, append-nil, length-drop}
+use Rattle.std.specs.Prelude.{nat_lt}
 use Rattle.std.specs.List.{AllByRecursion}
 use Rattle.std.proofs.lemmas.Bool.Decides.{nat_tests}
 use Rattle.std.proofs.lemmas.List.{map-append, length-map, get_or-drop, drop-drop, take-append-drop, length-take-le, get_or-take}
-use Rattle.wt_span.specs.Runs.{runs, IsRun}
+use Rattle.wt_span.specs.Runs.{IsRun}
 use Rattle.wt_span.proofs.RunLaws.{runs_cut}
 use Rattle.wt_blocks.specs.ListTree.{ListTree}
-use Rattle.wt_blocks.specs.Nesting.{ListLine, numbered, same_list, one_list, one_item, goes_on, without_sign, inner, item_by, items_by, list_by, lists}
+use Rattle.wt_blocks.specs.Nesting.{ListLine, numbered, same_list, one_list, one_item, inner, item_by, items_by, list_by, lists}
 use Rattle.wt_blocks.specs.View.{list_tree, list_trees}
 use Rattle.wt_blocks.specs.declared.nest.ListNode.{ListNode}
 use Rattle.wt_blocks.specs.Slices.{lines_from, AreLeft, one_list_at, one_item_at, IsFront}

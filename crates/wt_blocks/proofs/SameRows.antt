@@ -1,5 +1,5 @@
 -- The nodes of lists in preorder, with their depths, tell the lists.
-use Rattle.std.proofs.Common.{◌≡◌, ℕ, zero, suc, ◌<◌, Bool, true, false, List, [], ◌∷◌, ◌++◌, length, get_or, drop, refl, sym, ap, ◌∙◌, subst, arith, append_assoc, append-nil}
+use Rattle.std.proofs.Common.{◌≡◌, ℕ, suc, ◌<◌, Bool, List, [], ◌∷◌, ◌++◌, get_or, drop, refl, sym, ap, ◌∙◌, subst, arith, append_assoc, append-nil}
 use Rattle.wt_blocks.specs.ListTree.{ListTree, node, ListTrees, none, more, forest}
 use Rattle.wt_blocks.specs.Starts.{Row, rows, rows_of_all}
 

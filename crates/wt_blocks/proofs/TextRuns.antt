@@ -1,12 +1,12 @@
 -- Paragraphs as runs of lines, and by the places at which they begin.
-use Rattle.std.proofs.Common.{◌≡◌, ℕ, zero, suc, ◌+◌, ◌<◌, Bool, true, false, Some, None, List, [], ◌∷◌, ◌++◌, length, drop, refl, sym, ap, ◌∙◌, subst, cond, arith, append_assoc, append-nil}
+use Rattle.std.proofs.Common.{◌≡◌, ℕ, zero, suc, ◌+◌, Bool, true, false, Some, List, [], ◌∷◌, ◌++◌, length, drop, refl, sym, ap, ◌∙◌, cond, arith}
 use Rattle.std.specs.Prelude.{◌&&◌, not, slice_get}
 use Rattle.std.specs.List.{list_all, prefix_len, flat_map, range_with_len, AllByRecursion}
 use Rattle.std.proofs.Math.Numerals.{one-add}
 use Rattle.wt_span.specs.Runs.{runs, IsRun, AreRuns}
 use Rattle.wt_span.proofs.RunLaws.{runs_are}
 use Rattle.wt_lines.specs.declared.kind.LineKind.{LineKind}
-use Rattle.wt_blocks.specs.Paragraphs.{is_text, one_paragraph, text_ranges, paragraph_ranges, is_text_kind, is_text_before, begins_at, paragraph_at, paragraphs_by_place}
+use Rattle.wt_blocks.specs.Paragraphs.{is_text, one_paragraph, text_ranges, paragraph_ranges, is_text_kind, is_text_before, paragraph_at, paragraphs_by_place}
 
 -- line by line, where it is known whether the line before is text
 abbrev told : ℕ → Bool → List LineKind → List (ℕ × ℕ)

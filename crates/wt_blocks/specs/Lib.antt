@@ -6,3 +6,4 @@ pub mod Starts
 pub mod Headings
 pub mod Classes
 pub mod Paragraphs
+pub mod HeadingEnds

@@ -1,11 +1,11 @@
-use Rattle.std.proofs.Common.{◌≡◌, ◌+◌, ◌-◌, ◌≤◌, length, map, drop, ap, sym, ◌∙◌, arith}
-use Rattle.std.specs.Prelude.{min, reverse}
+use Rattle.std.proofs.Common.{◌≡◌, ◌+◌, ◌-◌, length, map, drop, ap, sym, ◌∙◌, arith}
+use Rattle.std.specs.Prelude.{min}
 use Rattle.std.specs.List.{prefix_len}
 use Rattle.std.proofs.lemmas.List.{length-map}
 use Rattle.wt_span.specs.Bytes.{blank_len}
 use Rattle.wt_span.specs.Items.{sign, items}
 use Rattle.wt_lines.specs.Kinds.{is_idle, past}
-use Rattle.wt_blocks.specs.Headings.{core, equals, level_of, open_len, inside_len}
+use Rattle.wt_blocks.specs.Headings.{equals}
 use Rattle.wt_blocks.proofs.Cuts.{core_len, level_is, open_is, inside_is, cuts_within}
 use Rattle.wt_blocks.proofs.heading.cuts_of.Goals as goal
 

@@ -1,4 +1,4 @@
-use Rattle.std.proofs.Common.{◌≡◌, ◌+◌, ◌-◌, ◌^◌, ◌<◌, ◌≤◌, length, take, ap, sym, ◌∙◌, arith}
+use Rattle.std.proofs.Common.{◌+◌, ◌-◌, length, take, ap, ◌∙◌, arith}
 use Rattle.wt_span.specs.Items.{items, sources}
 use Rattle.wt_blocks.proofs.Measures.{few_items, front_below}
 use Rattle.wt_blocks.proofs.Cuts.{delimiters_are}

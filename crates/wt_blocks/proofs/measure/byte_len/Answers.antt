@@ -1,4 +1,4 @@
-use Rattle.std.proofs.Common.{◌+◌, length, take, arith}
+use Rattle.std.proofs.Common.{length, take, arith}
 use Rattle.wt_span.specs.Items.{items, sources}
 use Rattle.wt_blocks.proofs.Measures.{bytes_step, bytes_fit}
 use Rattle.wt_blocks.proofs.measure.byte_len.Goals as goal

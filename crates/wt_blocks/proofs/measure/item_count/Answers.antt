@@ -1,4 +1,4 @@
-use Rattle.std.proofs.Common.{◌+◌, arith}
+use Rattle.std.proofs.Common.{arith}
 use Rattle.wt_blocks.proofs.Measures.{count_fits}
 use Rattle.wt_blocks.proofs.measure.item_count.Goals as goal
 

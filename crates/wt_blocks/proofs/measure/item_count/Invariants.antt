@@ -1,5 +1,5 @@
-use Rattle.std.proofs.Common.{◌≡◌, ◌+◌, ◌≤◌, length, take, drop}
-use Rattle.wt_span.specs.Items.{items, sources}
+use Rattle.std.proofs.Common.{◌≡◌, length, take}
+use Rattle.wt_span.specs.Items.{items}
 use Rattle.wt_blocks.proofs.measure.item_count.Given as goal
 
 abbrev pub invariant-loop-piece : goal.invariant-loop-piece

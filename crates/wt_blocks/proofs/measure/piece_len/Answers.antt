@@ -1,4 +1,4 @@
-use Rattle.std.proofs.Common.{◌≡◌, length, ap, sym, ◌∙◌}
+use Rattle.std.proofs.Common.{length, ap, sym, ◌∙◌}
 use Rattle.std.specs.Prelude.{min}
 use Rattle.wt_blocks.proofs.Measures.{chars_len}
 use Rattle.wt_blocks.proofs.measure.piece_len.Goals as goal

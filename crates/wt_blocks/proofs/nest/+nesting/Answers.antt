@@ -1,7 +1,6 @@
-use Rattle.std.proofs.Common.{◌≡◌, ◌+◌, ◌-◌, ◌*◌, ◌<◌, ◌≤◌, ◌++◌, ◌∷◌, [], true, false, length, drop, ap, sym, ◌∙◌, subst, arith}
+use Rattle.std.proofs.Common.{◌≡◌, ◌+◌, ◌-◌, ◌<◌, ◌++◌, ◌∷◌, [], true, false, length, drop, ap, sym, ◌∙◌, arith}
 use Rattle.std.proofs.lemmas.List.{drop_all}
-use Rattle.std.proofs.lemmas.Result.{IfOk-weaker}
-use Rattle.wt_blocks.specs.Nesting.{node_of, item_by, items_by, lists}
+use Rattle.wt_blocks.specs.Nesting.{node_of, items_by, lists}
 use Rattle.wt_blocks.specs.Slices.{lines_from}
 use Rattle.wt_blocks.specs.View.{list_tree, list_trees}
 use Rattle.wt_blocks.proofs.Nests.{within_by, taken, pushed, list_done, item_done, lists_end}

@@ -1,4 +1,4 @@
-use Rattle.std.proofs.Common.{◌≡◌, ◌+◌, length, get_or, [], sym, ap, ◌∙◌, true, false}
+use Rattle.std.proofs.Common.{◌+◌, length, [], sym, ap, ◌∙◌}
 use Rattle.std.specs.Prelude.{nat_lt}
 use Rattle.wt_blocks.proofs.Fronts.{read_as}
 use Rattle.wt_blocks.proofs.Nests.{left_longer, left_shorter, inside_longer, inside_shorter}

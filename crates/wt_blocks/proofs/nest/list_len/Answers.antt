@@ -1,4 +1,4 @@
-use Rattle.std.proofs.Common.{◌+◌, ◌-◌, ◌<◌, [], get_or, length, sym, ap, ◌∙◌, arith}
+use Rattle.std.proofs.Common.{◌+◌, ◌<◌, [], get_or, length, sym, ap, ◌∙◌, arith}
 use Rattle.wt_blocks.specs.Slices.{one_list_at}
 use Rattle.wt_blocks.proofs.Fronts.{front_at, front_all, read_as}
 use Rattle.wt_blocks.proofs.nest.list_len.Goals as goal

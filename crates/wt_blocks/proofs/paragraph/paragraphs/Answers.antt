@@ -1,7 +1,6 @@
 use Rattle.std.proofs.Common.{◌≡◌, ◌++◌, ◌∙◌, ap, sym, length, arith}
-use Rattle.std.specs.List.{flat_map, range_with_len}
 use Rattle.wt_span.proofs.Places.{flat_map-range_more}
-use Rattle.wt_blocks.specs.Paragraphs.{paragraph_at, paragraphs_by_place, paragraph_ranges}
+use Rattle.wt_blocks.specs.Paragraphs.{paragraph_at}
 use Rattle.wt_blocks.proofs.TextRuns.{paragraphs_done}
 use Rattle.wt_blocks.proofs.paragraph.paragraphs.Goals as goal
 
