@@ -1,5 +1,4 @@
 mod Cases
-pub mod Firsts
 pub mod NumberLaws
 pub mod OnePass
 pub mod Passes

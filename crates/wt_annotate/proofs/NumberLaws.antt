@@ -16,7 +16,7 @@ use Rattle.wt_inline.specs.declared.loose.Loose.TheVariants.{Text, Sep}
 use Rattle.wt_inline.specs.RawTag.{inside_len, behind, inside_of, opening_len}
 use Rattle.wt_inline.specs.Inside.{read_with, inside_items}
 use Rattle.wt_inline.specs.ItemTree.{forest}
-use Rattle.wt_inline.specs.Parts.{Part, loose, node, one_leaf, child, children, inside_part, nowiki, whole_tree, parts}
+use Rattle.wt_inline.specs.Parts.{Part, loose, node, one_leaf, child, children, form_leaf, inside_part, nowiki, whole_tree, parts}
 use Rattle.wt_inline.specs.Inline.{inline_parts, inline_trees}
 use Rattle.wt_build.specs.declared.block.BlockKind.{BlockKind}
 use Rattle.wt_build.specs.declared.block.BlockKind.TheVariants.{Between, Heading, Para}
@@ -174,10 +174,21 @@ meaning_count xs =
 
 -- ---- a form makes one node, and at most one more for each of its bytes
 
+form_one : (f : Form) (o : Option ℕ) (bs : List ℕ) → numbered (form_leaf f o bs) ≤ 1
+form_one form.Chars o bs = omega arith
+form_one (form.Entity c) o bs = omega arith
+form_one form.Nowiki o bs = omega arith
+form_one form.Extension o bs = omega arith
+form_one form.Function o bs = omega arith
+form_one form.Comment o bs = omega arith
+form_one form.Include o bs = omega arith
+form_one form.Hidden o bs = omega arith
+form_one form.EmptyCall o bs = omega arith
+
 inside_count : (xs : List Item) → counts (map inside_part xs) ≤ length xs
 inside_count [] = omega arith
 inside_count (char o b ∷ xs) = omega (arith, inside_count xs)
-inside_count (whole f o bs ∷ xs) = omega (arith, inside_count xs)
+inside_count (whole f o bs ∷ xs) = omega (arith, form_one f o bs, inside_count xs)
 
 inside_read : (o : Option ℕ) (e : Option (ℕ × ℕ)) (b : ℕ) (bs : List ℕ) → ((n : ℕ) → length (inside_items o n bs) ≤ length bs) → length (read_with o e b bs (λ n. inside_items o n bs)) ≤ suc (length bs)
 inside_read o None b bs h = let rest = h 0 in omega arith

@@ -31,8 +31,8 @@ mutual
   unfolding label_at
 
   pub count_placed : (before : List Item) (t : ItemTree) → count (placed before t) ≡ numbered t
-  count_placed before (inner k opening ts closing) =
-      ap (λ n. (if is_numbered k then 1 else 0) + n) (inside_count (is_group k) (is_leaf k) (all_placed (before ++ opening) ts) (numbered_in_all ts) (group_leaf k) (count_all_placed (before ++ opening) ts))
+  count_placed before (inner h opening ts closing) =
+      ap (λ n. (if is_numbered h.kind then 1 else 0) + n) (inside_count (is_group h.kind) (is_leaf h.kind) (all_placed (before ++ opening) ts) (numbered_in_all ts) (group_leaf h.kind) (count_all_placed (before ++ opening) ts))
 
   pub count_all_placed : (before : List Item) (ts : ItemTrees) → count_all (all_placed before ts) ≡ numbered_in_all ts
   count_all_placed before nothing = refl
@@ -50,10 +50,10 @@ mutual
   unfolding label_at
 
   pub numbers_placed : (before : List Item) (next : ℕ) (t : ItemTree) → with_numbers next (placed before t) ≡ annotated_at (width before) next t
-  numbers_placed before next (inner k opening ts closing) =
-      ap (tree (label_at (width before) (number_of k next) (is_leaf k) k opening (opening ++ (held_by_all ts ++ closing)) closing))
-      (inside_same (is_group k) (is_leaf k) (next_after k next) (all_placed (before ++ opening) ts) (all_annotated_at (width before + width opening) (next_after k next) ts) (group_leaf k)
-      (all_numbers_placed (before ++ opening) (next_after k next) ts ∙ ap (λ at. all_annotated_at at (next_after k next) ts) (width_append before opening)))
+  numbers_placed before next (inner h opening ts closing) =
+      ap (tree (label_at (width before) (number_of h.kind next) (is_leaf h.kind) h opening (opening ++ (held_by_all ts ++ closing)) closing))
+      (inside_same (is_group h.kind) (is_leaf h.kind) (next_after h.kind next) (all_placed (before ++ opening) ts) (all_annotated_at (width before + width opening) (next_after h.kind next) ts) (group_leaf h.kind)
+      (all_numbers_placed (before ++ opening) (next_after h.kind next) ts ∙ ap (λ at. all_annotated_at at (next_after h.kind next) ts) (width_append before opening)))
 
   pub all_numbers_placed : (before : List Item) (next : ℕ) (ts : ItemTrees) → all_with_numbers next (all_placed before ts) ≡ all_annotated_at (width before) next ts
   all_numbers_placed before next nothing = refl

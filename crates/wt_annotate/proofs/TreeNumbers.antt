@@ -44,8 +44,8 @@ mutual
   unfolding label_at
 
   pub numbers_at : (at next : ℕ) (t : ItemTree) → numbers (annotated_at at next t) ≡ range_with_len next (numbered t)
-  numbers_at at next (inner k opening ts closing) =
-      numbers_by (is_numbered k) (is_group k) (is_leaf k) next (numbered_in_all ts) (all_annotated_at (at + width opening) (next_after k next) ts) (group_leaf k) (all_numbers_at (at + width opening) (next_after k next) ts)
+  numbers_at at next (inner h opening ts closing) =
+      numbers_by (is_numbered h.kind) (is_group h.kind) (is_leaf h.kind) next (numbered_in_all ts) (all_annotated_at (at + width opening) (next_after h.kind next) ts) (group_leaf h.kind) (all_numbers_at (at + width opening) (next_after h.kind next) ts)
 
   pub all_numbers_at : (at next : ℕ) (ts : ItemTrees) → numbers_of_all (all_annotated_at at next ts) ≡ range_with_len next (numbered_in_all ts)
   all_numbers_at at next nothing = refl
@@ -81,8 +81,8 @@ mutual
   unfolding label_at
 
   pub others_at : (at next : ℕ) (t : ItemTree) → AllZero (others (annotated_at at next t))
-  others_at at next (inner k opening ts closing) =
-      others_by (is_numbered k) (is_group k) (is_leaf k) next (all_annotated_at (at + width opening) (next_after k next) ts) (group_leaf k) (all_others_at (at + width opening) (next_after k next) ts)
+  others_at at next (inner h opening ts closing) =
+      others_by (is_numbered h.kind) (is_group h.kind) (is_leaf h.kind) next (all_annotated_at (at + width opening) (next_after h.kind next) ts) (group_leaf h.kind) (all_others_at (at + width opening) (next_after h.kind next) ts)
 
   pub all_others_at : (at next : ℕ) (ts : ItemTrees) → AllZero (others_of_all (all_annotated_at at next ts))
   all_others_at at next nothing = tt

@@ -7,7 +7,7 @@ use Rattle.wt_tree.specs.Kinds.{is_leaf}
 use Rattle.wt_tree.specs.Source.{flat}
 use Rattle.wt_tree.specs.Tree.{Label, Tree, tree, Trees, none, more, subtrees, subtrees_of_all}
 use Rattle.wt_span.specs.Items.{Item, sources}
-use Rattle.wt_inline.specs.ItemTree.{ItemTree, inner, ItemTrees, nothing, further, held, held_by_all}
+use Rattle.wt_inline.specs.ItemTree.{Head, ItemTree, inner, ItemTrees, nothing, further, held, held_by_all}
 use Rattle.wt_annotate.specs.Labels.{width, leaf_open, open_width, close_width, if_leaf, if_inner, label_at}
 use Rattle.wt_annotate.specs.Numbering.{number_of, next_after}
 use Rattle.wt_annotate.specs.Annotated.{inside_by, numbered, annotated}
@@ -25,10 +25,10 @@ leaf_most kind.Text n = omega arith
 leaf_most kind.Group n = omega arith
 leaf_most k n = omega arith
 
-open_by : (is : Bool) (at id : ℕ) (k : Kind) (opening own closing : List Item) → open_width is k opening own ≡ length (opening_by is (label_at at id is k opening own closing))
+open_by : (is : Bool) (at id : ℕ) (h : Head) (opening own closing : List Item) → open_width is h.kind opening own ≡ length (opening_by is (label_at at id is h opening own closing))
 unfolding label_at
-open_by true at id k opening own closing = omega (arith, length-take (leaf_open k (length (sources own))) (sources own), leaf_most k (length (sources own)))
-open_by false at id k opening own closing = refl
+open_by true at id h opening own closing = omega (arith, length-take (leaf_open h.kind (length (sources own))) (sources own), leaf_most h.kind (length (sources own)))
+open_by false at id h opening own closing = refl
 
 close_by : (is : Bool) (closing : List Item) → close_width is closing ≡ length (if_inner is (sources closing))
 close_by true closing = refl
@@ -57,16 +57,16 @@ slice_between page before source after start end p s e =
 
 node_slice : (page before after : List ℕ) (at next : ℕ) (t : ItemTree) → page ≡ before ++ (sources (held t) ++ after) → at ≡ length before → IsSlice page (annotated_at at next t)
 unfolding label_at
-node_slice page before after at next (inner k opening ts closing) p a =
+node_slice page before after at next (inner h opening ts closing) p a =
     let own : List Item = opening ++ (held_by_all ts ++ closing) in
     let all : length page ≡ length before + (width own + length after) =
     ap length p ∙ length-append before (sources own ++ after) ∙ ap (λ n. length before + n) (length-append (sources own) after) in
     record {
       ordered = omega arith;
       within = omega (arith, all, a);
-      stands = slice_between page before (sources own) after at (at + width own) p a refl ∙ sym (flat_at at next (inner k opening ts closing));
-      open_width = open_by (is_leaf k) at (number_of k next) k opening own closing;
-      close_width = close_by (is_leaf k) closing;
+      stands = slice_between page before (sources own) after at (at + width own) p a refl ∙ sym (flat_at at next (inner h opening ts closing));
+      open_width = open_by (is_leaf h.kind) at (number_of h.kind next) h opening own closing;
+      close_width = close_by (is_leaf h.kind) closing;
     }
 
 -- ---- all nodes
@@ -81,7 +81,7 @@ inside_slices false page us h = h
 
 mutual
   pub slices_at : (page before after : List ℕ) (at next : ℕ) (t : ItemTree) → page ≡ before ++ (sources (held t) ++ after) → at ≡ length before → AreSlices page (annotated_at at next t)
-  slices_at page before after at next (inner k opening ts closing) p a =
+  slices_at page before after at next (inner h opening ts closing) p a =
       let inside : List ℕ = sources (held_by_all ts) in
       let three : sources (opening ++ (held_by_all ts ++ closing)) ≡ sources opening ++ (inside ++ sources closing) =
       sources_append opening (held_by_all ts ++ closing) ∙ ap (λ xs. sources opening ++ xs) (sources_append (held_by_all ts) closing) in
@@ -91,9 +91,9 @@ mutual
       ∙ ap (λ xs. before ++ xs) (append_assoc (sources opening) (inside ++ sources closing) after)
       ∙ ap (λ xs. before ++ (sources opening ++ xs)) (append_assoc inside (sources closing) after)
       ∙ sym (append_assoc before (sources opening) (inside ++ (sources closing ++ after))) in (
-        node_slice page before after at next (inner k opening ts closing) p a,
-        inside_slices (is_leaf k) page (all_annotated_at (at + width opening) (next_after k next) ts)
-            (all_slices page (before ++ sources opening) (sources closing ++ after) (at + width opening) (next_after k next) ts page_is (omega (arith, a, length-append before (sources opening)))),
+        node_slice page before after at next (inner h opening ts closing) p a,
+        inside_slices (is_leaf h.kind) page (all_annotated_at (at + width opening) (next_after h.kind next) ts)
+            (all_slices page (before ++ sources opening) (sources closing ++ after) (at + width opening) (next_after h.kind next) ts page_is (omega (arith, a, length-append before (sources opening)))),
       )
 
   pub all_slices : (page before after : List ℕ) (at next : ℕ) (ts : ItemTrees) → page ≡ before ++ (sources (held_by_all ts) ++ after) → at ≡ length before

@@ -26,8 +26,8 @@ mutual
   unfolding label_at
 
   pub flat_at : (at next : ℕ) (t : ItemTree) → flat (annotated_at at next t) ≡ sources (held t)
-  flat_at at next (inner k opening ts closing) =
-      flat_by (is_leaf k) opening (held_by_all ts) closing (all_annotated_at (at + width opening) (next_after k next) ts) (flat_all_at (at + width opening) (next_after k next) ts)
+  flat_at at next (inner h opening ts closing) =
+      flat_by (is_leaf h.kind) opening (held_by_all ts) closing (all_annotated_at (at + width opening) (next_after h.kind next) ts) (flat_all_at (at + width opening) (next_after h.kind next) ts)
 
   pub flat_all_at : (at next : ℕ) (ts : ItemTrees) → flat_of_all (all_annotated_at at next ts) ≡ sources (held_by_all ts)
   flat_all_at at next nothing = refl

@@ -16,7 +16,7 @@ inside_by false ts = ts
 -- a tree behind these items, whose nodes have no numbers so far
 abbrev mutual
   pub placed : List Item → ItemTree → Tree
-  placed before (inner k opening ts closing) = tree (label_at (width before) 0 (is_leaf k) k opening (opening ++ (held_by_all ts ++ closing)) closing) (inside_by (is_leaf k) (all_placed (before ++ opening) ts))
+  placed before (inner h opening ts closing) = tree (label_at (width before) 0 (is_leaf h.kind) h opening (opening ++ (held_by_all ts ++ closing)) closing) (inside_by (is_leaf h.kind) (all_placed (before ++ opening) ts))
 
   pub all_placed : List Item → ItemTrees → Trees
   all_placed before nothing = none
@@ -33,7 +33,7 @@ count_by false n = n
 
 abbrev mutual
   pub numbered : ItemTree → ℕ
-  numbered (inner k opening ts closing) = (if is_numbered k then 1 else 0) + count_by (is_leaf k) (numbered_in_all ts)
+  numbered (inner h opening ts closing) = (if is_numbered h.kind then 1 else 0) + count_by (is_leaf h.kind) (numbered_in_all ts)
 
   pub numbered_in_all : ItemTrees → ℕ
   numbered_in_all nothing = 0

@@ -11,8 +11,8 @@ use Rattle.wt_annotate.specs.Annotated.{inside_by, numbered, numbered_in_all}
 -- places and numbers at once
 abbrev mutual
   pub annotated_at : ℕ → ℕ → ItemTree → Tree
-  annotated_at at next (inner k opening ts closing) =
-      tree (label_at at (number_of k next) (is_leaf k) k opening (opening ++ (held_by_all ts ++ closing)) closing) (inside_by (is_leaf k) (all_annotated_at (at + width opening) (next_after k next) ts))
+  annotated_at at next (inner h opening ts closing) =
+      tree (label_at at (number_of h.kind next) (is_leaf h.kind) h opening (opening ++ (held_by_all ts ++ closing)) closing) (inside_by (is_leaf h.kind) (all_annotated_at (at + width opening) (next_after h.kind next) ts))
 
   pub all_annotated_at : ℕ → ℕ → ItemTrees → Trees
   all_annotated_at at next nothing = none

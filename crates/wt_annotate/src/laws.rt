@@ -5,7 +5,7 @@ ghost use Rattle.wt_span.specs.Items.{Item, sources};
 ghost use Rattle.wt_tree.specs.declared.kind.Kind.TheVariants as node_kind;
 ghost use Rattle.wt_tree.specs.Source.{flat};
 ghost use Rattle.wt_tree.specs.Tiling.{Tiled, Covers, numbers, InPreorder};
-ghost use Rattle.wt_inline.specs.ItemTree.{ItemTree, inner, ItemTrees, held};
+ghost use Rattle.wt_inline.specs.ItemTree.{plain, ItemTree, inner, ItemTrees, held};
 ghost use Rattle.wt_build.specs.Meaning.{meaning};
 ghost use Rattle.wt_annotate.specs.Labels.{width};
 ghost use Rattle.wt_annotate.specs.Annotated.{numbered, annotated};
@@ -17,7 +17,7 @@ ghost use Rattle.wt_annotate.specs.Slices.{AreSlices};
 pub fn annotated_tree()
     ensures source { (t : ItemTree) → flat (annotated t) ≡ sources (held t) }
     ensures tiled { (t : ItemTree) → Tiled (annotated t) }
-    ensures covers { (ts : ItemTrees) → Covers (width (held (inner node_kind.Body [] ts []))) (annotated (inner node_kind.Body [] ts [])) }
+    ensures covers { (ts : ItemTrees) → Covers (width (held (inner (plain node_kind.Body) [] ts []))) (annotated (inner (plain node_kind.Body) [] ts [])) }
     ensures numbered { (t : ItemTree) → InPreorder (annotated t) }
     ensures count { (t : ItemTree) → length (numbers (annotated t)) ≡ numbered t }
 {}

@@ -2,7 +2,6 @@
 //! place in bytes and its number, and with what its element carries.
 #![tactic(auto)]
 
-mod carry;
 mod cursor;
 mod held;
 mod laws;
