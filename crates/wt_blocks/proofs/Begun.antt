@@ -214,8 +214,8 @@ next_items n d ((l ∷ ls) ∷ rs) all before h r s v b a =
     let vv = subst Begins r.1 v in
     ap (λ qs. qs ++ rows_of_all (suc d) (forest (map (item_by (lists n)) rs))) (next_item n d before l ls h s vv g (bounded_front (suc n) (l ∷ ls) others bb) (alike_front before (l ∷ ls) others aa))
     ∙ ap (λ qs. begun d before (l ∷ ls) ++ qs)
-        (next_items n d rs others (last_prefix before (l ∷ ls)) h r.3 (some_last (suc n) before (l ∷ ls) s (bounded_front (suc n) (l ∷ ls) others bb)) (begins_after l ls others r.2)
-            (bounded_back (suc n) (l ∷ ls) others bb) (alike_back before (l ∷ ls) others aa))
+    (next_items n d rs others (last_prefix before (l ∷ ls)) h r.3 (some_last (suc n) before (l ∷ ls) s (bounded_front (suc n) (l ∷ ls) others bb)) (begins_after l ls others r.2)
+    (bounded_back (suc n) (l ∷ ls) others bb) (alike_back before (l ∷ ls) others aa))
     ∙ sym (begun_append d before (l ∷ ls) others)
     ∙ ap (begun d before) (sym r.1)
 
@@ -251,8 +251,8 @@ one_run n d ((l ∷ ls) ∷ rs) all h r s b a =
     ap (λ ms. rows d (node_of false ms (map (item_by (lists n)) ((l ∷ ls) ∷ rs)))) r.1
     ∙ ap (λ qs. qs ++ rows_of_all (suc d) (forest (map (item_by (lists n)) rs))) (first_item n d l ls h g ff (alike_front l.prefix ls others aa))
     ∙ ap (λ qs. begun d [] (l ∷ ls) ++ qs)
-        (next_items n d rs others (last_prefix l.prefix ls) h r.3 (some_last (suc n) l.prefix ls ff.0.0 ff.1) (begins_after l ls others r.2)
-            (bounded_back (suc n) (l ∷ ls) others bb) (alike_back l.prefix ls others aa))
+    (next_items n d rs others (last_prefix l.prefix ls) h r.3 (some_last (suc n) l.prefix ls ff.0.0 ff.1) (begins_after l ls others r.2)
+    (bounded_back (suc n) (l ∷ ls) others bb) (alike_back l.prefix ls others aa))
     ∙ sym (begun_append d [] (l ∷ ls) others)
     ∙ ap (begun d []) (sym r.1)
 

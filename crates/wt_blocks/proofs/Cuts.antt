@@ -49,13 +49,13 @@ middle xs o d l e =
     let ul : length (take d (drop l (reverse xs))) ≡ d = length-take-le d (drop l (reverse xs)) (omega (arith, length-drop l (reverse xs), r)) in
     same_lists (reverse (take d (drop o xs))) (take d (drop l (reverse xs))) (rl ∙ sym ul)
     (λ k x h.
-        let kd : k < d = omega (arith, rl) in
-        let i : o + (length (take d (drop o xs)) - 1 - k) ≡ length xs - 1 - (l + k) = omega (arith, tl) in
-        get_or-reverse (take d (drop o xs)) k x (omega (arith, tl))
-        ∙ get_or-take d (drop o xs) (length (take d (drop o xs)) - 1 - k) x (omega (arith, tl))
-        ∙ get_or-drop o xs (length (take d (drop o xs)) - 1 - k) x
-        ∙ ap (λ n. get_or xs n x) i
-        ∙ sym (get_or-take d (drop l (reverse xs)) k x kd ∙ get_or-drop l (reverse xs) k x ∙ get_or-reverse xs (l + k) x (omega arith)))
+    let kd : k < d = omega (arith, rl) in
+    let i : o + (length (take d (drop o xs)) - 1 - k) ≡ length xs - 1 - (l + k) = omega (arith, tl) in
+    get_or-reverse (take d (drop o xs)) k x (omega (arith, tl))
+    ∙ get_or-take d (drop o xs) (length (take d (drop o xs)) - 1 - k) x (omega (arith, tl))
+    ∙ get_or-drop o xs (length (take d (drop o xs)) - 1 - k) x
+    ∙ ap (λ n. get_or xs n x) i
+    ∙ sym (get_or-take d (drop l (reverse xs)) k x kd ∙ get_or-drop l (reverse xs) k x ∙ get_or-reverse xs (l + k) x (omega arith)))
 
 -- ---- up to the last visible sign that is no blank
 
@@ -113,8 +113,8 @@ pub open_is : (ss : List ℕ) (c level rest blanks : ℕ) → c ≡ length (core
 open_is ss c level rest blanks ec el er eb =
     let r : rest ≡ length ss - prefix_len is_idle (reverse ss) - level = er ∙ ap (λ n. n - level) (ec ∙ core_is ss) in
     let b : blanks ≡ blank_len (drop level (core ss)) =
-        eb ∙ ap (λ n. min n (blank_len (drop level ss))) r ∙ sym (prefix_taken is_blank (length ss - prefix_len is_idle (reverse ss) - level) (drop level ss))
-        ∙ ap blank_len (sym (dropped_taken level (length ss - prefix_len is_idle (reverse ss)) ss)) in
+    eb ∙ ap (λ n. min n (blank_len (drop level ss))) r ∙ sym (prefix_taken is_blank (length ss - prefix_len is_idle (reverse ss) - level) (drop level ss))
+    ∙ ap blank_len (sym (dropped_taken level (length ss - prefix_len is_idle (reverse ss)) ss)) in
     ap (λ n. level + n) b ∙ ap (λ n. n + blank_len (drop n (core ss))) el
 
 pub between : (c : List ℕ) (o d l : ℕ) → d ≡ length c - l - o → blank_len (reverse (take d (drop o c))) ≡ min d (blank_len (drop l (reverse c)))
@@ -127,7 +127,7 @@ inside_is ss c level rest opened d blanks ec el er eo ed eb =
     let k = core ss in
     let de : d ≡ length k - level_of k - open_len k = omega (arith, ec, el, er, eo, ed) in
     let b : blanks ≡ blank_len (reverse (take d (drop (open_len k) k))) =
-        eb ∙ ap (λ n. min d (blank_len (drop n (past is_idle (reverse ss))))) el ∙ ap (λ xs. min d (blank_len (drop (level_of k) xs))) (sym (core_back ss)) ∙ sym (between k (open_len k) d (level_of k) de) in
+    eb ∙ ap (λ n. min d (blank_len (drop n (past is_idle (reverse ss))))) el ∙ ap (λ xs. min d (blank_len (drop (level_of k) xs))) (sym (core_back ss)) ∙ sym (between k (open_len k) d (level_of k) de) in
     let tl : length (take d (drop (open_len k) k)) ≡ d = length-take-le d (drop (open_len k) k) (omega (arith, length-drop (open_len k) k, de)) in
     ap (λ n. d - n) b ∙ ap (λ n. n - blank_len (reverse (take d (drop (open_len k) k)))) (sym tl) ∙ ap (λ n. trimmed_len (take n (drop (open_len k) k))) de
 

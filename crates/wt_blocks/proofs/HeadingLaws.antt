@@ -97,12 +97,12 @@ room c zero a b = let w = prefix_len-le-length is_blank c in omega arith
 room c (suc l) a b =
     let i = length c - suc l in
     let w : blank_len (drop (suc l) c) < suc (i - suc l) = lt_of_not-le (λ h.
-        let t : (get_or c i 0 == 61) ≡ true = passes_back c i (omega arith) (omega arith) in
-        let at : suc l + (i - suc l) ≡ i = omega arith in
-        let s : is_blank (get_or (drop (suc l) c) (i - suc l) 0) ≡ true = prefix_len_passes is_blank (drop (suc l) c) (i - suc l) 0 (omega arith) in
-        let u : is_blank (get_or c i 0) ≡ true = ap is_blank (sym (get_or-drop (suc l) c (i - suc l) 0 ∙ ap (λ k. get_or c k 0) at)) ∙ s in
-        let x : get_or c i 0 ≡ 61 = grind (arith, nat_tests) in
-        let y : is_blank 61 ≡ true = ap is_blank (sym x) ∙ u in cc) in
+    let t : (get_or c i 0 == 61) ≡ true = passes_back c i (omega arith) (omega arith) in
+    let at : suc l + (i - suc l) ≡ i = omega arith in
+    let s : is_blank (get_or (drop (suc l) c) (i - suc l) 0) ≡ true = prefix_len_passes is_blank (drop (suc l) c) (i - suc l) 0 (omega arith) in
+    let u : is_blank (get_or c i 0) ≡ true = ap is_blank (sym (get_or-drop (suc l) c (i - suc l) 0 ∙ ap (λ k. get_or c k 0) at)) ∙ s in
+    let x : get_or c i 0 ≡ 61 = grind (arith, nat_tests) in
+    let y : is_blank 61 ≡ true = ap is_blank (sym x) ∙ u in cc) in
     omega arith
 
 room_of : (c : List ℕ) → 0 < level_of c → open_len c + level_of c ≤ length c
@@ -119,10 +119,11 @@ open_is ss h =
     let a = stands_by c (equals c == length c) refl (omega (arith, m.1, h)) in
     let r = room_of c h in
     let n = core_is ss in
-    let blanks = take (blank_len (drop l c)) (drop l c) in
-    (blanks,
-     sym (take-take (open_len c) (length ss - prefix_len is_idle (reverse ss)) ss (omega (arith, r, n))) ∙ take-add l (blank_len (drop l c)) c ∙ ap (λ xs. xs ++ blanks) (equal_front l c a.0),
-     all_front is_blank (blank_len (drop l c)) (drop l c) (omega arith))
+    let blanks = take (blank_len (drop l c)) (drop l c) in (
+      blanks,
+      sym (take-take (open_len c) (length ss - prefix_len is_idle (reverse ss)) ss (omega (arith, r, n))) ∙ take-add l (blank_len (drop l c)) c ∙ ap (λ xs. xs ++ blanks) (equal_front l c a.0),
+      all_front is_blank (blank_len (drop l c)) (drop l c) (omega arith),
+    )
 
 inside_value : (c : List ℕ) → inside_len c ≡ length c - level_of c - open_len c - min (length c - level_of c - open_len c) (blank_len (drop (level_of c) (reverse c)))
 inside_value c =
@@ -147,15 +148,17 @@ close_is ss h =
     let w = idle_within ss in
     let i = inside_value c in
     let count : length ss - (open_len c + inside_len c) ≡ j + (l + b) = omega (arith, i, n, w, r) in
-    let back : drop j (reverse ss) ≡ reverse c = sym (core_back ss ∙ past_is is_idle (reverse ss)) in
-    (take j (reverse ss), take b (drop l (reverse c)),
-     reversed_rest (open_len c + inside_len c) ss (omega (arith, i, n, r))
-     ∙ ap (λ k. take k (reverse ss)) count
-     ∙ take-add j (l + b) (reverse ss)
-     ∙ ap (λ xs. take j (reverse ss) ++ take (l + b) xs) back
-     ∙ ap (λ xs. take j (reverse ss) ++ xs) (take-add l b (reverse c) ∙ ap (λ xs. xs ++ take b (drop l (reverse c))) (equal_front l (reverse c) a.1)),
-     all_front is_idle j (reverse ss) (omega arith),
-     all_front is_blank b (drop l (reverse c)) (omega arith))
+    let back : drop j (reverse ss) ≡ reverse c = sym (core_back ss ∙ past_is is_idle (reverse ss)) in (
+      take j (reverse ss),
+      take b (drop l (reverse c)),
+      reversed_rest (open_len c + inside_len c) ss (omega (arith, i, n, r))
+          ∙ ap (λ k. take k (reverse ss)) count
+          ∙ take-add j (l + b) (reverse ss)
+          ∙ ap (λ xs. take j (reverse ss) ++ take (l + b) xs) back
+          ∙ ap (λ xs. take j (reverse ss) ++ xs) (take-add l b (reverse c) ∙ ap (λ xs. xs ++ take b (drop l (reverse c))) (equal_front l (reverse c) a.1)),
+      all_front is_idle j (reverse ss) (omega arith),
+      all_front is_blank b (drop l (reverse c)) (omega arith),
+    )
 
 -- ---- the inside begins and ends with no blank
 
@@ -167,7 +170,7 @@ begins ss h =
     let n = core_is ss in
     let w : blank_len (drop l c) < length (drop l c) = omega (arith, length-drop l c, r, h) in
     let is : get_or (drop l c) (blank_len (drop l c)) 0 ≡ get_or ss (open_len c) 0 =
-        get_or-drop l c (blank_len (drop l c)) 0 ∙ get_or-take (length ss - prefix_len is_idle (reverse ss)) ss (open_len c) 0 (omega (arith, n, r, h)) in
+    get_or-drop l c (blank_len (drop l c)) 0 ∙ get_or-take (length ss - prefix_len is_idle (reverse ss)) ss (open_len c) 0 (omega (arith, n, r, h)) in
     ap is_blank (sym is) ∙ prefix_len_stops is_blank (drop l c) 0 w
 
 ends : (ss : List ℕ) → 0 < inside_len (core ss) → is_blank (get_or ss (open_len (core ss) + inside_len (core ss) - 1) 0) ≡ false
@@ -182,8 +185,8 @@ ends ss h =
     let rl = length-reverse t in
     let at : o + (length t - 1 - k) ≡ o + inside_len c - 1 = omega arith in
     let is : get_or (reverse t) k 0 ≡ get_or ss (o + inside_len c - 1) 0 =
-        get_or-reverse t k 0 (omega arith) ∙ get_or-take d (drop o c) (length t - 1 - k) 0 (omega (arith, tl)) ∙ get_or-drop o c (length t - 1 - k) 0 ∙ ap (λ q. get_or c q 0) at
-        ∙ get_or-take (length ss - prefix_len is_idle (reverse ss)) ss (o + inside_len c - 1) 0 (omega (arith, n, tl)) in
+    get_or-reverse t k 0 (omega arith) ∙ get_or-take d (drop o c) (length t - 1 - k) 0 (omega (arith, tl)) ∙ get_or-drop o c (length t - 1 - k) 0 ∙ ap (λ q. get_or c q 0) at
+    ∙ get_or-take (length ss - prefix_len is_idle (reverse ss)) ss (o + inside_len c - 1) 0 (omega (arith, n, tl)) in
     ap is_blank (sym is) ∙ prefix_len_stops is_blank (reverse t) 0 (omega (arith, rl))
 
 -- ---- on items

@@ -97,8 +97,8 @@ bytes_step ps i left n less bytes b all p l e eb en el h =
     let rest = items (drop (i + 1) ps) in
     let k : less ≡ left - length (items_of p) = el ∙ ap (λ m. left - m) (en ∙ count_is p) in
     let a : length (sources (take left (items (drop i ps)))) ≡ length (sources (take left (items_of p))) + length (sources (take less rest)) =
-        ap (λ xs. length (sources (take left xs))) (items_first ps i p l e) ∙ ap (λ xs. length (sources xs)) (take_append left (items_of p) rest)
-        ∙ sources_append (take left (items_of p)) (take (left - length (items_of p)) rest) ∙ ap (λ m. length (sources (take left (items_of p))) + length (sources (take m rest))) (sym k) in
+    ap (λ xs. length (sources (take left xs))) (items_first ps i p l e) ∙ ap (λ xs. length (sources xs)) (take_append left (items_of p) rest)
+    ∙ sources_append (take left (items_of p)) (take (left - length (items_of p)) rest) ∙ ap (λ m. length (sources (take left (items_of p))) + length (sources (take m rest))) (sym k) in
     omega (arith, a, eb, h)
 
 pub front_within : (n : ℕ) (xs : List Item) → length (sources (take n xs)) ≤ length (sources xs)

@@ -78,8 +78,8 @@ list_done n first depth at m ps rest run done all t s e r w front is h =
     let others = lines_from (first + (at + m)) depth (drop (at + m) ps) in
     let d : drop m rest ≡ drop (at + m) ps = ap (drop m) e ∙ drop-drop m at ps in
     let cut = lists_cut n (lines_from (first + at) depth (take m rest)) others s
-        (subst (λ (qs : List (List ℕ)). IsRun one_list (lines_from (first + at) depth (take m rest)) (lines_from (first + (at + m)) depth qs)) d
-            (run_of_lines (one_list_at depth) one_list depth (list_joins depth) (first + at) (first + (at + m)) (take m rest) (drop m rest) front)) in
+    (subst (λ (qs : List (List ℕ)). IsRun one_list (lines_from (first + at) depth (take m rest)) (lines_from (first + (at + m)) depth qs)) d
+    (run_of_lines (one_list_at depth) one_list depth (list_joins depth) (first + at) (first + (at + m)) (take m rest) (drop m rest) front)) in
     append_assoc done (t ∷ []) (lists n others)
     ∙ ap (λ u. done ++ u ∷ lists n others) (is ∙ ap (λ qs. list_by (lists (n - 1)) (lines_from (first + at) depth qs)) r)
     ∙ ap (λ ts. done ++ ts) (sym (ap (lists n) (lines_cut first depth at m ps rest e w) ∙ cut))
@@ -93,8 +93,8 @@ item_done lists_in first depth at m ps rest item done all t e r w front is h =
     let others = lines_from (first + (at + m)) depth (drop (at + m) ps) in
     let d : drop m rest ≡ drop (at + m) ps = ap (drop m) e ∙ drop-drop m at ps in
     let cut = items_cut lists_in (lines_from (first + at) depth (take m rest)) others
-        (subst (λ (qs : List (List ℕ)). IsRun one_item (lines_from (first + at) depth (take m rest)) (lines_from (first + (at + m)) depth qs)) d
-            (run_of_lines (one_item_at depth) one_item depth (λ p q a b. goes_on_at depth q) (first + at) (first + (at + m)) (take m rest) (drop m rest) front)) in
+    (subst (λ (qs : List (List ℕ)). IsRun one_item (lines_from (first + at) depth (take m rest)) (lines_from (first + (at + m)) depth qs)) d
+    (run_of_lines (one_item_at depth) one_item depth (λ p q a b. goes_on_at depth q) (first + at) (first + (at + m)) (take m rest) (drop m rest) front)) in
     append_assoc done (t ∷ []) (items_by lists_in others)
     ∙ ap (λ u. done ++ u ∷ items_by lists_in others) (is ∙ ap (λ qs. item_by lists_in (lines_from (first + at) depth qs)) r)
     ∙ ap (λ ts. done ++ ts) (sym (ap (items_by lists_in) (lines_cut first depth at m ps rest e w) ∙ cut))
@@ -120,8 +120,8 @@ inner_all : (first depth : ℕ) (ps : List (List ℕ)) → AllGoOn depth ps → 
 inner_all first depth [] h = refl
 inner_all first depth (p ∷ ps) h =
     rw (goes_on_at depth p, h.0)
-        (ap (λ (cs : List ℕ). record { number = first; prefix = cs } ∷ inner (lines_from (suc first) depth ps)) (drop-drop 1 depth p)
-         ∙ ap (λ (ls : List ListLine). record { number = first; prefix = drop (depth + 1) p } ∷ ls) (inner_all (suc first) depth ps h.1))
+    (ap (λ (cs : List ℕ). record { number = first; prefix = cs } ∷ inner (lines_from (suc first) depth ps)) (drop-drop 1 depth p)
+    ∙ ap (λ (ls : List ListLine). record { number = first; prefix = drop (depth + 1) p } ∷ ls) (inner_all (suc first) depth ps h.1))
 
 pub inner_longer : (first depth : ℕ) (p : List ℕ) (ps : List (List ℕ)) → AllGoOn depth ps → nat_lt (depth + 1) (length p) ≡ true → inner (lines_from first depth (p ∷ ps)) ≡ lines_from first (depth + 1) (p ∷ ps)
 inner_longer first depth p ps h e = inner_all first depth (p ∷ ps) (e, h)

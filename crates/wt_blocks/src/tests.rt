@@ -1,10 +1,14 @@
 //! The calls that take memory, and rows whose answers are those of a program that was written apart.
 
-use crate::{ListNode, heading_parts, nest_lists, paragraphs};
+ghost use Rattle.std.specs.Prelude.{◌≡◌, ◌<◌, ◌^◌, All, IsTrue, OnOk, length};
+ghost use Rattle.std.specs.List.{list_all};
+ghost use Rattle.wt_blocks.specs.Nesting.{IsPrefix, is_list_sign};
+
+use crate::{ListNode, nest_lists, paragraphs};
 use std::alloc::Global;
 use std::test::Fail;
-use wt_lines::{Line, LineKind};
-use wt_span::{Form, List, NoMemory, Origin, Piece, Str, Text};
+use wt_lines::LineKind;
+use wt_span::{List, NoMemory, Str};
 
 /// Prefixes, and the nodes of their lists in preorder: the depth, `u`, `o`, `d` for a list, `I`,
 /// `T`, `D` for an item, and the line.
@@ -59,4 +63,84 @@ fn shown_lists(alloc: Global, lists: &List<ListNode>) -> Result<String, NoMemory
     let mut shown = String::new(alloc);
     push_shown(alloc, &mut shown, lists.as_slice(), 0)?;
     Ok(shown)
+}
+
+fn is_list_sign(sign: u8) -> bool
+    ensures { result ≡ is_list_sign sign }
+{
+    sign == b'*' || (sign == b'#' || (sign == b';' || sign == b':'))
+}
+
+fn has_list_signs(text: &[u8]) -> bool
+    ensures { result ≡ list_all is_list_sign text.now }
+{
+    text.iter().all(|b| is_list_sign(*b))
+}
+
+fn is_prefix(text: &str) -> bool
+    ensures { IsTrue result → IsPrefix text.now }
+{
+    let bytes = text.as_bytes();
+    if bytes.is_empty() || bytes.len() > 32 {
+        return false;
+    }
+    has_list_signs(bytes)
+}
+
+fn push_prefix(alloc: Global, prefixes: &mut List<Str>, text: &str) -> Result<(), NoMemory>
+    requires { All IsPrefix prefixes.old }
+    ensures { OnOk result (All IsPrefix prefixes.new) }
+{
+    if is_prefix(text) {
+        prefixes.push(Str::copy_of(alloc, text)?)?;
+    }
+    Ok(())
+}
+
+/// The lists of the first prefixes of a row, shown.
+fn shown_row(alloc: Global, row: &str) -> Result<String, NoMemory> {
+    let mut prefixes = List::new(alloc);
+    for text in row.split(' ') {
+        push_prefix(alloc, &mut prefixes, text)?;
+    }
+    if prefixes.len() < 100 {
+        let lists = nest_lists(alloc, &prefixes)?;
+        shown_lists(alloc, &lists)
+    } else {
+        Ok(String::new(alloc))
+    }
+}
+
+#[test]
+fn lists_nest_as_in_the_table(rt: HostRuntime) -> Result<(), Fail> {
+    let alloc = rt.alloc();
+    let mut seen = false;
+    for row in nests().lines() {
+        if let Some((prefixes, wanted)) = row.split_once('|') {
+            let shown = shown_row(alloc, prefixes)?;
+            assert_eq!(rt; shown.as_str(), wanted);
+            seen = true;
+        }
+    }
+    assert!(rt; seen);
+    Ok(())
+}
+
+#[test]
+fn paragraphs_are_found(rt: HostRuntime) -> Result<(), Fail> {
+    let alloc = rt.alloc();
+    let mut kinds = List::new(alloc);
+    for kind in [
+        LineKind::Text,
+        LineKind::Text,
+        LineKind::Blank,
+        LineKind::Text,
+    ] {
+        kinds.push(kind)?;
+    }
+    if kinds.len() < 100 {
+        let found = paragraphs(alloc, &kinds)?;
+        assert_eq!(rt; found.as_slice(), [(0, 2), (3, 4)].as_slice());
+    }
+    Ok(())
 }
