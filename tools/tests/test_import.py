@@ -9,7 +9,7 @@ import tempfile
 import unittest
 from pathlib import Path
 
-from loading import TOOLS
+from loading import REPOSITORY, TOOLS
 
 EXPORTS = Path(__file__).resolve().parent / "exports"
 PAGE_LIMIT = 2_097_152
@@ -73,6 +73,10 @@ class WhatIsWritten(ImportCase):
         self.assertEqual(
             self.written(), {"Bytes.wiki": "\n a\tb <ref>&amp;</ref> <b> é ✓ 😀\r\n\n"}
         )
+
+    def test_the_example(self) -> None:
+        self.run_export("opava.xml")
+        self.assertEqual(self.written(), {"Opava.wiki": (REPOSITORY / "examples/pages/Opava.wiki").read_bytes().decode()})
 
     def test_last_revision_counts(self) -> None:
         self.run_export("revisions.xml")
