@@ -8,6 +8,8 @@ import sys
 import tempfile
 import unittest
 from pathlib import Path
+from urllib.parse import unquote
+from xml.sax.saxutils import escape
 
 from loading import REPOSITORY, TOOLS
 
@@ -79,9 +81,12 @@ class WhatIsWritten(ImportCase):
             self.written(), {"Bytes.wiki": "\n a\tb <ref>&amp;</ref> <b> é ✓ 😀\r\n\n"}
         )
 
-    def test_the_example(self) -> None:
-        self.run_export("opava.xml")
-        self.assertEqual(self.written(), {"Opava.wiki": (REPOSITORY / "examples/pages/Opava.wiki").read_bytes().decode()})
+    def test_the_examples(self) -> None:
+        for path in (REPOSITORY / "examples/pages").iterdir():
+            with self.subTest(page=path.name):
+                text = path.read_bytes().decode()
+                self.run_tool("--force", "-", stdin=export_of(unquote(path.stem), escape(text)))
+                self.assertEqual(self.written()[path.name], text)
 
     def test_last_revision_counts(self) -> None:
         self.run_export("revisions.xml")

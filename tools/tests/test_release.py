@@ -52,12 +52,12 @@ class ManualPages(unittest.TestCase):
             text, reason = re.sub(r" at [0-9]+", " at P", re.sub(r"^element [0-9]+", "element N", text)), ""
             if ": " in text and not text.startswith("usage"):
                 text, _, reason = text.partition(": ")
-                self.assertRegex(shown, rf"\b{reason}\b")
+                self.assertRegex(shown, rf"\b{reason}\b", "dist/wtround.1 lacks this reason")
             texts.add(text)
         self.assertGreater(len(texts), 5)
         for text in texts:
             with self.subTest(text=text):
-                self.assertIn(text, shown)
+                self.assertIn(text, shown, "dist/wtround.1 lacks this line of the program, under DIAGNOSTICS")
 
 
 @unittest.skipUnless(shutil.which("bash"), "there is no bash")
