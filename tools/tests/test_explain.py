@@ -100,15 +100,17 @@ class Lines(unittest.TestCase):
             _, given, pages = case.split("\t")
             line = bytes.fromhex(answer.split("\t")[2]).decode()
             refusal = tool.read_refusal(line)
-            data = bytes.fromhex(given or pages.rpartition("=")[2])
-            if refusal.locate is not None and "," not in pages:
-                with self.subTest(line=line):
-                    place = refusal.locate(data, refusal.number)
-                    self.assertIsNotNone(place)
-                    found = tool.spot(data, place)
-                    self.assertIn("^", tool.line_with_caret(found.before, found.after))
-                    if line.startswith("wtround: element"):
-                        self.assertEqual(data[place : place + 1], b"<")
+            if refusal.locate is None or line.startswith("wtround: edit refused") or "," in pages:
+                continue
+            is_about_input = line.startswith(("wtround: html refused", "wtround: element", "wtround: input"))
+            data = bytes.fromhex(given if is_about_input else pages.rpartition("=")[2])
+            with self.subTest(line=line):
+                place = refusal.locate(data, refusal.number)
+                self.assertIsNotNone(place)
+                found = tool.spot(data, place)
+                self.assertIn("^", tool.line_with_caret(found.before, found.after))
+                if line.startswith("wtround: element"):
+                    self.assertEqual(data[place : place + 1], b"<")
         self.assertGreater(count, 100)
 
 

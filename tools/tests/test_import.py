@@ -8,8 +8,15 @@ import sys
 import tempfile
 import unittest
 from pathlib import Path
+from urllib.parse import unquote
+from xml.sax.saxutils import escape
 
-from loading import TOOLS
+from loading import REPOSITORY, TOOLS
+
+try:
+    import pty
+except ImportError:
+    pty = None
 
 EXPORTS = Path(__file__).resolve().parent / "exports"
 PAGE_LIMIT = 2_097_152
@@ -73,6 +80,13 @@ class WhatIsWritten(ImportCase):
         self.assertEqual(
             self.written(), {"Bytes.wiki": "\n a\tb <ref>&amp;</ref> <b> é ✓ 😀\r\n\n"}
         )
+
+    def test_the_examples(self) -> None:
+        for path in (REPOSITORY / "examples/pages").iterdir():
+            with self.subTest(page=path.name):
+                text = path.read_bytes().decode()
+                self.run_tool("--force", "-", stdin=export_of(unquote(path.stem), escape(text)))
+                self.assertEqual(self.written()[path.name], text)
 
     def test_last_revision_counts(self) -> None:
         self.run_export("revisions.xml")
@@ -228,6 +242,16 @@ class Progress(ImportCase):
     def test_no_progress_without_a_terminal(self) -> None:
         _, told = self.run_export("redirects.xml")
         self.assertNotIn("\r", told)
+
+    @unittest.skipIf(pty is None, "this system has no pseudo-terminals")
+    def test_progress_on_a_terminal(self) -> None:
+        master, terminal = pty.openpty()
+        command = [sys.executable, str(TOOLS / "import-export-xml"), str(EXPORTS / "redirects.xml")]
+        subprocess.run(command, cwd=self.root, stdout=subprocess.DEVNULL, stderr=terminal, check=True)
+        os.close(terminal)
+        told = os.read(master, 1 << 16).decode()
+        os.close(master)
+        self.assertRegex(told, r"^\r\x1b\[K100 %, 1 pages written, 0 skipped\r\x1b\[K2 pages written")
 
     def test_control_characters_of_a_title_are_escaped(self) -> None:
         skipped, _ = self.run_tool("-", stdin=export_of("a\u009b31m|", "x"))
