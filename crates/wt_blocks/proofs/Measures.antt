@@ -1,4 +1,5 @@
 -- How many items pieces hold, and how many bytes.
+use Rattle.std.proofs.lemmas.List.{append-nil}
 use Rattle.std.proofs.Common.{◌≡◌, ℕ, ◌+◌, ◌-◌, ◌^◌, ◌<◌, ◌≤◌, Bool, true, false, Option, List, [], ◌∷◌, ◌++◌, length, get_or, take, drop, map, refl, sym, ap, ◌∙◌, arith, length-append}
 use Rattle.std.specs.Prelude.{min}
 use Rattle.std.proofs.lemmas.List.{length-map, length-take, take-map, drop_more, take_all, take-append-drop}
@@ -137,3 +138,11 @@ behind_marks all ps rest n e r h =
     let b = ap (λ qs. length (sources (items qs))) e in
     let c = ap (λ qs. length (sources (items qs))) r in
     omega (arith, a, b, c, h)
+
+-- characters alone have their bytes
+pub lone_chars : (ps all : List Piece) (p : Piece) → ps ≡ [] → all ≡ ps ++ p ∷ [] → is_chars p.form ≡ true → length (sources (items all)) ≡ length (bytes_of p.text)
+lone_chars ps all p z e f =
+    let o = call_of_origin p.origin in
+    ap (λ qs. length (sources (items qs))) (e ∙ ap (λ qs. qs ++ p ∷ []) z)
+    ∙ ap (λ xs. length (sources xs)) (append-nil (items_of p) ∙ chars_are p.form o (bytes_of p.text) f)
+    ∙ ap length (char_sources o (bytes_of p.text))

@@ -19,6 +19,10 @@ one_list_at depth p q = same_list (slice_index p depth) (slice_index q depth)
 abbrev pub one_item_at : ℕ → List ℕ → List ℕ → Bool
 one_item_at depth p q = nat_lt (depth + 1) (length q)
 
+-- these lines are an item, before some others
+abbrev pub IsItem : ℕ → List (List ℕ) → Type 0
+IsItem depth ps = (others : List (List ℕ)) × IsRun (one_item_at depth) ps others
+
 -- so many are the first run
 abbrev pub IsFront : (List ℕ → List ℕ → Bool) → List (List ℕ) → ℕ → Type 0
 IsFront joins ps n = IsRun joins (take n ps) (drop n ps)

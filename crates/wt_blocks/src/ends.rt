@@ -1,6 +1,6 @@
 //! How many signs of a class stand at the front or at the back of a line.
 
-ghost use Rattle.std.specs.Prelude.{◌≡◌, ◌≤◌, min, length, drop};
+ghost use Rattle.std.specs.Prelude.{◌≡◌, min, drop};
 ghost use Rattle.std.specs.List.{prefix_len};
 ghost use Rattle.wt_lines.specs.Signs.{left, right, number};
 ghost use Rattle.wt_blocks.specs.Classes.{is_of};

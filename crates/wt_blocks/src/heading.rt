@@ -1,4 +1,4 @@
-ghost use Rattle.std.specs.Prelude.{◌≡◌, ◌+◌, ◌-◌, ◌/◌, ◌^◌, ◌<◌, ◌≤◌, ◌==◌, All, min, length, map, reverse, if◌then◌else◌};
+ghost use Rattle.std.specs.Prelude.{◌≡◌, ◌+◌, ◌-◌, ◌/◌, ◌^◌, ◌<◌, ◌≤◌, ◌==◌, All, min, length, map, if◌then◌else◌};
 ghost use Rattle.wt_span.specs.Items.{sign, items, sources};
 ghost use Rattle.wt_span.specs.Origins.{IsSoundPiece};
 ghost use Rattle.wt_lines.specs.Pieces.{line_items};
@@ -63,7 +63,6 @@ fn cuts_of(pieces: &[Piece<'_>]) -> Cuts
 }
 
 /// The parts of a heading, from its first visible item on.
-#[tactic(auto, unfolding(crate::specs::Headings::level, crate::specs::Headings::opening, crate::specs::Headings::closing))]
 fn parts_of(heading: &[Piece<'_>]) -> (u8, u32, u32)
     requires few { length heading.now < 2 ^ 32 }
     requires bytes { length (sources (items heading.now)) < 2 ^ 32 }

@@ -1,7 +1,6 @@
 //! How many items pieces hold, and how many bytes these have.
 
-ghost use Rattle.std.specs.Prelude.{◌≡◌, ◌^◌, ◌<◌, ◌≤◌, length, take};
-ghost use Rattle.wt_span.specs.Slice.{bytes_of};
+ghost use Rattle.std.specs.Prelude.{◌≡◌, ◌^◌, ◌<◌, length, take};
 ghost use Rattle.wt_span.specs.Items.{items, items_of, sources};
 
 use wt_lines::is_chars;

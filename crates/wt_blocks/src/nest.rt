@@ -1,8 +1,6 @@
-ghost use Rattle.std.specs.Prelude.{ℕ, Bool, ◌≡◌, ◌+◌, ◌-◌, ◌<◌, ◌≤◌, ◌^◌, [], All, IfOk, length, slice_index, nat_lt};
-ghost use Rattle.wt_span.specs.Runs.{IsRun};
-ghost use Rattle.wt_blocks.specs.ListTree.{ListTree, node, forest};
+ghost use Rattle.std.specs.Prelude.{ℕ, ◌≡◌, ◌+◌, ◌-◌, ◌<◌, ◌≤◌, ◌^◌, [], All, IfOk, length, slice_index, nat_lt};
 ghost use Rattle.wt_blocks.specs.Nesting.{is_definition, same_list, IsPrefix, node_of, inner, items_by, lists, nested};
-ghost use Rattle.wt_blocks.specs.Slices.{lines_from, AreLeft, one_list_at, one_item_at, IsFront};
+ghost use Rattle.wt_blocks.specs.Slices.{lines_from, AreLeft, one_list_at, one_item_at, IsFront, IsItem};
 ghost use Rattle.wt_blocks.specs.View.{list_tree, list_trees};
 
 use std::alloc::Global;
@@ -147,7 +145,7 @@ fn node_at(
 fn inside_item(item: &[Str], depth: usize) -> &[Str]
     requires some { 0 < length item.now }
     requires left { AreLeft depth item.now }
-    requires front { (others : List (List ℕ)) × IsRun (one_item_at depth) item.now others }
+    requires front { IsItem depth item.now }
     ensures left { AreLeft (depth + 1) result.now }
     ensures within { length result.now ≤ length item.entry.now }
     ensures lines { (first : ℕ) → inner (lines_from first depth item.entry.now) ≡ lines_from (first + (length item.entry.now - length result.now)) (depth + 1) result.now }
@@ -217,7 +215,6 @@ fn items_at(
 /// profile's form. A prefix has the signs that count, `*`, `#`, `:` and `;`, one at least and 32 at
 /// most. Neighbouring lines are of one list as far as their prefixes are the same, `;` and `:`
 /// counting as the same.
-#[tactic(auto, unfolding(crate::specs::Nesting::nested))]
 pub fn nest_lists(alloc: Global, prefixes: &List<Str>) -> Result<List<ListNode>, NoMemory>
     requires signs { All IsPrefix prefixes.now }
     requires few { length prefixes.now < 2 ^ 32 }

@@ -1,6 +1,6 @@
-ghost use Rattle.std.specs.Prelude.{◌≡◌, ◌^◌, ◌<◌, ◌≤◌, ◌++◌, length, take, OnOk, IfOk};
+ghost use Rattle.std.specs.Prelude.{◌≡◌, ◌^◌, ◌<◌, ◌≤◌, ◌++◌, length, OnOk, IfOk};
 ghost use Rattle.std.specs.List.{prefix_len};
-ghost use Rattle.wt_blocks.specs.Paragraphs.{is_text, begins_at, paragraph_at, paragraphs_by_place, paragraph_ranges};
+ghost use Rattle.wt_blocks.specs.Paragraphs.{is_text, begins_at, paragraph_at, paragraph_ranges};
 
 use std::alloc::Global;
 use wt_lines::LineKind;

@@ -1,14 +1,14 @@
 //! The calls that take memory, and rows whose answers are those of a program that was written apart.
 
-ghost use Rattle.std.specs.Prelude.{◌≡◌, ◌<◌, ◌^◌, All, IsTrue, OnOk, length};
+ghost use Rattle.std.specs.Prelude.{◌≡◌, ◌<◌, All, IsTrue, OnOk, length};
 ghost use Rattle.std.specs.List.{list_all};
 ghost use Rattle.wt_blocks.specs.Nesting.{IsPrefix, is_list_sign};
 
-use crate::{ListNode, nest_lists, paragraphs};
+use crate::{ListNode, heading_parts, nest_lists, paragraphs};
 use std::alloc::Global;
 use std::test::Fail;
-use wt_lines::LineKind;
-use wt_span::{List, NoMemory, Str};
+use wt_lines::{Line, LineKind};
+use wt_span::{Form, List, NoMemory, Origin, Piece, Str, Text};
 
 /// Prefixes, and the nodes of their lists in preorder: the depth, `u`, `o`, `d` for a list, `I`,
 /// `T`, `D` for an item, and the line.
@@ -142,5 +142,27 @@ fn paragraphs_are_found(rt: HostRuntime) -> Result<(), Fail> {
         let found = paragraphs(alloc, &kinds)?;
         assert_eq!(rt; found.as_slice(), [(0, 2), (3, 4)].as_slice());
     }
+    Ok(())
+}
+
+/// The parts of a heading of characters.
+fn parts_of(alloc: Global, text: &str) -> Result<(u8, u32, u32), NoMemory>
+    requires some { 0 < length text.now }
+    requires short { length text.now < 100 }
+{
+    let mut pieces = List::new(alloc);
+    pieces.push(Piece {
+        text: Text::new(text, 0),
+        form: Form::Chars,
+        origin: Origin::Call(0),
+    })?;
+    Ok(heading_parts(&Line { pieces }))
+}
+
+#[test]
+fn delimiters_are_measured(rt: HostRuntime) -> Result<(), Fail> {
+    let alloc = rt.alloc();
+    assert_eq!(rt; parts_of(alloc, "=====")?, (2, 2, 2));
+    assert_eq!(rt; parts_of(alloc, "=== x ==")?, (2, 2, 3));
     Ok(())
 }
