@@ -1,4 +1,4 @@
-ghost use Rattle.std.specs.Prelude.{◌≡◌, ◌<◌, ◌≤◌, ℕ, List, [], ◌∷◌, ◌++◌, length, Option, option_map, IfOk, OnOk, OnErr};
+ghost use Rattle.std.specs.Prelude.{◌≡◌, ◌<◌, ◌≤◌, ℕ, max, List, [], ◌∷◌, ◌++◌, length, Option, option_map, IfOk, OnOk, OnErr};
 ghost use Rattle.std.specs.Io.KnownBytes.{ReadConsumes, WriteAppends};
 
 use std::alloc::Global;
@@ -79,6 +79,9 @@ pub trait Folder {
     // the names that it has answered, in order, where it tells them
     ghost answered: { Self → Option (List (List ℕ)) };
 
+    // the most bytes that a call asked for which it answered, where it tells this
+    ghost most_asked: { Self → Option ℕ };
+
     // how often it has failed
     ghost fault_count: { Self → ℕ };
 
@@ -88,7 +91,9 @@ pub trait Folder {
         ensures page { IfOk result (Gives (pages self.old) name.now most) }
         ensures kept { pages self.new ≡ pages self.old }
         ensures named { OnOk result (answered self.new ≡ option_map (λ names. names ++ name.now ∷ []) (answered self.old)) }
+        ensures asked { OnOk result (most_asked self.new ≡ option_map (λ before. max before most) (most_asked self.old)) }
         ensures unnamed { OnErr result (answered self.new ≡ answered self.old) }
+        ensures unasked { OnErr result (most_asked self.new ≡ most_asked self.old) }
         ensures cause { FetchCause (fault_count self.old) (fault_count self.new) result };
 
     /// How often it has failed. The count stops at its last value.

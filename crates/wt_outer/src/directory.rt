@@ -91,6 +91,8 @@ impl<R: Files> Folder for DirFolder<'_, R> {
 
     ghost answered = { λ _. None };
 
+    ghost most_asked = { λ _. None };
+
     ghost fault_count = { λ f. f.faults };
 
     fn fetch(&mut self, alloc: Global, name: &str, most: u32) -> Result<Fetched, FetchRefusal> {

@@ -1,4 +1,4 @@
-ghost use Rattle.std.specs.Prelude.{◌≡◌, ◌≢◌, ◌∷◌, [], ◌++◌, Some, AllPairs, IfOk, OnOk, OnErr, option_map, take};
+ghost use Rattle.std.specs.Prelude.{◌≡◌, ◌≢◌, ◌∷◌, [], ◌++◌, Some, max, AllPairs, IfOk, OnOk, OnErr, option_map, take};
 ghost use Rattle.wt_outer.specs.Device.{page_of};
 ghost use Rattle.wt_outer.specs.Shelf.{look_up, ArePagesOf};
 
@@ -7,12 +7,14 @@ use crate::device::{FetchRefusal, Fetched, Folder};
 use std::alloc::Global;
 use wt_span::{List, NoMemory, Str, front_of};
 
-/// Pages in memory, each with its name, and the names that were answered.
+/// Pages in memory, each with its name, the names that were answered, and the most bytes that such a call
+/// asked for.
 #[derive(Debug, Drop)]
 struct Shelf {
     alloc: Global,
     entries: List<(Str, List<u8>)>,
     answered: List<Str>,
+    most_asked: u32,
 }
 
 /// The page of the first entry of this name.
@@ -39,11 +41,13 @@ impl Shelf {
     fn new(alloc: Global, entries: List<(Str, List<u8>)>) -> Shelf
         ensures entries { result.entries ≡ entries }
         ensures answered { result.answered ≡ [] }
+        ensures most_asked { result.most_asked ≡ 0 }
     {
         Shelf {
             alloc,
             entries,
             answered: List::new(alloc),
+            most_asked: 0,
         }
     }
 
@@ -56,15 +60,18 @@ impl Shelf {
         }
     }
 
-    fn fetch(&mut self, alloc: Global, name: &str, most: usize) -> Result<Fetched, NoMemory>
+    fn fetch(&mut self, alloc: Global, name: &str, most: u32) -> Result<Fetched, NoMemory>
         ensures page { IfOk result (λ f. page_of f ≡ option_map (take most) (look_up self.old.entries name.now)) }
         ensures kept { self.new.entries ≡ self.old.entries }
         ensures named { OnOk result (self.new.answered ≡ self.old.answered ++ name.now ∷ []) }
+        ensures asked { OnOk result (self.new.most_asked ≡ max self.old.most_asked most) }
         ensures unnamed { OnErr result (self.new.answered ≡ self.old.answered) }
+        ensures unasked { OnErr result (self.new.most_asked ≡ self.old.most_asked) }
     {
-        let found = self.look(alloc, name, most)?;
+        let found = self.look(alloc, name, most as usize)?;
         let entry = Str::copy_of(self.alloc, name)?;
         self.answered.push(entry)?;
+        self.most_asked = self.most_asked.max(most);
         Ok(found)
     }
 }
@@ -83,6 +90,7 @@ impl MemFolder {
         ensures pages { ⟦<MemFolder as Folder>⟧.pages result ≡ Some (look_up pages) }
         ensures map { ArePagesOf pages (look_up pages) }
         ensures answered { ⟦<MemFolder as Folder>⟧.answered result ≡ Some [] }
+        ensures most_asked { ⟦<MemFolder as Folder>⟧.most_asked result ≡ Some 0 }
         ensures faults { ⟦<MemFolder as Folder>⟧.fault_count result ≡ 0 }
     {
         MemFolder {
@@ -97,6 +105,13 @@ impl MemFolder {
     {
         self.shelf.answered.as_slice()
     }
+
+    /// The most bytes that a call asked for which it answered, 0 before the first.
+    pub fn most_asked(&self) -> u32
+        ensures { ⟦<MemFolder as Folder>⟧.most_asked self.now ≡ Some result }
+    {
+        self.shelf.most_asked
+    }
 }
 
 impl Folder for MemFolder {
@@ -104,13 +119,15 @@ impl Folder for MemFolder {
 
     ghost answered = { λ f. Some f.shelf.answered };
 
+    ghost most_asked = { λ f. Some f.shelf.most_asked };
+
     ghost fault_count = { λ f. f.calls.faults };
 
     fn fetch(&mut self, alloc: Global, name: &str, most: u32) -> Result<Fetched, FetchRefusal> {
         if self.calls.begin().is_err() {
             return Err(FetchRefusal::Failed);
         }
-        match self.shelf.fetch(alloc, name, most as usize) {
+        match self.shelf.fetch(alloc, name, most) {
             Ok(found) => Ok(found),
             Err(_) => Err(FetchRefusal::NoMemory),
         }
@@ -134,6 +151,7 @@ impl NeverFailsFolder {
         ensures pages { ⟦<NeverFailsFolder as Folder>⟧.pages result ≡ Some (look_up pages) }
         ensures map { ArePagesOf pages (look_up pages) }
         ensures answered { ⟦<NeverFailsFolder as Folder>⟧.answered result ≡ Some [] }
+        ensures most_asked { ⟦<NeverFailsFolder as Folder>⟧.most_asked result ≡ Some 0 }
     {
         NeverFailsFolder {
             shelf: Shelf::new(alloc, pages),
@@ -146,10 +164,12 @@ impl Folder for NeverFailsFolder {
 
     ghost answered = { λ f. Some f.shelf.answered };
 
+    ghost most_asked = { λ f. Some f.shelf.most_asked };
+
     ghost fault_count = { λ _. 0 };
 
     fn fetch(&mut self, alloc: Global, name: &str, most: u32) -> Result<Fetched, FetchRefusal> {
-        match self.shelf.fetch(alloc, name, most as usize) {
+        match self.shelf.fetch(alloc, name, most) {
             Ok(found) => Ok(found),
             Err(_) => Err(FetchRefusal::NoMemory),
         }

@@ -103,6 +103,7 @@ fn a_folder_in_memory_cuts_a_page_and_keeps_the_names(rt: HostRuntime) -> Result
     assert_eq!(rt; folder.answered().len(), 2);
     assert_eq!(rt; folder.answered()[0].as_str(), "Main");
     assert_eq!(rt; folder.answered()[1].as_str(), "Other");
+    assert_eq!(rt; folder.most_asked(), 2);
     Ok(())
 }
 
