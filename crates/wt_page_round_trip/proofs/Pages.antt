@@ -12,6 +12,7 @@ use Rattle.wt_tree.specs.Source.{flat, flat_of_all}
 use Rattle.wt_tree.specs.Tree.{Trees}
 use Rattle.wt_lines.specs.Lines.{goes_on, full_lines}
 use Rattle.wt_markup.specs.Html.{html_text}
+use Rattle.wt_tree.specs.Kinds.{spelling}
 use Rattle.wt_fitting.specs.Read.{read, page as read_page}
 use Rattle.wt_round_trip.specs.Written.{unranged, IsWritten}
 use Rattle.wt_round_trip.proofs.Again.{same_source}
@@ -106,7 +107,7 @@ body_few xs g p =
 -- ---- the page
 
 pub page_written : (page : List ℕ) → IsUtf8 page → length page < 2 ^ 31 → IsWritten (annotated (meaning (page_items page)))
-unfolding annotated meaning label_at
+unfolding annotated meaning label_at spelling
 page_written page u room =
     let xs : List Item = page_items page in
     let p : AreOfPage xs = page_of_page page u in
