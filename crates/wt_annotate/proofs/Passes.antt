@@ -4,19 +4,20 @@ use Rattle.std.specs.Prelude.{if◌then◌else◌, Result, Ok, Err, IfOk}
 use Rattle.std.proofs.lemmas.List.{map-append}
 use Rattle.wt_tree.specs.declared.kind.Kind.{Kind}
 use Rattle.wt_tree.specs.declared.kind.Kind.TheVariants as kind
-use Rattle.wt_tree.specs.Kinds.{is_leaf, is_numbered, showing}
+use Rattle.wt_tree.specs.Kinds.{is_leaf, is_numbered}
 use Rattle.wt_tree.specs.Tree.{Tree, tree, Trees, none, more, trees}
 use Rattle.wt_tree.specs.View.{view, views}
 use Rattle.wt_tree.specs.declared.node.Node.{Node}
 use Rattle.wt_span.specs.declared.form.Piece.{Piece}
 use Rattle.wt_span.specs.Items.{Item, items}
-use Rattle.wt_inline.specs.View.{item_tree, item_trees}
+use Rattle.wt_inline.specs.View.{head_of, item_tree, item_trees}
 use Rattle.wt_inline.specs.declared.tree.PieceTree.{PieceTree, out-PieceTree}
 use Rattle.wt_annotate.proofs.Pieces.{item_tree_out}
-use Rattle.wt_inline.specs.ItemTree.{ItemTree, inner, ItemTrees, nothing, further, forest, held, held_by_all}
-use Rattle.wt_annotate.specs.Labels.{width, next_after, shown_by, label_at}
-use Rattle.wt_annotate.specs.Annotated.{count_by, inside_by, numbered, numbered_in_all, annotated_at, all_annotated_at}
-use Rattle.wt_annotate.specs.Made.{IsMade, AreMade}
+use Rattle.wt_inline.specs.ItemTree.{Head, ItemTree, inner, ItemTrees, nothing, further, forest, held, held_by_all}
+use Rattle.wt_annotate.specs.Labels.{width, label_at}
+use Rattle.wt_annotate.specs.Numbering.{number_of, next_after}
+use Rattle.wt_annotate.specs.Annotated.{count_by, inside_by, numbered, numbered_in_all}
+use Rattle.wt_annotate.specs.Made.{annotated_at, all_annotated_at, IsMade, AreMade}
 use Rattle.wt_annotate.specs.Nodes.{leaf_label, inner_label}
 use Rattle.wt_annotate.proofs.Widths.{width_append, width_three}
 
@@ -27,43 +28,37 @@ number_by : (n is : Bool) (next m : ℕ) → (if n then next + 1 else next) + co
 number_by true is next m = omega arith
 number_by false is next m = omega arith
 
-pub number_leaf : (k : Kind) (o c : List Item) (ts : ItemTrees) (next : ℕ) → is_leaf k ≡ true → next_after k next ≡ next + numbered (inner k o ts c)
+pub number_leaf : (k : Head) (o c : List Item) (ts : ItemTrees) (next : ℕ) → is_leaf k.kind ≡ true → next_after k.kind next ≡ next + numbered (inner k o ts c)
 number_leaf k o c ts next e =
-    let z : count_by (is_leaf k) (numbered_in_all ts) ≡ 0 = ap (λ is. count_by is (numbered_in_all ts)) e in
-    omega (arith, number_by (is_numbered k) (is_leaf k) next (numbered_in_all ts), z)
+    let z : count_by (is_leaf k.kind) (numbered_in_all ts) ≡ 0 = ap (λ is. count_by is (numbered_in_all ts)) e in
+    omega (arith, number_by (is_numbered k.kind) (is_leaf k.kind) next (numbered_in_all ts), z)
 
-pub number_inner : (k : Kind) (o c : List Item) (ts : ItemTrees) (next : ℕ) → is_leaf k ≡ false → next_after k next + numbered_in_all ts ≡ next + numbered (inner k o ts c)
+pub number_inner : (k : Head) (o c : List Item) (ts : ItemTrees) (next : ℕ) → is_leaf k.kind ≡ false → next_after k.kind next + numbered_in_all ts ≡ next + numbered (inner k o ts c)
 number_inner k o c ts next e =
-    let z : count_by (is_leaf k) (numbered_in_all ts) ≡ numbered_in_all ts = ap (λ is. count_by is (numbered_in_all ts)) e in
-    omega (arith, number_by (is_numbered k) (is_leaf k) next (numbered_in_all ts), z)
+    let z : count_by (is_leaf k.kind) (numbered_in_all ts) ≡ numbered_in_all ts = ap (λ is. count_by is (numbered_in_all ts)) e in
+    omega (arith, number_by (is_numbered k.kind) (is_leaf k.kind) next (numbered_in_all ts), z)
 
 -- ---- one node
 
-leaf_by : (is : Bool) (at next : ℕ) (k : Kind) (o own c : List Item) (us : Trees) → is ≡ true → tree (label_at at next is k o own c) (inside_by is us) ≡ tree (leaf_label at next k own) none
+leaf_by : (is : Bool) (at next : ℕ) (k : Head) (o own c : List Item) (us : Trees) → is ≡ true → tree (label_at at (number_of k.kind next) is k o own c) (inside_by is us) ≡ tree (leaf_label at next k own) none
 unfolding label_at
 leaf_by true at next k o own c us e = refl
 leaf_by false at next k o own c us e = cc
 
-pub leaf_made : (at next place number : ℕ) (k : Kind) (o c : List Item) (ts : ItemTrees) (u : Tree) → is_leaf k ≡ true → u ≡ tree (leaf_label at next k (held (inner k o ts c))) none → place ≡ at + width (held (inner k o ts c)) → number ≡ next_after k next
+pub leaf_made : (at next place number : ℕ) (k : Head) (o c : List Item) (ts : ItemTrees) (u : Tree) → is_leaf k.kind ≡ true → u ≡ tree (leaf_label at next k (held (inner k o ts c))) none → place ≡ at + width (held (inner k o ts c)) → number ≡ next_after k.kind next
     → IsMade at next (inner k o ts c) u place number
 leaf_made at next place number k o c ts u e f p n = record {
-  tree_is = f ∙ sym (leaf_by (is_leaf k) at next k o (held (inner k o ts c)) c (all_annotated_at (at + width o) (next_after k next) ts) e);
+  tree_is = f ∙ sym (leaf_by (is_leaf k.kind) at next k o (held (inner k o ts c)) c (all_annotated_at (at + width o) (next_after k.kind next) ts) e);
   place_is = p;
   number_is = n ∙ number_leaf k o c ts next e;
 }
 
--- what is no leaf shows no characters of its own
-inner_shows : (k : Kind) (own : List Item) → is_leaf k ≡ false → shown_by (showing k) own ≡ []
-inner_shows kind.Text own e = cc
-inner_shows kind.Entity own e = cc
-inner_shows k own e = refl
-
-inner_by : (is : Bool) (at next : ℕ) (k : Kind) (o own c : List Item) (us : Trees) → is ≡ false → shown_by (showing k) own ≡ [] → tree (label_at at next is k o own c) (inside_by is us) ≡ tree (inner_label at next k (at + width own) o c) us
+inner_by : (is : Bool) (at next : ℕ) (k : Head) (o own c : List Item) (us : Trees) → is ≡ false → tree (label_at at (number_of k.kind next) is k o own c) (inside_by is us) ≡ tree (inner_label at next k (at + width own) o c) us
 unfolding label_at
-inner_by true at next k o own c us e s = cc
-inner_by false at next k o own c us e s = ap (λ bs. tree (record (inner_label at next k (at + width own) o c) { shown = bs }) us) s
+inner_by true at next k o own c us e = cc
+inner_by false at next k o own c us e = refl
 
-pub inner_made : (at next place number mid after : ℕ) (k : Kind) (o c : List Item) (ts : ItemTrees) (us : Trees) (u : Tree) → is_leaf k ≡ false → AreMade (at + width o) (next_after k next) ts us mid after
+pub inner_made : (at next place number mid after : ℕ) (k : Head) (o c : List Item) (ts : ItemTrees) (us : Trees) (u : Tree) → is_leaf k.kind ≡ false → AreMade (at + width o) (next_after k.kind next) ts us mid after
     → u ≡ tree (inner_label at next k (mid + width c) o c) us → place ≡ mid + width c → number ≡ after → IsMade at next (inner k o ts c) u place number
 inner_made at next place number mid after k o c ts us u e a f p n =
     let end : mid + width c ≡ at + width (held (inner k o ts c)) = omega (arith, a.place_is, width_three o (held_by_all ts) c) in
@@ -72,16 +67,16 @@ inner_made at next place number mid after k o c ts us u e a f p n =
           f
           ∙ ap (λ m. tree (inner_label at next k m o c) us) end
           ∙ ap (tree (inner_label at next k (at + width (held (inner k o ts c))) o c)) a.trees_are
-          ∙ sym (inner_by (is_leaf k) at next k o (held (inner k o ts c)) c (all_annotated_at (at + width o) (next_after k next) ts) e (inner_shows k (held (inner k o ts c)) e));
+          ∙ sym (inner_by (is_leaf k.kind) at next k o (held (inner k o ts c)) c (all_annotated_at (at + width o) (next_after k.kind next) ts) e);
       place_is = p ∙ end;
       number_is = n ∙ a.number_is ∙ number_inner k o c ts next e;
     }
 
 -- the same of nodes of pieces
-pub leaf_done : (n : PieceTree) (at next place number w : ℕ) (ps qs rs : List Piece) (u : Tree) → is_leaf (out-PieceTree n).kind ≡ true → items ps ≡ held (item_tree n) → qs ≡ ps → rs ≡ ps
-    → u ≡ tree (leaf_label at next (out-PieceTree n).kind (items qs)) none → w ≡ width (items rs) → place ≡ at + w → number ≡ next_after (out-PieceTree n).kind next → IsMade at next (item_tree n) u place number
+pub leaf_done : (n : PieceTree) (at next place number w : ℕ) (ps qs rs : List Piece) (u : Tree) → is_leaf (out-PieceTree n).head.kind ≡ true → items ps ≡ held (item_tree n) → qs ≡ ps → rs ≡ ps
+    → u ≡ tree (leaf_label at next (head_of (out-PieceTree n).head) (items qs)) none → w ≡ width (items rs) → place ≡ at + w → number ≡ next_after (out-PieceTree n).head.kind next → IsMade at next (item_tree n) u place number
 leaf_done n at next place number w ps qs rs u e h i j f v p m =
-    let k = (out-PieceTree n).kind in
+    let k = head_of (out-PieceTree n).head in
     let o = items (out-PieceTree n).opening in
     let c = items (out-PieceTree n).closing in
     let ts = forest (item_trees (out-PieceTree n).children) in
@@ -89,12 +84,12 @@ leaf_done n at next place number w ps qs rs u e h i j f v p m =
     let made = leaf_made at next place number k o c ts u e (f ∙ ap (λ xs. tree (leaf_label at next k xs) none) (ap items i ∙ own)) (p ∙ ap (λ x. at + x) (v ∙ ap width (ap items j ∙ own))) m in
     subst (λ (t : ItemTree). IsMade at next t u place number) (sym (item_tree_out n)) made
 
-pub inner_done : (n : PieceTree) (at next place number mid after : ℕ) (us : Trees) (u : Tree) → is_leaf (out-PieceTree n).kind ≡ false
-    → AreMade (at + width (items (out-PieceTree n).opening)) (next_after (out-PieceTree n).kind next) (forest (item_trees (out-PieceTree n).children)) us mid after
-    → u ≡ tree (inner_label at next (out-PieceTree n).kind (mid + width (items (out-PieceTree n).closing)) (items (out-PieceTree n).opening) (items (out-PieceTree n).closing)) us → place ≡ mid + width (items (out-PieceTree n).closing) → number ≡ after
+pub inner_done : (n : PieceTree) (at next place number mid after : ℕ) (us : Trees) (u : Tree) → is_leaf (out-PieceTree n).head.kind ≡ false
+    → AreMade (at + width (items (out-PieceTree n).opening)) (next_after (out-PieceTree n).head.kind next) (forest (item_trees (out-PieceTree n).children)) us mid after
+    → u ≡ tree (inner_label at next (head_of (out-PieceTree n).head) (mid + width (items (out-PieceTree n).closing)) (items (out-PieceTree n).opening) (items (out-PieceTree n).closing)) us → place ≡ mid + width (items (out-PieceTree n).closing) → number ≡ after
     → IsMade at next (item_tree n) u place number
 inner_done n at next place number mid after us u e a f p m =
-    let k = (out-PieceTree n).kind in
+    let k = head_of (out-PieceTree n).head in
     let o = items (out-PieceTree n).opening in
     let c = items (out-PieceTree n).closing in
     let ts = forest (item_trees (out-PieceTree n).children) in
@@ -210,15 +205,15 @@ room_inside n at inside w m qs i v e h =
     let g : width (items qs) ≡ width o = ap (λ xs. width (items xs)) e in
     omega (arith, i, v, f, g, h)
 
-pub number_inside : (n : PieceTree) (first next m : ℕ) → is_leaf (out-PieceTree n).kind ≡ false → next ≡ next_after (out-PieceTree n).kind first → first + numbered (item_tree n) < m
+pub number_inside : (n : PieceTree) (first next m : ℕ) → is_leaf (out-PieceTree n).head.kind ≡ false → next ≡ next_after (out-PieceTree n).head.kind first → first + numbered (item_tree n) < m
     → next + numbered_in_all (forest (item_trees (out-PieceTree n).children)) < m
 number_inside n first next m e i h =
-    let k = (out-PieceTree n).kind in
+    let k = head_of (out-PieceTree n).head in
     let o = items (out-PieceTree n).opening in
     let c = items (out-PieceTree n).closing in
     let ts = forest (item_trees (out-PieceTree n).children) in
     let f : numbered (item_tree n) ≡ numbered (inner k o ts c) = ap numbered (item_tree_out n) in
-    let g : next_after k first + numbered_in_all ts ≡ first + numbered (inner k o ts c) = number_inner k o c ts first e in
+    let g : next_after k.kind first + numbered_in_all ts ≡ first + numbered (inner k o ts c) = number_inner k o c ts first e in
     omega (arith, i, f, g, h)
 
 pub room_closing : (n : PieceTree) (at place inside w next mid after m : ℕ) (qs : List Piece) (us : Trees) → AreMade inside next (forest (item_trees (out-PieceTree n).children)) us mid after → inside ≡ at + w → w ≡ width (items qs)
@@ -232,11 +227,11 @@ room_closing n at place inside w next mid after m qs us a i v e h =
     omega (arith, a.place_is, i, v, f, g, h)
 
 -- the children begin where the opening ends
-pub inside_from : (inside next at w m : ℕ) (qs os : List Piece) (k : Kind) (first : ℕ) (ts : ItemTrees) (us : Trees) (mid after : ℕ) → AreMade inside next ts us mid after → inside ≡ at + w → w ≡ width (items qs) → qs ≡ os → next ≡ next_after k first
-    → AreMade (at + width (items os)) (next_after k first) ts us mid after
+pub inside_from : (inside next at w m : ℕ) (qs os : List Piece) (k : Head) (first : ℕ) (ts : ItemTrees) (us : Trees) (mid after : ℕ) → AreMade inside next ts us mid after → inside ≡ at + w → w ≡ width (items qs) → qs ≡ os → next ≡ next_after k.kind first
+    → AreMade (at + width (items os)) (next_after k.kind first) ts us mid after
 inside_from inside next at w m qs os k first ts us mid after a i v e n =
     let p : inside ≡ at + width (items os) = i ∙ ap (λ x. at + x) (v ∙ ap (λ xs. width (items xs)) e) in
-    subst (λ (x : ℕ). AreMade x (next_after k first) ts us mid after) p (subst (λ (x : ℕ). AreMade inside x ts us mid after) n a)
+    subst (λ (x : ℕ). AreMade x (next_after k.kind first) ts us mid after) p (subst (λ (x : ℕ). AreMade inside x ts us mid after) n a)
 
 pub three_ok : {A E : Type 0} (r : Result A E) (P Q R S : A → Type 0) → ((v : A) → P v → Q v → R v → S v) → IfOk r P → IfOk r Q → IfOk r R → IfOk r S
 three_ok (Ok v) P Q R S f p q s = f v p q s

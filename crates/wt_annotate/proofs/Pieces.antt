@@ -12,7 +12,7 @@ use Rattle.wt_span.specs.Slice.{bytes_of}
 use Rattle.wt_span.specs.Items.{Item, char, items_by, items_of, items, sources}
 use Rattle.wt_inline.specs.declared.tree.PieceTree.{PieceTree, out-PieceTree, fold_out-PieceTree}
 use Rattle.wt_inline.specs.ItemTree.{ItemTree, inner, forest, held, held_by_all}
-use Rattle.wt_inline.specs.View.{view_step, item_tree, item_trees}
+use Rattle.wt_inline.specs.View.{head_of, view_step, item_tree, item_trees}
 use Rattle.wt_annotate.specs.Labels.{width}
 use Rattle.wt_annotate.proofs.Widths.{sources_append, width_append}
 
@@ -72,7 +72,7 @@ texts_step ts us ps at p l i e f =
 
 -- ---- a node
 
-pub item_tree_out : (n : PieceTree) → item_tree n ≡ inner (out-PieceTree n).kind (items (out-PieceTree n).opening) (forest (item_trees (out-PieceTree n).children)) (items (out-PieceTree n).closing)
+pub item_tree_out : (n : PieceTree) → item_tree n ≡ inner (head_of (out-PieceTree n).head) (items (out-PieceTree n).opening) (forest (item_trees (out-PieceTree n).children)) (items (out-PieceTree n).closing)
 item_tree_out n = fold_out-PieceTree ItemTree view_step n
 
 pub held_list : (ns : List PieceTree) → held_by_all (forest (item_trees ns)) ≡ flat_map (λ n. held (item_tree n)) ns

@@ -10,13 +10,11 @@ use Rattle.wt_tree.specs.Kinds.{is_leaf, is_numbered}
 use Rattle.wt_tree.specs.Tree.{Tree, Trees}
 use Rattle.wt_tree.specs.Tiling.{is_group, numbers, numbers_of_all, ids_of_all, others, others_of_all, InPreorder}
 use Rattle.wt_inline.specs.ItemTree.{ItemTree, inner, ItemTrees, nothing, further, held}
-use Rattle.wt_annotate.specs.Labels.{width, next_after, label_at}
-use Rattle.wt_annotate.specs.Annotated.{inside_by, count_by, numbered, numbered_in_all, annotated_at, all_annotated_at, annotated}
-
--- a group is a leaf
-group_leaf : (k : Kind) → is_group k ≡ true → is_leaf k ≡ true
-group_leaf kind.Group e = refl
-group_leaf k e = cc
+use Rattle.wt_annotate.specs.Labels.{width, label_at}
+use Rattle.wt_annotate.specs.Numbering.{number_of, next_after}
+use Rattle.wt_annotate.specs.Annotated.{inside_by, count_by, numbered, numbered_in_all, annotated}
+use Rattle.wt_annotate.specs.Made.{annotated_at, all_annotated_at}
+use Rattle.wt_annotate.proofs.OnePass.{group_leaf, annotated_is}
 
 -- ---- those that have one
 
@@ -46,8 +44,8 @@ mutual
   unfolding label_at
 
   pub numbers_at : (at next : ℕ) (t : ItemTree) → numbers (annotated_at at next t) ≡ range_with_len next (numbered t)
-  numbers_at at next (inner k opening ts closing) =
-      numbers_by (is_numbered k) (is_group k) (is_leaf k) next (numbered_in_all ts) (all_annotated_at (at + width opening) (next_after k next) ts) (group_leaf k) (all_numbers_at (at + width opening) (next_after k next) ts)
+  numbers_at at next (inner h opening ts closing) =
+      numbers_by (is_numbered h.kind) (is_group h.kind) (is_leaf h.kind) next (numbered_in_all ts) (all_annotated_at (at + width opening) (next_after h.kind next) ts) (group_leaf h.kind) (all_numbers_at (at + width opening) (next_after h.kind next) ts)
 
   pub all_numbers_at : (at next : ℕ) (ts : ItemTrees) → numbers_of_all (all_annotated_at at next ts) ≡ range_with_len next (numbered_in_all ts)
   all_numbers_at at next nothing = refl
@@ -83,8 +81,8 @@ mutual
   unfolding label_at
 
   pub others_at : (at next : ℕ) (t : ItemTree) → AllZero (others (annotated_at at next t))
-  others_at at next (inner k opening ts closing) =
-      others_by (is_numbered k) (is_group k) (is_leaf k) next (all_annotated_at (at + width opening) (next_after k next) ts) (group_leaf k) (all_others_at (at + width opening) (next_after k next) ts)
+  others_at at next (inner h opening ts closing) =
+      others_by (is_numbered h.kind) (is_group h.kind) (is_leaf h.kind) next (all_annotated_at (at + width opening) (next_after h.kind next) ts) (group_leaf h.kind) (all_others_at (at + width opening) (next_after h.kind next) ts)
 
   pub all_others_at : (at next : ℕ) (ts : ItemTrees) → AllZero (others_of_all (all_annotated_at at next ts))
   all_others_at at next nothing = tt
@@ -92,17 +90,17 @@ mutual
       zeros_append (others (annotated_at at next t)) (others_of_all (all_annotated_at (at + width (held t)) (next + numbered t) ts)) (others_at at next t) (all_others_at (at + width (held t)) (next + numbered t) ts)
 
 pub counted : (t : ItemTree) → length (numbers (annotated t)) ≡ numbered t
-unfolding annotated
-counted t = ap length (numbers_at 0 1 t) ∙ length-range_with_len 1 (numbered t)
+counted t = ap (λ u. length (numbers u)) (annotated_is t) ∙ ap length (numbers_at 0 1 t) ∙ length-range_with_len 1 (numbered t)
 
-pub numbered_annotated : (t : ItemTree) → InPreorder (annotated t)
-unfolding annotated
-numbered_annotated t =
+numbered_one : (t : ItemTree) → InPreorder (annotated_at 0 1 t)
+numbered_one t =
     let all : numbers (annotated_at 0 1 t) ≡ range_with_len 1 (numbered t) = numbers_at 0 1 t in
     let len : length (numbers (annotated_at 0 1 t)) ≡ numbered t = ap length all ∙ length-range_with_len 1 (numbered t) in
     record { counted = all ∙ ap (range_with_len 1) (sym len); unnumbered = zeros_all (others (annotated_at 0 1 t)) (others_at 0 1 t) }
 
+pub numbered_annotated : (t : ItemTree) → InPreorder (annotated t)
+numbered_annotated t = subst InPreorder (sym (annotated_is t)) (numbered_one t)
+
 -- the same by its first place and number
 pub numbered_first : (t : ItemTree) (u : Tree) → u ≡ annotated_at 0 1 t → InPreorder u
-unfolding annotated
-numbered_first t u e = subst InPreorder (sym e) (numbered_annotated t)
+numbered_first t u e = subst InPreorder (sym e) (numbered_one t)

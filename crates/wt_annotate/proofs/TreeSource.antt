@@ -6,8 +6,11 @@ use Rattle.wt_tree.specs.Tree.{Trees}
 use Rattle.wt_tree.specs.Source.{flat, flat_of_all}
 use Rattle.wt_span.specs.Items.{Item, sources}
 use Rattle.wt_inline.specs.ItemTree.{ItemTree, inner, ItemTrees, nothing, further, held, held_by_all}
-use Rattle.wt_annotate.specs.Labels.{if_leaf, if_inner, width, next_after, label_at}
-use Rattle.wt_annotate.specs.Annotated.{inside_by, numbered, annotated_at, all_annotated_at, annotated}
+use Rattle.wt_annotate.specs.Labels.{if_leaf, if_inner, width, label_at}
+use Rattle.wt_annotate.specs.Numbering.{number_of, next_after}
+use Rattle.wt_annotate.specs.Annotated.{inside_by, numbered, annotated}
+use Rattle.wt_annotate.specs.Made.{annotated_at, all_annotated_at}
+use Rattle.wt_annotate.proofs.OnePass.{annotated_is}
 use Rattle.wt_annotate.proofs.Widths.{sources_append}
 
 flat_by : (is : Bool) (opening inside closing : List Item) (ts : Trees) → flat_of_all ts ≡ sources inside
@@ -23,8 +26,8 @@ mutual
   unfolding label_at
 
   pub flat_at : (at next : ℕ) (t : ItemTree) → flat (annotated_at at next t) ≡ sources (held t)
-  flat_at at next (inner k opening ts closing) =
-      flat_by (is_leaf k) opening (held_by_all ts) closing (all_annotated_at (at + width opening) (next_after k next) ts) (flat_all_at (at + width opening) (next_after k next) ts)
+  flat_at at next (inner h opening ts closing) =
+      flat_by (is_leaf h.kind) opening (held_by_all ts) closing (all_annotated_at (at + width opening) (next_after h.kind next) ts) (flat_all_at (at + width opening) (next_after h.kind next) ts)
 
   pub flat_all_at : (at next : ℕ) (ts : ItemTrees) → flat_of_all (all_annotated_at at next ts) ≡ sources (held_by_all ts)
   flat_all_at at next nothing = refl
@@ -34,5 +37,4 @@ mutual
       ∙ sym (sources_append (held t) (held_by_all ts))
 
 pub flat_annotated : (t : ItemTree) → flat (annotated t) ≡ sources (held t)
-unfolding annotated
-flat_annotated t = flat_at 0 1 t
+flat_annotated t = ap flat (annotated_is t) ∙ flat_at 0 1 t

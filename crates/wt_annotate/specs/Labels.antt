@@ -1,31 +1,16 @@
 -- What a node of the annotated tree has beside its children.
-use Rattle.std.specs.Prelude.{ℕ, ◌+◌, Bool, true, false, Option, Some, None, List, [], ◌∷◌, length, if◌then◌else◌}
-use Rattle.std.specs.List.{flat_map}
+use Rattle.std.specs.Prelude.{ℕ, ◌+◌, Bool, true, false, Option, Some, None, List, [], ◌∷◌, length}
 use Rattle.wt_tree.specs.declared.kind.Kind.{Kind}
 use Rattle.wt_tree.specs.declared.kind.Kind.TheVariants as kind
 use Rattle.wt_tree.specs.declared.kind.Ranges.{Ranges}
-use Rattle.wt_tree.specs.declared.kind.AttrName.{AttrName}
 use Rattle.wt_tree.specs.declared.kind.Mark.TheVariants as marks
-use Rattle.wt_tree.specs.declared.kind.Showing.{Showing}
-use Rattle.wt_tree.specs.declared.kind.Showing.TheVariants.{Characters, Inside, Nothing, Element}
-use Rattle.wt_tree.specs.declared.node.DataMw.{DataMw}
-use Rattle.wt_tree.specs.Kinds.{is_leaf, is_numbered, showing}
 use Rattle.wt_tree.specs.Tree.{Label}
 use Rattle.wt_span.specs.Items.{Item, sources}
-use Rattle.wt_inline.specs.Carried.{shown_item, attrs_item, data_item}
+use Rattle.wt_inline.specs.ItemTree.{Head}
 
 -- how many bytes items have
 abbrev pub width : List Item → ℕ
 width items = length (sources items)
-
--- ---- numbers
-
--- a node's number, where the next one is this; 0 where it has none
-abbrev pub number_of : Kind → ℕ → ℕ
-number_of k next = if is_numbered k then next else 0
-
-abbrev pub next_after : Kind → ℕ → ℕ
-next_after k next = if is_numbered k then next + 1 else next
 
 -- ---- ranges
 
@@ -85,37 +70,18 @@ abbrev pub if_inner : {A : Type 0} → Bool → List A → List A
 if_inner true xs = []
 if_inner false xs = xs
 
-abbrev pub shown_by : Showing → List Item → List ℕ
-shown_by Characters own = flat_map shown_item own
-shown_by Inside own = []
-shown_by Nothing own = []
-shown_by Element own = []
-
--- an element that is a leaf is one item
-abbrev pub first_attrs : List Item → List (AttrName × List ℕ)
-first_attrs [] = []
-first_attrs (x ∷ xs) = attrs_item x
-
-abbrev pub first_data : List Item → Option DataMw
-first_data [] = None
-first_data (x ∷ xs) = data_item x
-
-abbrev pub data_by : Bool → List Item → Option DataMw
-data_by true own = first_data own
-data_by false own = None
-
--- The label of a node of a kind that is a leaf or isn't, from this place on, whose number is the next one if it has one; `own`
--- are all items that it holds.
-unfoldable pub label_at : ℕ → ℕ → Bool → Kind → List Item → List Item → List Item → Label
-label_at at next is k opening own closing = record {
-  kind = k;
-  id = number_of k next;
-  ranges = Some (record { start = at; end = at + width own; open_w = open_width is k opening own; close_w = close_width is closing });
+-- The label of a node with this head, which is a leaf or isn't, from this place on and with this number; `own` are all items
+-- that it holds.
+unfoldable pub label_at : ℕ → ℕ → Bool → Head → List Item → List Item → List Item → Label
+label_at at id is h opening own closing = record {
+  kind = h.kind;
+  id = id;
+  ranges = Some (record { start = at; end = at + width own; open_w = open_width is h.kind opening own; close_w = close_width is closing });
   opening = if_inner is (sources opening);
   closing = if_inner is (sources closing);
   own = if_leaf is (sources own);
-  shown = shown_by (showing k) own;
-  attrs = if_leaf is (first_attrs own);
+  shown = h.shown;
+  attrs = h.attrs;
   mark = marks.Nothing;
-  mw = data_by is own;
+  mw = h.mw;
 }

@@ -1,10 +1,22 @@
--- What a pass makes of trees, from a place on and with a next number: their annotated trees, and the place and the number
--- behind them.
-use Rattle.std.specs.Prelude.{◌≡◌, ℕ, ◌+◌}
-use Rattle.wt_tree.specs.Tree.{Tree, Trees}
-use Rattle.wt_inline.specs.ItemTree.{ItemTree, ItemTrees, held, held_by_all}
-use Rattle.wt_annotate.specs.Labels.{width}
-use Rattle.wt_annotate.specs.Annotated.{numbered, numbered_in_all, annotated_at, all_annotated_at}
+-- What the pass of the code makes of trees, from a place on and with a next number: their annotated trees, and the place and
+-- the number behind them.
+use Rattle.std.specs.Prelude.{◌≡◌, ℕ, ◌+◌, ◌++◌}
+use Rattle.wt_tree.specs.Kinds.{is_leaf}
+use Rattle.wt_tree.specs.Tree.{Tree, tree, Trees, none, more}
+use Rattle.wt_inline.specs.ItemTree.{ItemTree, inner, ItemTrees, nothing, further, held, held_by_all}
+use Rattle.wt_annotate.specs.Labels.{width, label_at}
+use Rattle.wt_annotate.specs.Numbering.{number_of, next_after}
+use Rattle.wt_annotate.specs.Annotated.{inside_by, numbered, numbered_in_all}
+
+-- places and numbers at once
+abbrev mutual
+  pub annotated_at : ℕ → ℕ → ItemTree → Tree
+  annotated_at at next (inner h opening ts closing) =
+      tree (label_at at (number_of h.kind next) (is_leaf h.kind) h opening (opening ++ (held_by_all ts ++ closing)) closing) (inside_by (is_leaf h.kind) (all_annotated_at (at + width opening) (next_after h.kind next) ts))
+
+  pub all_annotated_at : ℕ → ℕ → ItemTrees → Trees
+  all_annotated_at at next nothing = none
+  all_annotated_at at next (further t ts) = more (annotated_at at next t) (all_annotated_at (at + width (held t)) (next + numbered t) ts)
 
 pub record IsMade (at next : ℕ) (t : ItemTree) (u : Tree) (place number : ℕ) : Type 0 where
   pub tree_is : u ≡ annotated_at at next t

@@ -1,5 +1,6 @@
 ghost use Rattle.std.specs.Prelude.{◌≡◌, ◌+◌, ◌^◌, ◌<◌};
-ghost use Rattle.wt_annotate.specs.Labels.{number_of, next_after, leaf_open};
+ghost use Rattle.wt_annotate.specs.Labels.{leaf_open};
+ghost use Rattle.wt_annotate.specs.Numbering.{number_of, next_after};
 
 use wt_tree::Kind;
 

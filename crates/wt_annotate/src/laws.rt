@@ -1,20 +1,36 @@
 //! What holds of the annotated tree of any tree of items.
 
-ghost use Rattle.std.specs.Prelude.{◌≡◌, [], length};
-ghost use Rattle.wt_span.specs.Items.{sources};
+ghost use Rattle.std.specs.Prelude.{◌≡◌, ◌≤◌, ◌+◌, [], List, length};
+ghost use Rattle.wt_span.specs.Items.{Item, sources};
 ghost use Rattle.wt_tree.specs.declared.kind.Kind.TheVariants as node_kind;
 ghost use Rattle.wt_tree.specs.Source.{flat};
 ghost use Rattle.wt_tree.specs.Tiling.{Tiled, Covers, numbers, InPreorder};
-ghost use Rattle.wt_inline.specs.ItemTree.{ItemTree, inner, ItemTrees, held};
+ghost use Rattle.wt_inline.specs.ItemTree.{plain, ItemTree, inner, ItemTrees, held};
+ghost use Rattle.wt_build.specs.Meaning.{meaning};
 ghost use Rattle.wt_annotate.specs.Labels.{width};
 ghost use Rattle.wt_annotate.specs.Annotated.{numbered, annotated};
+ghost use Rattle.wt_annotate.specs.Numbers.{makes_all};
+ghost use Rattle.wt_annotate.specs.Slices.{AreSlices};
 
 /// The annotated tree joins to the sources of the items that the tree holds, its ranges tile it,
 /// that of a body covers all its bytes, and its numbers are in preorder, as many as are counted.
 pub fn annotated_tree()
     ensures source { (t : ItemTree) → flat (annotated t) ≡ sources (held t) }
     ensures tiled { (t : ItemTree) → Tiled (annotated t) }
-    ensures covers { (ts : ItemTrees) → Covers (width (held (inner node_kind.Body [] ts []))) (annotated (inner node_kind.Body [] ts [])) }
+    ensures covers { (ts : ItemTrees) → Covers (width (held (inner (plain node_kind.Body) [] ts []))) (annotated (inner (plain node_kind.Body) [] ts [])) }
     ensures numbered { (t : ItemTree) → InPreorder (annotated t) }
     ensures count { (t : ItemTree) → length (numbers (annotated t)) ≡ numbered t }
+{}
+
+/// Each node's range is a slice of what the tree holds: from its start to its end stands the node's
+/// source, its open width is the length of its opening and its close width that of its closing.
+pub fn ranges_are_slices()
+    ensures { (t : ItemTree) → AreSlices (sources (held t)) (annotated t) }
+{}
+
+/// At most one node for each item has a number, beside those that forms make, and a form makes at
+/// most one node more than it has bytes.
+pub fn few_numbers()
+    ensures blocks { (xs : List Item) → numbered (meaning xs) ≤ length xs + makes_all xs }
+    ensures forms { (xs : List Item) → makes_all xs ≤ length xs + width xs }
 {}

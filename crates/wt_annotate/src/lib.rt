@@ -2,7 +2,6 @@
 //! place in bytes and its number, and with what its element carries.
 #![tactic(auto)]
 
-mod carry;
 mod cursor;
 mod held;
 mod laws;
@@ -11,5 +10,5 @@ mod page;
 mod pass;
 mod piece;
 
-pub use laws::annotated_tree;
+pub use laws::{annotated_tree, few_numbers, ranges_are_slices};
 pub use page::annotate;

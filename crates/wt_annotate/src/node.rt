@@ -4,32 +4,33 @@ ghost use Rattle.wt_tree.specs.Kinds.{is_leaf};
 ghost use Rattle.wt_tree.specs.Tree.{tree, none};
 ghost use Rattle.wt_tree.specs.View.{view, views};
 ghost use Rattle.wt_tree.specs.declared.node.Node.{out-Node};
+ghost use Rattle.wt_inline.specs.View.{head_of};
 ghost use Rattle.wt_annotate.specs.Labels.{width, leaf_open};
 ghost use Rattle.wt_annotate.specs.Nodes.{bare, leaf_label, inner_label};
 
-use crate::carry::{leaf_attrs, leaf_data, leaf_origin, leaf_shown};
 use crate::cursor::{Cursor, leaf_open};
 use crate::piece::{texts, width};
 use std::alloc::Global;
-use wt_span::{List, NoMemory, Piece, Str};
+use wt_inline::NodeHead;
+use wt_span::{List, NoMemory, Piece};
 use wt_tree::{Kind, Mark, Node, Ranges};
 
 /// A node that holds nothing yet.
-fn bare_node<'a>(alloc: Global, kind: Kind, id: u32, ranges: Ranges) -> Node<'a>
-    ensures { out-Node result ≡ bare kind id ranges.start ranges.end ranges.open_w ranges.close_w }
+fn bare_node<'a>(alloc: Global, head: NodeHead, id: u32, ranges: Ranges) -> Node<'a>
+    ensures { out-Node result ≡ bare head id ranges.start ranges.end ranges.open_w ranges.close_w }
 {
     Node {
-        kind,
+        kind: head.kind,
         id,
         ranges: Some(ranges),
         opening: List::new(alloc),
         closing: List::new(alloc),
         own: List::new(alloc),
-        shown: Str::new(alloc),
-        attrs: List::new(alloc),
+        shown: head.shown,
+        attrs: head.attrs,
         origin: None,
         mark: Mark::Nothing,
-        mw: None,
+        mw: head.mw,
         children: List::new(alloc),
     }
 }
@@ -51,28 +52,25 @@ fn leaf_ranges(kind: Kind, start: u32, width: u32) -> Ranges
 #[tactic(auto, unfolding(crate::specs::Labels::label_at))]
 pub fn leaf_node<'a>(
     alloc: Global,
-    kind: Kind,
+    head: NodeHead,
     at: Cursor,
     own: &[Piece<'a>],
 ) -> Result<Node<'a>, NoMemory>
     requires { at.place + width (items own.now) < 2 ^ 32 }
-    ensures { IfOk result (λ n. view n ≡ tree (leaf_label at.place at.next kind (items own.now)) none) }
+    ensures { IfOk result (λ n. view n ≡ tree (leaf_label at.place at.next (head_of head) (items own.now)) none) }
 {
-    let ranges = leaf_ranges(kind, at.place, width(own));
+    let id = at.number(head.kind);
+    let ranges = leaf_ranges(head.kind, at.place, width(own));
     Ok(Node {
         own: texts(alloc, own)?,
-        shown: leaf_shown(alloc, kind, own)?,
-        attrs: leaf_attrs(alloc, own)?,
-        origin: leaf_origin(own),
-        mw: leaf_data(alloc, own)?,
-        ..bare_node(alloc, kind, at.number(kind), ranges)
+        ..bare_node(alloc, head, id, ranges)
     })
 }
 
 /// A node of these delimiters and children, which ends at a place.
 pub fn inner_node<'a>(
     alloc: Global,
-    kind: Kind,
+    head: NodeHead,
     at: Cursor,
     end: u32,
     opening: &[Piece<'a>],
@@ -81,8 +79,9 @@ pub fn inner_node<'a>(
 ) -> Result<Node<'a>, NoMemory>
     requires opening { width (items opening.now) < 2 ^ 32 }
     requires closing { width (items closing.now) < 2 ^ 32 }
-    ensures { IfOk result (λ n. view n ≡ tree (inner_label at.place at.next kind end (items opening.now) (items closing.now)) (views children.entry)) }
+    ensures { IfOk result (λ n. view n ≡ tree (inner_label at.place at.next (head_of head) end (items opening.now) (items closing.now)) (views children.entry)) }
 {
+    let id = at.number(head.kind);
     let ranges = Ranges {
         start: at.place,
         end,
@@ -93,6 +92,6 @@ pub fn inner_node<'a>(
         opening: texts(alloc, opening)?,
         closing: texts(alloc, closing)?,
         children,
-        ..bare_node(alloc, kind, at.number(kind), ranges)
+        ..bare_node(alloc, head, id, ranges)
     })
 }

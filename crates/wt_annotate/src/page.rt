@@ -14,7 +14,7 @@ use wt_tree::Annotated;
 
 /// The annotated tree of a meaning without calls: each node with its number, its place in bytes, its
 /// source and what its element carries.
-#[tactic(auto, unfolding(crate::specs::Annotated::annotated), using(crate::proofs::TreeRanges::tiled_at))]
+#[tactic(auto, using(crate::proofs::TreeRanges::tiled_at, crate::proofs::OnePass::annotated_is))]
 pub fn annotate<'a>(alloc: Global, tree: PieceTree<'a>) -> Result<Annotated<'a>, NoMemory>
     requires bytes { width (held (item_tree tree)) < 2 ^ 32 }
     requires numbers { 1 + numbered (item_tree tree) < 2 ^ 32 }

@@ -6,9 +6,10 @@ ghost use Rattle.wt_tree.specs.Kinds.{is_leaf};
 ghost use Rattle.wt_tree.specs.Tree.{tree};
 ghost use Rattle.wt_tree.specs.View.{view, views};
 ghost use Rattle.wt_inline.specs.ItemTree.{inner, forest, held, held_by_all};
-ghost use Rattle.wt_inline.specs.View.{item_tree, item_trees};
+ghost use Rattle.wt_inline.specs.View.{head_of, item_tree, item_trees};
 ghost use Rattle.wt_inline.specs.declared.tree.PieceTree.{out-PieceTree};
-ghost use Rattle.wt_annotate.specs.Labels.{width, next_after};
+ghost use Rattle.wt_annotate.specs.Labels.{width};
+ghost use Rattle.wt_annotate.specs.Numbering.{next_after};
 ghost use Rattle.wt_annotate.specs.Annotated.{numbered, numbered_in_all};
 ghost use Rattle.wt_annotate.specs.Made.{IsMade, AreMade};
 ghost use Rattle.wt_annotate.specs.Nodes.{inner_label};
@@ -18,9 +19,9 @@ use crate::held::held_pieces;
 use crate::node::{inner_node, leaf_node};
 use crate::piece::width;
 use std::alloc::Global;
-use wt_inline::PieceTree;
+use wt_inline::{NodeHead, PieceTree};
 use wt_span::{List, NoMemory, Piece};
-use wt_tree::{Kind, Node};
+use wt_tree::Node;
 
 /// A node, and where the pass stands behind it.
 #[derive(Drop)]
@@ -36,22 +37,22 @@ struct AllMade<'a> {
     behind: Cursor,
 }
 
-fn leaf<'a>(alloc: Global, tree: &PieceTree<'a>, at: Cursor) -> Result<Made<'a>, NoMemory>
-    requires leaf { is_leaf (out-PieceTree tree.now).kind ≡ true }
-    requires place { at.place + width (held (item_tree tree.now)) < 2 ^ 32 }
-    requires number { at.next + numbered (item_tree tree.now) < 2 ^ 32 }
-    ensures { IfOk result (λ m. IsMade at.place at.next (item_tree tree.now) (view m.node) m.behind.place m.behind.next) }
+fn leaf<'a>(alloc: Global, tree: PieceTree<'a>, at: Cursor) -> Result<Made<'a>, NoMemory>
+    requires leaf { is_leaf (out-PieceTree tree).head.kind ≡ true }
+    requires place { at.place + width (held (item_tree tree)) < 2 ^ 32 }
+    requires number { at.next + numbered (item_tree tree) < 2 ^ 32 }
+    ensures { IfOk result (λ m. IsMade at.place at.next (item_tree tree.entry) (view m.node) m.behind.place m.behind.next) }
 {
-    let own = held_pieces(alloc, tree)?;
-    let node = leaf_node(alloc, tree.kind, at, own.as_slice())?;
-    let behind = at.after(tree.kind, width(own.as_slice()));
+    let own = held_pieces(alloc, &tree)?;
+    let behind = at.after(tree.head.kind, width(own.as_slice()));
+    let node = leaf_node(alloc, tree.head, at, own.as_slice())?;
     Ok(Made { node, behind })
 }
 
 /// A node round the children that are made.
 fn around<'a>(
     alloc: Global,
-    kind: Kind,
+    head: NodeHead,
     at: Cursor,
     opening: List<Piece<'a>>,
     children: AllMade<'a>,
@@ -59,7 +60,7 @@ fn around<'a>(
 ) -> Result<Made<'a>, NoMemory>
     requires opening { width (items opening) < 2 ^ 32 }
     requires closing { children.behind.place + width (items closing) < 2 ^ 32 }
-    ensures node { IfOk result (λ m. view m.node ≡ tree (inner_label at.place at.next kind (children.entry.behind.place + width (items closing.entry)) (items opening.entry) (items closing.entry)) (views children.entry.nodes)) }
+    ensures node { IfOk result (λ m. view m.node ≡ tree (inner_label at.place at.next (head_of head) (children.entry.behind.place + width (items closing.entry)) (items opening.entry) (items closing.entry)) (views children.entry.nodes)) }
     ensures place { IfOk result (λ m. m.behind.place ≡ children.entry.behind.place + width (items closing.entry)) }
     ensures number { IfOk result (λ m. m.behind.next ≡ children.entry.behind.next) }
 {
@@ -67,7 +68,7 @@ fn around<'a>(
     let end = behind.place + width(closing.as_slice());
     let node = inner_node(
         alloc,
-        kind,
+        head,
         at,
         end,
         opening.as_slice(),
@@ -115,16 +116,16 @@ pub fn annotated_node<'a>(
     requires number { at.next + numbered (item_tree tree) < 2 ^ 32 }
     ensures { IfOk result (λ m. IsMade at.place at.next (item_tree tree.entry) (view m.node) m.behind.place m.behind.next) }
 {
-    if tree.kind.is_leaf() {
-        return leaf(alloc, &tree, at);
+    if tree.head.kind.is_leaf() {
+        return leaf(alloc, tree, at);
     }
     let PieceTree {
-        kind,
+        head,
         opening,
         children,
         closing,
     } = tree;
-    let inside = at.after(kind, width(opening.as_slice()));
+    let inside = at.after(head.kind, width(opening.as_slice()));
     let children = annotated_all(alloc, children, inside)?;
-    around(alloc, kind, at, opening, children, closing)
+    around(alloc, head, at, opening, children, closing)
 }

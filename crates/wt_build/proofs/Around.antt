@@ -11,7 +11,7 @@ use Rattle.wt_span.proofs.RunLaws.{runs_are, are_joined}
 use Rattle.wt_lines.specs.Lines.{content, goes_on, full_lines, is_break_item}
 use Rattle.wt_lines.proofs.PieceRuns.{Some_}
 use Rattle.wt_inline.specs.declared.loose.Loose.TheVariants.{Text, Sep}
-use Rattle.wt_inline.specs.ItemTree.{ItemTree, inner, forest}
+use Rattle.wt_inline.specs.ItemTree.{plain, ItemTree, inner, forest}
 use Rattle.wt_inline.specs.Inline.{inline_trees}
 use Rattle.wt_tree.specs.declared.kind.Kind.TheVariants as kind
 use Rattle.wt_build.specs.declared.heading.HeadingParts.{HeadingParts}
@@ -36,7 +36,7 @@ lines_are (l ∷ ls) = ap (λ ps. ps ++ flat_map line_parts ls) (line_is l) ∙ 
 para_joined : (ls ms : List (List Item)) → joined ls ≡ joined ms → para ls ≡ para ms
 unfolding para
 para_joined ls ms e =
-    ap (λ ps. inner kind.Para [] (forest (children ps)) [])
+    ap (λ ps. inner (plain kind.Para) [] (forest (children ps)) [])
     (lines_are ls ∙ ap (parts Text) e ∙ sym (lines_are ms))
 
 pub block_joined : (k : BlockKind) (ls ms : List (List Item)) → joined ls ≡ joined ms → block k ls ≡ block k ms
@@ -122,9 +122,9 @@ around_is k xs before mid after a =
 
 -- ---- the block of one list of items
 
-pub para_whole : (xs : List Item) → inner kind.Para [] (forest (inline_trees xs)) [] ≡ para (xs ∷ [])
+pub para_whole : (xs : List Item) → inner (plain kind.Para) [] (forest (inline_trees xs)) [] ≡ para (xs ∷ [])
 unfolding para inline_trees
-para_whole xs = ap (λ ps. inner kind.Para [] (forest (children ps)) []) (sym (lines_are (xs ∷ []) ∙ ap (parts Text) (append-nil xs)))
+para_whole xs = ap (λ ps. inner (plain kind.Para) [] (forest (children ps)) []) (sym (lines_are (xs ∷ []) ∙ ap (parts Text) (append-nil xs)))
 
 pub para_block : (xs : List Item) → para (xs ∷ []) ≡ block Para (xs ∷ [])
 unfolding block

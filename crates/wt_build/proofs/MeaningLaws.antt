@@ -14,7 +14,7 @@ use Rattle.wt_lines.specs.Lines.{content, goes_on, full_lines}
 use Rattle.wt_inline.specs.declared.loose.Loose.TheVariants.{Text, Sep}
 use Rattle.wt_inline.specs.RawTag.{opening_of, inside_of, closing_of}
 use Rattle.wt_inline.specs.Inside.{read_with, inside_items, opened_whole, opened, opened_all}
-use Rattle.wt_inline.specs.ItemTree.{ItemTree, inner, forest, held, held_by_all}
+use Rattle.wt_inline.specs.ItemTree.{plain, ItemTree, inner, forest, held, held_by_all}
 use Rattle.wt_inline.specs.Parts.{node, held_parts, parts, children}
 use Rattle.wt_inline.specs.Inline.{inline_trees}
 use Rattle.wt_inline.proofs.HeldLaws.{held_children, held_of_parts, held_append, opened_append, sources_opened, are_children, only_children}
@@ -200,4 +200,4 @@ unfolding meaning
 only_meaning t xs m =
     let ls : m.its_lines ≡ full_lines xs = runs_only goes_on m.its_lines xs m.are_lines in
     let rs : m.its_blocks ≡ runs same_block (rows xs) = runs_only same_block m.its_blocks (map row m.its_lines) m.are_blocks ∙ ap (λ ns. runs same_block (map row ns)) ls in
-    m.is_body ∙ ap (λ ts. inner kind.Body [] (forest ts) []) (only_children m.its_children (flat_map run_parts m.its_blocks) m.are_children ∙ ap (λ bs. children (flat_map run_parts bs)) rs)
+    m.is_body ∙ ap (λ ts. inner (plain kind.Body) [] (forest ts) []) (only_children m.its_children (flat_map run_parts m.its_blocks) m.are_children ∙ ap (λ bs. children (flat_map run_parts bs)) rs)

@@ -5,7 +5,7 @@ use Rattle.wt_tree.specs.declared.kind.Kind.TheVariants as kind
 use Rattle.wt_span.specs.Items.{Item, sign, is_mark}
 use Rattle.wt_lines.specs.Lines.{content}
 use Rattle.wt_inline.specs.declared.loose.Loose.TheVariants.{Text, Sep}
-use Rattle.wt_inline.specs.ItemTree.{ItemTree, inner, forest}
+use Rattle.wt_inline.specs.ItemTree.{plain, ItemTree, inner, forest}
 use Rattle.wt_inline.specs.Parts.{Part, node, parts, children}
 use Rattle.wt_inline.specs.Inline.{inline_parts, inline_trees}
 use Rattle.wt_build.specs.declared.block.BlockKind.{BlockKind}
@@ -24,13 +24,13 @@ abbrev pub line_parts : List Item → List Part
 line_parts l = inline_parts (content l) ++ parts Text (ending l)
 
 unfoldable pub para : List (List Item) → ItemTree
-para ls = inner kind.Para [] (forest (children (flat_map line_parts ls))) []
+para ls = inner (plain kind.Para) [] (forest (children (flat_map line_parts ls))) []
 
 -- ---- a heading
 
 abbrev pub heading_by : HeadingParts → List Item → ItemTree
 heading_by h line =
-    inner (kind.Heading h.level) (take h.open_len line) (forest (inline_trees (take h.inside_len (drop h.open_len line)))) (drop h.inside_len (drop h.open_len line))
+    inner (plain (kind.Heading h.level)) (take h.open_len line) (forest (inline_trees (take h.inside_len (drop h.open_len line)))) (drop h.inside_len (drop h.open_len line))
 
 -- of a line without its line break, from its first `=` on
 unfoldable pub heading : List Item → ItemTree

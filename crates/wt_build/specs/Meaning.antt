@@ -5,7 +5,7 @@ use Rattle.wt_tree.specs.declared.kind.Kind.TheVariants as kind
 use Rattle.wt_span.specs.Items.{Item}
 use Rattle.wt_span.specs.Runs.{runs, AreRuns}
 use Rattle.wt_lines.specs.Lines.{goes_on}
-use Rattle.wt_inline.specs.ItemTree.{ItemTree, inner, forest}
+use Rattle.wt_inline.specs.ItemTree.{plain, ItemTree, inner, forest}
 use Rattle.wt_inline.specs.Parts.{Part, children, AreChildren}
 use Rattle.wt_build.specs.Rows.{Row, row, rows, same_block}
 use Rattle.wt_build.specs.Blocks.{parts_by}
@@ -23,7 +23,7 @@ abbrev pub body_parts : List Row → List Part
 body_parts rs = flat_map run_parts (runs same_block rs)
 
 unfoldable pub meaning : List Item → ItemTree
-meaning items = inner kind.Body [] (forest (children (body_parts (rows items)))) []
+meaning items = inner (plain kind.Body) [] (forest (children (body_parts (rows items)))) []
 
 -- The same as a relation, by cuts that exist: this tree is the meaning where the items can be cut into lines, these into blocks
 -- of rows, and the parts that these give into leaves, each cut standing exactly where two neighbours don't belong together.
@@ -34,4 +34,4 @@ pub record IsMeaning (t : ItemTree) (xs : List Item) : Type 0 where
   pub are_lines : AreRuns goes_on its_lines xs
   pub are_blocks : AreRuns same_block its_blocks (map row its_lines)
   pub are_children : AreChildren its_children (flat_map run_parts its_blocks)
-  pub is_body : t ≡ inner kind.Body [] (forest its_children) []
+  pub is_body : t ≡ inner (plain kind.Body) [] (forest its_children) []

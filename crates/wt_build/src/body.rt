@@ -14,7 +14,7 @@ use crate::cut::cut_block;
 use crate::row::block_len;
 use crate::tree::block_tree;
 use std::alloc::Global;
-use wt_inline::{Children, Loose, PieceTree};
+use wt_inline::{Children, Loose, NodeHead, PieceTree};
 use wt_lines::parted;
 use wt_span::{Items, List, NoMemory, Piece, front_of, rest_of};
 use wt_tree::Kind;
@@ -102,7 +102,7 @@ pub fn build<'a>(alloc: Global, items: &Items<'a>) -> Result<Tree<'a>, NoMemory>
     let children = body_children(alloc, pieces.as_slice())?;
     Ok(Tree {
         body: PieceTree {
-            kind: Kind::Body,
+            head: NodeHead::plain(alloc, Kind::Body),
             opening: List::new(alloc),
             children,
             closing: List::new(alloc),

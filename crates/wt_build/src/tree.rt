@@ -4,7 +4,7 @@ ghost use Rattle.std.specs.Prelude.{◌≡◌, ◌∷◌, [], All, IfOk};
 ghost use Rattle.wt_span.specs.Items.{items};
 ghost use Rattle.wt_span.specs.Origins.{IsSoundPiece};
 ghost use Rattle.wt_tree.specs.declared.kind.Kind.TheVariants as node_kind;
-ghost use Rattle.wt_inline.specs.ItemTree.{inner, forest};
+ghost use Rattle.wt_inline.specs.ItemTree.{plain, inner, forest};
 ghost use Rattle.wt_inline.specs.Inline.{inline_trees};
 ghost use Rattle.wt_inline.specs.View.{item_tree};
 ghost use Rattle.wt_build.specs.Blocks.{heading_by, heading, block};
@@ -15,17 +15,17 @@ use crate::heading::{HeadingParts, heading_parts};
 use crate::sign::signs;
 use crate::split::{split_before, split_behind};
 use std::alloc::Global;
-use wt_inline::{PieceTree, inline_children};
+use wt_inline::{NodeHead, PieceTree, inline_children};
 use wt_span::{List, NoMemory, Piece};
 use wt_tree::Kind;
 
 /// A paragraph.
 fn paragraph<'a>(alloc: Global, pieces: &[Piece<'a>]) -> Result<PieceTree<'a>, NoMemory>
-    ensures { IfOk result (λ t. item_tree t ≡ inner node_kind.Para [] (forest (inline_trees (items pieces.now))) []) }
+    ensures { IfOk result (λ t. item_tree t ≡ inner (plain node_kind.Para) [] (forest (inline_trees (items pieces.now))) []) }
 {
     let children = inline_children(alloc, pieces)?;
     Ok(PieceTree {
-        kind: Kind::Para,
+        head: NodeHead::plain(alloc, Kind::Para),
         opening: List::new(alloc),
         children,
         closing: List::new(alloc),
@@ -47,7 +47,7 @@ fn heading_by<'a>(
     let (inside, closing) = split_before(alloc, rest.as_slice(), parts.inside_len)?;
     let children = inline_children(alloc, inside.as_slice())?;
     Ok(PieceTree {
-        kind: Kind::Heading(parts.level),
+        head: NodeHead::plain(alloc, Kind::Heading(parts.level)),
         opening,
         children,
         closing,

@@ -9,8 +9,6 @@ mod parse;
 mod refusal;
 mod sync;
 mod sync_read;
-#[cfg(test)]
-mod tests;
 
 pub use mw::to_text;
 pub use mw_read::read;

@@ -17,7 +17,7 @@ use Rattle.wt_span.specs.Slice.{bytes_of, start_of, end_of}
 use Rattle.wt_span.specs.Tags.{Tag, opening_tag, is_nowiki, is_extension, raw_by, with_inside}
 use Rattle.wt_span.specs.Whole.{IsWhole, IsRawTag}
 use Rattle.wt_span.specs.Items.{items, items_of, items_by, call_of_origin}
-use Rattle.wt_span.specs.Origins.{Span, span_of_origin, IsPlaced, IsOfCall, IsSoundPiece, IsAmong, IsOther, IsSoundCall, OuterCall, same_call, origin_before, once, FollowFrom, AreApart, AreItems}
+use Rattle.wt_span.specs.Origins.{Span, span_of_origin, IsPlaced, FitsOrigin, IsSoundPiece, IsAmong, IsOther, IsSoundCall, OuterCall, same_call, origin_before, once, FollowFrom, AreApart, AreItems}
 use Rattle.wt_lex.specs.declared.lexeme.Lexeme.{Lexeme}
 use Rattle.wt_lex.specs.Places.{word_of, Follow}
 use Rattle.wt_lex.specs.Reading.{Stands, AreLexemes}
@@ -117,12 +117,12 @@ raw_whole bs h = raw_is (raw_form bs) bs (raw_any (opening_tag bs) bs h)
 
 pub word_whole : (after : Bool) (kind : LexKind) (n : ℕ) (bs : List ℕ) → 0 < n → n ≤ length bs → Stands Page after kind n bs → IsWhole (form_of kind (take n bs)) (take n bs)
 word_whole after lex.Chars n bs some le s = omega (arith, length-take n bs)
-word_whole after lex.CommentLine n bs some le s = form_whole after lex.CommentLine n bs s
-word_whole after lex.Comment n bs some le s = form_whole after lex.Comment n bs s
-word_whole after lex.Raw n bs some le s = raw_whole (take n bs) (form_whole after lex.Raw n bs s)
-word_whole after lex.Include n bs some le s = form_whole after lex.Include n bs s
-word_whole after lex.Hidden n bs some le s = form_whole after lex.Hidden n bs s
-word_whole after (lex.Entity c) n bs some le s = form_whole after (lex.Entity c) n bs s
+word_whole after lex.CommentLine n bs some le s = form_whole Page after lex.CommentLine n bs s
+word_whole after lex.Comment n bs some le s = form_whole Page after lex.Comment n bs s
+word_whole after lex.Raw n bs some le s = raw_whole (take n bs) (form_whole Page after lex.Raw n bs s)
+word_whole after lex.Include n bs some le s = form_whole Page after lex.Include n bs s
+word_whole after lex.Hidden n bs some le s = form_whole Page after lex.Hidden n bs s
+word_whole after (lex.Entity c) n bs some le s = form_whole Page after (lex.Entity c) n bs s
 word_whole after lex.Opens n bs some le s = omega (arith, length-take n bs)
 word_whole after lex.Closes n bs some le s = omega (arith, length-take n bs)
 word_whole after lex.LinkOpen n bs some le s = omega (arith, length-take n bs)
@@ -132,28 +132,28 @@ word_whole after lex.Equals n bs some le s = omega (arith, length-take n bs)
 
 -- ---- they are sound
 
-raw_no_call : (o : Option Tag) (k : Option ℕ) → IsOfCall (raw_form_by o) k
-raw_no_call None k = tt
-raw_no_call (Some t) k = by_name (is_nowiki t.name)
+raw_fits : (o : Option Tag) (k : Option ℕ) (bs : List ℕ) → FitsOrigin (raw_form_by o) k bs
+raw_fits None k bs = tt
+raw_fits (Some t) k bs = by_name (is_nowiki t.name)
   where
-    by_name : (b : Bool) → IsOfCall (if b then form.Nowiki else form.Extension) k
+    by_name : (b : Bool) → FitsOrigin (if b then form.Nowiki else form.Extension) k bs
     by_name true = tt
     by_name false = tt
 
-word_no_call : (kind : LexKind) (bs : List ℕ) (k : Option ℕ) → IsOfCall (form_of kind bs) k
-word_no_call lex.Chars bs k = tt
-word_no_call lex.CommentLine bs k = tt
-word_no_call lex.Comment bs k = tt
-word_no_call lex.Raw bs k = raw_no_call (opening_tag bs) k
-word_no_call lex.Include bs k = tt
-word_no_call lex.Hidden bs k = tt
-word_no_call (lex.Entity c) bs k = tt
-word_no_call lex.Opens bs k = tt
-word_no_call lex.Closes bs k = tt
-word_no_call lex.LinkOpen bs k = tt
-word_no_call lex.LinkClose bs k = tt
-word_no_call lex.Pipe bs k = tt
-word_no_call lex.Equals bs k = tt
+word_fits : (kind : LexKind) (bs : List ℕ) (k : Option ℕ) → FitsOrigin (form_of kind bs) k bs
+word_fits lex.Chars bs k = tt
+word_fits lex.CommentLine bs k = tt
+word_fits lex.Comment bs k = tt
+word_fits lex.Raw bs k = raw_fits (opening_tag bs) k bs
+word_fits lex.Include bs k = tt
+word_fits lex.Hidden bs k = tt
+word_fits (lex.Entity c) bs k = tt
+word_fits lex.Opens bs k = tt
+word_fits lex.Closes bs k = tt
+word_fits lex.LinkOpen bs k = tt
+word_fits lex.LinkClose bs k = tt
+word_fits lex.Pipe bs k = tt
+word_fits lex.Equals bs k = tt
 
 placed : (o : Origin) (s t : Span) → IsOfPage s o → s ≡ t → IsPlaced o t
 placed (origin.Page r) s t h e = h ∙ e
@@ -165,13 +165,13 @@ made_sound page p x after h some le s =
     let bytes = bytes_of p.text in
     let P : List ℕ → Type 0 = λ bs. IsWhole (form_of x.kind bs) bs in
     let Q : Form → Type 0 = λ f. IsWhole f bytes in
-    let R : Form → Type 0 = λ f. IsOfCall f (call_of_origin p.origin) in
+    let R : Form → Type 0 = λ f. FitsOrigin f (call_of_origin p.origin) bytes in
     let span : Span = (x.at.start, x.at.end) in
     let same : span ≡ (start_of p.text, end_of p.text) = ap (λ (m : ℕ). (m, x.at.end)) (sym h.start) ∙ ap (λ (m : ℕ). (start_of p.text, m)) (sym h.end) in
     record {
       whole = subst Q (sym h.form) (subst P (sym h.bytes) (word_whole after x.kind (x.at.end - x.at.start) (drop x.at.start page) some le s));
       placed = placed p.origin span (start_of p.text, end_of p.text) h.origin same;
-      of_call = subst R (sym h.form) (word_no_call x.kind bytes (call_of_origin p.origin));
+      fits = subst R (sym h.form) (word_fits x.kind bytes (call_of_origin p.origin));
     }
 
 pub sound_made : (page : List ℕ) (ps : List Piece) (xs : List Lexeme) (at to : ℕ) (after : Bool) → AreMade page ps xs → Follow at xs to → AreLexemes Page after (map word_of xs) (drop at page) → All IsSoundPiece ps

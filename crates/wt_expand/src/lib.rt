@@ -5,8 +5,6 @@
 mod laws;
 mod page;
 mod piece;
-#[cfg(test)]
-mod tests;
 
 pub use laws::whole_page;
 pub use page::page_items;

@@ -10,8 +10,6 @@ mod machine;
 mod names;
 mod reader;
 mod signs;
-#[cfg(test)]
-mod tests;
 
 pub use content::{Attribute, Content};
 pub use fault::HtmlRefusal;

@@ -14,8 +14,6 @@ mod number;
 mod reader;
 mod refusal;
 mod row;
-#[cfg(test)]
-mod tests;
 mod typed;
 mod walk;
 mod whole;

@@ -9,8 +9,6 @@ mod nodes;
 mod refusal;
 mod sink;
 mod tags;
-#[cfg(test)]
-mod tests;
 
 pub use count::html_len;
 pub use nodes::html_bytes;

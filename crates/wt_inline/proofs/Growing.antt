@@ -12,8 +12,8 @@ use Rattle.wt_span.proofs.RunLaws.{runs_cut}
 use Rattle.wt_lines.specs.Pieces.{is_chars}
 use Rattle.wt_inline.specs.declared.loose.Loose.{Loose}
 use Rattle.wt_inline.specs.declared.loose.Loose.TheVariants.{Text, Sep}
-use Rattle.wt_inline.specs.ItemTree.{ItemTree, leaf}
-use Rattle.wt_inline.specs.Parts.{Part, loose, node, same_loose, same_origin, are_of, one_leaf, loose_kind, child, children, held_parts, part, parts}
+use Rattle.wt_inline.specs.ItemTree.{ItemTree}
+use Rattle.wt_inline.specs.Parts.{Part, loose, node, same_loose, same_origin, are_of, one_leaf, loose_leaf, child, children, held_parts, part, parts}
 use Rattle.wt_inline.specs.Grown.{OpenRun, Grown, made, Grows, IsStopped, Ends}
 use Rattle.wt_inline.proofs.HeldLaws.{children_node}
 
@@ -111,12 +111,12 @@ held_run k o [] a = refl
 held_run k o (char p b ∷ xs) a = ap (λ ys. char p b ∷ ys) (held_run k o xs a.1)
 held_run k o (whole f p bs ∷ xs) a = absurd a.0
 
-child_of_run : (k : Loose) (o : Option ℕ) (xs : List Item) → 0 < length xs → AllByRecursion (IsOf o) xs → child (parts k xs) ≡ leaf (loose_kind k) xs
+child_of_run : (k : Loose) (o : Option ℕ) (xs : List Item) → 0 < length xs → AllByRecursion (IsOf o) xs → child (parts k xs) ≡ loose_leaf k xs
 child_of_run k o [] s a = absurd (omega arith)
-child_of_run k o (char p b ∷ xs) s a = ap (λ ys. leaf (loose_kind k) (char p b ∷ ys)) (held_run k o xs a.1)
+child_of_run k o (char p b ∷ xs) s a = ap (λ ys. loose_leaf k (char p b ∷ ys)) (held_run k o xs a.1)
 child_of_run k o (whole f p bs ∷ xs) s a = absurd a.0
 
-close_run : (r : OpenRun) (ps : List Part) → IsOneRun r → IsStopped (Some r) ps → children (parts r.loose r.items ++ ps) ≡ leaf (loose_kind r.loose) r.items ∷ children ps
+close_run : (r : OpenRun) (ps : List Part) → IsOneRun r → IsStopped (Some r) ps → children (parts r.loose r.items ++ ps) ≡ loose_leaf r.loose r.items ∷ children ps
 unfolding children
 close_run r ps one h =
     ap (map child) (runs_cut one_leaf (parts r.loose r.items) ps (is_run r.loose r.call r.items ps one.some one.one h))
@@ -127,7 +127,7 @@ close_run r ps one h =
 pub ends_none : (ts : List ItemTree) → Ends (record { trees = ts; run = None }) ts
 ends_none ts ps h = refl
 
-pub ends_some : (ts us : List ItemTree) (t : ItemTree) (r : OpenRun) → IsOneRun r → t ≡ leaf (loose_kind r.loose) r.items → us ≡ ts ++ t ∷ [] → Ends (record { trees = ts; run = Some r }) us
+pub ends_some : (ts us : List ItemTree) (t : ItemTree) (r : OpenRun) → IsOneRun r → t ≡ loose_leaf r.loose r.items → us ≡ ts ++ t ∷ [] → Ends (record { trees = ts; run = Some r }) us
 ends_some ts us t r one e f ps h =
     ap (λ vs. vs ++ children ps) f
     ∙ append_assoc ts (t ∷ []) (children ps)
@@ -163,7 +163,7 @@ stopped_by k j o p xs (whole f q bs ∷ ys) ps e a b s = absurd b.0
 
 pub grows_past : (ts us : List ItemTree) (t : ItemTree) (r : OpenRun) (j : Loose) (p : Option ℕ) (ys : List Item) (g : Grown)
     → IsOneRun r → (same_loose r.loose j && same_origin r.call p) ≡ false → AllByRecursion (IsOf p) ys → 0 < length ys
-    → t ≡ leaf (loose_kind r.loose) r.items → us ≡ ts ++ t ∷ [] → Grows (record { trees = us; run = None }) (parts j ys) g
+    → t ≡ loose_leaf r.loose r.items → us ≡ ts ++ t ∷ [] → Grows (record { trees = us; run = None }) (parts j ys) g
     → Grows (record { trees = ts; run = Some r }) (parts j ys) g
 grows_past ts us t r j p ys g one e b s et eu h ps =
     h ps ∙ ends_some ts us t r one et eu (parts j ys ++ ps) (stopped_by r.loose j r.call p r.items ys ps e one.one b s)

@@ -12,7 +12,7 @@ use Rattle.wt_lines.specs.Pieces.{is_chars}
 use Rattle.wt_inline.specs.declared.loose.Loose.{Loose}
 use Rattle.wt_inline.specs.declared.loose.Loose.TheVariants.{Text}
 use Rattle.wt_inline.specs.Inside.{inside_items}
-use Rattle.wt_inline.specs.Parts.{Part, loose, node, children, inside_part, form_kind, whole_tree, part, parts}
+use Rattle.wt_inline.specs.Parts.{Part, loose, node, children, inside_part, form_head, whole_tree, part, parts}
 use Rattle.wt_inline.specs.Grown.{Grown, Grows, made}
 use Rattle.wt_inline.proofs.Growing.{grows_both}
 use Rattle.wt_inline.specs.declared.tree.PieceTree.{PieceTree}
@@ -68,7 +68,7 @@ whole_parts k form.Include o bs e = refl
 whole_parts k form.Hidden o bs e = refl
 whole_parts k form.EmptyCall o bs e = refl
 
-pub whole_leaf : (f : Form) (o : Option ℕ) (bs : List ℕ) → is_chars f ≡ false → (f ≡ form.Nowiki → ⊥) → leaf (form_kind f) (items_by f o bs) ≡ whole_tree f o bs
+pub whole_leaf : (f : Form) (o : Option ℕ) (bs : List ℕ) → is_chars f ≡ false → (f ≡ form.Nowiki → ⊥) → leaf (form_head f bs) (items_by f o bs) ≡ whole_tree f o bs
 whole_leaf form.Chars o bs e n = cc
 whole_leaf (form.Entity c) o bs e n = refl
 whole_leaf form.Nowiki o bs e n = absurd (n refl)

@@ -87,11 +87,3 @@ data_whole form.EmptyCall bs = None
 abbrev pub shown_item : Item → List ℕ
 shown_item (char o b) = b ∷ []
 shown_item (whole f o bs) = shown_whole f
-
-abbrev pub attrs_item : Item → List (AttrName × List ℕ)
-attrs_item (char o b) = []
-attrs_item (whole f o bs) = attrs_whole f bs
-
-abbrev pub data_item : Item → Option DataMw
-data_item (char o b) = None
-data_item (whole f o bs) = data_whole f bs

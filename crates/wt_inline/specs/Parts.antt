@@ -12,7 +12,8 @@ use Rattle.wt_inline.specs.declared.loose.Loose.{Loose}
 use Rattle.wt_inline.specs.declared.loose.Loose.TheVariants.{Text, Sep}
 use Rattle.wt_inline.specs.RawTag.{opening_of, inside_of, closing_of}
 use Rattle.wt_inline.specs.Inside.{inside_items}
-use Rattle.wt_inline.specs.ItemTree.{ItemTree, leaf, inner, forest, held}
+use Rattle.wt_inline.specs.Carried.{shown_whole, shown_item, attrs_whole, data_whole}
+use Rattle.wt_inline.specs.ItemTree.{Head, plain, ItemTree, leaf, inner, forest, held}
 
 -- a byte of a character of a text or a separator, with the call that it comes from; or a node
 pub data Part : Type 0 where
@@ -59,9 +60,17 @@ abbrev pub loose_kind : Loose → Kind
 loose_kind Text = kind.Text
 loose_kind Sep = kind.Sep
 
+-- a text shows its characters, and a separator nothing
+abbrev pub loose_head : Loose → List Item → Head
+loose_head Text own = record { kind = kind.Text; shown = flat_map shown_item own; attrs = []; mw = None }
+loose_head Sep own = plain kind.Sep
+
+abbrev pub loose_leaf : Loose → List Item → ItemTree
+loose_leaf k own = leaf (loose_head k own) own
+
 abbrev pub child : List Part → ItemTree
-child [] = leaf kind.Text []
-child (loose k o b ∷ ps) = leaf (loose_kind k) (char o b ∷ held_parts ps)
+child [] = loose_leaf Text []
+child (loose k o b ∷ ps) = loose_leaf k (char o b ∷ held_parts ps)
 child (node t ∷ ps) = t
 
 -- what stands in a node, as trees
@@ -73,15 +82,6 @@ abbrev pub AreChildren : List ItemTree → List Part → Type 0
 AreChildren ts ps = (rs : List (List Part)) × AreRuns one_leaf rs ps × (ts ≡ map child rs)
 
 -- ---- the part that an item is by itself
-
--- an item of the inside of `nowiki`: a character, or an entity
-abbrev pub inside_part : Item → Part
-inside_part (char o b) = loose Text o b
-inside_part (whole f o bs) = node (leaf kind.Entity (whole f o bs ∷ []))
-
--- The node of a `nowiki`: its tags are the delimiters, and a tag that closes itself has no inside and no closing one.
-unfoldable pub nowiki : Option ℕ → List ℕ → ItemTree
-nowiki o bs = inner kind.Nowiki (map (char o) (opening_of bs)) (forest (children (map inside_part (inside_items o 0 (inside_of bs))))) (map (char o) (closing_of bs))
 
 -- The kind of a form's node. An extension and a function are islands, and a hidden part is written as an include tag.
 abbrev pub form_kind : Form → Kind
@@ -95,10 +95,26 @@ form_kind form.Include = kind.Include
 form_kind form.Hidden = kind.Include
 form_kind form.EmptyCall = kind.Empty
 
+-- a form's head, by its source
+abbrev pub form_head : Form → List ℕ → Head
+form_head f bs = record { kind = form_kind f; shown = shown_whole f; attrs = attrs_whole f bs; mw = data_whole f bs }
+
+abbrev pub form_leaf : Form → Option ℕ → List ℕ → ItemTree
+form_leaf f o bs = leaf (form_head f bs) (whole f o bs ∷ [])
+
+-- an item of the inside of `nowiki`: a character, or an entity
+abbrev pub inside_part : Item → Part
+inside_part (char o b) = loose Text o b
+inside_part (whole f o bs) = node (form_leaf f o bs)
+
+-- The node of a `nowiki`: its tags are the delimiters, and a tag that closes itself has no inside and no closing one.
+unfoldable pub nowiki : Option ℕ → List ℕ → ItemTree
+nowiki o bs = inner (plain kind.Nowiki) (map (char o) (opening_of bs)) (forest (children (map inside_part (inside_items o 0 (inside_of bs))))) (map (char o) (closing_of bs))
+
 -- the node of a whole form: of `nowiki` one with an inside, and of any other a leaf
 abbrev pub whole_tree : Form → Option ℕ → List ℕ → ItemTree
 whole_tree form.Nowiki o bs = nowiki o bs
-whole_tree f o bs = leaf (form_kind f) (whole f o bs ∷ [])
+whole_tree f o bs = form_leaf f o bs
 
 abbrev pub part : Loose → Item → Part
 part k (char o b) = loose k o b

@@ -1,5 +1,4 @@
-//! What an element has beside its source: characters that it shows, attributes, and the data of an
-//! extension.
+//! The heads of nodes: characters that an element shows, attributes, and the data of an extension.
 
 ghost use Rattle.std.specs.Prelude.{◌≡◌, ◌++◌, ◌∷◌, [], OnOk, IfOk, encode_utf8};
 ghost use Rattle.std.specs.List.{flat_map};
@@ -7,16 +6,20 @@ ghost use Rattle.std.specs.Str.{IsAscii};
 ghost use Rattle.wt_span.specs.Bytes.{lower};
 ghost use Rattle.wt_span.specs.Slice.{bytes_of};
 ghost use Rattle.wt_span.specs.Tags.{opening_tag, closing_tag};
-ghost use Rattle.wt_span.specs.Items.{items_of};
+ghost use Rattle.wt_span.specs.Items.{items, items_of};
 ghost use Rattle.wt_tree.specs.View.{attrs_of};
 ghost use Rattle.wt_inline.specs.RawTag.{name_of};
-ghost use Rattle.wt_inline.specs.Carried.{shown_item, include_name, include_typeof, extension_typeof, extension_data, typeof, attrs_whole, data_whole};
+ghost use Rattle.wt_inline.specs.Parts.{loose_head, form_kind, form_head};
+ghost use Rattle.wt_inline.specs.View.{head_of};
+ghost use Rattle.wt_inline.specs.Carried.{shown_whole, shown_item, include_name, include_typeof, extension_typeof, extension_data, typeof, attrs_whole, data_whole};
 
+use crate::loose::Loose;
 use crate::raw::{RawTag, closes_itself, opening_name};
+use crate::tree::NodeHead;
 use std::alloc::Global;
 use wt_lex::{closing_tag, is_same_name, opening_tag};
 use wt_span::{Form, List, NoMemory, Piece, Str, Text};
-use wt_tree::{Attr, AttrName, DataMw};
+use wt_tree::{Attr, AttrName, DataMw, Kind};
 
 fn push_char(out: &mut Str, character: char) -> Result<(), NoMemory>
     ensures { OnOk result (out.new ≡ out.old ++ encode_utf8 character) }
@@ -29,7 +32,7 @@ fn push_char(out: &mut Str, character: char) -> Result<(), NoMemory>
 
 /// Appends what a piece shows: characters themselves, and an entity the character that it stands
 /// for; anything else shows nothing.
-pub fn push_shown(out: &mut Str, piece: &Piece<'_>) -> Result<(), NoMemory>
+fn push_shown(out: &mut Str, piece: &Piece<'_>) -> Result<(), NoMemory>
     ensures { OnOk result (out.new ≡ out.old ++ flat_map shown_item (items_of piece.now)) }
 {
     match piece.form {
@@ -37,6 +40,40 @@ pub fn push_shown(out: &mut Str, piece: &Piece<'_>) -> Result<(), NoMemory>
         Form::Entity(character) => push_char(out, character),
         _ => Ok(()),
     }
+}
+
+fn push_all_shown(out: &mut Str, own: &[Piece<'_>]) -> Result<(), NoMemory>
+    ensures { OnOk result (out.new ≡ out.old ++ flat_map shown_item (items own.now)) }
+{
+    for piece in own {
+        push_shown(out, piece)?;
+    }
+    Ok(())
+}
+
+/// The characters that a leaf of such characters shows.
+fn loose_shown(alloc: Global, loose: Loose, own: &[Piece<'_>]) -> Result<Str, NoMemory>
+    ensures { IfOk result (λ s. s ≡ (loose_head loose (items own.now)).shown) }
+{
+    let mut shown = Str::new(alloc);
+    match loose {
+        Loose::Text => {
+            push_all_shown(&mut shown, own)?;
+            Ok(shown)
+        }
+        Loose::Sep => Ok(shown),
+    }
+}
+
+/// The head of a text or of a separator.
+pub fn loose_head(alloc: Global, loose: Loose, own: &[Piece<'_>]) -> Result<NodeHead, NoMemory>
+    ensures { IfOk result (λ h. head_of h ≡ loose_head loose (items own.now)) }
+{
+    let shown = loose_shown(alloc, loose, own)?;
+    Ok(NodeHead {
+        shown,
+        ..NodeHead::plain(alloc, loose.kind())
+    })
 }
 
 /// One attribute, with the value of `typeof` in two parts.
@@ -118,7 +155,7 @@ fn extension_attrs(alloc: Global, bytes: &[u8]) -> Result<List<Attr>, NoMemory>
 }
 
 /// The attributes of a piece that is one item, beside those that the kind of its node tells.
-pub fn attrs<'a>(alloc: Global, piece: &Piece<'a>) -> Result<List<Attr>, NoMemory>
+fn attrs(alloc: Global, piece: &Piece<'_>) -> Result<List<Attr>, NoMemory>
     ensures { IfOk result (λ l. attrs_of l ≡ attrs_whole piece.now.form (bytes_of piece.now.text)) }
 {
     let bytes = piece.text.as_str().as_bytes();
@@ -149,11 +186,52 @@ fn extension_data(alloc: Global, text: Text<'_>) -> Result<DataMw, NoMemory>
 }
 
 /// The data of a piece that is an extension; any other has none.
-pub fn data_mw(alloc: Global, piece: &Piece<'_>) -> Result<Option<DataMw>, NoMemory>
+fn data_mw(alloc: Global, piece: &Piece<'_>) -> Result<Option<DataMw>, NoMemory>
     ensures { IfOk result (λ d. d ≡ data_whole piece.now.form (bytes_of piece.now.text)) }
 {
     match piece.form {
         Form::Extension => Ok(Some(extension_data(alloc, piece.text)?)),
         _ => Ok(None),
     }
+}
+
+/// The characters that a form shows: an entity the character that it stands for.
+fn form_shown(alloc: Global, form: Form) -> Result<Str, NoMemory>
+    ensures { IfOk result (λ s. s ≡ shown_whole form) }
+{
+    let mut shown = Str::new(alloc);
+    match form {
+        Form::Entity(character) => {
+            push_char(&mut shown, character)?;
+            Ok(shown)
+        }
+        _ => Ok(shown),
+    }
+}
+
+/// The kind of a form's node.
+fn form_kind(form: Form) -> Kind
+    ensures { result ≡ form_kind form }
+{
+    match form {
+        Form::Chars => Kind::Text,
+        Form::Entity(_) => Kind::Entity,
+        Form::Nowiki => Kind::Nowiki,
+        Form::Extension | Form::Function => Kind::Island,
+        Form::Comment => Kind::Comment,
+        Form::Include | Form::Hidden => Kind::Include,
+        Form::EmptyCall => Kind::Empty,
+    }
+}
+
+/// The head of the node of a piece that is one item.
+pub fn form_head(alloc: Global, piece: &Piece<'_>) -> Result<NodeHead, NoMemory>
+    ensures { IfOk result (λ h. head_of h ≡ form_head piece.now.form (bytes_of piece.now.text)) }
+{
+    Ok(NodeHead {
+        kind: form_kind(piece.form),
+        shown: form_shown(alloc, piece.form)?,
+        attrs: attrs(alloc, piece)?,
+        mw: data_mw(alloc, piece)?,
+    })
 }

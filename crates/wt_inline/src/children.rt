@@ -39,7 +39,8 @@ impl<'a> Children<'a> {
         match run {
             None => Ok(trees),
             Some(run) => {
-                trees.push(run.leaf(alloc))?;
+                let leaf = run.leaf(alloc)?;
+                trees.push(leaf)?;
                 Ok(trees)
             }
         }
@@ -96,7 +97,8 @@ impl<'a> Children<'a> {
             Children::continued(trees, run, piece)
         } else {
             let mut trees = trees;
-            trees.push(run.leaf(alloc))?;
+            let leaf = run.leaf(alloc)?;
+            trees.push(leaf)?;
             Children::begun(alloc, trees, loose, piece)
         }
     }

@@ -18,9 +18,8 @@ mod run;
 mod tree;
 mod whole;
 
-pub use carried::{attrs, data_mw, push_shown};
 pub use children::Children;
 pub use context::{inline, inline_children};
 pub use laws::{children_are_runs, children_hold_their_parts, opened_items_keep_their_source};
 pub use loose::Loose;
-pub use tree::PieceTree;
+pub use tree::{NodeHead, PieceTree};

@@ -2,16 +2,17 @@ ghost use Rattle.std.specs.Prelude.{◌≡◌, IfOk, map};
 ghost use Rattle.wt_span.specs.Slice.{bytes_of};
 ghost use Rattle.wt_span.specs.Items.{items, items_of, char, call_of_origin};
 ghost use Rattle.wt_inline.specs.Inside.{inside_items};
-ghost use Rattle.wt_inline.specs.Parts.{inside_part, children, nowiki};
+ghost use Rattle.wt_inline.specs.Parts.{form_head, inside_part, children, nowiki};
 ghost use Rattle.wt_inline.specs.ItemTree.{leaf};
 ghost use Rattle.wt_inline.specs.Grown.{grown, Grows};
 ghost use Rattle.wt_inline.specs.View.{item_tree, item_trees};
 
+use crate::carried::form_head;
 use crate::children::Children;
 use crate::inside::split_inside;
 use crate::loose::Loose;
 use crate::raw::RawTag;
-use crate::tree::{PieceTree, leaf};
+use crate::tree::{NodeHead, PieceTree, leaf};
 use std::alloc::Global;
 use wt_lines::{chars_piece, is_chars};
 use wt_span::{List, NoMemory, Origin, Piece, Text};
@@ -29,17 +30,14 @@ fn chars<'a>(alloc: Global, text: Text<'a>, origin: Origin) -> Result<List<Piece
     Ok(pieces)
 }
 
-/// A leaf of one piece.
-pub fn piece_leaf<'a>(
-    alloc: Global,
-    kind: Kind,
-    piece: Piece<'a>,
-) -> Result<PieceTree<'a>, NoMemory>
-    ensures { IfOk result (λ t. item_tree t ≡ leaf kind (items_of piece.entry)) }
+/// A leaf of one piece that is one item.
+pub fn form_leaf<'a>(alloc: Global, piece: Piece<'a>) -> Result<PieceTree<'a>, NoMemory>
+    ensures { IfOk result (λ t. item_tree t ≡ leaf (form_head piece.entry.form (bytes_of piece.entry.text)) (items_of piece.entry)) }
 {
+    let head = form_head(alloc, &piece)?;
     let mut own = List::new(alloc);
     own.push(piece)?;
-    Ok(leaf(alloc, kind, own))
+    Ok(leaf(alloc, head, own))
 }
 
 /// The children with a piece of the inside of `nowiki`.
@@ -53,7 +51,7 @@ fn with_inside<'a>(
     if is_chars(piece.form) {
         children.with_chars(alloc, Loose::Text, piece)
     } else {
-        let tree = piece_leaf(alloc, Kind::Entity, piece)?;
+        let tree = form_leaf(alloc, piece)?;
         children.with_tree(alloc, tree)
     }
 }
@@ -86,7 +84,7 @@ pub fn nowiki<'a>(alloc: Global, text: Text<'a>, origin: Origin) -> Result<Piece
     let children = inside(alloc, raw.inside, origin)?;
     let closing = chars(alloc, raw.closing, origin)?;
     Ok(PieceTree {
-        kind: Kind::Nowiki,
+        head: NodeHead::plain(alloc, Kind::Nowiki),
         opening,
         children,
         closing,

@@ -1,10 +1,10 @@
 ghost use Rattle.std.specs.Prelude.{◌≡◌, ◌<◌, ◌&&◌, ◌++◌, true, length, IfOk};
 ghost use Rattle.wt_span.specs.Items.{items, items_of, call_of_origin};
 ghost use Rattle.wt_lines.specs.Pieces.{is_chars};
-ghost use Rattle.wt_inline.specs.ItemTree.{leaf};
-ghost use Rattle.wt_inline.specs.Parts.{same_loose, same_origin, are_of, loose_kind};
+ghost use Rattle.wt_inline.specs.Parts.{same_loose, same_origin, are_of, loose_leaf};
 ghost use Rattle.wt_inline.specs.View.{item_tree};
 
+use crate::carried::loose_head;
 use crate::loose::Loose;
 use crate::tree::{PieceTree, leaf};
 use std::alloc::Global;
@@ -81,9 +81,11 @@ impl<'a> Run<'a> {
     }
 
     /// The leaf that it makes.
-    pub fn leaf(self, alloc: Global) -> PieceTree<'a>
-        ensures { item_tree result ≡ leaf (loose_kind self.entry.loose) (items self.entry.pieces) }
+    pub fn leaf(self, alloc: Global) -> Result<PieceTree<'a>, NoMemory>
+        ensures { IfOk result (λ t. item_tree t ≡ loose_leaf self.entry.loose (items self.entry.pieces)) }
     {
-        leaf(alloc, self.loose.kind(), self.pieces)
+        let Run { loose, pieces, .. } = self;
+        let head = loose_head(alloc, loose, pieces.as_slice())?;
+        Ok(leaf(alloc, head, pieces))
     }
 }

@@ -1,28 +1,53 @@
 ghost use Rattle.std.specs.Prelude.{◌≡◌};
 ghost use Rattle.wt_span.specs.Items.{items};
-ghost use Rattle.wt_inline.specs.ItemTree.{leaf};
-ghost use Rattle.wt_inline.specs.View.{item_tree};
+ghost use Rattle.wt_inline.specs.ItemTree.{plain, leaf};
+ghost use Rattle.wt_inline.specs.View.{head_of, item_tree};
 
 use std::alloc::Global;
-use wt_span::{List, Piece};
-use wt_tree::Kind;
+use wt_span::{List, Piece, Str};
+use wt_tree::{Attr, DataMw, Kind};
+
+/// What a node is, and what its element has beside its source and children: the characters that it
+/// shows (a text's and an entity's), the attributes that its kind doesn't tell, and the data of an
+/// extension. It is given where the node is made.
+#[derive(Drop)]
+pub struct NodeHead {
+    pub kind: Kind,
+    pub shown: Str,
+    pub attrs: List<Attr>,
+    pub mw: Option<DataMw>,
+}
+
+impl NodeHead {
+    /// The head of a node that has nothing beside its kind.
+    pub fn plain(alloc: Global, kind: Kind) -> NodeHead
+        ensures { head_of result ≡ plain kind }
+    {
+        NodeHead {
+            kind,
+            shown: Str::new(alloc),
+            attrs: List::new(alloc),
+            mw: None,
+        }
+    }
+}
 
 /// A node of a page's meaning, before it has a place and a number. It keeps the pieces of its
 /// opening and of its closing delimiter; a leaf is all opening, and has no children.
 #[derive(Drop)]
 pub struct PieceTree<'a> {
-    pub kind: Kind,
+    pub head: NodeHead,
     pub opening: List<Piece<'a>>,
     pub children: List<PieceTree<'a>>,
     pub closing: List<Piece<'a>>,
 }
 
 /// A leaf of these pieces.
-pub fn leaf<'a>(alloc: Global, kind: Kind, own: List<Piece<'a>>) -> PieceTree<'a>
-    ensures { item_tree result ≡ leaf kind (items own.entry) }
+pub fn leaf<'a>(alloc: Global, head: NodeHead, own: List<Piece<'a>>) -> PieceTree<'a>
+    ensures { item_tree result ≡ leaf (head_of head) (items own.entry) }
 {
     PieceTree {
-        kind,
+        head,
         opening: own,
         children: List::new(alloc),
         closing: List::new(alloc),

@@ -11,6 +11,7 @@ pub mod Passing
 pub mod Readings
 pub mod Remarks
 pub mod Signs
+pub mod SignWidths
 pub mod TagForms
 pub mod WholeComments
 pub mod WholeEntities

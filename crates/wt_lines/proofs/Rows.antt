@@ -42,8 +42,8 @@ inside : map (kind_of_signs 1) (codes "{|" ∷ codes "|}" ∷ codes "\t|+ a" ∷
 unfolding kind_of_signs
 inside = refl
 
--- the seventeenth table isn't opened
-seventeenth : kind_of_signs 15 (codes "{|") ∷ kind_of_signs 16 (codes "{|") ∷ kind_of_signs 16 (codes " {|") ∷ kind_of_signs 16 (codes "|}") ∷ [] ≡ kind.TableOpen ∷ kind.Text ∷ kind.Pre ∷ kind.TableEnd ∷ []
+-- the seventeenth table isn't opened, and the line is text, also behind a blank
+seventeenth : kind_of_signs 15 (codes "{|") ∷ kind_of_signs 16 (codes "{|") ∷ kind_of_signs 16 (codes " {|") ∷ kind_of_signs 16 (codes "|}") ∷ [] ≡ kind.TableOpen ∷ kind.Text ∷ kind.Text ∷ kind.TableEnd ∷ []
 unfolding kind_of_signs
 seventeenth = refl
 

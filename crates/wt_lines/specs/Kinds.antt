@@ -43,6 +43,10 @@ abbrev pub first_of : List (Bool × LineKind) → Option LineKind
 first_of [] = None
 first_of ((holds, k) ∷ rows) = if holds then Some k else first_of rows
 
+-- a line that begins with `{|` opens a table, or is text where 16 are open
+abbrev pub open_kind : ℕ → LineKind
+open_kind tables = if nat_lt tables 16 then kind.TableOpen else kind.Text
+
 -- the rows that count in a table alone, by the line from its first visible item on that is no blank
 abbrev pub table_rows : List ℕ → List (Bool × LineKind)
 table_rows sign =
@@ -69,7 +73,7 @@ text_rows first last =
 abbrev pub rows : ℕ → List ℕ → List ℕ → List ℕ → List (Bool × LineKind)
 rows tables sign first last =
     (length sign == 0, kind.Blank)
-    ∷ (nat_lt tables 16 && begins (codes "{|") sign, kind.TableOpen)
+    ∷ (begins (codes "{|") sign, open_kind tables)
     ∷ ((if nat_lt 0 tables then table_rows sign else []) ++ text_rows first last)
 
 -- the kind of a line with these signs

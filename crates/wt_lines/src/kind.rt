@@ -1,9 +1,8 @@
-ghost use Rattle.std.specs.Prelude.{◌≡◌, ◌&&◌, [], nat_lt, codes, if◌then◌else◌};
+ghost use Rattle.std.specs.Prelude.{◌≡◌, [], nat_lt, if◌then◌else◌};
 ghost use Rattle.std.specs.Option.{unwrap_or};
-ghost use Rattle.wt_span.specs.Bytes.{begins};
 ghost use Rattle.wt_span.specs.Items.{items};
 ghost use Rattle.wt_lines.specs.declared.kind.LineKind.TheVariants as kind;
-ghost use Rattle.wt_lines.specs.Kinds.{is_heading, is_list, is_idle, past, first_of, table_rows, text_rows, line_kind};
+ghost use Rattle.wt_lines.specs.Kinds.{is_heading, is_list, is_idle, past, first_of, open_kind, table_rows, text_rows, line_kind};
 ghost use Rattle.wt_lines.specs.Pieces.{line_items};
 ghost use Rattle.wt_lines.specs.Signs.{left, right};
 
@@ -58,10 +57,15 @@ fn is_heading(first: Signs<'_, '_>, line: BackSigns<'_, '_>) -> bool
         && !(first.is_alone(b"=") || first.is_alone(b"=="))
 }
 
-fn opens_table(sign: Signs<'_, '_>, tables: u32) -> bool
-    ensures { result ≡ (nat_lt tables 16 && begins (codes "{|") (left sign.entry)) }
+/// The kind of a line that begins with `{|`.
+fn open_kind(tables: u32) -> LineKind
+    ensures { result ≡ open_kind tables }
 {
-    tables < MOST_TABLES && sign.begins(b"{|")
+    if tables < MOST_TABLES {
+        LineKind::TableOpen
+    } else {
+        LineKind::Text
+    }
 }
 
 /// The kind of a line where it stands in a table that tells it, by what the line has from its first
@@ -113,8 +117,8 @@ pub fn kind_of_pieces(pieces: &[Piece<'_>], tables: u32) -> LineKind
     if sign.is_empty() {
         return LineKind::Blank;
     }
-    if opens_table(sign, tables) {
-        return LineKind::TableOpen;
+    if sign.begins(b"{|") {
+        return open_kind(tables);
     }
     match table_kind(sign, tables) {
         Some(kind) => kind,
@@ -123,7 +127,8 @@ pub fn kind_of_pieces(pieces: &[Piece<'_>], tables: u32) -> LineKind
 }
 
 /// The kind of a line at which `tables` tables are open, by MediaWiki's rules in the profile's
-/// form. In a table means that `tables` isn't 0; where 16 are open, a `{|` opens no further one.
+/// form. In a table means that `tables` isn't 0; where 16 are open, a line that begins with `{|`,
+/// behind blanks or not, is text.
 /// The call takes no memory, and reads the line's ends: it stops at the first and the last visible
 /// item that tell the kind.
 pub fn classify(line: &Line<'_>, tables: u32) -> LineKind

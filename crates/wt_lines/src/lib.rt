@@ -14,10 +14,6 @@ mod partition;
 mod scan;
 mod sign;
 mod split;
-#[cfg(test)]
-mod tables;
-#[cfg(test)]
-mod tests;
 
 pub use back::BackSigns;
 pub use kind::{LineKind, classify, kind_of_pieces};

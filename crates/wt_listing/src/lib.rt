@@ -4,8 +4,6 @@
 mod laws;
 mod node_line;
 mod page;
-#[cfg(test)]
-mod tests;
 mod word;
 
 pub use laws::line_before_children;

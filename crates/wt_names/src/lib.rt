@@ -8,8 +8,6 @@ pub mod laws;
 mod link;
 mod namespace;
 mod reading;
-#[cfg(test)]
-mod tests;
 mod title;
 
 pub use good::read_title;

@@ -6,8 +6,6 @@ mod laws;
 mod page;
 mod reading;
 mod tag_name;
-#[cfg(test)]
-mod tests;
 
 pub use laws::{exact_place, smallest_place};
 pub use page::first_unbuilt;

@@ -27,8 +27,7 @@ use Rattle.wt_round_trip.specs.Written.{IsUtf8IfAny, IsExtension, HasData}
 use Rattle.wt_round_trip.proofs.Types.{extension_ascii, extension_utf8, include_utf8}
 use Rattle.wt_inline.specs.RawTag.{len_of, name_of, is_alone, before_closing, opening_len, behind, inside_len, opening_of, inside_of, closing_of}
 use Rattle.wt_inline.specs.Carried.{extension_typeof, noinclude_typeof, onlyinclude_typeof, includeonly_typeof, include_typeof, extension_data}
-use Rattle.wt_inline.specs.ItemTree.{leaf}
-use Rattle.wt_inline.specs.Parts.{whole_tree}
+use Rattle.wt_inline.specs.Parts.{form_leaf, whole_tree}
 use Rattle.wt_inline.proofs.RawTags.{closing_sign, tag_border, sign_border}
 use Rattle.wt_annotate.specs.Labels.{label_at}
 use Rattle.wt_page_round_trip.proofs.OfPage.{IsPageForm}
@@ -88,7 +87,7 @@ entity_scalar bs =
 entity_utf8 : (c : ℕ) (bs : List ℕ) → IsWhole (form.Entity c) bs → IsUtf8 (encode_utf8 c)
 entity_utf8 c bs h = let s : scalar c ≡ true = subst OptScalar h (entity_scalar bs) in IsUtf8-encode c s
 
-pub entity_node : (k : ℕ) (parent : Kind) (c : ℕ) (bs : List ℕ) → k < 200 → may_hold parent kind.Entity ≡ true → IsPageForm (form.Entity c) bs → IsWrittenNode k parent (leaf kind.Entity (whole (form.Entity c) None bs ∷ []))
+pub entity_node : (k : ℕ) (parent : Kind) (c : ℕ) (bs : List ℕ) → k < 200 → may_hold parent kind.Entity ≡ true → IsPageForm (form.Entity c) bs → IsWrittenNode k parent (form_leaf (form.Entity c) None bs)
 unfolding label_at spelling
 entity_node k parent c bs small e h = record {
   element = λ at next. refl;
@@ -100,7 +99,7 @@ entity_node k parent c bs small e h = record {
       number = (some, omega arith);
       places = (omega arith, room, omega arith, omega arith);
       source = record { own = subst IsUtf8 (sym (append-nil bs)) h.1; opening = refl; closing = refl };
-      shown = subst IsUtf8 (sym (append-nil (encode_utf8 c))) (entity_utf8 c bs h.0);
+      shown = entity_utf8 c bs h.0;
       attrs = refl;
       mark = refl;
       mw = refl;
@@ -116,7 +115,7 @@ pub or_right : (b : Bool) → (b || true) ≡ true
 or_right true = refl
 or_right false = refl
 
-comment_node : (k : ℕ) (parent : Kind) (bs : List ℕ) → k < 200 → IsUtf8 bs → IsWrittenNode k parent (leaf kind.Comment (whole form.Comment None bs ∷ []))
+comment_node : (k : ℕ) (parent : Kind) (bs : List ℕ) → k < 200 → IsUtf8 bs → IsWrittenNode k parent (form_leaf form.Comment None bs)
 unfolding label_at spelling
 comment_node k parent bs small h = record {
   element = λ at next. refl;
@@ -152,7 +151,7 @@ include_passes : (o p : Option Tag) → is_include_type (include_typeof o p) ≡
 include_passes None p = end_passes (is_noinclude (name_of p))
 include_passes (Some t) p = name_passes (is_noinclude t.name)
 
-include_node : (k : ℕ) (parent : Kind) (bs : List ℕ) → k < 200 → IsUtf8 bs → IsWrittenNode k parent (leaf kind.Include (whole form.Include None bs ∷ []))
+include_node : (k : ℕ) (parent : Kind) (bs : List ℕ) → k < 200 → IsUtf8 bs → IsWrittenNode k parent (form_leaf form.Include None bs)
 unfolding label_at spelling
 include_node k parent bs small h = record {
   element = λ at next. refl;
@@ -178,7 +177,7 @@ hidden_passes : is_include_type includeonly_typeof ≡ true
 unfolding includeonly_typeof no_include no_include_end only_include only_include_end include_only
 hidden_passes = refl
 
-hidden_node : (k : ℕ) (parent : Kind) (bs : List ℕ) → k < 200 → IsUtf8 bs → IsWrittenNode k parent (leaf kind.Include (whole form.Hidden None bs ∷ []))
+hidden_node : (k : ℕ) (parent : Kind) (bs : List ℕ) → k < 200 → IsUtf8 bs → IsWrittenNode k parent (form_leaf form.Hidden None bs)
 unfolding label_at spelling
 hidden_node k parent bs small h = record {
   element = λ at next. refl;
@@ -277,7 +276,7 @@ extension_has : (bs : List ℕ) → is_extension (name_of (opening_tag bs)) ≡ 
 unfolding extension_data
 extension_has bs h u = (IsUtf8-are_ascii (name_of (opening_tag bs)) (extension_ascii (name_of (opening_tag bs)) h), body_utf8 (is_alone (opening_tag bs)) (inside_of bs) (inside_utf8 bs u))
 
-pub extension_node : (k : ℕ) (parent : Kind) (bs : List ℕ) → k < 200 → may_hold parent kind.Island ≡ true → IsPageForm form.Extension bs → IsWrittenNode k parent (leaf kind.Island (whole form.Extension None bs ∷ []))
+pub extension_node : (k : ℕ) (parent : Kind) (bs : List ℕ) → k < 200 → may_hold parent kind.Island ≡ true → IsPageForm form.Extension bs → IsWrittenNode k parent (form_leaf form.Extension None bs)
 unfolding label_at spelling
 extension_node k parent bs small e h =
     let n : is_extension (name_of (opening_tag bs)) ≡ true = named_tag is_extension bs h.0 in

@@ -12,3 +12,4 @@ pub mod HeadingLines
 pub mod Body
 pub mod Counts
 pub mod Pages
+pub mod PageTrees

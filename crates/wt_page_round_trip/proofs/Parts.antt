@@ -11,11 +11,12 @@ use Rattle.wt_round_trip.specs.Written.{shown_of, leaf_kind, may_stand, is_text,
 use Rattle.wt_inline.specs.declared.loose.Loose.{Loose}
 use Rattle.wt_inline.specs.declared.loose.Loose.TheVariants.{Text, Sep}
 use Rattle.wt_inline.specs.Carried.{shown_item}
-use Rattle.wt_inline.specs.ItemTree.{ItemTree, leaf, forest, held, held_by_all}
-use Rattle.wt_inline.specs.Parts.{Part, loose, node, held_parts, same_loose, same_origin, one_leaf, loose_kind, child, children}
+use Rattle.wt_inline.specs.ItemTree.{ItemTree, forest, held, held_by_all}
+use Rattle.wt_inline.specs.Parts.{Part, loose, node, held_parts, same_loose, same_origin, one_leaf, loose_kind, loose_leaf, child, children}
 use Rattle.wt_inline.proofs.HeldLaws.{sources_append}
 use Rattle.wt_annotate.specs.Labels.{width, label_at}
-use Rattle.wt_annotate.specs.Annotated.{numbered, numbered_in_all, annotated_at, all_annotated_at}
+use Rattle.wt_annotate.specs.Annotated.{numbered, numbered_in_all}
+use Rattle.wt_annotate.specs.Made.{annotated_at, all_annotated_at}
 
 -- a text or a separator that may stand in a node of this kind
 abbrev pub IsTextRun : Kind → List ℕ → Type 0
@@ -41,7 +42,7 @@ no_run parent = (IsUtf8-nil, by_test (holds_text parent))
 
 -- ---- a run of characters
 
-shown_chars : (bs : List ℕ) → flat_map shown_item (map (char None) bs ++ []) ≡ bs
+shown_chars : (bs : List ℕ) → flat_map shown_item (map (char None) bs) ≡ bs
 shown_chars [] = refl
 shown_chars (b ∷ bs) = ap (λ cs. b ∷ cs) (shown_chars bs)
 
@@ -50,7 +51,7 @@ own_chars [] = refl
 own_chars (b ∷ bs) = ap (λ cs. b ∷ cs) (own_chars bs)
 
 leaf_written : (k : ℕ) (parent : Kind) (at next : ℕ) (j : Loose) (b : ℕ) (bs : List ℕ) → loose_kind j ≡ leaf_kind parent → IsTextRun parent (b ∷ bs)
-    → WrittenIn k parent (annotated_at at next (leaf (loose_kind j) (map (char None) (b ∷ bs))))
+    → WrittenIn k parent (annotated_at at next (loose_leaf j (map (char None) (b ∷ bs))))
 unfolding label_at
 leaf_written k parent at next Text b bs e g = (
   record {
@@ -165,7 +166,7 @@ runs_written k parent ((loose j o b ∷ r) ∷ rs) ps at next h w room some few 
     let a : width (held t ++ held_by_all (forest (map child rs))) ≡ width (held t) + width (held_by_all (forest (map child rs))) = wide_append (held t) (held_by_all (forest (map child rs))) in
     let n : begins_with_text (all_annotated_at (at + width (held t)) (next + numbered t) (forest (map child rs))) ≡ false =
     no_text_first k parent rs h.0 (at + width (held t)) (next + numbered t) h.3 q.rest q.stops in (
-      subst (λ xs. WrittenIn k parent (annotated_at at next (leaf (loose_kind j) xs))) (sym q.items) (leaf_written k parent at next j q.first q.more v.0 q.good),
+      subst (λ xs. WrittenIn k parent (annotated_at at next (loose_leaf j xs))) (sym q.items) (leaf_written k parent at next j q.first q.more v.0 q.good),
       none_next (is_text (annotated_at at next t)) _ n,
       runs_written k parent rs h.0 (at + width (held t)) (next + numbered t) h.3 q.rest (omega arith) (omega arith) (omega arith),
     )

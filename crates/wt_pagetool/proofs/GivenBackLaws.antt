@@ -57,7 +57,7 @@ given_back page back bytes e =
 
 pub all_given_back : (page : List ℕ) → IsGivenBack page
 all_given_back page =
-    given_back page (λ text within. record { tree = unranged (page_tree page); reads = page_is_read page text (omega arith); source = same_page page text })
+    given_back page (λ text within. record { tree = unranged (page_tree page); reads = page_is_read page text (omega arith); source = same_page page })
 
 -- ---- the clause
 

@@ -1,10 +1,8 @@
 pub mod AnswerLaws
 mod Cases
 pub mod GivenBackLaws
-pub mod NumberLaws
 pub mod PageLaws
 pub mod RefusalLines
 pub mod RunLaws
-pub mod TreeLaws
 pub mod WikitextLaws
 pub mod WriteLaws

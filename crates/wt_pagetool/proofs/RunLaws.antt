@@ -21,7 +21,7 @@ use Rattle.wt_pagetool.specs.Answers.{Answer, done, refused, html_of, html_answe
 use Rattle.wt_pagetool.specs.Reasons.{meant, Answered}
 use Rattle.wt_pagetool.specs.Reports.{AppendsFront, Sunk, Reported, WroteHtml, WroteRanges, WroteSource, BeginsRefusal}
 use Rattle.wt_pagetool.proofs.PageLaws.{stands_made}
-use Rattle.wt_pagetool.proofs.TreeLaws.{page_tiled, page_covered, page_numbered}
+use Rattle.wt_page_round_trip.proofs.PageTrees.{page_tiled, page_covered, page_slices, page_numbered}
 
 -- ---- an answer over a page is made of what stands under the title
 
@@ -44,6 +44,7 @@ wrote_html stands bytes old new e wrote =
       wrote = subst (Appends old new) (html_is h.0 bytes h.2) wrote;
       tiled = page_tiled h.0;
       covers = page_covered h.0;
+      slices = page_slices h.0;
       numbered = page_numbered h.0;
     }
 
@@ -56,6 +57,7 @@ wrote_ranges stands bytes old new e wrote =
       wrote = subst (Appends old new) (ranges_is h.0 bytes h.2) wrote;
       tiled = page_tiled h.0;
       covers = page_covered h.0;
+      slices = page_slices h.0;
       numbered = page_numbered h.0;
     }
 

@@ -14,6 +14,7 @@ use Rattle.wt_pagetool.specs.declared.output.Output.{Output}
 use Rattle.wt_pagetool.specs.Outputs.{output_bytes}
 use Rattle.wt_pagetool.specs.Reasons.{meant}
 use Rattle.wt_pagetool.specs.Answers.{Answer, IsDue}
+use Rattle.wt_annotate.specs.Slices.{AreSlices}
 use Rattle.wt_page_round_trip.specs.PageTree.{page_tree}
 
 -- a sink took a front of these bytes, which may be all or none of them
@@ -67,22 +68,26 @@ abbrev pub Reported : Result Output Reason → ℕ → Sunk → Sunk → Type 0
 Reported (Ok output) status out err = Gave (output_bytes output) status out err
 Reported (Err reason) status out err = Refused (meant reason) status out err
 
--- a page stands under the title, and `out` took its HTML, whose ranges tile it and whose numbers are in preorder
+-- a page stands under the title, and `out` took its HTML, whose ranges tile it and are slices of it, and whose numbers are in
+-- preorder
 pub record WroteHtml (stands : Option (List ℕ)) (old new : Option (List ℕ)) : Type 0 where
   pub page : List ℕ
   pub found : stands ≡ Some page
   pub wrote : Appends old new (html_text (page_tree page))
   pub tiled : Tiled (page_tree page)
   pub covers : Covers (length page) (page_tree page)
+  pub slices : AreSlices page (page_tree page)
   pub numbered : InPreorder (page_tree page)
 
--- a page stands under the title, and `out` took the listing of its tree, whose ranges tile it and whose numbers are in preorder
+-- a page stands under the title, and `out` took the listing of its tree, whose ranges tile it and are slices of it, and whose
+-- numbers are in preorder
 pub record WroteRanges (stands : Option (List ℕ)) (old new : Option (List ℕ)) : Type 0 where
   pub page : List ℕ
   pub found : stands ≡ Some page
   pub wrote : Appends old new (listing (page_tree page))
   pub tiled : Tiled (page_tree page)
   pub covers : Covers (length page) (page_tree page)
+  pub slices : AreSlices page (page_tree page)
   pub numbered : InPreorder (page_tree page)
 
 -- the input stands for a page each of whose elements tells its source, and `out` took the source of its tree

@@ -67,7 +67,7 @@ pub fn run<S: Source, F: Folder, W: Sink, E: Sink>(
     out: &mut W,
     err: &mut E,
 ) -> u8
-    // With status 0 of `html` `out` took the HTML of the page, and of `ranges` the listing of its tree, whose ranges tile it; of `wikitext` the source of the tree for which the whole input stands. `err` took nothing.
+    // With status 0 of `html` `out` took the HTML of the page, and of `ranges` the listing of its tree, whose ranges tile it and are slices of it; of `wikitext` the source of the tree for which the whole input stands. `err` took nothing.
     ensures html { (title : List ℕ) → command_of words.now ≡ Some (html title) → result ≡ 0 → IfSome (F.pages folder.old) (λ pages. WroteHtml (pages title) (W.taken out.old) (W.taken out.new)) }
     ensures ranges { (title : List ℕ) → command_of words.now ≡ Some (ranges title) → result ≡ 0 → IfSome (F.pages folder.old) (λ pages. WroteRanges (pages title) (W.taken out.old) (W.taken out.new)) }
     ensures wikitext { command_of words.now ≡ Some wikitext → result ≡ 0 → IfSome (S.left input.old) (λ bytes. WroteSource bytes (W.taken out.old) (W.taken out.new)) }

@@ -8,10 +8,6 @@
 mod chunk;
 mod laws;
 mod style;
-#[cfg(test)]
-mod tables;
-#[cfg(test)]
-mod tests;
 mod toggle;
 mod turn;
 

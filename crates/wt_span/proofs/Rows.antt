@@ -52,7 +52,7 @@ signs = refl
 -- ---- calls, in order of their first bytes
 
 -- three braces are taken before two, the last of an open run first; a run without a partner is text
-nested_calls : map calls (((Opens, 5) ∷ (Chars, 1) ∷ (Closes, 5) ∷ []) ∷ ((Opens, 2) ∷ (Chars, 1) ∷ (Closes, 3) ∷ []) ∷ ((Closes, 2) ∷ (Opens, 2) ∷ []) ∷ [])
+nested_calls : map (calls 0) (((Opens, 5) ∷ (Chars, 1) ∷ (Closes, 5) ∷ []) ∷ ((Opens, 2) ∷ (Chars, 1) ∷ (Closes, 3) ∷ []) ∷ ((Closes, 2) ∷ (Opens, 2) ∷ []) ∷ [])
     ≡ (record { argument = false; from = 0; to = 11; parts = record { from = 2; to = 9; equals_at = None } ∷ []; parent = None }
     ∷ record { argument = true; from = 2; to = 9; parts = record { from = 5; to = 6; equals_at = None } ∷ []; parent = Some 0 } ∷ [])
     ∷ (record { argument = false; from = 0; to = 5; parts = record { from = 2; to = 3; equals_at = None } ∷ []; parent = None } ∷ []) ∷ [] ∷ []
@@ -63,20 +63,32 @@ nested_calls = refl
 abbrev seen : CallAt → Bool × ℕ × ℕ
 seen c = (c.argument, c.from, c.to)
 
-passed_over : map (map seen) (map calls (((Opens, 5) ∷ (Chars, 1) ∷ (Closes, 4) ∷ (Chars, 1) ∷ (Closes, 2) ∷ []) ∷ ((Opens, 2) ∷ (Chars, 1) ∷ (Opens, 3) ∷ (Chars, 1) ∷ (Closes, 2) ∷ (Chars, 1) ∷ (Closes, 2) ∷ []) ∷ []))
+passed_over : map (map seen) (map (calls 0) (((Opens, 5) ∷ (Chars, 1) ∷ (Closes, 4) ∷ (Chars, 1) ∷ (Closes, 2) ∷ []) ∷ ((Opens, 2) ∷ (Chars, 1) ∷ (Opens, 3) ∷ (Chars, 1) ∷ (Closes, 2) ∷ (Chars, 1) ∷ (Closes, 2) ∷ []) ∷ []))
     ≡ ((false, 0, 13) ∷ (true, 2, 9) ∷ []) ∷ ((false, 0, 12) ∷ (false, 4, 9) ∷ []) ∷ []
 unfolding calls reduced rewritten parts_of
 passed_over = refl
 
 -- `{{a|[[b|c]]|d=e=f|[[g|h}}`: a `|` between a `[[` and its `]]` parts nothing, one after an unpaired `[[` does
-parts : map (λ (c : CallAt). c.parts) (calls (words Page (codes "{{a=|[[b|c=]]|d=e=f|[[g|h}}")))
+parts : map (λ (c : CallAt). c.parts) (calls 0 (words Page (codes "{{a=|[[b|c=]]|d=e=f|[[g|h}}")))
     ≡ (record { from = 2; to = 4; equals_at = None } ∷ record { from = 5; to = 13; equals_at = None } ∷ record { from = 14; to = 19; equals_at = Some 15 }
     ∷ record { from = 20; to = 23; equals_at = None } ∷ record { from = 24; to = 25; equals_at = None } ∷ []) ∷ []
 unfolding words closed form_at comment_len comment_line_len raw_len opening_tag tag_after closing_tag with_inside is_extension include_at entity_at named_entity decimal_entity hex_entity entity_names sign_word calls reduced rewritten parts_of
 parts = refl
 
+-- lexemes that begin at another place, with a wide `|`: a part begins where the `|` before it ends
+at_a_place : calls 7 ((Chars, 2) ∷ (Opens, 2) ∷ (Chars, 1) ∷ (Pipe, 3) ∷ (Chars, 1) ∷ (Equals, 1) ∷ (Closes, 2) ∷ [])
+    ≡ record { argument = false; from = 9; to = 19; parts = record { from = 11; to = 12; equals_at = None } ∷ record { from = 15; to = 17; equals_at = Some 16 } ∷ []; parent = None } ∷ []
+unfolding calls reduced rewritten parts_of
+at_a_place = refl
+
+-- `{{a|<noinclude>}}</noinclude>}}` ends at the first `}}` on the page, and at the last in a template
+by_mode : map (λ (cs : List CallAt). map seen cs) (map (λ mode. calls 0 (words mode (codes "{{a|<noinclude>}}</noinclude>}}"))) (Page ∷ Template ∷ []))
+    ≡ ((false, 0, 17) ∷ []) ∷ ((false, 0, 31) ∷ []) ∷ []
+unfolding words closed form_at comment_len comment_line_len raw_len opening_tag tag_after closing_tag with_inside is_extension include_at entity_at named_entity decimal_entity hex_entity entity_names sign_word calls reduced rewritten parts_of
+by_mode = refl
+
 -- `{{a{{b}}}}`: the inner one has one call round it
-nested : let cs = calls ((Opens, 2) ∷ (Chars, 1) ∷ (Opens, 2) ∷ (Chars, 1) ∷ (Closes, 4) ∷ []) in map (nesting cs) cs ≡ 0 ∷ 1 ∷ []
+nested : let cs = calls 0 ((Opens, 2) ∷ (Chars, 1) ∷ (Opens, 2) ∷ (Chars, 1) ∷ (Closes, 4) ∷ []) in map (nesting cs) cs ≡ 0 ∷ 1 ∷ []
 unfolding calls reduced rewritten parts_of nesting
 nested = refl
 

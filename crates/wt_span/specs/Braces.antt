@@ -112,14 +112,14 @@ links_close (m ∷ after) = if is_kind_open m then links_close after - 1 else (i
 abbrev pub in_link : List Member → List Member → Bool
 in_link before after = nat_lt 0 (links_open before) && nat_lt 0 (links_close after)
 
--- a `|` or a `=` that counts, by its place
+-- a `|` or a `=` that counts, by its place and how many bytes it takes
 pub data Sign : Type 0 where
-  pipe : ℕ → Sign
-  equals : ℕ → Sign
+  pipe : ℕ → ℕ → Sign
+  equals : ℕ → ℕ → Sign
 
 abbrev pub sign_of : Member → ℕ → List Sign
-sign_of (lexeme (Pipe, n)) at = pipe at ∷ []
-sign_of (lexeme (Equals, n)) at = equals at ∷ []
+sign_of (lexeme (Pipe, n)) at = pipe at n ∷ []
+sign_of (lexeme (Equals, n)) at = equals at n ∷ []
 sign_of m at = []
 
 -- the signs of a call's own level that lie in no link, by their places; the first member begins at `at`
@@ -141,8 +141,8 @@ with_name later at (p ∷ ps) = if later then record { from = p.from; to = p.to;
 -- the parts between two places; the first of them is the call's target, or a later part
 abbrev pub parts_between : Bool → ℕ → ℕ → List Sign → List PartAt
 parts_between later from to [] = record { from = from; to = to; equals_at = None } ∷ []
-parts_between later from to (pipe at ∷ ss) = record { from = from; to = at; equals_at = None } ∷ parts_between true (at + 1) to ss
-parts_between later from to (equals at ∷ ss) = with_name later at (parts_between later from to ss)
+parts_between later from to (pipe at n ∷ ss) = record { from = from; to = at; equals_at = None } ∷ parts_between true (at + n) to ss
+parts_between later from to (equals at n ∷ ss) = with_name later at (parts_between later from to ss)
 
 unfoldable pub parts_of : ℕ → Members → List PartAt
 parts_of from ms = parts_between false from (from + width_of_all ms) (signs from [] (listed ms))
@@ -177,9 +177,9 @@ abbrev mutual
   calls_of_all at parent n none = []
   calls_of_all at parent n (more m ms) = calls_of at parent n m ++ calls_of_all (at + width m) parent (n + call_count m) ms
 
--- the calls and arguments of a text by its lexemes
-unfoldable pub calls : List Word → List CallAt
-calls ws = calls_of_all 0 None 0 (members (reduced ws))
+-- the calls and arguments of lexemes that follow one another, the first of which begins at `at`
+unfoldable pub calls : ℕ → List Word → List CallAt
+calls at ws = calls_of_all at None 0 (members (reduced ws))
 
 -- one lies in another
 abbrev pub lies_in : CallAt → CallAt → Bool
@@ -189,6 +189,6 @@ lies_in c d = nat_lt d.from c.from && nat_lt c.to d.to
 unfoldable pub nesting : List CallAt → CallAt → ℕ
 nesting cs c = count_by (lies_in c) cs
 
--- these bytes are a call or argument of a text
-abbrev pub IsCall : List ℕ → Type 0
-IsCall bs = (mode : Mode) × (text : List ℕ) × (c : CallAt) × Contains (calls (words mode text)) c × (bs ≡ slice_range text c.from c.to)
+-- these bytes are a call or argument of some text that is read in this mode
+abbrev pub IsCall : Mode → List ℕ → Type 0
+IsCall mode bs = (text : List ℕ) × (c : CallAt) × Contains (calls 0 (words mode text)) c × (bs ≡ slice_range text c.from c.to)

@@ -1,6 +1,7 @@
 -- Outermost calls, and where the items of a page come from.
 use Rattle.std.specs.Prelude.{◌≡◌, ◌<◌, ◌≤◌, ◌+◌, ◌-◌, ◌==◌, ℕ, Bool, false, not, Option, Some, None, List, [], ◌∷◌, length, map, slice_get, slice_index, All, is_some, if◌then◌else◌}
 use Rattle.std.specs.Str.{IsCharBoundary}
+use Rattle.wt_span.specs.declared.form.Mode.TheVariants.{Page}
 use Rattle.wt_span.specs.declared.range.Range.{Range}
 use Rattle.wt_span.specs.declared.origin.Origin.{Origin}
 use Rattle.wt_span.specs.declared.origin.Origin.TheVariants as origin
@@ -10,6 +11,7 @@ use Rattle.wt_span.specs.declared.form.Piece.{Piece}
 use Rattle.wt_span.specs.declared.form.Outer.{Outer}
 use Rattle.wt_span.specs.Slice.{bytes_of, start_of, end_of}
 use Rattle.wt_span.specs.Items.{Item, call_of_origin}
+use Rattle.wt_span.specs.Braces.{IsCall}
 use Rattle.wt_span.specs.Whole.{IsWhole}
 
 -- two places, the second after the last byte
@@ -69,15 +71,16 @@ abbrev pub IsPlaced : Origin → Span → Type 0
 IsPlaced (origin.Page r) s = span_of r ≡ s
 IsPlaced (origin.Call k) s = Unit {0}
 
--- an empty call comes from a call
-abbrev pub IsOfCall : Form → Option ℕ → Type 0
-IsOfCall form.EmptyCall None = ⊥
-IsOfCall f o = Unit {0}
+-- an empty call comes from a call; a function of the page itself is one as the page is read
+abbrev pub FitsOrigin : Form → Option ℕ → List ℕ → Type 0
+FitsOrigin form.EmptyCall None bs = ⊥
+FitsOrigin form.Function None bs = IsCall Page bs
+FitsOrigin f o bs = Unit {0}
 
 pub record IsSoundPiece (p : Piece) : Type 0 where
   pub whole : IsWhole p.form (bytes_of p.text)
   pub placed : IsPlaced p.origin (start_of p.text, end_of p.text)
-  pub of_call : IsOfCall p.form (call_of_origin p.origin)
+  pub fits : FitsOrigin p.form (call_of_origin p.origin) (bytes_of p.text)
 
 -- ---- origins
 

@@ -11,8 +11,6 @@ mod node;
 mod row;
 mod source;
 mod table;
-#[cfg(test)]
-mod tests;
 
 pub use annotated::Annotated;
 pub use compare::plain_eq;

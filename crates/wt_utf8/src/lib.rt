@@ -4,8 +4,6 @@
 mod character;
 mod laws;
 mod place;
-#[cfg(test)]
-mod tests;
 
 pub use laws::{exact_place, one_end};
 pub use place::{not_utf8_place, read_text};

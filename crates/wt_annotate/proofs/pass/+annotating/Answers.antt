@@ -3,7 +3,7 @@ use Rattle.std.specs.Vec.Iter.{into_iter_items}
 use Rattle.wt_tree.specs.View.{view, views}
 use Rattle.wt_span.specs.Items.{items}
 use Rattle.wt_inline.specs.ItemTree.{forest}
-use Rattle.wt_inline.specs.View.{item_tree, item_trees}
+use Rattle.wt_inline.specs.View.{head_of, item_tree, item_trees}
 use Rattle.wt_inline.specs.declared.tree.PieceTree.{out-PieceTree}
 use Rattle.wt_annotate.proofs.Passes.{so_far_init, room_place, room_number, smaller_child, smaller_children, room_inside, number_inside, so_far_step, all_done, room_closing, inside_from, inner_done, three_ok}
 use Rattle.wt_annotate.proofs.pass.+annotating.Goals as goal
@@ -56,7 +56,7 @@ pub annotated_node-returns : goal.annotated_node-returns
 annotated_node-returns t c =
     let made = c.in_ok-children.children in
     let n = out-PieceTree c.args.tree in
-    let inside = inside_from c.after-inside.result.place c.after-inside.result.next c.args.at.place c.width.result 0 c.as_slice.result.now n.opening n.kind c.args.at.next (forest (item_trees n.children)) (views made.nodes) made.behind.place made.behind.next
+    let inside = inside_from c.after-inside.result.place c.after-inside.result.next c.args.at.place c.width.result 0 c.as_slice.result.now n.opening (head_of n.head) c.args.at.next (forest (item_trees n.children)) (views made.nodes) made.behind.place made.behind.next
     c.in_ok-children.ensures c.after-inside.ensures.place c.width.ensures c.as_slice.ensures c.after-inside.ensures.number in
     three_ok c.around.result _ _ _ _
     (λ m e f g. inner_done c.args.tree c.args.at.place c.args.at.next m.behind.place m.behind.next made.behind.place made.behind.next (views made.nodes) (view m.node) (sym c.is_leaf.ensures ∙ c.if-is_leaf.false) inside e f g)

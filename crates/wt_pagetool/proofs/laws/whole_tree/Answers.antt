@@ -1,4 +1,4 @@
-use Rattle.wt_pagetool.proofs.TreeLaws.{flat_page, page_tiled, page_covered, page_numbered}
+use Rattle.wt_page_round_trip.proofs.PageTrees.{flat_page, page_tiled, page_covered, page_slices, page_numbered}
 use Rattle.wt_pagetool.proofs.laws.whole_tree.Goals as goal
 
 pub returns-clause-source : goal.returns-clause-source
@@ -9,6 +9,9 @@ returns-clause-tiled c = page_tiled
 
 pub returns-clause-covers : goal.returns-clause-covers
 returns-clause-covers c = page_covered
+
+pub returns-clause-slices : goal.returns-clause-slices
+returns-clause-slices c = page_slices
 
 pub returns-clause-numbered : goal.returns-clause-numbered
 returns-clause-numbered c = page_numbered

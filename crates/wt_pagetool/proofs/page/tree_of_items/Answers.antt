@@ -1,7 +1,7 @@
 use Rattle.std.proofs.Common.{◌≡◌, IfOk, ap, ◌∙◌, subst}
 use Rattle.wt_tree.specs.View.{view}
 use Rattle.wt_inline.specs.View.{item_tree}
-use Rattle.wt_pagetool.proofs.TreeLaws.{tree_is, small_width, small_numbers}
+use Rattle.wt_page_round_trip.proofs.PageTrees.{tree_is, small_width, small_numbers}
 use Rattle.wt_pagetool.proofs.page.tree_of_items.Goals as goal
 
 pub annotate-requires-clause-bytes : goal.annotate-requires-clause-bytes

@@ -1,0 +1,5 @@
+use Rattle.wt_annotate.proofs.NumberLaws.{meaning_count, makes_few}
+use Rattle.wt_annotate.proofs.laws.few_numbers.Goals as goal
+
+pub returns : goal.returns
+returns c = record { blocks = meaning_count; forms = makes_few }

@@ -1,0 +1,9 @@
+pub mod Fronts
+pub mod Nests
+pub mod Begun
+pub mod SameRows
+pub mod Measures
+pub mod Cuts
+pub mod TextRuns
+pub mod HeadingLaws
+pub mod Rows

@@ -1,0 +1,8 @@
+use Rattle.std.proofs.Common.{◌≡◌, ◌+◌}
+use Rattle.std.specs.List.{prefix_len}
+use Rattle.wt_lines.specs.Signs.{right}
+use Rattle.wt_blocks.specs.Classes.{is_of}
+use Rattle.wt_blocks.proofs.ends.back_len.Given as goal
+
+abbrev pub invariant-loop-n : goal.invariant-loop-n
+invariant-loop-n l = l.n + prefix_len (is_of l.class) (right l.rest) ≡ prefix_len (is_of l.class) (right l.signs)

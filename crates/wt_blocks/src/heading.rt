@@ -1,0 +1,96 @@
+ghost use Rattle.std.specs.Prelude.{◌≡◌, ◌+◌, ◌-◌, ◌/◌, ◌^◌, ◌<◌, ◌≤◌, ◌==◌, All, min, length, map, reverse, if◌then◌else◌};
+ghost use Rattle.wt_span.specs.Items.{sign, items, sources};
+ghost use Rattle.wt_span.specs.Origins.{IsSoundPiece};
+ghost use Rattle.wt_lines.specs.Pieces.{line_items};
+ghost use Rattle.wt_blocks.specs.Headings.{core, level_of, open_len, inside_len, delimiters, heading_parts};
+
+use crate::ends::{Class, back_len, before_back, front_len, past_front};
+use crate::measure::{byte_len, item_count};
+use wt_lines::{BackSigns, Line, Signs, marks_len};
+use wt_span::{Piece, rest_of};
+
+/// `h1` to `h6`.
+const MOST_LEVEL: usize = 6;
+
+/// The level of a heading of so many signs up to the last that is visible and no blank, which has so
+/// many `=` at its front and at its back.
+fn level_by(core_len: usize, first: usize, last: usize) -> usize
+    ensures { result ≡ (if first == core_len then min 6 ((core_len - 1) / 2) else min 6 (min first last)) }
+{
+    let level = if first == core_len {
+        core_len.saturating_sub(1) / 2
+    } else {
+        first.min(last)
+    };
+    level.min(MOST_LEVEL)
+}
+
+/// The level of a heading, and how many items stand in its open delimiter and between the
+/// delimiters.
+#[derive(Clone, Copy, Debug)]
+struct Cuts {
+    level: usize,
+    open_len: usize,
+    inside_len: usize,
+}
+
+/// Where the delimiters end, of a line from its first visible item on.
+fn cuts_of(pieces: &[Piece<'_>]) -> Cuts
+    requires few { length pieces.now < 2 ^ 32 }
+    requires bytes { length (sources (items pieces.now)) < 2 ^ 32 }
+    ensures level { result.level ≡ level_of (core (map sign (items pieces.now))) }
+    ensures open_len { result.open_len ≡ open_len (core (map sign (items pieces.now))) }
+    ensures inside_len { result.inside_len ≡ inside_len (core (map sign (items pieces.now))) }
+    ensures within { result.open_len + result.inside_len ≤ length (items pieces.now) }
+{
+    let signs = Signs::of(pieces);
+    let back = BackSigns::of(pieces);
+    let count = item_count(pieces);
+    let core_len = count - back_len(back, Class::Idle, count);
+    let core_back = back.before_idle();
+    let first = front_len(signs, Class::Equal, core_len);
+    let last = back_len(core_back, Class::Equal, MOST_LEVEL);
+    let level = level_by(core_len, first, last);
+    let rest_len = core_len.saturating_sub(level);
+    let open_len = level + front_len(past_front(signs, level), Class::Blank, rest_len);
+    let between = rest_len.saturating_sub(open_len);
+    let blanks = back_len(before_back(core_back, level), Class::Blank, between);
+    Cuts {
+        level,
+        open_len,
+        inside_len: between - blanks,
+    }
+}
+
+/// The parts of a heading, from its first visible item on.
+#[tactic(auto, unfolding(crate::specs::Headings::level, crate::specs::Headings::opening, crate::specs::Headings::closing))]
+fn parts_of(heading: &[Piece<'_>]) -> (u8, u32, u32)
+    requires few { length heading.now < 2 ^ 32 }
+    requires bytes { length (sources (items heading.now)) < 2 ^ 32 }
+    ensures { result ≡ delimiters (items heading.now) }
+{
+    let cuts = cuts_of(heading);
+    let close_at = byte_len(heading, cuts.open_len + cuts.inside_len);
+    let end = byte_len(heading, item_count(heading));
+    (
+        cuts.level as u8,
+        byte_len(heading, cuts.open_len),
+        end - close_at,
+    )
+}
+
+/// The level of a heading (1 to 6), and how many bytes its open and its close delimiter have, by
+/// MediaWiki's rule in the profile's form: the open delimiter is as many `=` as the level with the
+/// blanks after them, the close delimiter the blanks before as many `=` with all after them. An atom
+/// or a mark counts by its source. Marks before the first `=` belong to neither. The call is meant
+/// for a line that `classify` calls a heading; of another line the numbers are what the definition
+/// gives.
+pub fn heading_parts(line: &Line<'_>) -> (u8, u32, u32)
+    requires sound { All IsSoundPiece line.now.pieces }
+    requires few { length line.now.pieces < 2 ^ 32 }
+    requires bytes { length (sources (line_items line.now)) < 2 ^ 32 }
+    ensures { result ≡ heading_parts (line_items line.now) }
+{
+    let pieces = line.pieces.as_slice();
+    parts_of(rest_of(pieces, marks_len(pieces)))
+}

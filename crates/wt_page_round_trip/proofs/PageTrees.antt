@@ -1,0 +1,106 @@
+-- The annotated tree of a page: its source, its ranges and its numbers.
+use Rattle.std.proofs.Common.{◌≡◌, ℕ, ◌+◌, ◌-◌, ◌*◌, ◌<◌, ◌≤◌, ◌^◌, Bool, false, None, List, [], ◌∷◌, ◌++◌, length, take, drop, map, sym, ap, ◌∙◌, subst, arith, length-append, length-drop}
+use Rattle.std.specs.Prelude.{slice_index}
+use Rattle.std.proofs.lemmas.List.{take-append-drop, length-map}
+use Rattle.wt_span.specs.declared.form.Form.{Form}
+use Rattle.wt_span.specs.declared.form.Form.TheVariants as form
+use Rattle.wt_span.specs.declared.form.Mode.TheVariants.{Page}
+use Rattle.wt_span.specs.Bytes.{is_break}
+use Rattle.wt_span.specs.Items.{Item, char, sources, items_by}
+use Rattle.wt_span.specs.Lexemes.{Word, words}
+use Rattle.wt_tree.specs.Source.{flat}
+use Rattle.wt_tree.specs.Tiling.{Tiled, Covers, InPreorder}
+use Rattle.wt_lex.specs.Reading.{AreLexemes}
+use Rattle.wt_lex.proofs.Readings.{words_are}
+use Rattle.wt_expand.specs.PageItems.{form_of, items_of_word, items_of_words, page_items}
+use Rattle.wt_expand.proofs.PageLaws.{page_sources}
+use Rattle.wt_inline.specs.ItemTree.{ItemTree, forest, held}
+use Rattle.wt_inline.specs.Parts.{children}
+use Rattle.wt_build.specs.Rows.{rows}
+use Rattle.wt_build.specs.Meaning.{body_parts, meaning}
+use Rattle.wt_build.proofs.MeaningLaws.{sources_meaning}
+use Rattle.wt_annotate.specs.Annotated.{numbered, annotated}
+use Rattle.wt_annotate.specs.Labels.{width}
+use Rattle.wt_annotate.specs.Slices.{AreSlices}
+use Rattle.wt_annotate.proofs.NumberLaws.{meaning_count, makes_few}
+use Rattle.wt_annotate.proofs.TreeNumbers.{numbered_annotated}
+use Rattle.wt_annotate.proofs.TreeRanges.{tiled_annotated, body_covers}
+use Rattle.wt_annotate.proofs.TreeSlices.{annotated_slices}
+use Rattle.wt_annotate.proofs.TreeSource.{flat_annotated}
+use Rattle.wt_page_round_trip.specs.PageTree.{page_tree}
+
+-- ---- the items of a page
+
+chars_length : (bs : List ℕ) → length (map (char None) bs) ≡ length bs
+chars_length bs = length-map bs (char None)
+
+form_length : (f : Form) (bs : List ℕ) → 0 < length bs → length (items_by f None bs) ≤ length bs
+form_length form.Chars bs some = omega (arith, chars_length bs)
+form_length (form.Entity c) bs some = omega arith
+form_length form.Nowiki bs some = omega arith
+form_length form.Extension bs some = omega arith
+form_length form.Function bs some = omega arith
+form_length form.Comment bs some = omega arith
+form_length form.Include bs some = omega arith
+form_length form.Hidden bs some = omega arith
+form_length form.EmptyCall bs some = omega arith
+
+words_length : (after : Bool) (ws : List Word) (bs : List ℕ) → AreLexemes Page after ws bs → length (items_of_words ws bs) ≤ length bs
+words_length after [] bs a = omega arith
+words_length after ((kind, n) ∷ ws) bs a =
+    let front : length (take n bs) + length (drop n bs) ≡ length bs = sym (length-append (take n bs) (drop n bs)) ∙ ap length (take-append-drop n bs) in
+    let cut : length (drop n bs) ≡ length bs - n = length-drop n bs in
+    let some : 0 < n = a.0 in
+    let within : n ≤ length bs = a.1 in
+    let here : length (items_of_word kind (take n bs)) ≤ length (take n bs) = form_length (form_of kind (take n bs)) (take n bs) (omega arith) in
+    let later : length (items_of_words ws (drop n bs)) ≤ length (drop n bs) = words_length (is_break (slice_index bs (n - 1))) ws (drop n bs) a.4 in
+    omega (arith, length-append (items_of_word kind (take n bs)) (items_of_words ws (drop n bs)))
+
+items_length : (page : List ℕ) → length (page_items page) ≤ length page
+unfolding page_items
+items_length page = words_length false (words Page page) page (words_are Page page)
+
+pub few_numbers : (page : List ℕ) → numbered (meaning (page_items page)) ≤ 3 * length page
+few_numbers page =
+    let xs = page_items page in
+    omega (arith, meaning_count xs, makes_few xs, items_length page, ap length (page_sources page))
+
+-- ---- the tree
+
+meaning_sources : (page : List ℕ) → sources (held (meaning (page_items page))) ≡ page
+meaning_sources page = sources_meaning (page_items page) ∙ page_sources page
+
+pub flat_page : (page : List ℕ) → flat (page_tree page) ≡ page
+flat_page page = flat_annotated (meaning (page_items page)) ∙ meaning_sources page
+
+pub page_tiled : (page : List ℕ) → Tiled (page_tree page)
+page_tiled page = tiled_annotated (meaning (page_items page))
+
+covers_width : (xs : List Item) → Covers (width (held (meaning xs))) (annotated (meaning xs))
+unfolding meaning
+covers_width xs = body_covers (forest (children (body_parts (rows xs))))
+
+pub page_covered : (page : List ℕ) → Covers (length page) (page_tree page)
+page_covered page = subst (λ n. Covers n (annotated (meaning (page_items page)))) (ap length (meaning_sources page)) (covers_width (page_items page))
+
+pub page_slices : (page : List ℕ) → AreSlices page (page_tree page)
+page_slices page = subst (λ bs. AreSlices bs (page_tree page)) (meaning_sources page) (annotated_slices (meaning (page_items page)))
+
+pub page_numbered : (page : List ℕ) → InPreorder (page_tree page)
+page_numbered page = numbered_annotated (meaning (page_items page))
+
+-- ---- from the meaning that was found
+
+pub tree_is : (page : List ℕ) (xs : List Item) (t : ItemTree) → t ≡ meaning xs → xs ≡ page_items page → annotated t ≡ page_tree page
+tree_is page xs t is items = ap annotated (is ∙ ap meaning items)
+
+pub small_width : (page : List ℕ) (xs : List Item) (t : ItemTree) → length page ≤ 2097152 → t ≡ meaning xs → xs ≡ page_items page → width (held t) < 2 ^ 32
+small_width page xs t room is items =
+    let len : length (sources (held t)) ≡ length page = ap (λ u. length (sources (held u))) (is ∙ ap meaning items) ∙ ap length (meaning_sources page) in
+    omega arith
+
+pub small_numbers : (page : List ℕ) (xs : List Item) (t : ItemTree) → length page ≤ 2097152 → t ≡ meaning xs → xs ≡ page_items page → 1 + numbered t < 2 ^ 32
+small_numbers page xs t room is items =
+    let same : numbered t ≡ numbered (meaning (page_items page)) = ap numbered (is ∙ ap meaning items) in
+    let few : numbered (meaning (page_items page)) ≤ 3 * length page = few_numbers page in
+    omega arith

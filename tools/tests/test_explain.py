@@ -1,0 +1,161 @@
+"""explain over lines of wtround: those of the stored cases, and one of each kind."""
+import subprocess
+import sys
+import tempfile
+import unittest
+from pathlib import Path
+
+from loading import REPOSITORY, TOOLS, load
+
+tool = load("explain")
+CASES = REPOSITORY / "crates/wtround_cases"
+
+HTML = b"""<!DOCTYPE html><html><head><meta charset="utf-8"/></head><body data-wt-edit='children'>
+<meta typeof="mw:Comment" id="mw1" data-parsoid='{"src":"> id=\\"mw3\\" <p>"}'/>
+<h2 id="mw2">A</h2><p id='mw3' data-wt-edit="content">b <b>c</b></p>
+<p id="mw3">d</p><p data-wt-edit="content">e</p></body></html>"""
+
+
+def place_of(line: str, data: bytes) -> int:
+    refusal = tool.read_refusal(line)
+    return refusal.locate(data, refusal.number)
+
+
+class Places(unittest.TestCase):
+    def test_elements_are_counted_in_document_order(self) -> None:
+        names = [HTML[place_of(f"element {k} has no source", HTML) :][:5] for k in range(1, 10)]
+        self.assertEqual(names, [b"<html", b"<head", b"<meta", b"<body", b"<meta", b"<h2 i", b"<p id", b"<b>c<", b"<p id"])
+        self.assertIsNone(place_of("element 11 has no source", HTML))
+
+    def test_nodes_are_found_by_their_ids(self) -> None:
+        for line, start in {
+            "edit refused: UnmarkedChange 3": b"<p id='mw3'",
+            "edit refused: RepeatedId 3": b'<p id="mw3">d',
+            "edit refused: UnmarkedChange 0": b"<body",
+            "edit refused: NotEditable 0": b"<p data-wt-edit",
+            "edit refused: Unspelled 1": b"<h2",
+            "edit refused: Unspelled 3": b'<p id="mw3">d',
+            "edit refused: BadContent 2 Href": b"<h2",
+        }.items():
+            with self.subTest(line=line):
+                self.assertEqual(HTML[place_of(line, HTML) :][: len(start)], start)
+
+    def test_lines_and_columns(self) -> None:
+        data = "ab\n日本 é\tx\n\n".encode()
+        for place, wanted in {0: (1, 1), 2: (1, 3), 3: (2, 1), 9: (2, 3), 12: (2, 5), 14: (2, 7), 15: (3, 1), 16: (4, 1)}.items():
+            with self.subTest(place=place):
+                found = tool.spot(data, place)
+                self.assertEqual((found.line, found.column), wanted)
+
+    def test_caret(self) -> None:
+        for before, after, wanted in [
+            ("", "abc", ["    abc", "    ^"]),
+            ("日本 ", "[[x]]", ["    日本 [[x]]", "         ^"]),
+            ("e\u0301\t\udcff\x1b", "x", ["    e\u0301 \\xff\\x1bx", "              ^"]),
+            ("", "", ["    ", "    ^"]),
+        ]:
+            with self.subTest(before=before):
+                self.assertEqual(tool.line_with_caret(before, after).split("\n"), wanted)
+
+    def test_long_lines_are_cut(self) -> None:
+        text, caret = tool.line_with_caret("a" * 500, "b" * 500).split("\n")
+        self.assertLess(len(text), 85)
+        self.assertEqual(text[caret.index("^")], "b")
+        self.assertEqual(text[caret.index("^") - 1], "a")
+
+
+class Lines(unittest.TestCase):
+    def test_each_kind_of_refusal(self) -> None:
+        lines = [
+            "usage: wtround html TITLE | wikitext | edit TITLE | ranges TITLE | expand TITLE | gen N",
+            "no such page", "page too long", "page not UTF-8 at 7", "not built at 0", "html too long", "input too long",
+            "braces too deep at 300", "braces too deep at 3 in Template:A b", "expansion too large", "element 3 has no source",
+            "Template:X not UTF-8 at 0", "Template:X too long", "Über not UTF-8 at 1", "read fault", "folder fault",
+            "write fault", "no memory",
+        ]  # fmt: skip
+        lines += [f"html refused at 5: {why}" for why in "NotUtf8 End TooDeep EndTag Escape Repeated Syntax".split()]
+        lines += [f"element 5 does not fit: {why}" for why in "Root Element Place Data Text".split()]
+        lines += [f"edit refused: BadContent 5 {why}" for why in "Element Href LineBreak Nested EmptyList".split()]
+        names = "UnknownId RepeatedId Moved InTemplate NotEditable UnmarkedChange Tangled Unspelled".split()
+        lines += [f"edit refused: {name} 5" for name in names]
+        lines += ["edit refused: NewPageTooLong", "edit refused: NewExpansion"]
+        for line in lines:
+            with self.subTest(line=line):
+                self.assertEqual(tool.read_refusal(f"wtround: {line}\n"), tool.read_refusal(line))
+                self.assertTrue(tool.read_refusal(line).advice.endswith("."))
+
+    def test_other_lines_are_refused(self) -> None:
+        for line in ["", "bash: wtround: command not found", "wtround: not built", "html refused at 5: Other"]:
+            with self.subTest(line=line), self.assertRaises(tool.ExplainError):
+                tool.read_refusal(line)
+
+    def test_stored_cases(self) -> None:
+        """Each refusal of the program's stored cases has its place in the page or the input."""
+        count = 0
+        cases = zip((CASES / "stdin").read_text().splitlines(), (CASES / "stdout").read_text().splitlines())
+        for case, answer in cases:
+            if answer == "malformed" or not answer.split("\t")[2]:
+                continue
+            count += 1
+            _, given, pages = case.split("\t")
+            line = bytes.fromhex(answer.split("\t")[2]).decode()
+            refusal = tool.read_refusal(line)
+            if refusal.locate is None or line.startswith("wtround: edit refused") or "," in pages:
+                continue
+            is_about_input = line.startswith(("wtround: html refused", "wtround: element", "wtround: input"))
+            data = bytes.fromhex(given if is_about_input else pages.rpartition("=")[2])
+            with self.subTest(line=line):
+                place = refusal.locate(data, refusal.number)
+                self.assertIsNotNone(place)
+                found = tool.spot(data, place)
+                self.assertIn("^", tool.line_with_caret(found.before, found.after))
+                if line.startswith("wtround: element"):
+                    self.assertEqual(data[place : place + 1], b"<")
+        self.assertGreater(count, 100)
+
+
+class Commands(unittest.TestCase):
+    def setUp(self) -> None:
+        folder = tempfile.TemporaryDirectory()
+        self.addCleanup(folder.cleanup)
+        self.root = Path(folder.name)
+
+    def run_tool(self, *words: str, stdin: str = "", status: int = 0) -> "tuple[str, str]":
+        command = [sys.executable, str(TOOLS / "explain"), *words]
+        done = subprocess.run(command, cwd=self.root, input=stdin.encode(), stdout=subprocess.PIPE, stderr=subprocess.PIPE)
+        self.assertEqual(done.returncode, status, done.stderr)
+        return done.stdout.decode(), done.stderr.decode()
+
+    def test_a_page(self) -> None:
+        (self.root / "Opava.wiki").write_text("The town\nlies on [[Opava (river)|the Opava]].\n")
+        shown, _ = self.run_tool("Opava.wiki", stdin="wtround: proving ..\nwtround: not built at 17\n")
+        self.assertEqual(
+            shown,
+            "Opava.wiki:2:9: not built at 17\n"
+            "    lies on [[Opava (river)|the Opava]].\n"
+            "            ^\n"
+            "Here stands the sign [ of links, which this version of wtround does not read: "
+            "take it out of the page, or use a later version.\n",
+        )
+
+    def test_a_template_is_shown_in_its_own_file(self) -> None:
+        (self.root / "Main.wiki").write_text("{{a b}}")
+        (self.root / "Template%3AA_b.wiki").write_bytes(b"x\nyz\xff")
+        shown, _ = self.run_tool("Main.wiki", "wtround: Template:A b not UTF-8 at 4")
+        self.assertTrue(shown.startswith("Template%3AA_b.wiki:2:3: "), shown)
+        self.assertIn("    yz\\xff\n      ^\n", shown)
+
+    def test_no_file_is_needed_without_a_place(self) -> None:
+        self.assertIn("check its spelling", self.run_tool(stdin="wtround: no such page\n")[0])
+        self.assertIn("UTF-8", self.run_tool(stdin="wtround: page not UTF-8 at 4\n")[0])
+
+    def test_statuses(self) -> None:
+        (self.root / "short").write_text("abc")
+        self.assertIn("is not in this file", self.run_tool("short", "wtround: not built at 9", status=1)[1])
+        self.assertIn("No such file", self.run_tool("absent", "wtround: not built at 9", status=1)[1])
+        self.assertIn("no line of wtround", self.run_tool("short", status=1)[1])
+        self.run_tool("a", "b", "c", status=2)
+
+
+if __name__ == "__main__":
+    unittest.main()
