@@ -9,7 +9,11 @@ use Rattle.wt_tree.specs.declared.kind.Mark.TheVariants as mark
 use Rattle.wt_tree.specs.Tree.{Label, Tree, tree, Trees, none as no_trees, more as one_more}
 use Rattle.wt_html_grammar.specs.declared.why.HtmlWhy.TheVariants as html_why
 use Rattle.wt_fitting.specs.declared.why.FitWhy.TheVariants as why
-use Rattle.wt_fitting.specs.Rows.{entity_type, nowiki_type, comment_type, extension_prefix, no_include, no_include_end, only_include, only_include_end, include_only}
+use Rattle.wt_tree.specs.Kinds.{spelling, tag_name, attribute_name}
+use Rattle.wt_tree.specs.Values.{extension_prefix, placeholder, no_include, no_include_end, only_include, only_include_end, include_only, switch_prefix, is_switch}
+use Rattle.std.specs.Fmt.{digits}
+use Rattle.wt_tree.specs.declared.kind.TagName.TheVariants as tag
+use Rattle.wt_fitting.specs.Rows.{link_read}
 use Rattle.wt_fitting.specs.Fit.{leaf_label, text_leaf, sep_leaf}
 use Rattle.wt_fitting.specs.Read.{page, ill, misfit, read_tree, read}
 
@@ -23,40 +27,40 @@ bare k id ts = tree (label_with k id mark.Nothing) ts
 -- an escape, a separator and a head; no paragraph has a source
 escaped : read (codes "<html>\n<head><meta/></head><body>\n<p>a &lt; b</p></body></html>")
     ≡ page (bare kind.Body 0 (one_more (sep_leaf (codes "\n")) (one_more (bare kind.Para 0 (one_more (text_leaf (codes "a < b")) no_trees)) no_trees))) (Some 5)
-unfolding read read_tree lib.Utf8.encode
+unfolding read read_tree spelling tag_name attribute_name digits placeholder switch_prefix is_switch lib.Utf8.encode
 escaped = refl
 
 -- a number, a mark, and a heading of the last level; the body has a mark of its own
 marked : read (codes "<html><body id='mw1' data-wt-edit='children'><h6 id='mw27' data-wt-edit='content'></h6></body></html>")
     ≡ page (tree (label_with kind.Body 0 mark.Children) (one_more (tree (label_with (kind.Heading 6) 27 mark.Content) no_trees) no_trees)) (Some 2)
-unfolding read read_tree
+unfolding read read_tree spelling tag_name attribute_name digits placeholder switch_prefix is_switch
 marked = refl
 
 -- no number: one with a leading zero, and one past 4,294,967,295
 no_number : read (codes "<html><body><p id='mw01'></p><p id='mw4294967296'></p></body></html>")
     ≡ page (bare kind.Body 0 (one_more (bare kind.Para 0 no_trees) (one_more (bare kind.Para 0 no_trees) no_trees))) (Some 3)
-unfolding read read_tree
+unfolding read read_tree spelling tag_name attribute_name digits placeholder switch_prefix is_switch
 no_number = refl
 
 -- a misfit of each reason
 other_root : read (codes "<html data-parsoid=''><body></body></html>") ≡ misfit 1 why.Root
-unfolding read read_tree
+unfolding read read_tree spelling tag_name attribute_name digits placeholder switch_prefix is_switch
 other_root = refl
 
 no_row : read (codes "<html><head><meta></head><body><p></p><div></div></body></html>") ≡ misfit 6 why.Element
-unfolding read read_tree
+unfolding read read_tree spelling tag_name attribute_name digits placeholder switch_prefix is_switch
 no_row = refl
 
 no_place : read (codes "<html><body><p><h1></h1></p></body></html>") ≡ misfit 4 why.Place
-unfolding read read_tree
+unfolding read read_tree spelling tag_name attribute_name digits placeholder switch_prefix is_switch
 no_place = refl
 
 bad_data : read (codes "<html><body><p about='#a'>a</p></body></html>") ≡ misfit 3 why.Data
-unfolding read read_tree
+unfolding read read_tree spelling tag_name attribute_name digits placeholder switch_prefix is_switch
 bad_data = refl
 
 text_in_body : read (codes "<html><body> a<div></div></body></html>") ≡ misfit 2 why.Text
-unfolding read read_tree
+unfolding read read_tree spelling tag_name attribute_name digits placeholder switch_prefix is_switch
 text_in_body = refl
 
 -- no HTML
@@ -67,19 +71,50 @@ cut = refl
 -- an entity by its character, nowiki round a text, a comment and an include tag
 few_rows : read (codes "<html><body><p><span typeof='mw:Entity'>&lt;</span><span typeof='mw:Nowiki'>''</span><meta typeof='mw:Comment'/></p><meta typeof='mw:Includes/NoInclude'/></body></html>")
     ≡ page (bare kind.Body 0 (one_more (bare kind.Para 0 (one_more (tree (record (label_with kind.Entity 0 mark.Nothing) { shown = codes "<" }) no_trees) (one_more (bare kind.Nowiki 0 (one_more (text_leaf (codes "''")) no_trees)) (one_more (bare kind.Comment 0 no_trees) no_trees)))) (one_more (tree (record (label_with kind.Include 0 mark.Nothing) { attrs = (attr.Typeof, codes "mw:Includes/NoInclude") ∷ [] }) no_trees) no_trees))) (Some 3)
-unfolding read read_tree lib.Utf8.encode entity_type nowiki_type comment_type extension_prefix no_include no_include_end only_include only_include_end include_only
+unfolding read read_tree spelling tag_name attribute_name digits placeholder switch_prefix is_switch lib.Utf8.encode extension_prefix no_include no_include_end only_include only_include_end include_only
 few_rows = refl
 
 -- an island of an extension needs the data of one
 without_data : read (codes "<html><body><p><span typeof='mw:Extension/ref'></span></p></body></html>") ≡ misfit 4 why.Data
-unfolding read read_tree entity_type nowiki_type extension_prefix is_extension
+unfolding read read_tree spelling tag_name attribute_name digits placeholder switch_prefix is_switch extension_prefix is_extension
 without_data = refl
 
 -- an extension that is none of the known, and nowiki in nowiki
 no_extension : read (codes "<html><body><p><span typeof='mw:Extension/other'></span></p></body></html>") ≡ misfit 4 why.Element
-unfolding read read_tree entity_type nowiki_type extension_prefix is_extension
+unfolding read read_tree spelling tag_name attribute_name digits placeholder switch_prefix is_switch extension_prefix is_extension
 no_extension = refl
 
 no_nowiki : read (codes "<html><body><p><span typeof='mw:Nowiki'><span typeof='mw:Nowiki'></span></span></p></body></html>") ≡ misfit 5 why.Place
-unfolding read read_tree entity_type nowiki_type
+unfolding read read_tree spelling tag_name attribute_name digits placeholder switch_prefix is_switch
 no_nowiki = refl
+
+-- links by `rel`; the link of a page is read as the link to its title, another as it stands
+links : read (codes "<html><body><p><a rel='mw:WikiLink' href='./a b'>x</a><a rel='mw:ExtLink' href='./a b'></a></p></body></html>")
+    ≡ page (bare kind.Body 0 (one_more (bare kind.Para 0 (one_more (tree (record (label_with kind.WikiLink 0 mark.Nothing) { attrs = (attr.Href, link_read (codes "./a b")) ∷ [] }) (one_more (text_leaf (codes "x")) no_trees)) (one_more (tree (record (label_with kind.ExtLink 0 mark.Nothing) { attrs = (attr.Href, codes "./a b") ∷ [] }) no_trees) no_trees))) no_trees)) (Some 3)
+unfolding read read_tree spelling tag_name attribute_name digits placeholder switch_prefix is_switch
+links = refl
+
+-- a link with a `typeof` is no row; nor is one without `rel`
+typed_link : read (codes "<html><body><p><a rel='mw:WikiLink' typeof='x'></a></p></body></html>") ≡ misfit 4 why.Element
+unfolding read read_tree spelling tag_name attribute_name digits placeholder switch_prefix is_switch
+typed_link = refl
+
+bare_link : read (codes "<html><body><p><a href='./A'></a></p></body></html>") ≡ misfit 4 why.Element
+unfolding read read_tree spelling tag_name attribute_name digits placeholder switch_prefix is_switch
+bare_link = refl
+
+-- a `span` without `typeof` is a tag, with the attributes of one in their order
+span_tag : read (codes "<html><body><p><span dir='rtl' id='x' class='c'><br/></span></p></body></html>")
+    ≡ page (bare kind.Body 0 (one_more (bare kind.Para 0 (one_more (tree (record (label_with (kind.Tag tag.Span) 0 mark.Nothing) { attrs = (attr.Class, codes "c") ∷ (attr.Dir, codes "rtl") ∷ [] }) (one_more (bare kind.Br 0 no_trees) no_trees)) no_trees)) no_trees)) (Some 3)
+unfolding read read_tree spelling tag_name attribute_name digits placeholder switch_prefix is_switch
+span_tag = refl
+
+-- a switch by its name, and an island without data
+switch_and_island : read (codes "<html><body><p><meta property='mw:PageProp/toc'/><span typeof='mw:Placeholder'></span></p></body></html>")
+    ≡ page (bare kind.Body 0 (one_more (bare kind.Para 0 (one_more (tree (record (label_with kind.Switch 0 mark.Nothing) { attrs = (attr.Property, codes "mw:PageProp/toc") ∷ [] }) no_trees) (one_more (tree (record (label_with kind.Island 0 mark.Nothing) { attrs = (attr.Typeof, codes "mw:Placeholder") ∷ [] }) no_trees) no_trees))) no_trees)) (Some 3)
+unfolding read read_tree spelling tag_name attribute_name digits placeholder switch_prefix is_switch extension_prefix
+switch_and_island = refl
+
+other_switch : read (codes "<html><body><meta property='mw:PageProp/other'/></body></html>") ≡ misfit 3 why.Element
+unfolding read read_tree spelling tag_name attribute_name digits placeholder switch_prefix is_switch
+other_switch = refl

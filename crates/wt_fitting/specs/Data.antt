@@ -1,10 +1,13 @@
 -- What an element's `data-parsoid` and `data-mw` say, or that they are bad.
 use Rattle.std.specs.Prelude.{ℕ, ◌&&◌, Bool, true, false, not, is_some, Option, Some, None, Result, Ok, Err, List, [], ◌∷◌, codes, if◌then◌else◌}
 use Rattle.wt_tree.specs.declared.kind.Kind.{Kind}
-use Rattle.wt_tree.specs.declared.kind.Kind.TheVariants as kind
+use Rattle.wt_tree.specs.declared.kind.AttrName.TheVariants as attr
+use Rattle.wt_tree.specs.declared.row.Payload.{Payload}
+use Rattle.wt_tree.specs.declared.row.Payload.TheVariants.{NoData, ExtensionTag, GroupParts}
 use Rattle.wt_tree.specs.declared.node.DataMw.{DataMw}
 use Rattle.wt_tree.specs.declared.node.DataMw.TheVariants as mw
-use Rattle.wt_tree.specs.Kinds.{is_leaf, is_numbered}
+use Rattle.wt_tree.specs.Kinds.{is_leaf, is_numbered, payload, attribute_name}
+use Rattle.wt_tree.specs.Values.{is_extension_type}
 use Rattle.wt_datamw.specs.declared.sync.Sync.{Sync}
 use Rattle.wt_datamw.specs.declared.refusal.DataWhy.{DataWhy}
 use Rattle.wt_datamw.specs.SyncRead.{sync_told}
@@ -34,21 +37,27 @@ sync_fits k None = Some None
 sync_fits k (Some v) = some_sync (sync_for k (sync_told v))
 
 -- an island of an extension has the data of one; elsewhere what `data-mw` says counts for nothing
-abbrev pub is_island : Kind → Bool
-is_island kind.Island = true
-is_island k = false
+abbrev pub is_tag_of : Payload → Option (List ℕ) → Bool
+is_tag_of NoData t = false
+is_tag_of ExtensionTag None = false
+is_tag_of ExtensionTag (Some t) = is_extension_type t
+is_tag_of GroupParts t = false
+
+-- by its `typeof`
+abbrev pub is_extension_of : Kind → Option (List ℕ) → Bool
+is_extension_of k t = is_tag_of (payload k) t
 
 abbrev pub extension_data : DataMw → Option (Option DataMw)
 extension_data (mw.Extension name body) = Some (Some (mw.Extension name body))
 extension_data (mw.Parts parts) = None
 
-abbrev pub mw_for : Kind → Result DataMw DataWhy → Option (Option DataMw)
-mw_for k (Err w) = None
-mw_for k (Ok d) = if is_island k then extension_data d else Some None
+abbrev pub mw_for : Bool → Result DataMw DataWhy → Option (Option DataMw)
+mw_for x (Err w) = None
+mw_for x (Ok d) = if x then extension_data d else Some None
 
-abbrev pub mw_fits : Kind → Option (List ℕ) → Option (Option DataMw)
-mw_fits k None = if is_island k then None else Some None
-mw_fits k (Some v) = mw_for k (mw_told v)
+abbrev pub mw_fits : Bool → Option (List ℕ) → Option (Option DataMw)
+mw_fits x None = if x then None else Some None
+mw_fits x (Some v) = mw_for x (mw_told v)
 
 -- both of a node
 pub record Data : Type 0 where
@@ -63,7 +72,7 @@ both s d = None
 abbrev pub data_of : Kind → List Pair → Option Data
 data_of k ps =
     if has (codes "about") ps then None
-    else both (sync_fits k (value_of (codes "data-parsoid") ps)) (mw_fits k (value_of (codes "data-mw") ps))
+    else both (sync_fits k (value_of (codes "data-parsoid") ps)) (mw_fits (is_extension_of k (value_of (attribute_name attr.Typeof) ps)) (value_of (codes "data-mw") ps))
 
 -- the number, of kinds that have one
 abbrev pub id_for : Kind → List Pair → ℕ

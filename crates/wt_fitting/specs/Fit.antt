@@ -11,7 +11,8 @@ use Rattle.wt_html_grammar.specs.Markup.{Pair, Markup, Markups, text, node, empt
 use Rattle.wt_fitting.specs.declared.why.FitWhy.{FitWhy}
 use Rattle.wt_fitting.specs.declared.why.FitWhy.TheVariants as why
 use Rattle.wt_fitting.specs.Attributes.{has, is_typed, id_of, mark_of}
-use Rattle.wt_fitting.specs.Rows.{row, may_hold, holds_text, shows_text, attrs_for}
+use Rattle.wt_tree.specs.Kinds.{may_hold}
+use Rattle.wt_fitting.specs.Rows.{row, holds_text, shows_text, attrs_for}
 use Rattle.wt_fitting.specs.Data.{Data, data_of, id_for}
 
 -- ---- labels

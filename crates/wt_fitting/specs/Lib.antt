@@ -4,3 +4,4 @@ pub mod Data
 pub mod Fit
 pub mod Unsourced
 pub mod Read
+pub mod Misfits

@@ -1,140 +1,122 @@
--- Tables over the kinds of nodes that are read so far, a row for each: the element that each is, what
--- it may hold, and what it takes from its attributes and texts. The elements that are built are
--- paragraphs, headings, entities, nowiki, islands of extensions, comments and include tags.
-use Rattle.std.specs.Prelude.{ℕ, ◌-◌, ◌==◌, ◌&&◌, ◌||◌, nat_le, Bool, true, false, Option, Some, None, List, [], ◌∷◌, length, drop, codes, if◌then◌else◌}
-use Rattle.std.specs.List.{list_any}
+-- Which kind an element is, by the table of kinds: its name and its `typeof`, `property` and `rel`
+-- are those of a row. What it may hold and what it keeps of its attributes and texts, by its row.
+use Rattle.std.specs.Prelude.{ℕ, ◌==◌, ◌&&◌, Bool, true, false, not, find, Option, Some, None, List, [], ◌∷◌, length, drop, if◌then◌else◌}
+use Rattle.std.specs.List.{flat_map}
 use Rattle.std.specs.Str.{bytes_eq}
 use Rattle.wt_span.specs.Bytes.{begins}
-use Rattle.wt_span.specs.Tags.{is_extension}
+use Rattle.wt_names.specs.declared.title.Title.{Title}
+use Rattle.wt_names.specs.Written.{link_to, read_link}
 use Rattle.wt_tree.specs.declared.kind.AttrName.{AttrName}
 use Rattle.wt_tree.specs.declared.kind.AttrName.TheVariants as attr
 use Rattle.wt_tree.specs.declared.kind.Kind.{Kind}
 use Rattle.wt_tree.specs.declared.kind.Kind.TheVariants as kind
+use Rattle.wt_tree.specs.declared.kind.TagName.TheVariants as tag
+use Rattle.wt_tree.specs.declared.row.Own.{Own}
+use Rattle.wt_tree.specs.declared.row.Texts.{Texts}
+use Rattle.wt_tree.specs.declared.row.Texts.TheVariants.{Separators, Page, Bordered, OwnCharacter}
+use Rattle.wt_tree.specs.declared.row.Values.{Values}
+use Rattle.wt_tree.specs.declared.row.Values.TheVariants.{IslandType, IncludeType, SwitchName, Any, Link}
+use Rattle.wt_tree.specs.Kinds.{spelling, level_digits, attribute_name, order, texts_of_kind}
+use Rattle.wt_tree.specs.Values.{passes, is_needed}
 use Rattle.wt_html_grammar.specs.Markup.{Pair}
-use Rattle.wt_fitting.specs.Attributes.{value_of, has}
+use Rattle.wt_fitting.specs.Attributes.{value_of}
 
 -- ---- which element is which kind
 
--- a paragraph, or a heading of one of the six levels
-abbrev pub kind_named : List ℕ → Option Kind
-kind_named (p ∷ []) = if p == 112 then Some kind.Para else None
-kind_named (h ∷ d ∷ []) = if h == 104 && (nat_le 49 d && nat_le d 54) then Some (kind.Heading (d - 48)) else None
-kind_named bs = None
+-- the kinds whose elements are read: all but items, cells and captions, and what holds these
+abbrev pub read_kinds : List Kind
+read_kinds =
+    kind.Para ∷ kind.WikiLink ∷ kind.ExtLink ∷ kind.Bold ∷ kind.Italic
+    ∷ kind.Entity ∷ kind.Nowiki ∷ kind.Island ∷ kind.Tag tag.Span
+    ∷ kind.Comment ∷ kind.Include ∷ kind.Switch ∷ kind.Skip ∷ kind.Category ∷ kind.Br
+    ∷ kind.Tag tag.Sup ∷ kind.Tag tag.Sub ∷ kind.Tag tag.Small ∷ kind.Tag tag.S ∷ kind.Tag tag.U ∷ kind.Tag tag.Code
+    ∷ kind.Heading 1 ∷ kind.Heading 2 ∷ kind.Heading 3 ∷ kind.Heading 4 ∷ kind.Heading 5 ∷ kind.Heading 6
+    ∷ kind.Rule ∷ kind.Pre ∷ []
 
-unfoldable pub entity_type : List ℕ
-entity_type = codes "mw:Entity"
+-- what a row says of an attribute of this name that the node has of its own
+abbrev pub values_at : ℕ → List Own → Option Values
+values_at n [] = None
+values_at n (o ∷ os) = if order o.name == n then Some o.values else values_at n os
 
-unfoldable pub nowiki_type : List ℕ
-nowiki_type = codes "mw:Nowiki"
+-- an attribute that the row has not may not be there, and one that tells the kind must be
+abbrev pub agrees : Option Values → Option (List ℕ) → Bool
+agrees None None = true
+agrees None (Some t) = false
+agrees (Some v) None = not (is_needed v)
+agrees (Some v) (Some t) = passes v t
 
-unfoldable pub comment_type : List ℕ
-comment_type = codes "mw:Comment"
+abbrev pub is_value : List ℕ → Option (List ℕ) → Bool
+is_value w None = false
+is_value w (Some v) = bytes_eq v w
 
-unfoldable pub extension_prefix : List ℕ
-extension_prefix = codes "mw:Extension/"
+abbrev pub agrees_by : ℕ → Option (AttrName × List ℕ) → List Own → Option (List ℕ) → Bool
+agrees_by n None os v = agrees (values_at n os) v
+agrees_by n (Some f) os v = if order f.0 == n then is_value f.1 v else agrees (values_at n os) v
 
-unfoldable pub no_include : List ℕ
-no_include = codes "mw:Includes/NoInclude"
+-- the name, and behind it the digits of the level, where there is one
+abbrev pub is_named : List ℕ → Kind → Bool
+is_named name k = begins (spelling k).name name && bytes_eq (drop (length (spelling k).name) name) (level_digits (spelling k).level)
 
-unfoldable pub no_include_end : List ℕ
-no_include_end = codes "mw:Includes/NoInclude/End"
+-- the row of this kind agrees with what the element has under this name
+abbrev pub tells : AttrName → Option (List ℕ) → Kind → Bool
+tells n v k = agrees_by (order n) (spelling k).fixed (spelling k).own v
 
-unfoldable pub only_include : List ℕ
-only_include = codes "mw:Includes/OnlyInclude"
+abbrev pub is_row : List ℕ → Option (List ℕ) → Option (List ℕ) → Option (List ℕ) → Kind → Bool
+is_row name type property rel k = is_named name k && (tells attr.Typeof type k && (tells attr.Property property k && tells attr.Rel rel k))
 
-unfoldable pub only_include_end : List ℕ
-only_include_end = codes "mw:Includes/OnlyInclude/End"
+abbrev pub row_by : List ℕ → Option (List ℕ) → Option (List ℕ) → Option (List ℕ) → Option Kind
+row_by name type property rel = find (is_row name type property rel) read_kinds
 
-unfoldable pub include_only : List ℕ
-include_only = codes "mw:Includes/IncludeOnly"
-
--- `mw:Extension/` and the name of an extension
-abbrev pub is_extension_type : List ℕ → Bool
-is_extension_type t = begins extension_prefix t && is_extension (drop (length extension_prefix) t)
-
-abbrev pub is_include_type : List ℕ → Bool
-is_include_type t = list_any (bytes_eq t) (no_include ∷ no_include_end ∷ only_include ∷ only_include_end ∷ include_only ∷ [])
-
--- a `span`, by its `typeof`
-abbrev pub span_row : Option (List ℕ) → Option Kind
-span_row None = None
-span_row (Some t) =
-    if bytes_eq t entity_type then Some kind.Entity
-    else if bytes_eq t nowiki_type then Some kind.Nowiki
-    else if is_extension_type t then Some kind.Island else None
-
--- a `meta`, by its `typeof`
-abbrev pub meta_row : Option (List ℕ) → Option Kind
-meta_row None = None
-meta_row (Some t) = if bytes_eq t comment_type then Some kind.Comment else if is_include_type t then Some kind.Include else None
-
--- another element: one with a `typeof` is no row
-abbrev pub named_row : List ℕ → Option (List ℕ) → Option Kind
-named_row name None = kind_named name
-named_row name (Some t) = None
-
-abbrev pub row_by : List ℕ → Option (List ℕ) → Option Kind
-row_by name t = if bytes_eq name (codes "span") then span_row t else if bytes_eq name (codes "meta") then meta_row t else named_row name t
-
--- None where the element is no row; one with a `rel` or `property`, which no row here has, is none
+-- None where the element is no row
 abbrev pub row : List ℕ → List Pair → Option Kind
-row name ps = if has (codes "rel") ps || has (codes "property") ps then None else row_by name (value_of (codes "typeof") ps)
-
--- ---- what may stand in which
-
-abbrev pub is_block : Kind → Bool
-is_block kind.Para = true
-is_block (kind.Heading n) = true
-is_block k = false
-
-abbrev pub is_inline : Kind → Bool
-is_inline kind.Entity = true
-is_inline kind.Nowiki = true
-is_inline kind.Island = true
-is_inline k = false
-
--- these may stand anywhere below the body
-abbrev pub is_anywhere : Kind → Bool
-is_anywhere kind.Comment = true
-is_anywhere kind.Include = true
-is_anywhere k = false
-
-abbrev pub is_entity : Kind → Bool
-is_entity kind.Entity = true
-is_entity k = false
-
--- what an element holds of those that may not stand anywhere
-abbrev pub holds : Kind → Kind → Bool
-holds kind.Body k = is_block k
-holds kind.Para k = is_inline k
-holds (kind.Heading n) k = is_inline k
-holds kind.Nowiki k = is_entity k
-holds parent k = false
-
--- an element of this kind may stand directly in that one
-abbrev pub may_hold : Kind → Kind → Bool
-may_hold parent k = holds parent k || is_anywhere k
+row name ps = row_by name (value_of (attribute_name attr.Typeof) ps) (value_of (attribute_name attr.Property) ps) (value_of (attribute_name attr.Rel) ps)
 
 -- ---- texts
 
--- directly in the body all text is separators; elsewhere it is text
+-- directly in the body all text is separators
+abbrev pub holds_page_text : Texts → Bool
+holds_page_text Separators = false
+holds_page_text Page = true
+holds_page_text Bordered = true
+holds_page_text OwnCharacter = true
+
 abbrev pub holds_text : Kind → Bool
-holds_text kind.Body = false
-holds_text k = true
+holds_text k = holds_page_text (texts_of_kind k)
 
 -- the texts in an entity are its character, and no texts of the page
+abbrev pub shows_own_character : Texts → Bool
+shows_own_character Separators = false
+shows_own_character Page = false
+shows_own_character Bordered = false
+shows_own_character OwnCharacter = true
+
 abbrev pub shows_text : Kind → Bool
-shows_text kind.Entity = true
-shows_text k = false
+shows_text k = shows_own_character (texts_of_kind k)
 
 -- ---- attributes of the node's own
 
-abbrev pub with_type : Option (List ℕ) → List (AttrName × List ℕ)
-with_type None = []
-with_type (Some t) = (attr.Typeof, t) ∷ []
+-- a link that leads to a title is read as the link to that title
+abbrev pub link_by : List ℕ → Option Title → List ℕ
+link_by href None = href
+link_by href (Some t) = link_to t
 
--- an island tells its extension by `typeof`, and an include tag which it is
+abbrev pub link_read : List ℕ → List ℕ
+link_read href = link_by href (read_link href)
+
+abbrev pub read_as : Values → List ℕ → List ℕ
+read_as IslandType v = v
+read_as IncludeType v = v
+read_as SwitchName v = v
+read_as Any v = v
+read_as Link v = link_read v
+
+abbrev pub own_told : Own → Option (List ℕ) → List (AttrName × List ℕ)
+own_told o None = []
+own_told o (Some v) = (o.name, read_as o.values v) ∷ []
+
+abbrev pub own_of : List Own → List Pair → List (AttrName × List ℕ)
+own_of os ps = flat_map (λ (o : Own). own_told o (value_of (attribute_name o.name) ps)) os
+
+-- those that the row has and that are there, in the order of the row
 abbrev pub attrs_for : Kind → List Pair → List (AttrName × List ℕ)
-attrs_for kind.Island ps = with_type (value_of (codes "typeof") ps)
-attrs_for kind.Include ps = with_type (value_of (codes "typeof") ps)
-attrs_for k ps = []
+attrs_for k ps = own_of (spelling k).own ps

@@ -1,4 +1,11 @@
-ghost use Rattle.std.specs.Prelude.{◌≡◌, ℕ, List};
+ghost use Rattle.std.specs.Prelude.{◌≡◌, ℕ, List, Some, None, Ok, Err};
+ghost use Rattle.std.specs.List.{AllByRecursion};
+ghost use Rattle.wt_tree.specs.Tree.{Tree};
+ghost use Rattle.wt_html_grammar.specs.Markup.{Markup};
+ghost use Rattle.wt_fitting.specs.declared.why.FitWhy.{FitWhy};
+ghost use Rattle.wt_fitting.specs.declared.why.FitWhy.TheVariants as why;
+ghost use Rattle.wt_fitting.specs.Fit.{Found, body_of, fit};
+ghost use Rattle.wt_fitting.specs.Misfits.{places_of_body, FitsAlone, FirstMisfit};
 ghost use Rattle.wt_fitting.specs.Read.{Read, read, IsRead};
 
 /// What is read by the machine is what the grammar says: an input is the page of the tree of elements
@@ -7,4 +14,15 @@ ghost use Rattle.wt_fitting.specs.Read.{Read, read, IsRead};
 pub fn one_reading()
     ensures is_read { (bytes : List ℕ) → IsRead bytes (read bytes) }
     ensures only { (bytes : List ℕ) (r : Read) → IsRead bytes r → read bytes ≡ r }
+{}
+
+/// The misfit that is told is the first: with all elements in a list, in document order, each with
+/// its number and its parent's kind, every one before it fits by itself, and its reason is the first
+/// that holds of it. Where none is told, all fit. A document without a body of its own is told as
+/// such.
+pub fn first_misfit()
+    ensures told { (m : Markup) (f : Found) (n : ℕ) (w : FitWhy) → body_of m ≡ Some f → fit m ≡ Err (n, w) → FirstMisfit (places_of_body f) n w }
+    ensures only { (m : Markup) (f : Found) (n : ℕ) (w : FitWhy) → body_of m ≡ Some f → FirstMisfit (places_of_body f) n w → fit m ≡ Err (n, w) }
+    ensures all { (m : Markup) (f : Found) (t : Tree) → body_of m ≡ Some f → fit m ≡ Ok t → AllByRecursion FitsAlone (places_of_body f) }
+    ensures root { (m : Markup) → body_of m ≡ None → fit m ≡ Err (1, why.Root) }
 {}

@@ -7,7 +7,7 @@ use Rattle.wt_datamw.specs.declared.sync.Sync.{Sync}
 use Rattle.wt_html_grammar.specs.Markup.{Pair, Markups}
 use Rattle.wt_html_grammar.proofs.Steps.{if_true}
 use Rattle.wt_fitting.specs.declared.why.FitWhy.TheVariants as why
-use Rattle.wt_fitting.specs.Rows.{may_hold}
+use Rattle.wt_tree.specs.Kinds.{may_hold}
 use Rattle.wt_fitting.specs.Data.{Data, data_of}
 use Rattle.wt_fitting.specs.Fit.{Misfit, texts_in, with_sync, label_for, with_children, one_tree, text_fits, fit_told, fit_as, fit_row}
 use Rattle.wt_html_in.specs.declared.refusal.FitFault.{FitFault}

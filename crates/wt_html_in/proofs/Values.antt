@@ -8,7 +8,9 @@ use Rattle.wt_datamw.specs.declared.sync.Sync.{Sync}
 use Rattle.wt_html_grammar.specs.Markup.{Pair}
 use Rattle.wt_html_grammar.proofs.Steps.{if_false}
 use Rattle.wt_fitting.specs.Attributes.{value_of, has}
-use Rattle.wt_fitting.specs.Data.{mw_fits, sync_fits, both, data_of}
+use Rattle.wt_fitting.specs.Data.{is_extension_of, mw_fits, sync_fits, both, data_of}
+use Rattle.wt_tree.specs.declared.kind.AttrName.TheVariants as attr
+use Rattle.wt_tree.specs.Kinds.{attribute_name}
 use Rattle.wt_html_in.specs.Texts.{are_utf8_values}
 
 pub and_left : (a b : Bool) → (a && b) ≡ true → a ≡ true
@@ -32,10 +34,10 @@ value_utf8 name (p ∷ ps) v h e =
     (λ u f. value_utf8 name ps u (and_right (is_utf8 p.1) (are_utf8_values ps) h) f) e
 
 -- the data of an element that stands in no group
-pub data_told : (k : Kind) (ps : List Pair) (a : Bool) (s : Option (Option Sync)) (m : Option (Option DataMw)) (v w : Option (List ℕ))
-    → a ≡ has (codes "about") ps → a ≡ false → s ≡ sync_fits k v → v ≡ value_of (codes "data-parsoid") ps → m ≡ mw_fits k w → w ≡ value_of (codes "data-mw") ps
+pub data_told : (k : Kind) (ps : List Pair) (a x : Bool) (s : Option (Option Sync)) (m : Option (Option DataMw)) (v w : Option (List ℕ))
+    → a ≡ has (codes "about") ps → a ≡ false → s ≡ sync_fits k v → v ≡ value_of (codes "data-parsoid") ps → x ≡ is_extension_of k (value_of (attribute_name attr.Typeof) ps) → m ≡ mw_fits x w → w ≡ value_of (codes "data-mw") ps
     → both s m ≡ data_of k ps
-data_told k ps a s m v w ha fa hs hv hm hw =
+data_told k ps a x s m v w ha fa hs hv hx hm hw =
     ap (λ x. both x m) (hs ∙ ap (sync_fits k) hv)
-    ∙ ap (both (sync_fits k (value_of (codes "data-parsoid") ps))) (hm ∙ ap (mw_fits k) hw)
-    ∙ sym (if_false (has (codes "about") ps) None (both (sync_fits k (value_of (codes "data-parsoid") ps)) (mw_fits k (value_of (codes "data-mw") ps))) (sym ha ∙ fa))
+    ∙ ap (both (sync_fits k (value_of (codes "data-parsoid") ps))) (hm ∙ ap (mw_fits x) hw ∙ ap (λ y. mw_fits y (value_of (codes "data-mw") ps)) hx)
+    ∙ sym (if_false (has (codes "about") ps) None (both (sync_fits k (value_of (codes "data-parsoid") ps)) (mw_fits (is_extension_of k (value_of (attribute_name attr.Typeof) ps)) (value_of (codes "data-mw") ps))) (sym ha ∙ fa))

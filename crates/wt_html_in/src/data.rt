@@ -2,17 +2,18 @@ ghost use Rattle.std.specs.Prelude.{◌≡◌, true, None, option_map, IfOk, IfE
 ghost use Rattle.wt_datamw.specs.MwRead.{mw_told};
 ghost use Rattle.wt_datamw.specs.SyncRead.{sync_told};
 ghost use Rattle.wt_html_elements.specs.Built.{pairs};
-ghost use Rattle.wt_fitting.specs.Data.{is_empty, is_for, sync_for, some_sync, sync_fits, is_island, extension_data, mw_for, mw_fits, both, data_of};
+ghost use Rattle.wt_fitting.specs.Data.{is_empty, is_for, sync_for, some_sync, sync_fits, is_extension_of, extension_data, mw_for, mw_fits, both, data_of};
 ghost use Rattle.wt_html_in.specs.Texts.{are_utf8_values};
 ghost use Rattle.wt_html_in.specs.Told.{sync_said, mw_said, data_said};
 
-use crate::attributes::{has, text_value};
+use crate::attributes::{has, text_value, value_of};
 use crate::refusal::FitFault;
+use crate::typed::is_extension_type;
 use std::alloc::Global;
 use wt_datamw::{DataRefusal, Sync, read, read_sync};
 use wt_html_elements::Attribute;
 use wt_span::Str;
-use wt_tree::{DataMw, Kind};
+use wt_tree::{AttrName, DataMw, Kind, Payload};
 
 /// What `data-parsoid` says of a node: it is bad, or good, and says nothing where it isn't there.
 #[derive(Drop)]
@@ -85,11 +86,18 @@ fn sync_fits(alloc: Global, kind: Kind, value: Option<&str>) -> Result<SyncData,
     }
 }
 
-/// Whether nodes of this kind keep what `data-mw` says.
-fn is_island(kind: Kind) -> bool
-    ensures { result ≡ is_island kind }
+/// Whether an element of this kind with this `typeof` is an extension's.
+fn is_extension_of(kind: Kind, type_name: Option<&[u8]>) -> bool
+    ensures { result ≡ is_extension_of kind (option_map (λ v. v.now) type_name.entry) }
 {
-    matches!(kind, Kind::Island)
+    match kind.shape().payload {
+        Payload::NoData => false,
+        Payload::ExtensionTag => match type_name {
+            None => false,
+            Some(type_name) => is_extension_type(type_name),
+        },
+        Payload::GroupParts => false,
+    }
 }
 
 /// The data of an island: those of an extension are good.
@@ -102,13 +110,13 @@ fn extension_data(data_mw: DataMw) -> MwData
     }
 }
 
-fn mw_for(alloc: Global, kind: Kind, text: &str) -> Result<MwData, FitFault>
-    ensures mw { IfOk result (λ d. mw_said d ≡ mw_for kind (mw_told text.now)) }
+fn mw_for(alloc: Global, is_tag: bool, text: &str) -> Result<MwData, FitFault>
+    ensures mw { IfOk result (λ d. mw_said d ≡ mw_for is_tag (mw_told text.now)) }
     ensures memory { IfErr result (λ e. e ≡ FitFault.NoMemory) }
 {
     match read(alloc, text) {
         Ok(data_mw) => {
-            if is_island(kind) {
+            if is_tag {
                 Ok(extension_data(data_mw))
             } else {
                 Ok(MwData::Good(None))
@@ -120,23 +128,23 @@ fn mw_for(alloc: Global, kind: Kind, text: &str) -> Result<MwData, FitFault>
 }
 
 /// What is said where `data-mw` isn't there.
-fn no_mw(kind: Kind) -> MwData
-    ensures { mw_said result ≡ mw_fits kind None }
+fn no_mw(is_tag: bool) -> MwData
+    ensures { mw_said result ≡ mw_fits is_tag None }
 {
-    if is_island(kind) {
+    if is_tag {
         MwData::Bad
     } else {
         MwData::Good(None)
     }
 }
 
-fn mw_fits(alloc: Global, kind: Kind, value: Option<&str>) -> Result<MwData, FitFault>
-    ensures fits { IfOk result (λ d. mw_said d ≡ mw_fits kind (option_map (λ v. v.now) value.entry)) }
+fn mw_fits(alloc: Global, is_tag: bool, value: Option<&str>) -> Result<MwData, FitFault>
+    ensures fits { IfOk result (λ d. mw_said d ≡ mw_fits is_tag (option_map (λ v. v.now) value.entry)) }
     ensures memory { IfErr result (λ e. e ≡ FitFault.NoMemory) }
 {
     match value {
-        None => Ok(no_mw(kind)),
-        Some(text) => mw_for(alloc, kind, text),
+        None => Ok(no_mw(is_tag)),
+        Some(text) => mw_for(alloc, is_tag, text),
     }
 }
 
@@ -164,6 +172,7 @@ pub fn data_of(alloc: Global, kind: Kind, attributes: &[Attribute]) -> Result<Da
         kind,
         text_value(b"data-parsoid".as_slice(), attributes),
     )?;
-    let mw_data = mw_fits(alloc, kind, text_value(b"data-mw".as_slice(), attributes))?;
+    let is_tag = is_extension_of(kind, value_of(AttrName::Typeof.text(), attributes));
+    let mw_data = mw_fits(alloc, is_tag, text_value(b"data-mw".as_slice(), attributes))?;
     Ok(both(sync_data, mw_data))
 }

@@ -14,7 +14,7 @@ pub struct Edited<'a> {
 impl<'a> Edited<'a> {
     #[tactic(auto, unfolding(crate::specs::Answers::body_of, crate::specs::Answers::unsourced_of))]
     /// The page of this tree, with the number of its first element that has no source.
-    pub fn of(body: Node<'a>, unsourced: Option<u32>) -> Edited<'a>
+    pub(crate) fn of(body: Node<'a>, unsourced: Option<u32>) -> Edited<'a>
         ensures body { body_of result ≡ view body.entry }
         ensures unsourced { unsourced_of result ≡ unsourced }
     {

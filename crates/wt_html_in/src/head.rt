@@ -11,7 +11,7 @@ use crate::carried::{attrs_for, shown_in};
 use crate::data::{Data, data_of};
 use crate::number::id_for;
 use crate::refusal::FitFault;
-use crate::row::{may_hold, row, text_fits};
+use crate::row::{row, text_fits};
 use std::alloc::Global;
 use wt_datamw::Sync;
 use wt_fitting::FitWhy;
@@ -107,7 +107,7 @@ pub fn head_in(
             why: FitWhy::Element,
         }),
         Some(kind) => {
-            if may_hold(outer, kind) {
+            if outer.may_hold(kind) {
                 head_as(alloc, number, kind, attributes, contents)
             } else {
                 Err(FitFault::Unfit {

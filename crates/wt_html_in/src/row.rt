@@ -1,134 +1,184 @@
-ghost use Rattle.std.specs.Prelude.{◌≡◌, ◌||◌, codes, option_map};
+ghost use Rattle.std.specs.Prelude.{◌≡◌, option_map};
+ghost use Rattle.std.specs.Str.{bytes_eq};
 ghost use Rattle.wt_html_elements.specs.Built.{pairs, view_content, views};
-ghost use Rattle.wt_fitting.specs.Attributes.{has};
-ghost use Rattle.wt_fitting.specs.Rows.{kind_named, named_row, row_by, row, is_block, is_inline, is_anywhere, is_entity, holds, may_hold, holds_text, shows_text};
+ghost use Rattle.wt_tree.specs.Kinds.{fixed_of, level_digits};
+ghost use Rattle.wt_fitting.specs.Rows.{values_at, agrees, is_value, agrees_by, tells, is_named, is_row, row_by, row, holds_text, shows_text};
 ghost use Rattle.wt_fitting.specs.Fit.{is_blank, are_blank, text_fits};
 ghost use Rattle.wt_html_in.specs.Told.{is_blank_or_element};
 
-use crate::attributes::{has, value_of};
-use crate::typed::{meta_row, span_row};
+use crate::attributes::value_of;
+use crate::typed::{is_needed, is_word, passes};
 use wt_html_elements::{Attribute, Content};
-use wt_tree::Kind;
+use wt_span::rest_of;
+use wt_tree::{AttrName, Fixed, Kind, Own, TagName, Texts, Values};
 
-fn kind_named(name: &[u8]) -> Option<Kind>
-    ensures { result ≡ kind_named name.now }
+/// The kinds whose elements are read.
+const READ_KINDS: [Kind; 29] = [
+    Kind::Para,
+    Kind::WikiLink,
+    Kind::ExtLink,
+    Kind::Bold,
+    Kind::Italic,
+    Kind::Entity,
+    Kind::Nowiki,
+    Kind::Island,
+    Kind::Tag(TagName::Span),
+    Kind::Comment,
+    Kind::Include,
+    Kind::Switch,
+    Kind::Skip,
+    Kind::Category,
+    Kind::Br,
+    Kind::Tag(TagName::Sup),
+    Kind::Tag(TagName::Sub),
+    Kind::Tag(TagName::Small),
+    Kind::Tag(TagName::S),
+    Kind::Tag(TagName::U),
+    Kind::Tag(TagName::Code),
+    Kind::Heading(1),
+    Kind::Heading(2),
+    Kind::Heading(3),
+    Kind::Heading(4),
+    Kind::Heading(5),
+    Kind::Heading(6),
+    Kind::Rule,
+    Kind::Pre,
+];
+
+/// What a row says of the attribute at this place of the order, where a node may have it.
+fn values_at(order: u8, own: &[Own]) -> Option<Values>
+    ensures { result ≡ values_at order own.now }
 {
-    match name {
-        [letter] => {
-            if *letter == 112 {
-                Some(Kind::Para)
+    for one in own {
+        if one.name.order() == order {
+            return Some(one.values);
+        }
+    }
+    None
+}
+
+/// Whether what a row says of an attribute holds of its value: one that the row has not may not be
+/// there, and one that tells the kind must be.
+fn agrees(values: Option<Values>, value: Option<&[u8]>) -> bool
+    ensures { result ≡ agrees values (option_map (λ v. v.now) value.entry) }
+{
+    match values {
+        None => match value {
+            None => true,
+            Some(_) => false,
+        },
+        Some(values) => match value {
+            None => !is_needed(values),
+            Some(value) => passes(values, value),
+        },
+    }
+}
+
+fn is_value(word: &[u8], value: Option<&[u8]>) -> bool
+    ensures { result ≡ is_value word.now (option_map (λ v. v.now) value.entry) }
+{
+    match value {
+        None => false,
+        Some(value) => is_word(value, word),
+    }
+}
+
+fn agrees_by(order: u8, fixed: Option<Fixed>, own: &[Own], value: Option<&[u8]>) -> bool
+    ensures { result ≡ agrees_by order (fixed_of fixed) own.now (option_map (λ v. v.now) value.entry) }
+{
+    match fixed {
+        None => agrees(values_at(order, own), value),
+        Some(fixed) => {
+            if fixed.name.order() == order {
+                is_value(fixed.value, value)
             } else {
-                None
+                agrees(values_at(order, own), value)
             }
         }
-        [letter, digit] => {
-            if *letter == 104 && (49 <= *digit && *digit <= 54) {
-                Some(Kind::Heading(*digit - 48))
-            } else {
-                None
-            }
+    }
+}
+
+/// Whether the row of this kind agrees with what the element has under this name.
+fn tells(name: AttrName, value: Option<&[u8]>, kind: Kind) -> bool
+    ensures { result ≡ tells name (option_map (λ v. v.now) value.entry) kind }
+{
+    agrees_by(name.order(), kind.fixed(), kind.own(), value)
+}
+
+fn is_level(digits: &[u8], level: Option<u8>) -> bool
+    ensures { result ≡ bytes_eq digits.now (level_digits level) }
+{
+    match level {
+        None => is_word(digits, b""),
+        Some(level) => {
+            let mut buffer = itoa::Buffer::new();
+            is_word(digits, buffer.format(level).as_bytes())
         }
-        _ => None,
     }
 }
 
-/// The kind of an element that is told by its name alone: one with a `typeof` is no row.
-fn named_row(name: &[u8], type_name: Option<&[u8]>) -> Option<Kind>
-    ensures { result ≡ named_row name.now (option_map (λ v. v.now) type_name.entry) }
+fn is_named(name: &[u8], kind: Kind) -> bool
+    ensures { result ≡ is_named name.now kind }
 {
-    match type_name {
-        None => kind_named(name),
-        Some(_) => None,
+    let word = kind.name();
+    if !name.starts_with(word) {
+        return false;
     }
+    is_level(rest_of(name, word.len()), kind.level())
 }
 
-fn row_by(name: &[u8], type_name: Option<&[u8]>) -> Option<Kind>
-    ensures { result ≡ row_by name.now (option_map (λ v. v.now) type_name.entry) }
+fn is_row(
+    name: &[u8],
+    type_name: Option<&[u8]>,
+    property: Option<&[u8]>,
+    rel: Option<&[u8]>,
+    kind: Kind,
+) -> bool
+    ensures { result ≡ is_row name.now (option_map (λ v. v.now) type_name.entry) (option_map (λ v. v.now) property.entry) (option_map (λ v. v.now) rel.entry) kind }
 {
-    if name == b"span".as_slice() {
-        span_row(type_name)
-    } else if name == b"meta".as_slice() {
-        meta_row(type_name)
-    } else {
-        named_row(name, type_name)
-    }
+    is_named(name, kind)
+        && (tells(AttrName::Typeof, type_name, kind)
+            && (tells(AttrName::Property, property, kind) && tells(AttrName::Rel, rel, kind)))
 }
 
-/// Whether an attribute is there that no row has.
-fn is_linked(attributes: &[Attribute]) -> bool
-    ensures { result ≡ (has (codes "rel") (pairs attributes.now) || has (codes "property") (pairs attributes.now)) }
+fn row_by(
+    name: &[u8],
+    type_name: Option<&[u8]>,
+    property: Option<&[u8]>,
+    rel: Option<&[u8]>,
+) -> Option<Kind>
+    ensures { result ≡ row_by name.now (option_map (λ v. v.now) type_name.entry) (option_map (λ v. v.now) property.entry) (option_map (λ v. v.now) rel.entry) }
 {
-    has(b"rel".as_slice(), attributes) || has(b"property".as_slice(), attributes)
+    READ_KINDS
+        .iter()
+        .copied()
+        .find(|kind| is_row(name, type_name, property, rel, *kind))
 }
 
-/// The kind of an element, by the table of elements.
+/// The kind of an element, by the table of kinds.
 pub fn row(name: &[u8], attributes: &[Attribute]) -> Option<Kind>
     ensures { result ≡ row name.now (pairs attributes.now) }
 {
-    if is_linked(attributes) {
-        None
-    } else {
-        row_by(name, value_of(b"typeof".as_slice(), attributes))
-    }
-}
-
-fn is_block(kind: Kind) -> bool
-    ensures { result ≡ is_block kind }
-{
-    matches!(kind, Kind::Para | Kind::Heading(_))
-}
-
-fn is_inline(kind: Kind) -> bool
-    ensures { result ≡ is_inline kind }
-{
-    matches!(kind, Kind::Entity | Kind::Nowiki | Kind::Island)
-}
-
-/// Whether an element of this kind may stand anywhere below the body.
-fn is_anywhere(kind: Kind) -> bool
-    ensures { result ≡ is_anywhere kind }
-{
-    matches!(kind, Kind::Comment | Kind::Include)
-}
-
-fn is_entity(kind: Kind) -> bool
-    ensures { result ≡ is_entity kind }
-{
-    matches!(kind, Kind::Entity)
-}
-
-/// Whether an element of the kind `outer` holds one of the kind `inner` by its own row.
-fn holds(outer: Kind, inner: Kind) -> bool
-    ensures { result ≡ holds outer inner }
-{
-    match outer {
-        Kind::Body => is_block(inner),
-        Kind::Para => is_inline(inner),
-        Kind::Heading(_) => is_inline(inner),
-        Kind::Nowiki => is_entity(inner),
-        _ => false,
-    }
-}
-
-/// Whether an element of the kind `inner` may stand directly in one of the kind `outer`.
-pub fn may_hold(outer: Kind, inner: Kind) -> bool
-    ensures { result ≡ may_hold outer inner }
-{
-    holds(outer, inner) || is_anywhere(inner)
+    row_by(
+        name,
+        value_of(AttrName::Typeof.text(), attributes),
+        value_of(AttrName::Property.text(), attributes),
+        value_of(AttrName::Rel.text(), attributes),
+    )
 }
 
 /// Whether the texts directly in an element of this kind are its characters, and no texts of the page.
 pub fn shows_text(kind: Kind) -> bool
     ensures { result ≡ shows_text kind }
 {
-    matches!(kind, Kind::Entity)
+    matches!(kind.shape().texts, Texts::OwnCharacter)
 }
 
 /// Whether text directly in an element of this kind is text of the page; in others it is separators.
 pub fn holds_text(kind: Kind) -> bool
     ensures { result ≡ holds_text kind }
 {
-    !matches!(kind, Kind::Body)
+    !matches!(kind.shape().texts, Texts::Separators)
 }
 
 /// Whether a text is made of spaces, tabs and line breaks.

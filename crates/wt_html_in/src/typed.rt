@@ -1,70 +1,56 @@
-//! Which kinds of nodes `span` and `meta` are, by their `typeof`.
+//! The values of attributes that tell a kind, or may stand in it.
 
-ghost use Rattle.std.specs.Prelude.{◌≡◌, Some, option_map};
+ghost use Rattle.std.specs.Prelude.{◌≡◌};
 ghost use Rattle.std.specs.Str.{bytes_eq};
 ghost use Rattle.wt_span.specs.Tags.{is_extension};
-ghost use Rattle.wt_fitting.specs.Rows.{entity_type, nowiki_type, comment_type, no_include, no_include_end, only_include, only_include_end, include_only, is_extension_type, is_include_type, span_row, meta_row};
+ghost use Rattle.wt_tree.specs.Values.{extension_prefix, placeholder, no_include, no_include_end, only_include, only_include_end, include_only, is_extension_type, is_island_type, is_include_type, switch_prefix, is_switch, is_switch_name, passes, is_needed};
 
 use wt_span::rest_of;
-use wt_tree::Kind;
+use wt_tree::Values;
 
-#[tactic(auto, unfolding(wt_fitting::specs::Rows::entity_type))]
-fn entity_type() -> &'static [u8]
-    ensures { result.now ≡ entity_type }
+#[tactic(auto, unfolding(wt_tree::specs::Values::placeholder))]
+fn placeholder() -> &'static [u8]
+    ensures { result.now ≡ placeholder }
 {
-    b"mw:Entity".as_slice()
+    b"mw:Placeholder".as_slice()
 }
 
-#[tactic(auto, unfolding(wt_fitting::specs::Rows::nowiki_type))]
-fn nowiki_type() -> &'static [u8]
-    ensures { result.now ≡ nowiki_type }
-{
-    b"mw:Nowiki".as_slice()
-}
-
-#[tactic(auto, unfolding(wt_fitting::specs::Rows::comment_type))]
-fn comment_type() -> &'static [u8]
-    ensures { result.now ≡ comment_type }
-{
-    b"mw:Comment".as_slice()
-}
-
-#[tactic(auto, unfolding(wt_fitting::specs::Rows::no_include))]
+#[tactic(auto, unfolding(wt_tree::specs::Values::no_include))]
 fn no_include() -> &'static [u8]
     ensures { result.now ≡ no_include }
 {
     b"mw:Includes/NoInclude".as_slice()
 }
 
-#[tactic(auto, unfolding(wt_fitting::specs::Rows::no_include_end))]
+#[tactic(auto, unfolding(wt_tree::specs::Values::no_include_end))]
 fn no_include_end() -> &'static [u8]
     ensures { result.now ≡ no_include_end }
 {
     b"mw:Includes/NoInclude/End".as_slice()
 }
 
-#[tactic(auto, unfolding(wt_fitting::specs::Rows::only_include))]
+#[tactic(auto, unfolding(wt_tree::specs::Values::only_include))]
 fn only_include() -> &'static [u8]
     ensures { result.now ≡ only_include }
 {
     b"mw:Includes/OnlyInclude".as_slice()
 }
 
-#[tactic(auto, unfolding(wt_fitting::specs::Rows::only_include_end))]
+#[tactic(auto, unfolding(wt_tree::specs::Values::only_include_end))]
 fn only_include_end() -> &'static [u8]
     ensures { result.now ≡ only_include_end }
 {
     b"mw:Includes/OnlyInclude/End".as_slice()
 }
 
-#[tactic(auto, unfolding(wt_fitting::specs::Rows::include_only))]
+#[tactic(auto, unfolding(wt_tree::specs::Values::include_only))]
 fn include_only() -> &'static [u8]
     ensures { result.now ≡ include_only }
 {
     b"mw:Includes/IncludeOnly".as_slice()
 }
 
-fn is_word(text: &[u8], word: &[u8]) -> bool
+pub fn is_word(text: &[u8], word: &[u8]) -> bool
     ensures { result ≡ bytes_eq text.now word.now }
 {
     text == word
@@ -89,8 +75,8 @@ fn is_extension(name: &[u8]) -> bool
         || is_word(name, b"templatestyles")
 }
 
-#[tactic(auto, unfolding(wt_fitting::specs::Rows::extension_prefix))]
-fn is_extension_type(type_name: &[u8]) -> bool
+#[tactic(auto, unfolding(wt_tree::specs::Values::extension_prefix))]
+pub fn is_extension_type(type_name: &[u8]) -> bool
     ensures { result ≡ is_extension_type type_name.now }
 {
     if !type_name.starts_with(b"mw:Extension/") {
@@ -109,48 +95,58 @@ fn is_include_type(type_name: &[u8]) -> bool
         || is_word(type_name, include_only())
 }
 
-fn span_of(type_name: &[u8]) -> Option<Kind>
-    ensures { result ≡ span_row (Some type_name.now) }
+/// Whether this is the `typeof` of an island: of an extension, or of a tag, media or a function.
+fn is_island_type(type_name: &[u8]) -> bool
+    ensures { result ≡ is_island_type type_name.now }
 {
-    if is_word(type_name, entity_type()) {
-        Some(Kind::Entity)
-    } else if is_word(type_name, nowiki_type()) {
-        Some(Kind::Nowiki)
-    } else if is_extension_type(type_name) {
-        Some(Kind::Island)
-    } else {
-        None
+    is_word(type_name, placeholder()) || is_extension_type(type_name)
+}
+
+/// Whether this is the name of a switch, in lower case.
+#[tactic(auto, unfolding(wt_tree::specs::Values::is_switch))]
+fn is_switch(name: &[u8]) -> bool
+    ensures { result ≡ is_switch name.now }
+{
+    is_word(name, b"notoc")
+        || is_word(name, b"forcetoc")
+        || is_word(name, b"toc")
+        || is_word(name, b"noeditsection")
+        || is_word(name, b"newsectionlink")
+        || is_word(name, b"hiddencat")
+        || is_word(name, b"nogallery")
+        || is_word(name, b"index")
+        || is_word(name, b"noindex")
+}
+
+#[tactic(auto, unfolding(wt_tree::specs::Values::switch_prefix))]
+fn is_switch_name(property: &[u8]) -> bool
+    ensures { result ≡ is_switch_name property.now }
+{
+    if !property.starts_with(b"mw:PageProp/") {
+        return false;
+    }
+    is_switch(rest_of(property, 12))
+}
+
+/// Whether an attribute may have this value.
+pub fn passes(values: Values, value: &[u8]) -> bool
+    ensures { result ≡ passes values value.now }
+{
+    match values {
+        Values::IslandType => is_island_type(value),
+        Values::IncludeType => is_include_type(value),
+        Values::SwitchName => is_switch_name(value),
+        Values::Any => true,
+        Values::Link => true,
     }
 }
 
-/// The kind of a `span`, by its `typeof`.
-pub fn span_row(type_name: Option<&[u8]>) -> Option<Kind>
-    ensures { result ≡ span_row (option_map (λ v. v.now) type_name.entry) }
+/// Whether an attribute must be there.
+pub fn is_needed(values: Values) -> bool
+    ensures { result ≡ is_needed values }
 {
-    match type_name {
-        None => None,
-        Some(type_name) => span_of(type_name),
-    }
-}
-
-fn meta_of(type_name: &[u8]) -> Option<Kind>
-    ensures { result ≡ meta_row (Some type_name.now) }
-{
-    if is_word(type_name, comment_type()) {
-        Some(Kind::Comment)
-    } else if is_include_type(type_name) {
-        Some(Kind::Include)
-    } else {
-        None
-    }
-}
-
-/// The kind of a `meta`, by its `typeof`.
-pub fn meta_row(type_name: Option<&[u8]>) -> Option<Kind>
-    ensures { result ≡ meta_row (option_map (λ v. v.now) type_name.entry) }
-{
-    match type_name {
-        None => None,
-        Some(type_name) => meta_of(type_name),
-    }
+    matches!(
+        values,
+        Values::IslandType | Values::IncludeType | Values::SwitchName
+    )
 }

@@ -1,33 +1,50 @@
 ghost use Rattle.std.specs.Prelude.{◌≡◌, ◌++◌, IfOk, OnOk};
 ghost use Rattle.wt_markup.specs.Html.{attribute, attributes, id_attribute, mw_attribute, leaf_sync, inner_sync, sync_of, sync_start, sync_value, sync_attribute, attributes_of};
 ghost use Rattle.wt_datamw.specs.Sync.{sync_text};
+ghost use Rattle.wt_tree.specs.Kinds.{one_if_any, fixed_of, fixed_attributes};
 ghost use Rattle.wt_tree.specs.View.{texts_of, attrs_of, label_of};
 ghost use Rattle.wt_tree.specs.declared.node.Node.{out-Node};
 
 use crate::bytes::{push, push_escaped_double, push_escaped_single, push_number};
-use crate::names::{attribute_of_kind, name_of_attribute};
 use std::alloc::Global;
 use wt_datamw::{Sync, sync_to_text, to_text};
 use wt_span::{NoMemory, Str, Text};
-use wt_tree::{Attr, DataMw, Node, Ranges};
+use wt_tree::{Attr, AttrName, DataMw, Fixed, Kind, Node, Ranges};
 
 #[tactic(auto, unfolding(wt_markup::specs::Html::attribute))]
-fn push_attribute(out: &mut Vec<u8>, attr: &Attr) -> Result<(), NoMemory>
-    ensures { OnOk result (out.new.items ≡ out.old.items ++ attribute (attr.now.name, attr.now.value)) }
+fn push_attribute(out: &mut Vec<u8>, name: AttrName, value: &[u8]) -> Result<(), NoMemory>
+    ensures { OnOk result (out.new.items ≡ out.old.items ++ attribute (name, value.now)) }
 {
     push(out, b" ")?;
-    push(out, name_of_attribute(attr.name))?;
+    push(out, name.text())?;
     push(out, b"=\"")?;
-    push_escaped_double(out, attr.value.as_str().as_bytes())?;
+    push_escaped_double(out, value)?;
     push(out, b"\"")?;
     Ok(())
+}
+
+/// An attribute, where there is one.
+fn push_if_any(out: &mut Vec<u8>, fixed: Option<Fixed>) -> Result<(), NoMemory>
+    ensures { OnOk result (out.new.items ≡ out.old.items ++ attributes (one_if_any (fixed_of fixed))) }
+{
+    if let Some(fixed) = fixed {
+        push_attribute(out, fixed.name, fixed.value)?;
+    }
+    Ok(())
+}
+
+/// The attribute that the kind alone tells.
+fn push_fixed(out: &mut Vec<u8>, kind: Kind) -> Result<(), NoMemory>
+    ensures { OnOk result (out.new.items ≡ out.old.items ++ attributes (fixed_attributes kind)) }
+{
+    push_if_any(out, kind.fixed())
 }
 
 fn push_own(out: &mut Vec<u8>, attrs: &[Attr]) -> Result<(), NoMemory>
     ensures { OnOk result (out.new.items ≡ out.old.items ++ attributes (attrs_of attrs.now)) }
 {
     for attr in attrs {
-        push_attribute(out, attr)?;
+        push_attribute(out, attr.name, attr.value.as_str().as_bytes())?;
     }
     Ok(())
 }
@@ -148,7 +165,7 @@ fn push_sync(alloc: Global, out: &mut Vec<u8>, node: &Node<'_>) -> Result<(), No
 pub fn push_attributes(alloc: Global, out: &mut Vec<u8>, node: &Node<'_>) -> Result<(), NoMemory>
     ensures { OnOk result (out.new.items ≡ out.old.items ++ attributes_of (label_of (out-Node node.now))) }
 {
-    push(out, attribute_of_kind(node.kind))?;
+    push_fixed(out, node.kind)?;
     push_own(out, node.attrs.as_slice())?;
     push_id(out, node.id)?;
     push_mw(alloc, out, &node.mw)?;

@@ -6,13 +6,11 @@ ghost use Rattle.wt_tree.specs.View.{label_of, texts_of, view, views};
 ghost use Rattle.wt_tree.specs.declared.node.Node.{out-Node};
 
 use crate::bytes::push_byte;
-use crate::names::writing_of;
 use crate::nodes::{push_frame_end, push_frame_start};
 use crate::tags::{push_end, push_start, push_void};
 use std::alloc::Global;
-use wt_markup::Writing;
 use wt_span::{NoMemory, Text};
-use wt_tree::{Annotated, Node};
+use wt_tree::{Annotated, Node, Writing};
 
 /// What is left of `left` after so many bytes, or None where they are more.
 fn spend(left: u32, bytes: &[u8]) -> Option<u32>
@@ -136,7 +134,7 @@ fn spend_html(
 ) -> Result<Option<u32>, NoMemory>
     ensures { IfOk result (Spends left (html (view node.now))) }
 {
-    let rest = match writing_of(node.kind) {
+    let rest = match node.kind.writing() {
         Writing::AsText => spend_source(scratch, left, node.own.as_slice())?,
         Writing::AsVoid => spend_void(alloc, scratch, left, node)?,
         Writing::RoundCharacter => spend_round_character(alloc, scratch, left, node)?,

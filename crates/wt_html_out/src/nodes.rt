@@ -4,12 +4,10 @@ ghost use Rattle.wt_markup.specs.Html.{html, html_of_all, frame_start, frame_end
 ghost use Rattle.wt_tree.specs.View.{texts_of, view, views};
 
 use crate::bytes::{push, push_escaped};
-use crate::names::writing_of;
 use crate::tags::{push_end, push_start, push_void};
 use std::alloc::Global;
-use wt_markup::Writing;
 use wt_span::{List, NoMemory, Text};
-use wt_tree::{Annotated, Node};
+use wt_tree::{Annotated, Node, Writing};
 
 fn push_source(out: &mut Vec<u8>, texts: &[Text<'_>]) -> Result<(), NoMemory>
     ensures { OnOk result (out.new.items ≡ out.old.items ++ escaped (texts_of texts.now)) }
@@ -24,7 +22,7 @@ fn push_source(out: &mut Vec<u8>, texts: &[Text<'_>]) -> Result<(), NoMemory>
 fn push_html(alloc: Global, out: &mut Vec<u8>, node: &Node<'_>) -> Result<(), NoMemory>
     ensures { OnOk result (out.new.items ≡ out.old.items ++ html (view node.now)) }
 {
-    match writing_of(node.kind) {
+    match node.kind.writing() {
         Writing::AsText => push_source(out, node.own.as_slice())?,
         Writing::AsVoid => push_void(alloc, out, node)?,
         Writing::RoundCharacter => {

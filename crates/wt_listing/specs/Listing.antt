@@ -5,7 +5,7 @@ use Rattle.wt_tree.specs.declared.kind.Kind.{Kind}
 use Rattle.wt_tree.specs.declared.kind.Ranges.{Ranges}
 use Rattle.wt_tree.specs.Tree.{Tree}
 use Rattle.wt_tree.specs.Look.{rows}
-use Rattle.wt_listing.specs.Words.{word}
+use Rattle.wt_tree.specs.Kinds.{word}
 
 -- a blank and a number
 abbrev pub next_number : ℕ → List ℕ

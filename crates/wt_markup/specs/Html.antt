@@ -4,17 +4,16 @@ use Rattle.std.specs.List.{flat_map}
 use Rattle.wt_tree.specs.declared.kind.AttrName.{AttrName}
 use Rattle.wt_tree.specs.declared.kind.Ranges.{Ranges}
 use Rattle.wt_tree.specs.declared.node.DataMw.{DataMw}
-use Rattle.wt_tree.specs.Kinds.{is_leaf}
+use Rattle.wt_tree.specs.Kinds.{is_leaf, writing, element_name, attribute_name, fixed_attributes}
 use Rattle.wt_tree.specs.Tree.{Label, Tree, tree, Trees, none, more}
 use Rattle.wt_datamw.specs.declared.sync.Sync.{Sync}
 use Rattle.wt_datamw.specs.Sync.{sync_text}
 use Rattle.wt_datamw.specs.Mw.{mw_text}
-use Rattle.wt_markup.specs.declared.writing.Writing.{Writing}
-use Rattle.wt_markup.specs.declared.writing.Writing.TheVariants.{AsText, AsVoid, RoundCharacter, RoundChildren, Unwritten}
-use Rattle.wt_markup.specs.Elements.{writing, element_name, attribute_name, kind_attribute}
+use Rattle.wt_tree.specs.declared.row.Writing.{Writing}
+use Rattle.wt_tree.specs.declared.row.Writing.TheVariants.{AsText, AsVoid, RoundCharacter, RoundChildren, Unwritten}
 use Rattle.wt_markup.specs.Escapes.{escaped, escaped_double, escaped_single}
 
--- an attribute of the node's own
+-- an attribute with its value
 unfoldable pub attribute : AttrName × List ℕ → List ℕ
 attribute a = codes " " ++ (attribute_name a.0 ++ (codes "=\"" ++ (escaped_double a.1 ++ codes "\"")))
 
@@ -51,9 +50,10 @@ unfoldable pub sync_attribute : Label → Option Ranges → List ℕ
 sync_attribute l None = []
 sync_attribute l (Some r) = sync_value (sync_text (sync_of l r))
 
--- the attributes of an element, in their order
+-- the attributes of an element, in their order: the one that the kind alone tells, the node's own, its
+-- number and its data
 unfoldable pub attributes_of : Label → List ℕ
-attributes_of l = kind_attribute l.kind ++ (attributes l.attrs ++ (id_attribute l.id ++ (mw_attribute l.mw ++ sync_attribute l l.ranges)))
+attributes_of l = attributes (fixed_attributes l.kind) ++ (attributes l.attrs ++ (id_attribute l.id ++ (mw_attribute l.mw ++ sync_attribute l l.ranges)))
 
 unfoldable pub start_tag : Label → List ℕ
 start_tag l = codes "<" ++ (element_name l.kind ++ (attributes_of l ++ codes ">"))

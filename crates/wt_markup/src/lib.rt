@@ -1,7 +1,3 @@
-//! Definitions of the HTML: the text that is written for a tree. They lie in `specs/`; the code is
-//! one enum that they speak of.
+//! Definitions of the HTML: the text that is written for a tree. They lie in `specs/`, over the table
+//! of kinds of `wt_tree`; there is no code.
 #![tactic(auto)]
-
-mod writing;
-
-pub use writing::Writing;

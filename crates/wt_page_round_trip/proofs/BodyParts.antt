@@ -11,7 +11,8 @@ use Rattle.wt_span.specs.Items.{Item, char, whole, sources, sign}
 use Rattle.wt_tree.specs.declared.kind.Kind.TheVariants as kind
 use Rattle.wt_lines.specs.Lines.{content}
 use Rattle.wt_fitting.specs.Fit.{is_blank as is_white}
-use Rattle.wt_fitting.specs.Rows.{is_inline}
+use Rattle.wt_tree.specs.declared.row.Class.TheVariants.{Anywhere}
+use Rattle.wt_tree.specs.Kinds.{shape, is_class, spelling}
 use Rattle.wt_round_trip.specs.Written.{has_level}
 use Rattle.wt_round_trip.proofs.Json.{ascii_then}
 use Rattle.wt_inline.specs.declared.loose.Loose.TheVariants.{Text, Sep}
@@ -40,18 +41,18 @@ pub lines_are : (ls : List (List Item)) → flat_map line_parts ls ≡ parts Tex
 lines_are [] = refl
 lines_are (l ∷ ls) = ap (λ ps. ps ++ flat_map line_parts ls) (line_is l) ∙ ap (λ ps. parts Text l ++ ps) (lines_are ls) ∙ sym (map-append (part Text) l (joined ls))
 
-inline_held : (b : Bool) → b ≡ true → (c : Bool) → (b || c) ≡ true
-inline_held true e c = refl
-inline_held false e c = absurd cc
+inline_held : (b c : Bool) → c ≡ true → (b || c) ≡ true
+inline_held true c e = refl
+inline_held false c e = e
 
 para_parent : IsInlineParent kind.Para
-para_parent = record { text = refl; elements = λ k h. inline_held (is_inline k) h _ }
+para_parent = record { text = refl; elements = λ k h. inline_held (is_class (shape k).class Anywhere) _ h }
 
 heading_parent : (n : ℕ) → IsInlineParent (kind.Heading n)
-heading_parent n = record { text = refl; elements = λ k h. inline_held (is_inline k) h _ }
+heading_parent n = record { text = refl; elements = λ k h. inline_held (is_class (shape k).class Anywhere) _ h }
 
 pub para_node : (ls : List (List Item)) → IsPageLine (joined ls) → IsWrittenNode 2 kind.Body (para ls)
-unfolding para label_at
+unfolding para label_at spelling
 para_node ls h =
     let ps : List Part = flat_map line_parts ls in
     let ts : ItemTrees = forest (children ps) in
@@ -103,7 +104,7 @@ pub record IsHeadingLine (xs : List Item) (h : HeadingParts) : Type 0 where
   pub close_begins : BeginsLow (drop h.inside_len (drop h.open_len xs))
 
 heading_by_node : (xs : List Item) (h : HeadingParts) → IsPageLine xs → IsHeadingLine xs h → IsWrittenNode 2 kind.Body (heading_by h xs)
-unfolding label_at inline_trees
+unfolding label_at inline_trees spelling
 heading_by_node xs h l c =
     let os : List Item = take h.open_len xs in
     let rest : List Item = drop h.open_len xs in

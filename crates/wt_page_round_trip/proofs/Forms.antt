@@ -1,10 +1,10 @@
 -- Each whole form of a page is a node that is written.
-use Rattle.std.proofs.Common.{◌≡◌, ℕ, suc, ◌+◌, ◌<◌, ◌≤◌, Bool, true, false, Option, Some, None, List, [], ◌∷◌, ◌++◌, length, take, drop, get_or, IsUtf8, refl, sym, ap, ◌∙◌, subst, arith, append-nil, codes}
+use Rattle.std.proofs.Common.{◌≡◌, ℕ, suc, ◌+◌, ◌<◌, ◌≤◌, Bool, true, false, Option, Some, None, inl, List, [], ◌∷◌, ◌++◌, length, take, drop, get_or, IsUtf8, refl, sym, ap, ◌∙◌, subst, arith, append-nil, codes}
 use Rattle.std.specs.Prelude.{◌==◌, ◌&&◌, ◌||◌, nat_le, nat_lt, is_some, slice_index, encode_utf8, if◌then◌else◌}
 use Rattle.std.specs.Char.{is_ascii_digit, is_ascii_hexdigit}
 use Rattle.std.specs.List.{list_all, prefix_len}
 use Rattle.std.specs.Option.{option_or}
-use Rattle.std.specs.Str.{IsCharBoundary}
+use Rattle.std.specs.Str.{IsCharBoundary, bytes_eq}
 use Rattle.std.specs.Str.Parse.{digits_value}
 use Rattle.std.proofs.lemmas.Bool.{and_parts}
 use Rattle.std.proofs.lemmas.Bool.Decides.{nat_tests}
@@ -21,9 +21,10 @@ use Rattle.wt_span.specs.Whole.{IsWhole}
 use Rattle.wt_tree.specs.declared.kind.Kind.{Kind}
 use Rattle.wt_tree.specs.declared.kind.Kind.TheVariants as kind
 use Rattle.wt_lex.proofs.WholeTags.{raw_at}
-use Rattle.wt_fitting.specs.Rows.{extension_prefix, no_include, no_include_end, only_include, only_include_end, include_only, is_extension_type, is_include_type, holds, may_hold}
-use Rattle.wt_round_trip.specs.Written.{IsUtf8IfAny, IsExtension}
-use Rattle.wt_round_trip.proofs.Types.{extension_ascii}
+use Rattle.wt_tree.specs.Kinds.{may_hold, spelling}
+use Rattle.wt_tree.specs.Values.{extension_prefix, placeholder, no_include, no_include_end, only_include, only_include_end, include_only, is_extension_type, is_island_type, is_include_type}
+use Rattle.wt_round_trip.specs.Written.{IsUtf8IfAny, IsExtension, HasData}
+use Rattle.wt_round_trip.proofs.Types.{extension_ascii, extension_utf8, include_utf8}
 use Rattle.wt_inline.specs.RawTag.{len_of, name_of, is_alone, before_closing, opening_len, behind, inside_len, opening_of, inside_of, closing_of}
 use Rattle.wt_inline.specs.Carried.{extension_typeof, noinclude_typeof, onlyinclude_typeof, includeonly_typeof, include_typeof, extension_data}
 use Rattle.wt_inline.specs.Parts.{form_leaf, whole_tree}
@@ -87,7 +88,7 @@ entity_utf8 : (c : ℕ) (bs : List ℕ) → IsWhole (form.Entity c) bs → IsUtf
 entity_utf8 c bs h = let s : scalar c ≡ true = subst OptScalar h (entity_scalar bs) in IsUtf8-encode c s
 
 pub entity_node : (k : ℕ) (parent : Kind) (c : ℕ) (bs : List ℕ) → k < 200 → may_hold parent kind.Entity ≡ true → IsPageForm (form.Entity c) bs → IsWrittenNode k parent (form_leaf (form.Entity c) None bs)
-unfolding label_at
+unfolding label_at spelling
 entity_node k parent c bs small e h = record {
   element = λ at next. refl;
   written = λ at next room some few. (
@@ -115,12 +116,12 @@ or_right true = refl
 or_right false = refl
 
 comment_node : (k : ℕ) (parent : Kind) (bs : List ℕ) → k < 200 → IsUtf8 bs → IsWrittenNode k parent (form_leaf form.Comment None bs)
-unfolding label_at
+unfolding label_at spelling
 comment_node k parent bs small h = record {
   element = λ at next. refl;
   written = λ at next room some few. (
     small,
-    or_right (holds parent kind.Comment),
+    refl,
     record {
       level = refl;
       number = (some, omega arith);
@@ -151,19 +152,19 @@ include_passes None p = end_passes (is_noinclude (name_of p))
 include_passes (Some t) p = name_passes (is_noinclude t.name)
 
 include_node : (k : ℕ) (parent : Kind) (bs : List ℕ) → k < 200 → IsUtf8 bs → IsWrittenNode k parent (form_leaf form.Include None bs)
-unfolding label_at
+unfolding label_at spelling
 include_node k parent bs small h = record {
   element = λ at next. refl;
   written = λ at next room some few. (
     small,
-    or_right (holds parent kind.Include),
+    refl,
     record {
       level = refl;
       number = (some, omega arith);
       places = (omega arith, room, omega arith, omega arith);
       source = record { own = subst IsUtf8 (sym (append-nil bs)) h; opening = refl; closing = refl };
       shown = refl;
-      attrs = record { type = include_typeof (opening_tag bs) (closing_tag bs); passes = include_passes (opening_tag bs) (closing_tag bs); alone = refl };
+      attrs = inl (include_typeof (opening_tag bs) (closing_tag bs), [], refl, include_passes (opening_tag bs) (closing_tag bs), refl, include_utf8 (include_typeof (opening_tag bs) (closing_tag bs)) (include_passes (opening_tag bs) (closing_tag bs)), refl);
       mark = refl;
       mw = refl;
     },
@@ -177,19 +178,19 @@ unfolding includeonly_typeof no_include no_include_end only_include only_include
 hidden_passes = refl
 
 hidden_node : (k : ℕ) (parent : Kind) (bs : List ℕ) → k < 200 → IsUtf8 bs → IsWrittenNode k parent (form_leaf form.Hidden None bs)
-unfolding label_at
+unfolding label_at spelling
 hidden_node k parent bs small h = record {
   element = λ at next. refl;
   written = λ at next room some few. (
     small,
-    or_right (holds parent kind.Include),
+    refl,
     record {
       level = refl;
       number = (some, omega arith);
       places = (omega arith, room, omega arith, omega arith);
       source = record { own = subst IsUtf8 (sym (append-nil bs)) h; opening = refl; closing = refl };
       shown = refl;
-      attrs = record { type = includeonly_typeof; passes = hidden_passes; alone = refl };
+      attrs = inl (includeonly_typeof, [], refl, hidden_passes, refl, include_utf8 (includeonly_typeof) (hidden_passes), refl);
       mark = refl;
       mw = refl;
     },
@@ -260,6 +261,13 @@ extension_passes : (name : List ℕ) → is_extension name ≡ true → is_exten
 unfolding extension_typeof extension_prefix
 extension_passes name h = h
 
+or_true_right : (b c : Bool) → c ≡ true → (b || c) ≡ true
+or_true_right true c h = refl
+or_true_right false c h = h
+
+island_passes : (t : List ℕ) → is_extension_type t ≡ true → is_island_type t ≡ true
+island_passes t h = or_true_right (bytes_eq t placeholder) (is_extension_type t) h
+
 body_utf8 : (b : Bool) (bs : List ℕ) → IsUtf8 bs → IsUtf8IfAny (if b then None else Some bs)
 body_utf8 true bs u = tt
 body_utf8 false bs u = u
@@ -269,7 +277,7 @@ unfolding extension_data
 extension_has bs h u = (IsUtf8-are_ascii (name_of (opening_tag bs)) (extension_ascii (name_of (opening_tag bs)) h), body_utf8 (is_alone (opening_tag bs)) (inside_of bs) (inside_utf8 bs u))
 
 pub extension_node : (k : ℕ) (parent : Kind) (bs : List ℕ) → k < 200 → may_hold parent kind.Island ≡ true → IsPageForm form.Extension bs → IsWrittenNode k parent (form_leaf form.Extension None bs)
-unfolding label_at
+unfolding label_at spelling
 extension_node k parent bs small e h =
     let n : is_extension (name_of (opening_tag bs)) ≡ true = named_tag is_extension bs h.0 in
     record {
@@ -283,9 +291,9 @@ extension_node k parent bs small e h =
           places = (omega arith, room, omega arith, omega arith);
           source = record { own = subst IsUtf8 (sym (append-nil bs)) h.1; opening = refl; closing = refl };
           shown = refl;
-          attrs = record { type = extension_typeof (name_of (opening_tag bs)); passes = extension_passes (name_of (opening_tag bs)) n; alone = refl };
+          attrs = inl (extension_typeof (name_of (opening_tag bs)), [], refl, island_passes (extension_typeof (name_of (opening_tag bs))) (extension_passes (name_of (opening_tag bs)) n), refl, extension_utf8 (extension_typeof (name_of (opening_tag bs))) (extension_passes (name_of (opening_tag bs)) n), refl);
           mark = refl;
-          mw = extension_has bs n h.1;
+          mw = subst (λ (b : Bool). HasData b (Some (extension_data bs))) (sym (extension_passes (name_of (opening_tag bs)) n)) (extension_has bs n h.1);
         },
         refl,
         tt,

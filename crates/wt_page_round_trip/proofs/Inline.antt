@@ -11,7 +11,9 @@ use Rattle.wt_lex.proofs.AllForms.{OptEntity, entity_fits}
 use Rattle.wt_lex.proofs.Forms.{Fits}
 use Rattle.wt_lex.proofs.WholeEntities.{entity_front}
 use Rattle.wt_html_grammar.proofs.Steps.{if_true}
-use Rattle.wt_fitting.specs.Rows.{is_inline, may_hold, holds_text}
+use Rattle.wt_tree.specs.declared.row.Holding.TheVariants.{Inlines}
+use Rattle.wt_tree.specs.Kinds.{shape, admits, may_hold, spelling}
+use Rattle.wt_fitting.specs.Rows.{holds_text}
 use Rattle.wt_round_trip.specs.Written.{leaf_kind}
 use Rattle.wt_inline.specs.declared.loose.Loose.TheVariants.{Text}
 use Rattle.wt_inline.specs.RawTag.{opening_of, inside_of, closing_of}
@@ -72,7 +74,7 @@ inside_parts k small (suc n) run (b ∷ bs) u = inside_parts k small n run bs u
 inside_parts k small zero run (b ∷ bs) u = inside_first k small (entity_at (b ∷ bs)) run b bs refl u (λ n r v. inside_parts k small n r bs v)
 
 nowiki_node : (k : ℕ) (parent : Kind) (bs : List ℕ) → k < 100 → may_hold parent kind.Nowiki ≡ true → IsPageForm form.Nowiki bs → IsWrittenNode k parent (nowiki None bs)
-unfolding label_at nowiki
+unfolding label_at nowiki spelling
 nowiki_node k parent bs small e h =
     let ps : List Part = map inside_part (inside_items None 0 (inside_of bs)) in
     let ts : ItemTrees = forest (children ps) in
@@ -110,7 +112,7 @@ nowiki_node k parent bs small e h =
 -- a node that holds text, and the elements of lines
 pub record IsInlineParent (parent : Kind) : Type 0 where
   pub text : holds_text parent ≡ true
-  pub elements : (k : Kind) → is_inline k ≡ true → may_hold parent k ≡ true
+  pub elements : (k : Kind) → admits Inlines (shape k).class ≡ true → may_hold parent k ≡ true
 
 pub form_node : (k : ℕ) (parent : Kind) (f : Form) (bs : List ℕ) → k < 100 → IsInlineParent parent → IsPageForm f bs → IsWrittenNode k parent (whole_tree f None bs)
 form_node k parent form.Chars bs small p h = absurd h

@@ -6,6 +6,7 @@ use Rattle.wt_span.specs.Items.{Item, sources}
 use Rattle.wt_tree.specs.declared.kind.Kind.TheVariants as kind
 use Rattle.wt_tree.specs.Source.{flat}
 use Rattle.wt_markup.specs.Html.{html_text}
+use Rattle.wt_tree.specs.Kinds.{spelling}
 use Rattle.wt_fitting.specs.Read.{read, page as read_page}
 use Rattle.wt_round_trip.specs.Written.{unranged, IsWritten}
 use Rattle.wt_round_trip.proofs.Again.{same_source}
@@ -31,7 +32,7 @@ use Rattle.wt_page_round_trip.proofs.Counts.{page_few}
 -- ---- the page
 
 written_at : (page : List ℕ) → IsUtf8 page → length page < 2 ^ 31 → IsWritten (annotated_at 0 1 (meaning (page_items page)))
-unfolding meaning label_at
+unfolding meaning label_at spelling
 written_at page u room =
     let xs : List Item = page_items page in
     let p : AreOfPage xs = page_of_page page u in

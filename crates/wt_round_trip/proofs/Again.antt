@@ -8,9 +8,9 @@ use Rattle.wt_tree.specs.Tree.{Label, Tree, tree, Trees, none as no_trees, more 
 use Rattle.wt_tree.specs.Source.{flat, flat_of_all}
 use Rattle.wt_tree.specs.Plain.{Plains, ended, along, element, face, text_before, shown_before, plain_before, plains_before, plain}
 use Rattle.wt_tree.specs.Tiling.{ids, ids_of_all}
-use Rattle.wt_markup.specs.declared.writing.Writing.{Writing}
-use Rattle.wt_markup.specs.declared.writing.Writing.TheVariants.{AsText, AsVoid, RoundCharacter, RoundChildren, Unwritten}
-use Rattle.wt_markup.specs.Elements.{writing}
+use Rattle.wt_tree.specs.declared.row.Writing.{Writing}
+use Rattle.wt_tree.specs.declared.row.Writing.TheVariants.{AsText, AsVoid, RoundCharacter, RoundChildren, Unwritten}
+use Rattle.wt_tree.specs.Kinds.{writing}
 use Rattle.wt_markup.specs.Html.{written, html, html_of_all, frame_start, frame_end, html_text}
 use Rattle.wt_round_trip.specs.Written.{ranges_read, label_read, unranged, unranged_all}
 

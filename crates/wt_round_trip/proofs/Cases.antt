@@ -13,10 +13,10 @@ use Rattle.wt_datamw.specs.Mw.{mw_text}
 use Rattle.wt_datamw.specs.MwRead.{is_mw_shape, has_small_numbers, mw_of_data, mw_told}
 use Rattle.wt_datamw.specs.Sync.{sync_text, sync_members}
 use Rattle.wt_datamw.specs.SyncRead.{sync_told, sync_of_data, is_sync_shape}
-use Rattle.wt_markup.specs.Elements.{element_name, attribute_name, kind_attribute}
+use Rattle.wt_tree.specs.Kinds.{spelling, tag_name, attribute_name}
 use Rattle.wt_markup.specs.Escapes.{escape, escape_double, escape_single}
 use Rattle.wt_markup.specs.Html.{attribute, id_attribute, mw_attribute, sync_of, sync_start, sync_value, sync_attribute, attributes_of, start_tag, void_tag, end_tag, frame_start, frame_end, html_text}
-use Rattle.wt_fitting.specs.Rows.{entity_type, nowiki_type, comment_type, extension_prefix, no_include, no_include_end, only_include, only_include_end, include_only}
+use Rattle.wt_tree.specs.Values.{placeholder, extension_prefix, no_include, no_include_end, only_include, only_include_end, include_only}
 use Rattle.wt_fitting.specs.Read.{read, read_tree, page}
 use Rattle.wt_round_trip.specs.Written.{unranged}
 
@@ -46,7 +46,7 @@ text_leaf start end bs = tree (record (blank kind.Text 0 start end) { own = bs; 
 
 -- the empty page
 empty_page : read (html_text (body 0 none)) ≡ page (body 0 none) None
-unfolding read read_tree sync_told sync_of_data is_sync_shape html_text frame_start frame_end start_tag end_tag attributes_of id_attribute mw_attribute sync_of sync_start sync_value sync_attribute element_name kind_attribute sync_text sync_members escape escape_single serde_json_on_literals digits
+unfolding read read_tree sync_told sync_of_data is_sync_shape html_text frame_start frame_end start_tag end_tag attributes_of id_attribute mw_attribute sync_of sync_start sync_value sync_attribute spelling attribute_name placeholder sync_text sync_members escape escape_single serde_json_on_literals digits tag_name
 empty_page = refl
 
 -- the page `a`
@@ -54,7 +54,7 @@ abbrev letter_page : Tree
 letter_page = body 1 (more (tree (blank kind.Para 1 0 1) (more (text_leaf 0 1 (codes "a")) none)) none)
 
 one_letter : read (html_text letter_page) ≡ page (unranged letter_page) None
-unfolding read read_tree sync_told sync_of_data is_sync_shape html_text frame_start frame_end start_tag end_tag attributes_of id_attribute mw_attribute sync_of sync_start sync_value sync_attribute element_name kind_attribute sync_text sync_members escape escape_single serde_json_on_literals digits
+unfolding read read_tree sync_told sync_of_data is_sync_shape html_text frame_start frame_end start_tag end_tag attributes_of id_attribute mw_attribute sync_of sync_start sync_value sync_attribute spelling attribute_name placeholder sync_text sync_members escape escape_single serde_json_on_literals digits tag_name
 one_letter = refl
 
 -- `&lt;` in a paragraph
@@ -62,7 +62,7 @@ entity_page : Tree
 entity_page = body 4 (more (tree (blank kind.Para 1 0 4) (more (tree (record (wide kind.Entity 2 0 4 4 0) { own = codes "&lt;"; shown = codes "<" }) none) none)) none)
 
 one_entity : read (html_text entity_page) ≡ page (unranged entity_page) None
-unfolding entity_page read read_tree sync_told sync_of_data is_sync_shape html_text frame_start frame_end start_tag void_tag end_tag attributes_of attribute attribute_name id_attribute mw_attribute sync_of sync_start sync_value sync_attribute element_name kind_attribute sync_text sync_members escape escape_double escape_single serde_json_on_literals digits lib.Utf8.encode entity_type
+unfolding entity_page read read_tree sync_told sync_of_data is_sync_shape html_text frame_start frame_end start_tag void_tag end_tag attributes_of attribute attribute_name id_attribute mw_attribute sync_of sync_start sync_value sync_attribute spelling placeholder sync_text sync_members escape escape_double escape_single serde_json_on_literals digits lib.Utf8.encode tag_name
 one_entity = refl
 
 -- an apostrophe as nowiki
@@ -70,7 +70,7 @@ nowiki_page : Tree
 nowiki_page = body 18 (more (tree (blank kind.Para 1 0 18) (more (tree (record (wide kind.Nowiki 2 0 18 8 9) { opening = codes "<nowiki>"; closing = codes "</nowiki>" }) (more (text_leaf 8 9 (codes "'")) none)) none)) none)
 
 one_nowiki : read (html_text nowiki_page) ≡ page (unranged nowiki_page) None
-unfolding nowiki_page read read_tree sync_told sync_of_data is_sync_shape html_text frame_start frame_end start_tag void_tag end_tag attributes_of attribute attribute_name id_attribute mw_attribute sync_of sync_start sync_value sync_attribute element_name kind_attribute sync_text sync_members escape escape_double escape_single serde_json_on_literals digits lib.Utf8.encode entity_type nowiki_type
+unfolding nowiki_page read read_tree sync_told sync_of_data is_sync_shape html_text frame_start frame_end start_tag void_tag end_tag attributes_of attribute attribute_name id_attribute mw_attribute sync_of sync_start sync_value sync_attribute spelling placeholder sync_text sync_members escape escape_double escape_single serde_json_on_literals digits lib.Utf8.encode tag_name
 one_nowiki = refl
 
 -- an extension tag that closes itself
@@ -78,7 +78,7 @@ island_page : Tree
 island_page = body 6 (more (tree (blank kind.Para 1 0 6) (more (tree (record (wide kind.Island 2 0 6 6 0) { own = codes "<ref/>"; attrs = (attr.Typeof, codes "mw:Extension/ref") ∷ []; mw = Some (mw.Extension (codes "ref") None) }) none) none)) none)
 
 one_island : read (html_text island_page) ≡ page (unranged island_page) None
-unfolding island_page read read_tree sync_told sync_of_data is_sync_shape html_text frame_start frame_end start_tag void_tag end_tag attributes_of attribute attribute_name id_attribute mw_attribute sync_of sync_start sync_value sync_attribute element_name kind_attribute sync_text sync_members escape escape_double escape_single serde_json_on_literals digits lib.Utf8.encode mw_text mw_told mw_of_data is_mw_shape has_small_numbers entity_type nowiki_type extension_prefix is_extension
+unfolding island_page read read_tree sync_told sync_of_data is_sync_shape html_text frame_start frame_end start_tag void_tag end_tag attributes_of attribute attribute_name id_attribute mw_attribute sync_of sync_start sync_value sync_attribute spelling placeholder sync_text sync_members escape escape_double escape_single serde_json_on_literals digits lib.Utf8.encode mw_text mw_told mw_of_data is_mw_shape has_small_numbers extension_prefix is_extension tag_name
 one_island = refl
 
 -- a comment and an include tag, directly in the body
@@ -86,7 +86,7 @@ marks_page : Tree
 marks_page = body 19 (more (tree (record (wide kind.Comment 1 0 8 8 0) { own = codes "<!--a-->" }) none) (more (tree (record (wide kind.Include 2 8 19 11 0) { own = codes "<noinclude>"; attrs = (attr.Typeof, codes "mw:Includes/NoInclude") ∷ [] }) none) none))
 
 two_marks : read (html_text marks_page) ≡ page (unranged marks_page) None
-unfolding marks_page read read_tree sync_told sync_of_data is_sync_shape html_text frame_start frame_end start_tag void_tag end_tag attributes_of attribute attribute_name id_attribute mw_attribute sync_of sync_start sync_value sync_attribute element_name kind_attribute sync_text sync_members escape escape_double escape_single serde_json_on_literals digits lib.Utf8.encode comment_type no_include no_include_end only_include only_include_end include_only
+unfolding marks_page read read_tree sync_told sync_of_data is_sync_shape html_text frame_start frame_end start_tag void_tag end_tag attributes_of attribute attribute_name id_attribute mw_attribute sync_of sync_start sync_value sync_attribute spelling placeholder sync_text sync_members escape escape_double escape_single serde_json_on_literals digits lib.Utf8.encode no_include no_include_end only_include only_include_end include_only tag_name
 two_marks = refl
 
 -- a heading with its delimiters, a quote among them; characters that are escaped, one of two bytes
@@ -99,7 +99,7 @@ heading_page =
     (more (tree (blank kind.Para 2 15 17) (more (text_leaf 15 17 (codes "\"'")) none)) none)))
 
 heading : read (html_text heading_page) ≡ page (unranged heading_page) None
-unfolding read read_tree sync_told sync_of_data is_sync_shape html_text frame_start frame_end start_tag end_tag attributes_of id_attribute mw_attribute sync_of sync_start sync_value sync_attribute element_name kind_attribute sync_text sync_members escape escape_single serde_json_on_literals digits
+unfolding read read_tree sync_told sync_of_data is_sync_shape html_text frame_start frame_end start_tag end_tag attributes_of id_attribute mw_attribute sync_of sync_start sync_value sync_attribute spelling attribute_name placeholder sync_text sync_members escape escape_single serde_json_on_literals digits tag_name
 heading = refl
 
 -- two texts next to each other are read as one
@@ -110,5 +110,5 @@ abbrev one_text : Tree
 one_text = body 2 (more (tree (blank kind.Para 1 0 2) (more (text_leaf 0 2 (codes "ab")) none)) none)
 
 two_as_one : read (html_text two_texts) ≡ page (unranged one_text) None
-unfolding read read_tree sync_told sync_of_data is_sync_shape html_text frame_start frame_end start_tag end_tag attributes_of id_attribute mw_attribute sync_of sync_start sync_value sync_attribute element_name kind_attribute sync_text sync_members escape escape_single serde_json_on_literals digits
+unfolding read read_tree sync_told sync_of_data is_sync_shape html_text frame_start frame_end start_tag end_tag attributes_of id_attribute mw_attribute sync_of sync_start sync_value sync_attribute spelling attribute_name placeholder sync_text sync_members escape escape_single serde_json_on_literals digits tag_name
 two_as_one = refl

@@ -4,21 +4,23 @@ use Rattle.std.proofs.Common.{◌≡◌, ℕ, suc, ◌<◌, ◌^◌, Bool, true,
 use Rattle.std.specs.Prelude.{◌&&◌}
 use Rattle.wt_tree.specs.declared.kind.Kind.{Kind}
 use Rattle.wt_tree.specs.Tree.{Label, Tree, tree, Trees, none as no_trees, more as one_more}
-use Rattle.wt_markup.specs.declared.writing.Writing.{Writing}
-use Rattle.wt_markup.specs.declared.writing.Writing.TheVariants.{AsText, AsVoid, RoundCharacter, RoundChildren, Unwritten}
-use Rattle.wt_markup.specs.Elements.{writing, element_name}
+use Rattle.wt_tree.specs.declared.row.Writing.{Writing}
+use Rattle.wt_tree.specs.declared.row.Writing.TheVariants.{AsText, AsVoid, RoundCharacter, RoundChildren, Unwritten}
+use Rattle.wt_tree.specs.Kinds.{writing, element_name}
 use Rattle.wt_markup.specs.Escapes.{escaped}
 use Rattle.wt_markup.specs.Html.{attributes_of, start_tag, void_tag, end_tag, written, html, html_of_all}
 use Rattle.wt_html_grammar.specs.Signs.{in_text}
 use Rattle.wt_html_grammar.specs.Grammar.{Piece, spell_piece, spell_pieces, ArePieces, spell_attributes, slash, Element, Items, element, void, none, sign, child, spell, spell_items, IsElement, AreItems}
 use Rattle.wt_html_grammar.specs.Markup.{Markup, Markups, text, node, empty, more, unit_of, flush, meaning, contents}
-use Rattle.wt_fitting.specs.Rows.{may_hold, shows_text}
+use Rattle.wt_tree.specs.Kinds.{may_hold}
+use Rattle.wt_fitting.specs.Rows.{shows_text}
 use Rattle.wt_fitting.specs.Data.{is_empty}
 use Rattle.wt_round_trip.specs.Written.{IsShown, IsElementLabel, is_text, is_as_text, begins_with_text, is_childless, NodeIsWritten, WrittenIn, AllWrittenIn}
 use Rattle.wt_round_trip.proofs.Pieces.{text_piece, spells_text, pieces_spelled, pieces_stand, pieces_good}
 use Rattle.wt_round_trip.proofs.Said.{said_of, said_is, attributes_for, said_spelled, said_pairs, said_good}
 use Rattle.wt_round_trip.proofs.Rows.{is_as_void, is_round_character, IsElementKind, held_kind}
-use Rattle.wt_round_trip.proofs.Labels.{pairs, IsTold, told, small_id}
+use Rattle.wt_round_trip.proofs.Order.{pairs}
+use Rattle.wt_round_trip.proofs.Labels.{IsTold, told, small_id}
 
 abbrev pub pieces : List ℕ → List Piece
 pieces bs = map text_piece (chars bs)

@@ -6,20 +6,22 @@ use Rattle.wt_tree.specs.declared.kind.Kind.{Kind}
 use Rattle.wt_tree.specs.declared.kind.Kind.TheVariants as kind
 use Rattle.wt_tree.specs.Kinds.{is_leaf}
 use Rattle.wt_tree.specs.Tree.{Label, Tree, tree, Trees, none as no_trees, more as one_more}
-use Rattle.wt_markup.specs.declared.writing.Writing.{Writing}
-use Rattle.wt_markup.specs.declared.writing.Writing.TheVariants.{AsText, AsVoid, RoundCharacter, RoundChildren, Unwritten}
-use Rattle.wt_markup.specs.Elements.{writing}
+use Rattle.wt_tree.specs.declared.row.Writing.{Writing}
+use Rattle.wt_tree.specs.declared.row.Writing.TheVariants.{AsText, AsVoid, RoundCharacter, RoundChildren, Unwritten}
+use Rattle.wt_tree.specs.Kinds.{writing}
 use Rattle.wt_html_grammar.specs.Markup.{Pair, Markups, empty, more, flush}
 use Rattle.wt_html_grammar.proofs.Steps.{if_true, if_false}
 use Rattle.wt_html_grammar.proofs.Reading.{and_true}
-use Rattle.wt_fitting.specs.Rows.{may_hold, holds_text, shows_text}
+use Rattle.wt_tree.specs.Kinds.{may_hold}
+use Rattle.wt_fitting.specs.Rows.{holds_text, shows_text}
 use Rattle.wt_fitting.specs.Data.{Data, data_of}
 use Rattle.wt_fitting.specs.Fit.{Misfit, leaf_label, text_leaf, sep_leaf, leaf_in, label_for, texts_in, are_blank, onto_told, with_children, one_tree, text_fits, fit_told, fit_as, fit_row, fit_node, fit_nodes}
 use Rattle.wt_fitting.specs.Unsourced.{is_unsourced, unsourced_nodes}
 use Rattle.wt_round_trip.specs.Written.{label_read, unranged, unranged_all, shown_of, leaf_kind, IsTextIn, IsShown, IsElementLabel, is_childless, NodeIsWritten, WrittenIn, AllWrittenIn}
 use Rattle.wt_round_trip.proofs.Said.{said_of}
 use Rattle.wt_round_trip.proofs.Rows.{is_as_void, is_round_character, IsElementKind, held_kind, held_numbered}
-use Rattle.wt_round_trip.proofs.Labels.{pairs, IsTold, told}
+use Rattle.wt_round_trip.proofs.Order.{pairs}
+use Rattle.wt_round_trip.proofs.Labels.{IsTold, told}
 use Rattle.wt_round_trip.proofs.Elements.{node_for, marked_up, markup_before, markups_of}
 
 -- ---- texts

@@ -1,120 +1,133 @@
 -- What is read of the label of an element: its kind, its number, its places, its source and its data.
-use Rattle.std.proofs.Common.{◌≡◌, ℕ, ◌<◌, ◌^◌, Bool, true, false, Option, Some, None, List, [], ◌∷◌, ◌++◌, map, decimal, IsUtf8, refl, sym, ap, ap₂, ◌∙◌, subst, arith, append_assoc, codes, option_map}
+use Rattle.std.proofs.Common.{◌≡◌, ℕ, ◌<◌, ◌≤◌, ◌^◌, Bool, true, false, Option, Some, None, List, [], ◌∷◌, ◌++◌, map, decimal, IsUtf8, refl, sym, ap, ap₂, ◌∙◌, subst, arith, codes, option_map}
 use Rattle.std.specs.Prelude.{Ok, is_some, not, ◌==◌, ◌||◌, if◌then◌else◌}
 use Rattle.std.proofs.lemmas.Bool.{eqb-true}
 use Rattle.std.proofs.lemmas.Bool.Decides.{nat_tests}
 use Rattle.std.proofs.lemmas.Fmt.{IsAscii-decimal}
 use Rattle.std.proofs.lemmas.Str.{IsUtf8-from_ascii, IsUtf8-nil}
 use Rattle.wt_tree.specs.declared.kind.AttrName.{AttrName}
+use Rattle.wt_tree.specs.declared.kind.AttrName.TheVariants as attr
 use Rattle.wt_tree.specs.declared.kind.Kind.{Kind}
 use Rattle.wt_tree.specs.declared.kind.Mark.{Mark}
 use Rattle.wt_tree.specs.declared.kind.Ranges.{Ranges}
 use Rattle.wt_tree.specs.declared.node.DataMw.{DataMw}
 use Rattle.wt_tree.specs.declared.node.DataMw.TheVariants as mw
-use Rattle.wt_tree.specs.Kinds.{is_leaf, is_numbered}
+use Rattle.wt_tree.specs.Kinds.{is_leaf, is_numbered, spelling, fixed_attributes, element_name, attribute_name}
 use Rattle.wt_tree.specs.Tree.{Label}
 use Rattle.wt_datamw.specs.declared.sync.Sync.{Sync}
 use Rattle.wt_datamw.specs.Mw.{mw_text}
 use Rattle.wt_datamw.specs.Sync.{sync_text}
 use Rattle.wt_datamw.specs.SyncRead.{sync_told}
-use Rattle.wt_markup.specs.Elements.{element_name}
 use Rattle.wt_markup.specs.Html.{leaf_sync, inner_sync, sync_of}
-use Rattle.wt_html_grammar.specs.Signs.{IsAttributeName}
 use Rattle.wt_html_grammar.specs.Markup.{Pair}
 use Rattle.wt_html_grammar.proofs.Steps.{if_true, if_false}
 use Rattle.wt_fitting.specs.Attributes.{value_of, has, or_zero, id_of_value, id_of, mark_of_value}
-use Rattle.wt_fitting.specs.Rows.{row_by, row, shows_text}
-use Rattle.wt_fitting.specs.Data.{Data, is_for, sync_for, some_sync, sync_fits, is_island, mw_for, mw_fits, both, data_of, id_for}
+use Rattle.wt_fitting.specs.Rows.{row_by, row, shows_text, own_of, attrs_for}
+use Rattle.wt_fitting.specs.Data.{Data, is_for, sync_for, some_sync, sync_fits, is_extension_of, mw_for, mw_fits, both, data_of, id_for}
 use Rattle.wt_fitting.specs.Fit.{source_of, label_for}
 use Rattle.wt_fitting.specs.Unsourced.{is_marked, is_unsourced}
-use Rattle.wt_round_trip.specs.Written.{label_read, HasPlaces, IsNumber, IsLeafSource, IsInnerSource, HasSource, IsUtf8IfAny, HasData, IsElementLabel}
+use Rattle.wt_round_trip.specs.Written.{label_read, HasPlaces, IsNumber, IsLeafSource, IsInnerSource, HasSource, IsUtf8IfAny, HasData, value_at, is_extension_label, IsElementLabel}
 use Rattle.wt_round_trip.proofs.Json.{ascii_then, sync_utf8, sync_read, extension_utf8, extension_read}
-use Rattle.wt_round_trip.proofs.Said.{Said, double, single, pair_said, kind_said, own_said, id_said, mw_said, sync_said, said_of, AreGood}
+use Rattle.wt_round_trip.proofs.Said.{Said, double, single, own_said, id_said, mw_said, sync_said, whole, said_of, AreGood}
+use Rattle.wt_round_trip.proofs.Order.{pairs, look, Rise, good_from, value_is, no_edit, look_before, look_of, look_past, Rising, whole_rising, rising_said, value_before, value_behind, own_read}
 use Rattle.wt_round_trip.proofs.Numbers.{number_told}
-use Rattle.wt_round_trip.proofs.Rows.{type_said, IsElementKind}
+use Rattle.wt_round_trip.proofs.Rows.{IsElementKind}
 
--- ---- the attributes: `typeof`, the number and the data, each where there is one, and the source
+-- ---- the attributes behind the node's own: the number and the data, where there is one, and the source
 
 abbrev number_said : Bool → ℕ → List Said
 number_said true id = []
-number_said false id = double (codes "id") (109 ∷ 119 ∷ decimal id) ∷ []
+number_said false id = double attr.Id (109 ∷ 119 ∷ decimal id) ∷ []
 
 abbrev source_said : List ℕ → List Said
-source_said t = single (codes "data-parsoid") t ∷ []
+source_said t = single attr.DataParsoid t ∷ []
 
-abbrev full : Option (List ℕ) → Bool → ℕ → Option DataMw → List ℕ → List Said
-full o b id d t = type_said o ++ (number_said b id ++ (mw_said d ++ source_said t))
+abbrev tail : Bool → ℕ → Option DataMw → List ℕ → List Said
+tail b id d t = number_said b id ++ (mw_said d ++ source_said t)
 
 number_is : (id : ℕ) → id_said id ≡ number_said (id == 0) id
 number_is id = by_test (id == 0)
   where
-    by_test : (b : Bool) → (if b then [] else double (codes "id") (109 ∷ 119 ∷ decimal id) ∷ []) ≡ number_said b id
+    by_test : (b : Bool) → (if b then [] else double attr.Id (109 ∷ 119 ∷ decimal id) ∷ []) ≡ number_said b id
     by_test true = refl
     by_test false = refl
 
-said_full : (l : Label) (r : Ranges) (k : IsElementKind l.kind l.attrs) → l.ranges ≡ Some r → said_of l ≡ full k.type (l.id == 0) l.id l.mw (sync_text (sync_of l r))
-said_full l r k e =
-    sym (append_assoc (kind_said l.kind) (map own_said l.attrs) _)
-    ∙ ap₂ (λ (x y : List Said). x ++ y) k.told
-    (ap₂ (λ (x y : List Said). x ++ y) (number_is l.id) (ap (λ o. mw_said l.mw ++ sync_said l o) e))
+said_full : (l : Label) (r : Ranges) → l.ranges ≡ Some r → said_of l ≡ map own_said (whole l) ++ tail (l.id == 0) l.id l.mw (sync_text (sync_of l r))
+said_full l r e = ap₂ (λ (x y : List Said). map own_said (whole l) ++ (x ++ y)) (number_is l.id) (ap (λ o. mw_said l.mw ++ sync_said l o) e)
 
 -- ---- they are good
 
 id_utf8 : (id : ℕ) → id < 2 ^ 64 → IsUtf8 (109 ∷ 119 ∷ decimal id)
 id_utf8 id h = ascii_then 109 _ (omega arith) (ascii_then 119 _ (omega arith) (IsUtf8-from_ascii (decimal id) (IsAscii-decimal id h)))
 
-type_name : IsAttributeName (codes "typeof")
-type_name = (refl, (refl, (refl, (refl, (refl, (refl, tt))))))
-
-id_name : IsAttributeName (codes "id")
-id_name = (refl, (refl, tt))
-
-mw_name : IsAttributeName (codes "data-mw")
-mw_name = (refl, (refl, (refl, (refl, (refl, (refl, (refl, tt)))))))
-
-source_name : IsAttributeName (codes "data-parsoid")
-source_name = (refl, (refl, (refl, (refl, (refl, (refl, (refl, (refl, (refl, (refl, (refl, (refl, tt))))))))))))
-
-full_good : (o : Option (List ℕ)) (b : Bool) (id : ℕ) (d : Option DataMw) (t : List ℕ) → IsUtf8IfAny o → IsUtf8 (109 ∷ 119 ∷ decimal id) → IsUtf8IfAny (option_map mw_text d) → IsUtf8 t → AreGood [] (full o b id d t)
-full_good None true id None t o i d u = (source_name, u, refl, tt)
-full_good None true id (Some x) t o i d u = (mw_name, d, refl, (source_name, u, refl, tt))
-full_good None false id None t o i d u = (id_name, i, refl, (source_name, u, refl, tt))
-full_good None false id (Some x) t o i d u = (id_name, i, refl, (mw_name, d, refl, (source_name, u, refl, tt)))
-full_good (Some y) true id None t o i d u = (type_name, o, refl, (source_name, u, refl, tt))
-full_good (Some y) true id (Some x) t o i d u = (type_name, o, refl, (mw_name, d, refl, (source_name, u, refl, tt)))
-full_good (Some y) false id None t o i d u = (type_name, o, refl, (id_name, i, refl, (source_name, u, refl, tt)))
-full_good (Some y) false id (Some x) t o i d u = (type_name, o, refl, (id_name, i, refl, (mw_name, d, refl, (source_name, u, refl, tt))))
+tail_rise : (b : Bool) (id : ℕ) (d : Option DataMw) (t : List ℕ) → IsUtf8 (109 ∷ 119 ∷ decimal id) → IsUtf8IfAny (option_map mw_text d) → IsUtf8 t → Rise 11 (tail b id d t)
+tail_rise true id None t i d u = (omega arith, u, tt)
+tail_rise true id (Some x) t i d u = (omega arith, d, (omega arith, u, tt))
+tail_rise false id None t i d u = (omega arith, i, (omega arith, u, tt))
+tail_rise false id (Some x) t i d u = (omega arith, i, (omega arith, d, (omega arith, u, tt)))
 
 -- ---- what they say
-
-abbrev pub pairs : List Said → List Pair
-pairs ss = map pair_said ss
 
 -- the value of the number's attribute
 abbrev number_value : Bool → ℕ → Option (List ℕ)
 number_value true id = None
 number_value false id = Some (109 ∷ 119 ∷ decimal id)
 
+record IsTail (b : Bool) (n : ℕ) (d : Option DataMw) (t : List ℕ) (ss : List Said) : Type 0 where
+  pub id : look 11 ss ≡ number_value b n
+  pub mw : look 12 ss ≡ option_map mw_text d
+  pub source : look 13 ss ≡ Some t
+
+tail_said : (b : Bool) (n : ℕ) (d : Option DataMw) (t : List ℕ) → IsTail b n d t (tail b n d t)
+tail_said true n None t = record { id = refl; mw = refl; source = refl }
+tail_said true n (Some x) t = record { id = refl; mw = refl; source = refl }
+tail_said false n None t = record { id = refl; mw = refl; source = refl }
+tail_said false n (Some x) t = record { id = refl; mw = refl; source = refl }
+
+id_value : (ss : List Said) → value_of (codes "id") (pairs ss) ≡ look 11 ss
+unfolding attribute_name
+id_value ss = value_is attr.Id ss
+
+mw_value : (ss : List Said) → value_of (codes "data-mw") (pairs ss) ≡ look 12 ss
+unfolding attribute_name
+mw_value ss = value_is attr.DataMw ss
+
+source_value : (ss : List Said) → value_of (codes "data-parsoid") (pairs ss) ≡ look 13 ss
+unfolding attribute_name
+source_value ss = value_is attr.DataParsoid ss
+
+about_value : (ss : List Said) → value_of (codes "about") (pairs ss) ≡ look 0 ss
+unfolding attribute_name
+about_value ss = value_is attr.About ss
+
 -- the values that attributes have, and none of other names
-record IsSaid (o : Option (List ℕ)) (b : Bool) (n : ℕ) (d : Option DataMw) (t : List ℕ) (ps : List Pair) : Type 0 where
-  pub type : value_of (codes "typeof") ps ≡ o
+record IsSaid (xs : List (AttrName × List ℕ)) (b : Bool) (n : ℕ) (d : Option DataMw) (t : List ℕ) (ps : List Pair) : Type 0 where
+  pub type : value_of (attribute_name attr.Typeof) ps ≡ value_at 1 xs
+  pub property : value_of (attribute_name attr.Property) ps ≡ value_at 2 xs
+  pub rel : value_of (attribute_name attr.Rel) ps ≡ value_at 3 xs
   pub id : value_of (codes "id") ps ≡ number_value b n
   pub mw : value_of (codes "data-mw") ps ≡ option_map mw_text d
   pub source : value_of (codes "data-parsoid") ps ≡ Some t
   pub about : value_of (codes "about") ps ≡ None
-  pub rel : value_of (codes "rel") ps ≡ None
-  pub property : value_of (codes "property") ps ≡ None
   pub edit : value_of (codes "data-wt-edit") ps ≡ None
 
-full_said : (o : Option (List ℕ)) (b : Bool) (n : ℕ) (d : Option DataMw) (t : List ℕ) → IsSaid o b n d t (pairs (full o b n d t))
-full_said None true n None t = record { type = refl; id = refl; mw = refl; source = refl; about = refl; rel = refl; property = refl; edit = refl }
-full_said None true n (Some x) t = record { type = refl; id = refl; mw = refl; source = refl; about = refl; rel = refl; property = refl; edit = refl }
-full_said None false n None t = record { type = refl; id = refl; mw = refl; source = refl; about = refl; rel = refl; property = refl; edit = refl }
-full_said None false n (Some x) t = record { type = refl; id = refl; mw = refl; source = refl; about = refl; rel = refl; property = refl; edit = refl }
-full_said (Some y) true n None t = record { type = refl; id = refl; mw = refl; source = refl; about = refl; rel = refl; property = refl; edit = refl }
-full_said (Some y) true n (Some x) t = record { type = refl; id = refl; mw = refl; source = refl; about = refl; rel = refl; property = refl; edit = refl }
-full_said (Some y) false n None t = record { type = refl; id = refl; mw = refl; source = refl; about = refl; rel = refl; property = refl; edit = refl }
-full_said (Some y) false n (Some x) t = record { type = refl; id = refl; mw = refl; source = refl; about = refl; rel = refl; property = refl; edit = refl }
+full_said : (xs : List (AttrName × List ℕ)) (b : Bool) (n : ℕ) (d : Option DataMw) (t : List ℕ) → Rising 1 xs → Rise 11 (tail b n d t) → IsSaid xs b n d t (pairs (map own_said xs ++ tail b n d t))
+full_said xs b n d t h r =
+    let ts : List Said = tail b n d t in
+    let ss : List Said = map own_said xs ++ ts in
+    let q = tail_said b n d t in
+    let early : (k : ℕ) → k < 11 → look k ss ≡ value_at k xs = λ k l. look_of k xs ts (look_before k 11 ts l r) in
+    let late : (k : ℕ) → 11 ≤ k → look k ss ≡ look k ts = λ k l. look_past k xs ts (value_behind xs 1 k l h) in
+    record {
+      type = value_is attr.Typeof ss ∙ early 1 (omega arith);
+      property = value_is attr.Property ss ∙ early 2 (omega arith);
+      rel = value_is attr.Rel ss ∙ early 3 (omega arith);
+      id = id_value ss ∙ late 11 (omega arith) ∙ q.id;
+      mw = mw_value ss ∙ late 12 (omega arith) ∙ q.mw;
+      source = source_value ss ∙ late 13 (omega arith) ∙ q.source;
+      about = about_value ss ∙ early 0 (omega arith) ∙ value_before xs 1 0 (omega arith) h;
+      edit = no_edit ss;
+    }
 
 -- ---- the number
 
@@ -198,14 +211,11 @@ mw_utf8 true (Some (mw.Parts parts)) h = absurd h
 mw_utf8 true (Some (mw.Extension name body)) h = extension_utf8 name body h.0 h.1
 mw_utf8 false o h = let P : Option DataMw → Type 0 = λ o. IsUtf8IfAny (option_map mw_text o) in subst P (sym h) tt
 
-mw_fits_is : (k : Kind) (o : Option DataMw) → HasData (is_island k) o → mw_fits k (option_map mw_text o) ≡ Some o
-mw_fits_is k o h = by_test (is_island k) refl o h
-  where
-    by_test : (b : Bool) → is_island k ≡ b → (o : Option DataMw) → HasData b o → mw_fits k (option_map mw_text o) ≡ Some o
-    by_test true e None h = absurd h
-    by_test true e (Some (mw.Parts parts)) h = absurd h
-    by_test true e (Some (mw.Extension name body)) h = ap (mw_for k) (extension_read name body) ∙ if_true (is_island k) _ _ e
-    by_test false e o h = ap (λ x. mw_fits k (option_map mw_text x)) h ∙ if_false (is_island k) _ _ e ∙ ap Some (sym h)
+mw_fits_is : (x : Bool) (o : Option DataMw) → HasData x o → mw_fits x (option_map mw_text o) ≡ Some o
+mw_fits_is true None h = absurd h
+mw_fits_is true (Some (mw.Parts parts)) h = absurd h
+mw_fits_is true (Some (mw.Extension name body)) h = ap (mw_for true) (extension_read name body)
+mw_fits_is false o h = ap (λ y. mw_fits false (option_map mw_text y)) h ∙ ap Some (sym h)
 
 -- ---- the whole label
 
@@ -231,31 +241,40 @@ same_label : (k : Kind) (d : Option DataMw) {i j : ℕ} {q r : Option Ranges} {o
     → parts_label k i q o c w s a m d ≡ parts_label k j r p e v t b n d
 same_label k d ei eq eo ec ew es ea em = rw (ei, eq, eo, ec, ew, es, ea, em)
 
-row_is : (name : List ℕ) (o : Option (List ℕ)) (ps : List Pair) (k : Kind) → value_of (codes "rel") ps ≡ None → value_of (codes "property") ps ≡ None → value_of (codes "typeof") ps ≡ o → row_by name o ≡ Some k
-    → row name ps ≡ Some k
-row_is name o ps k r p e f =
-    if_false (has (codes "rel") ps || has (codes "property") ps) _ _ (ap₂ (λ x y. is_some x || is_some y) r p) ∙ ap (row_by name) e ∙ f
+row_is : (name : List ℕ) (xs : List (AttrName × List ℕ)) (ps : List Pair) (k : Kind) → value_of (attribute_name attr.Typeof) ps ≡ value_at 1 xs → value_of (attribute_name attr.Property) ps ≡ value_at 2 xs
+    → value_of (attribute_name attr.Rel) ps ≡ value_at 3 xs → row_by name (value_at 1 xs) (value_at 2 xs) (value_at 3 xs) ≡ Some k → row name ps ≡ Some k
+row_is name xs ps k t p r f =
+    ap (λ o. row_by name o (value_of (attribute_name attr.Property) ps) (value_of (attribute_name attr.Rel) ps)) t
+    ∙ ap (λ o. row_by name (value_at 1 xs) o (value_of (attribute_name attr.Rel) ps)) p
+    ∙ ap (row_by name (value_at 1 xs) (value_at 2 xs)) r
+    ∙ f
 
-told_by : (l : Label) (r : Ranges) (s : Sync) (k : IsElementKind l.kind l.attrs) → IsElementLabel l → HasPlaces (Some r) → l.ranges ≡ Some r → IsSync l r s
-    → said_of l ≡ full k.type (l.id == 0) l.id l.mw (sync_text s) → IsTold l
+told_by : (l : Label) (r : Ranges) (s : Sync) → IsElementKind l.kind l.attrs → IsElementLabel l → HasPlaces (Some r) → l.ranges ≡ Some r → IsSync l r s
+    → said_of l ≡ map own_said (whole l) ++ tail (l.id == 0) l.id l.mw (sync_text s) → IsTold l
 told_by l r s k h p e y q =
     let ps : List Pair = pairs (said_of l) in
+    let ts : List Said = tail (l.id == 0) l.id l.mw (sync_text s) in
     let small : l.id < 2 ^ 32 = small_number _ l.id h.number in
-    let v : IsSaid k.type (l.id == 0) l.id l.mw (sync_text s) ps =
-    subst (λ ss. IsSaid k.type (l.id == 0) l.id l.mw (sync_text s) (pairs ss)) (sym q) (full_said k.type (l.id == 0) l.id l.mw (sync_text s)) in
     let places : HasPlaces (Some s.dsr) = subst (λ x. HasPlaces (Some x)) (sym y.places) p in
+    let rise : Rise 11 ts =
+    tail_rise (l.id == 0) l.id l.mw (sync_text s) (id_utf8 l.id (omega arith)) (mw_utf8 _ l.mw h.mw) (sync_utf8 s places y.opening_utf8 y.closing_utf8 y.own_utf8) in
+    let rising : Rising 1 (whole l) = whole_rising (fixed_attributes l.kind) (spelling l.kind).own l.attrs 1 k.rises k.characters h.attrs in
+    let v : IsSaid (whole l) (l.id == 0) l.id l.mw (sync_text s) ps =
+    subst (λ ss. IsSaid (whole l) (l.id == 0) l.id l.mw (sync_text s) (pairs ss)) (sym q) (full_said (whole l) (l.id == 0) l.id l.mw (sync_text s) rising rise) in
+    let attrs : attrs_for l.kind ps ≡ l.attrs =
+    ap (λ ss. own_of (spelling l.kind).own (pairs ss)) q ∙ own_read (fixed_attributes l.kind) (spelling l.kind).own l.attrs 1 ts k.rises h.attrs rise in
     record {
-      good = subst (AreGood []) (sym q)
-          (full_good k.type (l.id == 0) l.id l.mw (sync_text s) k.characters (id_utf8 l.id (omega arith)) (mw_utf8 _ l.mw h.mw) (sync_utf8 s places y.opening_utf8 y.closing_utf8 y.own_utf8));
-      row = λ n. row_is (element_name l.kind) k.type ps l.kind v.rel v.property v.type (k.row n);
+      good = subst (AreGood []) (sym q) (good_from 1 [] (map own_said (whole l) ++ ts) tt (rising_said (whole l) 1 ts rising (omega arith) rise));
+      row = λ n. row_is (element_name l.kind) (whole l) ps l.kind v.type v.property v.rel (k.row n);
       sourced = ap₂ (λ x z. not (is_some x) || is_some z) v.source v.edit;
       marked = ap is_some v.edit;
       told = record { sync = Some s; mw = l.mw };
       data_is = if_false (has (codes "about") ps) _ _ (ap is_some v.about)
-          ∙ ap₂ both (ap (sync_fits l.kind) v.source ∙ sync_fits_is l.kind s (sync_text s) (sync_read s places) y.kind) (ap (mw_fits l.kind) v.mw ∙ mw_fits_is l.kind l.mw h.mw);
+          ∙ ap₂ both (ap (sync_fits l.kind) v.source ∙ sync_fits_is l.kind s (sync_text s) (sync_read s places) y.kind)
+          (ap₂ mw_fits (ap (is_extension_of l.kind) v.type) v.mw ∙ mw_fits_is (is_extension_label l) l.mw h.mw);
       label_is = λ bs f. same_label l.kind l.mw (id_is l.kind ps l.id h.number (ap id_of_value v.id ∙ number_said_is l.id small)) (ap Some y.places ∙ sym e ∙ sym (k.placed l.ranges)) y.opening y.closing y.own f
-          (k.own ps v.type) (ap mark_of_value v.edit ∙ sym h.mark);
+          attrs (ap mark_of_value v.edit ∙ sym h.mark);
     }
 
 pub told : (l : Label) → IsElementKind l.kind l.attrs → IsElementLabel l → IsTold l
-told l k h = with_places (λ o. l.ranges ≡ o → IsTold l) (λ r p e. told_by l r (sync_of l r) k h p e (sync_is l r h.source) (said_full l r k e)) l.ranges h.places refl
+told l k h = with_places (λ o. l.ranges ≡ o → IsTold l) (λ r p e. told_by l r (sync_of l r) k h p e (sync_is l r h.source) (said_full l r e)) l.ranges h.places refl

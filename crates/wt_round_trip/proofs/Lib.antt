@@ -3,6 +3,8 @@ pub mod Pieces
 pub mod Json
 pub mod Types
 pub mod Said
+pub mod Names
+pub mod Order
 pub mod Numbers
 pub mod Rows
 pub mod Labels

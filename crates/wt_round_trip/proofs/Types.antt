@@ -1,6 +1,6 @@
 -- The values of `typeof`: which element each tells, and that they are UTF-8.
 use Rattle.std.proofs.Common.{◌≡◌, ℕ, Bool, true, false, List, [], ◌∷◌, ◌++◌, length, take, drop, IsUtf8, refl, sym, ap, ◌∙◌, subst, codes}
-use Rattle.std.specs.Prelude.{◌||◌, Some}
+use Rattle.std.specs.Prelude.{◌||◌}
 use Rattle.std.specs.List.{list_any, list_all}
 use Rattle.std.specs.Str.{bytes_eq}
 use Rattle.std.proofs.lemmas.Bool.{and_parts, true≢false}
@@ -10,15 +10,13 @@ use Rattle.std.proofs.lemmas.Str.{IsUtf8-append}
 use Rattle.json.proofs.Printed.Utf8.{are_ascii, IsUtf8-are_ascii}
 use Rattle.wt_span.specs.Bytes.{begins}
 use Rattle.wt_span.specs.Tags.{is_extension}
-use Rattle.wt_tree.specs.declared.kind.Kind.TheVariants as kind
-use Rattle.wt_html_grammar.proofs.Steps.{if_true, if_false}
-use Rattle.wt_fitting.specs.Rows.{entity_type, nowiki_type, comment_type, extension_prefix, no_include, no_include_end, only_include, only_include_end, include_only, is_extension_type, is_include_type, span_row, meta_row}
+use Rattle.wt_tree.specs.Values.{extension_prefix, no_include, no_include_end, only_include, only_include_end, include_only, is_extension_type, is_include_type}
 
 same_bytes : (xs ys : List ℕ) → bytes_eq xs ys ≡ true → xs ≡ ys
 same_bytes xs ys e = (bytes_eq-Decides xs ys).0 e
 
 -- a text that passes a test isn't one that fails it
-other_text : (test : List ℕ → Bool) (t u : List ℕ) → test t ≡ true → test u ≡ false → bytes_eq t u ≡ false
+pub other_text : (test : List ℕ → Bool) (t u : List ℕ) → test t ≡ true → test u ≡ false → bytes_eq t u ≡ false
 other_text test t u h f = by_test (bytes_eq t u) refl
   where
     by_test : (b : Bool) → bytes_eq t u ≡ b → bytes_eq t u ≡ false
@@ -55,18 +53,8 @@ extension_utf8 t h =
     let q = and_parts _ _ h in
     subst IsUtf8 (sym (begins_is extension_prefix t q.0)) (IsUtf8-append extension_prefix _ (IsUtf8-are_ascii extension_prefix refl) (IsUtf8-are_ascii _ (extension_ascii _ q.1)))
 
-pub extension_row : (t : List ℕ) → is_extension_type t ≡ true → span_row (Some t) ≡ Some kind.Island
-unfolding entity_type nowiki_type extension_prefix
-extension_row t h =
-    if_false (bytes_eq t entity_type) _ _ (other_text is_extension_type t entity_type h refl) ∙ if_false (bytes_eq t nowiki_type) _ _ (other_text is_extension_type t nowiki_type h refl)
-    ∙ if_true (is_extension_type t) _ _ h
-
 -- ---- include tags
 
 pub include_utf8 : (t : List ℕ) → is_include_type t ≡ true → IsUtf8 t
 unfolding no_include no_include_end only_include only_include_end include_only
 include_utf8 t h = IsUtf8-are_ascii t (ascii_among t (no_include ∷ no_include_end ∷ only_include ∷ only_include_end ∷ include_only ∷ []) h refl)
-
-pub include_row : (t : List ℕ) → is_include_type t ≡ true → meta_row (Some t) ≡ Some kind.Include
-unfolding comment_type no_include no_include_end only_include only_include_end include_only
-include_row t h = if_false (bytes_eq t comment_type) _ _ (other_text is_include_type t comment_type h refl) ∙ if_true (is_include_type t) _ _ h

@@ -5,7 +5,7 @@ use Rattle.std.specs.Str.{bytes_eq}
 use lib.Utf8.{encode}
 use Rattle.wt_tree.specs.declared.kind.Kind.TheVariants as kind
 use Rattle.wt_tree.specs.Tree.{Label, Tree, tree, Trees}
-use Rattle.wt_markup.specs.Elements.{writing, element_name}
+use Rattle.wt_tree.specs.Kinds.{writing, spelling, element_name}
 use Rattle.wt_markup.specs.Html.{written, html, html_of_all, frame_start, frame_end, html_text}
 use Rattle.wt_html_grammar.specs.Grammar.{plain, Attribute, slash, Element, element, void, none, child, spell, IsElement, Document, spell_document, IsDocument}
 use Rattle.wt_html_grammar.specs.Markup.{Pair, Markup, Markups, node, empty, more, meaning, Stands}
@@ -21,7 +21,8 @@ use Rattle.wt_fitting.specs.Read.{page, read_fit, read_tree, read_root, read_run
 use Rattle.wt_round_trip.specs.Written.{unranged, unranged_all, IsShown, IsElementLabel, AllWrittenIn, IsWritten}
 use Rattle.wt_round_trip.proofs.Said.{said_of}
 use Rattle.wt_round_trip.proofs.Rows.{is_as_void, IsElementKind, body_is_kind}
-use Rattle.wt_round_trip.proofs.Labels.{pairs, IsTold, told, small_id}
+use Rattle.wt_round_trip.proofs.Order.{pairs}
+use Rattle.wt_round_trip.proofs.Labels.{IsTold, told, small_id}
 use Rattle.wt_round_trip.proofs.Elements.{element_for, attributes_spelled, element_spelled, items_of, items_spelled, element_good, items_good, node_for, markups_of, element_stands, items_stand}
 use Rattle.wt_round_trip.proofs.Fits.{texts_fit, fit_whole, items_fit, items_sourced}
 
@@ -79,7 +80,7 @@ abbrev found : Label → Markups → Found
 found l m = record { number = 4; attributes = pairs (said_of l); contents = m }
 
 body_found : (l : Label) (m : Markups) → l.kind ≡ kind.Body → body_of (page_markup (node_for l m)) ≡ Some (found l m)
-unfolding element_name
+unfolding spelling
 body_found l m e = if_true (bytes_eq (codes "head") (codes "head") && bytes_eq (element_name l.kind) (codes "body")) _ _ (ap (λ k. bytes_eq (codes "head") (codes "head") && bytes_eq (element_name k) (codes "body")) e)
 
 body_fits : (l : Label) (ts : Trees) → l.kind ≡ kind.Body → IsElementLabel l → IsTold l → AllWrittenIn 2 kind.Body ts → fit (page_markup (node_for l (markups_of ts))) ≡ Ok (unranged (tree l ts))

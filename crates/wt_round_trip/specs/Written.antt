@@ -1,5 +1,5 @@
 -- The trees for which HTML is written: what each kind of node may be, and what is read of it again.
-use Rattle.std.specs.Prelude.{◌≡◌, ℕ, suc, ◌<◌, ◌^◌, ◌&&◌, ◌||◌, Bool, true, false, not, nat_le, IsUtf8, Option, Some, None, List, [], ◌∷◌, if◌then◌else◌}
+use Rattle.std.specs.Prelude.{◌≡◌, ℕ, suc, ◌<◌, ◌^◌, ◌&&◌, ◌||◌, Bool, true, false, not, nat_le, IsUtf8, Option, Some, None, List, [], ◌∷◌, ◌++◌, ◌==◌, ◌⊎◌, if◌then◌else◌}
 use Rattle.wt_tree.specs.declared.kind.AttrName.{AttrName}
 use Rattle.wt_tree.specs.declared.kind.AttrName.TheVariants as attr
 use Rattle.wt_tree.specs.declared.kind.Kind.{Kind}
@@ -8,14 +8,17 @@ use Rattle.wt_tree.specs.declared.kind.Mark.TheVariants as mark
 use Rattle.wt_tree.specs.declared.kind.Ranges.{Ranges}
 use Rattle.wt_tree.specs.declared.node.DataMw.{DataMw}
 use Rattle.wt_tree.specs.declared.node.DataMw.TheVariants as mw
-use Rattle.wt_tree.specs.Kinds.{is_leaf, is_numbered}
+use Rattle.wt_tree.specs.declared.row.Own.{Own}
+use Rattle.wt_tree.specs.declared.row.Texts.{Texts}
+use Rattle.wt_tree.specs.declared.row.Texts.TheVariants.{Separators, Page, Bordered, OwnCharacter}
+use Rattle.wt_tree.specs.Kinds.{writing, is_leaf, is_numbered, may_hold, order, spelling, fixed_attributes, texts_of_kind}
+use Rattle.wt_tree.specs.Values.{passes, is_needed}
 use Rattle.wt_tree.specs.Tree.{Label, Tree, tree, Trees, none, more, label}
-use Rattle.wt_markup.specs.declared.writing.Writing.{Writing}
-use Rattle.wt_markup.specs.declared.writing.Writing.TheVariants.{AsText, Unwritten}
-use Rattle.wt_markup.specs.Elements.{writing}
-use Rattle.wt_fitting.specs.Data.{is_empty, is_island}
+use Rattle.wt_tree.specs.declared.row.Writing.{Writing}
+use Rattle.wt_tree.specs.declared.row.Writing.TheVariants.{AsText, Unwritten}
+use Rattle.wt_fitting.specs.Data.{is_empty, is_extension_of}
 use Rattle.wt_fitting.specs.Fit.{is_blank}
-use Rattle.wt_fitting.specs.Rows.{is_extension_type, is_include_type, may_hold, holds_text, shows_text}
+use Rattle.wt_fitting.specs.Rows.{holds_text, shows_text, read_as}
 
 -- ---- what is read again
 
@@ -87,10 +90,18 @@ abbrev pub IsNumber : Bool → ℕ → Type 0
 IsNumber true n = (0 < n) × (n < 2 ^ 32)
 IsNumber false n = n ≡ 0
 
+-- lists, tables and what stands in them aren't written and read so far
+abbrev pub is_read_by : Texts → Bool
+is_read_by Separators = false
+is_read_by Page = true
+is_read_by Bordered = false
+is_read_by OwnCharacter = true
+
 -- a heading has one of the six levels
 abbrev pub has_level : Kind → Bool
+has_level kind.Body = true
 has_level (kind.Heading n) = nat_le 1 n && nat_le n 6
-has_level k = true
+has_level k = is_read_by (texts_of_kind k)
 
 -- a leaf has its source and no delimiters; another element has delimiters and no source of its own
 pub record IsLeafSource (l : Label) : Type 0 where
@@ -112,17 +123,25 @@ abbrev pub IsShown : Bool → List ℕ → Type 0
 IsShown true bs = IsUtf8 bs
 IsShown false bs = bs ≡ []
 
--- one attribute, a `typeof` that passes a test
-pub record IsTypeof (test : List ℕ → Bool) (xs : List (AttrName × List ℕ)) : Type 0 where
-  pub type : List ℕ
-  pub passes : test type ≡ true
-  pub alone : xs ≡ (attr.Typeof, type) ∷ []
+-- Attributes of the node's own: those that its row has, in their order, each with a value that may
+-- stand there and is read as it is. One that tells the kind is there.
+abbrev pub AreOwn : List Own → List (AttrName × List ℕ) → Type 0
+AreOwn [] xs = xs ≡ []
+AreOwn (o ∷ os) xs =
+    ((v : List ℕ) × (ys : List (AttrName × List ℕ)) × (xs ≡ (o.name, v) ∷ ys) × (passes o.values v ≡ true) × (read_as o.values v ≡ v) × IsUtf8 v × AreOwn os ys)
+    ⊎ ((is_needed o.values ≡ false) × AreOwn os xs)
 
--- attributes of the node's own: an island tells its extension, and an include tag which it is
 abbrev pub HasAttributes : Kind → List (AttrName × List ℕ) → Type 0
-HasAttributes kind.Island xs = IsTypeof is_extension_type xs
-HasAttributes kind.Include xs = IsTypeof is_include_type xs
-HasAttributes k xs = xs ≡ []
+HasAttributes k xs = AreOwn (spelling k).own xs
+
+-- the value of the attribute at this place of the order
+abbrev pub value_at : ℕ → List (AttrName × List ℕ) → Option (List ℕ)
+value_at n [] = None
+value_at n (x ∷ xs) = if order x.0 == n then Some x.1 else value_at n xs
+
+-- an element of an extension, by its `typeof`
+abbrev pub is_extension_label : Label → Bool
+is_extension_label l = is_extension_of l.kind (value_at (order attr.Typeof) (fixed_attributes l.kind ++ l.attrs))
 
 -- an island has the name and the inside of its extension tag, and other elements no data
 abbrev pub IsUtf8IfAny : Option (List ℕ) → Type 0
@@ -147,7 +166,7 @@ pub record IsElementLabel (l : Label) : Type 0 where
   pub shown : IsShown (shows_text l.kind) l.shown
   pub attrs : HasAttributes l.kind l.attrs
   pub mark : l.mark ≡ mark.Nothing
-  pub mw : HasData (is_island l.kind) l.mw
+  pub mw : HasData (is_extension_label l) l.mw
 
 -- ---- trees
 

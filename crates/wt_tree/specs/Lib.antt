@@ -8,3 +8,4 @@ pub mod Stream
 pub mod Tiling
 pub mod Tree
 pub mod View
+pub mod Values

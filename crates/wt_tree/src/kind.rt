@@ -1,6 +1,3 @@
-ghost use Rattle.std.specs.Prelude.{◌≡◌};
-ghost use Rattle.wt_tree.specs.Kinds.{is_leaf, is_numbered, showing};
-
 /// Where a node stands in the page, in bytes: from `start` up to `end`, and how many of these bytes
 /// its opening and closing delimiters have. It is what Parsoid calls `dsr`. A leaf that is written
 /// as an element has its whole length as `open_w`; a text and a group have 0.
@@ -83,50 +80,6 @@ pub enum Showing {
     Inside,
     Nothing,
     Element,
-}
-
-impl Kind {
-    /// Whether nodes of this kind have a number: all but the body, texts and separators.
-    pub fn is_numbered(self) -> bool
-        ensures { result ≡ is_numbered self }
-    {
-        !matches!(self, Kind::Body | Kind::Sep | Kind::Text)
-    }
-
-    /// What the plain view makes of a node of this kind.
-    pub fn showing(self) -> Showing
-        ensures { result ≡ showing self }
-    {
-        match self {
-            Kind::Text | Kind::Entity => Showing::Characters,
-            Kind::Nowiki | Kind::Group => Showing::Inside,
-            Kind::Comment | Kind::Include | Kind::Skip | Kind::Sep | Kind::Empty =>
-                Showing::Nothing,
-            _ => Showing::Element,
-        }
-    }
-
-    /// Whether a node of this kind has a source of its own and not that of its children.
-    pub fn is_leaf(self) -> bool
-        ensures { result ≡ is_leaf self }
-    {
-        matches!(
-            self,
-            Kind::Rule
-                | Kind::Category
-                | Kind::Br
-                | Kind::Entity
-                | Kind::Island
-                | Kind::Switch
-                | Kind::Comment
-                | Kind::Include
-                | Kind::Skip
-                | Kind::Sep
-                | Kind::Text
-                | Kind::Group
-                | Kind::Empty
-        )
-    }
 }
 
 /// The names of attributes, in the order in which they are written.

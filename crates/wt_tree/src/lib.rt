@@ -8,13 +8,16 @@ mod kind;
 mod laws;
 mod look;
 mod node;
+mod row;
 mod source;
+mod table;
 
 pub use annotated::Annotated;
 pub use compare::plain_eq;
-pub use kind::{AttrName, Kind, Mark, Ranges, TagName};
+pub use kind::{AttrName, Kind, Mark, Ranges, Showing, TagName};
 pub use laws::{joining_once, plain_forgets};
 pub use look::{find, walk};
 pub use node::{Attr, DataMw, Node, Part};
+pub use row::{Class, Fixed, Holding, Own, Payload, Shape, Spelling, Texts, Values, Writing};
 pub use source::flat;
 pub use wt_span::Origin;

@@ -8,4 +8,4 @@ push_all-returns t c = rw (html_views c.args.nodes.now) (grind (arith, common_st
 
 pub push_html-returns-in_ok-push_end-in-RoundChildren : goal.push_html-returns-in_ok-push_end-in-RoundChildren
 push_html-returns-in_ok-push_end-in-RoundChildren t c =
-    rw (html_children c.args.node.now (sym c.writing_of.ensures ∙ c.in-RoundChildren.is)) (grind (arith, common_steps, append_assoc))
+    rw (html_children c.args.node.now (sym c.writing.ensures ∙ c.in-RoundChildren.is)) (grind (arith, common_steps, append_assoc))

@@ -1,0 +1,6 @@
+use Rattle.std.proofs.Common.{ap}
+use Rattle.wt_tree.specs.Kinds.{Spelling}
+use Rattle.wt_tree.proofs.kind.Kind.fixed.Goals as goal
+
+pub returns : goal.returns
+returns c = ap (λ (s : Spelling). s.fixed) c.spelling.ensures

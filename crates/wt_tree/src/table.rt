@@ -1,0 +1,695 @@
+//! The table of kinds in code: a row for each kind.
+ghost use Rattle.std.specs.Prelude.{◌≡◌};
+ghost use Rattle.wt_tree.specs.Kinds.{
+  row,
+  shape,
+  is_leaf,
+  is_numbered,
+  showing,
+  writing,
+  admits,
+  may_hold,
+  spelled,
+  tag_name,
+  own,
+  page_link,
+  link,
+  island_type,
+  include_type,
+  switch_name,
+  styles,
+  tag_own,
+  fixed_of,
+  spelling,
+  spelling_of,
+  attribute_name,
+  order,
+};
+
+use crate::kind::Showing::{Characters, Element, Inside, Nothing};
+use crate::kind::{AttrName, Kind, Showing, TagName};
+use crate::row::Class::{
+    Anywhere, Block, Cell, Character, Inline, Item, List, Nowhere, TablePart, TableRow, Term,
+};
+use crate::row::Holding::{
+    Blocks, Cells, Entities, Inlines, InlinesThenBlocks, InlinesThenLists, Items, NoElements,
+    TableParts, TableRows, Terms,
+};
+use crate::row::Payload::{ExtensionTag, GroupParts, NoData};
+use crate::row::Texts::{Bordered, OwnCharacter, Page, Separators};
+use crate::row::Writing::{AsText, AsVoid, RoundCharacter, RoundChildren, Unwritten};
+use crate::row::{Class, Fixed, Holding, Own, Payload, Shape, Spelling, Texts, Values, Writing};
+
+fn row(
+    writing: Writing,
+    is_leaf: bool,
+    is_numbered: bool,
+    showing: Showing,
+    class: Class,
+    holding: Holding,
+    texts: Texts,
+    payload: Payload,
+) -> Shape
+    ensures { result ≡ row writing is_leaf is_numbered showing class holding texts payload }
+{
+    Shape {
+        writing,
+        is_leaf,
+        is_numbered,
+        showing,
+        class,
+        holding,
+        texts,
+        payload,
+    }
+}
+
+fn spelled(
+    name: &'static [u8],
+    level: Option<u8>,
+    fixed: Option<Fixed>,
+    own: &'static [Own],
+    word: &'static [u8],
+) -> Spelling
+    ensures { spelling_of result ≡ spelled name.now level (fixed_of fixed) own.now word.now }
+{
+    Spelling {
+        name,
+        level,
+        fixed,
+        own,
+        word,
+    }
+}
+
+fn fixed(name: AttrName, value: &'static [u8]) -> Option<Fixed>
+    ensures { fixed_of result ≡ Some (name, value.now) }
+{
+    Some(Fixed { name, value })
+}
+
+#[tactic(auto, unfolding(crate::specs::Kinds::tag_name))]
+fn name_of_tag(tag: TagName) -> &'static [u8]
+    ensures { result.now ≡ tag_name tag }
+{
+    match tag {
+        TagName::Sup => b"sup",
+        TagName::Sub => b"sub",
+        TagName::Small => b"small",
+        TagName::S => b"s",
+        TagName::U => b"u",
+        TagName::Code => b"code",
+        TagName::Span => b"span",
+    }
+}
+
+fn page_link() -> &'static [Own]
+    ensures { result.now ≡ page_link }
+{
+    &[Own {
+        name: AttrName::Href,
+        values: Values::Link,
+    }]
+}
+
+fn link() -> &'static [Own]
+    ensures { result.now ≡ link }
+{
+    &[Own {
+        name: AttrName::Href,
+        values: Values::Any,
+    }]
+}
+
+fn island_type() -> &'static [Own]
+    ensures { result.now ≡ island_type }
+{
+    &[Own {
+        name: AttrName::Typeof,
+        values: Values::IslandType,
+    }]
+}
+
+fn include_type() -> &'static [Own]
+    ensures { result.now ≡ include_type }
+{
+    &[Own {
+        name: AttrName::Typeof,
+        values: Values::IncludeType,
+    }]
+}
+
+fn switch_name() -> &'static [Own]
+    ensures { result.now ≡ switch_name }
+{
+    &[Own {
+        name: AttrName::Property,
+        values: Values::SwitchName,
+    }]
+}
+
+fn styles() -> &'static [Own]
+    ensures { result.now ≡ styles }
+{
+    &[
+        Own {
+            name: AttrName::Class,
+            values: Values::Any,
+        },
+        Own {
+            name: AttrName::Colspan,
+            values: Values::Any,
+        },
+        Own {
+            name: AttrName::Rowspan,
+            values: Values::Any,
+        },
+        Own {
+            name: AttrName::Scope,
+            values: Values::Any,
+        },
+        Own {
+            name: AttrName::Lang,
+            values: Values::Any,
+        },
+        Own {
+            name: AttrName::Dir,
+            values: Values::Any,
+        },
+    ]
+}
+
+fn own_of_tag(tag: TagName) -> &'static [Own]
+    ensures { result.now ≡ tag_own tag }
+{
+    match tag {
+        TagName::Span => styles(),
+        _ => &[],
+    }
+}
+
+impl Kind {
+    /// What a node of this kind is and where it may stand.
+    pub fn shape(self) -> Shape
+        ensures { result ≡ shape self }
+    {
+        match self {
+            Kind::Body => row(
+                RoundChildren,
+                false,
+                false,
+                Element,
+                Nowhere,
+                Blocks,
+                Separators,
+                NoData,
+            ),
+            Kind::Para => row(
+                RoundChildren,
+                false,
+                true,
+                Element,
+                Block,
+                Inlines,
+                Page,
+                NoData,
+            ),
+            Kind::Heading(_) => row(
+                RoundChildren,
+                false,
+                true,
+                Element,
+                Block,
+                Inlines,
+                Page,
+                NoData,
+            ),
+            Kind::Rule => row(AsVoid, true, true, Element, Block, NoElements, Page, NoData),
+            Kind::Ul => row(
+                RoundChildren,
+                false,
+                true,
+                Element,
+                List,
+                Items,
+                Separators,
+                NoData,
+            ),
+            Kind::Ol => row(
+                RoundChildren,
+                false,
+                true,
+                Element,
+                List,
+                Items,
+                Separators,
+                NoData,
+            ),
+            Kind::Dl => row(
+                RoundChildren,
+                false,
+                true,
+                Element,
+                List,
+                Terms,
+                Separators,
+                NoData,
+            ),
+            Kind::Li => row(
+                RoundChildren,
+                false,
+                true,
+                Element,
+                Item,
+                InlinesThenLists,
+                Bordered,
+                NoData,
+            ),
+            Kind::Dt => row(
+                RoundChildren,
+                false,
+                true,
+                Element,
+                Term,
+                InlinesThenLists,
+                Bordered,
+                NoData,
+            ),
+            Kind::Dd => row(
+                RoundChildren,
+                false,
+                true,
+                Element,
+                Term,
+                InlinesThenLists,
+                Bordered,
+                NoData,
+            ),
+            Kind::Pre => row(
+                RoundChildren,
+                false,
+                true,
+                Element,
+                Block,
+                Inlines,
+                Page,
+                NoData,
+            ),
+            Kind::Table => row(
+                RoundChildren,
+                false,
+                true,
+                Element,
+                Block,
+                TableParts,
+                Separators,
+                NoData,
+            ),
+            Kind::Tbody => row(
+                RoundChildren,
+                false,
+                true,
+                Element,
+                TablePart,
+                TableRows,
+                Separators,
+                NoData,
+            ),
+            Kind::Tr => row(
+                RoundChildren,
+                false,
+                true,
+                Element,
+                TableRow,
+                Cells,
+                Separators,
+                NoData,
+            ),
+            Kind::Caption => row(
+                RoundChildren,
+                false,
+                true,
+                Element,
+                TablePart,
+                InlinesThenBlocks,
+                Bordered,
+                NoData,
+            ),
+            Kind::Td => row(
+                RoundChildren,
+                false,
+                true,
+                Element,
+                Cell,
+                InlinesThenBlocks,
+                Bordered,
+                NoData,
+            ),
+            Kind::Th => row(
+                RoundChildren,
+                false,
+                true,
+                Element,
+                Cell,
+                InlinesThenBlocks,
+                Bordered,
+                NoData,
+            ),
+            Kind::Bold => row(
+                RoundChildren,
+                false,
+                true,
+                Element,
+                Inline,
+                Inlines,
+                Page,
+                NoData,
+            ),
+            Kind::Italic => row(
+                RoundChildren,
+                false,
+                true,
+                Element,
+                Inline,
+                Inlines,
+                Page,
+                NoData,
+            ),
+            Kind::WikiLink => row(
+                RoundChildren,
+                false,
+                true,
+                Element,
+                Inline,
+                Inlines,
+                Page,
+                NoData,
+            ),
+            Kind::ExtLink => row(
+                RoundChildren,
+                false,
+                true,
+                Element,
+                Inline,
+                Inlines,
+                Page,
+                NoData,
+            ),
+            Kind::Category => row(
+                AsVoid, true, true, Element, Anywhere, NoElements, Page, NoData,
+            ),
+            Kind::Tag(_) => row(
+                RoundChildren,
+                false,
+                true,
+                Element,
+                Inline,
+                Inlines,
+                Page,
+                NoData,
+            ),
+            Kind::Br => row(
+                AsVoid, true, true, Element, Inline, NoElements, Page, NoData,
+            ),
+            Kind::Entity => row(
+                RoundCharacter,
+                true,
+                true,
+                Characters,
+                Character,
+                NoElements,
+                OwnCharacter,
+                NoData,
+            ),
+            Kind::Nowiki => row(
+                RoundChildren,
+                false,
+                true,
+                Inside,
+                Inline,
+                Entities,
+                Page,
+                NoData,
+            ),
+            Kind::Island => row(
+                RoundChildren,
+                true,
+                true,
+                Element,
+                Inline,
+                NoElements,
+                Page,
+                ExtensionTag,
+            ),
+            Kind::Switch => row(
+                AsVoid, true, true, Element, Anywhere, NoElements, Page, NoData,
+            ),
+            Kind::Comment => row(
+                AsVoid, true, true, Nothing, Anywhere, NoElements, Page, NoData,
+            ),
+            Kind::Include => row(
+                AsVoid, true, true, Nothing, Anywhere, NoElements, Page, NoData,
+            ),
+            Kind::Skip => row(
+                AsVoid, true, true, Nothing, Anywhere, NoElements, Page, NoData,
+            ),
+            Kind::Sep => row(
+                AsText, true, false, Nothing, Nowhere, NoElements, Separators, NoData,
+            ),
+            Kind::Text => row(
+                AsText, true, false, Characters, Nowhere, NoElements, Page, NoData,
+            ),
+            Kind::Group => row(
+                Unwritten, true, true, Inside, Nowhere, NoElements, Page, GroupParts,
+            ),
+            Kind::Empty => row(
+                Unwritten, true, true, Nothing, Nowhere, NoElements, Page, NoData,
+            ),
+        }
+    }
+
+    /// How a node of this kind is spelled.
+    #[tactic(auto, unfolding(crate::specs::Kinds::spelling))]
+    pub fn spelling(self) -> Spelling
+        ensures { spelling_of result ≡ spelling self }
+    {
+        match self {
+            Kind::Body => spelled(b"body", None, None, &[], b""),
+            Kind::Para => spelled(b"p", None, None, &[], b"p"),
+            Kind::Heading(level) => spelled(b"h", Some(level), None, &[], b"h"),
+            Kind::Rule => spelled(b"hr", None, None, &[], b"hr"),
+            Kind::Ul => spelled(b"ul", None, None, &[], b"ul"),
+            Kind::Ol => spelled(b"ol", None, None, &[], b"ol"),
+            Kind::Dl => spelled(b"dl", None, None, &[], b"dl"),
+            Kind::Li => spelled(b"li", None, None, &[], b"li"),
+            Kind::Dt => spelled(b"dt", None, None, &[], b"dt"),
+            Kind::Dd => spelled(b"dd", None, None, &[], b"dd"),
+            Kind::Pre => spelled(b"pre", None, None, &[], b"pre"),
+            Kind::Table => spelled(b"table", None, None, styles(), b"table"),
+            Kind::Tbody => spelled(b"tbody", None, None, &[], b"tbody"),
+            Kind::Tr => spelled(b"tr", None, None, styles(), b"tr"),
+            Kind::Caption => spelled(b"caption", None, None, styles(), b"caption"),
+            Kind::Td => spelled(b"td", None, None, styles(), b"td"),
+            Kind::Th => spelled(b"th", None, None, styles(), b"th"),
+            Kind::Bold => spelled(b"b", None, None, &[], b"b"),
+            Kind::Italic => spelled(b"i", None, None, &[], b"i"),
+            Kind::WikiLink => spelled(
+                b"a",
+                None,
+                fixed(AttrName::Rel, b"mw:WikiLink"),
+                page_link(),
+                b"wikilink",
+            ),
+            Kind::ExtLink => spelled(
+                b"a",
+                None,
+                fixed(AttrName::Rel, b"mw:ExtLink"),
+                link(),
+                b"extlink",
+            ),
+            Kind::Category => spelled(
+                b"link",
+                None,
+                fixed(AttrName::Rel, b"mw:PageProp/Category"),
+                link(),
+                b"category",
+            ),
+            Kind::Tag(tag) => spelled(name_of_tag(tag), None, None, own_of_tag(tag), b"tag"),
+            Kind::Br => spelled(b"br", None, None, &[], b"br"),
+            Kind::Entity => spelled(
+                b"span",
+                None,
+                fixed(AttrName::Typeof, b"mw:Entity"),
+                &[],
+                b"entity",
+            ),
+            Kind::Nowiki => spelled(
+                b"span",
+                None,
+                fixed(AttrName::Typeof, b"mw:Nowiki"),
+                &[],
+                b"nowiki",
+            ),
+            Kind::Island => spelled(b"span", None, None, island_type(), b"island"),
+            Kind::Switch => spelled(b"meta", None, None, switch_name(), b"switch"),
+            Kind::Comment => spelled(
+                b"meta",
+                None,
+                fixed(AttrName::Typeof, b"mw:Comment"),
+                &[],
+                b"comment",
+            ),
+            Kind::Include => spelled(b"meta", None, None, include_type(), b"include"),
+            Kind::Skip => spelled(
+                b"meta",
+                None,
+                fixed(AttrName::Typeof, b"mw:Skip"),
+                &[],
+                b"skip",
+            ),
+            Kind::Sep => spelled(b"", None, None, &[], b""),
+            Kind::Text => spelled(b"", None, None, &[], b""),
+            Kind::Group => spelled(b"", None, None, &[], b"group"),
+            Kind::Empty => spelled(b"", None, None, &[], b""),
+        }
+    }
+
+    /// The name of its element, without a level.
+    pub fn name(self) -> &'static [u8]
+        ensures { result.now ≡ (spelling self).name }
+    {
+        self.spelling().name
+    }
+
+    /// The level behind the name, where the kind has one.
+    pub fn level(self) -> Option<u8>
+        ensures { result ≡ (spelling self).level }
+    {
+        self.spelling().level
+    }
+
+    /// The attribute that the kind alone tells.
+    pub fn fixed(self) -> Option<Fixed>
+        ensures { fixed_of result ≡ (spelling self).fixed }
+    {
+        self.spelling().fixed
+    }
+
+    /// The attributes that a node of this kind may have of its own, in their order.
+    pub fn own(self) -> &'static [Own]
+        ensures { result.now ≡ (spelling self).own }
+    {
+        self.spelling().own
+    }
+
+    /// The word by which a listing names the kind, without a level.
+    pub fn word(self) -> &'static [u8]
+        ensures { result.now ≡ (spelling self).word }
+    {
+        self.spelling().word
+    }
+
+    /// How a node of this kind is written.
+    pub fn writing(self) -> Writing
+        ensures { result ≡ writing self }
+    {
+        self.shape().writing
+    }
+
+    /// Whether nodes of this kind have a number: all but the body, texts and separators.
+    pub fn is_numbered(self) -> bool
+        ensures { result ≡ is_numbered self }
+    {
+        self.shape().is_numbered
+    }
+
+    /// What the plain view makes of a node of this kind.
+    pub fn showing(self) -> Showing
+        ensures { result ≡ showing self }
+    {
+        self.shape().showing
+    }
+
+    /// Whether a node of this kind has a source of its own and not that of its children.
+    pub fn is_leaf(self) -> bool
+        ensures { result ≡ is_leaf self }
+    {
+        self.shape().is_leaf
+    }
+
+    /// Whether an element of the kind `inner` may stand directly in one of this kind.
+    pub fn may_hold(self, inner: Kind) -> bool
+        ensures { result ≡ may_hold self inner }
+    {
+        let class = inner.shape().class;
+        matches!(class, Class::Anywhere) || self.shape().holding.admits(class)
+    }
+}
+
+impl Holding {
+    /// Whether elements of this class are among those that are held.
+    pub fn admits(self, class: Class) -> bool
+        ensures { result ≡ admits self class }
+    {
+        match self {
+            NoElements => false,
+            Blocks => matches!(class, Block | List),
+            Inlines => matches!(class, Inline | Character),
+            Entities => matches!(class, Character),
+            Items => matches!(class, Item),
+            Terms => matches!(class, Term),
+            TableParts => matches!(class, TablePart),
+            TableRows => matches!(class, TableRow),
+            Cells => matches!(class, Cell),
+            InlinesThenLists => matches!(class, Inline | Character | List),
+            InlinesThenBlocks => matches!(class, Inline | Character | Block | List),
+        }
+    }
+}
+
+impl AttrName {
+    /// The name as it is written.
+    #[tactic(auto, unfolding(crate::specs::Kinds::attribute_name))]
+    pub fn text(self) -> &'static [u8]
+        ensures { result.now ≡ attribute_name self }
+    {
+        match self {
+            AttrName::About => b"about",
+            AttrName::Typeof => b"typeof",
+            AttrName::Property => b"property",
+            AttrName::Rel => b"rel",
+            AttrName::Href => b"href",
+            AttrName::Class => b"class",
+            AttrName::Colspan => b"colspan",
+            AttrName::Rowspan => b"rowspan",
+            AttrName::Scope => b"scope",
+            AttrName::Lang => b"lang",
+            AttrName::Dir => b"dir",
+            AttrName::Id => b"id",
+            AttrName::DataMw => b"data-mw",
+            AttrName::DataParsoid => b"data-parsoid",
+        }
+    }
+
+    /// Its place in the order in which attributes are written.
+    pub fn order(self) -> u8
+        ensures { result ≡ order self }
+    {
+        match self {
+            AttrName::About => 0,
+            AttrName::Typeof => 1,
+            AttrName::Property => 2,
+            AttrName::Rel => 3,
+            AttrName::Href => 4,
+            AttrName::Class => 5,
+            AttrName::Colspan => 6,
+            AttrName::Rowspan => 7,
+            AttrName::Scope => 8,
+            AttrName::Lang => 9,
+            AttrName::Dir => 10,
+            AttrName::Id => 11,
+            AttrName::DataMw => 12,
+            AttrName::DataParsoid => 13,
+        }
+    }
+}
