@@ -2,7 +2,7 @@
 use Rattle.std.proofs.Common.{◌≡◌, ℕ, suc, ◌+◌, ◌++◌, Bool, true, false, Option, Some, None, Result, Ok, Err, List, [], ◌∷◌, refl, sym, ap, ap₂, ◌∙◌, subst}
 use Rattle.std.specs.Prelude.{not, is_some, if◌then◌else◌}
 use Rattle.std.specs.List.{AllByRecursion}
-use Rattle.std.specs.Option.{option_or, option_map}
+use Rattle.std.specs.Option.{option_or}
 use Rattle.wt_tree.specs.declared.kind.Kind.{Kind}
 use Rattle.wt_tree.specs.declared.kind.Kind.TheVariants as kind
 use Rattle.wt_tree.specs.Kinds.{may_hold}
@@ -13,7 +13,7 @@ use Rattle.wt_fitting.specs.declared.why.FitWhy.{FitWhy}
 use Rattle.wt_fitting.specs.declared.why.FitWhy.TheVariants as why
 use Rattle.wt_fitting.specs.Rows.{row}
 use Rattle.wt_fitting.specs.Data.{Data, data_of}
-use Rattle.wt_fitting.specs.Fit.{Misfit, Found, elements, leaf_in, label_for, texts_in, onto, onto_told, with_children, one_tree, text_fits, fit_told, fit_as, fit_row, fit_node, fit_nodes, fit_body, fit, body_of}
+use Rattle.wt_fitting.specs.Fit.{Misfit, Found, elements, label_for, texts_in, onto, onto_told, with_children, one_tree, text_fits, fit_told, fit_as, fit_row, fit_node, fit_nodes, fit_body, fit, body_of}
 use Rattle.wt_fitting.specs.Misfits.{Place, place, places, places_of_all, places_of_body, is_wrong, IsReason, FitsAlone, FirstMisfit}
 
 -- ---- the first in a list

@@ -1,7 +1,6 @@
 -- The HTML of a node by one level.
-use Rattle.std.proofs.Common.{◌≡◌, ℕ, List, [], ◌∷◌, ◌++◌, refl, sym, ap, ◌∙◌}
+use Rattle.std.proofs.Common.{◌≡◌, List, [], ◌∷◌, ◌++◌, refl, ap, ◌∙◌}
 use Rattle.std.specs.List.{flat_map}
-use Rattle.wt_tree.specs.declared.row.Writing.{Writing}
 use Rattle.wt_tree.specs.declared.row.Writing.TheVariants.{RoundChildren}
 use Rattle.wt_tree.specs.Kinds.{writing}
 use Rattle.wt_markup.specs.Html.{start_tag, end_tag, written, html, html_of_all}

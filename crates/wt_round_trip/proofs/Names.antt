@@ -1,6 +1,6 @@
 -- The names of attributes: they are names of the grammar, and two are the same only where their
 -- places in the order are.
-use Rattle.std.proofs.Common.{◌≡◌, Bool, false, codes, refl}
+use Rattle.std.proofs.Common.{◌≡◌, false, codes, refl}
 use Rattle.std.specs.Prelude.{◌==◌}
 use Rattle.std.specs.Str.{bytes_eq}
 use Rattle.wt_tree.specs.declared.kind.AttrName.{AttrName}

@@ -1,9 +1,8 @@
 -- The elements that are written: what the row of each kind tells, and that it is read as its kind.
-use Rattle.std.proofs.Common.{◌≡◌, ℕ, zero, suc, ◌<◌, inl, inr, Bool, true, false, nat_le, Option, Some, None, List, [], ◌∷◌, ◌++◌, IsUtf8, refl, sym, ap, ◌∙◌, subst, arith, codes}
+use Rattle.std.proofs.Common.{◌≡◌, ℕ, zero, suc, ◌<◌, inl, inr, Bool, true, false, nat_le, Option, Some, None, List, [], ◌∷◌, ◌++◌, refl, sym, ap, ◌∙◌, subst, arith, codes}
 use Rattle.std.specs.Prelude.{◌&&◌, ◌||◌, if◌then◌else◌}
 use Rattle.std.specs.Fmt.{digits}
 use Rattle.std.specs.Str.{bytes_eq}
-use Rattle.std.proofs.lemmas.Bool.{true≢false}
 use Rattle.std.proofs.lemmas.Bool.Decides.{nat_tests}
 use Rattle.json.proofs.Printed.Utf8.{IsUtf8-are_ascii}
 use Rattle.wt_tree.specs.declared.kind.AttrName.{AttrName}
@@ -19,14 +18,12 @@ use Rattle.wt_tree.specs.declared.row.Holding.{Holding}
 use Rattle.wt_tree.specs.declared.row.Holding.TheVariants as holding
 use Rattle.wt_tree.specs.declared.row.Writing.{Writing}
 use Rattle.wt_tree.specs.declared.row.Writing.TheVariants.{AsVoid, RoundCharacter}
-use Rattle.wt_tree.specs.declared.row.Values.TheVariants.{IslandType, IncludeType, SwitchName}
-use Rattle.wt_tree.specs.Kinds.{shape, writing, is_numbered, is_class, admits, may_hold, spelling, tag_name, element_name, fixed_attributes, island_type, include_type, switch_name, own}
-use Rattle.wt_tree.specs.Values.{passes, placeholder, extension_prefix, is_island_type, no_include, no_include_end, only_include, only_include_end, include_only, is_include_type, switch_prefix, is_switch_name}
+use Rattle.wt_tree.specs.Kinds.{shape, writing, is_numbered, is_class, admits, may_hold, spelling, tag_name, element_name, fixed_attributes}
+use Rattle.wt_tree.specs.Values.{placeholder, extension_prefix, is_island_type, no_include, no_include_end, only_include, only_include_end, include_only, is_include_type, switch_prefix, is_switch_name}
 use Rattle.wt_tree.specs.Tree.{Label}
 use Rattle.wt_html_grammar.specs.Signs.{is_void, IsName}
-use Rattle.wt_html_grammar.proofs.Steps.{if_true, if_false}
 use Rattle.wt_fitting.specs.Rows.{row_by, shows_text}
-use Rattle.wt_round_trip.specs.Written.{ranges_read, has_level, AreOwn, HasAttributes, value_at, IsElementLabel}
+use Rattle.wt_round_trip.specs.Written.{ranges_read, has_level, HasAttributes, value_at, IsElementLabel}
 use Rattle.wt_round_trip.proofs.Order.{rises, names_of, names_in, AllUtf8, value_front, own_before}
 use Rattle.wt_round_trip.proofs.Types.{other_text}
 

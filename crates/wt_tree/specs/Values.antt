@@ -1,15 +1,11 @@
 -- The values that an attribute of a node's own may have: what the table says of each.
-use Rattle.std.specs.Prelude.{ℕ, Bool, true, false, ◌&&◌, ◌||◌, not, Option, Some, None, List, [], ◌∷◌, length, drop, codes}
+use Rattle.std.specs.Prelude.{ℕ, Bool, true, false, ◌&&◌, ◌||◌, List, [], ◌∷◌, length, drop, codes}
 use Rattle.std.specs.List.{list_any}
 use Rattle.std.specs.Str.{bytes_eq}
 use Rattle.wt_span.specs.Bytes.{begins}
 use Rattle.wt_span.specs.Tags.{is_extension}
-use Rattle.wt_tree.specs.declared.kind.AttrName.{AttrName}
-use Rattle.wt_tree.specs.declared.kind.Kind.{Kind}
 use Rattle.wt_tree.specs.declared.row.Values.{Values}
 use Rattle.wt_tree.specs.declared.row.Values.TheVariants.{IslandType, IncludeType, SwitchName, Any, Link}
-use Rattle.wt_tree.specs.declared.row.Own.{Own}
-use Rattle.wt_tree.specs.Kinds.{spelling}
 
 -- ---- islands: of an extension, by its name, or of a tag, media or a function
 

@@ -1,4 +1,4 @@
-use Rattle.std.proofs.Common.{◌≡◌, ◌∙◌, ◌++◌, [], get_or, ap, length}
+use Rattle.std.proofs.Common.{◌≡◌, ◌∙◌, ◌++◌, get_or, ap}
 use Rattle.std.proofs.lemmas.List.{drop_more}
 use Rattle.wt_markup.specs.Escapes.{escape}
 use Rattle.wt_html_out.proofs.Spending.{spends_stop}

@@ -1,4 +1,4 @@
-use Rattle.std.proofs.Common.{arith, ◌∙◌, ap, ◌≡◌}
+use Rattle.std.proofs.Common.{arith, ◌∙◌, ◌≡◌}
 use Rattle.std.proofs.lemmas.Grind.{common_steps}
 use Rattle.wt_span.specs.Slice.{bytes_of}
 use Rattle.wt_markup.specs.Escapes.{escaped}

@@ -1,4 +1,4 @@
-use Rattle.std.proofs.Common.{sym, ◌∙◌, arith, ◌≡◌, ◌++◌, append_assoc}
+use Rattle.std.proofs.Common.{sym, ◌∙◌, arith, append_assoc}
 use Rattle.std.proofs.lemmas.Grind.{common_steps}
 use Rattle.wt_html_out.proofs.Htmls.{html_views, html_children}
 use Rattle.wt_html_out.proofs.nodes.+html.Goals as goal

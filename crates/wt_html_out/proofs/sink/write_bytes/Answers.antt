@@ -1,4 +1,4 @@
-use Rattle.std.proofs.Common.{◌<◌, ◌∙◌, arith, length-drop}
+use Rattle.std.proofs.Common.{◌<◌, ◌∙◌, arith}
 use Rattle.std.proofs.lemmas.Grind.{common_steps}
 use Rattle.wt_html_out.proofs.Fronts.{front_grows}
 use Rattle.wt_html_out.proofs.sink.write_bytes.Goals as goal
