@@ -5,6 +5,7 @@ pub mod NumberLaws
 pub mod PageLaws
 pub mod RefusalLines
 pub mod RunLaws
+pub mod StatusLaws
 pub mod TreeLaws
 pub mod WikitextLaws
 pub mod WriteLaws
