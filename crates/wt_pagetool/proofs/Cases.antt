@@ -4,20 +4,23 @@ use Rattle.std.specs.Prelude.{Some, None, codes, decimal}
 use Rattle.wt_names.specs.Namespace.{prefix_of, full_name_of}
 use Rattle.wt_names.specs.Reading.{whole_in, cut_namespace, title_in}
 use Rattle.wt_names.specs.Good.{is_forbidden, is_allowed, has_signature, is_step, begins_with_step, holds_step, ends_with_step, is_good, read_text}
-use Rattle.wt_pagetool.specs.Words.{page_name, html, ranges, wikitext, command_of}
+use Rattle.wt_pagetool.specs.declared.command.PageCommand.TheVariants as pages
+use Rattle.wt_pagetool.specs.declared.command.Command.TheVariants.{Page, Wikitext}
+use Rattle.wt_pagetool.specs.declared.refusal.Refusal.TheVariants.{Usage, Absent, NotUtf8, NotBuilt, HtmlTooLong, Html, Unfit, Unsourced}
+use Rattle.wt_pagetool.specs.Words.{page_name, command_of}
 use Rattle.wt_tree.specs.Tree.{Tree}
 use Rattle.wt_html_grammar.specs.declared.why.HtmlWhy.TheVariants as ill_why
 use Rattle.wt_fitting.specs.declared.why.FitWhy.TheVariants as fit_whys
 use Rattle.wt_fitting.specs.Read.{page as as_page, misfit}
-use Rattle.wt_pagetool.specs.Answers.{refused, page_answer, ranges_of, source_answer, answer_told}
-use Rattle.wt_pagetool.specs.Refusals.{usage, absent, not_utf8_at, unsourced, html_refused, does_not_fit, html_why, fit_why, not_built, html_too_long, braces_too_deep, edit_refused, bad_content, nested, text_of, edit_why, content_why, line_of}
+use Rattle.wt_pagetool.specs.Answers.{refused, page_answer, made, source_answer, answer_told}
+use Rattle.wt_pagetool.specs.Refusals.{html_why, fit_why, text_of, line_of}
 
 -- the words
-html_main : command_of (codes "html" ∷ codes "main page" ∷ []) ≡ Some (html (codes "Main page"))
+html_main : command_of (codes "html" ∷ codes "main page" ∷ []) ≡ Some (Page pages.Html (codes "Main page"))
 unfolding command_of page_name read_text is_allowed is_forbidden title_in whole_in cut_namespace is_good full_name_of prefix_of has_signature is_step begins_with_step holds_step ends_with_step
 html_main = refl
 
-ranges_main : command_of (codes "ranges" ∷ codes "main page" ∷ []) ≡ Some (ranges (codes "Main page"))
+ranges_main : command_of (codes "ranges" ∷ codes "main page" ∷ []) ≡ Some (Page pages.Ranges (codes "Main page"))
 unfolding command_of page_name read_text is_allowed is_forbidden title_in whole_in cut_namespace is_good full_name_of prefix_of has_signature is_step begins_with_step holds_step ends_with_step
 ranges_main = refl
 
@@ -37,7 +40,7 @@ html_fragment : command_of (codes "html" ∷ codes "A#b" ∷ []) ≡ None
 unfolding command_of page_name read_text is_allowed is_forbidden title_in whole_in cut_namespace is_good full_name_of prefix_of has_signature is_step begins_with_step holds_step ends_with_step
 html_fragment = refl
 
-wikitext_alone : command_of (codes "wikitext" ∷ []) ≡ Some wikitext
+wikitext_alone : command_of (codes "wikitext" ∷ []) ≡ Some Wikitext
 unfolding command_of
 wikitext_alone = refl
 
@@ -46,7 +49,7 @@ unfolding command_of
 wikitext_title = refl
 
 -- words of no command are answered by the usage, whatever is told
-words_of_none : answer_told None None [] ≡ Some (refused usage)
+words_of_none : answer_told None None [] ≡ Some (refused Usage)
 unfolding answer_told command_of
 words_of_none = refl
 
@@ -56,44 +59,36 @@ unfolding answer_told command_of
 input_not_told = refl
 
 -- an element without a source, whatever the tree; an element that doesn't fit
-no_source : (t : Tree) → source_answer (as_page t (Some 6)) ≡ refused (unsourced 6)
+no_source : (t : Tree) → source_answer (as_page t (Some 6)) ≡ refused (Unsourced 6)
 unfolding source_answer
 no_source t = refl
 
-no_place : source_answer (misfit 2 fit_whys.Place) ≡ refused (does_not_fit 2 fit_whys.Place)
+no_place : source_answer (misfit 2 fit_whys.Place) ≡ refused (Unfit 2 fit_whys.Place)
 unfolding source_answer
 no_place = refl
 
 -- a folder without a page of this title, and a page that isn't UTF-8, whatever is made of a page
-no_page : page_answer None ranges_of ≡ refused absent
+no_page : page_answer None (made pages.Ranges) ≡ refused Absent
 unfolding page_answer
 no_page = refl
 
 -- the lines, with the digits of a number as they stand
-not_built_line : (place : ℕ) → line_of (not_built place) ≡ codes "wtround: not built at " ++ decimal place ++ codes "\n"
+not_built_line : (place : ℕ) → line_of (NotBuilt place) ≡ codes "wtround: not built at " ++ decimal place ++ codes "\n"
 unfolding line_of text_of
 not_built_line place = refl
 
-not_utf8_line : (place : ℕ) → line_of (not_utf8_at place) ≡ codes "wtround: page not UTF-8 at " ++ decimal place ++ codes "\n"
+not_utf8_line : (place : ℕ) → line_of (NotUtf8 place) ≡ codes "wtround: page not UTF-8 at " ++ decimal place ++ codes "\n"
 unfolding line_of text_of
 not_utf8_line place = refl
 
-html_line : line_of html_too_long ≡ codes "wtround: html too long\n"
+html_line : line_of HtmlTooLong ≡ codes "wtround: html too long\n"
 unfolding line_of text_of
 html_line = refl
 
-braces_line : (place : ℕ) → line_of (braces_too_deep (Some (codes "Template:T")) place) ≡ codes "wtround: braces too deep at " ++ (decimal place ++ codes " in Template:T\n")
-unfolding line_of text_of
-braces_line place = search (rules, append_assoc)
-
-edit_line : (id : ℕ) → line_of (edit_refused (bad_content id nested)) ≡ codes "wtround: edit refused: BadContent " ++ (decimal id ++ codes " Nested\n")
-unfolding line_of text_of edit_why content_why
-edit_line id = search (rules, append_assoc)
-
-ill_line : (place : ℕ) → line_of (html_refused place ill_why.EndTag) ≡ codes "wtround: html refused at " ++ (decimal place ++ codes ": EndTag\n")
+ill_line : (place : ℕ) → line_of (Html place ill_why.EndTag) ≡ codes "wtround: html refused at " ++ (decimal place ++ codes ": EndTag\n")
 unfolding line_of text_of html_why
 ill_line place = search (rules, append_assoc)
 
-unfit_line : (n : ℕ) → line_of (does_not_fit n fit_whys.Place) ≡ codes "wtround: element " ++ (decimal n ++ codes " does not fit: Place\n")
+unfit_line : (n : ℕ) → line_of (Unfit n fit_whys.Place) ≡ codes "wtround: element " ++ (decimal n ++ codes " does not fit: Place\n")
 unfolding line_of text_of fit_why
 unfit_line n = search (rules, append_assoc)

@@ -7,19 +7,24 @@ use Rattle.wt_outer.specs.Device.{Pages}
 use Rattle.wt_markup.specs.Html.{html_text}
 use Rattle.wt_fitting.specs.Read.{read}
 use Rattle.wt_pagetool.specs.declared.output.Output.{Output}
-use Rattle.wt_pagetool.specs.declared.refusal.Reason.{Reason}
-use Rattle.wt_pagetool.specs.declared.refusal.Reason.TheVariants.{Usage, Absent, TooLong, NotUtf8, NotBuilt, HtmlTooLong, InputTooLong, Html, Unfit, Unsourced, ReadFault, FolderFault, NoMemory}
+use Rattle.wt_pagetool.specs.declared.status.Status.{Status}
+use Rattle.wt_pagetool.specs.declared.refusal.Refusal.{Refusal}
+use Rattle.wt_pagetool.specs.declared.refusal.Refusal.TheVariants.{HtmlTooLong}
+use Rattle.wt_pagetool.specs.declared.command.Command.TheVariants.{Wikitext}
 use Rattle.wt_pagetool.specs.Outputs.{output_bytes}
-use Rattle.wt_pagetool.specs.Refusals.{html_too_long}
+use Rattle.wt_pagetool.specs.Statuses.{code}
+use Rattle.wt_pagetool.specs.Refusals.{status_of}
 use Rattle.wt_page_round_trip.specs.PageTree.{page_tree}
-use Rattle.wt_pagetool.specs.Words.{wikitext, command_of}
+use Rattle.wt_pagetool.specs.Words.{command_of}
 use Rattle.wt_pagetool.specs.Answers.{done, refused, html_of, html_answer, source_answer, wikitext_answer, answer_told}
-use Rattle.wt_pagetool.specs.Reasons.{Answered}
-use Rattle.wt_pagetool.specs.Reports.{Sunk, Reported}
+use Rattle.wt_pagetool.specs.Causes.{Answered}
+use Rattle.wt_pagetool.specs.Devices.{SinkUse}
+use Rattle.wt_pagetool.specs.Reports.{Reported}
 use Rattle.wt_pagetool.specs.GivenBack.{IsReadBack, IsGivenBack, GaveBack}
 use Rattle.wt_pagetool.proofs.PageLaws.{text_of, page_made}
 use Rattle.wt_pagetool.proofs.AnswerLaws.{wikitext_within}
 use Rattle.wt_pagetool.proofs.WikitextLaws.{source_sourced}
+use Rattle.wt_pagetool.proofs.StatusLaws.{IsUnansweredBy, unanswered, no_refusal}
 use Rattle.wt_pagetool.proofs.RunLaws.{told_wikitext}
 use Rattle.wt_page_round_trip.proofs.Pages.{page_is_read, same_page}
 use Rattle.wt_round_trip.specs.Written.{unranged}
@@ -34,7 +39,7 @@ record Written (page bytes : List ℕ) : Type 0 where
 abbrev IsFew : List ℕ → List ℕ → Type 0
 IsFew html bytes = (bytes ≡ html) × (length bytes ≤ 67108864)
 
-few_html : (html bytes : List ℕ) (v : Bool) → nat_lt 67108864 (length html) ≡ v → cond v (refused html_too_long) (done html) ≡ done bytes → IsFew html bytes
+few_html : (html bytes : List ℕ) (v : Bool) → nat_lt 67108864 (length html) ≡ v → cond v (refused HtmlTooLong) (done html) ≡ done bytes → IsFew html bytes
 few_html html bytes true is e = cc
 few_html html bytes false is e =
     let same : bytes ≡ html = cc in
@@ -61,40 +66,23 @@ all_given_back page =
 
 -- ---- the clause
 
-gave_step : (page : List ℕ) (found : Result Output Reason) (status : ℕ) (o e : Sunk) → Answered (done page) found → Reported found status o e → GaveBack page status o.old o.new
-gave_step page (Ok output) status o e a (inl r) =
+gave_step : (page : List ℕ) (found : Result Output Refusal) (s : Status) (ended : ℕ) (o e : SinkUse) → ended ≡ code s → Answered (done page) found → Reported found s o e → GaveBack page ended o.taken_before o.taken_after
+gave_step page (Ok output) s ended o e is a (inl r) =
     let same : page ≡ output_bytes output = cc in
-    inl (r.0, subst (Appends o.old o.new) (sym same) r.1.taken)
-gave_step page (Ok output) status o e a (inr r) = inr (omega arith)
-gave_step page (Err Usage) status o e a r = cc
-gave_step page (Err Absent) status o e a r = cc
-gave_step page (Err TooLong) status o e a r = cc
-gave_step page (Err (NotUtf8 place)) status o e a r = cc
-gave_step page (Err (NotBuilt place)) status o e a r = cc
-gave_step page (Err HtmlTooLong) status o e a r = cc
-gave_step page (Err InputTooLong) status o e a r = cc
-gave_step page (Err (Html place why)) status o e a r = cc
-gave_step page (Err (Unfit n why)) status o e a r = cc
-gave_step page (Err (Unsourced n)) status o e a r = cc
-gave_step page (Err ReadFault) status o e a (u, inl (inl t)) = inr (omega arith)
-gave_step page (Err ReadFault) status o e a (u, inl (inr t)) = inr (omega arith)
-gave_step page (Err ReadFault) status o e a (u, inr (inl t)) = inr (omega arith)
-gave_step page (Err ReadFault) status o e a (u, inr (inr t)) = inr (omega arith)
-gave_step page (Err FolderFault) status o e a (u, inl (inl t)) = inr (omega arith)
-gave_step page (Err FolderFault) status o e a (u, inl (inr t)) = inr (omega arith)
-gave_step page (Err FolderFault) status o e a (u, inr (inl t)) = inr (omega arith)
-gave_step page (Err FolderFault) status o e a (u, inr (inr t)) = inr (omega arith)
-gave_step page (Err NoMemory) status o e a (u, inl (inl t)) = inr (omega arith)
-gave_step page (Err NoMemory) status o e a (u, inl (inr t)) = inr (omega arith)
-gave_step page (Err NoMemory) status o e a (u, inr (inl t)) = inr (omega arith)
-gave_step page (Err NoMemory) status o e a (u, inr (inr t)) = inr (omega arith)
+    inl (is ∙ ap code r.0, subst (Appends o.taken_before o.taken_after) (sym same) r.1.taken)
+gave_step page (Ok output) s ended o e is a (inr r) = inr (unanswered s ended is (subst IsUnansweredBy (sym r.0) tt))
+gave_step page (Err refusal) s ended o e is a (u, inl (inl t)) = inr (unanswered s ended is (subst IsUnansweredBy (sym t.0) (no_refusal page refusal (status_of refusal) a)))
+gave_step page (Err refusal) s ended o e is a (u, inl (inr t)) = inr (unanswered s ended is (subst IsUnansweredBy (sym t.0) tt))
+gave_step page (Err refusal) s ended o e is a (u, inr (inl t)) = inr (unanswered s ended is (subst IsUnansweredBy (sym t.0) tt))
+gave_step page (Err refusal) s ended o e is a (u, inr (inr t)) = inr (unanswered s ended is (subst IsUnansweredBy (sym t.0) tt))
 
-gave_told : (input : Option (List ℕ)) (found : Result Output Reason) (status : ℕ) (o e : Sunk) → IfSome (option_map wikitext_answer input) (λ a. Answered a found) → Reported found status o e
-    → IfSome input (λ bytes. (page : List ℕ) → html_answer (Some page) ≡ done bytes → GaveBack page status o.old o.new)
-gave_told None found status o e a r = tt
-gave_told (Some bytes) found status o e a r = λ page is. gave_step page found status o e (subst (λ x. Answered x found) (all_given_back page bytes is) a) r
+gave_told : (input : Option (List ℕ)) (found : Result Output Refusal) (s : Status) (ended : ℕ) (o e : SinkUse) → ended ≡ code s → IfSome (option_map wikitext_answer input) (λ a. Answered a found) → Reported found s o e
+    → IfSome input (λ bytes. (page : List ℕ) → html_answer (Some page) ≡ done bytes → GaveBack page ended o.taken_before o.taken_after)
+gave_told None found s ended o e is a r = tt
+gave_told (Some bytes) found s ended o e is a r = λ page h. gave_step page found s ended o e is (subst (λ x. Answered x found) (all_given_back page bytes h) a) r
 
-pub run_gives_back : (told : Option Pages) (input : Option (List ℕ)) (words : List (List ℕ)) (found : Result Output Reason) (status : ℕ) (o e : Sunk) → command_of words ≡ Some wikitext
-    → IfSome (answer_told told input words) (λ a. Answered a found) → Reported found status o e → IfSome input (λ bytes. (page : List ℕ) → html_answer (Some page) ≡ done bytes → GaveBack page status o.old o.new)
-run_gives_back told input words found status o e is a r =
-    gave_told input found status o e (subst (λ x. IfSome x (λ y. Answered y found)) (told_wikitext told input words is) a) r
+pub run_gives_back : (pages : Option Pages) (input : Option (List ℕ)) (words : List (List ℕ)) (found : Result Output Refusal) (s : Status) (ended : ℕ) (o e : SinkUse) → ended ≡ code s → command_of words ≡ Some Wikitext
+    → IfSome (answer_told pages input words) (λ a. Answered a found) → Reported found s o e
+    → IfSome input (λ bytes. (page : List ℕ) → html_answer (Some page) ≡ done bytes → GaveBack page ended o.taken_before o.taken_after)
+run_gives_back pages input words found s ended o e is w a r =
+    gave_told input found s ended o e is (subst (λ x. IfSome x (λ y. Answered y found)) (told_wikitext pages input words w) a) r

@@ -1,8 +1,10 @@
 pub mod AnswerLaws
 mod Cases
 pub mod GivenBackLaws
+pub mod NumberLaws
 pub mod PageLaws
 pub mod RefusalLines
 pub mod RunLaws
+pub mod StatusLaws
 pub mod WikitextLaws
 pub mod WriteLaws

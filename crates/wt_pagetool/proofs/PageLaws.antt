@@ -9,18 +9,16 @@ use Rattle.wt_outer.specs.declared.device.Fetched.{Fetched}
 use Rattle.wt_outer.specs.declared.device.Fetched.TheVariants as fetched
 use Rattle.wt_tree.specs.Tree.{Tree}
 use Rattle.wt_tree.specs.declared.annotated.Annotated.{Annotated}
-use Rattle.wt_markup.specs.Html.{html_text}
-use Rattle.wt_listing.specs.Listing.{listing}
 use Rattle.wt_utf8.specs.Places.{IsPlace, not_utf8_place}
 use Rattle.wt_utf8.proofs.PlaceLaws.{exact as exact_text, at_place}
 use Rattle.wt_not_built.specs.FirstPlace.{first_unbuilt}
 use Rattle.wt_page_round_trip.specs.PageTree.{page_tree}
-use Rattle.wt_pagetool.specs.Refusals.{too_long}
-use Rattle.wt_pagetool.specs.Answers.{Answer, done, refused, built_answer, text_answer, page_answer, IsAnswered, html_within, html_of, html_answer, ranges_of, ranges_answer}
+use Rattle.wt_pagetool.specs.Answers.{Answer, done, refused, built_answer, text_answer, page_answer, IsAnswered, made_of_tree, made as made_by}
 use Rattle.wt_pagetool.specs.declared.output.Output.{Output}
-use Rattle.wt_pagetool.specs.declared.refusal.Reason.{Reason}
-use Rattle.wt_pagetool.specs.declared.refusal.Reason.TheVariants.{Usage, Absent, TooLong, NotUtf8, NotBuilt, HtmlTooLong, InputTooLong, Html, Unfit, Unsourced, ReadFault, FolderFault, NoMemory}
-use Rattle.wt_pagetool.specs.Reasons.{RefusesPage, IsUnbuilt, IsFetched, Answered}
+use Rattle.wt_pagetool.specs.declared.command.PageCommand.{PageCommand}
+use Rattle.wt_pagetool.specs.declared.refusal.Refusal.{Refusal}
+use Rattle.wt_pagetool.specs.declared.refusal.Refusal.TheVariants.{Usage, Absent, TooLong, NotUtf8, NotBuilt, HtmlTooLong, InputTooLong, Html, Unfit, Unsourced, ReadFault, FolderFault, WriteFault, NoMemory}
+use Rattle.wt_pagetool.specs.Causes.{RefusesPage, IsUnbuilt, IsFetched, Answered}
 
 -- ---- texts
 
@@ -54,7 +52,7 @@ page_not_built : (page : List ℕ) (place : ℕ) → length page ≤ 2097152 →
 unfolding page_answer
 page_not_built page place h e f made = rw (short page h, e, f) refl
 
-pub page_unbuilt : (page : List ℕ) (reason : Reason) → length page ≤ 2097152 → not_utf8_place page ≡ None → IsUnbuilt (first_unbuilt page) reason → RefusesPage (Some page) reason
+pub page_unbuilt : (page : List ℕ) (reason : Refusal) → length page ≤ 2097152 → not_utf8_place page ≡ None → IsUnbuilt (first_unbuilt page) reason → RefusesPage (Some page) reason
 page_unbuilt page Usage h e u = absurd u
 page_unbuilt page Absent h e u = absurd u
 page_unbuilt page TooLong h e u = absurd u
@@ -67,17 +65,18 @@ page_unbuilt page (Unfit n why) h e u = absurd u
 page_unbuilt page (Unsourced n) h e u = absurd u
 page_unbuilt page ReadFault h e u = absurd u
 page_unbuilt page FolderFault h e u = absurd u
+page_unbuilt page WriteFault h e u = absurd u
 page_unbuilt page NoMemory h e u = λ made. tt
 
 pub page_answered : (page : List ℕ) → length page ≤ 2097152 → not_utf8_place page ≡ None → first_unbuilt page ≡ None → IsAnswered page
 unfolding page_answer
 page_answered page h e f made = rw (short page h, e, f) refl
 
-pub tree_answered : (page text : List ℕ) (result : Result Annotated Reason) → text ≡ page → length page ≤ 2097152 → not_utf8_place page ≡ None → IfOk result (λ t. first_unbuilt text ≡ None) → IfOk result (λ t. IsAnswered page)
+pub tree_answered : (page text : List ℕ) (result : Result Annotated Refusal) → text ≡ page → length page ≤ 2097152 → not_utf8_place page ≡ None → IfOk result (λ t. first_unbuilt text ≡ None) → IfOk result (λ t. IsAnswered page)
 tree_answered page text (Ok t) same h e f = page_answered page h e (sym (ap first_unbuilt same) ∙ f)
 tree_answered page text (Err reason) same h e f = tt
 
-pub tree_refused : (page text : List ℕ) (result : Result Annotated Reason) → text ≡ page → length page ≤ 2097152 → not_utf8_place page ≡ None → IfErr result (IsUnbuilt (first_unbuilt text)) → IfErr result (RefusesPage (Some page))
+pub tree_refused : (page text : List ℕ) (result : Result Annotated Refusal) → text ≡ page → length page ≤ 2097152 → not_utf8_place page ≡ None → IfErr result (IsUnbuilt (first_unbuilt text)) → IfErr result (RefusesPage (Some page))
 tree_refused page text (Ok t) same h e u = tt
 tree_refused page text (Err reason) same h e u = page_unbuilt page reason h e (subst (λ bs. IsUnbuilt (first_unbuilt bs) reason) same u)
 
@@ -97,7 +96,7 @@ text_made : (page bytes : List ℕ) (made : List ℕ → Answer) (o : Option ℕ
 text_made page bytes made (Some place) within is e = cc
 text_made page bytes made None within is e = built_made page bytes made (first_unbuilt page) within is refl e
 
-long_made : (page bytes : List ℕ) (made : List ℕ → Answer) (v : Bool) → nat_lt 2097152 (length page) ≡ v → cond v (refused too_long) (text_answer page made (not_utf8_place page)) ≡ done bytes → IsMade page made bytes
+long_made : (page bytes : List ℕ) (made : List ℕ → Answer) (v : Bool) → nat_lt 2097152 (length page) ≡ v → cond v (refused TooLong) (text_answer page made (not_utf8_place page)) ≡ done bytes → IsMade page made bytes
 long_made page bytes made true is e = cc
 long_made page bytes made false is e = text_made page bytes made (not_utf8_place page) (grind (arith, nat_tests)) refl e
 
@@ -116,7 +115,7 @@ stands_made (Some page) made bytes e = (page, refl, (page_made page bytes made e
 -- ---- what was fetched
 
 -- a page that is cut past the limit is too long all the same
-long_is : (page : List ℕ) (made : List ℕ → Answer) → 2097152 < length page → page_answer (Some page) made ≡ refused too_long
+long_is : (page : List ℕ) (made : List ℕ → Answer) → 2097152 < length page → page_answer (Some page) made ≡ refused TooLong
 long_is page made h = page_too_long page h made
 
 cut_step : (page : List ℕ) (made : List ℕ → Answer) → (length page ≤ 2097153) ⊎ (2097153 < length page) → page_answer (Some page) made ≡ page_answer (Some (take 2097153 page)) made
@@ -151,22 +150,19 @@ absent_is (Some pages) title answer is gives = absent_step (pages title) (sym (a
 
 -- ---- from the tree of a page to the answer
 
-pub html_answered : (page : List ℕ) (t : Tree) (result : Result Output Reason) → IsAnswered page → t ≡ page_tree page → Answered (html_within (html_text t)) result → Answered (html_answer (Some page)) result
-html_answered page t result answered is a = subst (λ x. Answered x result) (ap (λ u. html_within (html_text u)) is ∙ sym (answered html_of)) a
+pub made_answered : (command : PageCommand) (page : List ℕ) (t : Tree) (result : Result Output Refusal) → IsAnswered page → t ≡ page_tree page → Answered (made_of_tree command t) result → Answered (page_answer (Some page) (made_by command)) result
+made_answered command page t result answered is a = subst (λ x. Answered x result) (ap (made_of_tree command) is ∙ sym (answered (made_by command))) a
 
-pub ranges_answered : (page : List ℕ) (t : Tree) (result : Result Output Reason) → IsAnswered page → t ≡ page_tree page → Answered (done (listing t)) result → Answered (ranges_answer (Some page)) result
-ranges_answered page t result answered is a = subst (λ x. Answered x result) (ap (λ u. done (listing u)) is ∙ sym (answered ranges_of)) a
-
-abbrev refused_by : Reason → Result Output Reason
+abbrev refused_by : Refusal → Result Output Refusal
 refused_by reason = Err reason
 
 -- from what was fetched to what stands under the title
-pub title_answered : (told : Option Pages) (title page : List ℕ) (made : List ℕ → Answer) (result : Result Output Reason) → IfSome told (λ pages. IsFetched (pages title) (Ok page)) → Answered (page_answer (Some page) made) result
+pub title_answered : (told : Option Pages) (title page : List ℕ) (made : List ℕ → Answer) (result : Result Output Refusal) → IfSome told (λ pages. IsFetched (pages title) (Ok page)) → Answered (page_answer (Some page) made) result
     → IfSome told (λ pages. Answered (page_answer (pages title) made) result)
 title_answered None title page made result f a = tt
 title_answered (Some pages) title page made result f a = subst (λ x. Answered x result) (sym (f made)) a
 
-pub title_refused : (told : Option Pages) (title : List ℕ) (made : List ℕ → Answer) (reason : Reason) → IfSome told (λ pages. IsFetched (pages title) (Err reason))
+pub title_refused : (told : Option Pages) (title : List ℕ) (made : List ℕ → Answer) (reason : Refusal) → IfSome told (λ pages. IsFetched (pages title) (Err reason))
     → IfSome told (λ pages. Answered (page_answer (pages title) made) (refused_by reason))
 title_refused None title made reason f = tt
 title_refused (Some pages) title made reason f = f made

@@ -1,60 +1,53 @@
 -- What `run` ends with: from what was found and what was reported.
-use Rattle.std.proofs.Common.{◌≡◌, ℕ, ◌<◌, ◌≤◌, List, length, true, false, Bool, cond, refl, sym, ◌∙◌, subst, arith, inl, inr}
-use Rattle.std.specs.Prelude.{nat_lt, Option, Some, None, option_map, IfSome, Result, Ok, Err}
-use Rattle.std.specs.Io.KnownBytes.{Appends}
-use Rattle.std.proofs.lemmas.List.{take_all}
+use Rattle.std.proofs.Common.{◌≡◌, ℕ, ◌≤◌, List, length, true, false, Bool, cond, refl, sym, ap, ◌∙◌, subst, arith, inl, inr}
+use Rattle.std.specs.Prelude.{◌⊎◌, ◌≢◌, nat_lt, Option, Some, None, option_map, IfSome, IfErr, OnOk, Result, Ok, Err}
+use Rattle.std.specs.Io.KnownBytes.{Appends, IsAtEnd}
 use Rattle.std.proofs.lemmas.Bool.Decides.{nat_tests}
 use Rattle.wt_outer.specs.Device.{Pages}
 use Rattle.wt_tree.specs.Tree.{Tree}
 use Rattle.wt_tree.specs.Source.{flat}
 use Rattle.wt_markup.specs.Html.{html_text}
-use Rattle.wt_listing.specs.Listing.{listing}
 use Rattle.wt_fitting.specs.Read.{Read, page as as_page, ill, misfit, read}
-use Rattle.wt_pagetool.specs.declared.output.Output.{Output}
-use Rattle.wt_pagetool.specs.declared.refusal.Reason.{Reason}
-use Rattle.wt_pagetool.specs.declared.refusal.Reason.TheVariants.{Usage, Absent, TooLong, NotUtf8, NotBuilt, HtmlTooLong, InputTooLong, Html, Unfit, Unsourced, ReadFault, FolderFault, NoMemory}
-use Rattle.wt_pagetool.specs.Outputs.{output_bytes}
-use Rattle.wt_pagetool.specs.Refusals.{html_too_long, input_too_long, write_fault, no_memory, status_of, line_of}
 use Rattle.wt_page_round_trip.specs.PageTree.{page_tree}
-use Rattle.wt_pagetool.specs.Words.{html, ranges, wikitext, command_of}
-use Rattle.wt_pagetool.specs.Answers.{Answer, done, refused, html_of, html_answer, ranges_of, ranges_answer, source_answer, wikitext_answer, answer_told, IsDue}
-use Rattle.wt_pagetool.specs.Reasons.{meant, Answered}
-use Rattle.wt_pagetool.specs.Reports.{AppendsFront, Sunk, Reported, WroteHtml, WroteRanges, WroteSource, BeginsRefusal}
+use Rattle.wt_pagetool.specs.declared.limits.TheConstants.{HTML_BYTES}
+use Rattle.wt_pagetool.specs.declared.status.Status.{Status}
+use Rattle.wt_pagetool.specs.declared.status.Status.TheVariants as status
+use Rattle.wt_pagetool.specs.declared.refusal.Refusal.{Refusal}
+use Rattle.wt_pagetool.specs.declared.refusal.Refusal.TheVariants.{HtmlTooLong, InputTooLong, NoMemory}
+use Rattle.wt_pagetool.specs.declared.output.Output.{Output}
+use Rattle.wt_pagetool.specs.declared.command.PageCommand.{PageCommand}
+use Rattle.wt_pagetool.specs.declared.command.PageCommand.TheVariants.{Html, Ranges}
+use Rattle.wt_pagetool.specs.declared.command.Command.TheVariants.{Page, Wikitext}
+use Rattle.wt_pagetool.specs.Outputs.{output_bytes}
+use Rattle.wt_pagetool.specs.Statuses.{code, IsAnswer, IsAnswered, IsUnanswered}
+use Rattle.wt_pagetool.specs.Devices.{SourceUse, FolderUse, SinkUse, SourceFailed, FolderFailed, Untouched, Took}
+use Rattle.wt_pagetool.specs.Refusals.{status_of}
+use Rattle.wt_pagetool.specs.Words.{command_of, Reads}
+use Rattle.wt_pagetool.specs.Answers.{Answer, done, refused, page_output, made, page_answer, source_answer, wikitext_answer, answer_told, status_of_answer, IsDone}
+use Rattle.wt_pagetool.specs.Causes.{Answered, RefusesAs, IsKept, found_status}
+use Rattle.wt_pagetool.specs.Calls.{call, IsDueAs, IsDue, KeptCounts, NothingFailed}
+use Rattle.wt_pagetool.specs.Reports.{Reported, WasDone, WasRefused, OutFailed, ErrFailed, WrotePage, WroteSource}
+use Rattle.wt_pagetool.proofs.StatusLaws.{is_done, is_write_fault, is_answer, IsUnansweredBy, unanswered}
 use Rattle.wt_pagetool.proofs.PageLaws.{stands_made}
 use Rattle.wt_page_round_trip.proofs.PageTrees.{page_tiled, page_covered, page_slices, page_numbered}
 
--- ---- an answer over a page is made of what stands under the title
+-- ---- what a command makes of a page
 
-within_done : (text bytes : List ℕ) (v : Bool) → cond v (refused html_too_long) (done text) ≡ done bytes → bytes ≡ text
+within_done : (text bytes : List ℕ) (v : Bool) → cond v (refused HtmlTooLong) (done text) ≡ done bytes → bytes ≡ text
 within_done text bytes true e = cc
 within_done text bytes false e = cc
 
-html_is : (page bytes : List ℕ) → html_of page ≡ done bytes → bytes ≡ html_text (page_tree page)
-html_is page bytes e = within_done (html_text (page_tree page)) bytes (nat_lt 67108864 (length (html_text (page_tree page)))) e
+made_is : (command : PageCommand) (page bytes : List ℕ) → made command page ≡ done bytes → bytes ≡ page_output command (page_tree page)
+made_is Html page bytes e = within_done (html_text (page_tree page)) bytes (nat_lt HTML_BYTES (length (html_text (page_tree page)))) e
+made_is Ranges page bytes e = cc
 
-ranges_is : (page bytes : List ℕ) → ranges_of page ≡ done bytes → bytes ≡ listing (page_tree page)
-ranges_is page bytes e = cc
-
-wrote_html : (stands : Option (List ℕ)) (bytes : List ℕ) (old new : Option (List ℕ)) → html_answer stands ≡ done bytes → Appends old new bytes → WroteHtml stands old new
-wrote_html stands bytes old new e wrote =
-    let h = stands_made stands html_of bytes e in
+wrote_page : (command : PageCommand) (stands : Option (List ℕ)) (bytes : List ℕ) (old new : Option (List ℕ)) → page_answer stands (made command) ≡ done bytes → Appends old new bytes → WrotePage command stands old new
+wrote_page command stands bytes old new e wrote =
+    let h = stands_made stands (made command) bytes e in
     record {
       page = h.0;
       found = h.1;
-      wrote = subst (Appends old new) (html_is h.0 bytes h.2) wrote;
-      tiled = page_tiled h.0;
-      covers = page_covered h.0;
-      slices = page_slices h.0;
-      numbered = page_numbered h.0;
-    }
-
-wrote_ranges : (stands : Option (List ℕ)) (bytes : List ℕ) (old new : Option (List ℕ)) → ranges_answer stands ≡ done bytes → Appends old new bytes → WroteRanges stands old new
-wrote_ranges stands bytes old new e wrote =
-    let h = stands_made stands ranges_of bytes e in
-    record {
-      page = h.0;
-      found = h.1;
-      wrote = subst (Appends old new) (ranges_is h.0 bytes h.2) wrote;
+      wrote = subst (Appends old new) (made_is command h.0 bytes h.2) wrote;
       tiled = page_tiled h.0;
       covers = page_covered h.0;
       slices = page_slices h.0;
@@ -74,143 +67,232 @@ source_done (ill place why) bytes e = cc
 source_done (misfit n why) bytes e = cc
 
 abbrev IsSourceOf : List ℕ → List ℕ → Type 0
-IsSourceOf input bytes = (length input ≤ 67108864) × IsSource (read input) bytes
+IsSourceOf input bytes = (length input ≤ HTML_BYTES) × IsSource (read input) bytes
 
-wikitext_step : (input bytes : List ℕ) (v : Bool) → nat_lt 67108864 (length input) ≡ v → cond v (refused input_too_long) (source_answer (read input)) ≡ done bytes → IsSourceOf input bytes
+wikitext_step : (input bytes : List ℕ) (v : Bool) → nat_lt HTML_BYTES (length input) ≡ v → cond v (refused InputTooLong) (source_answer (read input)) ≡ done bytes → IsSourceOf input bytes
 wikitext_step input bytes true is e = cc
 wikitext_step input bytes false is e = (grind (arith, nat_tests), source_done (read input) bytes e)
 
 wikitext_done : (input bytes : List ℕ) → wikitext_answer input ≡ done bytes → IsSourceOf input bytes
 unfolding wikitext_answer
-wikitext_done input bytes e = wikitext_step input bytes (nat_lt 67108864 (length input)) refl e
+wikitext_done input bytes e = wikitext_step input bytes (nat_lt HTML_BYTES (length input)) refl e
 
-wrote_source : (input bytes : List ℕ) (old new : Option (List ℕ)) → wikitext_answer input ≡ done bytes → Appends old new bytes → WroteSource input old new
-wrote_source input bytes old new e wrote =
+wrote_source : (input bytes : List ℕ) (left old new : Option (List ℕ)) → wikitext_answer input ≡ done bytes → IsAtEnd left → Appends old new bytes → WroteSource input left old new
+wrote_source input bytes left old new e ended wrote =
     let h = wikitext_done input bytes e in
     record {
       tree = h.1.0;
       within = h.0;
       reads = h.1.1;
+      ended = ended;
       wrote = subst (Appends old new) h.1.2 wrote;
     }
 
--- ---- statuses
+-- ---- what was found, by how the call ended
 
-status_some : (reason : Reason) → 0 < status_of (meant reason)
-status_some Usage = omega arith
-status_some Absent = omega arith
-status_some TooLong = omega arith
-status_some (NotUtf8 place) = omega arith
-status_some (NotBuilt place) = omega arith
-status_some HtmlTooLong = omega arith
-status_some InputTooLong = omega arith
-status_some (Html place why) = omega arith
-status_some (Unfit n why) = omega arith
-status_some (Unsourced n) = omega arith
-status_some ReadFault = omega arith
-status_some FolderFault = omega arith
-status_some NoMemory = omega arith
+-- a refusal that is due doesn't end a call as one that is done, nor as a sink's fault
+due_not_done : (s : Status) (words : List (List ℕ)) (input : SourceUse) (folder : FolderUse) (r : Refusal) → s ≡ status.Done → IsDueAs s words input folder r → ⊥
+due_not_done s words input folder r e due = subst (λ v. IsDueAs v words input folder r) e due
 
-status_seven : (reason : Reason) → status_of (meant reason) ≡ 7 → ⊥
-status_seven Usage e = omega arith
-status_seven Absent e = omega arith
-status_seven TooLong e = omega arith
-status_seven (NotUtf8 place) e = omega arith
-status_seven (NotBuilt place) e = omega arith
-status_seven HtmlTooLong e = omega arith
-status_seven InputTooLong e = omega arith
-status_seven (Html place why) e = omega arith
-status_seven (Unfit n why) e = omega arith
-status_seven (Unsourced n) e = omega arith
-status_seven ReadFault e = omega arith
-status_seven FolderFault e = omega arith
-status_seven NoMemory e = omega arith
+due_not_fault : (s : Status) (words : List (List ℕ)) (input : SourceUse) (folder : FolderUse) (r : Refusal) → s ≡ status.WriteFault → IsDueAs s words input folder r → ⊥
+due_not_fault s words input folder r e due = subst (λ v. IsDueAs v words input folder r) e due
 
-abbrev found_not : Reason → Result Output Reason
-found_not reason = Err reason
+-- a call that is done found an answer, and `out` took it
+record FoundDone (found : Result Output Refusal) (out err : SinkUse) : Type 0 where
+  pub output : Output
+  pub is : found ≡ Ok output
+  pub wrote : Took out (output_bytes output)
+  pub silent : Untouched err
 
--- ---- the clauses
+found_done : (words : List (List ℕ)) (input : SourceUse) (folder : FolderUse) (out err : SinkUse) (found : Result Output Refusal) (s : Status)
+    → IfErr found (IsDue words input folder) → Reported found s out err → s ≡ status.Done → FoundDone found out err
+found_done words input folder out err (Ok output) s due (inl r) e = record { output = output; is = refl; wrote = r.1; silent = r.2 }
+found_done words input folder out err (Ok output) s due (inr r) e = absurd (let h : status.WriteFault ≡ status.Done = sym r.0 ∙ e in cc)
+found_done words input folder out err (Err refusal) s due (u, inl (inl t)) e = absurd (due_not_done (status_of refusal) words input folder refusal (sym t.0 ∙ e) due)
+found_done words input folder out err (Err refusal) s due (u, inl (inr t)) e = absurd (let h : status.WriteFault ≡ status.Done = sym t.0 ∙ e in cc)
+found_done words input folder out err (Err refusal) s due (u, inr (inl t)) e = absurd (let h : status.NoMemory ≡ status.Done = sym t.0 ∙ e in cc)
+found_done words input folder out err (Err refusal) s due (u, inr (inr t)) e = absurd (let h : status.WriteFault ≡ status.Done = sym t.0 ∙ e in cc)
 
-took_front : (old new : Option (List ℕ)) (bytes : List ℕ) → Appends old new bytes → AppendsFront old new bytes
-took_front old new bytes a = (length bytes, subst (Appends old new) (sym (take_all (length bytes) bytes (omega arith))) a)
+done_of : (words : List (List ℕ)) (input : SourceUse) (folder : FolderUse) (out err : SinkUse) (found : Result Output Refusal)
+    → IfSome (answer_told folder.pages_before input.left_before words) (λ a. Answered a found) → FoundDone found out err → WasDone (call words input folder out err)
+done_of words input folder out err found answered f = record {
+  bytes = output_bytes f.output;
+  answer = subst (λ x. IfSome (answer_told folder.pages_before input.left_before words) (λ a. Answered a x)) f.is answered;
+  wrote = f.wrote;
+  silent = f.silent;
+}
 
--- with status 0 an answer was found, and `out` took it
-abbrev IsFound : Result Output Reason → Sunk → Type 0
-IsFound found o = (output : Output) × (found ≡ Ok output) × Appends o.old o.new (output_bytes output)
+pub run_done : (words : List (List ℕ)) (input : SourceUse) (folder : FolderUse) (out err : SinkUse) (found : Result Output Refusal) (s : Status) (ended : ℕ) → ended ≡ code s
+    → IfSome (answer_told folder.pages_before input.left_before words) (λ a. Answered a found) → IfErr found (IsDue words input folder) → Reported found s out err
+    → ended ≡ code status.Done → WasDone (call words input folder out err)
+run_done words input folder out err found s ended is answered due r e =
+    done_of words input folder out err found answered (found_done words input folder out err found s due r (is_done s (sym is ∙ e)))
 
-found_done : (found : Result Output Reason) (status : ℕ) (o e : Sunk) → Reported found status o e → status ≡ 0 → IsFound found o
-found_done (Ok output) status o e (inl r) zero = (output, refl, r.1.taken)
-found_done (Ok output) status o e (inr r) zero = absurd (omega arith)
-found_done (Err reason) status o e (u, inl (inl t)) zero = let some = status_some reason in absurd (omega arith)
-found_done (Err reason) status o e (u, inl (inr t)) zero = absurd (omega arith)
-found_done (Err reason) status o e (u, inr (inl t)) zero = absurd (omega arith)
-found_done (Err reason) status o e (u, inr (inr t)) zero = absurd (omega arith)
+-- ---- refusals
 
-told_html : (told : Option Pages) (input : Option (List ℕ)) (words : List (List ℕ)) (title : List ℕ) → command_of words ≡ Some (html title) → answer_told told input words ≡ option_map (λ ps. html_answer (ps title)) told
+refused_by : (words : List (List ℕ)) (input : SourceUse) (folder : FolderUse) (out err : SinkUse) (found : Result Output Refusal) (s : Status) (ended : ℕ) → ended ≡ code s
+    → IfErr found (IsDue words input folder) → Reported found s out err → s ≢ status.Done → s ≢ status.WriteFault → WasRefused (call words input folder out err) ended
+refused_by words input folder out err (Ok output) s ended is due (inl r) d w = absurd (d r.0)
+refused_by words input folder out err (Ok output) s ended is due (inr r) d w = absurd (w r.0)
+refused_by words input folder out err (Err refusal) s ended is due (u, inl (inl t)) d w = record { refusal = refusal; due = due; named = is ∙ ap code t.0; nothing = u; line = t.1 }
+refused_by words input folder out err (Err refusal) s ended is due (u, inl (inr t)) d w = absurd (w t.0)
+refused_by words input folder out err (Err refusal) s ended is due (u, inr (inl t)) d w = record { refusal = NoMemory; due = tt; named = is ∙ ap code t.0; nothing = u; line = t.1 }
+refused_by words input folder out err (Err refusal) s ended is due (u, inr (inr t)) d w = absurd (w t.0)
+
+pub run_refused : (words : List (List ℕ)) (input : SourceUse) (folder : FolderUse) (out err : SinkUse) (found : Result Output Refusal) (s : Status) (ended : ℕ) → ended ≡ code s
+    → IfErr found (IsDue words input folder) → Reported found s out err → ended ≢ code status.Done → ended ≢ code status.WriteFault → WasRefused (call words input folder out err) ended
+run_refused words input folder out err found s ended is due r d w =
+    refused_by words input folder out err found s ended is due r (λ e. d (is ∙ ap code e)) (λ e. w (is ∙ ap code e))
+
+-- ---- faults of sinks
+
+fault_by : (words : List (List ℕ)) (input : SourceUse) (folder : FolderUse) (out err : SinkUse) (found : Result Output Refusal) (s : Status)
+    → IfSome (answer_told folder.pages_before input.left_before words) (λ a. Answered a found) → IfErr found (IsDue words input folder) → Reported found s out err → s ≡ status.WriteFault
+    → OutFailed (call words input folder out err) ⊎ ErrFailed (call words input folder out err)
+fault_by words input folder out err (Ok output) s answered due (inl r) e = absurd (let h : status.Done ≡ status.WriteFault = sym r.0 ∙ e in cc)
+fault_by words input folder out err (Ok output) s answered due (inr r) e = inl (record { bytes = output_bytes output; answer = answered; front = r.1; line = r.2 })
+fault_by words input folder out err (Err refusal) s answered due (u, inl (inl t)) e = absurd (due_not_fault (status_of refusal) words input folder refusal (sym t.0 ∙ e) due)
+fault_by words input folder out err (Err refusal) s answered due (u, inl (inr t)) e = inr (record { refusal = refusal; due = due; nothing = u; front = t.1 })
+fault_by words input folder out err (Err refusal) s answered due (u, inr (inl t)) e = absurd (let h : status.NoMemory ≡ status.WriteFault = sym t.0 ∙ e in cc)
+fault_by words input folder out err (Err refusal) s answered due (u, inr (inr t)) e = inr (record { refusal = NoMemory; due = tt; nothing = u; front = t.1 })
+
+pub run_fault : (words : List (List ℕ)) (input : SourceUse) (folder : FolderUse) (out err : SinkUse) (found : Result Output Refusal) (s : Status) (ended : ℕ) → ended ≡ code s
+    → IfSome (answer_told folder.pages_before input.left_before words) (λ a. Answered a found) → IfErr found (IsDue words input folder) → Reported found s out err → ended ≡ code status.WriteFault
+    → OutFailed (call words input folder out err) ⊎ ErrFailed (call words input folder out err)
+run_fault words input folder out err found s ended is answered due r e = fault_by words input folder out err found s answered due r (is_write_fault s (sym is ∙ e))
+
+-- ---- the answer, where it is told
+
+-- a refusal that was found has the status of the answer, or that of a fault or of want of memory
+refusal_exact : (a : Answer) (r : Refusal) (s : Status) → s ≡ status_of r → RefusesAs s r a → (s ≡ status_of_answer a) ⊎ IsUnansweredBy s
+refusal_exact a r status.Done e h = absurd h
+refusal_exact a r status.Usage e h = inl (e ∙ ap status_of_answer (sym h))
+refusal_exact a r status.PageRefused e h = inl (e ∙ ap status_of_answer (sym h))
+refusal_exact a r status.HtmlRefused e h = inl (e ∙ ap status_of_answer (sym h))
+refusal_exact a r status.EditRefused e h = inl (e ∙ ap status_of_answer (sym h))
+refusal_exact a r status.ReadFault e h = inr tt
+refusal_exact a r status.FolderFault e h = inr tt
+refusal_exact a r status.WriteFault e h = inr tt
+refusal_exact a r status.NoMemory e h = inr tt
+
+exact_step : (a : Answer) (found : Result Output Refusal) (s : Status) (out err : SinkUse) → Answered a found → Reported found s out err → (s ≡ status_of_answer a) ⊎ IsUnansweredBy s
+exact_step a (Ok output) s out err h (inl r) = inl (r.0 ∙ ap status_of_answer (sym h))
+exact_step a (Ok output) s out err h (inr r) = inr (subst IsUnansweredBy (sym r.0) tt)
+exact_step a (Err refusal) s out err h (u, inl (inl t)) = refusal_exact a refusal s t.0 (subst (λ v. RefusesAs v refusal a) (sym t.0) h)
+exact_step a (Err refusal) s out err h (u, inl (inr t)) = inr (subst IsUnansweredBy (sym t.0) tt)
+exact_step a (Err refusal) s out err h (u, inr (inl t)) = inr (subst IsUnansweredBy (sym t.0) tt)
+exact_step a (Err refusal) s out err h (u, inr (inr t)) = inr (subst IsUnansweredBy (sym t.0) tt)
+
+exact_number : (a : Answer) (s : Status) (ended : ℕ) → ended ≡ code s → (s ≡ status_of_answer a) ⊎ IsUnansweredBy s → (ended ≡ code (status_of_answer a)) ⊎ IsUnanswered ended
+exact_number a s ended is (inl e) = inl (is ∙ ap code e)
+exact_number a s ended is (inr h) = inr (unanswered s ended is h)
+
+pub run_exact : (told : Option Answer) (found : Result Output Refusal) (s : Status) (ended : ℕ) (out err : SinkUse) → ended ≡ code s → IfSome told (λ a. Answered a found) → Reported found s out err
+    → IfSome told (λ a. (ended ≡ code (status_of_answer a)) ⊎ IsUnanswered ended)
+run_exact None found s ended out err is h r = tt
+run_exact (Some a) found s ended out err is h r = exact_number a s ended is (exact_step a found s out err h r)
+
+-- ---- completeness
+
+-- where nothing refuses and neither the input nor the folder failed, no refusal but want of memory is due
+due_is_memory : (s : Status) (words : List (List ℕ)) (input : SourceUse) (folder : FolderUse) (r : Refusal) (a : Answer) → IsDone a → (SourceFailed input → ⊥) → (FolderFailed folder → ⊥)
+    → RefusesAs s r a → IsDueAs s words input folder r → s ≡ status.NoMemory
+due_is_memory status.Done words input folder r a d i f h due = absurd due
+due_is_memory status.Usage words input folder r a d i f h due = absurd (subst IsDone h d)
+due_is_memory status.PageRefused words input folder r a d i f h due = absurd (subst IsDone h d)
+due_is_memory status.HtmlRefused words input folder r a d i f h due = absurd (subst IsDone h d)
+due_is_memory status.EditRefused words input folder r a d i f h due = absurd (subst IsDone h d)
+due_is_memory status.ReadFault words input folder r a d i f h due = absurd (i due.1)
+due_is_memory status.FolderFault words input folder r a d i f h due = absurd (f due.1)
+due_is_memory status.WriteFault words input folder r a d i f h due = absurd due
+due_is_memory status.NoMemory words input folder r a d i f h due = refl
+
+complete_step : (words : List (List ℕ)) (input : SourceUse) (folder : FolderUse) (out err : SinkUse) (found : Result Output Refusal) (s : Status) (a : Answer)
+    → Answered a found → IfErr found (IsDue words input folder) → Reported found s out err → IsDone a → NothingFailed (call words input folder out err) → (s ≡ status.Done) ⊎ (s ≡ status.NoMemory)
+complete_step words input folder out err (Ok output) s a h due (inl r) d n = inl r.0
+complete_step words input folder out err (Ok output) s a h due (inr r) d n = absurd (n.out r.1.count)
+complete_step words input folder out err (Err refusal) s a h due (u, inl (inl t)) d n = inr (t.0 ∙ due_is_memory (status_of refusal) words input folder refusal a d n.input n.folder h due)
+complete_step words input folder out err (Err refusal) s a h due (u, inl (inr t)) d n = absurd (n.err t.1.count)
+complete_step words input folder out err (Err refusal) s a h due (u, inr (inl t)) d n = inr t.0
+complete_step words input folder out err (Err refusal) s a h due (u, inr (inr t)) d n = absurd (n.err t.1.count)
+
+complete_number : (s : Status) (ended : ℕ) → ended ≡ code s → (s ≡ status.Done) ⊎ (s ≡ status.NoMemory) → (ended ≡ code status.Done) ⊎ (ended ≡ code status.NoMemory)
+complete_number s ended is (inl e) = inl (is ∙ ap code e)
+complete_number s ended is (inr e) = inr (is ∙ ap code e)
+
+pub run_complete : (words : List (List ℕ)) (input : SourceUse) (folder : FolderUse) (out err : SinkUse) (found : Result Output Refusal) (s : Status) (ended : ℕ) (t : Option Answer) → ended ≡ code s
+    → IfSome t (λ a. Answered a found) → IfErr found (IsDue words input folder) → Reported found s out err
+    → IfSome t (λ a. IsDone a → NothingFailed (call words input folder out err) → (ended ≡ code status.Done) ⊎ (ended ≡ code status.NoMemory))
+run_complete words input folder out err found s ended None is h due r = tt
+run_complete words input folder out err found s ended (Some a) is h due r = λ d n. complete_number s ended is (complete_step words input folder out err found s a h due r d n)
+
+-- ---- counts
+
+-- an answer was found, and the sinks' counts are kept
+pub record FoundAnswer (found : Result Output Refusal) (out err : SinkUse) : Type 0 where
+  pub is : IsAnswer (found_status found)
+  pub out_kept : out.faults_after ≡ out.faults_before
+  pub err_kept : err.faults_after ≡ err.faults_before
+
+found_answer : (found : Result Output Refusal) (s : Status) (o e : SinkUse) → Reported found s o e → IsAnswer s → FoundAnswer found o e
+found_answer (Ok output) s o e (inl r) h = record { is = tt; out_kept = r.1.count; err_kept = r.2.count }
+found_answer (Ok output) s o e (inr r) h = absurd (subst IsAnswer r.0 h)
+found_answer (Err refusal) s o e (u, inl (inl t)) h = record { is = subst IsAnswer t.0 h; out_kept = u.count; err_kept = t.1.count }
+found_answer (Err refusal) s o e (u, inl (inr t)) h = absurd (subst IsAnswer t.0 h)
+found_answer (Err refusal) s o e (u, inr (inl t)) h = absurd (subst IsAnswer t.0 h)
+found_answer (Err refusal) s o e (u, inr (inr t)) h = absurd (subst IsAnswer t.0 h)
+
+pub run_found : (found : Result Output Refusal) (s : Status) (ended : ℕ) (o e : SinkUse) → ended ≡ code s → Reported found s o e → IsAnswered ended → FoundAnswer found o e
+run_found found s ended o e is r h = found_answer found s o e r (is_answer s (subst IsAnswered is h))
+
+pub run_kept : (words : List (List ℕ)) (input : SourceUse) (folder : FolderUse) (out err : SinkUse) (found : Result Output Refusal) (s : Status) (ended : ℕ) → ended ≡ code s
+    → IsKept found input.faults_before input.faults_after → IsKept found folder.faults_before folder.faults_after → Reported found s out err → IsAnswered ended
+    → KeptCounts (call words input folder out err)
+run_kept words input folder out err found s ended is i f r h =
+    let a = run_found found s ended out err is r h in
+    record { input = i a.is; folder = f a.is; out = a.out_kept; err = a.err_kept }
+
+-- ---- the clauses of the commands
+
+told_page : (pages : Option Pages) (input : Option (List ℕ)) (words : List (List ℕ)) (command : PageCommand) (title : List ℕ) → command_of words ≡ Some (Page command title)
+    → answer_told pages input words ≡ option_map (λ ps. page_answer (ps title) (made command)) pages
 unfolding answer_told
-told_html told input words title e = rw e refl
+told_page pages input words command title e = rw e refl
 
-told_ranges : (told : Option Pages) (input : Option (List ℕ)) (words : List (List ℕ)) (title : List ℕ) → command_of words ≡ Some (ranges title) → answer_told told input words ≡ option_map (λ ps. ranges_answer (ps title)) told
+pub told_wikitext : (pages : Option Pages) (input : Option (List ℕ)) (words : List (List ℕ)) → command_of words ≡ Some Wikitext → answer_told pages input words ≡ option_map wikitext_answer input
 unfolding answer_told
-told_ranges told input words title e = rw e refl
+told_wikitext pages input words e = rw e refl
 
-pub told_wikitext : (told : Option Pages) (input : Option (List ℕ)) (words : List (List ℕ)) → command_of words ≡ Some wikitext → answer_told told input words ≡ option_map wikitext_answer input
-unfolding answer_told
-told_wikitext told input words e = rw e refl
+page_found : (told : Option Pages) (command : PageCommand) (title : List ℕ) (found : Result Output Refusal) (out err : SinkUse) → IfSome (option_map (λ ps. page_answer (ps title) (made command)) told) (λ a. Answered a found) → FoundDone found out err
+    → IfSome told (λ pages. WrotePage command (pages title) out.taken_before out.taken_after)
+page_found None command title found out err a f = tt
+page_found (Some pages) command title found out err a f =
+    wrote_page command (pages title) (output_bytes f.output) out.taken_before out.taken_after (subst (Answered (page_answer (pages title) (made command))) f.is a) f.wrote.taken
 
-html_found : (told : Option Pages) (title : List ℕ) (found : Result Output Reason) (o : Sunk) → IfSome (option_map (λ ps. html_answer (ps title)) told) (λ a. Answered a found) → IsFound found o
-    → IfSome told (λ pages. WroteHtml (pages title) o.old o.new)
-html_found None title found o a f = tt
-html_found (Some pages) title found o a f = wrote_html (pages title) (output_bytes f.0) o.old o.new (subst (Answered (html_answer (pages title))) f.1 a) f.2
+wikitext_found : (left new : Option (List ℕ)) (found : Result Output Refusal) (out err : SinkUse) → IfSome (option_map wikitext_answer left) (λ a. Answered a found) → IsAtEnd new → FoundDone found out err
+    → IfSome left (λ bytes. WroteSource bytes new out.taken_before out.taken_after)
+wikitext_found None new found out err a ended f = tt
+wikitext_found (Some bytes) new found out err a ended f =
+    wrote_source bytes (output_bytes f.output) new out.taken_before out.taken_after (subst (Answered (wikitext_answer bytes)) f.is a) ended f.wrote.taken
 
-ranges_found : (told : Option Pages) (title : List ℕ) (found : Result Output Reason) (o : Sunk) → IfSome (option_map (λ ps. ranges_answer (ps title)) told) (λ a. Answered a found) → IsFound found o
-    → IfSome told (λ pages. WroteRanges (pages title) o.old o.new)
-ranges_found None title found o a f = tt
-ranges_found (Some pages) title found o a f = wrote_ranges (pages title) (output_bytes f.0) o.old o.new (subst (Answered (ranges_answer (pages title))) f.1 a) f.2
+pub run_page : (words : List (List ℕ)) (input : SourceUse) (folder : FolderUse) (out err : SinkUse) (found : Result Output Refusal) (s : Status) (ended : ℕ) → ended ≡ code s
+    → IfSome (answer_told folder.pages_before input.left_before words) (λ a. Answered a found) → IfErr found (IsDue words input folder) → Reported found s out err
+    → (command : PageCommand) (title : List ℕ) → command_of words ≡ Some (Page command title) → ended ≡ code status.Done
+    → IfSome folder.pages_before (λ pages. WrotePage command (pages title) out.taken_before out.taken_after)
+run_page words input folder out err found s ended is a due r command title w e =
+    page_found folder.pages_before command title found out err
+    (subst (λ x. IfSome x (λ y. Answered y found)) (told_page folder.pages_before input.left_before words command title w) a)
+    (found_done words input folder out err found s due r (is_done s (sym is ∙ e)))
 
-wikitext_found : (input : Option (List ℕ)) (found : Result Output Reason) (o : Sunk) → IfSome (option_map wikitext_answer input) (λ a. Answered a found) → IsFound found o
-    → IfSome input (λ bytes. WroteSource bytes o.old o.new)
-wikitext_found None found o a f = tt
-wikitext_found (Some bytes) found o a f = wrote_source bytes (output_bytes f.0) o.old o.new (subst (Answered (wikitext_answer bytes)) f.1 a) f.2
+ended_of : (found : Result Output Refusal) (left : Option (List ℕ)) (out err : SinkUse) → OnOk found (IsAtEnd left) → FoundDone found out err → IsAtEnd left
+ended_of found left out err h f = subst (λ x. OnOk x (IsAtEnd left)) f.is h
 
-pub run_html : (told : Option Pages) (input : Option (List ℕ)) (words : List (List ℕ)) (title : List ℕ) (found : Result Output Reason) (status : ℕ) (o e : Sunk) → command_of words ≡ Some (html title)
-    → IfSome (answer_told told input words) (λ a. Answered a found) → Reported found status o e → status ≡ 0 → IfSome told (λ pages. WroteHtml (pages title) o.old o.new)
-run_html told input words title found status o e is a r zero =
-    html_found told title found o (subst (λ x. IfSome x (λ a. Answered a found)) (told_html told input words title is) a) (found_done found status o e r zero)
-
-pub run_ranges : (told : Option Pages) (input : Option (List ℕ)) (words : List (List ℕ)) (title : List ℕ) (found : Result Output Reason) (status : ℕ) (o e : Sunk) → command_of words ≡ Some (ranges title)
-    → IfSome (answer_told told input words) (λ a. Answered a found) → Reported found status o e → status ≡ 0 → IfSome told (λ pages. WroteRanges (pages title) o.old o.new)
-run_ranges told input words title found status o e is a r zero =
-    ranges_found told title found o (subst (λ x. IfSome x (λ a. Answered a found)) (told_ranges told input words title is) a) (found_done found status o e r zero)
-
-pub run_wikitext : (told : Option Pages) (input : Option (List ℕ)) (words : List (List ℕ)) (found : Result Output Reason) (status : ℕ) (o e : Sunk) → command_of words ≡ Some wikitext
-    → IfSome (answer_told told input words) (λ a. Answered a found) → Reported found status o e → status ≡ 0 → IfSome input (λ bytes. WroteSource bytes o.old o.new)
-run_wikitext told input words found status o e is a r zero =
-    wikitext_found input found o (subst (λ x. IfSome x (λ a. Answered a found)) (told_wikitext told input words is) a) (found_done found status o e r zero)
-
-due_of : (told : Option Answer) (words : List (List ℕ)) (reason : Reason) → IfSome told (λ a. Answered a (Err reason)) → (found_not reason ≡ Err Usage → command_of words ≡ None)
-    → IsDue told words (meant reason)
-due_of told words Usage a h = h refl
-due_of told words Absent a h = a
-due_of told words TooLong a h = a
-due_of told words (NotUtf8 place) a h = a
-due_of told words (NotBuilt place) a h = a
-due_of told words HtmlTooLong a h = a
-due_of told words InputTooLong a h = a
-due_of told words (Html place why) a h = a
-due_of told words (Unfit n why) a h = a
-due_of told words (Unsourced n) a h = a
-due_of told words ReadFault a h = tt
-due_of told words FolderFault a h = tt
-due_of told words NoMemory a h = tt
-
-pub run_fault_front : (told : Option Answer) (words : List (List ℕ)) (found : Result Output Reason) (status : ℕ) (o e : Sunk)
-    → IfSome told (λ a. Answered a found) → (found ≡ Err Usage → command_of words ≡ None) → Reported found status o e → status ≡ 7
-    → BeginsRefusal told words e.old e.new
-run_fault_front told words (Ok output) status o e a h (inl r) seven = absurd (omega arith)
-run_fault_front told words (Ok output) status o e a h (inr (s, f, inl t)) seven = record { refusal = write_fault; due = tt; line = took_front e.old e.new (line_of write_fault) t.taken }
-run_fault_front told words (Ok output) status o e a h (inr (s, f, inr t)) seven = record { refusal = write_fault; due = tt; line = t.taken }
-run_fault_front told words (Err reason) status o e a h (u, inl (inl t)) seven = absurd (status_seven reason (sym t.0 ∙ seven))
-run_fault_front told words (Err reason) status o e a h (u, inl (inr t)) seven = record { refusal = meant reason; due = due_of told words reason a h; line = t.1.taken }
-run_fault_front told words (Err reason) status o e a h (u, inr (inl t)) seven = absurd (omega arith)
-run_fault_front told words (Err reason) status o e a h (u, inr (inr t)) seven = record { refusal = no_memory; due = tt; line = t.1.taken }
+pub run_wikitext : (words : List (List ℕ)) (input : SourceUse) (folder : FolderUse) (out err : SinkUse) (found : Result Output Refusal) (s : Status) (ended : ℕ) → ended ≡ code s
+    → IfSome (answer_told folder.pages_before input.left_before words) (λ a. Answered a found) → IfErr found (IsDue words input folder) → (Reads (command_of words) → OnOk found (IsAtEnd input.left_after)) → Reported found s out err
+    → command_of words ≡ Some Wikitext → ended ≡ code status.Done
+    → IfSome input.left_before (λ bytes. WroteSource bytes input.left_after out.taken_before out.taken_after)
+run_wikitext words input folder out err found s ended is a due ends r w e =
+    let f = found_done words input folder out err found s due r (is_done s (sym is ∙ e)) in
+    wikitext_found input.left_before input.left_after found out err
+    (subst (λ x. IfSome x (λ y. Answered y found)) (told_wikitext folder.pages_before input.left_before words w) a)
+    (ended_of found input.left_after out err (ends (subst Reads (sym w) tt)) f) f

@@ -1,6 +1,6 @@
 -- The answer to `wikitext`, from what the reader of HTML gave.
 use Rattle.std.proofs.Common.{◌≡◌, ℕ, ◌-◌, ◌<◌, ◌≤◌, List, ◌++◌, length, refl, sym, subst, arith, length-append}
-use Rattle.std.specs.Prelude.{Option, Some, None, IfSome, Result, Ok, Err}
+use Rattle.std.specs.Prelude.{Option, Some, None, IfSome, IsErrAnd, Result, Ok, Err}
 use Rattle.std.specs.Io.KnownBytes.{Consumes}
 use Rattle.std.proofs.KnownBytes.{Consumes-trans}
 use Rattle.wt_tree.specs.Tree.{Tree}
@@ -13,31 +13,25 @@ use Rattle.wt_html_in.specs.declared.reader.Reader.{Reader}
 use Rattle.wt_html_in.specs.declared.refusal.HtmlRefusal.{HtmlRefusal}
 use Rattle.wt_html_in.specs.declared.refusal.HtmlRefusal.TheVariants as refusals
 use Rattle.wt_pagetool.specs.declared.output.Output.{Output}
-use Rattle.wt_pagetool.specs.declared.refusal.Reason.{Reason}
-use Rattle.wt_pagetool.specs.declared.refusal.Reason.TheVariants.{ReadFault}
-use Rattle.wt_pagetool.specs.Refusals.{unsourced, input_too_long}
+use Rattle.wt_pagetool.specs.declared.limits.TheConstants.{HTML_BYTES}
+use Rattle.wt_pagetool.specs.declared.refusal.Refusal.{Refusal}
+use Rattle.wt_pagetool.specs.declared.refusal.Refusal.TheVariants.{Unsourced, InputTooLong}
 use Rattle.wt_pagetool.specs.Answers.{done, refused, source_answer, wikitext_answer}
 use Rattle.wt_pagetool.specs.Inputs.{FedWhole}
-use Rattle.wt_pagetool.specs.Reasons.{Answered, Refuses, reason_of}
+use Rattle.wt_pagetool.specs.Causes.{Answered, Refuses, refusal_of}
 use Rattle.wt_pagetool.proofs.AnswerLaws.{too_long_given, answered_by}
 
 -- ---- reading
 
 -- a piece that would pass the limit
-pub past_most : (old mid new : Option (List ℕ)) (bytes piece : List ℕ) → Consumes old mid bytes → Consumes mid new piece → length bytes ≤ 67108864 → 67108864 - length bytes < length piece
-    → IfSome old (λ all. wikitext_answer all ≡ refused input_too_long)
+pub past_most : (old mid new : Option (List ℕ)) (bytes piece : List ℕ) → Consumes old mid bytes → Consumes mid new piece → length bytes ≤ HTML_BYTES → HTML_BYTES - length bytes < length piece
+    → IfSome old (λ all. wikitext_answer all ≡ refused InputTooLong)
 past_most old mid new bytes piece first second within past =
     too_long_given old new (bytes ++ piece) (Consumes-trans old mid new bytes piece first second) (simp length-append (omega arith))
 
-abbrev fed_not : Reason → Result Unit Reason
-fed_not reason = Err reason
-
-pub is_read_fault : (reason : Reason) → fed_not reason ≡ Err ReadFault → reason ≡ ReadFault
-is_read_fault reason e = cc
-
 -- ---- what was read
 
-pub source_unsourced : (t : Tree) (o : Option ℕ) (n : ℕ) → o ≡ Some n → source_answer (as_page t o) ≡ refused (unsourced n)
+pub source_unsourced : (t : Tree) (o : Option ℕ) (n : ℕ) → o ≡ Some n → source_answer (as_page t o) ≡ refused (Unsourced n)
 unfolding source_answer
 source_unsourced t o n e = rw e refl
 
@@ -45,17 +39,21 @@ pub source_sourced : (t : Tree) (o : Option ℕ) (text : List ℕ) → o ≡ Non
 unfolding source_answer
 source_sourced t o text none is = rw (none, is) refl
 
-pub answered_read : (edited : Edited) (bytes : List ℕ) (result : Result Output Reason) → Answers (Ok edited) bytes → Answered (source_answer (as_page (body_of edited) (unsourced_of edited))) result
+pub answered_read : (edited : Edited) (bytes : List ℕ) (result : Result Output Refusal) → Answers (Ok edited) bytes → Answered (source_answer (as_page (body_of edited) (unsourced_of edited))) result
     → Answered (source_answer (read bytes)) result
 answered_read edited bytes result reads answered = subst (λ r. Answered (source_answer r) result) (sym reads) answered
 
-pub refused_read : (refusal : HtmlRefusal) (bytes : List ℕ) → Answers (Err refusal) bytes → Refuses (reason_of refusal) (source_answer (read bytes))
+refused_read : (refusal : HtmlRefusal) (bytes : List ℕ) → Answers (Err refusal) bytes → Refuses (refusal_of refusal) (source_answer (read bytes))
 unfolding source_answer
 refused_read (refusals.Html place why) bytes reads = rw reads refl
 refused_read (refusals.Unfit n why) bytes reads = rw reads refl
 refused_read refusals.NoMemory bytes reads = tt
 
+pub refused_from : (refusal : HtmlRefusal) (bytes : List ℕ) (result : Result Output Refusal) → Answers (Err refusal) bytes → IsErrAnd result (λ r. r ≡ refusal_of refusal) → Answered (source_answer (read bytes)) result
+refused_from refusal bytes (Ok output) reads is = absurd is
+refused_from refusal bytes (Err r) reads is = subst (λ x. Refuses x (source_answer (read bytes))) (sym is) (refused_read refusal bytes reads)
+
 -- all of the input was fed, so what was fed decides the answer
-pub answered_whole : (reader : Reader) (old new : Option (List ℕ)) (result : Result Output Reason) → FedWhole reader old new → ((bytes : List ℕ) → IsFed reader bytes → Answered (source_answer (read bytes)) result)
+pub answered_whole : (reader : Reader) (old new : Option (List ℕ)) (result : Result Output Refusal) → FedWhole reader old new → ((bytes : List ℕ) → IsFed reader bytes → Answered (source_answer (read bytes)) result)
     → IfSome old (λ all. Answered (wikitext_answer all) result)
 answered_whole reader old new result whole answered = answered_by old whole.bytes result whole.whole whole.within (answered whole.bytes whole.fed)

@@ -1,11 +1,13 @@
 -- The way there and back: `wikitext` of the HTML that `html` writes for a page is the page.
-use Rattle.std.specs.Prelude.{◌≡◌, ◌≤◌, ℕ, ◌⊎◌, List, Option, Some, None}
+use Rattle.std.specs.Prelude.{◌≡◌, ℕ, ◌⊎◌, List, Option, Some, None}
 use Rattle.std.specs.Io.KnownBytes.{Appends}
 use Rattle.wt_tree.specs.Tree.{Tree}
 use Rattle.wt_tree.specs.Source.{flat}
 use Rattle.wt_markup.specs.Html.{html_text}
 use Rattle.wt_fitting.specs.Read.{page as as_page, read}
 use Rattle.wt_page_round_trip.specs.PageTree.{page_tree}
+use Rattle.wt_pagetool.specs.declared.status.Status.TheVariants.{Done}
+use Rattle.wt_pagetool.specs.Statuses.{code, IsUnanswered}
 use Rattle.wt_pagetool.specs.Answers.{done, html_answer, wikitext_answer}
 
 -- the HTML of a page stands for a tree whose every element tells its source, and whose source is the page
@@ -18,6 +20,6 @@ pub record IsReadBack (page : List ℕ) : Type 0 where
 abbrev pub IsGivenBack : List ℕ → Type 0
 IsGivenBack page = (bytes : List ℕ) → html_answer (Some page) ≡ done bytes → wikitext_answer bytes ≡ done page
 
--- `out` took the page, and the status is 0; or a device failed, or memory ran out
+-- the call is done, and `out` took the page; or a device failed, or memory ran out
 abbrev pub GaveBack : List ℕ → ℕ → Option (List ℕ) → Option (List ℕ) → Type 0
-GaveBack page status old new = ((status ≡ 0) × Appends old new page) ⊎ (5 ≤ status)
+GaveBack page ended old new = ((ended ≡ code Done) × Appends old new page) ⊎ IsUnanswered ended

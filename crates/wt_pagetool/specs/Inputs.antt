@@ -3,6 +3,7 @@ use Rattle.std.specs.Prelude.{◌≡◌, ◌≤◌, ℕ, List, length, Option, I
 use Rattle.std.specs.Io.KnownBytes.{Consumes, IsAtEnd}
 use Rattle.wt_html_in.specs.declared.reader.Reader.{Reader}
 use Rattle.wt_html_in.specs.Feeding.{IsFed}
+use Rattle.wt_pagetool.specs.declared.limits.TheConstants.{HTML_BYTES}
 
 -- the input gave these many bytes, which were fed
 pub record FedSoFar (reader : Reader) (old new : Option (List ℕ)) (taken : ℕ) : Type 0 where
@@ -15,6 +16,6 @@ pub record FedSoFar (reader : Reader) (old new : Option (List ℕ)) (taken : ℕ
 pub record FedWhole (reader : Reader) (old new : Option (List ℕ)) : Type 0 where
   pub bytes : List ℕ
   pub fed : IsFed reader bytes
-  pub within : length bytes ≤ 67108864
+  pub within : length bytes ≤ HTML_BYTES
   pub whole : IfSome old (λ all. all ≡ bytes)
   pub ended : IsAtEnd new

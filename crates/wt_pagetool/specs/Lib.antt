@@ -1,9 +1,11 @@
 pub mod Answers
-pub mod Commands
+pub mod Calls
+pub mod Causes
+pub mod Devices
 pub mod GivenBack
 pub mod Inputs
 pub mod Outputs
-pub mod Reasons
 pub mod Refusals
 pub mod Reports
+pub mod Statuses
 pub mod Words

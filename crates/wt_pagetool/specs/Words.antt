@@ -1,9 +1,12 @@
 -- What the words of a call ask for.
-use Rattle.std.specs.Prelude.{ℕ, List, [], ◌∷◌, Option, Some, None, codes, is_none, option_map, option_and_then, if◌then◌else◌}
+use Rattle.std.specs.Prelude.{ℕ, List, [], ◌∷◌, Option, Some, None, ⊤, codes, is_none, option_map, option_and_then, if◌then◌else◌}
 use Rattle.std.specs.Str.{bytes_eq}
 use Rattle.wt_names.specs.declared.title.Title.{Title}
 use Rattle.wt_names.specs.Good.{read_text}
 use Rattle.wt_names.specs.Namespace.{full_name_of}
+use Rattle.wt_pagetool.specs.declared.command.PageCommand.TheVariants.{Html, Ranges}
+use Rattle.wt_pagetool.specs.declared.command.Command.{Command}
+use Rattle.wt_pagetool.specs.declared.command.Command.TheVariants.{Page, Wikitext}
 
 -- the full name of a title without a fragment
 abbrev pub whole_name : Title → Option (List ℕ)
@@ -13,23 +16,35 @@ whole_name t = if is_none t.fragment then Some (full_name_of t) else None
 unfoldable pub page_name : List ℕ → Option (List ℕ)
 page_name word = option_and_then whole_name (read_text word)
 
-pub data Command : Type 0 where
-  -- `html TITLE`: the HTML of the page of this full name
-  html : List ℕ → Command
-  -- `ranges TITLE`: the numbered nodes of this page, with their places
-  ranges : List ℕ → Command
-  -- `wikitext`: the source of the page whose HTML is the input
-  wikitext : Command
-
 -- a command over a page, and its title
 abbrev pub page_command : List ℕ → List ℕ → Option Command
 page_command word title =
-    if bytes_eq word (codes "html") then option_map html (page_name title)
-    else if bytes_eq word (codes "ranges") then option_map ranges (page_name title)
+    if bytes_eq word (codes "html") then option_map (λ name. Page Html name) (page_name title)
+    else if bytes_eq word (codes "ranges") then option_map (λ name. Page Ranges name) (page_name title)
     else None
 
 -- the command that the words name, or none
 unfoldable pub command_of : List (List ℕ) → Option Command
-command_of (word ∷ []) = if bytes_eq word (codes "wikitext") then Some wikitext else None
+command_of (word ∷ []) = if bytes_eq word (codes "wikitext") then Some Wikitext else None
 command_of (word ∷ title ∷ []) = page_command word title
 command_of words = None
+
+-- ---- what a command needs
+
+-- the titles whose pages it needs, in the order in which they are asked for
+abbrev pub titles_of : Option Command → List (List ℕ)
+titles_of None = []
+titles_of (Some (Page command title)) = title ∷ []
+titles_of (Some Wikitext) = []
+
+-- it fetches pages from the folder
+abbrev pub Fetches : Option Command → Type 0
+Fetches None = ⊥
+Fetches (Some (Page command title)) = ⊤
+Fetches (Some Wikitext) = ⊥
+
+-- it reads the input
+abbrev pub Reads : Option Command → Type 0
+Reads None = ⊥
+Reads (Some (Page command title)) = ⊥
+Reads (Some Wikitext) = ⊤

@@ -1,18 +1,24 @@
 ghost use Rattle.std.specs.Prelude.{◌≡◌, IfOk, option_map};
-ghost use Rattle.wt_pagetool.specs.Commands.{asked};
-ghost use Rattle.wt_pagetool.specs.Words.{whole_name, page_name, page_command, command_of, html, ranges};
+ghost use Rattle.wt_pagetool.specs.Words.{whole_name, page_name, page_command, command_of};
 
 use std::alloc::Global;
 use wt_names::{Title, full_name, read_title};
 use wt_span::{List, NoMemory, Str};
 
+/// What is written of a page.
+#[derive(Clone, Copy, Debug, PartialEq, Eq)]
+pub enum PageCommand {
+    /// Its HTML.
+    Html,
+    /// Its numbered nodes, with their places.
+    Ranges,
+}
+
 /// What the words of a call ask for.
 #[derive(Debug, Drop)]
 pub enum Command {
-    /// The HTML of the page of this full name.
-    Html(Str),
-    /// The numbered nodes of the page of this full name, with their places.
-    Ranges(Str),
+    /// What is written of the page of this full name.
+    Page(PageCommand, Str),
     /// The source of the page whose HTML is the input.
     Wikitext,
 }
@@ -41,33 +47,24 @@ fn page_name(alloc: Global, word: &str) -> Result<Option<Str>, NoMemory>
     }
 }
 
-fn html_command(alloc: Global, title: &str) -> Result<Option<Command>, NoMemory>
-    ensures { IfOk result (λ command. option_map asked command ≡ option_map html (page_name title.now)) }
+fn of_page(alloc: Global, command: PageCommand, title: &str) -> Result<Option<Command>, NoMemory>
+    ensures { IfOk result (λ found. found ≡ option_map (λ name. Command.Page command name) (page_name title.now)) }
 {
     match page_name(alloc, title)? {
-        Some(name) => Ok(Some(Command::Html(name))),
-        None => Ok(None),
-    }
-}
-
-fn ranges_command(alloc: Global, title: &str) -> Result<Option<Command>, NoMemory>
-    ensures { IfOk result (λ command. option_map asked command ≡ option_map ranges (page_name title.now)) }
-{
-    match page_name(alloc, title)? {
-        Some(name) => Ok(Some(Command::Ranges(name))),
+        Some(name) => Ok(Some(Command::Page(command, name))),
         None => Ok(None),
     }
 }
 
 /// A command over a page, and its title.
 fn page_command(alloc: Global, word: &str, title: &str) -> Result<Option<Command>, NoMemory>
-    ensures { IfOk result (λ command. option_map asked command ≡ page_command word.now title.now) }
+    ensures { IfOk result (λ command. command ≡ page_command word.now title.now) }
 {
     if word == "html" {
-        return html_command(alloc, title);
+        return of_page(alloc, PageCommand::Html, title);
     }
     if word == "ranges" {
-        return ranges_command(alloc, title);
+        return of_page(alloc, PageCommand::Ranges, title);
     }
     Ok(None)
 }
@@ -75,7 +72,7 @@ fn page_command(alloc: Global, word: &str, title: &str) -> Result<Option<Command
 /// The command that the words name, or None where they name none.
 #[tactic(auto, unfolding(crate::specs::Words::command_of))]
 pub fn command_of(alloc: Global, words: &List<Str>) -> Result<Option<Command>, NoMemory>
-    ensures { IfOk result (λ command. option_map asked command ≡ command_of words.now) }
+    ensures { IfOk result (λ command. command ≡ command_of words.now) }
 {
     match words.as_slice() {
         [word] => {

@@ -7,16 +7,19 @@
 
 mod command;
 mod fetch;
-mod html_command;
 mod laws;
+mod limits;
 mod output;
 mod page;
-mod ranges_command;
+mod page_command;
 mod refusal;
 mod report;
+mod status;
 mod top;
 mod wikitext_command;
 mod write;
 
 pub use laws::{pages_come_back, whole_tree};
+pub use limits::{HTML_BYTES, PAGE_BYTES};
+pub use status::Status;
 pub use top::run;

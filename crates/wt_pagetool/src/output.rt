@@ -3,15 +3,13 @@ ghost use Rattle.wt_pagetool.specs.Outputs.{output_bytes};
 
 use wt_span::{List, Str};
 
-/// An answer: the bytes that go to standard output.
+/// An answer: what goes to standard output.
 #[derive(Debug, Drop)]
 pub enum Output {
-    /// The HTML of a page.
-    Html(List<u8>),
-    /// The listing of a page's numbered nodes.
-    Ranges(List<u8>),
+    /// Bytes, as the writers of HTML and of listings give them.
+    Bytes(List<u8>),
     /// The source of a page.
-    Wikitext(Str),
+    Text(Str),
 }
 
 impl Output {
@@ -19,9 +17,8 @@ impl Output {
         ensures { result.now ≡ output_bytes self.now }
     {
         match self {
-            Output::Html(bytes) => bytes.as_slice(),
-            Output::Ranges(bytes) => bytes.as_slice(),
-            Output::Wikitext(text) => text.as_str().as_bytes(),
+            Output::Bytes(bytes) => bytes.as_slice(),
+            Output::Text(text) => text.as_str().as_bytes(),
         }
     }
 }

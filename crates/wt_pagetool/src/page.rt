@@ -4,9 +4,10 @@ ghost use Rattle.wt_expand.specs.PageItems.{page_items};
 ghost use Rattle.wt_not_built.specs.FirstPlace.{first_unbuilt};
 ghost use Rattle.wt_pagetool.specs.Answers.{IsAnswered};
 ghost use Rattle.wt_page_round_trip.specs.PageTree.{page_tree};
-ghost use Rattle.wt_pagetool.specs.Reasons.{IsUnbuilt, RefusesPage, IsOfPage};
+ghost use Rattle.wt_pagetool.specs.Causes.{IsUnbuilt, RefusesPage, IsOfPage};
 
-use crate::refusal::Reason;
+use crate::limits::PAGE_BYTES;
+use crate::refusal::Refusal;
 use std::alloc::Global;
 use wt_annotate::annotate;
 use wt_build::build;
@@ -16,9 +17,6 @@ use wt_span::{Items, NoMemory};
 use wt_tree::Annotated;
 use wt_utf8::read_text;
 
-/// The most bytes of a page.
-pub const MOST_PAGE: usize = 2_097_152;
-
 /// The tree of a page, of its items.
 fn tree_of_items<'a>(
     alloc: Global,
@@ -26,7 +24,7 @@ fn tree_of_items<'a>(
     items: &Items<'a>,
 ) -> Result<Annotated<'a>, NoMemory>
     requires items { items.now.items ≡ page_items page.now }
-    requires room { length page.now ≤ 2097152 }
+    requires room { length page.now ≤ PAGE_BYTES }
     ensures { IfOk result (λ tree. view tree.body ≡ page_tree page.entry.now) }
 {
     let meaning = build(alloc, items)?;
@@ -34,32 +32,32 @@ fn tree_of_items<'a>(
 }
 
 /// The tree of a page that is text, if all its forms are built.
-fn tree_of_text<'a>(alloc: Global, page: &'a str) -> Result<Annotated<'a>, Reason>
-    requires room { length page.now ≤ 2097152 }
+fn tree_of_text<'a>(alloc: Global, page: &'a str) -> Result<Annotated<'a>, Refusal>
+    requires room { length page.now ≤ PAGE_BYTES }
     ensures tree { IfOk result (λ tree. view tree.body ≡ page_tree page.entry.now) }
     ensures built { IfOk result (λ tree. first_unbuilt page.entry.now ≡ None) }
     ensures refused { IfErr result (IsUnbuilt (first_unbuilt page.entry.now)) }
 {
     let items = page_items(alloc, page)?;
     if let Some(place) = first_unbuilt(page, items.pieces()) {
-        return Err(Reason::NotBuilt(place as u32));
+        return Err(Refusal::NotBuilt(place as u32));
     }
     let tree = tree_of_items(alloc, page, &items)?;
     Ok(tree)
 }
 
 /// The tree of a page that nothing refuses.
-pub fn tree_of_page<'a>(alloc: Global, page: &'a [u8]) -> Result<Annotated<'a>, Reason>
+pub fn tree_of_page<'a>(alloc: Global, page: &'a [u8]) -> Result<Annotated<'a>, Refusal>
     ensures tree { IfOk result (λ tree. view tree.body ≡ page_tree page.entry.now) }
     ensures answered { IfOk result (λ tree. IsAnswered page.entry.now) }
     ensures refused { IfErr result (RefusesPage (Some page.entry.now)) }
     ensures of_page { IfErr result IsOfPage }
 {
-    if page.len() > MOST_PAGE {
-        return Err(Reason::TooLong);
+    if page.len() > PAGE_BYTES {
+        return Err(Refusal::TooLong);
     }
     match read_text(page) {
         Ok(text) => tree_of_text(alloc, text),
-        Err(place) => Err(Reason::NotUtf8(place as u32)),
+        Err(place) => Err(Refusal::NotUtf8(place as u32)),
     }
 }

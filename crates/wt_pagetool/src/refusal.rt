@@ -1,56 +1,113 @@
 ghost use Rattle.std.specs.Prelude.{◌≡◌, IfOk, string_bytes};
-ghost use Rattle.wt_pagetool.specs.Reasons.{meant};
-ghost use Rattle.wt_pagetool.specs.Refusals.{status_of, line_of, html_why, fit_why, html_refused, does_not_fit, unsourced, no_memory, write_fault};
+ghost use Rattle.wt_pagetool.specs.Causes.{refusal_of};
+ghost use Rattle.wt_pagetool.specs.Refusals.{status_of, line_of, html_why, fit_why};
 
+use crate::status::Status;
 use std::alloc::{AllocError, Global};
-use wt_html_in::{FitWhy, HtmlWhy};
+use wt_html_in::{FitWhy, HtmlRefusal, HtmlWhy};
+use wt_outer::FetchRefusal;
 use wt_span::NoMemory;
 
 /// Why a call gives no answer. Places are bytes of the page, or of the input for `Html`; elements are
 /// counted from 1 in document order.
 #[derive(Clone, Copy, Debug, PartialEq, Eq)]
-pub enum Reason {
+pub enum Refusal {
+    /// The words are none of a command.
     Usage,
+    /// There is no page of this title.
     Absent,
+    /// The page is longer than a page may be.
     TooLong,
+    /// The page isn't UTF-8.
     NotUtf8(u32),
+    /// The page has a form that isn't built.
     NotBuilt(u32),
+    /// The HTML of the page is longer than HTML may be.
     HtmlTooLong,
+    /// The input is longer than HTML may be.
     InputTooLong,
+    /// The input isn't well-formed.
     Html { place: u32, why: HtmlWhy },
+    /// An element of the input doesn't fit.
     Unfit { element: u32, why: FitWhy },
+    /// An element of the input has no source.
     Unsourced(u32),
+    /// The input failed.
     ReadFault,
+    /// The folder failed.
     FolderFault,
+    /// Standard output failed.
+    WriteFault,
+    /// No memory was found.
     NoMemory,
 }
 
-impl From<NoMemory> for Reason {
-    ghost use Rattle.wt_pagetool.specs.declared.refusal.Reason.TheVariants.{NoMemory};
+impl From<NoMemory> for Refusal {
+    ghost use Rattle.wt_pagetool.specs.declared.refusal.Refusal.TheVariants.{NoMemory};
 
-    ghost from_gives = { λ _ e. e ≡ NoMemory };
+    ghost from_gives = { λ _ r. r ≡ NoMemory };
 
-    fn from(_e: NoMemory) -> Reason {
-        Reason::NoMemory
+    fn from(_refusal: NoMemory) -> Refusal {
+        Refusal::NoMemory
     }
 }
 
-/// The status that the program ends with.
-pub fn status_of(reason: Reason) -> u8
-    ensures { result ≡ status_of (meant reason) }
-{
-    match reason {
-        Reason::Usage => 1,
-        Reason::Absent
-        | Reason::TooLong
-        | Reason::NotUtf8(_)
-        | Reason::NotBuilt(_)
-        | Reason::HtmlTooLong => 2,
-        Reason::InputTooLong | Reason::Html { .. } | Reason::Unfit { .. } | Reason::Unsourced(_) =>
-            3,
-        Reason::ReadFault => 5,
-        Reason::FolderFault => 6,
-        Reason::NoMemory => 8,
+impl From<AllocError> for Refusal {
+    ghost use Rattle.wt_pagetool.specs.declared.refusal.Refusal.TheVariants.{NoMemory};
+
+    ghost from_gives = { λ _ r. r ≡ NoMemory };
+
+    fn from(_refusal: AllocError) -> Refusal {
+        Refusal::NoMemory
+    }
+}
+
+impl From<FetchRefusal> for Refusal {
+    ghost use Rattle.wt_pagetool.specs.Causes.{fetch_refusal};
+
+    ghost from_gives = { λ refusal r. r ≡ fetch_refusal refusal };
+
+    fn from(refusal: FetchRefusal) -> Refusal {
+        match refusal {
+            FetchRefusal::Failed => Refusal::FolderFault,
+            FetchRefusal::NoMemory => Refusal::NoMemory,
+        }
+    }
+}
+
+impl From<HtmlRefusal> for Refusal {
+    ghost from_gives = { λ refusal r. r ≡ refusal_of refusal };
+
+    fn from(refusal: HtmlRefusal) -> Refusal {
+        match refusal {
+            HtmlRefusal::Html { place, why } => Refusal::Html { place, why },
+            HtmlRefusal::Unfit { element, why } => Refusal::Unfit { element, why },
+            HtmlRefusal::NoMemory => Refusal::NoMemory,
+        }
+    }
+}
+
+impl Refusal {
+    /// How a call ends that is refused so.
+    pub fn status(self) -> Status
+        ensures { result ≡ status_of self }
+    {
+        match self {
+            Refusal::Usage => Status::Usage,
+            Refusal::Absent
+            | Refusal::TooLong
+            | Refusal::NotUtf8(_)
+            | Refusal::NotBuilt(_)
+            | Refusal::HtmlTooLong => Status::PageRefused,
+            Refusal::InputTooLong
+            | Refusal::Html { .. }
+            | Refusal::Unfit { .. }
+            | Refusal::Unsourced(_) => Status::HtmlRefused,
+            Refusal::ReadFault => Status::ReadFault,
+            Refusal::FolderFault => Status::FolderFault,
+            Refusal::WriteFault => Status::WriteFault,
+            Refusal::NoMemory => Status::NoMemory,
+        }
     }
 }
 
@@ -84,13 +141,13 @@ fn fit_why(why: FitWhy) -> &'static str
 
 #[tactic(auto, using(crate::proofs::RefusalLines::html_parts))]
 fn html_line(alloc: Global, place: u32, why: HtmlWhy) -> Result<String, AllocError>
-    ensures { IfOk result (λ line. string_bytes line ≡ line_of (html_refused place why)) }
+    ensures { IfOk result (λ line. string_bytes line ≡ line_of (Refusal.Html place why)) }
 {
     format!(in alloc; "wtround: html refused at {place}: {}\n", html_why(why))
 }
 
 fn unfit_line(alloc: Global, element: u32, why: FitWhy) -> Result<String, AllocError>
-    ensures { IfOk result (λ line. string_bytes line ≡ line_of (does_not_fit element why)) }
+    ensures { IfOk result (λ line. string_bytes line ≡ line_of (Refusal.Unfit element why)) }
 {
     format!(in alloc;
         "wtround: element {element} does not fit: {}\n",
@@ -100,39 +157,40 @@ fn unfit_line(alloc: Global, element: u32, why: FitWhy) -> Result<String, AllocE
 
 #[tactic(auto, using(crate::proofs::RefusalLines::unsourced_parts))]
 fn unsourced_line(alloc: Global, element: u32) -> Result<String, AllocError>
-    ensures { IfOk result (λ line. string_bytes line ≡ line_of (unsourced element)) }
+    ensures { IfOk result (λ line. string_bytes line ≡ line_of (Refusal.Unsourced element)) }
 {
     format!(in alloc; "wtround: element {element} has no source\n")
 }
 
 /// The line that names a refusal.
 #[tactic(auto, unfolding(crate::specs::Refusals::line_of, crate::specs::Refusals::text_of, crate::specs::Refusals::usage_text))]
-pub fn line_of(alloc: Global, reason: Reason) -> Result<String, AllocError>
-    ensures { IfOk result (λ line. string_bytes line ≡ line_of (meant reason)) }
+pub fn line_of(alloc: Global, refusal: Refusal) -> Result<String, AllocError>
+    ensures { IfOk result (λ line. string_bytes line ≡ line_of refusal) }
 {
-    match reason {
-        Reason::Usage => format!(in alloc;
+    match refusal {
+        Refusal::Usage => format!(in alloc;
             "wtround: usage: wtround html TITLE | wikitext | edit TITLE | ranges TITLE | expand TITLE | gen N\n"
         ),
-        Reason::Absent => format!(in alloc; "wtround: no such page\n"),
-        Reason::TooLong => format!(in alloc; "wtround: page too long\n"),
-        Reason::NotUtf8(place) => format!(in alloc; "wtround: page not UTF-8 at {place}\n"),
-        Reason::NotBuilt(place) => format!(in alloc; "wtround: not built at {place}\n"),
-        Reason::HtmlTooLong => format!(in alloc; "wtround: html too long\n"),
-        Reason::InputTooLong => format!(in alloc; "wtround: input too long\n"),
-        Reason::Html { place, why } => html_line(alloc, place, why),
-        Reason::Unfit { element, why } => unfit_line(alloc, element, why),
-        Reason::Unsourced(element) => unsourced_line(alloc, element),
-        Reason::ReadFault => format!(in alloc; "wtround: read fault\n"),
-        Reason::FolderFault => format!(in alloc; "wtround: folder fault\n"),
-        Reason::NoMemory => format!(in alloc; "wtround: no memory\n"),
+        Refusal::Absent => format!(in alloc; "wtround: no such page\n"),
+        Refusal::TooLong => format!(in alloc; "wtround: page too long\n"),
+        Refusal::NotUtf8(place) => format!(in alloc; "wtround: page not UTF-8 at {place}\n"),
+        Refusal::NotBuilt(place) => format!(in alloc; "wtround: not built at {place}\n"),
+        Refusal::HtmlTooLong => format!(in alloc; "wtround: html too long\n"),
+        Refusal::InputTooLong => format!(in alloc; "wtround: input too long\n"),
+        Refusal::Html { place, why } => html_line(alloc, place, why),
+        Refusal::Unfit { element, why } => unfit_line(alloc, element, why),
+        Refusal::Unsourced(element) => unsourced_line(alloc, element),
+        Refusal::ReadFault => format!(in alloc; "wtround: read fault\n"),
+        Refusal::FolderFault => format!(in alloc; "wtround: folder fault\n"),
+        Refusal::WriteFault => format!(in alloc; "wtround: write fault\n"),
+        Refusal::NoMemory => format!(in alloc; "wtround: no memory\n"),
     }
 }
 
 /// The line of want of memory, which itself takes none.
 #[tactic(auto, unfolding(crate::specs::Refusals::line_of, crate::specs::Refusals::text_of))]
 pub fn no_memory_line() -> &'static [u8]
-    ensures { result.now ≡ line_of no_memory }
+    ensures { result.now ≡ line_of Refusal.NoMemory }
 {
     b"wtround: no memory\n"
 }
@@ -140,7 +198,7 @@ pub fn no_memory_line() -> &'static [u8]
 /// The line of a fault of standard output or standard error.
 #[tactic(auto, unfolding(crate::specs::Refusals::line_of, crate::specs::Refusals::text_of))]
 pub fn write_fault_line() -> &'static [u8]
-    ensures { result.now ≡ line_of write_fault }
+    ensures { result.now ≡ line_of Refusal.WriteFault }
 {
     b"wtround: write fault\n"
 }

@@ -1,24 +1,21 @@
-ghost use Rattle.std.specs.Prelude.{◌≡◌, ◌≢◌, ◌<◌, ◌≤◌, ℕ, List, [], length, IfSome, IfOk, IfErr, OnOk, Err};
+ghost use Rattle.std.specs.Prelude.{◌≡◌, ◌<◌, ◌≤◌, ℕ, List, [], length, IfSome, IfOk, IfErr, OnOk};
 ghost use Rattle.std.specs.Io.KnownBytes.{IsAtEnd};
-ghost use Rattle.wt_outer.specs.Device.{Rose};
 ghost use Rattle.wt_fitting.specs.Read.{page, read};
 ghost use Rattle.wt_html_in.specs.Answers.{body_of, unsourced_of};
 ghost use Rattle.wt_html_in.specs.Feeding.{IsFed, taken_of};
 ghost use Rattle.wt_pagetool.specs.Answers.{source_answer, wikitext_answer};
 ghost use Rattle.wt_pagetool.specs.Inputs.{FedWhole};
-ghost use Rattle.wt_pagetool.specs.Reasons.{Answered, Refuses, IsOfHtml, IsOfInput, reason_of};
+ghost use Rattle.wt_pagetool.specs.Causes.{Answered, Refuses, IsOfHtml, IsOfInput, IsKept};
 
+use crate::limits::HTML_BYTES;
 use crate::output::Output;
-use crate::refusal::Reason;
+use crate::refusal::Refusal;
 use bumpalo::Bump;
 use std::alloc::Global;
-use wt_html_in::{Edited, HtmlRefusal, Reader, unsourced};
+use wt_html_in::{Edited, Reader, unsourced};
 use wt_outer::Source;
 use wt_span::front_of;
 use wt_tree::flat;
-
-/// The most bytes of an input.
-const MOST_INPUT: usize = 67_108_864;
 
 /// How many bytes are asked for at a time.
 const PIECE: usize = 65_536;
@@ -30,97 +27,73 @@ fn feed_all<S: Source>(
     input: &mut S,
     buffer: &mut [u8],
     reader: &mut Reader,
-) -> Result<(), Reason>
+) -> Result<(), Refusal>
     requires some { 0 < length buffer.old }
     requires few { length buffer.old ≤ 65536 }
     requires fed { IsFed reader.old [] }
     requires count { taken_of reader.old ≡ 0 }
     ensures fed { OnOk result (FedWhole reader.new (S.left input.old) (S.left input.new)) }
-    ensures answered { IfErr result (λ reason. IfSome (S.left input.old) (λ bytes. Refuses reason (wikitext_answer bytes))) }
-    ensures of_input { IfErr result IsOfInput }
-    ensures kept { result ≢ Err Reason.ReadFault → S.fault_count input.new ≡ S.fault_count input.old }
-    ensures fault { result ≡ Err Reason.ReadFault → Rose (S.fault_count input.old) (S.fault_count input.new) }
+    ensures answered { IfErr result (λ r. IfSome (S.left input.old) (λ bytes. Refuses r (wikitext_answer bytes))) }
+    ensures of_input { IfErr result (IsOfInput (S.fault_count input.old) (S.fault_count input.new)) }
+    ensures kept { IsKept result (S.fault_count input.old) (S.fault_count input.new) }
 {
     let mut taken = 0;
     'pieces: loop {
         match input.read(buffer) {
             Ok(0) => return Ok(()),
             Ok(count) => {
-                if count > MOST_INPUT - taken {
-                    return Err(Reason::InputTooLong);
+                if count > HTML_BYTES - taken {
+                    return Err(Refusal::InputTooLong);
                 }
                 let _ = reader.feed(alloc, front_of(buffer, count));
                 taken += count;
             }
-            Err(_) => return Err(Reason::ReadFault),
+            Err(_) => return Err(Refusal::ReadFault),
         }
     }
 }
 
 /// A reader that was fed the whole input.
-fn read_all<S: Source>(alloc: Global, input: &mut S) -> Result<Reader, Reason>
+fn read_all<S: Source>(alloc: Global, input: &mut S) -> Result<Reader, Refusal>
     ensures fed { IfOk result (λ reader. FedWhole reader (S.left input.old) (S.left input.new)) }
-    ensures answered { IfErr result (λ reason. IfSome (S.left input.old) (λ bytes. Refuses reason (wikitext_answer bytes))) }
-    ensures of_input { IfErr result IsOfInput }
-    ensures kept { result ≢ Err Reason.ReadFault → S.fault_count input.new ≡ S.fault_count input.old }
-    ensures fault { result ≡ Err Reason.ReadFault → Rose (S.fault_count input.old) (S.fault_count input.new) }
+    ensures answered { IfErr result (λ r. IfSome (S.left input.old) (λ bytes. Refuses r (wikitext_answer bytes))) }
+    ensures of_input { IfErr result (IsOfInput (S.fault_count input.old) (S.fault_count input.new)) }
+    ensures kept { IsKept result (S.fault_count input.old) (S.fault_count input.new) }
 {
-    let Ok(mut buffer) = vec![in alloc; 0u8; PIECE] else {
-        return Err(Reason::NoMemory);
-    };
+    let mut buffer = vec![in alloc; 0u8; PIECE]?;
     let mut reader = Reader::new(alloc);
-    match feed_all(alloc, input, buffer.as_mut_slice(), &mut reader) {
-        Ok(()) => Ok(reader),
-        Err(reason) => Err(reason),
-    }
-}
-
-fn reason_of(refusal: HtmlRefusal) -> Reason
-    ensures { result ≡ reason_of refusal }
-{
-    match refusal {
-        HtmlRefusal::Html { place, why } => Reason::Html { place, why },
-        HtmlRefusal::Unfit { element, why } => Reason::Unfit { element, why },
-        HtmlRefusal::NoMemory => Reason::NoMemory,
-    }
+    feed_all(alloc, input, buffer.as_mut_slice(), &mut reader)?;
+    Ok(reader)
 }
 
 /// The source of a page that was read, if each of its elements tells its own.
-fn source_of(alloc: Global, edited: &Edited<'_>) -> Result<Output, Reason>
+fn source_of(alloc: Global, edited: &Edited<'_>) -> Result<Output, Refusal>
     ensures answered { Answered (source_answer (page (body_of edited.now) (unsourced_of edited.now))) result }
     ensures of_html { IfErr result IsOfHtml }
 {
     match unsourced(edited) {
-        Some(element) => Err(Reason::Unsourced(element)),
-        None => match flat(alloc, edited.body()) {
-            Ok(text) => Ok(Output::Wikitext(text)),
-            Err(_) => Err(Reason::NoMemory),
-        },
+        Some(element) => Err(Refusal::Unsourced(element)),
+        None => Ok(Output::Text(flat(alloc, edited.body())?)),
     }
 }
 
 /// The source of the page for which the bytes stand that were fed.
-fn source_of_read(alloc: Global, reader: Reader) -> Result<Output, Reason>
+fn source_of_read(alloc: Global, reader: Reader) -> Result<Output, Refusal>
     ensures answered { (bytes : List ℕ) → IsFed reader bytes → Answered (source_answer (read bytes)) result }
     ensures of_html { IfErr result IsOfHtml }
 {
     let arena = Bump::new(alloc);
-    match reader.finish(alloc, &arena) {
-        Ok(edited) => source_of(alloc, &edited),
-        Err(refusal) => Err(reason_of(refusal)),
-    }
+    let edited = reader.finish(alloc, &arena)?;
+    source_of(alloc, &edited)
 }
 
 /// The answer to `wikitext`: the source of the page for which the input stands.
-pub fn wikitext_of_input<S: Source>(alloc: Global, input: &mut S) -> Result<Output, Reason>
+pub fn wikitext_of_input<S: Source>(alloc: Global, input: &mut S) -> Result<Output, Refusal>
     ensures answered { IfSome (S.left input.old) (λ bytes. Answered (wikitext_answer bytes) result) }
-    ensures of_input { IfErr result IsOfInput }
+    ensures of_input { IfErr result (IsOfInput (S.fault_count input.old) (S.fault_count input.new)) }
     ensures ended { OnOk result (IsAtEnd (S.left input.new)) }
-    ensures kept { result ≢ Err Reason.ReadFault → S.fault_count input.new ≡ S.fault_count input.old }
-    ensures fault { result ≡ Err Reason.ReadFault → Rose (S.fault_count input.old) (S.fault_count input.new) }
+    ensures kept { IsKept result (S.fault_count input.old) (S.fault_count input.new) }
 {
-    match read_all(alloc, input) {
-        Ok(reader) => source_of_read(alloc, reader),
-        Err(reason) => Err(reason),
-    }
+    let reader = read_all(alloc, input)?;
+    source_of_read(alloc, reader)
 }

@@ -1,13 +1,13 @@
 ghost use Rattle.std.specs.Prelude.{OnOk, OnErr};
-ghost use Rattle.wt_pagetool.specs.Reports.{sunk, Took, FailedAfter};
+ghost use Rattle.wt_pagetool.specs.Devices.{written_to, Took, FailedAfter};
 
 use wt_outer::{Failed, Sink};
 use wt_span::rest_of;
 
 /// Writes all of the bytes. After an `Err` the sink has taken a front of them.
 pub fn write_all<W: Sink>(out: &mut W, bytes: &[u8]) -> Result<(), Failed>
-    ensures ok { OnOk result (Took (sunk (W.taken out.old) (W.taken out.new) (W.fault_count out.old) (W.fault_count out.new)) bytes.now) }
-    ensures err { OnErr result (FailedAfter (sunk (W.taken out.old) (W.taken out.new) (W.fault_count out.old) (W.fault_count out.new)) bytes.now) }
+    ensures ok { OnOk result (Took (written_to W.Sink out.old out.new) bytes.now) }
+    ensures err { OnErr result (FailedAfter (written_to W.Sink out.old out.new) bytes.now) }
 {
     let mut done = 0;
     while done < bytes.len() {

@@ -1,95 +1,9 @@
-ghost use Rattle.std.specs.Prelude.{◌≡◌, ◌<◌, ◌^◌, IfOk, length};
-
 use crate::cases::{MARKED, NOT_BUILT, NOT_UTF8, PLAIN, RANGES, REFUSED_HTML};
+use crate::running::{calls, ends, ends_with, folder_of, reads, sink, spaces, wikitext_of};
 use std::alloc::{AllocError, Global};
 use std::test::Fail;
-use wt_outer::{Folder, MemFolder, MemSink, MemSource, NeverFailsSource, Sink, Source};
-use wt_pagetool::run;
-use wt_span::{List, NoMemory, Str};
-
-/// What a call of `run` came to.
-#[derive(Drop)]
-struct Ended {
-    status: u8,
-    out: MemSink,
-    err: MemSink,
-}
-
-fn words_of(alloc: Global, words: &[&str]) -> Result<List<Str>, NoMemory> {
-    let mut list = List::new(alloc);
-    for word in words {
-        list.push(Str::copy_of(alloc, word)?)?;
-    }
-    Ok(list)
-}
-
-/// The calls that fail.
-fn calls(alloc: Global, numbers: &[u64]) -> Result<List<u64>, NoMemory> {
-    Ok(List::from_vec(Vec::from_slice(alloc, numbers)?))
-}
-
-fn entries(alloc: Global, page: &[u8]) -> Result<List<(Str, List<u8>)>, NoMemory>
-    ensures { IfOk result (λ pages. length pages ≡ 1) }
-{
-    let mut pages = List::new(alloc);
-    let bytes = List::from_vec(Vec::from_slice(alloc, page)?);
-    pages.push((Str::copy_of(alloc, "Main")?, bytes))?;
-    Ok(pages)
-}
-
-/// A folder with the page `Main`.
-fn folder_of(alloc: Global, page: &[u8], failing: &[u64]) -> Result<MemFolder, NoMemory> {
-    Ok(MemFolder::new(alloc, entries(alloc, page)?, calls(alloc, failing)?))
-}
-
-fn sink(alloc: Global) -> MemSink {
-    MemSink::new(alloc, usize::MAX, List::new(alloc))
-}
-
-fn ends_with(
-    alloc: Global,
-    words: &[&str],
-    folder: &mut MemFolder,
-    out: MemSink,
-    err: MemSink,
-) -> Result<Ended, NoMemory> {
-    let words = words_of(alloc, words)?;
-    let mut input = NeverFailsSource::new(List::new(alloc), 1);
-    let mut out = out;
-    let mut err = err;
-    let status = run(alloc, &words, &mut input, folder, &mut out, &mut err);
-    Ok(Ended { status, out, err })
-}
-
-/// What `wikitext` comes to over this input.
-fn reads<S: Source>(alloc: Global, input: &mut S) -> Result<Ended, NoMemory> {
-    let words = words_of(alloc, &["wikitext"])?;
-    let mut folder = folder_of(alloc, b"a", &[])?;
-    let (mut out, mut err) = (sink(alloc), sink(alloc));
-    let status = run(alloc, &words, input, &mut folder, &mut out, &mut err);
-    Ok(Ended { status, out, err })
-}
-
-/// What `wikitext` comes to over HTML that comes at most so many bytes a call.
-fn wikitext_of(alloc: Global, html: &[u8], most: usize) -> Result<Ended, NoMemory>
-    requires { 0 < most }
-{
-    let html = List::from_vec(Vec::from_slice(alloc, html)?);
-    let mut input = NeverFailsSource::new(html, most);
-    reads(alloc, &mut input)
-}
-
-fn spaces(alloc: Global, count: usize) -> Result<List<u8>, NoMemory>
-    requires { count < 2 ^ 31 }
-{
-    Ok(List::from_vec(vec![in alloc; b' '; count]?))
-}
-
-/// What `run` comes to over a folder with the page `Main`.
-fn ends(alloc: Global, words: &[&str], page: &[u8]) -> Result<Ended, NoMemory> {
-    let mut folder = folder_of(alloc, page, &[])?;
-    ends_with(alloc, words, &mut folder, sink(alloc), sink(alloc))
-}
+use wt_outer::{Folder, MemSink, MemSource, NeverFailsSource, Sink, Source};
+use wt_span::{List, NoMemory};
 
 fn document(alloc: Global, body: &str) -> Result<String, AllocError> {
     format!(in alloc; "<!DOCTYPE html><html><head><meta charset=\"utf-8\"/></head>{body}</html>")
@@ -184,15 +98,10 @@ fn words_of_no_command_are_answered_by_the_usage(rt: HostRuntime) -> Result<(), 
 }
 
 #[test]
-fn an_absent_page_and_a_page_that_is_too_long_are_refused(rt: HostRuntime) -> Result<(), Fail> {
+fn an_absent_page_is_refused(rt: HostRuntime) -> Result<(), Fail> {
     let absent = ends(rt.alloc(), &["html", "Other"], b"a")?;
     assert_eq!(rt; absent.status, 2);
     assert_eq!(rt; absent.err.taken(), b"wtround: no such page\n".as_slice());
-    let page = vec![in rt.alloc(); b'a'; 2_097_153]?;
-    let long = ends(rt.alloc(), &["html", "Main"], page.as_slice())?;
-    assert_eq!(rt; long.status, 2);
-    assert_eq!(rt; long.out.taken().len(), 0);
-    assert_eq!(rt; long.err.taken(), b"wtround: page too long\n".as_slice());
     Ok(())
 }
 
@@ -279,16 +188,5 @@ fn an_input_that_fails_is_no_end(rt: HostRuntime) -> Result<(), Fail> {
     assert_eq!(rt; ended.out.taken().len(), 0);
     assert_eq!(rt; ended.err.taken(), b"wtround: read fault\n".as_slice());
     assert_eq!(rt; input.faults(), 1);
-    Ok(())
-}
-
-#[test]
-fn an_input_that_is_too_long_is_refused_whatever_it_holds(rt: HostRuntime) -> Result<(), Fail> {
-    let input = List::from_vec(vec![in rt.alloc(); b'a'; 67_108_865]?);
-    let mut input = NeverFailsSource::new(input, usize::MAX);
-    let ended = reads(rt.alloc(), &mut input)?;
-    assert_eq!(rt; ended.status, 3);
-    assert_eq!(rt; ended.out.taken().len(), 0);
-    assert_eq!(rt; ended.err.taken(), b"wtround: input too long\n".as_slice());
     Ok(())
 }

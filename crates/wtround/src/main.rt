@@ -8,7 +8,7 @@ use std::io::ErrorKind;
 use std::process::ExitCode;
 use std::rt::Env;
 use wt_outer::{DirFolder, StdSink, StdSource};
-use wt_pagetool::run;
+use wt_pagetool::{Status, run};
 use wt_span::{List, NoMemory, Str};
 
 /// The words after the program's name, or no words where one of them isn't UTF-8.
@@ -32,7 +32,7 @@ fn words_of(rt: &(impl Env + AllocGlobal)) -> Result<List<Str>, NoMemory> {
 
 fn main(rt: HostRuntime) -> ExitCode {
     let Ok(words) = words_of(&rt) else {
-        return ExitCode::from(8);
+        return ExitCode::from(Status::NoMemory.code());
     };
     let mut input = StdSource::new(rt.stdin());
     let mut folder = DirFolder::new(&rt, "pages");

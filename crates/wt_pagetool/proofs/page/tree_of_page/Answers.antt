@@ -2,22 +2,22 @@ use Rattle.std.proofs.Common.{◌≤◌, length, arith}
 use Rattle.wt_pagetool.proofs.PageLaws.{place_within, page_too_long, page_not_utf8, tree_answered, tree_refused}
 use Rattle.wt_pagetool.proofs.page.tree_of_page.Goals as goal
 
-pub returns-then-page-gt-MOST_PAGE-clause-refused :
-    goal.returns-then-page-gt-MOST_PAGE-clause-refused
-returns-then-page-gt-MOST_PAGE-clause-refused c = page_too_long c.args.page.now (omega (arith, c.if-page-gt-MOST_PAGE.true))
+pub returns-then-page-gt-PAGE_BYTES-clause-refused :
+    goal.returns-then-page-gt-PAGE_BYTES-clause-refused
+returns-then-page-gt-PAGE_BYTES-clause-refused c = page_too_long c.args.page.now (omega (arith, c.if-page-gt-PAGE_BYTES.true))
 
 pub overflow_cast-result : goal.overflow_cast-result
 overflow_cast-result c =
     let within : c.in-Err.place ≤ length c.args.page.now = place_within c.args.page.now c.in-Err.place c.in-Err.ensures.place in
-    omega (arith, within, c.if-page-gt-MOST_PAGE.false)
+    omega (arith, within, c.if-page-gt-PAGE_BYTES.false)
 
 pub returns-in-Ok-clause-answered : goal.returns-in-Ok-clause-answered
 returns-in-Ok-clause-answered c =
-    tree_answered c.args.page.now c.in-Ok.text.now c.tree_of_text.result c.in-Ok.ensures.text (omega (arith, c.if-page-gt-MOST_PAGE.false)) c.in-Ok.ensures.whole c.tree_of_text.ensures.built
+    tree_answered c.args.page.now c.in-Ok.text.now c.tree_of_text.result c.in-Ok.ensures.text (omega (arith, c.if-page-gt-PAGE_BYTES.false)) c.in-Ok.ensures.whole c.tree_of_text.ensures.built
 
 pub returns-in-Ok-clause-refused : goal.returns-in-Ok-clause-refused
 returns-in-Ok-clause-refused c =
-    tree_refused c.args.page.now c.in-Ok.text.now c.tree_of_text.result c.in-Ok.ensures.text (omega (arith, c.if-page-gt-MOST_PAGE.false)) c.in-Ok.ensures.whole c.tree_of_text.ensures.refused
+    tree_refused c.args.page.now c.in-Ok.text.now c.tree_of_text.result c.in-Ok.ensures.text (omega (arith, c.if-page-gt-PAGE_BYTES.false)) c.in-Ok.ensures.whole c.tree_of_text.ensures.refused
 
 pub returns-in-Err-clause-refused : goal.returns-in-Err-clause-refused
-returns-in-Err-clause-refused c = page_not_utf8 c.args.page.now c.in-Err.place (omega (arith, c.if-page-gt-MOST_PAGE.false)) c.in-Err.ensures.place
+returns-in-Err-clause-refused c = page_not_utf8 c.args.page.now c.in-Err.place (omega (arith, c.if-page-gt-PAGE_BYTES.false)) c.in-Err.ensures.place

@@ -7,6 +7,6 @@ use Rattle.wt_pagetool.proofs.wikitext_command.source_of.Goals as goal
 pub returns-in-Some-clause-answered : goal.returns-in-Some-clause-answered
 returns-in-Some-clause-answered c = source_unsourced (body_of c.args.edited.now) (unsourced_of c.args.edited.now) c.in-Some.element (sym c.in-Some.ensures)
 
-pub returns-in-Ok-clause-answered : goal.returns-in-Ok-clause-answered
-returns-in-Ok-clause-answered c =
-    source_sourced (body_of c.args.edited.now) (unsourced_of c.args.edited.now) c.in-Ok.text (sym c.in-None.ensures) (c.in-Ok.ensures ∙ ap flat c.body.ensures)
+pub returns-in_ok-flat-in-None-clause-answered : goal.returns-in_ok-flat-in-None-clause-answered
+returns-in_ok-flat-in-None-clause-answered c =
+    source_sourced (body_of c.args.edited.now) (unsourced_of c.args.edited.now) c.in_ok-flat-in-None.field-0 (sym c.in-None.ensures) (c.in_ok-flat-in-None.ensures ∙ ap flat c.body.ensures)

@@ -1,0 +1,139 @@
+-- When each refusal may come.
+use Rattle.std.specs.Prelude.{◌≡◌, ⊤, ℕ, List, Option, Some, Result, Ok, Err}
+use Rattle.wt_outer.specs.Device.{Rose}
+use Rattle.wt_outer.specs.declared.device.FetchRefusal.{FetchRefusal}
+use Rattle.wt_outer.specs.declared.device.FetchRefusal.TheVariants as of_fetch
+use Rattle.wt_html_in.specs.declared.refusal.HtmlRefusal.{HtmlRefusal}
+use Rattle.wt_html_in.specs.declared.refusal.HtmlRefusal.TheVariants as of_html
+use Rattle.wt_pagetool.specs.declared.status.Status.{Status}
+use Rattle.wt_pagetool.specs.declared.status.Status.TheVariants as status
+use Rattle.wt_pagetool.specs.declared.refusal.Refusal.{Refusal}
+use Rattle.wt_pagetool.specs.declared.refusal.Refusal.TheVariants.{NotBuilt, Html, Unfit, FolderFault, NoMemory}
+use Rattle.wt_pagetool.specs.declared.output.Output.{Output}
+use Rattle.wt_pagetool.specs.Outputs.{output_bytes}
+use Rattle.wt_pagetool.specs.Statuses.{IsAnswer}
+use Rattle.wt_pagetool.specs.Refusals.{status_of}
+use Rattle.wt_pagetool.specs.Answers.{Answer, done, refused, page_answer}
+
+-- ---- of an answer
+
+-- a refusal that is no device's fault and no want of memory is this answer
+abbrev pub RefusesAs : Status → Refusal → Answer → Type 0
+RefusesAs status.Done r a = ⊥
+RefusesAs status.Usage r a = a ≡ refused r
+RefusesAs status.PageRefused r a = a ≡ refused r
+RefusesAs status.HtmlRefused r a = a ≡ refused r
+RefusesAs status.EditRefused r a = a ≡ refused r
+RefusesAs status.ReadFault r a = ⊤
+RefusesAs status.FolderFault r a = ⊤
+RefusesAs status.WriteFault r a = ⊤
+RefusesAs status.NoMemory r a = ⊤
+
+abbrev pub Refuses : Refusal → Answer → Type 0
+Refuses r a = RefusesAs (status_of r) r a
+
+-- what was found is the answer
+abbrev pub Answered : Answer → Result Output Refusal → Type 0
+Answered a (Ok output) = a ≡ done (output_bytes output)
+Answered a (Err r) = Refuses r a
+
+-- how a call ends in which this was found
+abbrev pub found_status : {T : Type 0} → Result T Refusal → Status
+found_status (Ok value) = status.Done
+found_status (Err r) = status_of r
+
+-- ---- of a page
+
+-- the refusal lies with the page, or memory ran out
+abbrev pub IsPageStatus : Status → Type 0
+IsPageStatus status.Done = ⊥
+IsPageStatus status.Usage = ⊥
+IsPageStatus status.PageRefused = ⊤
+IsPageStatus status.HtmlRefused = ⊥
+IsPageStatus status.EditRefused = ⊥
+IsPageStatus status.ReadFault = ⊥
+IsPageStatus status.FolderFault = ⊥
+IsPageStatus status.WriteFault = ⊥
+IsPageStatus status.NoMemory = ⊤
+
+abbrev pub IsOfPage : Refusal → Type 0
+IsOfPage r = IsPageStatus (status_of r)
+
+-- the same, or the folder failed, whose count rose
+abbrev pub IsTitleStatus : ℕ → ℕ → Status → Type 0
+IsTitleStatus before after status.Done = ⊥
+IsTitleStatus before after status.Usage = ⊥
+IsTitleStatus before after status.PageRefused = ⊤
+IsTitleStatus before after status.HtmlRefused = ⊥
+IsTitleStatus before after status.EditRefused = ⊥
+IsTitleStatus before after status.ReadFault = ⊥
+IsTitleStatus before after status.FolderFault = Rose before after
+IsTitleStatus before after status.WriteFault = ⊥
+IsTitleStatus before after status.NoMemory = ⊤
+
+abbrev pub IsOfTitle : ℕ → ℕ → Refusal → Type 0
+IsOfTitle before after r = IsTitleStatus before after (status_of r)
+
+-- the refusal refuses what stands under a title, whatever is made of a page
+abbrev pub RefusesPage : Option (List ℕ) → Refusal → Type 0
+RefusesPage stands r = (made : List ℕ → Answer) → Refuses r (page_answer stands made)
+
+-- a form that isn't built stands here, or memory ran out
+abbrev pub IsUnbuilt : Option ℕ → Refusal → Type 0
+IsUnbuilt first (NotBuilt place) = first ≡ Some place
+IsUnbuilt first NoMemory = ⊤
+IsUnbuilt first r = ⊥
+
+-- why a folder gives no answer
+abbrev pub fetch_refusal : FetchRefusal → Refusal
+fetch_refusal of_fetch.Failed = FolderFault
+fetch_refusal of_fetch.NoMemory = NoMemory
+
+-- The bytes that were fetched are answered as what stands under the title; or this refusal refuses it, or is a fault.
+abbrev pub IsFetched : Option (List ℕ) → Result (List ℕ) Refusal → Type 0
+IsFetched stands (Ok page) = (made : List ℕ → Answer) → page_answer stands made ≡ page_answer (Some page) made
+IsFetched stands (Err r) = RefusesPage stands r
+
+-- ---- of an input
+
+-- what the reader of HTML refuses
+abbrev pub refusal_of : HtmlRefusal → Refusal
+refusal_of (of_html.Html place why) = Html place why
+refusal_of (of_html.Unfit n why) = Unfit n why
+refusal_of of_html.NoMemory = NoMemory
+
+-- the refusal lies with the HTML, or memory ran out
+abbrev pub IsHtmlStatus : Status → Type 0
+IsHtmlStatus status.Done = ⊥
+IsHtmlStatus status.Usage = ⊥
+IsHtmlStatus status.PageRefused = ⊥
+IsHtmlStatus status.HtmlRefused = ⊤
+IsHtmlStatus status.EditRefused = ⊥
+IsHtmlStatus status.ReadFault = ⊥
+IsHtmlStatus status.FolderFault = ⊥
+IsHtmlStatus status.WriteFault = ⊥
+IsHtmlStatus status.NoMemory = ⊤
+
+abbrev pub IsOfHtml : Refusal → Type 0
+IsOfHtml r = IsHtmlStatus (status_of r)
+
+-- the same, or the input failed, whose count rose
+abbrev pub IsInputStatus : ℕ → ℕ → Status → Type 0
+IsInputStatus before after status.Done = ⊥
+IsInputStatus before after status.Usage = ⊥
+IsInputStatus before after status.PageRefused = ⊥
+IsInputStatus before after status.HtmlRefused = ⊤
+IsInputStatus before after status.EditRefused = ⊥
+IsInputStatus before after status.ReadFault = Rose before after
+IsInputStatus before after status.FolderFault = ⊥
+IsInputStatus before after status.WriteFault = ⊥
+IsInputStatus before after status.NoMemory = ⊤
+
+abbrev pub IsOfInput : ℕ → ℕ → Refusal → Type 0
+IsOfInput before after r = IsInputStatus before after (status_of r)
+
+-- ---- counts
+
+-- the count of a device is kept where a call is answered
+abbrev pub IsKept : {T : Type 0} → Result T Refusal → ℕ → ℕ → Type 0
+IsKept found before after = IsAnswer (found_status found) → after ≡ before
