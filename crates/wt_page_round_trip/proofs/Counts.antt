@@ -1,44 +1,26 @@
 -- The meaning of a page has at most two numbers for each byte.
-use Rattle.std.proofs.Common.{◌≡◌, ℕ, zero, suc, ◌+◌, ◌-◌, ◌*◌, ◌<◌, ◌≤◌, Bool, Option, Some, None, List, [], ◌∷◌, ◌++◌, length, take, drop, map, refl, sym, ap, ap₂, ◌∙◌, subst, arith, append-nil, length-append, length-take, length-drop}
+use Rattle.std.proofs.Common.{◌≡◌, ℕ, ◌-◌, ◌*◌, ◌<◌, ◌≤◌, Bool, Some, None, List, [], ◌∷◌, length, refl, sym, ap, subst, arith, length-append, length-take, length-drop}
 use Rattle.std.specs.Prelude.{◌⊎◌}
-use Rattle.std.specs.List.{flat_map}
 use Rattle.std.proofs.Common.{⊎_elim}
-use Rattle.std.proofs.lemmas.List.{take-append-drop}
 use Rattle.wt_span.specs.declared.form.LexKind.{LexKind}
 use Rattle.wt_span.specs.declared.form.Mode.TheVariants.{Page}
 use Rattle.wt_span.specs.declared.form.Form.{Form}
 use Rattle.wt_span.specs.declared.form.Form.TheVariants as form
 use Rattle.wt_span.specs.Comments.{comment_len, comment_line_len}
 use Rattle.wt_span.specs.Entities.{entity_at}
-use Rattle.wt_span.specs.Items.{Item, char, whole, sources, sign}
-use Rattle.wt_span.specs.Runs.{runs, IsRun, AreRuns}
+use Rattle.wt_span.specs.Items.{Item, char, whole, sources}
 use Rattle.wt_span.specs.Tags.{Tag, opening_tag, closing_tag, include_at, raw_by}
-use Rattle.wt_span.proofs.RunLaws.{runs_are}
 use Rattle.wt_lex.proofs.TagForms.{OptTag, TagFits, opening_fits}
 use Rattle.wt_lex.proofs.WholeTags.{raw_at}
-use Rattle.wt_inline.specs.declared.loose.Loose.{Loose}
-use Rattle.wt_inline.specs.declared.loose.Loose.TheVariants.{Text, Sep}
-use Rattle.wt_inline.specs.RawTag.{len_of, opening_len, behind, inside_len, inside_of}
-use Rattle.wt_inline.specs.Inside.{read_with, inside_items}
-use Rattle.wt_inline.specs.Inline.{inline_trees}
-use Rattle.wt_inline.specs.ItemTree.{ItemTree, leaf, forest, held, held_by_all}
-use Rattle.wt_inline.specs.Parts.{Part, loose, node, held_parts, one_leaf, loose_kind, child, children, inside_part, nowiki, whole_tree, parts}
-use Rattle.wt_inline.proofs.HeldLaws.{held_children, held_of_parts, held_append, sources_append, sources_opened}
+use Rattle.wt_inline.specs.RawTag.{len_of, opening_len, behind, inside_len}
+use Rattle.wt_inline.specs.Parts.{nowiki, whole_tree}
 use Rattle.wt_inline.proofs.Insides.{entity_some}
-use Rattle.wt_build.specs.declared.block.BlockKind.{BlockKind}
-use Rattle.wt_build.specs.declared.block.BlockKind.TheVariants.{Between, Heading, Para}
-use Rattle.wt_build.specs.declared.heading.HeadingParts.{HeadingParts}
-use Rattle.wt_build.specs.Headings.{heading_parts}
-use Rattle.wt_build.specs.Blocks.{joined, line_parts, para, heading_by, heading, block, lead, without_lead, last_ending, without_ending, around, parts_by}
 use Rattle.wt_annotate.specs.Labels.{width}
 use Rattle.wt_annotate.specs.Annotated.{numbered}
 use Rattle.wt_annotate.specs.Numbers.{makes_all}
 use Rattle.wt_annotate.proofs.NumberLaws.{meaning_count, nowiki_inside}
 use Rattle.wt_build.specs.Meaning.{meaning}
-use Rattle.wt_page_round_trip.proofs.OfPage.{IsPageForm, IsPageItem, AreOfPage}
-use Rattle.wt_page_round_trip.proofs.Parts.{wide_append}
-use Rattle.wt_page_round_trip.proofs.PageLines.{all_left, all_right, lead_joined, end_joined}
-use Rattle.wt_page_round_trip.proofs.BodyParts.{lines_are}
+use Rattle.wt_page_round_trip.proofs.OfPage.{IsPageForm, AreOfPage}
 
 -- ---- forms
 

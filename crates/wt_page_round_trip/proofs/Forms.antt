@@ -15,7 +15,7 @@ use Rattle.wt_span.specs.declared.form.Form.{Form}
 use Rattle.wt_span.specs.declared.form.Form.TheVariants as form
 use Rattle.wt_span.specs.Bytes.{begins}
 use Rattle.wt_span.specs.Entities.{named_in, entity_names, named_entity, is_entity_number, numbered as numbered_entity, decimal_entity, hex_entity, entity_at}
-use Rattle.wt_span.specs.Items.{whole, is_mark_form}
+use Rattle.wt_span.specs.Items.{is_mark_form}
 use Rattle.wt_span.specs.Tags.{Tag, opening_tag, closing_tag, len_if_named, is_extension, is_noinclude, raw_by}
 use Rattle.wt_span.specs.Whole.{IsWhole}
 use Rattle.wt_tree.specs.declared.kind.Kind.{Kind}
