@@ -41,7 +41,9 @@ text_answer page made None = built_answer page made (first_unbuilt page)
 -- with a form that isn't built. Any other page is answered by what is made of it.
 unfoldable pub page_answer : Option (List ℕ) → (List ℕ → Answer) → Answer
 page_answer None made = refused Absent
-page_answer (Some page) made = if nat_lt PAGE_BYTES (length page) then refused TooLong else text_answer page made (not_utf8_place page)
+page_answer (Some page) made =
+    if nat_lt PAGE_BYTES (length page) then refused TooLong
+    else text_answer page made (not_utf8_place page)
 
 -- nothing refuses the page, whatever is made of it
 abbrev pub IsAnswered : List ℕ → Type 0
@@ -83,7 +85,9 @@ source_answer (misfit n why) = refused (Unfit n why)
 
 -- `wikitext` of an input
 unfoldable pub wikitext_answer : List ℕ → Answer
-wikitext_answer input = if nat_lt HTML_BYTES (length input) then refused InputTooLong else source_answer (read input)
+wikitext_answer input =
+    if nat_lt HTML_BYTES (length input) then refused InputTooLong
+    else source_answer (read input)
 
 -- ---- commands
 

@@ -28,15 +28,20 @@ told c = answer_told c.folder.pages_before c.input.left_before c.words
 abbrev pub IsTold : List (List ℕ) → SourceUse → FolderUse → Refusal → Type 0
 IsTold words input folder r = IfSome (answer_told folder.pages_before input.left_before words) (λ a. a ≡ refused r)
 
--- A refusal is due, by how it ends the call. The words are none of a command; the page, the HTML or the edit is refused,
--- by a command that takes one, and this is the answer that is told; the input or the folder failed in a command that
--- reads or fetches, and its count rose. Want of memory may end any call. The fault of a sink is told apart.
+-- When a refusal is due, by how it ends the call:
+-- * usage: the words are none of a command;
+-- * the page, the HTML or the edit is refused: the command fetches a page, reads HTML, or does both, and this refusal
+--   is the answer to the words, where that is told;
+-- * the input or the folder failed: the command reads or fetches, and the device's count rose;
+-- * want of memory: in any call.
+-- The fault of a sink is none of them: `OutFailed` and `ErrFailed` tell it.
 abbrev pub IsDueAs : Status → List (List ℕ) → SourceUse → FolderUse → Refusal → Type 0
 IsDueAs status.Done words input folder r = ⊥
 IsDueAs status.Usage words input folder r = command_of words ≡ None
 IsDueAs status.PageRefused words input folder r = Fetches (command_of words) × IsTold words input folder r
 IsDueAs status.HtmlRefused words input folder r = Reads (command_of words) × IsTold words input folder r
-IsDueAs status.EditRefused words input folder r = Fetches (command_of words) × Reads (command_of words) × IsTold words input folder r
+IsDueAs status.EditRefused words input folder r =
+    Fetches (command_of words) × Reads (command_of words) × IsTold words input folder r
 IsDueAs status.ReadFault words input folder r = Reads (command_of words) × SourceFailed input
 IsDueAs status.FolderFault words input folder r = Fetches (command_of words) × FolderFailed folder
 IsDueAs status.WriteFault words input folder r = ⊥

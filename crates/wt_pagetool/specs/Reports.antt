@@ -23,13 +23,17 @@ use Rattle.wt_pagetool.specs.Calls.{Call, told, IsDue}
 
 -- ---- what was found goes to the sinks
 
--- An answer was written: all of it, and no line; or a front of it, and the line of a write fault.
+-- An answer was written, and no line; or a front of it, and the line of a write fault as far as `err` took it.
 abbrev pub Gave : List ℕ → Status → SinkUse → SinkUse → Type 0
-Gave bytes s out err = ((s ≡ status.Done) × Took out bytes × Untouched err) ⊎ ((s ≡ status.WriteFault) × FailedAfter out bytes × TookOrFailed err (line_of WriteFault))
+Gave bytes s out err =
+    ((s ≡ status.Done) × Took out bytes × Untouched err)
+    ⊎ ((s ≡ status.WriteFault) × FailedAfter out bytes × TookOrFailed err (line_of WriteFault))
 
 -- A refusal was written, or it could not be.
 abbrev pub Told : Refusal → Status → SinkUse → Type 0
-Told r s err = ((s ≡ status_of r) × Took err (line_of r)) ⊎ ((s ≡ status.WriteFault) × FailedAfter err (line_of r))
+Told r s err =
+    ((s ≡ status_of r) × Took err (line_of r))
+    ⊎ ((s ≡ status.WriteFault) × FailedAfter err (line_of r))
 
 -- the refusal, or want of memory for its line
 abbrev pub Refused : Refusal → Status → SinkUse → SinkUse → Type 0
@@ -57,7 +61,7 @@ pub record WasRefused (c : Call) (ended : ℕ) : Type 0 where
   pub nothing : Untouched c.out
   pub line : Took c.err (line_of refusal)
 
--- `out` failed and took a front of the answer, and `err` the line of a write fault, or a front of it where it failed too
+-- `out` failed and took a front of the answer, and `err` the line of a write fault, or a front of it and failed too
 pub record OutFailed (c : Call) : Type 0 where
   pub bytes : List ℕ
   pub answer : IfSome (told c) (λ a. a ≡ done bytes)

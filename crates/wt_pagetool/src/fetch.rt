@@ -20,7 +20,8 @@ pub fn fetched_page<F: Folder>(
     ensures of_title { IfErr result (IsOfTitle (F.fault_count folder.old) (F.fault_count folder.new)) }
     ensures kept { IsKept result (F.fault_count folder.old) (F.fault_count folder.new) }
     ensures asks { AnswersFirst (fetched_from F.Folder folder.old folder.new) (title.now ∷ []) }
-    ensures asked { IsAnswer (found_status result) → AnswersNames (fetched_from F.Folder folder.old folder.new) (title.now ∷ []) }
+    ensures asked { IsAnswer (found_status result)
+        → AnswersNames (fetched_from F.Folder folder.old folder.new) (title.now ∷ []) }
 {
     match folder.fetch(alloc, title, PAGE_BYTES as u32 + 1)? {
         Fetched::Found(page) => Ok(page),

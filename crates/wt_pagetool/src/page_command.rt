@@ -60,11 +60,13 @@ pub fn output_of_title<F: Folder>(
     title: &str,
     folder: &mut F,
 ) -> Result<Output, Refusal>
-    ensures answered { IfSome (F.pages folder.old) (λ pages. Answered (page_answer (pages title.now) (made command)) result) }
+    ensures answered { IfSome (F.pages folder.old)
+        (λ pages. Answered (page_answer (pages title.now) (made command)) result) }
     ensures of_title { IfErr result (IsOfTitle (F.fault_count folder.old) (F.fault_count folder.new)) }
     ensures kept { IsKept result (F.fault_count folder.old) (F.fault_count folder.new) }
     ensures asks { AnswersFirst (fetched_from F.Folder folder.old folder.new) (title.now ∷ []) }
-    ensures asked { IsAnswer (found_status result) → AnswersNames (fetched_from F.Folder folder.old folder.new) (title.now ∷ []) }
+    ensures asked { IsAnswer (found_status result)
+        → AnswersNames (fetched_from F.Folder folder.old folder.new) (title.now ∷ []) }
 {
     let page = fetched_page(alloc, title, folder)?;
     output_of_page(alloc, command, page.as_slice())

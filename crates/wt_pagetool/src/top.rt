@@ -5,7 +5,8 @@ ghost use Rattle.wt_pagetool.specs.Calls.{call, IsDue, KeptCounts, NothingFailed
 ghost use Rattle.wt_pagetool.specs.Causes.{Answered, IsKept, found_status};
 ghost use Rattle.wt_pagetool.specs.Devices.{read_from, fetched_from, written_to, AnswersFirst, AnswersNames};
 ghost use Rattle.wt_pagetool.specs.GivenBack.{GaveBack};
-ghost use Rattle.wt_pagetool.specs.Reports.{WasDone, WasRefused, OutFailed, ErrFailed, WrotePage, WroteSource};
+ghost use Rattle.wt_pagetool.specs.Reports.{WasDone, WasRefused, OutFailed, ErrFailed};
+ghost use Rattle.wt_pagetool.specs.Reports.{WrotePage, WroteSource};
 ghost use Rattle.wt_pagetool.specs.Statuses.{code, IsAnswer, IsAnswered, IsUnanswered};
 ghost use Rattle.wt_pagetool.specs.Words.{command_of, titles_of, Fetches, Reads};
 
@@ -28,13 +29,15 @@ fn find_answer<S: Source, F: Folder>(
     input: &mut S,
     folder: &mut F,
 ) -> Result<Output, Refusal>
-    ensures answered { IfSome (answer_told (F.pages folder.old) (S.left input.old) words.now) (λ a. Answered a result) }
+    ensures answered { IfSome (answer_told (F.pages folder.old) (S.left input.old) words.now)
+        (λ a. Answered a result) }
     ensures due { IfErr result (IsDue words.now
         (read_from S.Source input.old input.new) (fetched_from F.Folder folder.old folder.new)) }
     ensures ended { Reads (command_of words.now) → OnOk result (IsAtEnd (S.left input.new)) }
     ensures input_kept { IsKept result (S.fault_count input.old) (S.fault_count input.new) }
     ensures folder_kept { IsKept result (F.fault_count folder.old) (F.fault_count folder.new) }
-    ensures asks { AnswersFirst (fetched_from F.Folder folder.old folder.new) (titles_of (command_of words.now)) }
+    ensures asks { AnswersFirst (fetched_from F.Folder folder.old folder.new)
+        (titles_of (command_of words.now)) }
     ensures asked { IsAnswer (found_status result)
         → AnswersNames (fetched_from F.Folder folder.old folder.new) (titles_of (command_of words.now)) }
     ensures unread { ¬ Reads (command_of words.now) → input.new ≡ input.old }
@@ -49,7 +52,7 @@ fn find_answer<S: Source, F: Folder>(
     }
 }
 
-/// Answers the words of a command line, without the program's name, and gives the status to end with
+/// Answers the words of a command line, without the program's name, and gives the number to end with
 /// (`Status::code`).
 ///
 /// `html TITLE` writes to `out` the HTML of the page that stands in `folder` under the title, and
@@ -57,6 +60,9 @@ fn find_answer<S: Source, F: Folder>(
 /// bytes. `wikitext` reads the HTML of `input` to its end and writes to `out` the source of the page
 /// for which it stands. Nothing goes to `out` before the whole answer is known, and each refusal has
 /// its one line on `err`.
+///
+/// What is said of a device's pages or bytes holds where the device tells them (`IfSome`), as those in
+/// memory do; of its count of faults it always holds.
 pub fn run<S: Source, F: Folder, W: Sink, E: Sink>(
     alloc: Global,
     words: &List<Str>,
@@ -65,23 +71,27 @@ pub fn run<S: Source, F: Folder, W: Sink, E: Sink>(
     out: &mut W,
     err: &mut E,
 ) -> u8
-    // A command over a page that is done wrote its HTML, or the listing of its tree, whose ranges tile it and are slices
-    // of it.
-    ensures page { (command : PageCommand) → (title : List ℕ) → command_of words.now ≡ Some (Command.Page command title)
-        → result ≡ code Status.Done
-        → IfSome (F.pages folder.old) (λ pages. WrotePage command (pages title) (W.taken out.old) (W.taken out.new)) }
+    // A command over a page, when it is done, wrote the HTML of the page's tree, or the listing of this
+    // tree, whose ranges tile the page and are slices of it.
+    ensures page { (command : PageCommand) → (title : List ℕ)
+        → command_of words.now ≡ Some (Command.Page command title) → result ≡ code Status.Done
+        → IfSome (F.pages folder.old)
+        (λ pages. WrotePage command (pages title) (W.taken out.old) (W.taken out.new)) }
 
-    // `wikitext` that is done read the input to its end and wrote the source of the tree for which all of it stands.
+    // `wikitext`, when it is done, read the input to its end and wrote the source of the tree for which
+    // all of it stands.
     ensures wikitext { command_of words.now ≡ Some Command.Wikitext → result ≡ code Status.Done
-        → IfSome (S.left input.old) (λ bytes. WroteSource bytes (S.left input.new) (W.taken out.old) (W.taken out.new)) }
+        → IfSome (S.left input.old)
+        (λ bytes. WroteSource bytes (S.left input.new) (W.taken out.old) (W.taken out.new)) }
 
-    // Where the input is the HTML that `html` answers for a page, `wikitext` wrote this very page.
+    // Where the input is the HTML that `html` answers for a page, `wikitext` wrote this very page; or a
+    // device failed, or memory ran out.
     ensures gives_back { command_of words.now ≡ Some Command.Wikitext
         → IfSome (S.left input.old) (λ bytes. (page : List ℕ) → html_answer (Some page) ≡ done bytes
         → GaveBack page result (W.taken out.old) (W.taken out.new)) }
 
-    // Where the devices tell what the words ask for, the call ends as the answer to the words over this does; or a
-    // device failed, or memory ran out.
+    // The call ends as the answer to the words over the folder's pages and the input does; or a device
+    // failed, or memory ran out.
     ensures exact { IfSome (answer_told (F.pages folder.old) (S.left input.old) words.now)
         (λ a. (result ≡ code (status_of_answer a)) ⊎ IsUnanswered result) }
 
@@ -90,19 +100,21 @@ pub fn run<S: Source, F: Folder, W: Sink, E: Sink>(
         (read_from S.Source input.old input.new) (fetched_from F.Folder folder.old folder.new)
         (written_to W.Sink out.old out.new) (written_to E.Sink err.old err.new)) }
 
-    // Refused: `out` took nothing, and `err` the one line of a refusal that is due and ends a call with this status.
-    ensures refused { result ≢ code Status.Done → result ≢ code Status.WriteFault → WasRefused (call words.now
+    // Refused: `out` took nothing, and `err` the one line of a refusal that is due and has this status.
+    ensures refused { result ≢ code Status.Done → result ≢ code Status.WriteFault
+        → WasRefused (call words.now
         (read_from S.Source input.old input.new) (fetched_from F.Folder folder.old folder.new)
         (written_to W.Sink out.old out.new) (written_to E.Sink err.old err.new)) result }
 
-    // A write fault: `out` failed and took a front of the answer, or `err` failed in the line of a refusal that is due.
+    // A write fault: `out` failed and took a front of the answer; or `err` failed in the line of a refusal
+    // that is due, and `out` took nothing.
     ensures write_fault { result ≡ code Status.WriteFault → let c = call words.now
         (read_from S.Source input.old input.new) (fetched_from F.Folder folder.old folder.new)
         (written_to W.Sink out.old out.new) (written_to E.Sink err.old err.new) in OutFailed c ⊎ ErrFailed c }
 
     // Where nothing refuses and no device failed, the call is done, but for want of memory.
-    ensures complete { IfSome (answer_told (F.pages folder.old) (S.left input.old) words.now) (λ a. IsDone a
-        → NothingFailed (call words.now
+    ensures complete { IfSome (answer_told (F.pages folder.old) (S.left input.old) words.now)
+        (λ a. IsDone a → NothingFailed (call words.now
         (read_from S.Source input.old input.new) (fetched_from F.Folder folder.old folder.new)
         (written_to W.Sink out.old out.new) (written_to E.Sink err.old err.new))
         → (result ≡ code Status.Done) ⊎ (result ≡ code Status.NoMemory)) }
@@ -112,8 +124,10 @@ pub fn run<S: Source, F: Folder, W: Sink, E: Sink>(
         (read_from S.Source input.old input.new) (fetched_from F.Folder folder.old folder.new)
         (written_to W.Sink out.old out.new) (written_to E.Sink err.old err.new)) }
 
-    // The folder answered the titles that the command needs, each once, and no other: all of them in a call that is answered.
-    ensures asks { AnswersFirst (fetched_from F.Folder folder.old folder.new) (titles_of (command_of words.now)) }
+    // The folder answered the first of the titles that the command needs, each once, and no other name;
+    // all of them in a call that is answered.
+    ensures asks { AnswersFirst (fetched_from F.Folder folder.old folder.new)
+        (titles_of (command_of words.now)) }
     ensures asked { IsAnswered result
         → AnswersNames (fetched_from F.Folder folder.old folder.new) (titles_of (command_of words.now)) }
 

@@ -33,7 +33,8 @@ fn feed_all<S: Source>(
     requires fed { IsFed reader.old [] }
     requires count { taken_of reader.old ≡ 0 }
     ensures fed { OnOk result (FedWhole reader.new (S.left input.old) (S.left input.new)) }
-    ensures answered { IfErr result (λ r. IfSome (S.left input.old) (λ bytes. Refuses r (wikitext_answer bytes))) }
+    ensures answered { IfErr result
+        (λ r. IfSome (S.left input.old) (λ bytes. Refuses r (wikitext_answer bytes))) }
     ensures of_input { IfErr result (IsOfInput (S.fault_count input.old) (S.fault_count input.new)) }
     ensures kept { IsKept result (S.fault_count input.old) (S.fault_count input.new) }
 {
@@ -56,7 +57,8 @@ fn feed_all<S: Source>(
 /// A reader that was fed the whole input.
 fn read_all<S: Source>(alloc: Global, input: &mut S) -> Result<Reader, Refusal>
     ensures fed { IfOk result (λ reader. FedWhole reader (S.left input.old) (S.left input.new)) }
-    ensures answered { IfErr result (λ r. IfSome (S.left input.old) (λ bytes. Refuses r (wikitext_answer bytes))) }
+    ensures answered { IfErr result
+        (λ r. IfSome (S.left input.old) (λ bytes. Refuses r (wikitext_answer bytes))) }
     ensures of_input { IfErr result (IsOfInput (S.fault_count input.old) (S.fault_count input.new)) }
     ensures kept { IsKept result (S.fault_count input.old) (S.fault_count input.new) }
 {
