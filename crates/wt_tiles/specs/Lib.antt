@@ -1,0 +1,7 @@
+pub mod Glyphs
+pub mod Links
+pub mod Partners
+pub mod Reading
+pub mod Tags
+pub mod Tiles
+pub mod Urls
