@@ -1,3 +1,4 @@
+pub mod Edges
 pub mod Glyphs
 pub mod Links
 pub mod Partners

@@ -5,6 +5,7 @@
 
 mod context;
 mod glyph;
+pub mod laws;
 mod shape;
 mod tag;
 mod target;
