@@ -1,5 +1,5 @@
 -- Items as inline forms read them, and small words on lists of them.
-use Rattle.std.specs.Prelude.{ℕ, ◌==◌, ◌&&◌, ◌||◌, Bool, true, false, not, List, [], ◌∷◌, map, nat_le}
+use Rattle.std.specs.Prelude.{ℕ, ◌==◌, ◌&&◌, ◌||◌, Bool, true, false, not, List, [], ◌∷◌, length, map, nat_le}
 use Rattle.std.specs.List.{prefix_len}
 use Rattle.std.specs.Char.{is_ascii_alphabetic, is_ascii_alphanumeric, to_ascii_lowercase}
 use Rattle.wt_span.specs.declared.form.Form.{Form}
@@ -68,15 +68,16 @@ begins [] gs = true
 begins (b ∷ word) [] = false
 begins (b ∷ word) (g ∷ gs) = is_in (λ c. c == b) g && begins word gs
 
+-- a character of one byte without ASCII case; the other is in lower case, or no letter
+abbrev pub like_byte : ℕ → Glyph → Bool
+like_byte b g = is_in (λ c. to_ascii_lowercase c == b) g
+
 -- a word in lower case stands first, without ASCII case
 abbrev pub begins_like : List ℕ → List Glyph → Bool
 begins_like [] gs = true
 begins_like (b ∷ word) [] = false
-begins_like (b ∷ word) (g ∷ gs) = is_in (λ c. to_ascii_lowercase c == b) g && begins_like word gs
+begins_like (b ∷ word) (g ∷ gs) = like_byte b g && begins_like word gs
 
--- a word in lower case and nothing else, without ASCII case
+-- and nothing else
 abbrev pub is_like : List ℕ → List Glyph → Bool
-is_like [] [] = true
-is_like [] (g ∷ gs) = false
-is_like (b ∷ word) [] = false
-is_like (b ∷ word) (g ∷ gs) = is_in (λ c. to_ascii_lowercase c == b) g && is_like word gs
+is_like word gs = length gs == length word && begins_like word gs

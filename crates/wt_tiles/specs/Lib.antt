@@ -3,6 +3,8 @@ pub mod Glyphs
 pub mod Links
 pub mod Partners
 pub mod Reading
+pub mod Searches
+pub mod Tables
 pub mod Tags
 pub mod Tiles
 pub mod Urls

@@ -3,15 +3,24 @@
 //! into them and the characters between them, exactly as the definition says.
 #![tactic(auto)]
 
+mod bracket;
 mod context;
 mod glyph;
 pub mod laws;
+mod link;
+mod partner;
+mod read;
 mod shape;
+mod switch;
 mod tag;
 mod target;
+mod tile;
+mod url;
 
 pub use context::Context;
 pub use glyph::{Class, Glyph};
+pub use read::shapes;
 pub use shape::{Shape, TileKind};
-pub use tag::{Name, Tag, TagShape};
-pub use target::{LinkKind, Target};
+pub use tag::{Name, Tag, TagShape, tag_at};
+pub use target::{LinkKind, Target, target_of};
+pub use tile::{Tile, glyphs_of, tiles, tiles_in};
