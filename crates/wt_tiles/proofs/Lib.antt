@@ -1,8 +1,11 @@
+pub mod Balances
 mod Cases
 pub mod Cuts
 pub mod Fits
 pub mod LinkFits
+pub mod Pairs
 pub mod Readings
+pub mod Spelling
 pub mod TagFits
 pub mod UrlFits
 pub mod Words

@@ -10,7 +10,7 @@ use Rattle.wt_tiles.specs.declared.glyph.Glyph.{Glyph}
 use Rattle.wt_tiles.specs.declared.glyph.Glyph.TheVariants as glyph
 use Rattle.wt_tiles.specs.declared.glyph.Class.{Class}
 use Rattle.wt_tiles.specs.declared.glyph.Class.TheVariants as class
-use Rattle.wt_tiles.specs.Glyphs.{is_in, in_class, is_small, first_is, run_len, begins, begins_like}
+use Rattle.wt_tiles.specs.Glyphs.{is_in, in_class, is_small, first_is, run_len, begins, like_byte, begins_like}
 use Rattle.wt_tiles.specs.Edges.{is_low, low_at, low_before, IsEdge}
 
 pub and_left : (a b : Bool) → (a && b) ≡ true → a ≡ true

@@ -1,11 +1,13 @@
 -- What is known of a context's brackets and tags, in tables by the number of items that are left.
-use Rattle.std.specs.Prelude.{◌≡◌, ◌≤◌, ℕ, suc, ◌+◌, ◌-◌, Option, Some, None, List, [], ◌∷◌, length, drop, slice_get, option_map}
+use Rattle.std.specs.Prelude.{◌≡◌, ◌<◌, ◌≤◌, ℕ, suc, ◌+◌, ◌-◌, Option, Some, None, List, [], ◌∷◌, length, drop, slice_get, option_map}
 use Rattle.wt_tree.specs.declared.kind.TagName.{TagName}
 use Rattle.wt_tiles.specs.declared.glyph.Glyph.{Glyph}
 use Rattle.wt_tiles.specs.declared.bracket.Turn.{Turn as Side}
 use Rattle.wt_tiles.specs.declared.bracket.Turn.TheVariants as side
 use Rattle.wt_tiles.specs.declared.tag.Name.{Name}
 use Rattle.wt_tiles.specs.declared.tag.Name.TheVariants.{Paired, Break, Island}
+use Rattle.wt_tiles.specs.declared.tag.TagShape.{TagShape}
+use Rattle.wt_tiles.specs.declared.tag.TagShape.TheVariants.{Opening, Alone, Closing}
 use Rattle.wt_tiles.specs.declared.tag.Tag.{Tag}
 use Rattle.wt_tiles.specs.Tags.{tag_at}
 use Rattle.wt_tiles.specs.Partners.{Turn, Up, Down, Level, number, balanced, partner}
@@ -14,6 +16,10 @@ abbrev pub turn_value : Side → Turn
 turn_value side.Up = Up
 turn_value side.Down = Down
 turn_value side.Level = Level
+
+abbrev pub option_join : Option (Option ℕ) → Option ℕ
+option_join None = None
+option_join (Some o) = o
 
 -- how many items are left
 abbrev pub left_of : Option (List Glyph) → Option ℕ
@@ -65,4 +71,15 @@ IsKnownPartner gs (Some table) = IsPartnerTable gs table
 -- for each name
 pub record AreNearest (gs : List Glyph) (table : List (Option ℕ)) : Type 0 where
   pub size : length table ≡ 7
-  pub known : (k : ℕ) → suc k ≤ 7 → slice_get table k ≡ Some (nearest k gs)
+  pub known : (k : ℕ) → k < 7 → slice_get table k ≡ Some (nearest k gs)
+
+-- what a table says of so many items
+abbrev pub entry : List (Option ℕ) → Option ℕ → Option ℕ
+entry table None = None
+entry table (Some q) = option_join (slice_get table q)
+
+-- a tag of a name, with so many items left, before what was known behind it
+abbrev pub nearest_by : List (Option ℕ) → TagShape → ℕ → Option ℕ → Option ℕ
+nearest_by table Opening left behind = entry table behind
+nearest_by table Alone left behind = behind
+nearest_by table Closing left behind = Some left

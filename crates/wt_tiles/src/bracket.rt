@@ -1,7 +1,7 @@
 //! Brackets that balance: the `]]` of media.
 
 ghost use Rattle.std.specs.Prelude.{◌≡◌, ◌<◌, ◌≤◌, ◌-◌, ◌+◌, ℕ, Some, length, drop, slice_get, option_map, IfOk};
-ghost use Rattle.wt_tiles.specs.Partners.{balanced, bracket_turn};
+ghost use Rattle.wt_tiles.specs.Partners.{balanced, bracket_turn, Up};
 ghost use Rattle.wt_tiles.specs.Tables.{left_of, turn_value, balances, IsBalanceTable};
 
 use crate::glyph::{Glyph, begins};
@@ -31,6 +31,28 @@ fn bracket_turn(glyphs: &[Glyph]) -> Turn
     }
 }
 
+/// What a table says of so many items.
+pub fn entry(table: &[Option<usize>], left: usize) -> Option<usize>
+    requires { left < length table.now }
+    ensures { slice_get table.now left ≡ Some result }
+{
+    table[left]
+}
+
+/// How many items are left from the `]]` on that balances, where a `[[` stands first, by what is
+/// known of fewer items.
+fn balance_up(table: &[Option<usize>], glyphs: &[Glyph]) -> Option<usize>
+    requires up { bracket_turn glyphs.now ≡ Up }
+    requires size { length table.now ≡ length glyphs.now }
+    requires known { (k : ℕ) → k < length glyphs.now → slice_get table.now k ≡ Some (balances (drop (length glyphs.now - k) glyphs.now)) }
+    ensures { result ≡ balances glyphs.now }
+{
+    match entry(table, glyphs.len() - 2) {
+        Some(inner) => entry(table, inner - 2),
+        None => None,
+    }
+}
+
 /// How many items are left from the `]]` on that balances, by what is known of fewer items.
 fn balance(table: &[Option<usize>], glyphs: &[Glyph]) -> Option<usize>
     requires some { 0 < length glyphs.now }
@@ -38,14 +60,10 @@ fn balance(table: &[Option<usize>], glyphs: &[Glyph]) -> Option<usize>
     requires known { (k : ℕ) → k < length glyphs.now → slice_get table.now k ≡ Some (balances (drop (length glyphs.now - k) glyphs.now)) }
     ensures { result ≡ balances glyphs.now }
 {
-    let left = glyphs.len();
     match bracket_turn(glyphs) {
-        Turn::Down => Some(left),
-        Turn::Up => {
-            let inner = table[left - 2]?;
-            table[inner - 2]
-        }
-        Turn::Level => table[left - 1],
+        Turn::Down => Some(glyphs.len()),
+        Turn::Up => balance_up(table, glyphs),
+        Turn::Level => entry(table, glyphs.len() - 1),
     }
 }
 
