@@ -149,3 +149,15 @@ unfolding inside
 known_at gs table k m r known below e is =
     let z : length gs - k ≡ m = omega arith in
     ap (inside None) (sym is ∙ known k below) ∙ ap (λ i. balances (drop i gs)) z
+
+-- the place lies within
+within_by : (gs : List Glyph) (n : ℕ) (o : Option (List Glyph)) → balanced 0 0 gs ≡ o → left_of o ≡ Some n → n ≤ length gs
+within_by gs n None e h = let F : Option ℕ → Bool = λ o. elim o as (λ _. Bool) [ None ↦ false | Some k ↦ true ] in false_true (ap F h)
+within_by gs n (Some ys) e h =
+    let F : Option ℕ → ℕ = λ o. elim o as (λ _. ℕ) [ None ↦ 0 | Some k ↦ k ] in
+    let same : length ys ≡ n = ap F h in
+    let end = end_of gs ys (balanced 0 0 gs) e (balanced_fits 0 0 gs) in
+    omega (arith, end.within)
+
+pub balances_within : (gs : List Glyph) (n : ℕ) → balances gs ≡ Some n → n ≤ length gs
+balances_within gs n h = within_by gs n (balanced 0 0 gs) refl h

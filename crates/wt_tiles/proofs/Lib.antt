@@ -1,4 +1,5 @@
 pub mod Balances
+pub mod Bytes
 mod Cases
 pub mod Cuts
 pub mod Fits

@@ -15,6 +15,7 @@ use Rattle.wt_tiles.specs.declared.target.Target.{Target}
 use Rattle.wt_tiles.specs.Glyphs.{first_is, run_len, begins}
 use Rattle.wt_tiles.specs.Partners.{Turn, Up, Down, Level, bracket_turn, by_bracket, balanced}
 use Rattle.wt_tiles.specs.Links.{leaf, place, target_of, kind_of, target_len, to_close, inner_len, has_pipe, head_len, page_link, link_shape, link_with, link_to, link_by, link_in, link_at}
+use Rattle.wt_tiles.specs.Searches.{IsHead}
 use Rattle.wt_tiles.specs.Tiles.{size}
 use Rattle.wt_tiles.specs.Reading.{IsForm}
 use Rattle.wt_tiles.specs.Edges.{low_at, low_before, IsEdge, HasEdges}
@@ -254,3 +255,50 @@ by_fits whole (Some n) starts = to_fits whole (target_of (take n (drop 2 whole))
 pub link_fits : (gs : List Glyph) → OptFits gs (link_at gs)
 unfolding link_at link_in
 link_fits gs = if_fits gs (begins (codes "[[") gs) (link_by (target_len (drop 2 gs)) (drop 2 gs)) (λ e. by_fits gs (target_len (drop 2 gs)) e)
+
+-- ---- for the code: the items are what follows the `[[`
+
+inner_is : (kd : LinkKind) (n k : ℕ) (gs : List Glyph) (o : Option ℕ) → o ≡ inner_len kd n gs → o ≡ Some k → OptInner kd n gs (Some k)
+inner_is kd n k gs o e is = let P : Option ℕ → Type 0 = λ p. OptInner kd n gs p in subst P (sym e ∙ is) (inner_fits kd n gs)
+
+pub inner_within : (kd : LinkKind) (n k : ℕ) (gs : List Glyph) (o : Option ℕ) → o ≡ inner_len kd n gs → o ≡ Some k → k + 2 ≤ length gs
+inner_within kd n k gs o e is = let f = inner_is kd n k gs o e is in f.1
+
+head_is : (kd : LinkKind) (colon : Bool) (n k : ℕ) (gs : List Glyph) → OptInner kd n gs (Some k) → IsHead kd (head_len colon n gs) k
+head_is Page colon n k gs (there, within, le) =
+    let h = head_fits (glyph.Byte 91 ∷ glyph.Byte 91 ∷ gs) colon n k (record { starts = refl; closes = there; within = within }) le in h.0
+head_is Category colon n k gs f = tt
+head_is Media colon n k gs f = tt
+
+pub head_within : (kd : LinkKind) (colon : Bool) (n k : ℕ) (gs : List Glyph) (o : Option ℕ) → o ≡ inner_len kd n gs → o ≡ Some k → IsHead kd (head_len colon n gs) k
+head_within kd colon n k gs o e is = head_is kd colon n k gs (inner_is kd n k gs o e is)
+
+-- what is left after some items is an end too
+pub end_later : (whole gs : List Glyph) (m : ℕ) → gs ≡ drop (length whole - length gs) whole → length gs ≤ length whole → m ≤ length gs → drop m gs ≡ drop (length whole - length (drop m gs)) whole
+end_later whole gs m e le within =
+    let z : length whole - length gs + m ≡ length whole - length (drop m gs) = omega (arith, length-drop m gs) in
+    ap (λ (hs : List Glyph). drop m hs) e ∙ drop-drop m (length whole - length gs) whole ∙ ap (λ i. drop i whole) z
+
+map_suc : (at : ℕ) (o : Option ℕ) → option_map (λ n. at + 1 + n) o ≡ option_map (λ n. at + n) (option_map (λ n. suc n) o)
+map_suc at None = refl
+map_suc at (Some n) = let z : at + 1 + n ≡ at + suc n = omega arith in ap (λ (m : ℕ). Some m) z
+
+place_if : (stop bar : List Glyph → Bool) (g : Glyph) (gs : List Glyph) (s b : Bool) → s ≡ false → b ≡ false
+    → (if s then Some 0 else (if b then None else option_map (λ n. suc n) (place stop bar gs))) ≡ option_map (λ n. suc n) (place stop bar gs)
+place_if stop bar g gs true b e f = false_true (sym e)
+place_if stop bar g gs false true e f = false_true (sym f)
+place_if stop bar g gs false false e f = refl
+
+place_step_at : (stop bar : List Glyph → Bool) (gs : List Glyph) (at : ℕ) → at < length gs → stop (drop at gs) ≡ false → bar (drop at gs) ≡ false
+    → place stop bar (drop at gs) ≡ option_map (λ n. suc n) (place stop bar (drop (at + 1) gs))
+place_step_at stop bar [] at h e f = absurd (omega arith)
+place_step_at stop bar (g ∷ gs) zero h e f = place_if stop bar g gs (stop (g ∷ gs)) (bar (g ∷ gs)) e f
+place_step_at stop bar (g ∷ gs) (suc at) h e f =
+    let z : suc (at + 1) ≡ suc at + 1 = omega arith in
+    place_step_at stop bar gs at (omega arith) e f ∙ ap (λ m. option_map (λ n. suc n) (place stop bar (drop m (g ∷ gs)))) z
+
+-- one item more, at which the search goes on
+pub place_more : (stop bar : List Glyph → Bool) (gs : List Glyph) (at : ℕ) (whole : Option ℕ) → at < length gs → stop (drop at gs) ≡ false → bar (drop at gs) ≡ false
+    → option_map (λ n. at + n) (place stop bar (drop at gs)) ≡ whole → option_map (λ n. at + 1 + n) (place stop bar (drop (at + 1) gs)) ≡ whole
+place_more stop bar gs at whole h e f had =
+    map_suc at (place stop bar (drop (at + 1) gs)) ∙ ap (λ (o : Option ℕ). option_map (λ n. at + n) o) (sym (place_step_at stop bar gs at h e f)) ∙ had

@@ -54,10 +54,14 @@ switch_names =
     codes "NOTOC" ∷ codes "FORCETOC" ∷ codes "TOC" ∷ codes "NOEDITSECTION" ∷ codes "NEWSECTIONLINK" ∷ codes "HIDDENCAT" ∷ codes "NOGALLERY"
     ∷ codes "INDEX" ∷ codes "NOINDEX" ∷ []
 
--- the first of these names that stands here with `__` after it: how many items they take
+-- a name with `__` after it: how many items they take
+abbrev pub named_switch : List ℕ → List Glyph → Option ℕ
+named_switch name gs = if begins name gs && begins (codes "__") (drop (length name) gs) then Some (length name + 2) else None
+
+-- the first of these names that stands here so
 abbrev pub switch_len : List (List ℕ) → List Glyph → Option ℕ
 switch_len [] gs = None
-switch_len (name ∷ names) gs = if begins name gs && begins (codes "__") (drop (length name) gs) then Some (length name + 2) else switch_len names gs
+switch_len (name ∷ names) gs = option_or (named_switch name gs) (switch_len names gs)
 
 unfoldable pub switch_at : List Glyph → Option Shape
 switch_at gs = if begins (codes "__") gs then option_map (λ n. leaf kind.Switch (2 + n)) (switch_len switch_names (drop 2 gs)) else None

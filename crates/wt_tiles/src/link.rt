@@ -1,8 +1,8 @@
 //! Links, categories and media.
 
 ghost use Rattle.std.specs.Prelude.{◌≡◌, ◌<◌, ◌≤◌, ◌-◌, ◌+◌, length, drop, IfOk, IfSome};
-ghost use Rattle.wt_tiles.specs.Links.{leaf, target_len, to_close, inner_len, has_pipe, head_len, page_link, link_shape, link_with, link_in, link_at};
-ghost use Rattle.wt_tiles.specs.Searches.{search_place, IsOpenedAt};
+ghost use Rattle.wt_tiles.specs.Links.{leaf, kind_of, target_len, to_close, inner_len, has_pipe, head_len, page_link, link_shape, link_with, link_in, link_at};
+ghost use Rattle.wt_tiles.specs.Searches.{stops, bars, search_place, IsHead};
 
 use crate::bracket::Brackets;
 use crate::glyph::{Class, Glyph, begins, first_is, run_len};
@@ -23,7 +23,9 @@ pub enum Search {
 }
 
 impl Search {
-    fn stops(self, glyphs: &[Glyph]) -> bool {
+    fn stops(self, glyphs: &[Glyph]) -> bool
+        ensures { result ≡ stops self glyphs.now }
+    {
         match self {
             Search::Target => first_is(Class::Only(b'|'), glyphs) || begins(b"]]", glyphs),
             Search::Close => begins(b"]]", glyphs),
@@ -31,7 +33,9 @@ impl Search {
         }
     }
 
-    fn is_barred(self, glyphs: &[Glyph]) -> bool {
+    fn is_barred(self, glyphs: &[Glyph]) -> bool
+        ensures { result ≡ bars self glyphs.now }
+    {
         match self {
             Search::Target => begins(b"[[", glyphs),
             Search::Close => begins(b"[[", glyphs),
@@ -41,6 +45,8 @@ impl Search {
 
     /// How many items stand before what is sought, if it is there.
     pub fn place(self, glyphs: &[Glyph]) -> Option<usize>
+        ensures value { result ≡ search_place self glyphs.now }
+        ensures within { IfSome result (λ n. n < length glyphs.now) }
     {
         for at in 0..glyphs.len() {
             let rest = rest_of(glyphs, at);
@@ -77,6 +83,11 @@ fn inner_len(
     n: usize,
     rest: &[Glyph],
 ) -> Result<Option<usize>, NoMemory>
+    requires target { n < length rest.now }
+    requires end { rest.now ≡ drop (length brackets.old - length rest.now) brackets.old }
+    requires within { length rest.now ≤ length brackets.old }
+    ensures kept { brackets.new ≡ brackets.old }
+    ensures value { IfOk result (λ o. o ≡ inner_len kind n rest.now) }
 {
     match kind {
         LinkKind::Media => match brackets.closing(alloc, rest.len())? {
@@ -127,8 +138,12 @@ fn page_link(head: usize, k: usize, rest: &[Glyph]) -> Shape
     }
 }
 
-/// The link, category or media whose `]]` stands after k items.
+/// The link, category or media whose `]]` stands after k items; `head` of them belong to a link's
+/// open delimiter.
 fn link_shape(kind: LinkKind, head: usize, k: usize, rest: &[Glyph]) -> Shape
+    requires head { IsHead kind head k }
+    requires within { k + 2 ≤ length rest.now }
+    ensures { result ≡ link_shape kind head k rest.now }
 {
     match kind {
         LinkKind::Page => page_link(head, k, rest),
@@ -137,8 +152,12 @@ fn link_shape(kind: LinkKind, head: usize, k: usize, rest: &[Glyph]) -> Shape
     }
 }
 
-/// The link with this target of n items, by the place of its `]]`.
+/// The link with this target of n items, by the place of its `]]`: none where that isn't there, or
+/// its text is empty.
 fn link_with(target: &Target, n: usize, close: Option<usize>, rest: &[Glyph]) -> Option<Shape>
+    requires target { n < length rest.now }
+    requires close { close ≡ inner_len (kind_of target.now) n rest.now }
+    ensures { result ≡ link_with target.now n close rest.now }
 {
     let k = close?;
     if has_pipe(n, rest) && k == n + 1 {
@@ -149,11 +168,16 @@ fn link_with(target: &Target, n: usize, close: Option<usize>, rest: &[Glyph]) ->
 }
 
 /// The link by what follows its `[[`.
+#[tactic(auto, unfolding(crate::specs::Links::link_in))]
 fn link_in(
     alloc: Global,
     brackets: &mut Brackets<'_>,
     rest: &[Glyph],
 ) -> Result<Option<Shape>, NoMemory>
+    requires end { rest.now ≡ drop (length brackets.old - length rest.now) brackets.old }
+    requires within { length rest.now ≤ length brackets.old }
+    ensures kept { brackets.new ≡ brackets.old }
+    ensures value { IfOk result (λ o. o ≡ link_in rest.now) }
 {
     let Some(n) = Search::Target.place(rest) else {
         return Ok(None);
@@ -165,12 +189,17 @@ fn link_in(
     Ok(link_with(&target, n, close, rest))
 }
 
-/// The link, category or media that begins at a place.
+/// The link, category or media that begins the last items of those in which brackets are balanced.
+#[tactic(auto, unfolding(crate::specs::Links::link_at))]
 pub fn link_at(
     alloc: Global,
     brackets: &mut Brackets<'_>,
     rest: &[Glyph],
 ) -> Result<Option<Shape>, NoMemory>
+    requires end { rest.now ≡ drop (length brackets.old - length rest.now) brackets.old }
+    requires within { length rest.now ≤ length brackets.old }
+    ensures kept { brackets.new ≡ brackets.old }
+    ensures value { IfOk result (λ o. o ≡ link_at rest.now) }
 {
     if !begins(b"[[", rest) {
         return Ok(None);

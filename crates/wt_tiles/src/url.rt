@@ -13,7 +13,8 @@ use wt_span::{front_of, rest_of};
 /// How many items the beginning of a URL takes, 0 where none begins.
 #[tactic(auto, unfolding(crate::specs::Urls::scheme_len))]
 fn scheme_len(glyphs: &[Glyph]) -> usize
-    ensures { result ≡ scheme_len glyphs.now }
+    ensures value { result ≡ scheme_len glyphs.now }
+    ensures within { result ≤ length glyphs.now }
 {
     if begins_like(b"http://", glyphs) {
         7
