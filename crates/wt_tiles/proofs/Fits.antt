@@ -19,7 +19,7 @@ use Rattle.wt_tiles.specs.Tags.{tag_at}
 use Rattle.wt_tiles.specs.Partners.{Turn, Up, Down, Level, number, turn_of_name, turn_of_shape, turn_of_tag, tag_turn, by_tag, partner}
 use Rattle.wt_tiles.specs.Links.{leaf, link_at}
 use Rattle.wt_tiles.specs.Urls.{ext_link_at, bare_url_at}
-use Rattle.wt_tiles.specs.Tiles.{len_of, pair_or_island, closing_for, shape_of_tag, tag_tile, switch_names, named_switch, switch_len, switch_at, outside, link_or_url, form_at, tile_with, size}
+use Rattle.wt_tiles.specs.Tiles.{len_of, pair_or_island, closing_for, shape_of_tag, tag_tile, switch_names, switch_len, switch_at, outside, link_or_url, form_at, tile_with, size}
 use Rattle.wt_tiles.specs.Reading.{tile_at}
 use Rattle.wt_tiles.specs.Edges.{low_at, low_before, IsEdge, HasEdges}
 use Rattle.wt_tiles.proofs.Words.{and_left, and_right, lt_is, false_true, low_drop, begins_low, begins_len, is_low_word, edge_after, edge_at, edge_same}
@@ -121,24 +121,24 @@ abbrev pub OptSwitch : List Glyph → Option ℕ → Type 0
 OptSwitch gs None = Unit {0}
 OptSwitch gs (Some n) = (1 < n) × (n ≤ length gs) × (low_at gs (n - 1) ≡ true)
 
-named_fits_switch : (name : List ℕ) (gs : List Glyph) → OptSwitch gs (named_switch name gs)
-named_fits_switch name gs = by (begins name gs && begins (codes "__") (drop (length name) gs)) (λ e. and_right (begins name gs) _ e)
-  where
-    by : (t : Bool) → (t ≡ true → begins (codes "__") (drop (length name) gs) ≡ true) → OptSwitch gs (if t then Some (length name + 2) else None)
-    by true h =
-        let z : length name + 2 - 1 ≡ length name + 1 = omega arith in
-        let b = h refl in
-        (omega arith, omega (arith, begins_len (codes "__") (drop (length name) gs) b, length-drop (length name) gs),
-        ap (low_at gs) z ∙ sym (low_drop (length name) 1 gs) ∙ begins_low (codes "__") (drop (length name) gs) 1 refl b (omega arith))
-    by false h = tt
+-- words of ASCII characters, of two or more
+abbrev are_switches : List (List ℕ) → Bool
+are_switches words = list_all (λ word. nat_lt 1 (length word) && is_low_word word) words
 
-or_switch : (gs : List Glyph) (a b : Option ℕ) → OptSwitch gs a → OptSwitch gs b → OptSwitch gs (option_or a b)
-or_switch gs None b f g = g
-or_switch gs (Some n) b f g = f
+switch_step : (word : List ℕ) (gs : List Glyph) (t : Bool) (o : Option ℕ) → (nat_lt 1 (length word) && is_low_word word) ≡ true → (t ≡ true → begins word gs ≡ true) → OptSwitch gs o → OptSwitch gs (if t then Some (length word) else o)
+switch_step word gs true o h b f =
+    let long = lt_is 1 (length word) (and_left (nat_lt 1 (length word)) _ h) in
+    (long, begins_len word gs (b refl), begins_low word gs (length word - 1) (and_right (nat_lt 1 (length word)) _ h) (b refl) (omega arith))
+switch_step word gs false o h b f = f
 
-switch_len_fits : (names : List (List ℕ)) (gs : List Glyph) → OptSwitch gs (switch_len names gs)
-switch_len_fits [] gs = tt
-switch_len_fits (name ∷ names) gs = or_switch gs (named_switch name gs) (switch_len names gs) (named_fits_switch name gs) (switch_len_fits names gs)
+switch_len_fits : (words : List (List ℕ)) (gs : List Glyph) → are_switches words ≡ true → OptSwitch gs (switch_len words gs)
+switch_len_fits [] gs h = tt
+switch_len_fits (word ∷ words) gs h =
+    switch_step word gs (begins word gs) (switch_len words gs) (and_left (nat_lt 1 (length word) && is_low_word word) _ h) (λ e. e) (switch_len_fits words gs (and_right (nat_lt 1 (length word) && is_low_word word) _ h))
+
+switches_are : are_switches switch_names ≡ true
+unfolding switch_names
+switches_are = refl
 
 switched : (gs : List Glyph) (o : Option ℕ) → low_at gs 0 ≡ true → OptSwitch (drop 2 gs) o → OptFits gs (option_map (λ n. leaf kind.Switch (2 + n)) o)
 switched gs None first f = tt
@@ -149,7 +149,7 @@ switch_fits : (gs : List Glyph) → OptFits gs (switch_at gs)
 unfolding switch_at
 switch_fits gs =
     if_fits gs (begins (codes "__") gs) (option_map (λ n. leaf kind.Switch (2 + n)) (switch_len switch_names (drop 2 gs)))
-    (λ e. switched gs (switch_len switch_names (drop 2 gs)) (begins_low (codes "__") gs 0 refl e (omega arith)) (switch_len_fits switch_names (drop 2 gs)))
+    (λ e. switched gs (switch_len switch_names (drop 2 gs)) (begins_low (codes "__") gs 0 refl e (omega arith)) (switch_len_fits switch_names (drop 2 gs) switches_are))
 
 -- ---- any form
 

@@ -7,6 +7,8 @@ pub mod LinkFits
 pub mod Pairs
 pub mod Readings
 pub mod Spelling
+pub mod Steps
 pub mod TagFits
+pub mod TagInsides
 pub mod UrlFits
 pub mod Words

@@ -1,4 +1,5 @@
 pub mod Edges
+pub mod Firsts
 pub mod Glyphs
 pub mod Links
 pub mod Partners

@@ -9,7 +9,11 @@ use Rattle.wt_tiles.specs.declared.tag.Name.TheVariants.{Paired, Break, Island}
 use Rattle.wt_tiles.specs.declared.tag.TagShape.{TagShape}
 use Rattle.wt_tiles.specs.declared.tag.TagShape.TheVariants.{Opening, Alone, Closing}
 use Rattle.wt_tiles.specs.declared.tag.Tag.{Tag}
+use Rattle.wt_tiles.specs.declared.shape.Shape.{Shape}
+use Rattle.wt_tiles.specs.declared.shape.TileKind.TheVariants as kind
 use Rattle.wt_tiles.specs.Tags.{tag_at}
+use Rattle.wt_tiles.specs.Links.{leaf}
+use Rattle.wt_tiles.specs.Tiles.{len_of}
 use Rattle.wt_tiles.specs.Partners.{Turn, Up, Down, Level, number, balanced, partner}
 
 abbrev pub turn_value : Side → Turn
@@ -83,3 +87,10 @@ abbrev pub nearest_by : List (Option ℕ) → TagShape → ℕ → Option ℕ �
 nearest_by table Opening left behind = entry table behind
 nearest_by table Alone left behind = behind
 nearest_by table Closing left behind = Some left
+
+-- ---- pairs
+
+-- a pair whose opening tag takes n items, by how many items are left from its closing tag on
+abbrev pub pair_left : ℕ → Option ℕ → List Glyph → Shape
+pair_left n None gs = leaf kind.TagIsland n
+pair_left n (Some left) gs = record { kind = kind.Pair; opening = n; inside = length (drop n gs) - left; closing = len_of (tag_at (drop (length gs - left) gs)); trail = 0 }

@@ -49,19 +49,16 @@ tag_tile pairs gs = option_map (λ t. shape_of_tag pairs t.name t.shape t.len gs
 
 -- ---- switches
 
+-- what follows the first `__`: a name, and `__` again
 unfoldable pub switch_names : List (List ℕ)
 switch_names =
-    codes "NOTOC" ∷ codes "FORCETOC" ∷ codes "TOC" ∷ codes "NOEDITSECTION" ∷ codes "NEWSECTIONLINK" ∷ codes "HIDDENCAT" ∷ codes "NOGALLERY"
-    ∷ codes "INDEX" ∷ codes "NOINDEX" ∷ []
+    codes "NOTOC__" ∷ codes "FORCETOC__" ∷ codes "TOC__" ∷ codes "NOEDITSECTION__" ∷ codes "NEWSECTIONLINK__" ∷ codes "HIDDENCAT__" ∷ codes "NOGALLERY__"
+    ∷ codes "INDEX__" ∷ codes "NOINDEX__" ∷ []
 
--- a name with `__` after it: how many items they take
-abbrev pub named_switch : List ℕ → List Glyph → Option ℕ
-named_switch name gs = if begins name gs && begins (codes "__") (drop (length name) gs) then Some (length name + 2) else None
-
--- the first of these names that stands here so
+-- the first of these words that stands here: how many items it takes
 abbrev pub switch_len : List (List ℕ) → List Glyph → Option ℕ
 switch_len [] gs = None
-switch_len (name ∷ names) gs = option_or (named_switch name gs) (switch_len names gs)
+switch_len (word ∷ words) gs = if begins word gs then Some (length word) else switch_len words gs
 
 unfoldable pub switch_at : List Glyph → Option Shape
 switch_at gs = if begins (codes "__") gs then option_map (λ n. leaf kind.Switch (2 + n)) (switch_len switch_names (drop 2 gs)) else None
@@ -75,9 +72,12 @@ outside in_link o = if in_link then None else o
 unfoldable pub link_or_url : Bool → List Glyph → Option Shape
 link_or_url after gs = option_or (link_at gs) (option_or (ext_link_at gs) (bare_url_at after gs))
 
+abbrev pub tag_or_switch : ℕ → List Glyph → Option Shape
+tag_or_switch pairs gs = option_or (tag_tile pairs gs) (switch_at gs)
+
 -- where a character stands first; `after` tells whether a letter, digit or `_` stands before it
 unfoldable pub form_at : Context → Bool → List Glyph → Option Shape
-form_at cx after gs = option_or (outside cx.in_link (link_or_url after gs)) (option_or (tag_tile cx.pairs gs) (switch_at gs))
+form_at cx after gs = option_or (outside cx.in_link (link_or_url after gs)) (tag_or_switch cx.pairs gs)
 
 abbrev pub tile_with : Context → Bool → Glyph → List Glyph → Option Shape
 tile_with cx after (glyph.Byte b) gs = form_at cx after gs

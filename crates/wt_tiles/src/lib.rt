@@ -6,6 +6,7 @@
 mod bracket;
 mod context;
 mod glyph;
+mod known;
 pub mod laws;
 mod link;
 mod partner;
