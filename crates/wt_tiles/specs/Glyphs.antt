@@ -81,3 +81,7 @@ begins_like (b ∷ word) (g ∷ gs) = like_byte b g && begins_like word gs
 -- and nothing else
 abbrev pub is_like : List ℕ → List Glyph → Bool
 is_like word gs = length gs == length word && begins_like word gs
+
+-- bytes of characters
+abbrev pub byte_glyphs : List ℕ → List Glyph
+byte_glyphs bs = map (λ b. glyph.Byte b) bs

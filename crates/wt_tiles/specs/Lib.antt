@@ -1,3 +1,4 @@
+pub mod Cutting
 pub mod Edges
 pub mod Firsts
 pub mod Glyphs

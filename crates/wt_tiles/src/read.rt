@@ -276,7 +276,7 @@ fn push_chars(out: &mut List<Shape>, n: usize) -> Result<(), NoMemory>
 impl Shape {
     /// How many items the tile takes.
     pub fn len(&self) -> usize
-        requires { size self.now < 2 ^ 63 }
+        requires { size self.now < 2 ^ 64 }
         ensures { result ≡ size self.now }
     {
         self.opening + self.inside + self.closing + self.trail
@@ -285,7 +285,6 @@ impl Shape {
 
 /// The shapes of the tiles of a context, given its items.
 pub fn shapes(alloc: Global, context: Context, glyphs: &[Glyph]) -> Result<List<Shape>, NoMemory>
-    requires { length glyphs.now < 2 ^ 32 }
     ensures { IfOk result (λ ws. ws ≡ shapes context glyphs.now) }
 {
     let mut known = Known::new(glyphs);

@@ -29,12 +29,12 @@ loop-at-preserved-in_default c =
 pub len-at-requires : goal.len-at-requires
 len-at-requires c =
     let f = fits_at c.args.context _ c.args.glyphs.now c.loop-at.at c.in-Some.shape c.loop-at-test.true (sym c.in_ok-shape.ensures.value ∙ c.in-Some.is) in
-    omega (arith, f.within, c.requires)
+    omega (arith, f.within)
 
 pub overflow_add-at-in-loop-at : goal.overflow_add-at-in-loop-at
 overflow_add-at-in-loop-at c =
     let f = fits_at c.args.context _ c.args.glyphs.now c.loop-at.at c.in-Some.shape c.loop-at-test.true (sym c.in_ok-shape.ensures.value ∙ c.in-Some.is) in
-    omega (arith, f.within, c.requires, c.len-at.ensures)
+    omega (arith, f.within, c.len-at.ensures)
 
 pub loop-at-smaller : goal.loop-at-smaller
 loop-at-smaller c =
