@@ -3,6 +3,7 @@ pub mod Bytes
 mod Cases
 pub mod Cuts
 pub mod Fits
+pub mod Joining
 pub mod LinkFits
 pub mod Pairs
 pub mod Pieces

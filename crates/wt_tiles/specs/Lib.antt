@@ -1,3 +1,4 @@
+pub mod Contexts
 pub mod Cutting
 pub mod Edges
 pub mod Firsts

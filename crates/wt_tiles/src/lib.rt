@@ -24,4 +24,4 @@ pub use read::shapes;
 pub use shape::{Shape, TileKind};
 pub use tag::{Name, Tag, TagShape, tag_at};
 pub use target::{LinkKind, Target, target_of};
-pub use tile::{Tile, glyphs_of};
+pub use tile::{Tile, glyphs_of, tiles, tiles_in};

@@ -8,6 +8,7 @@ ghost use Rattle.wt_span.specs.Origins.{IsSoundPiece};
 ghost use Rattle.wt_lines.specs.Pieces.{line_items, item_count, begins_char};
 ghost use Rattle.wt_tiles.specs.Glyphs.{glyph_of, glyph_of_form, byte_glyphs};
 ghost use Rattle.wt_tiles.specs.Tiles.{tiles, parts, size};
+ghost use Rattle.wt_tiles.specs.Contexts.{in_line};
 ghost use Rattle.wt_tiles.specs.Cutting.{tile_of, tile_items, AreSoundTiles, rest_pieces, IsEdgeIn, AreCuts};
 
 use crate::context::Context;
@@ -183,4 +184,73 @@ fn take_items<'p, 'a>(
         rest = next.1;
     }
     Ok((taken, rest))
+}
+
+impl<'a> Tile<'a> {
+    /// A tile of this shape with its pieces.
+    fn of(shape: &Shape, pieces: List<Piece<'a>>) -> Tile<'a>
+        ensures value { tile_of result ≡ (shape.now, items pieces.entry) }
+        ensures pieces_are { result.pieces ≡ pieces.entry }
+    {
+        Tile {
+            kind: shape.kind,
+            pieces,
+            opening: shape.opening,
+            inside: shape.inside,
+            closing: shape.closing,
+            trail: shape.trail,
+        }
+    }
+}
+
+/// The pieces, cut into tiles of these shapes.
+fn cut<'a>(
+    alloc: Global,
+    pieces: &[Piece<'a>],
+    shapes: &[Shape],
+) -> Result<List<Tile<'a>>, NoMemory>
+    requires sound { All IsSoundPiece pieces.now }
+    requires cuts { AreCuts shapes.now (map glyph_of (items pieces.now)) }
+    requires sizes { All (λ w. size w < 2 ^ 64) shapes.now }
+    ensures value { IfOk result (λ ts. map tile_of ts ≡ parts shapes.now (items pieces.now)) }
+    ensures sound_after { IfOk result (λ ts. AreSoundTiles ts) }
+{
+    let mut out = List::new(alloc);
+    let mut rest = Rest {
+        first: None,
+        pieces,
+    };
+    for shape in shapes {
+        let (taken, after) = take_items(alloc, rest, shape.len())?;
+        out.push(Tile::of(shape, taken))?;
+        rest = after;
+    }
+    Ok(out)
+}
+
+/// The tiles of a context, in order: at each place the first form that begins there, else a
+/// character; characters that follow one another are one tile. Joined they are the pieces.
+pub fn tiles_in<'a>(
+    alloc: Global,
+    context: Context,
+    pieces: &[Piece<'a>],
+) -> Result<List<Tile<'a>>, NoMemory>
+    requires { All IsSoundPiece pieces.now }
+    ensures value { IfOk result (λ ts. map tile_of ts ≡ tiles context (items pieces.now)) }
+    ensures joined { IfOk result (λ ts. tile_items ts ≡ items pieces.now) }
+    ensures sound { IfOk result (λ ts. AreSoundTiles ts) }
+{
+    let glyphs = glyphs_of(alloc, pieces)?;
+    let shapes = shapes(alloc, context, glyphs.as_slice())?;
+    cut(alloc, pieces, shapes.as_slice())
+}
+
+/// The tiles of a line, or of a cell.
+pub fn tiles<'a>(alloc: Global, line: &Line<'a>) -> Result<List<Tile<'a>>, NoMemory>
+    requires { All IsSoundPiece line.now.pieces }
+    ensures value { IfOk result (λ ts. map tile_of ts ≡ tiles in_line (line_items line.now)) }
+    ensures joined { IfOk result (λ ts. tile_items ts ≡ line_items line.now) }
+    ensures sound { IfOk result (λ ts. AreSoundTiles ts) }
+{
+    tiles_in(alloc, Context::line(), line.pieces.as_slice())
 }
