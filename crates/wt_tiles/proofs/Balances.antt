@@ -110,6 +110,7 @@ up_some gs inner e h = by (balanced 0 0 (drop 2 gs)) refl h
   where
     some_is : (m n : ℕ) → Some m ≡ Some n → m ≡ n
     some_is m n q = let F : Option ℕ → ℕ = λ o. elim o as (λ _. ℕ) [ None ↦ 0 | Some k ↦ k ] in ap F q
+
     by : (o : Option (List Glyph)) → balanced 0 0 (drop 2 gs) ≡ o → left_of o ≡ Some inner → UpStep gs inner
     by None is q = let F : Option ℕ → Bool = λ o. elim o as (λ _. Bool) [ None ↦ false | Some k ↦ true ] in false_true (ap F q)
     by (Some ys) is q =
@@ -119,9 +120,9 @@ up_some gs inner e h = by (balanced 0 0 (drop 2 gs)) refl h
         let up = up_len gs e in
         let d2 : length (drop 2 gs) + 2 ≡ length gs = omega (arith, length-drop 2 gs) in
         let there : drop 2 ys ≡ drop (length gs - (inner - 2)) gs =
-            let z : 2 + (length (drop 2 gs) - length ys) + 2 ≡ length gs - (inner - 2) = omega (arith, end.within) in
-            ap (λ (hs : List Glyph). drop 2 hs) (sym end.is) ∙ drop-drop 2 (length (drop 2 gs) - length ys) (drop 2 gs)
-            ∙ drop-drop (length (drop 2 gs) - length ys + 2) 2 gs ∙ ap (λ m. drop m gs) (omega arith) in
+        let z : 2 + (length (drop 2 gs) - length ys) + 2 ≡ length gs - (inner - 2) = omega (arith, end.within) in
+        ap (λ (hs : List Glyph). drop 2 hs) (sym end.is) ∙ drop-drop 2 (length (drop 2 gs) - length ys) (drop 2 gs)
+        ∙ drop-drop (length (drop 2 gs) - length ys + 2) 2 gs ∙ ap (λ m. drop m gs) (omega arith) in
         record {
           some = omega arith;
           within = omega (arith, end.within);

@@ -170,8 +170,8 @@ pub record Opened (whole : List Glyph) (k : ℕ) : Type 0 where
 pipe_head : (whole : List Glyph) (n k : ℕ) → Opened whole k → n ≤ k → has_pipe n (drop 2 whole) ≡ true → HeadFits whole k (n + 1)
 pipe_head whole n k o le e =
     let apart : n ≡ k → ⊥ = λ same.
-        let P : ℕ → Type 0 = λ m. begins (codes "]]") (drop m (drop 2 whole)) ≡ true in
-        let no = one_byte 124 (93 ∷ []) 93 (drop n (drop 2 whole)) e (subst P (sym same) o.closes) in absurd (omega arith) in
+    let P : ℕ → Type 0 = λ m. begins (codes "]]") (drop m (drop 2 whole)) ≡ true in
+    let no = one_byte 124 (93 ∷ []) 93 (drop n (drop 2 whole)) e (subst P (sym same) o.closes) in absurd (omega arith) in
     let low : low_at (drop 2 whole) (n + 0) ≡ true = sym (low_drop n 0 (drop 2 whole)) ∙ first_low (class.Only 124) (drop n (drop 2 whole)) (omega arith) e in
     let low2 : low_at whole (2 + (n + 0)) ≡ true = sym (low_drop 2 (n + 0) whole) ∙ low in
     (omega arith, edge_after whole (2 + (n + 0)) (2 + (n + 1)) (omega arith) low2)
@@ -179,8 +179,8 @@ pipe_head whole n k o le e =
 colon_head : (whole : List Glyph) (k : ℕ) → Opened whole k → first_is (class.Only 58) (drop 2 whole) ≡ true → HeadFits whole k 1
 colon_head whole k o e =
     let apart : k ≡ 0 → ⊥ = λ same.
-        let P : ℕ → Type 0 = λ m. begins (codes "]]") (drop m (drop 2 whole)) ≡ true in
-        let no = one_byte 58 (93 ∷ []) 93 (drop 2 whole) e (subst P same o.closes) in absurd (omega arith) in
+    let P : ℕ → Type 0 = λ m. begins (codes "]]") (drop m (drop 2 whole)) ≡ true in
+    let no = one_byte 58 (93 ∷ []) 93 (drop 2 whole) e (subst P same o.closes) in absurd (omega arith) in
     let low : low_at whole (2 + 0) ≡ true = sym (low_drop 2 0 whole) ∙ first_low (class.Only 58) (drop 2 whole) (omega arith) e in
     (omega arith, edge_after whole (2 + 0) (2 + 1) (omega arith) low)
 
@@ -210,8 +210,8 @@ page_fits whole head k o (le, edge) =
     let close : low_at whole (k + 2) ≡ true = ap (low_at whole) (sym z) ∙ sym (low_drop 2 (k + 0) whole) ∙ sym (low_drop k 0 (drop 2 whole)) ∙ begins_low (codes "]]") (drop k (drop 2 whole)) 0 refl o.closes (omega arith) in
     let last : low_at whole (k + 3) ≡ true = ap (low_at whole) (sym y) ∙ sym (low_drop 2 (k + 1) whole) ∙ sym (low_drop k 1 (drop 2 whole)) ∙ begins_low (codes "]]") (drop k (drop 2 whole)) 1 refl o.closes (omega arith) in
     let letters : (i : ℕ) → i < t → low_at whole (k + 4 + i) ≡ true = λ i below.
-        let x : 2 + (k + 2 + i) ≡ k + 4 + i = omega arith in
-        ap (low_at whole) (sym x) ∙ sym (low_drop 2 (k + 2 + i) whole) ∙ sym (low_drop (k + 2) i (drop 2 whole)) ∙ run_low class.Trail rest i tt below in
+    let x : 2 + (k + 2 + i) ≡ k + 4 + i = omega arith in
+    ap (low_at whole) (sym x) ∙ sym (low_drop 2 (k + 2 + i) whole) ∙ sym (low_drop (k + 2) i (drop 2 whole)) ∙ run_low class.Trail rest i tt below in
     record {
       some = omega arith;
       within = omega (arith, run_le class.Trail rest, length-drop (k + 2) (drop 2 whole), length-drop 2 whole, o.within);

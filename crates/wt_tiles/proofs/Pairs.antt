@@ -191,9 +191,9 @@ set_len (x ∷ xs) (suc i) v = omega (arith, set_len xs i v)
 
 pub set_next : (gs : List Glyph) (old : List (Option ℕ)) (i : ℕ) (r : Option ℕ) → i < 7 → AreNearest (drop 1 gs) old → r ≡ nearest i gs → ((k : ℕ) → i ≢ k → nearest k gs ≡ nearest k (drop 1 gs)) → AreNearest gs (slice_set old i r)
 set_next gs old i r within a is same = record {
-      size = set_len old i r ∙ a.size;
-      known = λ k below. by k below (i == k) refl;
-    }
+  size = set_len old i r ∙ a.size;
+  known = λ k below. by k below (i == k) refl;
+}
   where
     by : (k : ℕ) → k < 7 → (b : Bool) → (i == k) ≡ b → slice_get (slice_set old i r) k ≡ Some (nearest k gs)
     by k below true e =

@@ -45,8 +45,8 @@ no_tag gs e =
     let m = name_len (drop 2 gs) in
     let k = run_len class.Blank (drop (2 + m) gs) in
     let F : Bool → Bool → Option Tag = λ a b.
-        option_or (if a && nat_lt 0 n then tag_after (take n (drop 1 gs)) (drop (1 + n) gs) else None)
-        (if b && (nat_lt 0 m && first_is (class.Only 62) (drop (2 + m + k) gs)) then tag_of Closing (3 + m + k) (name_of (take m (drop 2 gs))) else None) in
+    option_or (if a && nat_lt 0 n then tag_after (take n (drop 1 gs)) (drop (1 + n) gs) else None)
+    (if b && (nat_lt 0 m && first_is (class.Only 62) (drop (2 + m + k) gs)) then tag_of Closing (3 + m + k) (name_of (take m (drop 2 gs))) else None) in
     ap (λ (a : Bool). F a (begins (codes "</") gs)) e ∙ ap (F false) (not_first 60 (47 ∷ []) gs e)
 
 -- classes without `<`
@@ -145,11 +145,13 @@ clear_by gs n (Some t) e le (size, close) =
     in_name i h =
         let P : List Glyph → Type 0 = λ hs. first_is (class.Only 60) hs ≡ false in
         subst P (drop-drop i 1 gs) (run_no_less class.Name (drop 1 gs) i name_no_less (name_run (drop 1 gs) i (omega arith)))
+
     in_tag : (i : ℕ) → n ≤ i → i < n + run_len class.Tag (drop (1 + n) gs) → first_is (class.Only 60) (drop (1 + i) gs) ≡ false
     in_tag i h h2 =
         let P : List Glyph → Type 0 = λ hs. first_is (class.Only 60) hs ≡ false in
         let z : 1 + n + (i - n) ≡ 1 + i = omega arith in
         subst P (drop-drop (i - n) (1 + n) gs ∙ ap (λ m. drop m gs) z) (run_no_less class.Tag (drop (1 + n) gs) (i - n) tag_no_less (omega arith))
+
     at_close : (i : ℕ) → i ≡ n + run_len class.Tag (drop (1 + n) gs) → first_is (class.Only 60) (drop (1 + i) gs) ≡ false
     at_close i h =
         let P : List Glyph → Type 0 = λ hs. first_is (class.Only 60) hs ≡ false in
@@ -320,8 +322,8 @@ no_form cx after b gs e =
     let o = other_byte b e in
     let l = other_letter b e in
     let links : link_or_url after hs ≡ None =
-        ap (λ (x : Option Shape). option_or x (option_or (ext_link_at hs) (bare_url_at after hs))) (no_link hs o.0)
-        ∙ ap (λ (x : Option Shape). option_or x (bare_url_at after hs)) (no_ext hs o.0) ∙ no_bare after hs (no_scheme (glyph.Byte b) gs l.0 l.1) in
+    ap (λ (x : Option Shape). option_or x (option_or (ext_link_at hs) (bare_url_at after hs))) (no_link hs o.0)
+    ∙ ap (λ (x : Option Shape). option_or x (bare_url_at after hs)) (no_ext hs o.0) ∙ no_bare after hs (no_scheme (glyph.Byte b) gs l.0 l.1) in
     let tags : tag_tile cx.pairs hs ≡ None = ap (λ (x : Option Tag). option_map (λ t. shape_of_tag cx.pairs t.name t.shape t.len hs) x) (no_tag hs o.1) in
     ap (λ (x : Option Shape). option_or (outside cx.in_link x) (tag_or_switch cx.pairs hs)) links
     ∙ ap (λ (x : Option Shape). option_or x (tag_or_switch cx.pairs hs)) (outside_none cx.in_link)

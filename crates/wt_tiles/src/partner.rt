@@ -56,11 +56,7 @@ fn nearest_by(
 
 /// Goes one item to the left: what is known of the nearest closing tag of each name, of which the
 /// tag that begins the items may be one. Gives what was known of that tag's name.
-fn pass(
-    nearest: &mut [Option<usize>],
-    table: &[Option<usize>],
-    glyphs: &[Glyph],
-) -> Option<usize>
+fn pass(nearest: &mut [Option<usize>], table: &[Option<usize>], glyphs: &[Glyph]) -> Option<usize>
     requires some { 0 < length glyphs.now }
     requires size { length table.now ≡ length glyphs.now }
     requires known { (k : ℕ) → k < length glyphs.now → slice_get table.now k ≡ Some (own_partner (drop (length glyphs.now - k) glyphs.now)) }

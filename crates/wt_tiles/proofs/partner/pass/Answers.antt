@@ -31,7 +31,7 @@ returns-clause-after c =
     let e : tag_at gs ≡ Some t = sym c.in-Some.ensures in
     let named : t.name ≡ Paired m = c.in-Paired.is in
     let value : c.nearest_by.result ≡ nearest i gs =
-        c.nearest_by.ensures ∙ ap (λ (o : Option ℕ). nearest_by c.args.table.now t.shape (length gs) o) is
-        ∙ own_next gs c.args.table.now t m c.requires.some c.requires.known e named ∙ ap (λ k. nearest k gs) (sym c.number-at.ensures.value) in
+    c.nearest_by.ensures ∙ ap (λ (o : Option ℕ). nearest_by c.args.table.now t.shape (length gs) o) is
+    ∙ own_next gs c.args.table.now t m c.requires.some c.requires.known e named ∙ ap (λ k. nearest k gs) (sym c.number-at.ensures.value) in
     set_next gs c.args.nearest.now i c.nearest_by.result c.number-at.ensures.within c.requires.behind value
     (λ k other. other_next k gs t m c.requires.some e named (λ q. other (c.number-at.ensures.value ∙ q)))
