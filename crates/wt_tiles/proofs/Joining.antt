@@ -13,7 +13,7 @@ use Rattle.wt_tiles.specs.Glyphs.{glyph_of}
 use Rattle.wt_tiles.specs.Tiles.{size, chars, shapes, parts, tiles}
 use Rattle.wt_tiles.specs.Reading.{tile_at, IsForm, is_word_at, StandsBy, Stands, BeginsWithForm, Apart, AreTiles}
 use Rattle.wt_tiles.specs.Edges.{low_at, IsEdge}
-use Rattle.wt_tiles.specs.Cutting.{tile_of, tile_items, AreCuts}
+use Rattle.wt_tiles.specs.Cutting.{tile_of, tile_items, joined, AreCuts}
 use Rattle.wt_tiles.proofs.Words.{low_drop, edge_at}
 use Rattle.wt_tiles.proofs.LinkFits.{Fits}
 use Rattle.wt_tiles.proofs.Fits.{tile_fits}
@@ -48,9 +48,6 @@ pub cuts_are : (cx : Context) (gs : List Glyph) → AreCuts (shapes cx gs) gs
 cuts_are cx gs = cuts_by cx false (shapes cx gs) gs (shapes_are cx gs)
 
 -- ---- what is cut joins again
-
-abbrev pub joined : List (Shape × List Item) → List Item
-joined ps = flat_map (λ (p : Shape × List Item). p.1) ps
 
 join_by : (cx : Context) (after : Bool) (ws : List Shape) (xs : List Item) (gs : List Glyph) → length gs ≡ length xs → AreTiles cx after ws gs → joined (parts ws xs) ≡ xs
 join_by cx after [] [] gs e h = refl

@@ -1,6 +1,7 @@
 pub mod Balances
 pub mod Bytes
 mod Cases
+pub mod Counting
 pub mod Cuts
 pub mod Fits
 pub mod Joining

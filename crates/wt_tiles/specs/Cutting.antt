@@ -40,3 +40,7 @@ IsEdgeIn xs n = IsEdge (map glyph_of xs) n
 abbrev pub AreCuts : List Shape → List Glyph → Type 0
 AreCuts [] gs = Unit {0}
 AreCuts (w ∷ ws) gs = IsEdge gs (size w) × AreCuts ws (drop (size w) gs)
+
+-- the items of shapes with their items, joined
+abbrev pub joined : List (Shape × List Item) → List Item
+joined ps = flat_map (λ (p : Shape × List Item). p.1) ps

@@ -1,4 +1,5 @@
 pub mod Contexts
+pub mod Counts
 pub mod Cutting
 pub mod Edges
 pub mod Firsts
