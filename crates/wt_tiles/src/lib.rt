@@ -15,6 +15,8 @@ mod shape;
 mod switch;
 mod tag;
 mod target;
+#[cfg(test)]
+mod tests;
 mod tile;
 mod url;
 
