@@ -1,0 +1,14 @@
+pub mod Contexts
+pub mod Counts
+pub mod Cutting
+pub mod Edges
+pub mod Firsts
+pub mod Glyphs
+pub mod Links
+pub mod Partners
+pub mod Reading
+pub mod Searches
+pub mod Tables
+pub mod Tags
+pub mod Tiles
+pub mod Urls

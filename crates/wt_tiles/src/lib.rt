@@ -1,0 +1,29 @@
+//! The inline forms of a line but apostrophes, as MediaWiki's wikitext has them: links, categories
+//! and media, external links and bare URLs, tags, switches, atoms and marks. `tiles` cuts a line
+//! into them and the characters between them, exactly as the definition says.
+#![tactic(auto)]
+
+mod bracket;
+mod context;
+mod glyph;
+mod known;
+pub mod laws;
+mod link;
+mod partner;
+mod read;
+mod shape;
+mod switch;
+mod tag;
+mod target;
+#[cfg(test)]
+mod tests;
+mod tile;
+mod url;
+
+pub use context::Context;
+pub use glyph::{Class, Glyph};
+pub use read::shapes;
+pub use shape::{Shape, TileKind};
+pub use tag::{Name, Tag, TagShape, tag_at};
+pub use target::{LinkKind, Target, target_of};
+pub use tile::{Tile, glyphs_of, tiles, tiles_in};
