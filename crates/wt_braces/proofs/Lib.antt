@@ -1,0 +1,12 @@
+pub mod Closings
+pub mod Depths
+pub mod Ends
+pub mod Levels
+pub mod Orders
+pub mod PartSteps
+pub mod Settled
+pub mod Shapes
+pub mod Sizes
+pub mod Takings
+pub mod Wholes
+pub mod Widths

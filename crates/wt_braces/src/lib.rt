@@ -1,0 +1,14 @@
+//! Braces, matched: the calls and arguments of a text by their places, with their parts. The rules
+//! are those of MediaWiki's preprocessor for `{{`, `{{{`, `|` and `=`.
+#![tactic(auto)]
+
+mod call;
+mod matching;
+mod nesting;
+mod parts;
+mod read;
+#[cfg(test)]
+mod tests;
+
+pub use call::{BraceRefusal, Call, PartAt};
+pub use read::match_braces;
