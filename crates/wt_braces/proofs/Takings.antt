@@ -292,7 +292,7 @@ call_made at n k inside rest le =
     ∙ ap (open_by (nat_le 2 (n - k)) e (n - k) m) (all_closed at n k inside rest le)
     ∙ sym (call_read at (n - k) k (members (reverse inside)) rest)
 
-call_end : (at n k : ℕ) (inside rest : List Member) → k ≤ n → end_of at (inside ++ lexeme (Opens, n) ∷ rest) + k ≡ end_of at (call k (members (reverse inside)) ∷ (left_over Opens (n - k) ++ rest))
+pub call_end : (at n k : ℕ) (inside rest : List Member) → k ≤ n → end_of at (inside ++ lexeme (Opens, n) ∷ rest) + k ≡ end_of at (call k (members (reverse inside)) ∷ (left_over Opens (n - k) ++ rest))
 call_end at n k inside rest le = omega (arith, place_is at n inside rest, left_end at (n - k) rest)
 
 can_close : (at n k : ℕ) (inside rest : List Member) → k ≤ n → CanClose (run_at (end_of at rest) n (matched at rest)) k (end_of at (inside ++ lexeme (Opens, n) ∷ rest) + k) (taken_out at inside n rest)

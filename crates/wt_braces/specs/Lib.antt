@@ -4,6 +4,8 @@ pub mod Found
 pub mod Leading
 pub mod Matched
 pub mod Nested
+pub mod PartMembers
 pub mod PartRows
 pub mod Reading
 pub mod Views
+pub mod Words

@@ -3,6 +3,7 @@
 #![tactic(auto)]
 
 mod call;
+mod laws;
 mod matching;
 mod nesting;
 mod parts;
@@ -11,4 +12,5 @@ mod read;
 mod tests;
 
 pub use call::{BraceRefusal, Call, PartAt};
+pub use laws::{lexemes_are_adjacent, members_have_places, nesting_is_depth, widths_stay};
 pub use read::match_braces;

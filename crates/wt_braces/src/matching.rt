@@ -44,7 +44,7 @@ pub struct Closed {
 /// The open runs that have two braces left. Contracts see them from the nearest on.
 #[derive(Drop)]
 struct Runs {
-    runs: Vec<OpenRun>,
+    items: Vec<OpenRun>,
 }
 
 impl Model for Runs {
@@ -53,7 +53,7 @@ impl Model for Runs {
 
     ghost Value = { List OpenRun };
 
-    ghost view = { λ r. reverse r.runs.items };
+    ghost view = { λ r. reverse r.items.items };
 }
 
 impl Runs {
@@ -61,7 +61,7 @@ impl Runs {
         ensures { result ≡ [] }
     {
         Runs {
-            runs: Vec::new(alloc),
+            items: Vec::new(alloc),
         }
     }
 
@@ -69,7 +69,7 @@ impl Runs {
     fn push(&mut self, run: OpenRun) -> Result<(), NoMemory>
         ensures { OnOk result (self.new ≡ run ∷ self.old) }
     {
-        self.runs.push(run)?;
+        self.items.push(run)?;
         Ok(())
     }
 
@@ -77,7 +77,7 @@ impl Runs {
     fn pop(&mut self) -> Option<OpenRun>
         ensures { TakesRun result self.old self.new }
     {
-        self.runs.pop()
+        self.items.pop()
     }
 
     /// How many links are open before the nearest run.
@@ -85,7 +85,7 @@ impl Runs {
     fn links(&self) -> usize
         ensures { result ≡ links_before self.now }
     {
-        match self.runs.last() {
+        match self.items.last() {
             Some(run) => run.links,
             None => 0,
         }
