@@ -1,0 +1,15 @@
+pub mod Adjacent
+pub mod Closings
+pub mod Depths
+pub mod Ends
+pub mod Levels
+pub mod MemberParts
+pub mod Orders
+pub mod PartSteps
+pub mod Settled
+pub mod Shapes
+pub mod Sizes
+pub mod Takings
+pub mod TextLaws
+pub mod Wholes
+pub mod Widths

@@ -1,0 +1,11 @@
+pub mod Deep
+pub mod Depth
+pub mod Found
+pub mod Leading
+pub mod Matched
+pub mod Nested
+pub mod PartMembers
+pub mod PartRows
+pub mod Reading
+pub mod Views
+pub mod Words

@@ -1,0 +1,31 @@
+ghost use Rattle.std.specs.Prelude.{◌≡◌, ℕ, List, map};
+ghost use Rattle.wt_span.specs.Lexemes.{Word};
+ghost use Rattle.wt_span.specs.Braces.{Members, members, parts_of, reduced, width_of_all, calls, nesting};
+ghost use Rattle.wt_lex.specs.declared.lexeme.Lexeme.{Lexeme as LexemeAt};
+ghost use Rattle.wt_lex.specs.Places.{Follow};
+ghost use Rattle.wt_braces.specs.Depth.{depths_of_all};
+ghost use Rattle.wt_braces.specs.Found.{AreAdjacent};
+ghost use Rattle.wt_braces.specs.PartMembers.{part_members, placed};
+ghost use Rattle.wt_braces.specs.Words.{total_width};
+
+/// How many calls and arguments contain one, by their places, is how many lie round it in the
+/// reduced text.
+pub fn nesting_is_depth()
+    ensures { (at : ℕ) (ws : List Word) → map (nesting (calls at ws)) (calls at ws) ≡ depths_of_all 0 (members (reduced ws)) }
+{}
+
+/// The members of the reduced text take as many bytes as its lexemes.
+pub fn widths_stay()
+    ensures { (ws : List Word) → width_of_all (members (reduced ws)) ≡ total_width ws }
+{}
+
+/// The widths of the members of a call's parts, of each name and each value, are the parts'
+/// places.
+pub fn members_have_places()
+    ensures { (from : ℕ) (ms : Members) → parts_of from ms ≡ placed from (part_members from ms) }
+{}
+
+/// Lexemes that follow one another, as `lex` gives them, are what `match_braces` asks for.
+pub fn lexemes_are_adjacent()
+    ensures { (xs : List LexemeAt) (from to : ℕ) → Follow from xs to → AreAdjacent xs }
+{}

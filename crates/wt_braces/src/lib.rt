@@ -1,0 +1,16 @@
+//! Braces, matched: the calls and arguments of a text by their places, with their parts. The rules
+//! are those of MediaWiki's preprocessor for `{{`, `{{{`, `|` and `=`.
+#![tactic(auto)]
+
+mod call;
+mod laws;
+mod matching;
+mod nesting;
+mod parts;
+mod read;
+#[cfg(test)]
+mod tests;
+
+pub use call::{BraceRefusal, Call, PartAt};
+pub use laws::{lexemes_are_adjacent, members_have_places, nesting_is_depth, widths_stay};
+pub use read::match_braces;
