@@ -1,6 +1,6 @@
 -- Brackets that balance, read from the right: what is known of fewer items.
 use Rattle.std.proofs.Common.{◌≡◌, ℕ, zero, suc, ◌+◌, ◌-◌, ◌<◌, ◌≤◌, Bool, true, false, Option, Some, None, List, [], ◌∷◌, length, drop, refl, sym, ap, ◌∙◌, arith, subst, codes, length-drop, drop-drop}
-use Rattle.std.specs.Prelude.{if◌then◌else◌, option_map, slice_get}
+use Rattle.std.specs.Prelude.{if◌then◌else◌, slice_get}
 use Rattle.wt_tiles.specs.declared.glyph.Glyph.{Glyph}
 use Rattle.wt_tiles.specs.Glyphs.{begins}
 use Rattle.wt_tiles.specs.Partners.{Turn, Up, Down, Level, bracket_turn, by_bracket, balanced}

@@ -1,5 +1,5 @@
 -- Worked cases of the definitions, each computed: the tiles of a line, of a link's text, and inside of many pairs.
-use Rattle.std.proofs.Common.{◌≡◌, ℕ, Bool, true, false, List, [], ◌∷◌, ◌++◌, Option, Some, None, map, refl}
+use Rattle.std.proofs.Common.{◌≡◌, ℕ, true, false, List, [], ◌∷◌, ◌++◌, map, refl}
 use Rattle.std.specs.Prelude.{codes}
 use Rattle.std.specs.Str.{is_utf8, chars as chars_of}
 use Rattle.wt_names.specs.Namespace.{namespace_named, is_called, name_of, image, prefix_of, full_name_of}

@@ -1,5 +1,5 @@
 -- The partner of a tag by count.
-use Rattle.std.proofs.Common.{◌≡◌, ℕ, zero, suc, ◌+◌, ◌-◌, ◌<◌, ◌≤◌, Bool, true, false, Option, Some, None, List, [], ◌∷◌, length, drop, refl, sym, ap, ◌∙◌, arith, subst}
+use Rattle.std.proofs.Common.{◌≡◌, ℕ, zero, suc, ◌+◌, ◌<◌, Bool, true, false, Option, Some, None, List, [], ◌∷◌, length, drop, refl, sym, ap, ◌∙◌, arith, subst}
 use Rattle.wt_tiles.specs.declared.glyph.Glyph.{Glyph}
 use Rattle.wt_tiles.specs.Partners.{Turn, Up, Down, Level, tag_turn, by_tag, partner}
 use Rattle.wt_tiles.specs.Counts.{opened_by, closed_by, opened, closed, Closes, AreInner}
@@ -60,6 +60,7 @@ partner_found k gs ys e = by (subst P e (found k 0 gs))
   where
     P : Option (List Glyph) → Type 0
     P o = Found k 0 gs o
+
     by : Found k 0 gs (Some ys) → (n : ℕ) × (ys ≡ drop n gs) × Closes k gs n × AreInner k gs n
     by (n, below, is, turn, count, inner) = (n, is, (turn, omega arith), inner_zero k gs n inner)
 

@@ -1,5 +1,5 @@
 -- The shapes of what is left of a context: one character more, one form more.
-use Rattle.std.proofs.Common.{◌≡◌, ℕ, zero, suc, ◌+◌, ◌-◌, ◌<◌, ◌≤◌, ◌==◌, Bool, true, false, Option, Some, None, List, [], ◌∷◌, ◌++◌, length, drop, refl, sym, ap, ◌∙◌, subst, arith, append_assoc, drop-drop, length-drop}
+use Rattle.std.proofs.Common.{◌≡◌, ℕ, zero, suc, ◌+◌, ◌-◌, ◌<◌, ◌≤◌, ◌==◌, Bool, true, false, Option, Some, None, List, [], ◌∷◌, ◌++◌, length, drop, refl, sym, ap, ◌∙◌, arith, append_assoc, drop-drop, length-drop}
 use Rattle.std.specs.Prelude.{if◌then◌else◌}
 use Rattle.std.proofs.lemmas.Bool.Decides.{nat_tests}
 use Rattle.std.proofs.lemmas.List.{drop_all}
@@ -8,7 +8,7 @@ use Rattle.wt_tiles.specs.declared.glyph.Glyph.{Glyph}
 use Rattle.wt_tiles.specs.declared.shape.Shape.{Shape}
 use Rattle.wt_tiles.specs.Glyphs.{is_in}
 use Rattle.wt_tiles.specs.Urls.{is_word}
-use Rattle.wt_tiles.specs.Tiles.{tile_with, size, chars, Cut, closed, cut_with, cuts, shapes}
+use Rattle.wt_tiles.specs.Tiles.{size, chars, Cut, closed, cut_with, cuts, shapes}
 use Rattle.wt_tiles.specs.Reading.{tile_at, is_word_at, word_before}
 
 -- ---- runs of characters before forms

@@ -1,7 +1,6 @@
 -- What each tile has: tags, switches, and any form.
-use Rattle.std.proofs.Common.{◌≡◌, ℕ, zero, suc, ◌+◌, ◌-◌, ◌<◌, ◌≤◌, ◌⊎◌, ◌==◌, Bool, true, false, Option, Some, None, List, [], ◌∷◌, length, take, drop, nat_lt, refl, sym, ap, ◌∙◌, inl, inr, arith, subst, codes, length-drop, length-take}
-use Rattle.std.specs.Prelude.{◌&&◌, ◌||◌, if◌then◌else◌, option_map}
-use Rattle.std.specs.Option.{option_or}
+use Rattle.std.proofs.Common.{◌≡◌, ℕ, zero, suc, ◌+◌, ◌-◌, ◌<◌, ◌≤◌, Bool, true, false, Option, Some, None, List, [], ◌∷◌, length, drop, nat_lt, refl, sym, ap, ◌∙◌, arith, subst, codes, length-drop}
+use Rattle.std.specs.Prelude.{◌&&◌, if◌then◌else◌, option_map}
 use Rattle.std.specs.List.{list_all}
 use Rattle.wt_tree.specs.declared.kind.TagName.{TagName}
 use Rattle.wt_tiles.specs.declared.context.Context.{Context}
@@ -14,15 +13,15 @@ use Rattle.wt_tiles.specs.declared.tag.Name.TheVariants.{Paired, Break, Island}
 use Rattle.wt_tiles.specs.declared.tag.TagShape.{TagShape}
 use Rattle.wt_tiles.specs.declared.tag.TagShape.TheVariants.{Opening, Alone, Closing}
 use Rattle.wt_tiles.specs.declared.tag.Tag.{Tag}
-use Rattle.wt_tiles.specs.Glyphs.{first_is, run_len, begins}
+use Rattle.wt_tiles.specs.Glyphs.{begins}
 use Rattle.wt_tiles.specs.Tags.{tag_at}
-use Rattle.wt_tiles.specs.Partners.{Turn, Up, Down, Level, number, turn_of_name, turn_of_shape, turn_of_tag, tag_turn, by_tag, partner}
+use Rattle.wt_tiles.specs.Partners.{Turn, Up, Down, Level, number, turn_of_tag, tag_turn, by_tag, partner}
 use Rattle.wt_tiles.specs.Links.{leaf, link_at}
 use Rattle.wt_tiles.specs.Urls.{ext_link_at, bare_url_at}
-use Rattle.wt_tiles.specs.Tiles.{len_of, pair_or_island, closing_for, shape_of_tag, tag_tile, switch_names, switch_len, switch_at, outside, link_or_url, form_at, tile_with, size}
+use Rattle.wt_tiles.specs.Tiles.{len_of, pair_or_island, closing_for, shape_of_tag, tag_tile, switch_names, switch_len, switch_at, outside, link_or_url, form_at, tile_with}
 use Rattle.wt_tiles.specs.Reading.{tile_at}
-use Rattle.wt_tiles.specs.Edges.{low_at, low_before, IsEdge, HasEdges}
-use Rattle.wt_tiles.proofs.Words.{and_left, and_right, lt_is, false_true, low_drop, begins_low, begins_len, is_low_word, edge_after, edge_at, edge_same}
+use Rattle.wt_tiles.specs.Edges.{low_at}
+use Rattle.wt_tiles.proofs.Words.{and_left, and_right, lt_is, false_true, low_drop, begins_low, begins_len, is_low_word, edge_after, edge_at}
 use Rattle.wt_tiles.proofs.TagFits.{TagFits, OptTag, tag_fits}
 use Rattle.wt_tiles.proofs.LinkFits.{Fits, OptFits, or_fits, if_fits, leaf_fits, link_fits}
 use Rattle.wt_tiles.proofs.UrlFits.{ext_fits, bare_fits}

@@ -1,6 +1,5 @@
 -- The shapes of a context: where the items may be cut, and that what is cut joins to them.
-use Rattle.std.proofs.Common.{◌≡◌, ℕ, zero, suc, ◌+◌, ◌-◌, ◌<◌, ◌≤◌, ◌⊎◌, Bool, true, false, Option, Some, None, List, [], ◌∷◌, ◌++◌, length, map, take, drop, get_or, refl, sym, ap, ◌∙◌, inl, inr, arith, subst, length-drop, append_assoc}
-use Rattle.std.specs.List.{flat_map}
+use Rattle.std.proofs.Common.{◌≡◌, ℕ, zero, suc, ◌+◌, ◌-◌, ◌<◌, ◌≤◌, ◌⊎◌, Bool, true, false, List, [], ◌∷◌, ◌++◌, length, map, take, drop, get_or, refl, sym, ap, ◌∙◌, inl, inr, arith, subst, length-drop, append_assoc}
 use Rattle.std.proofs.lemmas.List.{length-map, drop-map, map-append, take-append-drop}
 use Rattle.wt_span.specs.Items.{Item}
 use Rattle.wt_tiles.specs.declared.context.Context.{Context}
@@ -10,8 +9,8 @@ use Rattle.wt_tiles.specs.declared.shape.TileKind.{TileKind}
 use Rattle.wt_tiles.specs.declared.shape.TileKind.TheVariants as kind
 use Rattle.wt_tiles.specs.declared.tile.Tile.{Tile}
 use Rattle.wt_tiles.specs.Glyphs.{glyph_of}
-use Rattle.wt_tiles.specs.Tiles.{size, chars, shapes, parts, tiles}
-use Rattle.wt_tiles.specs.Reading.{tile_at, IsForm, is_word_at, StandsBy, Stands, BeginsWithForm, Apart, AreTiles}
+use Rattle.wt_tiles.specs.Tiles.{size, shapes, parts, tiles}
+use Rattle.wt_tiles.specs.Reading.{IsForm, is_word_at, StandsBy, BeginsWithForm, Apart, AreTiles}
 use Rattle.wt_tiles.specs.Edges.{low_at, IsEdge}
 use Rattle.wt_tiles.specs.Cutting.{tile_of, tile_items, joined, AreCuts}
 use Rattle.wt_tiles.proofs.Words.{low_drop, edge_at}

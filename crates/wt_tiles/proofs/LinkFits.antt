@@ -1,6 +1,6 @@
 -- What each tile has: it lies within the items, and these may be cut at the ends of its parts. Links first.
-use Rattle.std.proofs.Common.{◌≡◌, ℕ, zero, suc, ◌+◌, ◌-◌, ◌<◌, ◌≤◌, ◌⊎◌, ◌==◌, Bool, true, false, Option, Some, None, List, [], ◌∷◌, length, take, drop, nat_lt, refl, sym, ap, ◌∙◌, inl, inr, arith, subst, codes, length-drop, length-take, drop-drop}
-use Rattle.std.specs.Prelude.{◌&&◌, ◌||◌, if◌then◌else◌, option_map}
+use Rattle.std.proofs.Common.{◌≡◌, ℕ, zero, suc, ◌+◌, ◌-◌, ◌<◌, ◌≤◌, ◌==◌, Bool, true, false, Option, Some, None, List, [], ◌∷◌, length, take, drop, refl, sym, ap, ◌∙◌, arith, subst, codes, length-drop, drop-drop}
+use Rattle.std.specs.Prelude.{◌&&◌, if◌then◌else◌, option_map}
 use Rattle.std.specs.Option.{option_or}
 use Rattle.std.proofs.lemmas.Bool.{eqb-true}
 use Rattle.wt_tiles.specs.declared.glyph.Glyph.{Glyph}
@@ -18,8 +18,8 @@ use Rattle.wt_tiles.specs.Links.{leaf, place, target_of, kind_of, target_len, to
 use Rattle.wt_tiles.specs.Searches.{IsHead}
 use Rattle.wt_tiles.specs.Tiles.{size}
 use Rattle.wt_tiles.specs.Reading.{IsForm}
-use Rattle.wt_tiles.specs.Edges.{low_at, low_before, IsEdge, HasEdges}
-use Rattle.wt_tiles.proofs.Words.{and_left, and_right, lt_is, false_true, first_low, first_some, run_low, low_drop, begins_low, begins_len, edge_after, edge_at, edge_same}
+use Rattle.wt_tiles.specs.Edges.{low_at, IsEdge, HasEdges}
+use Rattle.wt_tiles.proofs.Words.{and_left, and_right, false_true, first_low, run_low, low_drop, begins_low, begins_len, edge_after, edge_at, edge_same}
 use Rattle.wt_tiles.proofs.TagFits.{run_le}
 
 pub record Fits (gs : List Glyph) (w : Shape) : Type 0 where

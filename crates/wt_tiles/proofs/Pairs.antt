@@ -1,6 +1,6 @@
 -- Tags that balance, read from the right: what is known of fewer items.
-use Rattle.std.proofs.Common.{◌≡◌, ◌≢◌, ℕ, zero, suc, ◌+◌, ◌-◌, ◌<◌, ◌≤◌, ◌⊎◌, ◌==◌, Bool, true, false, Option, Some, None, List, [], ◌∷◌, length, drop, refl, sym, ap, ◌∙◌, arith, subst, inl, inr, ⊎_elim, length-drop, drop-drop, cond}
-use Rattle.std.specs.Prelude.{if◌then◌else◌, option_map, slice_get, slice_set, ◌++◌}
+use Rattle.std.proofs.Common.{◌≡◌, ◌≢◌, ℕ, zero, suc, ◌+◌, ◌-◌, ◌<◌, ◌≤◌, ◌⊎◌, ◌==◌, Bool, true, false, Option, Some, None, List, [], ◌∷◌, length, drop, refl, sym, ap, ◌∙◌, arith, subst, inl, inr, length-drop, drop-drop}
+use Rattle.std.specs.Prelude.{if◌then◌else◌, slice_get, slice_set, ◌++◌}
 use Rattle.std.proofs.lemmas.Bool.{eqb-true, cases_lt}
 use Rattle.std.proofs.lemmas.Bool.Decides.{nat_tests}
 use Rattle.wt_tree.specs.declared.kind.TagName.{TagName}

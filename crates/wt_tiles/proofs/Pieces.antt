@@ -1,5 +1,5 @@
 -- Pieces as lists of items that inline forms read.
-use Rattle.std.proofs.Common.{◌≡◌, ℕ, zero, suc, ◌+◌, ◌-◌, ◌<◌, ◌≤◌, ◌⊎◌, Bool, true, false, Option, Some, None, List, [], ◌∷◌, ◌++◌, length, map, take, drop, get_or, nat_lt, refl, sym, ap, ◌∙◌, inl, inr, arith, subst}
+use Rattle.std.proofs.Common.{◌≡◌, ℕ, zero, suc, ◌+◌, ◌<◌, true, false, Option, Some, None, List, [], ◌∷◌, ◌++◌, length, map, get_or, refl, sym, ap, inl, inr, arith, subst}
 use Rattle.std.specs.List.{All}
 use Rattle.std.specs.Str.{IsUtf8, IsCharBoundary}
 use Rattle.std.proofs.lemmas.Str.{IsCharBoundary-before_ascii, IsCharBoundary-after_ascii}
@@ -8,13 +8,13 @@ use Rattle.wt_span.specs.declared.form.Form.{Form}
 use Rattle.wt_span.specs.declared.form.Form.TheVariants as form
 use Rattle.wt_span.specs.declared.form.Piece.{Piece}
 use Rattle.wt_span.specs.Slice.{bytes_of}
-use Rattle.wt_span.specs.Items.{Item, char, whole, items, items_of, items_by, call_of_origin}
+use Rattle.wt_span.specs.Items.{char, items_of, items_by, call_of_origin}
 use Rattle.wt_span.specs.Origins.{IsSoundPiece}
 use Rattle.wt_lines.specs.Pieces.{is_chars, count_by, item_count}
 use Rattle.wt_tiles.specs.declared.glyph.Glyph.{Glyph}
 use Rattle.wt_tiles.specs.declared.glyph.Glyph.TheVariants as glyph
 use Rattle.wt_tiles.specs.Glyphs.{glyph_of, glyph_of_form, byte_glyphs}
-use Rattle.wt_tiles.specs.Edges.{low_at, low_before, IsEdge}
+use Rattle.wt_tiles.specs.Edges.{low_at, IsEdge}
 use Rattle.wt_tiles.specs.Cutting.{first_piece, IsEdgeIn}
 use Rattle.wt_tiles.proofs.Words.{false_true, lt_is}
 

@@ -1,5 +1,5 @@
 -- The shapes of a context have the properties of the relation, and no other list has them.
-use Rattle.std.proofs.Common.{◌≡◌, ℕ, zero, suc, ◌+◌, ◌-◌, ◌<◌, ◌≤◌, ◌==◌, Bool, false, Option, Some, None, List, [], ◌∷◌, length, drop, refl, sym, ap, ◌∙◌, subst, arith}
+use Rattle.std.proofs.Common.{◌≡◌, ℕ, zero, suc, ◌+◌, ◌-◌, ◌<◌, ◌≤◌, Bool, false, Option, Some, None, List, [], ◌∷◌, length, drop, refl, sym, ap, ◌∙◌, subst, arith}
 use Rattle.wt_tiles.specs.declared.context.Context.{Context}
 use Rattle.wt_tiles.specs.declared.glyph.Glyph.{Glyph}
 use Rattle.wt_tiles.specs.declared.shape.Shape.{Shape}
@@ -8,9 +8,8 @@ use Rattle.wt_tiles.specs.declared.shape.TileKind.TheVariants as kind
 use Rattle.wt_tiles.specs.Glyphs.{is_in}
 use Rattle.wt_tiles.specs.Urls.{is_word}
 use Rattle.wt_tiles.specs.Tiles.{size, chars, Cut, closed, cuts, shapes}
-use Rattle.wt_tiles.specs.Reading.{tile_at, IsForm, is_word_at, word_before, StandsBy, Stands, BeginsWithForm, Apart, AreTiles}
+use Rattle.wt_tiles.specs.Reading.{tile_at, IsForm, is_word_at, word_before, StandsBy, BeginsWithForm, Apart, AreTiles}
 use Rattle.wt_tiles.proofs.Cuts.{closed_zero, closed_pos, words, skipped, cuts_cons}
-use Rattle.wt_tiles.proofs.LinkFits.{Fits}
 use Rattle.wt_tiles.proofs.Fits.{tile_fits}
 
 begins_zero : (n : ℕ) (ws : List Shape) → BeginsWithForm (closed n ws) → n ≡ 0

@@ -1,17 +1,15 @@
 -- For the loop that reads the tiles: what stands at a place.
-use Rattle.std.proofs.Common.{◌≡◌, ℕ, zero, suc, ◌+◌, ◌-◌, ◌<◌, ◌≤◌, Bool, true, false, Option, Some, None, List, [], ◌∷◌, length, drop, get_or, refl, sym, ap, ◌∙◌, arith, subst, length-drop}
+use Rattle.std.proofs.Common.{◌≡◌, ℕ, zero, suc, ◌+◌, ◌-◌, ◌<◌, ◌≤◌, Bool, false, Option, Some, None, List, [], ◌∷◌, length, drop, get_or, refl, ap, ◌∙◌, arith, length-drop}
 use Rattle.std.specs.Prelude.{IfSome}
-use Rattle.wt_tree.specs.declared.kind.TagName.{TagName}
 use Rattle.wt_tiles.specs.declared.context.Context.{Context}
 use Rattle.wt_tiles.specs.declared.glyph.Glyph.{Glyph}
 use Rattle.wt_tiles.specs.declared.glyph.Glyph.TheVariants as glyph
 use Rattle.wt_tiles.specs.declared.shape.Shape.{Shape}
 use Rattle.wt_tiles.specs.Glyphs.{is_in}
 use Rattle.wt_tiles.specs.Urls.{is_word}
-use Rattle.wt_tiles.specs.Tiles.{tile_with, size}
+use Rattle.wt_tiles.specs.Tiles.{size}
 use Rattle.wt_tiles.specs.Reading.{tile_at, is_word_at, word_before}
 use Rattle.wt_tiles.specs.Firsts.{may_begin}
-use Rattle.wt_tiles.proofs.LinkFits.{Fits}
 use Rattle.wt_tiles.proofs.Fits.{tile_fits}
 use Rattle.wt_tiles.proofs.TagInsides.{no_form}
 

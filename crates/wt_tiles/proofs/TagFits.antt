@@ -1,20 +1,19 @@
 -- What each tag has: it lies within the items, begins with `<` and ends with `>`.
-use Rattle.std.proofs.Common.{◌≡◌, ℕ, zero, suc, ◌+◌, ◌-◌, ◌<◌, ◌≤◌, ◌⊎◌, ◌==◌, Bool, true, false, Option, Some, None, List, [], ◌∷◌, length, take, drop, nat_lt, refl, sym, ap, ◌∙◌, inl, inr, arith, subst, codes, length-drop, length-take}
-use Rattle.std.specs.Prelude.{◌&&◌, ◌||◌, if◌then◌else◌, option_map}
+use Rattle.std.proofs.Common.{◌≡◌, ℕ, ◌+◌, ◌-◌, ◌<◌, ◌≤◌, Bool, true, false, Option, Some, None, List, length, take, drop, nat_lt, refl, sym, ap, ◌∙◌, arith, codes, length-drop, length-take}
+use Rattle.std.specs.Prelude.{◌&&◌, if◌then◌else◌}
 use Rattle.std.specs.Option.{option_or}
-use Rattle.std.specs.List.{prefix_len}
 use Rattle.std.proofs.lemmas.List.Sums.{prefix_len-le-length}
 use Rattle.wt_tiles.specs.declared.glyph.Glyph.{Glyph}
 use Rattle.wt_tiles.specs.declared.glyph.Class.{Class}
 use Rattle.wt_tiles.specs.declared.glyph.Class.TheVariants as class
 use Rattle.wt_tiles.specs.declared.tag.Name.{Name}
 use Rattle.wt_tiles.specs.declared.tag.TagShape.{TagShape}
-use Rattle.wt_tiles.specs.declared.tag.TagShape.TheVariants.{Opening, Alone, Closing}
+use Rattle.wt_tiles.specs.declared.tag.TagShape.TheVariants.{Closing}
 use Rattle.wt_tiles.specs.declared.tag.Tag.{Tag}
 use Rattle.wt_tiles.specs.Glyphs.{in_class, first_is, run_len, begins}
 use Rattle.wt_tiles.specs.Tags.{tag_of, name_of, name_len, is_inside, shape_of, tag_after, opening_tag, closing_tag, tag_at}
 use Rattle.wt_tiles.specs.Edges.{low_at}
-use Rattle.wt_tiles.proofs.Words.{and_left, and_right, lt_is, first_low, first_some, low_drop, begins_low, begins_len}
+use Rattle.wt_tiles.proofs.Words.{and_left, and_right, lt_is, first_low, first_some, low_drop, begins_low}
 
 pub record TagFits (gs : List Glyph) (t : Tag) : Type 0 where
   pub some : 2 < t.len

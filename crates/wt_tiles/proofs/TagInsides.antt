@@ -1,12 +1,10 @@
 -- For the code that reads the tiles: inside a tag no other tag begins, and where no form begins.
-use Rattle.std.proofs.Common.{◌≡◌, ◌≢◌, ℕ, zero, suc, ◌+◌, ◌-◌, ◌<◌, ◌≤◌, ◌⊎◌, ◌==◌, Bool, true, false, Option, Some, None, List, [], ◌∷◌, length, take, drop, nat_lt, refl, sym, ap, ◌∙◌, inl, inr, arith, subst, codes, cond, length-drop, length-take, drop-drop, ⊎_elim}
+use Rattle.std.proofs.Common.{◌≡◌, ℕ, zero, suc, ◌+◌, ◌-◌, ◌<◌, ◌≤◌, ◌==◌, Bool, true, false, Option, Some, None, List, [], ◌∷◌, length, take, drop, nat_lt, refl, sym, ap, ◌∙◌, arith, subst, codes, cond, length-drop, length-take, drop-drop, ⊎_elim}
 use Rattle.std.specs.Prelude.{◌&&◌, ◌||◌, not, if◌then◌else◌, option_map}
 use Rattle.std.specs.Option.{option_or}
-use Rattle.std.specs.Char.{is_ascii_alphanumeric, to_ascii_lowercase}
-use Rattle.std.specs.List.{prefix_len}
+use Rattle.std.specs.Char.{to_ascii_lowercase}
 use Rattle.std.proofs.lemmas.Bool.{eqb-true, cases_lt}
 use Rattle.std.proofs.lemmas.Bool.Decides.{nat_tests}
-use Rattle.wt_span.specs.Tags.{is_tag_byte}
 use Rattle.wt_tree.specs.declared.kind.TagName.{TagName}
 use Rattle.wt_tiles.specs.declared.context.Context.{Context}
 use Rattle.wt_tiles.specs.declared.glyph.Glyph.{Glyph}
@@ -16,19 +14,19 @@ use Rattle.wt_tiles.specs.declared.glyph.Class.TheVariants as class
 use Rattle.wt_tiles.specs.declared.shape.Shape.{Shape}
 use Rattle.wt_tiles.specs.declared.shape.TileKind.TheVariants as kind
 use Rattle.wt_tiles.specs.declared.tag.Name.{Name}
-use Rattle.wt_tiles.specs.declared.tag.Name.TheVariants.{Paired, Break, Island}
+use Rattle.wt_tiles.specs.declared.tag.Name.TheVariants.{Paired}
 use Rattle.wt_tiles.specs.declared.tag.TagShape.{TagShape}
 use Rattle.wt_tiles.specs.declared.tag.TagShape.TheVariants.{Opening, Alone, Closing}
 use Rattle.wt_tiles.specs.declared.tag.Tag.{Tag}
-use Rattle.wt_tiles.specs.Glyphs.{is_in, in_class, is_tag_glyph, first_is, run_len, begins, like_byte, begins_like}
+use Rattle.wt_tiles.specs.Glyphs.{in_class, first_is, run_len, begins, like_byte, begins_like}
 use Rattle.wt_tiles.specs.Tags.{tag_of, name_of, name_len, is_inside, shape_of, tag_after, opening_tag, closing_tag, tag_at}
-use Rattle.wt_tiles.specs.Partners.{Turn, Up, Down, Level, number, turn_of_tag, tag_turn, by_tag, partner}
+use Rattle.wt_tiles.specs.Partners.{number, turn_of_tag, by_tag, partner}
 use Rattle.wt_tiles.specs.Links.{leaf, link_at, link_in}
 use Rattle.wt_tiles.specs.Urls.{scheme_len, ext_link_of, ext_link_at, bare_url_at, bare_url_of, url_items, kept_len}
 use Rattle.wt_tiles.specs.Tiles.{len_of, pair_or_island, closing_for, shape_of_tag, tag_tile, switch_names, switch_len, switch_at, outside, link_or_url, tag_or_switch, form_at}
-use Rattle.wt_tiles.specs.Tables.{left_of, own_partner, nearest, pair_left}
+use Rattle.wt_tiles.specs.Tables.{left_of, own_partner, pair_left}
 use Rattle.wt_tiles.specs.Firsts.{may_begin}
-use Rattle.wt_tiles.proofs.Words.{and_left, and_right, lt_is, false_true}
+use Rattle.wt_tiles.proofs.Words.{and_left, false_true}
 use Rattle.wt_tiles.proofs.Fits.{partner_fits}
 use Rattle.wt_tiles.proofs.Pairs.{end_of, own_of}
 

@@ -1,6 +1,5 @@
 -- Pieces that are taken from the front, one at a time.
-use Rattle.std.proofs.Common.{◌≡◌, ℕ, zero, suc, ◌+◌, ◌-◌, ◌<◌, ◌≤◌, ◌⊎◌, Bool, true, false, List, [], ◌∷◌, ◌++◌, length, map, take, drop, refl, sym, ap, ◌∙◌, inl, inr, arith, subst, ⊎_elim, length-append}
-use Rattle.std.proofs.lemmas.Bool.{cases_lt}
+use Rattle.std.proofs.Common.{◌≡◌, ℕ, zero, suc, ◌+◌, ◌-◌, ◌<◌, ◌≤◌, List, [], ◌∷◌, ◌++◌, length, map, take, drop, refl, sym, ap, ◌∙◌, inl, inr, arith, subst, length-append}
 use Rattle.std.proofs.lemmas.List.{length-map, map-append}
 use Rattle.wt_span.specs.declared.form.Piece.{Piece}
 use Rattle.wt_span.specs.Slice.{bytes_of}
@@ -10,7 +9,7 @@ use Rattle.wt_lines.specs.Pieces.{item_count}
 use Rattle.wt_lines.proofs.Splits.{count_is, whole_back, front_next}
 use Rattle.wt_tiles.specs.declared.glyph.Glyph.{Glyph}
 use Rattle.wt_tiles.specs.Glyphs.{glyph_of}
-use Rattle.wt_tiles.specs.Edges.{low_at, low_before, IsEdge}
+use Rattle.wt_tiles.specs.Edges.{low_at, IsEdge}
 use Rattle.wt_tiles.specs.Cutting.{IsEdgeIn}
 
 count_of : (p : Piece) → length (items_of p) ≡ item_count p

@@ -1,24 +1,19 @@
 -- What each external link and each bare URL has.
-use Rattle.std.proofs.Common.{◌≡◌, ℕ, zero, suc, ◌+◌, ◌-◌, ◌<◌, ◌≤◌, ◌⊎◌, ◌==◌, Bool, true, false, Option, Some, None, List, [], ◌∷◌, length, take, drop, get_or, nat_lt, refl, sym, ap, ◌∙◌, inl, inr, arith, subst, codes, length-drop, length-take, drop-drop, ⊎_elim}
-use Rattle.std.specs.Prelude.{◌&&◌, ◌||◌, not, if◌then◌else◌, option_map, reverse}
-use Rattle.std.specs.Option.{option_or}
+use Rattle.std.proofs.Common.{◌≡◌, ℕ, zero, suc, ◌+◌, ◌-◌, ◌<◌, ◌≤◌, ◌⊎◌, Bool, true, false, Option, Some, None, List, [], ◌∷◌, length, take, drop, get_or, nat_lt, refl, sym, ap, ◌∙◌, inl, inr, arith, subst, codes, length-drop, length-take, drop-drop}
+use Rattle.std.specs.Prelude.{◌&&◌, not, if◌then◌else◌, option_map, reverse}
 use Rattle.std.specs.List.{prefix_len}
-use Rattle.std.proofs.lemmas.Bool.{eqb-true, cases_lt}
+use Rattle.std.proofs.lemmas.Bool.{eqb-true}
 use Rattle.std.proofs.lemmas.Bool.Decides.{nat_tests}
 use Rattle.std.proofs.lemmas.List.{get_or-reverse, length-reverse}
 use Rattle.std.proofs.lemmas.List.Sums.{prefix_len-le-length, prefix_len_passes}
 use Rattle.wt_tiles.specs.declared.glyph.Glyph.{Glyph}
 use Rattle.wt_tiles.specs.declared.glyph.Glyph.TheVariants as glyph
 use Rattle.wt_tiles.specs.declared.glyph.Class.TheVariants as class
-use Rattle.wt_tiles.specs.declared.shape.Shape.{Shape}
-use Rattle.wt_tiles.specs.declared.shape.TileKind.TheVariants as kind
-use Rattle.wt_tiles.specs.Glyphs.{is_in, in_class, first_is, run_len, begins, begins_like}
-use Rattle.wt_tiles.specs.Links.{place}
+use Rattle.wt_tiles.specs.Glyphs.{is_in, first_is, run_len, begins, begins_like}
 use Rattle.wt_tiles.specs.Urls.{scheme_len, is_url_char, is_url_glyph, url_run, url_items, text_len, ext_shape, ext_link_after, ext_link_of, ext_link_at, is_dropped, has_paren, kept_len, bare_shape, bare_url_of, bare_url_at}
-use Rattle.wt_tiles.specs.Edges.{is_low, low_at, low_before, IsEdge, HasEdges}
+use Rattle.wt_tiles.specs.Edges.{is_low, low_at, IsEdge}
 use Rattle.wt_tiles.proofs.Words.{and_left, and_right, lt_is, is_lt, false_true, in_low, IsLowTest, first_low, first_some, run_low, low_drop, begins_low, begins_like_low, begins_like_len, is_low_word, edge_after, edge_at, edge_same}
-use Rattle.wt_tiles.proofs.TagFits.{run_le}
-use Rattle.wt_tiles.proofs.LinkFits.{Fits, OptFits, if_fits, OptPlace, place_fits}
+use Rattle.wt_tiles.proofs.LinkFits.{OptFits, if_fits, OptPlace, place_fits}
 
 -- ---- schemes
 

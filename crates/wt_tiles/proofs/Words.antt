@@ -1,7 +1,7 @@
 -- Tests on items, as facts.
-use Rattle.std.proofs.Common.{◌≡◌, ℕ, zero, suc, ◌+◌, ◌-◌, ◌<◌, ◌≤◌, ◌⊎◌, ◌==◌, Bool, true, false, Option, Some, None, List, [], ◌∷◌, length, take, drop, nat_lt, nat_le, refl, sym, ap, ◌∙◌, inl, inr, arith, subst, cond}
-use Rattle.std.specs.Prelude.{◌&&◌, ◌||◌, if◌then◌else◌}
-use Rattle.std.specs.List.{list_all, prefix_len}
+use Rattle.std.proofs.Common.{◌≡◌, ℕ, zero, suc, ◌+◌, ◌<◌, ◌≤◌, ◌==◌, Bool, true, false, List, [], ◌∷◌, length, drop, nat_lt, refl, sym, ap, ◌∙◌, inl, inr, arith, subst, cond}
+use Rattle.std.specs.Prelude.{◌&&◌}
+use Rattle.std.specs.List.{list_all}
 use Rattle.std.specs.Char.{is_ascii_alphabetic, is_ascii_alphanumeric, to_ascii_lowercase}
 use Rattle.std.proofs.lemmas.Bool.{eqb-true}
 use Rattle.std.proofs.lemmas.Bool.Decides.{nat_tests}
@@ -10,8 +10,8 @@ use Rattle.wt_tiles.specs.declared.glyph.Glyph.{Glyph}
 use Rattle.wt_tiles.specs.declared.glyph.Glyph.TheVariants as glyph
 use Rattle.wt_tiles.specs.declared.glyph.Class.{Class}
 use Rattle.wt_tiles.specs.declared.glyph.Class.TheVariants as class
-use Rattle.wt_tiles.specs.Glyphs.{is_in, in_class, is_small, first_is, run_len, begins, like_byte, begins_like}
-use Rattle.wt_tiles.specs.Edges.{is_low, low_at, low_before, IsEdge}
+use Rattle.wt_tiles.specs.Glyphs.{is_in, in_class, is_small, first_is, run_len, begins, begins_like}
+use Rattle.wt_tiles.specs.Edges.{is_low, low_at, IsEdge}
 
 pub and_left : (a b : Bool) → (a && b) ≡ true → a ≡ true
 and_left true b e = refl

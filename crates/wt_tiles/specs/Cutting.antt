@@ -1,8 +1,8 @@
 -- Tiles with their pieces, and pieces that are cut into them.
-use Rattle.std.specs.Prelude.{◌≡◌, ℕ, Option, Some, None, List, [], ◌∷◌, ◌++◌, map, drop, All}
+use Rattle.std.specs.Prelude.{ℕ, Option, Some, None, List, [], ◌∷◌, ◌++◌, map, drop, All}
 use Rattle.std.specs.List.{flat_map}
 use Rattle.wt_span.specs.declared.form.Piece.{Piece}
-use Rattle.wt_span.specs.Items.{Item, items, items_of}
+use Rattle.wt_span.specs.Items.{Item, items}
 use Rattle.wt_span.specs.Origins.{IsSoundPiece}
 use Rattle.wt_tiles.specs.declared.glyph.Glyph.{Glyph}
 use Rattle.wt_tiles.specs.declared.shape.Shape.{Shape}

@@ -1,6 +1,5 @@
 -- What is known of a context's brackets and tags, in tables by the number of items that are left.
-use Rattle.std.specs.Prelude.{◌≡◌, ◌<◌, ◌≤◌, ℕ, suc, ◌+◌, ◌-◌, Option, Some, None, List, [], ◌∷◌, length, drop, slice_get, option_map}
-use Rattle.wt_tree.specs.declared.kind.TagName.{TagName}
+use Rattle.std.specs.Prelude.{◌≡◌, ◌<◌, ◌≤◌, ℕ, ◌+◌, ◌-◌, Option, Some, None, List, [], ◌∷◌, length, drop, slice_get, option_map}
 use Rattle.wt_tiles.specs.declared.glyph.Glyph.{Glyph}
 use Rattle.wt_tiles.specs.declared.bracket.Turn.{Turn as Side}
 use Rattle.wt_tiles.specs.declared.bracket.Turn.TheVariants as side

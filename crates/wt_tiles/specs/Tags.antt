@@ -2,8 +2,6 @@
 -- that closes itself has a `/` before the `>`; a closing tag is `</`, a name, blanks and `>`. Names have no case.
 use Rattle.std.specs.Prelude.{ℕ, ◌+◌, ◌-◌, ◌==◌, ◌&&◌, ◌||◌, Bool, false, Option, Some, None, List, [], ◌∷◌, length, take, drop, nat_lt, codes, option_map, if◌then◌else◌}
 use Rattle.std.specs.Option.{option_or}
-use Rattle.std.specs.List.{list_any}
-use Rattle.wt_tree.specs.declared.kind.TagName.{TagName}
 use Rattle.wt_tree.specs.declared.kind.TagName.TheVariants as name
 use Rattle.wt_tiles.specs.declared.glyph.Glyph.{Glyph}
 use Rattle.wt_tiles.specs.declared.glyph.Class.TheVariants as class

@@ -1,5 +1,5 @@
 -- The tiles of a context: the forms, each taken leftmost, then the first of several, and the characters between them.
-use Rattle.std.specs.Prelude.{ℕ, zero, suc, ◌+◌, ◌-◌, ◌==◌, ◌&&◌, Bool, false, Option, Some, None, List, [], ◌∷◌, length, map, take, drop, nat_lt, codes, option_map, if◌then◌else◌}
+use Rattle.std.specs.Prelude.{ℕ, zero, suc, ◌+◌, ◌-◌, ◌==◌, Bool, false, Option, Some, None, List, [], ◌∷◌, length, map, take, drop, nat_lt, codes, option_map, if◌then◌else◌}
 use Rattle.std.specs.Option.{option_or}
 use Rattle.wt_span.specs.Items.{Item}
 use Rattle.wt_tree.specs.declared.kind.TagName.{TagName}

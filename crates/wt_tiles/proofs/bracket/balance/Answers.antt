@@ -1,5 +1,4 @@
-use Rattle.std.proofs.Common.{◌≡◌, ◌+◌, ◌-◌, Some, None, length, drop, sym, ◌∙◌, arith}
-use Rattle.wt_tiles.specs.Tables.{balances}
+use Rattle.std.proofs.Common.{◌-◌, length, sym, ◌∙◌, arith}
 use Rattle.wt_tiles.proofs.Balances.{down_left, level_left, known_at}
 use Rattle.wt_tiles.proofs.bracket.balance.Goals as goal
 

@@ -1,9 +1,9 @@
-use Rattle.std.proofs.Common.{◌≡◌, ◌+◌, ◌-◌, ◌≤◌, ℕ, Option, List, Some, None, length, drop, sym, ◌∙◌, arith}
+use Rattle.std.proofs.Common.{◌≡◌, ◌-◌, ℕ, Option, List, Some, None, length, drop, sym, ◌∙◌, arith}
 use Rattle.std.specs.Prelude.{slice_get}
 use Rattle.wt_tiles.specs.declared.glyph.Glyph.{Glyph}
 use Rattle.wt_tiles.specs.Partners.{bracket_turn, Up}
 use Rattle.wt_tiles.specs.Tables.{balances}
-use Rattle.wt_tiles.proofs.Balances.{up_len, UpStep, up_some, up_none, AreKnown, known_at}
+use Rattle.wt_tiles.proofs.Balances.{up_len, up_some, up_none, AreKnown, known_at}
 use Rattle.wt_tiles.proofs.bracket.balance_up.Goals as goal
 
 behind : (gs : List Glyph) (table : List (Option ℕ)) (r : Option ℕ) → bracket_turn gs ≡ Up → AreKnown gs table → slice_get table (length gs - 2) ≡ Some r → balances (drop 2 gs) ≡ r

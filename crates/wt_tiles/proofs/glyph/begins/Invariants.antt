@@ -1,4 +1,4 @@
-use Rattle.std.proofs.Common.{◌≡◌, ◌≤◌, length, drop}
+use Rattle.std.proofs.Common.{◌≡◌, drop}
 use Rattle.wt_tiles.specs.Glyphs.{begins}
 use Rattle.wt_tiles.proofs.glyph.begins.Given as goal
 

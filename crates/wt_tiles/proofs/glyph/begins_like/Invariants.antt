@@ -1,4 +1,4 @@
-use Rattle.std.proofs.Common.{◌≡◌, ◌≤◌, length, drop}
+use Rattle.std.proofs.Common.{◌≡◌, drop}
 use Rattle.wt_tiles.specs.Glyphs.{begins_like}
 use Rattle.wt_tiles.proofs.glyph.begins_like.Given as goal
 

@@ -1,4 +1,3 @@
-use Rattle.wt_tiles.proofs.LinkFits.{Fits}
 use Rattle.wt_tiles.proofs.Fits.{tile_fits}
 use Rattle.wt_tiles.proofs.laws.parts_have_edges.Goals as goal
 

@@ -1,4 +1,4 @@
-use Rattle.std.proofs.Common.{◌≡◌, List, sym, ap, ◌∙◌}
+use Rattle.std.proofs.Common.{sym, ap, ◌∙◌}
 use Rattle.wt_tiles.specs.Tables.{balances}
 use Rattle.wt_tiles.proofs.Balances.{balances_within}
 use Rattle.wt_tiles.proofs.link.inner_len.Goals as goal

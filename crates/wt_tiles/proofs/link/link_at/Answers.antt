@@ -1,4 +1,4 @@
-use Rattle.std.proofs.Common.{◌≡◌, ◌-◌, List, length, drop, sym, ap, ◌∙◌, arith, subst, codes, length-drop}
+use Rattle.std.proofs.Common.{◌≡◌, ◌-◌, List, length, drop, sym, ◌∙◌, subst, codes}
 use Rattle.wt_tiles.specs.declared.glyph.Glyph.{Glyph}
 use Rattle.wt_tiles.proofs.Words.{begins_len}
 use Rattle.wt_tiles.proofs.LinkFits.{end_later}

@@ -1,5 +1,4 @@
-use Rattle.std.proofs.Common.{◌≡◌, ℕ, ◌+◌, ◌-◌, ◌<◌, ◌≤◌, Option, List, Some, None, length, drop, sym, ap, ◌∙◌, arith, subst, drop-drop}
-use Rattle.std.specs.Prelude.{slice_get}
+use Rattle.std.proofs.Common.{◌≡◌, ◌+◌, ◌-◌, List, length, drop, sym, ap, ◌∙◌, arith, subst, drop-drop}
 use Rattle.wt_tiles.specs.declared.glyph.Glyph.{Glyph}
 use Rattle.wt_tiles.specs.Tables.{own_partner, AreNearest}
 use Rattle.wt_tiles.proofs.Pairs.{push_next, push_size}

@@ -1,15 +1,13 @@
-use Rattle.std.proofs.Common.{◌≡◌, ◌≢◌, ℕ, ◌+◌, ◌-◌, ◌<◌, ◌≤◌, Option, List, Some, None, length, drop, sym, ap, ◌∙◌, arith, subst, length-drop}
-use Rattle.std.specs.Prelude.{slice_get, slice_set, slice_index_or}
+use Rattle.std.proofs.Common.{◌≡◌, ℕ, ◌<◌, Option, List, Some, None, length, drop, sym, ap, ◌∙◌, arith, length-drop}
+use Rattle.std.specs.Prelude.{slice_index_or}
 use Rattle.std.proofs.lemmas.Option.{get_or_from_slice_get}
 use Rattle.wt_tree.specs.declared.kind.TagName.{TagName}
 use Rattle.wt_tiles.specs.declared.glyph.Glyph.{Glyph}
 use Rattle.wt_tiles.specs.declared.tag.Name.TheVariants.{Paired}
-use Rattle.wt_tiles.specs.declared.tag.TagShape.{TagShape}
-use Rattle.wt_tiles.specs.declared.tag.Tag.{Tag}
 use Rattle.wt_tiles.specs.Tags.{tag_at}
 use Rattle.wt_tiles.specs.Partners.{number}
-use Rattle.wt_tiles.specs.Tables.{nearest, nearest_by, own_partner, AreNearest}
-use Rattle.wt_tiles.proofs.Pairs.{AreKnown, nearest_within, own_next, other_next, set_next}
+use Rattle.wt_tiles.specs.Tables.{nearest, nearest_by, AreNearest}
+use Rattle.wt_tiles.proofs.Pairs.{nearest_within, own_next, other_next, set_next}
 use Rattle.wt_tiles.proofs.partner.pass.Goals as goal
 
 known_is : (gs : List Glyph) (old : List (Option ℕ)) (i : ℕ) (m : TagName) → i ≡ number m → i < 7 → AreNearest (drop 1 gs) old → slice_index_or old i None ≡ nearest (number m) (drop 1 gs)

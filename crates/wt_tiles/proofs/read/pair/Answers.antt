@@ -1,4 +1,4 @@
-use Rattle.std.proofs.Common.{◌≡◌, ◌+◌, ◌-◌, ◌<◌, ◌≤◌, ℕ, false, true, Option, Some, List, length, drop, nat_lt, sym, ap, ◌∙◌, arith, subst, codes}
+use Rattle.std.proofs.Common.{◌≡◌, ◌<◌, ℕ, true, Option, Some, List, nat_lt, sym, ap, ◌∙◌, arith, subst}
 use Rattle.std.proofs.lemmas.Bool.Decides.{nat_tests}
 use Rattle.wt_tiles.specs.declared.glyph.Glyph.{Glyph}
 use Rattle.wt_tiles.specs.declared.tag.Tag.{Tag}

@@ -1,9 +1,7 @@
-use Rattle.std.proofs.Common.{◌≡◌, ◌<◌, ◌+◌, ◌-◌, ◌++◌, ℕ, List, [], ◌∷◌, Option, Some, None, length, drop, sym, ap, ◌∙◌, arith, subst}
+use Rattle.std.proofs.Common.{◌<◌, ◌+◌, ◌-◌, ℕ, List, length, sym, ◌∙◌, arith, subst}
 use Rattle.wt_tiles.specs.declared.shape.Shape.{Shape}
-use Rattle.wt_tiles.specs.Tiles.{closed, size}
-use Rattle.wt_tiles.specs.Reading.{tile_at, word_before}
-use Rattle.wt_tiles.proofs.Cuts.{IsDone, all_left, char_more, form_more, none_left}
-use Rattle.wt_tiles.proofs.Steps.{TileFits, fits_at}
+use Rattle.wt_tiles.proofs.Cuts.{IsDone, all_left, char_more, form_more}
+use Rattle.wt_tiles.proofs.Steps.{fits_at}
 use Rattle.wt_tiles.proofs.read.shapes.Goals as goal
 
 pub loop-at-init : goal.loop-at-init

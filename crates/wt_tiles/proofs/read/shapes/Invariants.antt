@@ -1,6 +1,5 @@
-use Rattle.std.proofs.Common.{◌≡◌, ◌≤◌, ◌+◌, ◌-◌, ◌++◌, length}
-use Rattle.wt_tiles.specs.Tiles.{closed, shapes}
-use Rattle.wt_tiles.proofs.Cuts.{left, IsDone}
+use Rattle.std.proofs.Common.{◌≡◌, ◌≤◌, ◌-◌, length}
+use Rattle.wt_tiles.proofs.Cuts.{IsDone}
 use Rattle.wt_tiles.proofs.read.shapes.Given as goal
 
 abbrev pub invariant-loop-at : goal.invariant-loop-at

@@ -1,11 +1,10 @@
-use Rattle.std.proofs.Common.{◌≡◌, sym, ap, ◌∙◌, arith, subst, List, take, drop, ℕ}
+use Rattle.std.proofs.Common.{sym, ap, ◌∙◌, subst, List, take, drop}
 use Rattle.std.specs.List.{All}
 use Rattle.std.proofs.lemmas.List.Elements.{All-push}
 use Rattle.wt_span.specs.declared.form.Piece.{Piece}
 use Rattle.wt_span.specs.Items.{items}
 use Rattle.wt_span.specs.Origins.{IsSoundPiece}
 use Rattle.wt_tiles.specs.declared.tile.Tile.{Tile}
-use Rattle.wt_tiles.specs.Tiles.{size}
 use Rattle.wt_tiles.specs.Cutting.{rest_pieces}
 use Rattle.wt_tiles.proofs.Joining.{parts_next, cuts_next}
 use Rattle.wt_tiles.proofs.tile.cut.Goals as goal

@@ -1,8 +1,8 @@
-use Rattle.std.proofs.Common.{◌≡◌, ◌∙◌, ℕ, ap, arith, ◌-◌, ◌+◌, take, drop, subst, sym}
+use Rattle.std.proofs.Common.{◌≡◌, ◌∙◌, ℕ, ap, arith, ◌-◌, ◌+◌, take, drop, subst}
 use Rattle.std.specs.Str.{IsUtf8, IsCharBoundary}
 use Rattle.wt_span.specs.Slice.{bytes_of, start_of}
 use Rattle.wt_lines.proofs.Splits.{cut_front, cut_back}
-use Rattle.wt_tiles.proofs.Pieces.{piece_border, piece_len}
+use Rattle.wt_tiles.proofs.Pieces.{piece_border}
 use Rattle.wt_tiles.proofs.tile.cut_piece.Goals as goal
 
 pub split_at-requires-clause-border : goal.split_at-requires-clause-border

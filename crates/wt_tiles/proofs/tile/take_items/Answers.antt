@@ -1,4 +1,3 @@
-use Rattle.std.proofs.Common.{◌≡◌, sym, ap, ◌∙◌, arith, refl}
 use Rattle.wt_tiles.specs.Cutting.{rest_pieces}
 use Rattle.wt_tiles.proofs.Taking.{front_edge, next_edge, next_front, next_back}
 use Rattle.wt_tiles.proofs.tile.take_items.Goals as goal

@@ -1,5 +1,4 @@
-use Rattle.std.proofs.Common.{◌≡◌, List, sym, ap, ◌∙◌}
-use Rattle.wt_tiles.specs.declared.glyph.Glyph.{Glyph}
+use Rattle.std.proofs.Common.{sym, ap, ◌∙◌}
 use Rattle.wt_tiles.specs.Searches.{stops, bars}
 use Rattle.wt_tiles.proofs.LinkFits.{place_more}
 use Rattle.wt_tiles.proofs.link.Search.place.Goals as goal

@@ -1,4 +1,3 @@
-use Rattle.std.proofs.Common.{sym, ap, ◌∙◌}
 use Rattle.wt_tiles.proofs.Pieces.{split_some, split_none}
 use Rattle.wt_tiles.proofs.tile.Rest.split_first.Goals as goal
 
