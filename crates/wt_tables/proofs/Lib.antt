@@ -7,6 +7,7 @@ pub mod Ends
 pub mod Nesting
 pub mod Opens
 pub mod PartLines
+mod Rows
 pub mod Scans
 pub mod Singles
 pub mod Steps

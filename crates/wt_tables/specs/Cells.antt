@@ -150,3 +150,17 @@ begins_cell false xs = begins (codes "|") (signs (from_sign xs)) || begins (code
 -- all items of a cell
 abbrev pub whole : Cell → List Item
 whole c = c.opening ++ c.rest
+
+-- ---- attributes of a table and of a row, by the line that opens it: behind `{|`, and behind all `-` of `|-`
+
+abbrev pub is_dash : ℕ → Bool
+is_dash s = s == 45
+
+abbrev pub row_sign_len : List ℕ → ℕ
+row_sign_len ss = 1 + prefix_len is_dash (drop 1 ss)
+
+unfoldable pub table_attributes : List Item → List Named
+table_attributes xs = attributes (drop 2 (from_sign xs))
+
+unfoldable pub row_attributes : List Item → List Named
+row_attributes xs = attributes (drop (row_sign_len (signs (from_sign xs))) (from_sign xs))
