@@ -1,5 +1,5 @@
 -- Lines of cells begin with the sign of one.
-use Rattle.std.proofs.Common.{◌≡◌, ℕ, ◌+◌, Bool, true, false, Option, Some, None, List, [], ◌∷◌, ◌++◌, length, drop, map, refl, sym, ap, ◌∙◌, subst, cond, ◌⊎◌, inl, inr, nat_lt}
+use Rattle.std.proofs.Common.{◌≡◌, ℕ, ◌+◌, Bool, true, false, Option, Some, None, List, [], ◌∷◌, ◌++◌, length, drop, map, refl, ap, ◌∙◌, subst, cond, inl, inr, nat_lt}
 use Rattle.std.specs.Prelude.{◌&&◌, ◌||◌, ◌==◌, reverse, codes, if◌then◌else◌}
 use Rattle.std.specs.Option.{unwrap_or}
 use Rattle.std.specs.List.{prefix_len, list_any}
@@ -59,12 +59,12 @@ bar_of (a ∷ s) e = ap (λ (t : Bool). t && true) (and_left (124 == a) _ e)
 
 cell_by : (t blank opening : Bool) (s f b : List ℕ) → told has_cells (rows_of t blank opening s f b) ≡ true → (begins (codes "|") s || begins (codes "!") s) ≡ true
 cell_by true blank opening s f b e = elim (or_true (begins (codes "|+") s) _ e) [
-    | inl a ↦ ap (λ (t : Bool). t || begins (codes "!") s) (bar_of s a)
-    | inr h ↦ elim (or_true (begins (codes "|") s) _ h) [
-      | inl a ↦ ap (λ (t : Bool). t || begins (codes "!") s) a
-      | inr k ↦ last_true (begins (codes "|") s) _ (or_none (begins (codes "!") s) k)
-      ]
-    ]
+  | inl a ↦ ap (λ (t : Bool). t || begins (codes "!") s) (bar_of s a)
+  | inr h ↦ elim (or_true (begins (codes "|") s) _ h) [
+    | inl a ↦ ap (λ (t : Bool). t || begins (codes "!") s) a
+    | inr k ↦ last_true (begins (codes "|") s) _ (or_none (begins (codes "!") s) k)
+  ]
+]
 cell_by false blank opening s f b e = absurd cc
 
 kind_some : (o : Option LineKind) (k : LineKind) → unwrap_or o kind.Text ≡ k → has_cells k ≡ true → o ≡ Some k

@@ -1,20 +1,19 @@
 -- A cell and its attributes, and the cells of a line, joined.
-use Rattle.std.proofs.Common.{◌≡◌, ◌<◌, ◌≤◌, ℕ, zero, suc, ◌+◌, ◌-◌, ◌==◌, Bool, true, false, Option, Some, None, List, [], ◌∷◌, ◌++◌, length, take, drop, map, get_or, refl, sym, ap, ◌∙◌, subst, cond, ◌⊎◌, inl, inr, arith, nat_lt, append_assoc}
-use Rattle.std.specs.Prelude.{◌&&◌, ◌||◌, not, slice_index, codes, if◌then◌else◌}
+use Rattle.std.proofs.Common.{◌≡◌, ◌<◌, ◌≤◌, ℕ, zero, suc, ◌+◌, ◌-◌, ◌==◌, Bool, true, false, Option, Some, None, List, [], ◌∷◌, ◌++◌, length, take, drop, map, get_or, refl, sym, ap, ◌∙◌, subst, inl, inr, arith, nat_lt, append_assoc}
+use Rattle.std.specs.Prelude.{◌&&◌, slice_index, codes, if◌then◌else◌}
 use Rattle.std.specs.List.{list_all, prefix_len, flat_map}
 use Rattle.std.proofs.lemmas.Bool.Decides.{nat_tests}
-use Rattle.std.proofs.lemmas.List.{length-map, length-drop, length-append, drop-map, drop_more, drop-drop, take-map, take-append-drop, map_push}
-use Rattle.std.proofs.lemmas.List.Sums.{prefix_len_passes, prefix_len-le-length}
+use Rattle.std.proofs.lemmas.List.{length-map, drop-map, drop_more, take-append-drop, map_push}
+use Rattle.std.proofs.lemmas.List.Sums.{prefix_len_passes}
 use Rattle.wt_span.specs.declared.form.Piece.{Piece}
 use Rattle.wt_span.specs.Bytes.{is_blank, begins}
 use Rattle.wt_span.specs.Items.{Item, sign, items}
-use Rattle.wt_lines.specs.Pieces.{line_items}
 use Rattle.wt_tables.specs.declared.cell.CellAt.{CellAt}
 use Rattle.wt_tables.specs.declared.scan.Splits.{Splits}
-use Rattle.wt_tables.specs.Cells.{signs, splits, splits_at, onto, parts, single_at, is_text, is_text_form, is_plain, bar_by, bar_at, past_bar, Cell, cell_of, opening_len, blanks_from, cells_in, cells_from, cells, begins_cell, from_sign, lead_len, split_by, header_by, sign_len, whole}
-use Rattle.wt_tables.specs.Views.{HasSign, IsLowCut, first_len}
+use Rattle.wt_tables.specs.Cells.{signs, splits_at, onto, parts, single_at, is_text, is_text_form, is_plain, bar_by, bar_at, past_bar, Cell, cell_of, opening_len, blanks_from, cells_in, cells, begins_cell, from_sign, lead_len, split_by, header_by, sign_len, whole}
+use Rattle.wt_tables.specs.Views.{HasSign, IsLowCut}
 use Rattle.wt_tables.specs.CellViews.{cell_view, whole_cell}
-use Rattle.wt_tables.proofs.CellSteps.{texts_cons, bar_there, get_drop, cells_left, cells_first, next_sign, and_left, and_right, or_true, sign_is}
+use Rattle.wt_tables.proofs.CellSteps.{texts_cons, bar_there, get_drop, and_left, and_right, or_true, sign_is}
 
 -- ---- texts
 
@@ -139,7 +138,7 @@ pub low_lead : (caption : Bool) (xs ys : List Item) (lead : ℕ) → ys ≡ xs �
 low_lead caption xs ys lead y e h some less =
     let z : lead_len xs + 0 ≡ lead = omega (arith, e) in
     let at : slice_index (signs (from_sign xs)) 0 ≡ slice_index (signs ys) lead =
-        ap (λ (ts : List ℕ). slice_index ts 0) (sym (drop-map sign (lead_len xs) xs)) ∙ get_drop (signs xs) (lead_len xs) 0 ∙ ap (slice_index (signs xs)) z ∙ ap (λ zs. slice_index (signs zs) lead) (sym y) in
+    ap (λ (ts : List ℕ). slice_index ts 0) (sym (drop-map sign (lead_len xs) xs)) ∙ get_drop (signs xs) (lead_len xs) 0 ∙ ap (slice_index (signs xs)) z ∙ ap (λ zs. slice_index (signs zs) lead) (sym y) in
     inr (subst (λ (b : ℕ). b < 128) at (lead_low caption xs h))
 
 -- ---- all cells, joined

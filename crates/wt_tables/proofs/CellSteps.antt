@@ -1,20 +1,18 @@
 -- The cells of a line, one after another.
-use Rattle.std.proofs.Common.{◌≡◌, ◌<◌, ◌≤◌, ℕ, zero, suc, ◌+◌, ◌-◌, ◌==◌, Bool, true, false, Option, Some, None, List, [], ◌∷◌, ◌++◌, length, take, drop, map, refl, sym, ap, ◌∙◌, subst, cond, ◌⊎◌, inl, inr, arith, nat_lt, append_assoc}
-use Rattle.std.specs.Prelude.{◌&&◌, ◌||◌, not, slice_index, codes, if◌then◌else◌}
-use Rattle.std.specs.List.{list_all, prefix_len}
-use Rattle.std.proofs.Math.Numerals.{one-add}
+use Rattle.std.proofs.Common.{◌≡◌, ◌<◌, ℕ, zero, suc, ◌+◌, ◌==◌, Bool, true, false, Option, List, [], ◌∷◌, ◌++◌, length, take, drop, map, refl, sym, ap, ◌∙◌, subst, ◌⊎◌, inl, inr, arith}
+use Rattle.std.specs.Prelude.{◌&&◌, ◌||◌, slice_index, if◌then◌else◌}
+use Rattle.std.specs.List.{list_all}
 use Rattle.std.proofs.lemmas.Bool.Decides.{nat_tests}
-use Rattle.std.proofs.lemmas.List.{length-map, length-drop, drop-map, drop-drop, take-append-drop}
-use Rattle.std.proofs.lemmas.List.Sums.{prefix_len_passes, prefix_len-le-length}
+use Rattle.std.proofs.lemmas.List.{length-map, drop-map}
 use Rattle.wt_span.specs.declared.form.Form.{Form}
 use Rattle.wt_span.specs.declared.form.Form.TheVariants as form
 use Rattle.wt_span.specs.declared.form.Piece.{Piece}
 use Rattle.wt_span.specs.Slice.{bytes_of}
-use Rattle.wt_span.specs.Bytes.{is_blank, begins}
+use Rattle.wt_span.specs.Bytes.{begins}
 use Rattle.wt_span.specs.Items.{Item, char, sign, items, items_of, items_by, call_of_origin}
 use Rattle.wt_tables.specs.declared.scan.Splits.{Splits}
 use Rattle.wt_tables.specs.declared.scan.Splits.TheVariants as split
-use Rattle.wt_tables.specs.Cells.{signs, splits, onto, parts, single_at, is_text_form, is_text, is_plain, bar_by, bar_at, past_bar, Cell, cell_of, opening_len, blanks_from, cells_in, begins_cell, from_sign, lead_len, split_by, header_by, sign_len}
+use Rattle.wt_tables.specs.Cells.{signs, splits, onto, parts, single_at, is_text_form, is_text, Cell, cell_of, cells_in}
 use Rattle.wt_tables.specs.Views.{first_len, HasSign, IsLowCut}
 use Rattle.wt_tables.proofs.Singles.{single_from, single_is}
 use Rattle.wt_tables.specs.Views.{begins_single}

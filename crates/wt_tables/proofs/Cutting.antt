@@ -1,6 +1,6 @@
 -- Items, cut after a number of them.
 use Rattle.std.proofs.Common.{◌≡◌, ◌<◌, ◌≤◌, ℕ, zero, suc, ◌+◌, ◌-◌, Option, List, [], ◌∷◌, ◌++◌, length, take, drop, map, refl, sym, ap, ◌∙◌, subst, ◌⊎◌, inl, inr, arith, append_assoc}
-use Rattle.std.specs.Prelude.{slice_index, All}
+use Rattle.std.specs.Prelude.{slice_index}
 use Rattle.std.specs.Str.{IsUtf8, IsCharBoundary}
 use Rattle.std.proofs.lemmas.List.{length-map, length-append, take-map, drop-map, take-append-drop, flat_map_more}
 use Rattle.std.proofs.lemmas.Str.{IsCharBoundary-after_ascii, IsCharBoundary-before_ascii}
@@ -105,9 +105,9 @@ cut_back p n bs s l e =
 
 pub low_border : (bs : List ℕ) (n : ℕ) → IsUtf8 bs → 0 < n → n < length bs → (slice_index bs (n - 1) < 128) ⊎ (slice_index bs n < 128) → IsCharBoundary bs n
 low_border bs n u s l h = elim h [
-    | inl a ↦ subst (IsCharBoundary bs) (omega arith) (IsCharBoundary-after_ascii bs (n - 1) u (omega arith) a)
-    | inr b ↦ IsCharBoundary-before_ascii bs n l b
-    ]
+  | inl a ↦ subst (IsCharBoundary bs) (omega arith) (IsCharBoundary-after_ascii bs (n - 1) u (omega arith) a)
+  | inr b ↦ IsCharBoundary-before_ascii bs n l b
+]
 
 -- ---- a piece and what is left
 

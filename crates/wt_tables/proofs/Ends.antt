@@ -1,15 +1,14 @@
 -- How far tables go, by depth and from the back.
-use Rattle.std.proofs.Common.{◌≡◌, ◌<◌, ◌≤◌, ℕ, zero, suc, ◌+◌, ◌-◌, ◌==◌, Bool, true, false, Option, Some, None, List, [], ◌∷◌, length, take, drop, map, refl, sym, ap, ◌∙◌, subst, cond, ◌⊎◌, inl, inr, arith}
+use Rattle.std.proofs.Common.{◌≡◌, ◌≤◌, ℕ, zero, suc, ◌+◌, ◌-◌, ◌==◌, Bool, true, false, Option, Some, List, [], ◌∷◌, length, take, drop, map, refl, sym, ap, ◌∙◌, cond, arith}
 use Rattle.std.specs.Prelude.{not, min, slice_get}
 use Rattle.std.specs.List.{count_by, position_or_len, range_with_len}
-use Rattle.std.proofs.Math.Numerals.{one-add}
 use Rattle.std.proofs.lemmas.Bool.Decides.{nat_tests}
 use Rattle.std.proofs.lemmas.List.{drop-drop}
 use Rattle.std.proofs.lemmas.List.Sums.{sum_by-cons}
 use Rattle.wt_lines.specs.declared.kind.LineKind.{LineKind}
 use Rattle.wt_lines.specs.declared.kind.LineKind.TheVariants as kind
-use Rattle.wt_tables.specs.Extents.{is_open, is_end, closes, inner_len, table_end, end_by, ends, OpensAt}
-use Rattle.wt_tables.specs.Views.{ending, end_at, end_of, closers, ends_from}
+use Rattle.wt_tables.specs.Extents.{is_open, is_end, closes, inner_len, table_end, end_by, ends}
+use Rattle.wt_tables.specs.Views.{end_at, end_of, closers, ends_from}
 
 -- ---- by depth
 
@@ -219,7 +218,7 @@ rows_are a [] = refl
 rows_are a (k ∷ ks) =
     let len : a + 1 + length ks ≡ a + suc (length ks) = omega arith in
     let more = map_shift (row a (k ∷ ks)) 0 (length ks) ∙ map_same _ (row (a + 1) ks) (range_with_len 0 (length ks)) (next_row a k ks) ∙ rows_are (a + 1) ks
-        ∙ ap (λ (n : ℕ). ends_from (a + 1) n ks) len in
+    ∙ ap (λ (n : ℕ). ends_from (a + 1) n ks) len in
     ap (λ (o : Option ℕ). o ∷ map (row a (k ∷ ks)) (range_with_len 1 (length ks))) (first_row a k ks) ∙ ap (λ os. end_of k (closers (a + 1) ks) (a + suc (length ks)) ∷ os) more
 
 zero_row : (ks : List LineKind) (i : ℕ) → end_by (slice_get ks i) (table_end ks i) ≡ row 0 ks i

@@ -8,7 +8,7 @@ use Rattle.wt_span.specs.Runs.{runs}
 use Rattle.wt_span.proofs.RunLaws.{runs_joined}
 use Rattle.wt_lines.specs.declared.kind.LineKind.{LineKind}
 use Rattle.wt_tables.specs.Extents.{inner_len}
-use Rattle.wt_tables.specs.Parts.{joined, taken_len, put_first, units_from, units, groups, group_kind, begins_group, stray_len, with_stray, past_stray, RowOf, row_by, row_of, is_row, rows_of, TableOf, table_by, table_of, plain_len, captions_len, row_lines, table_lines}
+use Rattle.wt_tables.specs.Parts.{joined, taken_len, put_first, units_from, units, groups, group_kind, begins_group, stray_len, with_stray, past_stray, row_by, row_of, is_row, rows_of, table_by, table_of, plain_len, captions_len, row_lines, table_lines}
 
 put_joined : {A : Type 0} (l : A) (us : List (List A)) → joined (put_first l us) ≡ l ∷ joined us
 put_joined l [] = refl

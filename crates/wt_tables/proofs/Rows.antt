@@ -1,17 +1,16 @@
 -- Worked cases of the definitions, each by computing.
-use Rattle.std.proofs.Common.{◌≡◌, ℕ, Bool, true, false, Option, None, Some, List, [], ◌∷◌, ◌++◌, map, refl}
+use Rattle.std.proofs.Common.{◌≡◌, ℕ, Bool, true, false, None, Some, List, [], ◌∷◌, ◌++◌, map, refl}
 use Rattle.std.specs.Prelude.{codes, replicate}
-use Rattle.std.specs.List.{flat_map}
 use Rattle.wt_span.specs.declared.form.Form.TheVariants as form
-use Rattle.wt_span.specs.Items.{Item, char, whole, sources}
+use Rattle.wt_span.specs.Items.{Item, char, whole}
 use Rattle.wt_tree.specs.declared.kind.AttrName.TheVariants as attr
 use Rattle.wt_lines.specs.declared.kind.LineKind.{LineKind}
 use Rattle.wt_lines.specs.declared.kind.LineKind.TheVariants as kind
 use Rattle.wt_lines.specs.Kinds.{kind_of_signs}
 use Rattle.wt_attributes.specs.Attributes.{Named, begins_any_case, name_at, quoted, bare, value_at, past_blanks, assigned, attribute_at, attributes}
-use Rattle.wt_tables.specs.Extents.{kinds, inner_len, table_end, ends}
+use Rattle.wt_tables.specs.Extents.{kinds, inner_len, ends}
 use Rattle.wt_tables.specs.Cells.{Cell, single_at, bar_at, cell_of, cells, table_attributes, row_attributes}
-use Rattle.wt_tables.specs.Parts.{RowOf, TableOf, table_of}
+use Rattle.wt_tables.specs.Parts.{RowOf, table_of}
 
 abbrev text : List ℕ → List Item
 text bs = map (char None) bs
@@ -147,11 +146,11 @@ implied_row = refl
 -- stray lines, a nested table among them, belong to the delimiter, blank ones behind them don't; a later caption is a cell
 stray : table_of kind_at (0, kind.TableOpen)
     ((1, kind.Blank) ∷ (2, kind.TableOpen) ∷ (3, kind.Cell) ∷ (4, kind.TableEnd) ∷ (5, kind.Blank) ∷ (6, kind.Caption) ∷ (7, kind.Text) ∷ (8, kind.Caption) ∷ (9, kind.Row) ∷ (10, kind.Text) ∷ (11, kind.Blank) ∷ (12, kind.Caption) ∷ (13, kind.Cell) ∷ (14, kind.Text) ∷ []) ≡ record {
-  opening = (0, kind.TableOpen) ∷ (1, kind.Blank) ∷ (2, kind.TableOpen) ∷ (3, kind.Cell) ∷ (4, kind.TableEnd) ∷ [];
-  between = (5, kind.Blank) ∷ [];
-  captions = ((6, kind.Caption) ∷ (7, kind.Text) ∷ []) ∷ ((8, kind.Caption) ∷ []) ∷ [];
-  rows = row ((9, kind.Row) ∷ (10, kind.Text) ∷ []) ((11, kind.Blank) ∷ []) (((12, kind.Caption) ∷ []) ∷ ((13, kind.Cell) ∷ (14, kind.Text) ∷ []) ∷ []) ∷ [];
-}
+      opening = (0, kind.TableOpen) ∷ (1, kind.Blank) ∷ (2, kind.TableOpen) ∷ (3, kind.Cell) ∷ (4, kind.TableEnd) ∷ [];
+      between = (5, kind.Blank) ∷ [];
+      captions = ((6, kind.Caption) ∷ (7, kind.Text) ∷ []) ∷ ((8, kind.Caption) ∷ []) ∷ [];
+      rows = row ((9, kind.Row) ∷ (10, kind.Text) ∷ []) ((11, kind.Blank) ∷ []) (((12, kind.Caption) ∷ []) ∷ ((13, kind.Cell) ∷ (14, kind.Text) ∷ []) ∷ []) ∷ [];
+    }
 unfolding inner_len
 stray = refl
 

@@ -1,6 +1,6 @@
 -- Steps of the scans over signs.
-use Rattle.std.proofs.Common.{◌≡◌, ◌<◌, ◌≤◌, ℕ, zero, suc, ◌+◌, ◌==◌, Bool, true, false, Option, List, [], ◌∷◌, ◌++◌, length, drop, map, get_or, refl, sym, ap, ◌∙◌, subst, cond, arith}
-use Rattle.std.specs.Prelude.{◌||◌, codes, if◌then◌else◌, slice_get}
+use Rattle.std.proofs.Common.{◌≡◌, ◌<◌, ◌≤◌, ℕ, zero, suc, ◌+◌, ◌==◌, Bool, true, false, Option, List, [], ◌∷◌, length, drop, map, get_or, refl, sym, ap, ◌∙◌, arith}
+use Rattle.std.specs.Prelude.{◌||◌, codes, if◌then◌else◌}
 use Rattle.std.proofs.lemmas.List.{drop_more, drop_all}
 use Rattle.wt_span.specs.declared.form.Form.{Form}
 use Rattle.wt_span.specs.declared.form.Form.TheVariants as form
@@ -53,7 +53,7 @@ single_goes bar next i s ss l is f e h =
     let here = drop_more ss i 0 l in
     let g : (get_or ss i 0 == 124) ≡ next = ap (λ (b : ℕ). b == 124) (sym is) ∙ sym f in
     let t : single_from bar (drop i ss) ≡ suc (single_from next (drop (i + 1) ss)) =
-        ap (single_from bar) here ∙ goes_by _ _ (ap (begins_single bar) (sym here) ∙ e) ∙ ap (λ (b : Bool). suc (single_from b (drop (i + 1) ss))) g in
+    ap (single_from bar) here ∙ goes_by _ _ (ap (begins_single bar) (sym here) ∙ e) ∙ ap (λ (b : Bool). suc (single_from b (drop (i + 1) ss))) g in
     omega (arith, t, h)
 
 pub single_all : (bar : Bool) (i : ℕ) (ss : List ℕ) → length ss ≤ i → i ≤ length ss → i + single_from bar (drop i ss) ≡ single_from false ss → length ss ≡ single_at ss

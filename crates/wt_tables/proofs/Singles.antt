@@ -1,10 +1,8 @@
 -- The first single bar of a line.
-use Rattle.std.proofs.Common.{◌≡◌, ◌<◌, ◌≤◌, ℕ, zero, suc, ◌+◌, ◌-◌, ◌==◌, Bool, true, false, List, [], ◌∷◌, length, drop, refl, sym, ap, ◌∙◌, cond, arith, nat_lt}
-use Rattle.std.specs.Prelude.{not, ◌&&◌, slice_index, codes, if◌then◌else◌}
+use Rattle.std.proofs.Common.{◌≡◌, ℕ, zero, suc, ◌+◌, ◌-◌, ◌==◌, Bool, true, false, List, [], ◌∷◌, length, refl, ap, ◌∙◌, cond, arith, nat_lt}
+use Rattle.std.specs.Prelude.{not, ◌&&◌, slice_index, if◌then◌else◌}
 use Rattle.std.specs.List.{position_or_len, range_with_len}
-use Rattle.std.proofs.Math.Numerals.{one-add}
 use Rattle.std.proofs.lemmas.Bool.Decides.{nat_tests}
-use Rattle.wt_span.specs.Bytes.{begins}
 use Rattle.wt_tables.specs.Cells.{is_single, single_at}
 use Rattle.wt_tables.specs.Views.{begins_single}
 use Rattle.wt_tables.proofs.Ends.{shifted, same_test}
@@ -67,7 +65,7 @@ pub from_is : (bar : Bool) (ss : List ℕ) → position_or_len (single_by bar ss
 from_is bar [] = refl
 from_is bar (s ∷ ss) =
     let more : position_or_len (single_by bar (s ∷ ss)) (range_with_len (0 + 1) (length ss)) ≡ single_from (s == 124) ss =
-        shifted (single_by bar (s ∷ ss)) (single_by (s == 124) ss) 0 (length ss) (next_single bar s ss) ∙ from_is (s == 124) ss in
+    shifted (single_by bar (s ∷ ss)) (single_by (s == 124) ss) 0 (length ss) (next_single bar s ss) ∙ from_is (s == 124) ss in
     from_by (single_by bar (s ∷ ss) 0) (begins_single bar (s ∷ ss)) _ _ (front_single bar s ss) more
 
 pos_test : (k : ℕ) → nat_lt 0 (suc k) ≡ true

@@ -1,6 +1,6 @@
 -- The parts of a table, by its lines: open delimiter, captions, rows and their cells. Lines are of any type that tells their
 -- kinds; those of a table are its opening line and the lines inside it, without the one that ends it.
-use Rattle.std.specs.Prelude.{ℕ, zero, suc, ◌-◌, not, Bool, true, false, List, [], ◌∷◌, ◌++◌, length, map, take, drop, reverse, if◌then◌else◌}
+use Rattle.std.specs.Prelude.{ℕ, zero, suc, ◌-◌, not, Bool, true, false, List, [], ◌∷◌, ◌++◌, length, map, take, drop, reverse}
 use Rattle.std.specs.List.{flat_map, prefix_len}
 use Rattle.wt_span.specs.Runs.{runs}
 use Rattle.wt_lines.specs.declared.kind.LineKind.{LineKind}

@@ -64,7 +64,12 @@ fn is_plain(pieces: &[Piece<'_>], signs: &[u16]) -> bool
 }
 
 /// The `len` items behind a sign of `n` items.
-fn behind_sign<'a>(alloc: Global, n: usize, len: usize, part: &[Piece<'a>]) -> Result<List<Piece<'a>>, NoMemory>
+fn behind_sign<'a>(
+    alloc: Global,
+    n: usize,
+    len: usize,
+    part: &[Piece<'a>],
+) -> Result<List<Piece<'a>>, NoMemory>
     requires sound { All IsSoundPiece part.now }
     requires sign { IsLowCut n (items part.now) }
     requires low { IsLowCut len (drop n (items part.now)) }
@@ -77,7 +82,12 @@ fn behind_sign<'a>(alloc: Global, n: usize, len: usize, part: &[Piece<'a>]) -> R
 
 /// How many items stand up to and with the `|` that ends the attributes of a cell, whose sign has
 /// `n` items; the sign alone where it has no attributes. And the attributes.
-fn read_attrs(alloc: Global, n: usize, part: &[Piece<'_>], signs: &[u16]) -> Result<(usize, List<Attr>), NoMemory>
+fn read_attrs(
+    alloc: Global,
+    n: usize,
+    part: &[Piece<'_>],
+    signs: &[u16],
+) -> Result<(usize, List<Attr>), NoMemory>
     requires sound { All IsSoundPiece part.now }
     requires signs_are { signs.now ≡ map sign (items part.now) }
     requires sign { HasSign n signs.now }
@@ -147,7 +157,13 @@ fn read_cells<'a>(
         let rest = rest_of(signs, at);
         let len = by.first_len(sign_len, rest);
         let (part, after) = left.take(alloc, len)?;
-        let cell = read_cell(alloc, header, sign_len, part.as_slice(), front_of(rest, len))?;
+        let cell = read_cell(
+            alloc,
+            header,
+            sign_len,
+            part.as_slice(),
+            front_of(rest, len),
+        )?;
         cells.push(cell)?;
         left = after;
         at += len;

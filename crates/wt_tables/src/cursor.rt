@@ -128,7 +128,11 @@ impl<'p, 'a> Cursor<'p, 'a> {
     }
 
     /// The first `n` items, or all where there are fewer, and what is left after them.
-    pub fn take(self, alloc: Global, n: usize) -> Result<(List<Piece<'a>>, Cursor<'p, 'a>), NoMemory>
+    pub fn take(
+        self,
+        alloc: Global,
+        n: usize,
+    ) -> Result<(List<Piece<'a>>, Cursor<'p, 'a>), NoMemory>
         requires sound { AreSound self }
         requires low { IsLowCut n (waiting self) }
         ensures front { IfOk result (λ r. items r.0 ≡ take n (waiting self.entry)) }

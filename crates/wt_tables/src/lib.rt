@@ -10,6 +10,8 @@ mod cursor;
 mod laws;
 mod scan;
 mod table;
+#[cfg(test)]
+mod tests;
 
 pub use cell::{CellAt, cells};
 pub use laws::{

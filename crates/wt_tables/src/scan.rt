@@ -13,9 +13,13 @@ use std::alloc::Global;
 use wt_span::{Form, List, NoMemory, Piece, rest_of};
 
 const ATOM: u16 = 256;
+
 const MARK: u16 = 257;
+
 const BAR: u16 = b'|' as u16;
+
 const BANG: u16 = b'!' as u16;
+
 const BRACKET: u16 = b'[' as u16;
 
 /// What splits a line into cells.

@@ -33,7 +33,11 @@ fn behind(tables: u32, kind: LineKind) -> u32
 /// The kinds of lines that follow one another, at the first of which `tables` tables are open. A
 /// table is open at the lines behind the one that opens it, up to and with the one that ends it.
 /// Where 16 tables are open, a line with `{|` opens none and isn't counted.
-pub fn line_kinds(alloc: Global, lines: &[Line<'_>], tables: u32) -> Result<List<LineKind>, NoMemory>
+pub fn line_kinds(
+    alloc: Global,
+    lines: &[Line<'_>],
+    tables: u32,
+) -> Result<List<LineKind>, NoMemory>
     requires { tables ≤ 16 }
     ensures { IfOk result (λ ks. ks ≡ kinds tables (map line_items lines.now)) }
 {

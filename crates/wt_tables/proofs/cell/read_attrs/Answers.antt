@@ -1,9 +1,9 @@
-use Rattle.std.proofs.Common.{◌≡◌, ◌+◌, ◌-◌, ◌<◌, ◌≤◌, sym, ap, ◌∙◌, subst, arith, length, drop, take, map}
+use Rattle.std.proofs.Common.{◌≡◌, ◌+◌, ◌-◌, ◌<◌, ◌≤◌, sym, ap, ◌∙◌, arith, length, drop, take, map}
 use Rattle.std.proofs.lemmas.List.{length-map, length-drop, take-map}
 use Rattle.wt_span.specs.Items.{sign, items}
 use Rattle.wt_tree.specs.View.{attrs_of}
 use Rattle.wt_attributes.specs.Attributes.{attributes}
-use Rattle.wt_tables.specs.Cells.{signs, single_at, is_plain, bar_at, past_bar, attributes_by}
+use Rattle.wt_tables.specs.Cells.{single_at, is_plain, past_bar, attributes_by}
 use Rattle.wt_tables.proofs.CellSteps.{low_bar}
 use Rattle.wt_tables.proofs.CellReads.{no_bar, rough_bar, some_bar, body_is}
 use Rattle.wt_tables.proofs.cell.read_attrs.Goals as goal

@@ -1,4 +1,3 @@
-use Rattle.std.proofs.Common.{ap, ◌∙◌}
 use Rattle.wt_span.specs.Items.{items}
 use Rattle.wt_tables.proofs.CellReads.{low_opening}
 use Rattle.wt_tables.specs.Views.{waiting}

@@ -1,4 +1,3 @@
-use Rattle.std.proofs.Common.{arith}
 use Rattle.wt_tables.proofs.Steps.{kinds_more, few_behind, ends_here, stays_inside, inner_ends, inner_goes, inner_all}
 use Rattle.wt_tables.proofs.table.inner_len.Goals as goal
 

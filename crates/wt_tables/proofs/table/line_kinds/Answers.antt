@@ -1,4 +1,3 @@
-use Rattle.wt_tables.specs.Extents.{kinds}
 use Rattle.wt_tables.proofs.Steps.{kinds_more, few_behind, pushed}
 use Rattle.wt_tables.proofs.table.line_kinds.Goals as goal
 

@@ -1,7 +1,4 @@
-use Rattle.std.proofs.Common.{◌≡◌, ◌++◌, take, drop}
-use Rattle.std.specs.List.{All}
-use Rattle.wt_span.specs.Items.{items}
-use Rattle.wt_span.specs.Origins.{IsSoundPiece}
+use Rattle.std.proofs.Common.{◌≡◌, drop}
 use Rattle.wt_tables.specs.Views.{waiting, AreSound, IsLowCut}
 use Rattle.wt_tables.proofs.cursor.Cursor.skip.Given as goal
 
