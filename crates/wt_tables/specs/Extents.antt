@@ -1,0 +1,91 @@
+-- How far tables go, by counts over the kinds of lines.
+use Rattle.std.specs.Prelude.{◌≡◌, ◌<◌, ℕ, zero, suc, ◌+◌, ◌-◌, ◌==◌, Bool, true, false, Option, Some, None, List, [], ◌∷◌, length, take, drop, min, slice_get, if◌then◌else◌}
+use Rattle.std.specs.List.{count_by, position_or_len, range_with_len}
+use Rattle.wt_span.specs.Items.{Item}
+use Rattle.wt_lines.specs.declared.kind.LineKind.{LineKind}
+use Rattle.wt_lines.specs.declared.kind.LineKind.TheVariants as kind
+use Rattle.wt_lines.specs.Kinds.{line_kind}
+
+-- ---- the kinds of lines
+
+-- how many tables are open behind a line of this kind, at which so many are
+abbrev pub behind : ℕ → LineKind → ℕ
+behind n kind.Blank = n
+behind n kind.TableOpen = suc n
+behind n kind.TableEnd = n - 1
+behind n kind.Caption = n
+behind n kind.Row = n
+behind n kind.Cell = n
+behind n kind.Header = n
+behind n kind.Heading = n
+behind n kind.Rule = n
+behind n kind.List = n
+behind n kind.Pre = n
+behind n kind.Text = n
+
+-- Kinds are given from the first line on, at which `n` tables are open. A table is open at the lines after the one that opens
+-- it, up to and with the one that ends it.
+abbrev pub kinds : ℕ → List (List Item) → List LineKind
+kinds n [] = []
+kinds n (l ∷ ls) = line_kind n l ∷ kinds (behind n (line_kind n l)) ls
+
+-- ---- extents
+
+abbrev pub is_open : LineKind → Bool
+is_open kind.Blank = false
+is_open kind.TableOpen = true
+is_open kind.TableEnd = false
+is_open kind.Caption = false
+is_open kind.Row = false
+is_open kind.Cell = false
+is_open kind.Header = false
+is_open kind.Heading = false
+is_open kind.Rule = false
+is_open kind.List = false
+is_open kind.Pre = false
+is_open kind.Text = false
+
+abbrev pub is_end : LineKind → Bool
+is_end kind.Blank = false
+is_end kind.TableOpen = false
+is_end kind.TableEnd = true
+is_end kind.Caption = false
+is_end kind.Row = false
+is_end kind.Cell = false
+is_end kind.Header = false
+is_end kind.Heading = false
+is_end kind.Rule = false
+is_end kind.List = false
+is_end kind.Pre = false
+is_end kind.Text = false
+
+-- Of the kinds of the lines behind an opening one: up to and with line `k`, lines that end a table are one more than lines
+-- that open one.
+abbrev pub closes : List LineKind → ℕ → Bool
+closes ks k = count_by is_end (take (suc k) ks) == suc (count_by is_open (take (suc k) ks))
+
+-- how many of them belong to the table: up to and with the first that closes it, or all
+unfoldable pub inner_len : List LineKind → ℕ
+inner_len ks = min (suc (position_or_len (closes ks) (range_with_len 0 (length ks)))) (length ks)
+
+-- the place behind the last line of the table that line `at` opens
+abbrev pub table_end : List LineKind → ℕ → ℕ
+table_end ks at = suc at + inner_len (drop (suc at) ks)
+
+abbrev pub end_by : Option LineKind → ℕ → Option ℕ
+end_by None end = None
+end_by (Some k) end = if is_open k then Some end else None
+
+-- for each line the place behind its table's last line, if it opens one
+abbrev pub ends : List LineKind → List (Option ℕ)
+ends ks = Rattle.std.specs.Prelude.map (λ at. end_by (slice_get ks at) (table_end ks at)) (range_with_len 0 (length ks))
+
+-- ---- laws
+
+abbrev pub OpensAt : List LineKind → ℕ → Type 0
+OpensAt ks at = slice_get ks at ≡ Some kind.TableOpen
+
+-- the kind of a line, by how many lines before it open and end tables
+abbrev pub KindByCounts : ℕ → List (List Item) → ℕ → Type 0
+KindByCounts n ls k = (l : List Item) → slice_get ls k ≡ Some l
+    → slice_get (kinds n ls) k ≡ Some (line_kind ((n + count_by is_open (take k (kinds n ls))) - count_by is_end (take k (kinds n ls))) l)
