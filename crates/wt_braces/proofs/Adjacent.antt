@@ -1,5 +1,5 @@
 -- Lexemes of a text follow one another.
-use Rattle.std.proofs.Common.{◌≡◌, ℕ, List, [], ◌∷◌, refl}
+use Rattle.std.proofs.Common.{ℕ, List, [], ◌∷◌, refl}
 use Rattle.wt_lex.specs.declared.lexeme.Lexeme.{Lexeme}
 use Rattle.wt_lex.specs.Places.{Follow}
 use Rattle.wt_braces.specs.Found.{FollowFrom, AreAdjacent}

@@ -10,7 +10,7 @@ use Rattle.wt_braces.specs.Leading.{Leads}
 use Rattle.wt_braces.proofs.Shapes.{NoRun, Behind, nearest}
 use Rattle.wt_braces.proofs.Takings.{taking, rewritten_at, stuck_free, stuck_few, Taken, takes, nothing, behind, read_behind}
 
-stuck_again : (f : ℕ) (x : ℕ × List Member) → rewritten x ≡ x → again f rewritten x ≡ x
+pub stuck_again : (f : ℕ) (x : ℕ × List Member) → rewritten x ≡ x → again f rewritten x ≡ x
 stuck_again zero x e = refl
 stuck_again (suc f) x e = ap (again f rewritten) e ∙ stuck_again f x e
 
@@ -48,7 +48,7 @@ fuel_by (suc bound) (suc f) (suc c) before le ge (inr l) =
     ap (again f rewritten) l.is ∙ fuel_by bound f l.left l.after (omega arith) (omega arith) (lowered l.left l.after)
     ∙ sym (fuel_by bound c l.left l.after (omega arith) (omega arith) (lowered l.left l.after)) ∙ sym (ap (again c rewritten) l.is)
 
-fuel : (f c : ℕ) (before : List Member) → c ≤ f → again f rewritten (c, before) ≡ again c rewritten (c, before)
+pub fuel : (f c : ℕ) (before : List Member) → c ≤ f → again f rewritten (c, before) ≡ again c rewritten (c, before)
 fuel f c before le = fuel_by f f c before (omega arith) le (lowered c before)
 
 -- one taking more

@@ -4,8 +4,10 @@ pub mod Depths
 pub mod Ends
 pub mod Levels
 pub mod MemberParts
+pub mod OneEnd
 pub mod Orders
 pub mod PartSteps
+pub mod Reached
 pub mod Settled
 pub mod Shapes
 pub mod Sizes

@@ -1,9 +1,9 @@
 -- The widths of the members of parts are the parts' places.
-use Rattle.std.proofs.Common.{◌≡◌, ℕ, zero, suc, ◌+◌, ◌-◌, ◌<◌, ◌≤◌, Bool, true, false, Option, Some, None, List, [], ◌∷◌, ◌++◌, refl, sym, ap, ◌∙◌, subst, arith}
+use Rattle.std.proofs.Common.{◌≡◌, ℕ, ◌+◌, Bool, true, false, Option, Some, None, List, [], ◌∷◌, ◌++◌, refl, sym, ap, ◌∙◌, subst, arith}
 use Rattle.std.specs.Prelude.{if◌then◌else◌}
 use Rattle.wt_span.specs.declared.form.LexKind.TheVariants.{Chars, CommentLine, Comment, Raw, Include, Hidden, Entity, Opens, Closes, LinkOpen, LinkClose, Pipe, Equals}
 use Rattle.wt_span.specs.Braces.{Member, Members, lexeme, call, none, more, members, listed, width, width_of_all, Sign, pipe, equals, sign_of, signs, in_link, PartAt, with_name, parts_between, parts_of}
-use Rattle.wt_braces.specs.PartMembers.{PartMembers, put_first, with_member, joined, with_equals, with_sign_of, later_after, split_members, part_members, width_of, name_width, name_end, placed}
+use Rattle.wt_braces.specs.PartMembers.{PartMembers, put_first, with_member, joined, with_equals, with_sign_of, later_after, split_members, part_members, width_of, name_width, placed}
 
 -- a member is no sign, a `|` or a `=`
 pub data SignView (at n : ℕ) (ss : List Sign) : Type 0 where

@@ -1,10 +1,10 @@
 -- Laws of the reduced text: its width, and how deep calls lie in it.
-use Rattle.std.proofs.Common.{◌≡◌, ℕ, zero, suc, ◌+◌, ◌-◌, ◌<◌, ◌≤◌, Bool, true, false, None, List, [], ◌∷◌, ◌++◌, map, reverse, refl, sym, ap, ◌∙◌, subst, inl, inr, arith}
+use Rattle.std.proofs.Common.{◌≡◌, ℕ, zero, suc, ◌+◌, Bool, true, false, None, List, [], ◌∷◌, ◌++◌, map, reverse, refl, sym, ap, ◌∙◌, inl, inr, arith}
 use Rattle.std.specs.Prelude.{◌⊎◌, ◌==◌, if◌then◌else◌}
 use Rattle.std.proofs.lemmas.Bool.Decides.{nat_tests}
 use Rattle.wt_span.specs.declared.form.LexKind.TheVariants.{Chars, CommentLine, Comment, Raw, Include, Hidden, Entity, Opens, Closes, LinkOpen, LinkClose, Pipe, Equals}
 use Rattle.wt_span.specs.Lexemes.{Word}
-use Rattle.wt_span.specs.Braces.{Member, lexeme, call, members, width_of_all, rewritten, again, taken, left_over, closed_by, with_word, reduced_onto, reduced, CallAt, calls, calls_of_all, nesting}
+use Rattle.wt_span.specs.Braces.{Member, lexeme, members, width_of_all, rewritten, again, taken, left_over, with_word, reduced_onto, reduced, calls, calls_of_all, nesting}
 use Rattle.wt_braces.specs.Matched.{end_of}
 use Rattle.wt_braces.specs.Depth.{depths_of_all}
 use Rattle.wt_braces.specs.Words.{total_width}

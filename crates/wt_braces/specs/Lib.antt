@@ -7,5 +7,6 @@ pub mod Nested
 pub mod PartMembers
 pub mod PartRows
 pub mod Reading
+pub mod Rewriting
 pub mod Views
 pub mod Words

@@ -1,12 +1,25 @@
 ghost use Rattle.std.specs.Prelude.{◌≡◌, ℕ, List, map};
-ghost use Rattle.wt_span.specs.Lexemes.{Word};
+ghost use Rattle.wt_span.specs.declared.form.Mode.{Mode as TextMode};
+ghost use Rattle.wt_span.specs.Lexemes.{Word, words};
 ghost use Rattle.wt_span.specs.Braces.{Members, members, parts_of, reduced, width_of_all, calls, nesting};
 ghost use Rattle.wt_lex.specs.declared.lexeme.Lexeme.{Lexeme as LexemeAt};
 ghost use Rattle.wt_lex.specs.Places.{Follow};
 ghost use Rattle.wt_braces.specs.Depth.{depths_of_all};
 ghost use Rattle.wt_braces.specs.Found.{AreAdjacent};
 ghost use Rattle.wt_braces.specs.PartMembers.{part_members, placed};
+ghost use Rattle.wt_braces.specs.Rewriting.{as_members, HaveBraces, IsOnlyEnd};
 ghost use Rattle.wt_braces.specs.Words.{total_width};
+
+/// The reduced text is reached by single rewritings of the leftmost closing run that has a partner,
+/// with the nearest one, no further rewriting is possible there, and no other end is reached.
+pub fn one_end()
+    ensures { (ws : List Word) → HaveBraces ws → IsOnlyEnd (as_members ws) (reduced ws) }
+{}
+
+/// The lexemes of a text are such that `one_end` speaks of them.
+pub fn lexemes_have_braces()
+    ensures { (mode : TextMode) (bs : List ℕ) → HaveBraces (words mode bs) }
+{}
 
 /// How many calls and arguments contain one, by their places, is how many lie round it in the
 /// reduced text.
