@@ -1,7 +1,6 @@
 pub mod AnswerLaws
 mod Cases
 pub mod GivenBackLaws
-pub mod NumberLaws
 pub mod PageLaws
 pub mod RefusalLines
 pub mod RunLaws
