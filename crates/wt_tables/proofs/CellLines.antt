@@ -46,8 +46,8 @@ told_first : (p : LineKind → Bool) (rows : List (Bool × LineKind)) (k : LineK
 told_first p [] k e h = absurd cc
 told_first p ((b, j) ∷ rows) k e h = told_by p b j rows k e h (λ f. told_first p rows k f h)
 
-abbrev rows_of : Bool → Bool → Bool → List ℕ → List ℕ → List ℕ → List (Bool × LineKind)
-rows_of t blank opening s f b = (blank, kind.Blank) ∷ (opening, kind.TableOpen) ∷ ((if t then table_rows s else []) ++ text_rows f b)
+abbrev rows_of : Bool → Bool → Bool → Bool → List ℕ → List ℕ → List ℕ → List (Bool × LineKind)
+rows_of t blank opening few s f b = (blank, kind.Blank) ∷ (opening, if few then kind.TableOpen else kind.Text) ∷ ((if t then table_rows s else []) ++ text_rows f b)
 
 or_none : (b : Bool) → (b || false) ≡ true → b ≡ true
 or_none true e = refl
@@ -57,15 +57,23 @@ bar_of : (s : List ℕ) → begins (codes "|+") s ≡ true → begins (codes "|"
 bar_of [] e = absurd cc
 bar_of (a ∷ s) e = ap (λ (t : Bool). t && true) (and_left (124 == a) _ e)
 
-cell_by : (t blank opening : Bool) (s f b : List ℕ) → told has_cells (rows_of t blank opening s f b) ≡ true → (begins (codes "|") s || begins (codes "!") s) ≡ true
-cell_by true blank opening s f b e = elim (or_true (begins (codes "|+") s) _ e) [
+cell_by : (t blank opening few : Bool) (s f b : List ℕ) → told has_cells (rows_of t blank opening few s f b) ≡ true → (begins (codes "|") s || begins (codes "!") s) ≡ true
+cell_by true blank opening true s f b e = elim (or_true (begins (codes "|+") s) _ e) [
   | inl a ↦ ap (λ (t : Bool). t || begins (codes "!") s) (bar_of s a)
   | inr h ↦ elim (or_true (begins (codes "|") s) _ h) [
     | inl a ↦ ap (λ (t : Bool). t || begins (codes "!") s) a
     | inr k ↦ last_true (begins (codes "|") s) _ (or_none (begins (codes "!") s) k)
   ]
 ]
-cell_by false blank opening s f b e = absurd cc
+cell_by true blank opening false s f b e = elim (or_true (begins (codes "|+") s) _ e) [
+  | inl a ↦ ap (λ (t : Bool). t || begins (codes "!") s) (bar_of s a)
+  | inr h ↦ elim (or_true (begins (codes "|") s) _ h) [
+    | inl a ↦ ap (λ (t : Bool). t || begins (codes "!") s) a
+    | inr k ↦ last_true (begins (codes "|") s) _ (or_none (begins (codes "!") s) k)
+  ]
+]
+cell_by false blank opening true s f b e = absurd cc
+cell_by false blank opening false s f b e = absurd cc
 
 kind_some : (o : Option LineKind) (k : LineKind) → unwrap_or o kind.Text ≡ k → has_cells k ≡ true → o ≡ Some k
 kind_some None k e h = let t : has_cells kind.Text ≡ true = ap has_cells e ∙ h in absurd cc
@@ -77,9 +85,9 @@ cell_lines n xs h =
     let s = past is_idle (map sign xs) in
     let f = past is_mark_sign (map sign xs) in
     let b = past is_idle (reverse (map sign xs)) in
-    let rows = rows_of (nat_lt 0 n) (length s == 0) (nat_lt n 16 && begins (codes "{|") s) s f b in
+    let rows = rows_of (nat_lt 0 n) (length s == 0) (begins (codes "{|") s) (nat_lt n 16) s f b in
     let e = kind_some (first_of rows) (line_kind n xs) refl h in
-    let t = cell_by (nat_lt 0 n) (length s == 0) (nat_lt n 16 && begins (codes "{|") s) s f b (told_first has_cells rows (line_kind n xs) e h) in
+    let t = cell_by (nat_lt 0 n) (length s == 0) (begins (codes "{|") s) (nat_lt n 16) s f b (told_first has_cells rows (line_kind n xs) e h) in
     subst (λ (ss : List ℕ). (begins (codes "|") ss || begins (codes "!") ss) ≡ true) (from_sign_is xs) t
 
 abbrev is_caption : LineKind → Bool
@@ -96,9 +104,11 @@ is_caption kind.List = false
 is_caption kind.Pre = false
 is_caption kind.Text = false
 
-caption_by : (t blank opening : Bool) (s f b : List ℕ) → told is_caption (rows_of t blank opening s f b) ≡ true → begins (codes "|+") s ≡ true
-caption_by true blank opening s f b e = or_none _ e
-caption_by false blank opening s f b e = absurd cc
+caption_by : (t blank opening few : Bool) (s f b : List ℕ) → told is_caption (rows_of t blank opening few s f b) ≡ true → begins (codes "|+") s ≡ true
+caption_by true blank opening true s f b e = or_none _ e
+caption_by true blank opening false s f b e = or_none _ e
+caption_by false blank opening true s f b e = absurd cc
+caption_by false blank opening false s f b e = absurd cc
 
 caption_some : (o : Option LineKind) → unwrap_or o kind.Text ≡ kind.Caption → o ≡ Some kind.Caption
 caption_some None e = absurd cc
@@ -110,6 +120,6 @@ caption_lines n xs h =
     let s = past is_idle (map sign xs) in
     let f = past is_mark_sign (map sign xs) in
     let b = past is_idle (reverse (map sign xs)) in
-    let rows = rows_of (nat_lt 0 n) (length s == 0) (nat_lt n 16 && begins (codes "{|") s) s f b in
-    let t = caption_by (nat_lt 0 n) (length s == 0) (nat_lt n 16 && begins (codes "{|") s) s f b (told_first is_caption rows kind.Caption (caption_some (first_of rows) h) refl) in
+    let rows = rows_of (nat_lt 0 n) (length s == 0) (begins (codes "{|") s) (nat_lt n 16) s f b in
+    let t = caption_by (nat_lt 0 n) (length s == 0) (begins (codes "{|") s) (nat_lt n 16) s f b (told_first is_caption rows kind.Caption (caption_some (first_of rows) h) refl) in
     subst (λ (ss : List ℕ). begins (codes "|+") ss ≡ true) (from_sign_is xs) t

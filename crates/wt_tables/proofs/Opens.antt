@@ -43,10 +43,12 @@ open_of None e h = absurd cc
 open_of (Some k) e h = let t : is_open k ≡ true = ap is_open e in cc
 
 few_by : (blank few opening : Bool) (n : ℕ) (o : Option LineKind) → nat_lt n 16 ≡ few → opens o ≡ false
-    → unwrap_or (if blank then Some kind.Blank else (if few && opening then Some kind.TableOpen else o)) kind.Text ≡ kind.TableOpen → n < 16
+    → unwrap_or (if blank then Some kind.Blank else (if opening then Some (if few then kind.TableOpen else kind.Text) else o)) kind.Text ≡ kind.TableOpen → n < 16
 few_by true few opening n o f h e = absurd cc
-few_by false true opening n o f h e = lt_of_test n 16 f
-few_by false false opening n o f h e = absurd (open_of o e h)
+few_by false true true n o f h e = lt_of_test n 16 f
+few_by false false true n o f h e = absurd cc
+few_by false true false n o f h e = absurd (open_of o e h)
+few_by false false false n o f h e = absurd (open_of o e h)
 
 pub open_few : (n : ℕ) (l : List Item) → line_kind n l ≡ kind.TableOpen → n < 16
 unfolding kind_of_signs
@@ -75,11 +77,13 @@ end_of_none : (o : Option LineKind) → unwrap_or o kind.Text ≡ kind.TableEnd 
 end_of_none None e h = absurd cc
 end_of_none (Some k) e h = let t : is_end k ≡ true = ap is_end e in cc
 
-inside_by : (t blank opening : Bool) (n : ℕ) (sign first last : List ℕ) → nat_lt 0 n ≡ t
-    → unwrap_or (first_of ((blank, kind.Blank) ∷ (opening, kind.TableOpen) ∷ ((if t then table_rows sign else []) ++ text_rows first last))) kind.Text ≡ kind.TableEnd → 0 < n
-inside_by true blank opening n sign first last t e = lt_of_test 0 n t
-inside_by false blank opening n sign first last t e =
+inside_by : (t blank opening few : Bool) (n : ℕ) (sign first last : List ℕ) → nat_lt 0 n ≡ t
+    → unwrap_or (first_of ((blank, kind.Blank) ∷ (opening, if few then kind.TableOpen else kind.Text) ∷ ((if t then table_rows sign else []) ++ text_rows first last))) kind.Text ≡ kind.TableEnd → 0 < n
+inside_by true blank opening few n sign first last t e = lt_of_test 0 n t
+inside_by false blank opening true n sign first last t e =
     let rows = (blank, kind.Blank) ∷ (opening, kind.TableOpen) ∷ text_rows first last in absurd (end_of_none (first_of rows) e (none_ends rows refl))
+inside_by false blank opening false n sign first last t e =
+    let rows = (blank, kind.Blank) ∷ (opening, kind.Text) ∷ text_rows first last in absurd (end_of_none (first_of rows) e (none_ends rows refl))
 
 pub end_inside : (n : ℕ) (l : List Item) → line_kind n l ≡ kind.TableEnd → 0 < n
 unfolding kind_of_signs
@@ -87,4 +91,4 @@ end_inside n l e =
     let s = past is_idle (map sign l) in
     let f = past is_mark_sign (map sign l) in
     let b = past is_idle (reverse (map sign l)) in
-    inside_by (nat_lt 0 n) (length s == 0) (nat_lt n 16 && begins (codes "{|") s) n s f b refl e
+    inside_by (nat_lt 0 n) (length s == 0) (begins (codes "{|") s) (nat_lt n 16) n s f b refl e
