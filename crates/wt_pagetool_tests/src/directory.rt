@@ -6,7 +6,7 @@ use std::{env, fs, process};
 use wt_outer::{DirFolder, Fetched, Folder};
 use wt_pagetool::Status;
 
-/// Bytes that repeat only every 251.
+/// So many bytes, which repeat only every 251: fewer of them are a front of more.
 fn bytes_of(rt: &impl AllocGlobal, count: usize) -> Result<Vec<u8>, Fail> {
     let mut bytes = Vec::new(rt.alloc());
     for at in 0..count {
@@ -38,22 +38,27 @@ fn a_large_file_is_cut_where_it_was_asked_and_a_smaller_one_is_whole(
     let path = env::temp_dir(&rt)?.join(rt.alloc(), name.as_str())?;
     fs::create_dir_all(&rt, path.as_path())?;
     let large = bytes_of(&rt, 3 << 20)?;
-    let small = &large.as_slice()[..65_537];
+    let small = bytes_of(&rt, 65_537)?;
+    let front = bytes_of(&rt, 2_097_153)?;
     fs::write(
         &rt,
         path.join(rt.alloc(), "Large.wiki")?.as_path(),
         large.as_slice(),
     )?;
-    fs::write(&rt, path.join(rt.alloc(), "Small.wiki")?.as_path(), small)?;
+    fs::write(
+        &rt,
+        path.join(rt.alloc(), "Small.wiki")?.as_path(),
+        small.as_slice(),
+    )?;
     let mut folder = DirFolder::new(&rt, path.to_str().ok_or("a path that is text")?);
     let cut = folder
         .fetch(rt.alloc(), "Large", 2_097_153)
         .expect(&rt, "the page");
-    assert!(rt; gives(&cut, &large.as_slice()[..2_097_153]));
+    assert!(rt; gives(&cut, front.as_slice()));
     let whole = folder
         .fetch(rt.alloc(), "Small", 2_097_153)
         .expect(&rt, "the page");
-    assert!(rt; gives(&whole, small));
+    assert!(rt; gives(&whole, small.as_slice()));
     assert_eq!(rt; folder.faults(), 0);
     fs::remove_dir_all(&rt, path.as_path())?;
     Ok(())
