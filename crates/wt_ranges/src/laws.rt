@@ -1,0 +1,1 @@
+//! What holds of the groups of any tree over items.
