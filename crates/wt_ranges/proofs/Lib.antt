@@ -1,1 +1,3 @@
+pub mod Calls
 mod Cases
+pub mod Ends

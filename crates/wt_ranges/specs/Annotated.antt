@@ -1,6 +1,7 @@
 -- The annotated tree of a page with calls: its groups, then each node with its place and source by bytes of the page, then
 -- numbers in preorder.
 use Rattle.std.specs.Prelude.{ℕ, ◌+◌, Bool, true, false, Option, Some, None, List, [], ◌++◌, length}
+use Rattle.wt_tree.specs.declared.kind.Kind.{Kind}
 use Rattle.wt_tree.specs.declared.kind.Kind.TheVariants as kind
 use Rattle.wt_tree.specs.declared.kind.Mark.TheVariants as marks
 use Rattle.wt_tree.specs.declared.kind.Ranges.{Ranges}
@@ -11,7 +12,7 @@ use Rattle.wt_span.specs.Items.{Item}
 use Rattle.wt_span.specs.Origins.{OuterCall}
 use Rattle.wt_span.specs.Cuts.{place, text_between}
 use Rattle.wt_inline.specs.ItemTree.{Head, ItemTree, inner, ItemTrees, nothing, further, held, held_by_all}
-use Rattle.wt_annotate.specs.Labels.{leaf_open, label_at}
+use Rattle.wt_annotate.specs.Labels.{leaf_open, if_leaf, if_inner, label_at}
 use Rattle.wt_annotate.specs.Numbering.{with_numbers}
 use Rattle.wt_annotate.specs.Annotated.{inside_by}
 use Rattle.wt_ranges.specs.Grouped.{Grouped, kept, group, GroupedAll, ended, along, grouped}
@@ -29,15 +30,24 @@ abbrev mutual
   all_unplaced nothing = none
   all_unplaced (further t ts) = more (unplaced t) (all_unplaced ts)
 
+-- the open width of a node that is a leaf or isn't
+abbrev pub open_by : Bool → Kind → List ℕ → List ℕ → ℕ
+open_by true k source opening = leaf_open k (length source)
+open_by false k source opening = length opening
+
 -- the label of a node that is kept, from a byte on, by what stands on the page for all of it and for its delimiters
 abbrev pub kept_label : Bool → Head → ℕ → List ℕ → List ℕ → List ℕ → Label
-kept_label true h at source opening closing = record {
-  kind = h.kind; id = 0; ranges = Some (record { start = at; end = at + length source; open_w = leaf_open h.kind (length source); close_w = 0 });
-  opening = []; closing = []; own = source; shown = h.shown; attrs = h.attrs; mark = marks.Nothing; mw = h.mw;
-}
-kept_label false h at source opening closing = record {
-  kind = h.kind; id = 0; ranges = Some (record { start = at; end = at + length source; open_w = length opening; close_w = length closing });
-  opening = opening; closing = closing; own = []; shown = h.shown; attrs = h.attrs; mark = marks.Nothing; mw = h.mw;
+kept_label is h at source opening closing = record {
+  kind = h.kind;
+  id = 0;
+  ranges = Some (record { start = at; end = at + length source; open_w = open_by is h.kind source opening; close_w = length (if_inner is closing) });
+  opening = if_inner is opening;
+  closing = if_inner is closing;
+  own = if_leaf is source;
+  shown = h.shown;
+  attrs = h.attrs;
+  mark = marks.Nothing;
+  mw = h.mw;
 }
 
 -- the label of a group, from a byte on, by what stands on the page for it and by what its element carries

@@ -1,1 +1,28 @@
 //! What holds of the groups of any tree over items.
+
+ghost use Rattle.std.specs.Prelude.{◌≡◌, ℕ, [], List, length, true};
+ghost use Rattle.wt_span.specs.Items.{Item};
+ghost use Rattle.wt_tree.specs.declared.kind.Kind.TheVariants as node_kind;
+ghost use Rattle.wt_inline.specs.ItemTree.{plain, ItemTree, inner, ItemTrees, held};
+ghost use Rattle.wt_ranges.specs.Clean.{is_clean};
+ghost use Rattle.wt_ranges.specs.Grouped.{grouped};
+ghost use Rattle.wt_ranges.specs.GroupParts.{begun};
+ghost use Rattle.wt_ranges.specs.Reached.{AtFreeCuts, Fills, calls_in_groups};
+
+/// The body of a page is clean, whatever it holds.
+pub fn body_is_clean()
+    ensures { (ts : ItemTrees) → is_clean (held (inner (plain node_kind.Body) [] ts [])) 0 (inner (plain node_kind.Body) [] ts []) ≡ true }
+{}
+
+/// The four places of each node that is reached and both ends of each group are free cuts, and
+/// what a node holds follows one another and fills it.
+pub fn groups_end_at_free_cuts()
+    ensures ends { (all : List Item) (n : ℕ) (t : ItemTree) → is_clean all n t ≡ true → AtFreeCuts all (grouped all n t) }
+    ensures fills { (all : List Item) (n : ℕ) (t : ItemTree) → is_clean all n t ≡ true → Fills (grouped all n t) }
+{}
+
+/// The calls that begin in groups, group after group, are all calls, in their order: each lies in
+/// one group.
+pub fn each_call_in_one_group()
+    ensures { (t : ItemTree) → is_clean (held t) 0 t ≡ true → calls_in_groups (held t) (grouped (held t) 0 t) ≡ begun (held t) 0 (length (held t)) }
+{}

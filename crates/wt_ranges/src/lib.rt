@@ -2,3 +2,5 @@
 #![tactic(auto)]
 
 mod laws;
+
+pub use laws::{body_is_clean, each_call_in_one_group, groups_end_at_free_cuts};
