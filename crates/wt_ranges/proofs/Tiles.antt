@@ -1,5 +1,5 @@
 -- The ranges of an annotated tree tile it, and its source is what stands on the page.
-use Rattle.std.proofs.Common.{◌≡◌, ℕ, ◌+◌, ◌-◌, ◌≤◌, Bool, true, false, Option, Some, None, List, [], ◌∷◌, ◌++◌, length, refl, sym, ap, subst, ◌∙◌, cond, arith}
+use Rattle.std.proofs.Common.{◌≡◌, ℕ, ◌+◌, ◌-◌, ◌≤◌, Bool, true, false, Option, Some, None, List, [], ◌∷◌, ◌++◌, length, refl, sym, ap, subst, ◌∙◌, cond, arith, append_assoc}
 use Rattle.wt_tree.specs.declared.kind.Kind.{Kind}
 use Rattle.wt_tree.specs.declared.kind.Kind.TheVariants as kind
 use Rattle.wt_tree.specs.declared.kind.Ranges.{Ranges}
@@ -93,7 +93,7 @@ flat_by true g own opening closing ts us q e = refl
 flat_by false true own opening closing ts us q e = refl
 flat_by false false own opening closing ts us q e = ap (λ bs. opening ++ bs ++ closing) e
 
-group_leaf : (k : Kind) → is_group k ≡ true → is_leaf k ≡ true
+pub group_leaf : (k : Kind) → is_group k ≡ true → is_leaf k ≡ true
 group_leaf kind.Group e = refl
 group_leaf k e = absurd (subst (λ (b : Bool). cond b ⊥ (Unit {0})) e tt)
 
@@ -112,7 +112,7 @@ mutual
 source_by : (is : Bool) (source opening inside closing : List ℕ) (us : Trees) → source ≡ opening ++ (inside ++ closing) → flat_of_all us ≡ inside
     → cond is (if_leaf is source) (if_inner is opening ++ flat_of_all (inside_by is us) ++ if_inner is closing) ≡ source
 source_by true source opening inside closing us e g = refl
-source_by false source opening inside closing us e g = ap (λ bs. opening ++ bs ++ closing) g ∙ sym e
+source_by false source opening inside closing us e g = ap (λ bs. opening ++ bs ++ closing) g ∙ append_assoc opening inside closing ∙ sym e
 
 mutual
   pub source : (calls : List OuterCall) (carried : Carried) (all : List Item) (g : Grouped) → Fills g → flat (placed calls carried all g) ≡ text_between calls all (start_of g) (size_of g)

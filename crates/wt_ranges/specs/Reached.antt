@@ -1,5 +1,5 @@
 -- What the laws of groups speak of: the nodes that are reached, which are all but those in groups, and the cuts at their ends.
-use Rattle.std.specs.Prelude.{◌≡◌, ℕ, ◌+◌, Bool, true, false, List, [], ◌∷◌, ◌++◌, if◌then◌else◌}
+use Rattle.std.specs.Prelude.{◌≡◌, ℕ, ◌+◌, Bool, true, false, List, [], ◌∷◌, ◌++◌, length, if◌then◌else◌}
 use Rattle.std.specs.List.{AllByRecursion}
 use Rattle.wt_tree.specs.declared.kind.Kind.{Kind}
 use Rattle.wt_tree.specs.Kinds.{is_leaf}
@@ -7,7 +7,9 @@ use Rattle.wt_tree.specs.Tree.{Label, Tree, tree, Trees, none, more}
 use Rattle.wt_tree.specs.Tiling.{is_group}
 use Rattle.wt_span.specs.Items.{Item}
 use Rattle.wt_span.specs.Cuts.{is_free}
+use Rattle.wt_inline.specs.ItemTree.{ItemTree, ItemTrees, nothing, further, held}
 use Rattle.wt_annotate.specs.Slices.{IsSlice}
+use Rattle.wt_ranges.specs.Clean.{is_clean}
 use Rattle.wt_ranges.specs.Grouped.{Grouped, kept, group, GroupedAll, ended, along}
 use Rattle.wt_ranges.specs.GroupParts.{Begun, begun}
 
@@ -64,3 +66,26 @@ abbrev mutual
   pub calls_in_all_groups : List Item → GroupedAll → List Begun
   calls_in_all_groups all ended = []
   calls_in_all_groups all (along g gs) = calls_in_groups all g ++ calls_in_all_groups all gs
+
+-- ---- the smallest groups
+
+-- no cut between neighbours is free; `n` items stand before them
+abbrev pub NoFreeCut : List Item → ℕ → ItemTrees → Type 0
+NoFreeCut all n nothing = Unit {0}
+NoFreeCut all n (further t nothing) = Unit {0}
+NoFreeCut all n (further t (further u ts)) = (is_free all (n + length (held t)) ≡ false) × NoFreeCut all (n + length (held t)) (further u ts)
+
+-- a group holds one unclean node, or more between which no cut is free
+abbrev pub IsGroup : List Item → ℕ → ItemTrees → Type 0
+IsGroup all n nothing = ⊥
+IsGroup all n (further t nothing) = is_clean all n t ≡ false
+IsGroup all n (further t (further u ts)) = NoFreeCut all n (further t (further u ts))
+
+abbrev mutual
+  pub AreSmallest : List Item → Grouped → Type 0
+  AreSmallest all (kept h n o i c gs) = AllSmallest all gs
+  AreSmallest all (group n k ts) = IsGroup all n ts
+
+  pub AllSmallest : List Item → GroupedAll → Type 0
+  AllSmallest all ended = Unit {0}
+  AllSmallest all (along g gs) = AreSmallest all g × AllSmallest all gs

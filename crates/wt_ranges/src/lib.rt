@@ -3,4 +3,4 @@
 
 mod laws;
 
-pub use laws::{body_is_clean, each_call_in_one_group, groups_end_at_free_cuts};
+pub use laws::{annotated_page, body_is_clean, each_call_in_one_group, groups_are_smallest, groups_end_at_free_cuts};
