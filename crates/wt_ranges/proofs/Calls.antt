@@ -9,7 +9,7 @@ use Rattle.wt_span.specs.Runs.{runs, AreRuns}
 use Rattle.wt_span.proofs.RunLaws.{runs_are}
 use Rattle.wt_inline.specs.ItemTree.{Head, ItemTree, inner, ItemTrees, nothing, further, held, held_by_all}
 use Rattle.wt_ranges.specs.Clean.{is_no_call, is_page, is_body, own_by, is_clean}
-use Rattle.wt_ranges.specs.Grouped.{GroupedAll, along, group, Child, is_tied, size_of_all, of_runs, grouped, children}
+use Rattle.wt_ranges.specs.Grouped.{group, Child, is_tied, size_of_all, of_runs, grouped, children}
 use Rattle.wt_ranges.specs.GroupParts.{Begun, begun_by, begun_at, begun}
 use Rattle.wt_ranges.specs.Reached.{calls_in_groups, calls_in_all_groups}
 use Rattle.wt_ranges.proofs.Ends.{false_true, both}

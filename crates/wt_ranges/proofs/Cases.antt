@@ -1,11 +1,11 @@
 -- Worked cases of the definitions, each computed: the nodes that are reached with their numbers and ranges, and the parts of groups.
-use Rattle.std.proofs.Common.{◌≡◌, ℕ, List, [], ◌∷◌, ◌++◌, Option, Some, None, map, refl}
-use Rattle.std.specs.Prelude.{codes, Bool, true, false}
+use Rattle.std.proofs.Common.{◌≡◌, ℕ, List, [], ◌∷◌, Option, Some, None, map, refl}
+use Rattle.std.specs.Prelude.{codes, false}
 use Rattle.wt_tree.specs.declared.kind.Kind.{Kind}
 use Rattle.wt_tree.specs.declared.kind.Kind.TheVariants as kind
 use Rattle.wt_tree.specs.declared.kind.Ranges.{Ranges}
 use Rattle.wt_tree.specs.declared.node.DataMw.{DataMw}
-use Rattle.wt_tree.specs.Tree.{Tree, label}
+use Rattle.wt_tree.specs.Tree.{label}
 use Rattle.wt_span.specs.declared.form.Form.TheVariants as form
 use Rattle.wt_span.specs.Items.{Item, char, whole}
 use Rattle.wt_span.specs.Origins.{OuterCall}

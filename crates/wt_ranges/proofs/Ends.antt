@@ -1,17 +1,17 @@
 -- The ends of groups and of nodes that are reached are free cuts, and what a node holds fills it.
-use Rattle.std.proofs.Common.{◌≡◌, ℕ, zero, suc, ◌+◌, Bool, true, false, Option, None, Some, List, [], ◌∷◌, ◌++◌, length, refl, sym, ap, ◌∙◌, subst, cond, arith, length-append, append-nil}
+use Rattle.std.proofs.Common.{◌≡◌, ℕ, zero, suc, ◌+◌, Bool, true, false, Option, None, Some, List, [], ◌∷◌, ◌++◌, length, refl, sym, ap, ◌∙◌, subst, cond, arith, length-append}
 use Rattle.std.specs.Prelude.{slice_get, not, ◌&&◌, ◌||◌}
 use Rattle.std.specs.List.{list_all, list_any}
 use Rattle.wt_tree.specs.declared.kind.Kind.TheVariants as kind
 use Rattle.wt_tree.specs.Kinds.{is_leaf}
-use Rattle.wt_span.specs.Items.{Item, call_of}
+use Rattle.wt_span.specs.Items.{Item}
 use Rattle.wt_span.specs.Origins.{same_call}
 use Rattle.wt_span.specs.Cuts.{call_of_item, is_free}
 use Rattle.wt_span.specs.Runs.{runs, IsRun, AreRuns}
 use Rattle.wt_span.proofs.RunLaws.{runs_are}
 use Rattle.wt_inline.specs.ItemTree.{Head, plain, ItemTree, inner, ItemTrees, nothing, further, held, held_by_all}
 use Rattle.wt_ranges.specs.Clean.{is_page, is_body, own_by, is_clean}
-use Rattle.wt_ranges.specs.Grouped.{Grouped, kept, group, GroupedAll, ended, along, Child, is_tied, size_of_all, nodes_of, of_run, of_runs, grouped, children}
+use Rattle.wt_ranges.specs.Grouped.{group, GroupedAll, along, Child, is_tied, size_of_all, of_runs, grouped, children}
 use Rattle.wt_ranges.specs.Reached.{start_of, size_of, AtFreeCuts, AllAtFreeCuts, Fills, FillFrom}
 
 pub false_true : {X : Type 0} → false ≡ true → X

@@ -1,5 +1,5 @@
 -- The bytes of cuts, and what stands on the page between them.
-use Rattle.std.proofs.Common.{◌≡◌, ℕ, zero, suc, ◌+◌, ◌≤◌, List, [], ◌∷◌, ◌++◌, length, refl, sym, ap, ◌∙◌, arith, length-append, append_assoc}
+use Rattle.std.proofs.Common.{◌≡◌, ℕ, zero, suc, ◌+◌, List, ◌++◌, length, sym, ap, ◌∙◌, arith, length-append, append_assoc}
 use Rattle.wt_span.specs.Items.{Item}
 use Rattle.wt_span.specs.Origins.{OuterCall}
 use Rattle.wt_span.specs.Cuts.{place, text_at, text_between}

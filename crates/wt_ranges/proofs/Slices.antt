@@ -139,8 +139,8 @@ all_left P (u ∷ us) vs h = let r = all_left P us vs h.1 in ((h.0, r.0), r.1)
 mutual
   reached_numbered : (page : List ℕ) (next : ℕ) (t : Tree) → AreReachedSlices page t → AreReachedSlices page (with_numbers next t)
   reached_numbered page next (tree l ts) h = (
-      slice_numbered page next l ts h.0,
-      reached_by (is_group l.kind) page ts (all_with_numbers (next_after l.kind next) ts) (λ q. all_reached_numbered page (next_after l.kind next) ts q) h.1,
+    slice_numbered page next l ts h.0,
+    reached_by (is_group l.kind) page ts (all_with_numbers (next_after l.kind next) ts) (λ q. all_reached_numbered page (next_after l.kind next) ts q) h.1,
   )
 
   all_reached_numbered : (page : List ℕ) (next : ℕ) (ts : Trees) → AllByRecursion (IsSlice page) (reached_in_all ts) → AllByRecursion (IsSlice page) (reached_in_all (all_with_numbers next ts))

@@ -1,14 +1,14 @@
 -- No group could be made smaller: no cut within it is free between its nodes, and one that holds one node holds an unclean one.
-use Rattle.std.proofs.Common.{◌≡◌, ℕ, ◌+◌, Bool, true, false, List, [], ◌∷◌, ◌++◌, length, refl, sym, ap, ◌∙◌, subst, cond, arith}
+use Rattle.std.proofs.Common.{◌≡◌, ℕ, ◌+◌, Bool, true, false, List, [], ◌∷◌, ◌++◌, length, refl, sym, subst, cond, arith}
 use Rattle.std.specs.Prelude.{not}
 use Rattle.wt_span.specs.Items.{Item}
 use Rattle.wt_span.specs.Cuts.{is_free}
 use Rattle.wt_span.specs.Runs.{runs, IsRun, AreRuns}
 use Rattle.wt_span.proofs.RunLaws.{runs_are}
-use Rattle.wt_inline.specs.ItemTree.{Head, ItemTree, inner, ItemTrees, nothing, further, held, held_by_all}
+use Rattle.wt_inline.specs.ItemTree.{ItemTree, inner, ItemTrees, nothing, further, held}
 use Rattle.wt_ranges.specs.Clean.{is_clean}
-use Rattle.wt_ranges.specs.Grouped.{Grouped, kept, group, GroupedAll, ended, along, Child, is_tied, size_of_all, nodes_of, of_run, of_runs, grouped, children}
-use Rattle.wt_ranges.specs.Reached.{NoFreeCut, IsGroup, AreSmallest, AllSmallest}
+use Rattle.wt_ranges.specs.Grouped.{group, Child, is_tied, size_of_all, nodes_of, of_runs, grouped, children}
+use Rattle.wt_ranges.specs.Reached.{NoFreeCut, AreSmallest, AllSmallest}
 use Rattle.wt_ranges.proofs.Ends.{false_true}
 
 abbrev Chain : List Item → ℕ → List Child → Type 0

@@ -1,26 +1,26 @@
 -- The ranges of an annotated tree tile it, and its source is what stands on the page.
-use Rattle.std.proofs.Common.{◌≡◌, ℕ, ◌+◌, ◌-◌, ◌≤◌, Bool, true, false, Option, Some, None, List, [], ◌∷◌, ◌++◌, length, refl, sym, ap, subst, ◌∙◌, cond, arith, append_assoc}
+use Rattle.std.proofs.Common.{◌≡◌, ℕ, ◌+◌, ◌-◌, ◌≤◌, Bool, true, false, Option, Some, None, List, ◌++◌, length, refl, sym, ap, subst, ◌∙◌, cond, arith, append_assoc}
 use Rattle.wt_tree.specs.declared.kind.Kind.{Kind}
 use Rattle.wt_tree.specs.declared.kind.Kind.TheVariants as kind
 use Rattle.wt_tree.specs.declared.kind.Ranges.{Ranges}
 use Rattle.wt_tree.specs.declared.node.DataMw.{DataMw}
 use Rattle.wt_tree.specs.Kinds.{is_leaf}
 use Rattle.wt_tree.specs.Source.{flat, flat_of_all}
-use Rattle.wt_tree.specs.Tree.{Label, Tree, tree, Trees, none, more, label}
-use Rattle.wt_tree.specs.Tiling.{BeginsAt, end_of, TiledBy, Tiled, TiledFrom, Covers, is_group}
+use Rattle.wt_tree.specs.Tree.{Tree, tree, Trees, none, more, label}
+use Rattle.wt_tree.specs.Tiling.{BeginsAt, end_of, TiledBy, Tiled, TiledFrom, is_group}
 use Rattle.wt_span.specs.Items.{Item}
 use Rattle.wt_span.specs.Origins.{OuterCall}
 use Rattle.wt_span.specs.Cuts.{place, text_between, page_of}
-use Rattle.wt_inline.specs.ItemTree.{Head, plain, ItemTree, inner, ItemTrees, held, held_by_all}
+use Rattle.wt_inline.specs.ItemTree.{Head, ItemTree, held}
 use Rattle.wt_annotate.specs.Labels.{if_leaf, if_inner}
 use Rattle.wt_annotate.specs.Numbering.{next_after, count, with_numbers, all_with_numbers}
 use Rattle.wt_annotate.specs.Annotated.{inside_by}
 use Rattle.wt_ranges.specs.Clean.{is_clean}
 use Rattle.wt_ranges.specs.Grouped.{Grouped, kept, group, GroupedAll, ended, along, grouped}
 use Rattle.wt_ranges.specs.GroupParts.{Part}
-use Rattle.wt_ranges.specs.Annotated.{open_by, kept_label, placed, all_placed, annotated}
+use Rattle.wt_ranges.specs.Annotated.{kept_label, placed, all_placed, annotated}
 use Rattle.wt_ranges.specs.Reached.{start_of, size_of, Fills, FillFrom}
-use Rattle.wt_ranges.proofs.Ends.{start_is, size_is, stand, body_clean}
+use Rattle.wt_ranges.proofs.Ends.{start_is, size_is, stand}
 use Rattle.wt_ranges.proofs.Places.{place_between, text_append, text_three, width_three}
 
 abbrev pub Carried : Type 0

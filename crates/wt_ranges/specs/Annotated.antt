@@ -4,7 +4,6 @@ use Rattle.std.specs.Prelude.{ℕ, ◌+◌, Bool, true, false, Option, Some, Non
 use Rattle.wt_tree.specs.declared.kind.Kind.{Kind}
 use Rattle.wt_tree.specs.declared.kind.Kind.TheVariants as kind
 use Rattle.wt_tree.specs.declared.kind.Mark.TheVariants as marks
-use Rattle.wt_tree.specs.declared.kind.Ranges.{Ranges}
 use Rattle.wt_tree.specs.declared.node.DataMw.{DataMw}
 use Rattle.wt_tree.specs.Kinds.{is_leaf}
 use Rattle.wt_tree.specs.Tree.{Label, Tree, tree, Trees, none, more}
@@ -53,8 +52,16 @@ kept_label is h at source opening closing = record {
 -- the label of a group, from a byte on, by what stands on the page for it and by what its element carries
 abbrev pub group_label : ℕ → List ℕ → Option DataMw → Label
 group_label at source mw = record {
-  kind = kind.Group; id = 0; ranges = Some (record { start = at; end = at + length source; open_w = 0; close_w = 0 });
-  opening = []; closing = []; own = source; shown = []; attrs = []; mark = marks.Nothing; mw = mw;
+  kind = kind.Group;
+  id = 0;
+  ranges = Some (record { start = at; end = at + length source; open_w = 0; close_w = 0 });
+  opening = [];
+  closing = [];
+  own = source;
+  shown = [];
+  attrs = [];
+  mark = marks.Nothing;
+  mw = mw;
 }
 
 -- A tree with groups, by bytes of the page. `carried` is what the element of a group with these parts carries.

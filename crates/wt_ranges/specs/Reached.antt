@@ -1,13 +1,12 @@
 -- What the laws of groups speak of: the nodes that are reached, which are all but those in groups, and the cuts at their ends.
-use Rattle.std.specs.Prelude.{◌≡◌, ℕ, ◌+◌, Bool, true, false, List, [], ◌∷◌, ◌++◌, length, if◌then◌else◌}
+use Rattle.std.specs.Prelude.{◌≡◌, ℕ, ◌+◌, true, false, List, [], ◌∷◌, ◌++◌, length, if◌then◌else◌}
 use Rattle.std.specs.List.{AllByRecursion}
-use Rattle.wt_tree.specs.declared.kind.Kind.{Kind}
 use Rattle.wt_tree.specs.Kinds.{is_leaf}
-use Rattle.wt_tree.specs.Tree.{Label, Tree, tree, Trees, none, more}
+use Rattle.wt_tree.specs.Tree.{Tree, tree, Trees, none, more}
 use Rattle.wt_tree.specs.Tiling.{is_group}
 use Rattle.wt_span.specs.Items.{Item}
 use Rattle.wt_span.specs.Cuts.{is_free}
-use Rattle.wt_inline.specs.ItemTree.{ItemTree, ItemTrees, nothing, further, held}
+use Rattle.wt_inline.specs.ItemTree.{ItemTrees, nothing, further, held}
 use Rattle.wt_annotate.specs.Slices.{IsSlice}
 use Rattle.wt_ranges.specs.Clean.{is_clean}
 use Rattle.wt_ranges.specs.Grouped.{Grouped, kept, group, GroupedAll, ended, along}

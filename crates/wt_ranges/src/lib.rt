@@ -3,4 +3,7 @@
 
 mod laws;
 
-pub use laws::{annotated_page, body_is_clean, each_call_in_one_group, groups_are_smallest, groups_end_at_free_cuts};
+pub use laws::{
+    annotated_page, body_is_clean, each_call_in_one_group, groups_are_smallest,
+    groups_end_at_free_cuts,
+};
