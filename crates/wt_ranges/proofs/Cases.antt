@@ -1,0 +1,139 @@
+-- Worked cases of the definitions, each computed: the nodes that are reached with their numbers and ranges, and the parts of groups.
+use Rattle.std.proofs.Common.{◌≡◌, ℕ, List, [], ◌∷◌, Option, Some, None, map, refl}
+use Rattle.std.specs.Prelude.{codes, false}
+use Rattle.wt_tree.specs.declared.kind.Kind.{Kind}
+use Rattle.wt_tree.specs.declared.kind.Kind.TheVariants as kind
+use Rattle.wt_tree.specs.declared.kind.Ranges.{Ranges}
+use Rattle.wt_tree.specs.declared.node.DataMw.{DataMw}
+use Rattle.wt_tree.specs.Tree.{label}
+use Rattle.wt_span.specs.declared.form.Form.TheVariants as form
+use Rattle.wt_span.specs.Items.{Item, char, whole}
+use Rattle.wt_span.specs.Origins.{OuterCall}
+use Rattle.wt_inline.specs.ItemTree.{plain, ItemTree, inner, leaf, forest, held}
+use Rattle.wt_annotate.specs.Labels.{label_at}
+use Rattle.wt_ranges.specs.GroupParts.{Part, called, between, parts}
+use Rattle.wt_ranges.specs.Annotated.{annotated}
+use Rattle.wt_ranges.specs.Reached.{reached}
+
+abbrev page : List ℕ → List Item
+page bs = map (char None) bs
+
+abbrev given : ℕ → List ℕ → List Item
+given k bs = map (char (Some k)) bs
+
+abbrev call : List ℕ → OuterCall
+call bs = record { start = 0; source = bs; argument = false; parts = []; equals = []; href = None }
+
+abbrev node : Kind → List Item → List ItemTree → List Item → ItemTree
+node k opening ts closing = inner (plain k) opening (forest ts) closing
+
+abbrev body : List ItemTree → ItemTree
+body ts = node kind.Body [] ts []
+
+abbrev para : List ItemTree → ItemTree
+para ts = node kind.Para [] ts []
+
+abbrev text : List Item → ItemTree
+text own = leaf (plain kind.Text) own
+
+abbrev sep : List Item → ItemTree
+sep own = leaf (plain kind.Sep) own
+
+abbrev nothing_carried : List Part → Option DataMw
+nothing_carried ps = None
+
+abbrev Line : Type 0
+Line = ℕ × Kind × Option Ranges
+
+abbrev line : ℕ → Kind → ℕ → ℕ → ℕ → ℕ → Line
+line id k s e o c = (id, k, Some (record { start = s; end = e; open_w = o; close_w = c }))
+
+abbrev lines_of : List OuterCall → ItemTree → List Line
+lines_of calls t = map (λ u. ((label u).id, (label u).kind, (label u).ranges)) (reached (annotated calls nothing_carried t))
+
+-- X = `b`, page `a {{x}}`
+in_text : lines_of (call (codes "{{x}}") ∷ []) (body (para (text (page (codes "a ")) ∷ text (given 0 (codes "b")) ∷ []) ∷ []))
+    ≡ line 0 kind.Body 0 7 0 0 ∷ line 1 kind.Para 0 7 0 0 ∷ line 0 kind.Text 0 2 0 0 ∷ line 2 kind.Group 2 7 0 0 ∷ []
+unfolding annotated label_at
+in_text = refl
+
+-- `{{{{{x}}}}}`: text, an argument, text
+argument : lines_of (call (codes "{{{x}}}") ∷ []) (body (para (text (page (codes "{{")) ∷ text (given 0 (codes "{{{x}}}")) ∷ text (page (codes "}}")) ∷ []) ∷ []))
+    ≡ line 0 kind.Body 0 11 0 0 ∷ line 1 kind.Para 0 11 0 0 ∷ line 0 kind.Text 0 2 0 0 ∷ line 2 kind.Group 2 9 0 0 ∷ line 0 kind.Text 9 11 0 0 ∷ []
+unfolding annotated label_at
+argument = refl
+
+-- a call alone, of a page that is absent
+alone : lines_of (call (codes "{{m}}") ∷ []) (body (para (text (given 0 (codes "[[:Template:M]]")) ∷ []) ∷ []))
+    ≡ line 0 kind.Body 0 5 0 0 ∷ line 1 kind.Group 0 5 0 0 ∷ []
+unfolding annotated label_at
+alone = refl
+
+-- Ts = `{|`, Te = `|}`; lines `{{Ts}}`, `| a`, `{{Te}}`
+abbrev table_calls : List OuterCall
+table_calls = call (codes "{{Ts}}") ∷ call (codes "{{Te}}") ∷ []
+
+abbrev table_page : ItemTree
+table_page = body (node kind.Table (given 0 (codes "{|"))
+    (sep (page (codes "\n")) ∷ node kind.Tbody [] (node kind.Tr [] (node kind.Td (page (codes "| ")) (text (page (codes "a")) ∷ []) [] ∷ []) [] ∷ []) [] ∷ sep (page (codes "\n")) ∷ [])
+    (given 1 (codes "|}")) ∷ [])
+
+table : lines_of table_calls table_page ≡ line 0 kind.Body 0 17 0 0 ∷ line 1 kind.Group 0 17 0 0 ∷ []
+unfolding annotated label_at
+table = refl
+
+table_parts : parts table_calls (held table_page) 0 9 ≡ called 0 ∷ between (codes "\n| a\n") ∷ called 1 ∷ []
+table_parts = refl
+
+-- X = `''`, page `a {{x}} b`
+toggle : lines_of (call (codes "{{x}}") ∷ []) (body (para (text (page (codes "a ")) ∷ node kind.Italic (given 0 (codes "''")) (text (page (codes " b")) ∷ []) [] ∷ []) ∷ []))
+    ≡ line 0 kind.Body 0 9 0 0 ∷ line 1 kind.Para 0 9 0 0 ∷ line 0 kind.Text 0 2 0 0 ∷ line 2 kind.Group 2 9 0 0 ∷ []
+unfolding annotated label_at
+toggle = refl
+
+-- X = `a` and a line break; page `{{x}}`, an empty line, `b`: the separators of the page stay out of the group
+separators : lines_of (call (codes "{{x}}") ∷ [])
+    (body (para (text (given 0 (codes "a")) ∷ []) ∷ sep (given 0 (codes "\n")) ∷ sep (page (codes "\n\n")) ∷ para (text (page (codes "b")) ∷ []) ∷ []))
+    ≡ line 0 kind.Body 0 8 0 0 ∷ line 1 kind.Group 0 5 0 0 ∷ line 0 kind.Sep 5 7 0 0 ∷ line 2 kind.Para 7 8 0 0 ∷ line 0 kind.Text 7 8 0 0 ∷ []
+unfolding annotated label_at
+separators = refl
+
+-- two calls in one paragraph
+abbrev two_page : ItemTree
+two_page = body (para (text (page (codes "a")) ∷ text (given 0 (codes "b")) ∷ text (given 1 (codes "c")) ∷ []) ∷ [])
+
+two_calls : lines_of (call (codes "{{x}}") ∷ call (codes "{{yy}}") ∷ []) two_page
+    ≡ line 0 kind.Body 0 12 0 0 ∷ line 1 kind.Para 0 12 0 0 ∷ line 0 kind.Text 0 1 0 0 ∷ line 2 kind.Group 1 6 0 0 ∷ line 3 kind.Group 6 12 0 0 ∷ []
+unfolding annotated label_at
+two_calls = refl
+
+-- a heading half of which a call gives, and the paragraph behind it from the same call: one group
+heading : lines_of (call (codes "{{x}}") ∷ [])
+    (body (node (kind.Heading 1) (page (codes "=")) (text (page (codes "a")) ∷ []) (given 0 (codes "=")) ∷ sep (given 0 (codes "\n")) ∷ para (text (given 0 (codes "b")) ∷ text (page (codes "c")) ∷ []) ∷ []))
+    ≡ line 0 kind.Body 0 8 0 0 ∷ line 1 kind.Group 0 8 0 0 ∷ []
+unfolding annotated label_at
+heading = refl
+
+-- a call that gives nothing between two paragraphs
+empty_call : lines_of (call (codes "{{x}}") ∷ [])
+    (body (para (text (page (codes "a")) ∷ []) ∷ sep (page (codes "\n")) ∷ leaf (plain kind.Empty) (whole form.EmptyCall (Some 0) (codes "{{x}}") ∷ []) ∷ sep (page (codes "\n")) ∷ para (text (page (codes "b")) ∷ []) ∷ []))
+    ≡ line 0 kind.Body 0 9 0 0 ∷ line 1 kind.Para 0 1 0 0 ∷ line 0 kind.Text 0 1 0 0 ∷ line 0 kind.Sep 1 2 0 0 ∷ line 2 kind.Group 2 7 0 0 ∷ line 0 kind.Sep 7 8 0 0 ∷ line 3 kind.Para 8 9 0 0 ∷ line 0 kind.Text 8 9 0 0 ∷ []
+unfolding annotated label_at
+empty_call = refl
+
+-- an empty style is a group of no bytes, without parts
+empty_style : lines_of [] (body (para (text (page (codes "a")) ∷ node kind.Bold [] [] [] ∷ []) ∷ []))
+    ≡ line 0 kind.Body 0 1 0 0 ∷ line 1 kind.Para 0 1 0 0 ∷ line 0 kind.Text 0 1 0 0 ∷ line 2 kind.Group 1 1 0 0 ∷ []
+unfolding annotated label_at
+empty_style = refl
+
+-- an entity within the `nowiki` of the page is a node, and a `nowiki` of a call is a group
+raw_page : lines_of [] (body (node kind.Nowiki (page (codes "<nowiki>")) (text (page (codes "a")) ∷ leaf (plain kind.Entity) (whole (form.Entity 60) None (codes "&lt;") ∷ []) ∷ []) (page (codes "</nowiki>")) ∷ []))
+    ≡ line 0 kind.Body 0 22 0 0 ∷ line 1 kind.Nowiki 0 22 8 9 ∷ line 0 kind.Text 8 9 0 0 ∷ line 2 kind.Entity 9 13 4 0 ∷ []
+unfolding annotated label_at
+raw_page = refl
+
+raw_call : lines_of (call (codes "{{x}}") ∷ []) (body (para (text (page (codes "a")) ∷ node kind.Nowiki (given 0 (codes "<nowiki>")) (text (given 0 (codes "b")) ∷ []) (given 0 (codes "</nowiki>")) ∷ []) ∷ []))
+    ≡ line 0 kind.Body 0 6 0 0 ∷ line 1 kind.Para 0 6 0 0 ∷ line 0 kind.Text 0 1 0 0 ∷ line 2 kind.Group 1 6 0 0 ∷ []
+unfolding annotated label_at
+raw_call = refl

@@ -1,0 +1,8 @@
+pub mod Calls
+mod Cases
+pub mod Ends
+pub mod Numbers
+pub mod Places
+pub mod Slices
+pub mod Smallest
+pub mod Tiles

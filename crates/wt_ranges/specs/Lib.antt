@@ -1,0 +1,5 @@
+pub mod Annotated
+pub mod Clean
+pub mod Grouped
+pub mod GroupParts
+pub mod Reached

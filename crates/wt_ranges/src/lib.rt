@@ -1,0 +1,9 @@
+//! From a page with calls to its annotated tree: clean nodes, groups and their places.
+#![tactic(auto)]
+
+mod laws;
+
+pub use laws::{
+    annotated_page, body_is_clean, each_call_in_one_group, groups_are_smallest,
+    groups_end_at_free_cuts,
+};
