@@ -5,7 +5,7 @@ import unittest
 from loading import REPOSITORY, load
 
 tool = load("import-export-xml")
-STORED = REPOSITORY / "crates/wt_names/src/tests.rt"
+STORED = REPOSITORY / "crates/wt_page_tests/src/names.rt"
 OUTSIDE = REPOSITORY.parent / "shared/vectors/titles.tsv"
 
 
