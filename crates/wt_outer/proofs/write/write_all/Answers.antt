@@ -1,7 +1,7 @@
 use Rattle.std.proofs.Common.{◌<◌, ◌∙◌, arith}
 use Rattle.std.proofs.lemmas.Grind.{common_steps}
-use Rattle.wt_html_out.proofs.Fronts.{front_grows}
-use Rattle.wt_html_out.proofs.sink.write_bytes.Goals as goal
+use Rattle.wt_outer.proofs.Fronts.{front_grows}
+use Rattle.wt_outer.proofs.write.write_all.Goals as goal
 
 pub loop-done-preserved : goal.loop-done-preserved
 loop-done-preserved g c =
