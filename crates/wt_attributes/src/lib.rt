@@ -9,8 +9,5 @@ mod class;
 mod laws;
 mod reader;
 mod scan;
-#[cfg(test)]
-mod tests;
-
 pub use laws::{one_reading, spelled_attributes};
 pub use reader::read_attributes;

@@ -8,9 +8,6 @@ mod matching;
 mod nesting;
 mod parts;
 mod read;
-#[cfg(test)]
-mod tests;
-
 pub use call::{BraceRefusal, Call, PartAt};
 pub use laws::{
     lexemes_are_adjacent, lexemes_have_braces, members_have_places, nesting_is_depth, one_end,

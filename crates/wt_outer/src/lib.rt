@@ -18,6 +18,3 @@ pub use memory::{MemSink, MemSource, NeverFailsSource};
 pub use shelf::{MemFolder, NeverFailsFolder};
 pub use streams::{StdSink, StdSource};
 pub use write::write_all;
-
-#[cfg(test)]
-mod tests;

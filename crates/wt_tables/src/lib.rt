@@ -10,9 +10,6 @@ mod cursor;
 mod laws;
 mod scan;
 mod table;
-#[cfg(test)]
-mod tests;
-
 pub use cell::{CellAt, cells};
 pub use laws::{
     cells_join, kinds_by_counts, lines_of_cells, one_cut_of_cells, parts_join, tables_nest,

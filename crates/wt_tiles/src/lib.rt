@@ -14,10 +14,7 @@ mod read;
 mod shape;
 mod switch;
 mod tag;
-mod target;
-#[cfg(test)]
-mod tests;
-mod tile;
+mod target;mod tile;
 mod url;
 
 pub use context::Context;

@@ -1,6 +1,6 @@
 //! The calls that take memory, on their happy path.
 
-use crate::{cells, extents, line_kinds};
+use wt_tables::{cells, extents, line_kinds};
 use std::alloc::Global;
 use std::test::Fail;
 use wt_lines::{Line, LineKind};

@@ -3,7 +3,7 @@
 ghost use Rattle.std.specs.Prelude.{◌<◌, ◌^◌, length, All, IfOk};
 ghost use Rattle.wt_span.specs.Origins.{IsSoundPiece};
 
-use crate::{Context, TileKind, glyphs_of, shapes, target_of, tiles};
+use wt_tiles::{Context, TileKind, glyphs_of, shapes, target_of, tiles};
 use std::alloc::Global;
 use std::test::Fail;
 use wt_lines::{Line, chars_piece};

@@ -1,12 +1,12 @@
 ghost use Rattle.std.specs.Prelude.{◌≡◌, IfOk, length};
 
-use crate::{
-    DirFolder, Failed, FetchRefusal, Fetched, Folder, MemFolder, MemSink, MemSource,
-    NeverFailsFolder, NeverFailsSource, Sink, Source, StdSink, StdSource,
-};
 use std::alloc::Global;
 use std::test::Fail;
 use std::{env, fs, process};
+use wt_outer::{
+    DirFolder, Failed, FetchRefusal, Fetched, Folder, MemFolder, MemSink, MemSource,
+    NeverFailsFolder, NeverFailsSource, Sink, Source, StdSink, StdSource,
+};
 use wt_span::{List, NoMemory, Str};
 
 fn bytes_of(alloc: Global, text: &[u8]) -> Result<List<u8>, NoMemory>

@@ -1,5 +1,5 @@
 //! Texts with their calls, as two other programs read them, each written from the rules alone.
-use crate::{BraceRefusal, Call, match_braces};
+use wt_braces::{BraceRefusal, Call, match_braces};
 use std::alloc::{AllocError, Global};
 use std::process::Abort;
 use std::test::Fail;
@@ -95,7 +95,7 @@ fn with_breaks(alloc: Global, text: &str) -> Result<String, AllocError> {
 }
 
 /// The calls of a short text.
-#[tactic(auto, using(crate::proofs::Adjacent::lexed_adjacent))]
+#[tactic(auto, using(wt_braces::proofs::Adjacent::lexed_adjacent))]
 fn calls_in(alloc: Global, text: &str, mode: Mode) -> Result<List<Call>, BraceRefusal> {
     if text.len() > 1000 {
         return Err(BraceRefusal::NoMemory);

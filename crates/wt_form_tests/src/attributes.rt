@@ -1,6 +1,6 @@
 //! The call that takes memory, on its happy path.
 
-use crate::read_attributes;
+use wt_attributes::read_attributes;
 use std::alloc::Global;
 use std::test::Fail;
 use wt_span::{Form, List, NoMemory, Origin, Piece, Text};

@@ -4,7 +4,7 @@ ghost use Rattle.std.specs.Prelude.{◌≡◌, ◌<◌, All, IsTrue, OnOk, lengt
 ghost use Rattle.std.specs.List.{list_all};
 ghost use Rattle.wt_blocks.specs.Nesting.{IsPrefix, is_list_sign};
 
-use crate::{ListNode, heading_parts, nest_lists, paragraphs};
+use wt_blocks::{ListNode, heading_parts, nest_lists, paragraphs};
 use std::alloc::Global;
 use std::test::Fail;
 use wt_lines::{Line, LineKind};
