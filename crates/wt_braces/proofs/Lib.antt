@@ -18,3 +18,5 @@ pub mod Widths
 pub mod FrontForms
 pub mod FrontTags
 pub mod SliceWords
+pub mod Replays
+pub mod AloneLaws
