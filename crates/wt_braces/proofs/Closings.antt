@@ -52,7 +52,7 @@ pub fuel : (f c : ℕ) (before : List Member) → c ≤ f → again f rewritten 
 fuel f c before le = fuel_by f f c before (omega arith) le (lowered c before)
 
 -- one taking more
-step : (c k : ℕ) (before : List Member) → 2 ≤ k → k ≤ c → (rewritten (c, before)).0 ≡ c - k → again (c - k) rewritten (c - k, (rewritten (c, before)).1) ≡ again c rewritten (c, before)
+pub step : (c k : ℕ) (before : List Member) → 2 ≤ k → k ≤ c → (rewritten (c, before)).0 ≡ c - k → again (c - k) rewritten (c - k, (rewritten (c, before)).1) ≡ again c rewritten (c, before)
 step zero k before two le e = absurd (omega arith)
 step (suc c) k before two le e =
     let x = rewritten (suc c, before) in

@@ -31,7 +31,7 @@ rev_open (x ∷ xs) h = subst NoOpen (sym (rev_cons x xs)) (open_append (reverse
 rev_mid : (inside : List Member) (x : Member) (rest : List Member) → reverse (inside ++ x ∷ rest) ≡ reverse rest ++ x ∷ reverse inside
 rev_mid inside x rest = reverse-append inside (x ∷ rest) ∙ ap (λ zs. zs ++ reverse inside) (rev_cons x rest) ∙ append_assoc (reverse rest) (x ∷ []) (reverse inside)
 
-left_some : (kind : LexKind) (n : ℕ) → 1 ≤ n → left_over kind n ≡ lexeme (kind, n) ∷ []
+pub left_some : (kind : LexKind) (n : ℕ) → 1 ≤ n → left_over kind n ≡ lexeme (kind, n) ∷ []
 left_some kind n some = let e : (n == 0) ≡ false = grind (arith, nat_tests) in ap (λ t. if t then [] else lexeme (kind, n) ∷ []) e
 
 rev_left : (kind : LexKind) (n : ℕ) → reverse (left_over kind n) ≡ left_over kind n
@@ -149,7 +149,7 @@ closing_steps (suc f) c before ws free =
 
 -- ---- a closing run stops where it can't take more
 
-fixed_by : (bound c : ℕ) (before : List Member) → c ≤ bound → (rewritten (c, before) ≡ (c, before)) ⊎ Lowered c before → rewritten (again c rewritten (c, before)) ≡ again c rewritten (c, before)
+pub fixed_by : (bound c : ℕ) (before : List Member) → c ≤ bound → (rewritten (c, before) ≡ (c, before)) ⊎ Lowered c before → rewritten (again c rewritten (c, before)) ≡ again c rewritten (c, before)
 fixed_by bound c before le (inl e) = ap rewritten (stuck_again c (c, before) e) ∙ e ∙ sym (stuck_again c (c, before) e)
 fixed_by zero c before le (inr l) = absurd (omega (arith, l.less))
 fixed_by (suc bound) zero before le (inr l) = absurd (omega (arith, l.less))

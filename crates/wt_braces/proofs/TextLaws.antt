@@ -15,7 +15,7 @@ use Rattle.wt_braces.proofs.Sizes.{wide_reduced, wide_text}
 use Rattle.wt_braces.proofs.Depths.{nesting_depth}
 
 -- the width of members, and of what is left of a closing run
-abbrev sum_of : ℕ × List Member → ℕ
+abbrev pub sum_of : ℕ × List Member → ℕ
 sum_of (c, before) = end_of 0 before + c
 
 sum_rewritten : (c : ℕ) (before : List Member) → sum_of (rewritten (c, before)) ≡ sum_of (c, before)
@@ -31,7 +31,7 @@ sum_rewritten (suc (suc c)) before = by_nearest (nearest before)
         let e = call_end 0 b.braces (taken b.braces n) b.inside b.rest s.opening in
         ap (λ bs. sum_of (rewritten (n, bs))) b.is ∙ ap sum_of (rewritten_at n b.braces b.inside b.rest b.free b.two (omega arith)) ∙ omega (arith, e, s.closing) ∙ sym (ap (λ bs. end_of 0 bs + n) b.is)
 
-sum_again : (f : ℕ) (x : ℕ × List Member) → sum_of (again f rewritten x) ≡ sum_of x
+pub sum_again : (f : ℕ) (x : ℕ × List Member) → sum_of (again f rewritten x) ≡ sum_of x
 sum_again zero x = refl
 sum_again (suc f) x = sum_again f (rewritten x) ∙ sum_rewritten x.0 x.1
 
@@ -42,7 +42,7 @@ left_width n before = by_test (n == 0) refl
     by_test true e = let z : n ≡ 0 = grind (arith, nat_tests) in omega (arith, z)
     by_test false e = refl
 
-word_width : (w : Word) (before : List Member) → end_of 0 (with_word w before) ≡ end_of 0 before + w.1
+pub word_width : (w : Word) (before : List Member) → end_of 0 (with_word w before) ≡ end_of 0 before + w.1
 word_width (Chars, n) before = refl
 word_width (CommentLine, n) before = refl
 word_width (Comment, n) before = refl

@@ -10,7 +10,7 @@ mod parts;
 mod read;
 pub use call::{BraceRefusal, Call, PartAt};
 pub use laws::{
-    lexemes_are_adjacent, lexemes_have_braces, members_have_places, nesting_is_depth, one_end,
-    widths_stay,
+    calls_are_alone, lexemes_are_adjacent, lexemes_have_braces, members_have_places,
+    nesting_is_depth, one_end, widths_stay,
 };
 pub use read::match_braces;

@@ -1,3 +1,4 @@
 mod Cases
 pub mod MadePieces
 pub mod PageLaws
+pub mod PiecePlaces

@@ -25,7 +25,7 @@ char_sources : (bs : List ℕ) → sources (map (char None) bs) ≡ bs
 char_sources [] = refl
 char_sources (b ∷ bs) = ap (λ cs. b ∷ cs) (char_sources bs)
 
-form_sources : (f : Form) (bs : List ℕ) → sources (items_by f None bs) ≡ bs
+pub form_sources : (f : Form) (bs : List ℕ) → sources (items_by f None bs) ≡ bs
 form_sources form.Chars bs = char_sources bs
 form_sources (form.Entity c) bs = append-nil bs
 form_sources form.Nowiki bs = append-nil bs

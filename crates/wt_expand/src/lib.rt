@@ -6,5 +6,5 @@ mod laws;
 mod page;
 mod piece;
 
-pub use laws::whole_page;
+pub use laws::{pieces_have_places, whole_page};
 pub use page::page_items;
