@@ -7,7 +7,7 @@ use Rattle.wt_span.specs.declared.form.Form.{Form}
 use Rattle.wt_span.specs.declared.form.Form.TheVariants as form
 use Rattle.wt_span.specs.declared.form.Mode.TheVariants.{Page}
 use Rattle.wt_span.specs.Entities.{entity_at}
-use Rattle.wt_span.specs.Items.{Item, char, whole, sign, sources}
+use Rattle.wt_span.specs.Items.{Item, char, whole, sources}
 use Rattle.wt_span.specs.Runs.{runs, IsRun, AreRuns}
 use Rattle.wt_span.proofs.RunLaws.{runs_are, runs_joined}
 use Rattle.wt_lines.specs.Lines.{content, goes_on, full_lines}
@@ -20,10 +20,10 @@ use Rattle.wt_inline.specs.Parts.{Part, loose, node, one_leaf, child, children, 
 use Rattle.wt_inline.specs.Inline.{inline_parts, inline_trees}
 use Rattle.wt_build.specs.declared.block.BlockKind.{BlockKind}
 use Rattle.wt_build.specs.declared.block.BlockKind.TheVariants.{Between, Heading, Para}
-use Rattle.wt_build.specs.declared.heading.HeadingParts.{HeadingParts}
-use Rattle.wt_build.specs.Headings.{heading_parts}
+use Rattle.wt_blocks.specs.Headings.{opening, inside, closing}
+use Rattle.wt_blocks.proofs.HeadingLaws.{joined as heading_joined}
 use Rattle.wt_build.specs.Rows.{Row, row, rows, same_block, ending}
-use Rattle.wt_build.specs.Blocks.{joined, line_parts, para, heading_by, heading, block, lead_len, lead, without_lead, last_ending, without_ending, around, parts_by}
+use Rattle.wt_build.specs.Blocks.{joined, line_parts, para, heading, block, lead_len, lead, without_lead, last_ending, without_ending, around, parts_by}
 use Rattle.wt_build.specs.Meaning.{row_items, run_parts, body_parts, meaning}
 use Rattle.wt_build.proofs.Ends.{content_ending}
 use Rattle.wt_build.proofs.MeaningLaws.{row_items_are}
@@ -36,9 +36,6 @@ use Rattle.wt_annotate.specs.Numbers.{makes, makes_all}
 makes_append : (xs ys : List Item) → makes_all (xs ++ ys) ≡ makes_all xs + makes_all ys
 makes_append [] ys = omega arith
 makes_append (x ∷ xs) ys = omega (arith, makes_append xs ys)
-
-makes_parts : (n : ℕ) (xs : List Item) → makes_all (take n xs) + makes_all (drop n xs) ≡ makes_all xs
-makes_parts n xs = sym (makes_append (take n xs) (drop n xs)) ∙ ap makes_all (take-append-drop n xs)
 
 -- ---- parts
 
@@ -93,14 +90,11 @@ inline_count : (xs : List Item) → numbered_in_all (forest (inline_trees xs)) �
 unfolding inline_trees
 inline_count xs = omega (arith, children_count (inline_parts xs), parts_count Text xs)
 
-heading_by_count : (h : HeadingParts) (xs : List Item) → numbered (heading_by h xs) ≤ 1 + makes_all xs
-heading_by_count h xs =
-    let rest = drop h.open_len xs in
-    omega (arith, inline_count (take h.inside_len rest), makes_parts h.inside_len rest, makes_parts h.open_len xs)
-
 heading_count : (xs : List Item) → numbered (heading xs) ≤ 1 + makes_all xs
 unfolding heading
-heading_count xs = heading_by_count (heading_parts (map sign xs)) xs
+heading_count xs =
+    let all : makes_all (opening xs ++ (inside xs ++ closing xs)) ≡ makes_all xs = ap makes_all (heading_joined xs) in
+    omega (arith, inline_count (inside xs), makes_append (opening xs) (inside xs ++ closing xs), makes_append (inside xs) (closing xs), all)
 
 block_count : (k : BlockKind) (ls : List (List Item)) → numbered (block k ls) ≤ 1 + makes_all (joined ls)
 unfolding block

@@ -84,7 +84,7 @@ items_first ps i p l e = ap items (drop_more ps i p l) ∙ ap (λ q. items_of q 
 
 -- the items so far, with those of one more piece, are some of all
 pub count_fits : (ps : List Piece) (i count n : ℕ) (p : Piece) → i < length ps → p ≡ get_or ps i p → count ≡ length (items (take i ps)) → n ≡ item_count p
-    → length ps < 2 ^ 32 → length (sources (items ps)) < 2 ^ 32 → count + n < 2 ^ 64
+    → length ps < 2 ^ 63 → length (sources (items ps)) < 2 ^ 32 → count + n < 2 ^ 64
 count_fits ps i count n p l e c m few bytes =
     let a : length (items ps) ≡ length (items (take i ps)) + length (items (drop i ps)) = ap length (ap items (sym (take-append-drop i ps)) ∙ items_append (take i ps) (drop i ps)) ∙ length-append (items (take i ps)) (items (drop i ps)) in
     let b : length (items (drop i ps)) ≡ length (items_of p) + length (items (drop (i + 1) ps)) = ap length (items_first ps i p l e) ∙ length-append (items_of p) (items (drop (i + 1) ps)) in
@@ -128,7 +128,7 @@ front_below xs n k e =
     let c = ap (λ ys. length (sources ys)) a in
     omega (arith, b, c)
 
-pub few_items : (ps : List Piece) → length ps < 2 ^ 32 → length (sources (items ps)) < 2 ^ 32 → length (items ps) < 2 ^ 33
+pub few_items : (ps : List Piece) → length ps < 2 ^ 63 → length (sources (items ps)) < 2 ^ 32 → length (items ps) < 2 ^ 64
 few_items ps few bytes = let a = items_below ps in omega (arith, a, few, bytes)
 
 -- what stands behind the marks at the front

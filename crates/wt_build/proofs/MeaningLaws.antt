@@ -7,7 +7,7 @@ use Rattle.wt_tree.specs.declared.kind.Kind.TheVariants as kind
 use Rattle.wt_span.specs.declared.form.Form.{Form}
 use Rattle.wt_span.specs.declared.form.Form.TheVariants as form
 use Rattle.wt_span.specs.Entities.{entity_at}
-use Rattle.wt_span.specs.Items.{Item, char, whole, sign, sources}
+use Rattle.wt_span.specs.Items.{Item, char, whole, sources}
 use Rattle.wt_span.specs.Runs.{runs}
 use Rattle.wt_span.proofs.RunLaws.{runs_are, runs_only, runs_joined}
 use Rattle.wt_lines.specs.Lines.{content, goes_on, full_lines}
@@ -20,10 +20,10 @@ use Rattle.wt_inline.specs.Inline.{inline_trees}
 use Rattle.wt_inline.proofs.HeldLaws.{held_children, held_of_parts, held_append, opened_append, sources_opened, are_children, only_children}
 use Rattle.wt_build.specs.declared.block.BlockKind.{BlockKind}
 use Rattle.wt_build.specs.declared.block.BlockKind.TheVariants.{Between, Heading, Para}
-use Rattle.wt_build.specs.declared.heading.HeadingParts.{HeadingParts}
-use Rattle.wt_build.specs.Headings.{heading_parts}
+use Rattle.wt_blocks.specs.Headings.{opening, inside, closing}
+use Rattle.wt_blocks.proofs.HeadingLaws.{joined as heading_joined}
 use Rattle.wt_build.specs.Rows.{Row, row, rows, same_block, ending}
-use Rattle.wt_build.specs.Blocks.{joined, line_parts, para, heading_by, heading, block, lead_len, lead, without_lead, last_ending, without_ending, around, parts_by}
+use Rattle.wt_build.specs.Blocks.{joined, line_parts, para, heading, block, lead_len, lead, without_lead, last_ending, without_ending, around, parts_by}
 use Rattle.wt_build.specs.Meaning.{row_items, run_parts, body_parts, meaning, IsMeaning}
 use Rattle.wt_build.proofs.Ends.{content_ending}
 
@@ -97,20 +97,16 @@ held_inline : (xs : List Item) → held_by_all (forest (inline_trees xs)) ≡ op
 unfolding inline_trees
 held_inline xs = held_children (parts Text xs) ∙ held_of_parts Text xs
 
-held_heading_by : (h : HeadingParts) (xs : List Item) → opened_all (held (heading_by h xs)) ≡ opened_all xs
-held_heading_by h xs =
-    let a = take h.open_len xs in
-    let rest = drop h.open_len xs in
-    let b = take h.inside_len rest in
-    let c = drop h.inside_len rest in
-    opened_append a (held_by_all (forest (inline_trees b)) ++ c)
-    ∙ ap (λ ys. opened_all a ++ ys) (opened_append (held_by_all (forest (inline_trees b))) c ∙ ap (λ ys. opened_all ys ++ opened_all c) (held_inline b) ∙ ap (λ ys. ys ++ opened_all c) (opened_twice b) ∙ sym (opened_append b c) ∙ ap opened_all (take-append-drop h.inside_len rest))
-    ∙ sym (opened_append a rest)
-    ∙ ap opened_all (take-append-drop h.open_len xs)
-
 held_heading : (xs : List Item) → opened_all (held (heading xs)) ≡ opened_all xs
 unfolding heading
-held_heading xs = held_heading_by (heading_parts (map sign xs)) xs
+held_heading xs =
+    let a = opening xs in
+    let b = inside xs in
+    let c = closing xs in
+    opened_append a (held_by_all (forest (inline_trees b)) ++ c)
+    ∙ ap (λ ys. opened_all a ++ ys) (opened_append (held_by_all (forest (inline_trees b))) c ∙ ap (λ ys. opened_all ys ++ opened_all c) (held_inline b) ∙ ap (λ ys. ys ++ opened_all c) (opened_twice b) ∙ sym (opened_append b c))
+    ∙ sym (opened_append a (b ++ c))
+    ∙ ap opened_all (heading_joined xs)
 
 held_block : (k : BlockKind) (ls : List (List Item)) → opened_all (held (block k ls)) ≡ opened_all (joined ls)
 unfolding block

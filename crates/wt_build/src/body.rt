@@ -1,5 +1,5 @@
-ghost use Rattle.std.specs.Prelude.{◌≡◌, IfOk};
-ghost use Rattle.wt_span.specs.Items.{items};
+ghost use Rattle.std.specs.Prelude.{◌≡◌, ◌<◌, ◌^◌, length, IfOk};
+ghost use Rattle.wt_span.specs.Items.{items, sources};
 ghost use Rattle.wt_lines.specs.Lines.{full_lines};
 ghost use Rattle.wt_inline.specs.Parts.{children};
 ghost use Rattle.wt_inline.specs.View.{item_tree, item_trees};
@@ -96,6 +96,7 @@ impl<'a> Tree<'a> {
 /// the items.
 #[tactic(auto, unfolding(crate::specs::Meaning::meaning))]
 pub fn build<'a>(alloc: Global, items: &Items<'a>) -> Result<Tree<'a>, NoMemory>
+    requires { length (sources items.now.items) < 2 ^ 32 }
     ensures { IfOk result (λ t. item_tree t.body ≡ meaning items.now.items) }
 {
     let pieces = parted(alloc, items.pieces())?;

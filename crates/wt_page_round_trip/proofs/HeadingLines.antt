@@ -6,7 +6,7 @@ use Rattle.std.specs.Option.{unwrap_or}
 use Rattle.std.proofs.lemmas.Bool.{true≢false, and_parts, cases_lt}
 use Rattle.std.proofs.lemmas.Bool.Decides.{nat_tests}
 use Rattle.std.proofs.lemmas.List.Folds.{prefix_len-append}
-use Rattle.std.proofs.lemmas.List.{take-append-drop, drop-drop, get_or_append_left, get_or-take, get_or-drop, get_or-reverse, length-reverse, reverse-append}
+use Rattle.std.proofs.lemmas.List.{take-append-drop, get_or_append_left, get_or-take, get_or-drop, get_or-reverse, length-reverse, reverse-append}
 use Rattle.std.proofs.lemmas.List.Sums.{prefix_len_passes}
 use Rattle.wt_html_grammar.proofs.Steps.{if_false}
 use Rattle.wt_span.specs.Bytes.{begins}
@@ -17,7 +17,7 @@ use Rattle.wt_lines.specs.declared.kind.LineKind.TheVariants as line
 use Rattle.wt_lines.specs.Kinds.{is_mark_sign, is_idle, past, is_idle_all, is_alone, is_heading, is_list, first_of, kind_of_signs}
 use Rattle.wt_lines.specs.Lines.{content, is_break_item}
 use Rattle.wt_round_trip.specs.Written.{has_level}
-use Rattle.wt_build.specs.Headings.{core, level_of, open_len, trimmed_len, heading_parts}
+use Rattle.wt_blocks.specs.Headings.{core, level_of, open_len, trimmed_len, level, opening, closing}
 use Rattle.wt_build.specs.Blocks.{lead_len}
 use Rattle.wt_page_round_trip.proofs.TextItems.{BeginsLow, EndsLow}
 use Rattle.wt_page_round_trip.proofs.PageLines.{IsPageLine}
@@ -234,8 +234,8 @@ level_test l a b = grind (arith, nat_tests)
 
 -- ---- the line
 
-heading_cut : (xs : List Item) → IsHeadingSigns (map sign xs) → IsHeadingLine xs (heading_parts (map sign xs))
-unfolding heading_parts
+heading_cut : (xs : List Item) → IsHeadingSigns (map sign xs) → IsHeadingLine xs
+unfolding level opening closing
 heading_cut xs h =
     let ss : List ℕ = map sign xs in
     let c : List ℕ = core ss in
@@ -251,11 +251,11 @@ heading_cut xs h =
     record {
       level = level_test (level_of c) v.some v.six;
       open_ends = subst (λ k. EndsLow (take k xs)) z (ends_low xs (open_len c - 1) (omega (arith, o.0, o.1, n, m)) (omega (arith, o.2, a)));
-      close_begins = subst BeginsLow (sym (drop-drop (trimmed_len (middle c)) (open_len c) xs)) (begins_low xs p (λ _. omega (arith, q.1, b)));
+      close_begins = begins_low xs p (λ _. omega (arith, q.1, b));
     }
 
 pub heading_line : (l : List Item) → IsPageLine l → kind_of_signs 0 (map sign (content l)) ≡ line.Heading
-    → IsHeadingLine (content (drop (lead_len l) l) ++ []) (heading_parts (map sign (content (drop (lead_len l) l) ++ [])))
+    → IsHeadingLine (content (drop (lead_len l) l) ++ [])
 heading_line l h e =
     let xs : List Item = content (drop (lead_len l) l) in
     let signs : List ℕ = map sign (content l) in

@@ -7,7 +7,7 @@ use Rattle.wt_span.specs.Items.{sign, items}
 use Rattle.wt_lines.specs.Kinds.{is_idle, past}
 use Rattle.wt_blocks.specs.Headings.{equals}
 use Rattle.wt_blocks.proofs.Cuts.{core_len, level_is, open_is, inside_is, cuts_within}
-use Rattle.wt_blocks.proofs.heading.cuts_of.Goals as goal
+use Rattle.wt_blocks.proofs.heading.heading_cuts.Goals as goal
 
 pub returns-clause-level : goal.returns-clause-level
 returns-clause-level c =
