@@ -12,7 +12,8 @@ use Rattle.wt_braces.proofs.Replays.{calls_are_made, total_append}
 use Rattle.wt_braces.proofs.SliceWords.{slice_words}
 use Rattle.wt_braces.proofs.TextLaws.{text_width}
 
-bytes_alone : (mode : Mode) (text : List ℕ) (at k : ℕ) (ms : Members) → IsMadeAlone (words mode text) at k ms → reduced (words mode (slice_range text at (at + (k + width_of_all ms + k)))) ≡ call k ms ∷ []
+bytes_alone : (mode : Mode) (text : List ℕ) (at k : ℕ) (ms : Members) → IsMadeAlone (words mode text) at k ms
+    → reduced (words mode (slice_range text at (at + (k + width_of_all ms + k)))) ≡ call k ms ∷ []
 bytes_alone mode text at k ms r =
     let j = r.opening in
     let e = r.closing in
@@ -22,7 +23,9 @@ bytes_alone mode text at k ms r =
     omega (arith, ap (λ xs. width_of_all (members xs)) r.alone, text_width ws, total_append r.between ((Closes, e) ∷ [])) in
     let size : at + (k + width_of_all ms + k) - at ≡ j + (total_width r.between + e) = omega (arith, wide) in
     let start : total_width r.before + (r.unused + j - j) ≡ at = omega (arith, r.place) in
-    ap (λ (n : ℕ). reduced (words mode (take n (drop at text)))) size ∙ ap (λ (n : ℕ). reduced (words mode (take (j + (total_width r.between + e)) (drop n text)))) (sym start) ∙ ap reduced read ∙ r.alone
+    ap (λ (n : ℕ). reduced (words mode (take n (drop at text)))) size
+    ∙ ap (λ (n : ℕ). reduced (words mode (take (j + (total_width r.between + e)) (drop n text)))) (sym start)
+    ∙ ap reduced read ∙ r.alone
 
 mutual
   alone_one : (mode : Mode) (text : List ℕ) (at : ℕ) (m : Member) → IsMade (words mode text) at m → IsAlone mode text at m
@@ -49,14 +52,16 @@ none_in : (c : CallAt) → Contains [] c → ⊥
 none_in c (k, below, e) = omega (arith, below)
 
 mutual
-  found_one : (mode : Mode) (text : List ℕ) (at : ℕ) (parent : Option ℕ) (n : ℕ) (m : Member) (c : CallAt) → IsAlone mode text at m → Contains (calls_of at parent n m) c → AloneAt mode text c
+  found_one : (mode : Mode) (text : List ℕ) (at : ℕ) (parent : Option ℕ) (n : ℕ) (m : Member) (c : CallAt)
+      → IsAlone mode text at m → Contains (calls_of at parent n m) c → AloneAt mode text c
   found_one mode text at parent n (lexeme w) c f h = absurd (none_in c h)
   found_one mode text at parent n (call k ms) c f h = ⊎_elim
       (λ e. subst (AloneAt mode text) e (record { braces = k; inside = ms; is = f.0 }))
       (λ g. found_all mode text (at + k) (Some n) (n + 1) ms c f.1 g)
       (first_or_later _ c (calls_of_all (at + k) (Some n) (n + 1) ms) h)
 
-  found_all : (mode : Mode) (text : List ℕ) (at : ℕ) (parent : Option ℕ) (n : ℕ) (ms : Members) (c : CallAt) → AreAlone mode text at ms → Contains (calls_of_all at parent n ms) c → AloneAt mode text c
+  found_all : (mode : Mode) (text : List ℕ) (at : ℕ) (parent : Option ℕ) (n : ℕ) (ms : Members) (c : CallAt)
+      → AreAlone mode text at ms → Contains (calls_of_all at parent n ms) c → AloneAt mode text c
   found_all mode text at parent n none c f h = absurd (none_in c h)
   found_all mode text at parent n (more m ms) c f h = ⊎_elim
       (λ g. found_one mode text at parent n m c f.0 g)

@@ -24,16 +24,19 @@ abbrev pub IsFront : {A : Type 0} → (A → ℕ) → ℕ → Option A → Optio
 IsFront size m None o = o ≡ None
 IsFront size m (Some x) o = size x ≤ m → o ≡ Some x
 
-pub or_front : {A : Type 0} → (size : A → ℕ) (m : ℕ) (a b c d : Option A) → IsFront size m a c → IsFront size m b d → IsFront size m (option_or a b) (option_or c d)
+pub or_front : {A : Type 0} → (size : A → ℕ) (m : ℕ) (a b c d : Option A) → IsFront size m a c → IsFront size m b d
+    → IsFront size m (option_or a b) (option_or c d)
 or_front size m None b c d f g = let P : Option _ → Type 0 = λ o. IsFront size m b (option_or o d) in subst P (sym f) g
 or_front size m (Some x) b c d f g = λ le. ap (λ o. option_or o d) (f le)
 
-pub front_by : {A : Type 0} → (size : A → ℕ) (m : ℕ) (o p : Option A) → ((x : A) → o ≡ Some x → size x ≤ m → p ≡ Some x) → ((x : A) → p ≡ Some x → o ≡ Some x) → IsFront size m o p
+pub front_by : {A : Type 0} → (size : A → ℕ) (m : ℕ) (o p : Option A) → ((x : A) → o ≡ Some x → size x ≤ m → p ≡ Some x)
+    → ((x : A) → p ≡ Some x → o ≡ Some x) → IsFront size m o p
 front_by size m None None f g = refl
 front_by size m None (Some y) f g = let z = g y refl in cc
 front_by size m (Some x) p f g = f x refl
 
-pub map_front : {A B : Type 0} → (size : A → ℕ) (wide : B → ℕ) (h : A → B) (m : ℕ) (o p : Option A) → ((x : A) → wide (h x) ≡ size x) → IsFront size m o p → IsFront wide m (option_map h o) (option_map h p)
+pub map_front : {A B : Type 0} → (size : A → ℕ) (wide : B → ℕ) (h : A → B) (m : ℕ) (o p : Option A)
+    → ((x : A) → wide (h x) ≡ size x) → IsFront size m o p → IsFront wide m (option_map h o) (option_map h p)
 map_front size wide h m None p same f = ap (option_map h) f
 map_front size wide h m (Some x) p same f = λ le. ap (option_map h) (f (omega (arith, le, same x)))
 
@@ -55,7 +58,8 @@ prefix_same p (b ∷ bs) zero h = by (p b) h
     by false h = refl
 prefix_same p (b ∷ bs) (suc m) h = by (p b) h (prefix_same p bs m)
   where
-    by : (t : Bool) → cond t (1 + prefix_len p bs) 0 ≤ suc m → (prefix_len p bs ≤ m → prefix_len p (take m bs) ≡ prefix_len p bs) → cond t (1 + prefix_len p (take m bs)) 0 ≡ cond t (1 + prefix_len p bs) 0
+    by : (t : Bool) → cond t (1 + prefix_len p bs) 0 ≤ suc m → (prefix_len p bs ≤ m → prefix_len p (take m bs) ≡ prefix_len p bs)
+        → cond t (1 + prefix_len p (take m bs)) 0 ≡ cond t (1 + prefix_len p bs) 0
     by true h rest = ap (λ k. 1 + k) (rest (omega arith))
     by false h rest = refl
 
@@ -79,16 +83,19 @@ run_front kind byte bs m = by (nat_lt 1 n) refl
     k = prefix_len (λ b. b == byte) (take m bs)
 
     by : (t : Bool) → nat_lt 1 n ≡ t → IsFront {A = LexKind × ℕ} pair_size m (if t then Some (kind, n) else None) (if nat_lt 1 k then Some (kind, k) else None)
-    by true e = λ le. ap (λ (i : ℕ). if nat_lt 1 i then Some (kind, i) else None) (prefix_same (λ b. b == byte) bs m le) ∙ ap (λ t. if t then Some (kind, n) else None) e
+    by true e = λ le. ap (λ (i : ℕ). if nat_lt 1 i then Some (kind, i) else None) (prefix_same (λ b. b == byte) bs m le)
+        ∙ ap (λ t. if t then Some (kind, n) else None) e
     by false e =
         let le = prefix_le (λ b. b == byte) bs m in
         let no : nat_lt 1 k ≡ false = grind (arith, nat_tests) in
         ap (λ t. if t then Some (kind, k) else None) no
 
-pub sign_front : (kind : LexKind) (sign : List ℕ) (bs : List ℕ) (m : ℕ) → IsFront pair_size m (sign_at kind sign (length sign) bs) (sign_at kind sign (length sign) (take m bs))
+pub sign_front : (kind : LexKind) (sign : List ℕ) (bs : List ℕ) (m : ℕ) → IsFront pair_size m (sign_at kind sign (length sign) bs)
+    (sign_at kind sign (length sign) (take m bs))
 sign_front kind sign bs m = by (begins sign bs) refl
   where
-    by : (t : Bool) → begins sign bs ≡ t → IsFront {A = LexKind × ℕ} pair_size m (if t then Some (kind, length sign) else None) (if begins sign (take m bs) then Some (kind, length sign) else None)
+    by : (t : Bool) → begins sign bs ≡ t → IsFront {A = LexKind × ℕ} pair_size m (if t then Some (kind, length sign) else None)
+        (if begins sign (take m bs) then Some (kind, length sign) else None)
     by true e = λ le. ap (λ t. if t then Some (kind, length sign) else None) (begins_front sign bs m le e)
     by false e = ap (λ t. if t then Some (kind, length sign) else None) (begins_none sign bs m e)
 
@@ -106,7 +113,8 @@ through_len : (word bs : List ℕ) → through word bs < length bs → length wo
 through_len word [] h = absurd (omega arith)
 through_len word (b ∷ bs) h = by (begins word (b ∷ bs)) h (through_len word bs)
   where
-    by : (t : Bool) → (if t then length word else 1 + through word bs) < suc (length bs) → (through word bs < length bs → length word ≤ through word bs) → length word ≤ (if t then length word else 1 + through word bs)
+    by : (t : Bool) → (if t then length word else 1 + through word bs) < suc (length bs)
+        → (through word bs < length bs → length word ≤ through word bs) → length word ≤ (if t then length word else 1 + through word bs)
     by true h rest = omega arith
     by false h rest = let z = rest (omega arith) in omega (arith, z)
 
@@ -116,7 +124,8 @@ through_more word [] (suc m) h = refl
 through_more word (b ∷ bs) zero h = absurd (omega arith)
 through_more word (b ∷ bs) (suc m) h = by (begins word (b ∷ take m bs)) (begins word (b ∷ bs)) refl refl h (through_more word bs m)
   where
-    by : (t u : Bool) → begins word (b ∷ take m bs) ≡ t → begins word (b ∷ bs) ≡ u → (if t then length word else 1 + through word (take m bs)) < suc (length (take m bs))
+    by : (t u : Bool) → begins word (b ∷ take m bs) ≡ t → begins word (b ∷ bs) ≡ u
+        → (if t then length word else 1 + through word (take m bs)) < suc (length (take m bs))
         → (through word (take m bs) < length (take m bs) → through word bs ≡ through word (take m bs))
         → (if u then length word else 1 + through word bs) ≡ (if t then length word else 1 + through word (take m bs))
     by true true e f h rest = refl
@@ -138,8 +147,10 @@ comment_more bs m c e h =
     let size = is.1 in
     let cut : drop 4 xs ≡ take (m - 4) (drop 4 bs) = drop_front 4 m bs (omega (arith, length-take m bs)) in
     let same : through (codes "-->") (drop 4 bs) ≡ through (codes "-->") (drop 4 xs) =
-    through_more (codes "-->") (drop 4 bs) (m - 4) (omega (arith, ap (through (codes "-->")) cut, ap length cut, length-drop 4 xs)) ∙ ap (through (codes "-->")) (sym cut) in
-    ap (λ t. if t then Some (4 + through (codes "-->") (drop 4 bs)) else None) (begins_more (codes "<!--") bs m is.0) ∙ ap (λ (k : ℕ). Some (4 + k)) same ∙ ap Some size
+    through_more (codes "-->") (drop 4 bs) (m - 4)
+    (omega (arith, ap (through (codes "-->")) cut, ap length cut, length-drop 4 xs)) ∙ ap (through (codes "-->")) (sym cut) in
+    ap (λ t. if t then Some (4 + through (codes "-->") (drop 4 bs)) else None) (begins_more (codes "<!--") bs m is.0)
+    ∙ ap (λ (k : ℕ). Some (4 + k)) same ∙ ap Some size
 
 -- a text that begins with another byte begins with no comment
 pub no_comment : (b : ℕ) (bs : List ℕ) → (b ≡ 60 → ⊥) → comment_len (b ∷ bs) ≡ None
@@ -182,7 +193,8 @@ remarks_more zero (b ∷ bs) (suc m) h = by (comment_len (b ∷ take m bs)) refl
         ap (λ o. remarks_with o b (λ n. remarks_len n bs)) (no_comment b bs (not_open b e)) ∙ ap (λ t. if t then 1 + remarks_len 0 bs else 0) e
         ∙ ap (λ i. 1 + i) (rest zero (sym (get_next b (take m bs) (remarks_len 0 (take m bs))) ∙ h))
     blank_or false e h rest =
-        ap (λ o. remarks_with o b (λ n. remarks_len n bs)) (no_comment b bs (λ f. let z : 10 ≡ 60 = sym h ∙ f in cc)) ∙ ap (λ t. if t then 1 + remarks_len 0 bs else 0) e
+        ap (λ o. remarks_with o b (λ n. remarks_len n bs)) (no_comment b bs (λ f. let z : 10 ≡ 60 = sym h ∙ f in cc))
+        ∙ ap (λ t. if t then 1 + remarks_len 0 bs else 0) e
 
     by : (o : Option ℕ) → comment_len (b ∷ take m bs) ≡ o → get_or (b ∷ take m bs) (remarks_with o b (λ n. remarks_len n (take m bs))) 0 ≡ 10 → Rest
         → remarks_with (comment_len (b ∷ bs)) b (λ n. remarks_len n bs) ≡ remarks_with o b (λ n. remarks_len n (take m bs))
@@ -224,7 +236,8 @@ names_front [] bs m = refl
 names_front ((name, c) ∷ entries) bs m = by (begins name bs) refl (names_front entries bs m)
   where
     by : (t : Bool) → begins name bs ≡ t → IsFront {A = ℕ × ℕ} pair_size m (named_in entries bs) (named_in entries (take m bs))
-        → IsFront {A = ℕ × ℕ} pair_size m (if t then Some (c, length name) else named_in entries bs) (if begins name (take m bs) then Some (c, length name) else named_in entries (take m bs))
+        → IsFront {A = ℕ × ℕ} pair_size m (if t then Some (c, length name) else named_in entries bs)
+        (if begins name (take m bs) then Some (c, length name) else named_in entries (take m bs))
     by true e rest = λ le. ap (λ t. if t then Some (c, length name) else named_in entries (take m bs)) (begins_front name bs m le e)
     by false e rest =
         let P : Option (ℕ × ℕ) → Type 0 = λ o. IsFront pair_size m (named_in entries bs) o in
@@ -236,13 +249,16 @@ number_by start most n byte c = if nat_lt 0 n && (nat_le n most && (byte == 59 &
 number_size : (start most n byte c : ℕ) (x : ℕ × ℕ) → number_by start most n byte c ≡ Some x → (start + n + 1 ≡ x.1) × ((byte == 59) ≡ true)
 number_size start most n byte c x e = by (nat_lt 0 n && (nat_le n most && (byte == 59 && is_entity_number c))) refl e
   where
-    by : (t : Bool) → (nat_lt 0 n && (nat_le n most && (byte == 59 && is_entity_number c))) ≡ t → (if t then Some (c, start + n + 1) else None) ≡ Some x → (start + n + 1 ≡ x.1) × ((byte == 59) ≡ true)
-    by true f e = let same : (c, start + n + 1) ≡ x = cc in (ap (λ (y : ℕ × ℕ). y.1) same, and_left (byte == 59) _ (and_right (nat_le n most) _ (and_right (nat_lt 0 n) _ f)))
+    by : (t : Bool) → (nat_lt 0 n && (nat_le n most && (byte == 59 && is_entity_number c))) ≡ t
+        → (if t then Some (c, start + n + 1) else None) ≡ Some x → (start + n + 1 ≡ x.1) × ((byte == 59) ≡ true)
+    by true f e = let same : (c, start + n + 1) ≡ x = cc in
+        (ap (λ (y : ℕ × ℕ). y.1) same, and_left (byte == 59) _ (and_right (nat_le n most) _ (and_right (nat_lt 0 n) _ f)))
     by false f e = cc
 
 -- the digits, the byte after them and their value are the same
 number_same : (start most base : ℕ) (is_digit : ℕ → Bool) (bs : List ℕ) (m : ℕ) → start ≤ m → (let n = prefix_len is_digit (drop start bs) in start + n < m)
-    → prefix_len is_digit (drop start (take m bs)) ≡ prefix_len is_digit (drop start bs) → numbered start most base is_digit (take m bs) ≡ numbered start most base is_digit bs
+    → prefix_len is_digit (drop start (take m bs)) ≡ prefix_len is_digit (drop start bs)
+    → numbered start most base is_digit (take m bs) ≡ numbered start most base is_digit bs
 number_same start most base is_digit bs m le h run =
     let n = prefix_len is_digit (drop start bs) in
     let digits = take n (drop start bs) in
@@ -252,15 +268,18 @@ number_same start most base is_digit bs m le h run =
     ∙ ap (λ (b : ℕ). number_by start most n b (digits_value base (take n (drop start (take m bs))))) (byte_front bs m (start + n) (omega arith))
     ∙ ap (λ (ds : List ℕ). number_by start most n (get_or bs (start + n) 0) (digits_value base ds)) same
 
-number_front : (start most base : ℕ) (is_digit : ℕ → Bool) (bs : List ℕ) (m : ℕ) → IsFront pair_size m (numbered start most base is_digit bs) (numbered start most base is_digit (take m bs))
-number_front start most base is_digit bs m = front_by pair_size m (numbered start most base is_digit bs) (numbered start most base is_digit (take m bs)) some more
+number_front : (start most base : ℕ) (is_digit : ℕ → Bool) (bs : List ℕ) (m : ℕ)
+    → IsFront pair_size m (numbered start most base is_digit bs) (numbered start most base is_digit (take m bs))
+number_front start most base is_digit bs m = front_by pair_size m (numbered start most base is_digit bs)
+    (numbered start most base is_digit (take m bs)) some more
   where
     some : (x : ℕ × ℕ) → numbered start most base is_digit bs ≡ Some x → x.1 ≤ m → numbered start most base is_digit (take m bs) ≡ Some x
     some x e le =
         let n = prefix_len is_digit (drop start bs) in
         let size = (number_size start most n (get_or bs (start + n) 0) (digits_value base (take n (drop start bs))) x e).0 in
         let cut : drop start (take m bs) ≡ take (m - start) (drop start bs) = drop_front start m bs (omega arith) in
-        number_same start most base is_digit bs m (omega arith) (omega arith) (ap (prefix_len is_digit) cut ∙ prefix_front is_digit (drop start bs) (m - start) (omega arith)) ∙ e
+        number_same start most base is_digit bs m (omega arith) (omega arith)
+        (ap (prefix_len is_digit) cut ∙ prefix_front is_digit (drop start bs) (m - start) (omega arith)) ∙ e
 
     more : (x : ℕ × ℕ) → numbered start most base is_digit (take m bs) ≡ Some x → numbered start most base is_digit bs ≡ Some x
     more x e =
@@ -271,7 +290,8 @@ number_front start most base is_digit bs m = front_by pair_size m (numbered star
         let short = length-take m bs in
         let cut : drop start xs ≡ take (m - start) (drop start bs) = drop_front start m bs (omega arith) in
         let run : prefix_len is_digit (drop start bs) ≡ k =
-        prefix_more is_digit (drop start bs) (m - start) (omega (arith, ap (prefix_len is_digit) cut, ap length cut, length-drop start xs)) ∙ ap (prefix_len is_digit) (sym cut) in
+        prefix_more is_digit (drop start bs) (m - start)
+        (omega (arith, ap (prefix_len is_digit) cut, ap length cut, length-drop start xs)) ∙ ap (prefix_len is_digit) (sym cut) in
         sym (number_same start most base is_digit bs m (omega arith) (omega arith) (sym run)) ∙ e
 
 started_front : (sign : List ℕ) (bs : List ℕ) (m : ℕ) (o p : Option (ℕ × ℕ)) → ((x : ℕ × ℕ) → o ≡ Some x → length sign ≤ x.1) → IsFront pair_size m o p
@@ -295,10 +315,13 @@ number_long start most base is_digit bs x e =
 
 decimal_front : (bs : List ℕ) (m : ℕ) → IsFront pair_size m (decimal_entity bs) (decimal_entity (take m bs))
 unfolding decimal_entity
-decimal_front bs m = started_front (codes "&#") bs m (numbered 2 7 10 is_ascii_digit bs) (numbered 2 7 10 is_ascii_digit (take m bs)) (number_long 2 7 10 is_ascii_digit bs) (number_front 2 7 10 is_ascii_digit bs m)
+decimal_front bs m = started_front (codes "&#") bs m (numbered 2 7 10 is_ascii_digit bs)
+    (numbered 2 7 10 is_ascii_digit (take m bs)) (number_long 2 7 10 is_ascii_digit bs) (number_front 2 7 10 is_ascii_digit bs m)
 
-either_front : (one two : List ℕ) (bs : List ℕ) (m : ℕ) (o p : Option (ℕ × ℕ)) → length one ≡ length two → ((x : ℕ × ℕ) → o ≡ Some x → length one ≤ x.1) → IsFront pair_size m o p
-    → IsFront {A = ℕ × ℕ} pair_size m (if begins one bs || begins two bs then o else None) (if begins one (take m bs) || begins two (take m bs) then p else None)
+either_front : (one two : List ℕ) (bs : List ℕ) (m : ℕ) (o p : Option (ℕ × ℕ)) → length one ≡ length two
+    → ((x : ℕ × ℕ) → o ≡ Some x → length one ≤ x.1) → IsFront pair_size m o p
+    → IsFront {A = ℕ × ℕ} pair_size m (if begins one bs || begins two bs then o else None)
+    (if begins one (take m bs) || begins two (take m bs) then p else None)
 either_front one two bs m o p same long f = by o long f
   where
     none_both : (t u : Bool) → ◌≡◌ {A = Option (ℕ × ℕ)} (if t || u then None else None) None
@@ -306,24 +329,32 @@ either_front one two bs m o p same long f = by o long f
     none_both false true = refl
     none_both false false = refl
 
-    none_by : (t u : Bool) → begins one bs ≡ t → begins two bs ≡ u → (o : Option (ℕ × ℕ)) → ((x : ℕ × ℕ) → o ≡ Some x → length one ≤ x.1) → IsFront {A = ℕ × ℕ} pair_size m o p
+    none_by : (t u : Bool) → begins one bs ≡ t → begins two bs ≡ u → (o : Option (ℕ × ℕ))
+        → ((x : ℕ × ℕ) → o ≡ Some x → length one ≤ x.1) → IsFront {A = ℕ × ℕ} pair_size m o p
         → IsFront {A = ℕ × ℕ} pair_size m (if t || u then o else None) (if begins one (take m bs) || begins two (take m bs) then p else None)
     none_by false false e g o long f =
         ap (λ t. if t || begins two (take m bs) then p else None) (begins_none one bs m e) ∙ ap (λ t. if t then p else None) (begins_none two bs m g)
-    none_by true u e g None long f = ap (λ q. if begins one (take m bs) || begins two (take m bs) then q else None) f ∙ none_both (begins one (take m bs)) (begins two (take m bs))
-    none_by false true e g None long f = ap (λ q. if begins one (take m bs) || begins two (take m bs) then q else None) f ∙ none_both (begins one (take m bs)) (begins two (take m bs))
-    none_by true u e g (Some x) long f = λ le. ap (λ t. if t || begins two (take m bs) then p else None) (begins_front one bs m (omega (arith, long x refl, le)) e) ∙ f le
+    none_by true u e g None long f = ap (λ q. if begins one (take m bs) || begins two (take m bs) then q else None) f
+        ∙ none_both (begins one (take m bs)) (begins two (take m bs))
+    none_by false true e g None long f = ap (λ q. if begins one (take m bs) || begins two (take m bs) then q else None) f
+        ∙ none_both (begins one (take m bs)) (begins two (take m bs))
+    none_by true u e g (Some x) long f = λ le. ap (λ t. if t || begins two (take m bs) then p else None)
+        (begins_front one bs m (omega (arith, long x refl, le)) e) ∙ f le
     none_by false true e g (Some x) long f = λ le.
-        ap (λ t. if t || begins two (take m bs) then p else None) (begins_none one bs m e) ∙ ap (λ t. if t then p else None) (begins_front two bs m (omega (arith, long x refl, le, same)) g) ∙ f le
+        ap (λ t. if t || begins two (take m bs) then p else None) (begins_none one bs m e)
+        ∙ ap (λ t. if t then p else None) (begins_front two bs m (omega (arith, long x refl, le, same)) g) ∙ f le
 
     by : (o : Option (ℕ × ℕ)) → ((x : ℕ × ℕ) → o ≡ Some x → length one ≤ x.1) → IsFront {A = ℕ × ℕ} pair_size m o p
-        → IsFront {A = ℕ × ℕ} pair_size m (if begins one bs || begins two bs then o else None) (if begins one (take m bs) || begins two (take m bs) then p else None)
+        → IsFront {A = ℕ × ℕ} pair_size m (if begins one bs || begins two bs then o else None)
+        (if begins one (take m bs) || begins two (take m bs) then p else None)
     by o long f = none_by (begins one bs) (begins two bs) refl refl o long f
 
 hex_front : (bs : List ℕ) (m : ℕ) → IsFront pair_size m (hex_entity bs) (hex_entity (take m bs))
 unfolding hex_entity
 hex_front bs m =
-    either_front (codes "&#x") (codes "&#X") bs m (numbered 3 6 16 is_ascii_hexdigit bs) (numbered 3 6 16 is_ascii_hexdigit (take m bs)) refl (number_long 3 6 16 is_ascii_hexdigit bs) (number_front 3 6 16 is_ascii_hexdigit bs m)
+    either_front (codes "&#x") (codes "&#X") bs m (numbered 3 6 16 is_ascii_hexdigit bs)
+    (numbered 3 6 16 is_ascii_hexdigit (take m bs)) refl (number_long 3 6 16 is_ascii_hexdigit bs)
+    (number_front 3 6 16 is_ascii_hexdigit bs m)
 
 named_front : (bs : List ℕ) (m : ℕ) → IsFront pair_size m (named_entity bs) (named_entity (take m bs))
 unfolding named_entity

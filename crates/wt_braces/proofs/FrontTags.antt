@@ -30,9 +30,11 @@ then_some false o x e f = cc
 -- ---- an opening tag of a front is one of the text
 
 abbrev tag_by : List ℕ → List ℕ → ℕ → Option Tag
-tag_by name inside byte = if byte == 62 && is_tag_inside inside then Some (record { name = lower name; len = 2 + length name + length inside; alone = closes_itself inside }) else None
+tag_by name inside byte = if byte == 62 && is_tag_inside inside then
+    Some (record { name = lower name; len = 2 + length name + length inside; alone = closes_itself inside }) else None
 
-after_is : (name rest : List ℕ) → tag_after name rest ≡ tag_by name (take (prefix_len is_tag_byte rest) rest) (get_or rest (length (take (prefix_len is_tag_byte rest) rest)) 0)
+after_is : (name rest : List ℕ) → tag_after name rest ≡ tag_by name (take (prefix_len is_tag_byte rest) rest)
+    (get_or rest (length (take (prefix_len is_tag_byte rest) rest)) 0)
 unfolding tag_after
 after_is name rest = refl
 
@@ -42,7 +44,8 @@ after_byte name rest t e =
     let inside = take (prefix_len is_tag_byte rest) rest in
     let x : Tag = record { name = lower name; len = 2 + length name + length inside; alone = closes_itself inside } in
     let is = if_some (get_or rest (length inside) 0 == 62 && is_tag_inside inside) (Some x) t (sym (after_is name rest) ∙ e) in
-    let full : length inside ≡ prefix_len is_tag_byte rest = omega (arith, length-take (prefix_len is_tag_byte rest) rest, prefix_len-le-length is_tag_byte rest) in
+    let full : length inside ≡ prefix_len is_tag_byte rest =
+    omega (arith, length-take (prefix_len is_tag_byte rest) rest, prefix_len-le-length is_tag_byte rest) in
     ap (λ (i : ℕ). get_or rest i 0) (sym full) ∙ byte_is rest (length inside) 62 (and_left (get_or rest (length inside) 0 == 62) _ is.0)
 
 after_more : (name rest : List ℕ) (t : Tag) (m : ℕ) → tag_after name (take m rest) ≡ Some t → tag_after name rest ≡ Some t
@@ -61,7 +64,8 @@ after_more name rest t m e =
 abbrev opening_by : ℕ → ℕ → List ℕ → List ℕ → Option Tag
 opening_by first n name rest = if first == 60 && nat_lt 0 n then tag_after name rest else None
 
-opening_is : (bs : List ℕ) → opening_tag bs ≡ opening_by (get_or bs 0 0) (name_len (drop 1 bs)) (take (name_len (drop 1 bs)) (drop 1 bs)) (drop (1 + name_len (drop 1 bs)) bs)
+opening_is : (bs : List ℕ) → opening_tag bs ≡ opening_by (get_or bs 0 0) (name_len (drop 1 bs))
+    (take (name_len (drop 1 bs)) (drop 1 bs)) (drop (1 + name_len (drop 1 bs)) bs)
 unfolding opening_tag
 opening_is bs = refl
 
@@ -80,7 +84,8 @@ opening_more bs t m e =
     let left = length-drop (1 + n) xs in
     let all = length-drop 1 xs in
     let cut : drop 1 xs ≡ take (m - 1) (drop 1 bs) = drop_front 1 m bs (omega arith) in
-    let names : name_len (drop 1 bs) ≡ n = name_more (drop 1 bs) (m - 1) (omega (arith, ap name_len cut)) (omega (arith, ap name_len cut, ap length cut)) ∙ ap name_len (sym cut) in
+    let names : name_len (drop 1 bs) ≡ n = name_more (drop 1 bs) (m - 1) (omega (arith, ap name_len cut))
+    (omega (arith, ap name_len cut, ap length cut)) ∙ ap name_len (sym cut) in
     let same : name ≡ take n (drop 1 bs) = ap (take n) cut ∙ take-take n (m - 1) (drop 1 bs) (omega arith) in
     let after : rest ≡ take (m - (1 + n)) (drop (1 + n) bs) = drop_front (1 + n) m bs (omega arith) in
     let tail : tag_after name (drop (1 + n) bs) ≡ Some t = after_more name (drop (1 + n) bs) t (m - (1 + n)) (ap (tag_after name) (sym after) ∙ is.1) in
@@ -165,7 +170,8 @@ inside_none t bs m e =
     let is = none_inside t (to_closing t.name (drop t.len bs)) (sym (inside_is t bs) ∙ e) in
     let none : to_closing t.name (drop t.len (take m bs)) ≡ None =
     ⊎_elim (λ c. ap (to_closing t.name) c ∙ closing_none t.name (drop t.len bs) (m - t.len) is.1) (λ c. ap (to_closing t.name) c) (drop_short t.len m bs) in
-    inside_is t (take m bs) ∙ ap (λ (v : Bool). if v then Some t.len else option_map (λ j. t.len + j) (to_closing t.name (drop t.len (take m bs)))) is.0 ∙ ap (option_map (λ j. t.len + j)) none
+    inside_is t (take m bs) ∙ ap (λ (v : Bool). if v then Some t.len else
+    option_map (λ j. t.len + j) (to_closing t.name (drop t.len (take m bs)))) is.0 ∙ ap (option_map (λ j. t.len + j)) none
 
 inside_len_front : (t : Tag) (bs : List ℕ) (m : ℕ) → IsFront len_size m (with_inside t bs) (with_inside t (take m bs))
 inside_len_front t bs m = by (with_inside t bs) refl
@@ -205,7 +211,8 @@ unfolding raw_len
 raw_len_front bs m = by (opening_tag bs) (opening_tag (take m bs)) (tag_case bs m)
   where
     by : (o p : Option Tag) → TagCase m o p → IsFront len_size m (raw_by is_raw_name o bs) (raw_by is_raw_name p (take m bs))
-    by o p (same e) = let P : Option Tag → Type 0 = λ q. IsFront len_size m (raw_by is_raw_name o bs) (raw_by is_raw_name q (take m bs)) in subst P (sym e) (raw_tag_front o bs m)
+    by o p (same e) = let P : Option Tag → Type 0 = λ q. IsFront len_size m (raw_by is_raw_name o bs)
+        (raw_by is_raw_name q (take m bs)) in subst P (sym e) (raw_tag_front o bs m)
     by o p (past t e h f) =
         let P : Option Tag → Type 0 = λ q. IsFront len_size m (raw_by is_raw_name o bs) (raw_by is_raw_name q (take m bs)) in
         let Q : Option Tag → Type 0 = λ q. IsFront len_size m (raw_by is_raw_name q bs) None in
@@ -216,7 +223,8 @@ raw_len_front bs m = by (opening_tag bs) (opening_tag (take m bs)) (tag_case bs 
 hidden_front : (mode : Mode) (t : Tag) (bs : List ℕ) (m : ℕ) → hidden_len t bs ≤ m → hidden_len t (take m bs) ≡ hidden_len t bs
 hidden_front mode t bs m le = by (with_inside t bs) refl le
   where
-    by : (o : Option ℕ) → with_inside t bs ≡ o → unwrap_or o (length bs) ≤ m → unwrap_or (with_inside t (take m bs)) (length (take m bs)) ≡ unwrap_or o (length bs)
+    by : (o : Option ℕ) → with_inside t bs ≡ o → unwrap_or o (length bs) ≤ m
+        → unwrap_or (with_inside t (take m bs)) (length (take m bs)) ≡ unwrap_or o (length bs)
     by None e le = ap (λ xs. unwrap_or (with_inside t xs) (length xs)) (take_all m bs le) ∙ ap (λ o. unwrap_or o (length bs)) e
     by (Some n) e le = ap (λ o. unwrap_or o (length (take m bs))) (inside_front t bs n m e le)
 
@@ -224,7 +232,9 @@ opening_tag_front : (mode : Mode) (o : Option Tag) (bs : List ℕ) (m : ℕ) →
 opening_tag_front mode None bs m = refl
 opening_tag_front mode (Some t) bs m = by (hides mode t.name) (is_left_out mode t.name)
   where
-    by : (u v : Bool) → IsFront {A = Word} pair_size m (if u then Some (Hidden, hidden_len t bs) else (if v then Some (Include, t.len) else None)) (if u then Some (Hidden, hidden_len t (take m bs)) else (if v then Some (Include, t.len) else None))
+    by : (u v : Bool) → IsFront {A = Word} pair_size m
+        (if u then Some (Hidden, hidden_len t bs) else (if v then Some (Include, t.len) else None))
+        (if u then Some (Hidden, hidden_len t (take m bs)) else (if v then Some (Include, t.len) else None))
     by true v = λ le. let W : ℕ → Option Word = λ n. Some (Hidden, n) in ap W (hidden_front mode t bs m le)
     by false true = λ le. refl
     by false false = refl
@@ -232,7 +242,9 @@ opening_tag_front mode (Some t) bs m = by (hides mode t.name) (is_left_out mode 
 opening_past : (mode : Mode) (t : Tag) (bs : List ℕ) (m : ℕ) → t.len ≤ length bs → m < t.len → IsFront pair_size m (opening_include mode (Some t) bs) None
 opening_past mode t bs m fits h = by (hides mode t.name) (is_left_out mode t.name) (with_inside t bs) refl
   where
-    by : (u v : Bool) (o : Option ℕ) → with_inside t bs ≡ o → IsFront {A = Word} pair_size m (if u then Some (Hidden, unwrap_or o (length bs)) else (if v then Some (Include, t.len) else None)) None
+    by : (u v : Bool) (o : Option ℕ) → with_inside t bs ≡ o
+        → IsFront {A = Word} pair_size m (if u then Some (Hidden, unwrap_or o (length bs)) else
+        (if v then Some (Include, t.len) else None)) None
     by true v None e = λ le. absurd (omega arith)
     by true v (Some n) e = λ le. absurd (omega (arith, long_inside t bs n e, le, h))
     by false true o e = λ le. absurd (omega arith)
@@ -241,11 +253,13 @@ opening_past mode t bs m fits h = by (hides mode t.name) (is_left_out mode t.nam
 tag_within : (bs : List ℕ) (t : Tag) → opening_tag bs ≡ Some t → t.len ≤ length bs
 tag_within bs t e = let P : Option Tag → Type 0 = λ o. OptTag bs o in let f = subst P e (opening_fits bs) in f.within
 
-opening_include_front : (mode : Mode) (bs : List ℕ) (m : ℕ) → IsFront pair_size m (opening_include mode (opening_tag bs) bs) (opening_include mode (opening_tag (take m bs)) (take m bs))
+opening_include_front : (mode : Mode) (bs : List ℕ) (m : ℕ) → IsFront pair_size m (opening_include mode (opening_tag bs) bs)
+    (opening_include mode (opening_tag (take m bs)) (take m bs))
 opening_include_front mode bs m = by (opening_tag bs) (opening_tag (take m bs)) refl (tag_case bs m)
   where
     by : (o p : Option Tag) → opening_tag bs ≡ o → TagCase m o p → IsFront pair_size m (opening_include mode o bs) (opening_include mode p (take m bs))
-    by o p is (same e) = let P : Option Tag → Type 0 = λ q. IsFront pair_size m (opening_include mode o bs) (opening_include mode q (take m bs)) in subst P (sym e) (opening_tag_front mode o bs m)
+    by o p is (same e) = let P : Option Tag → Type 0 = λ q. IsFront pair_size m (opening_include mode o bs)
+        (opening_include mode q (take m bs)) in subst P (sym e) (opening_tag_front mode o bs m)
     by o p is (past t e h f) =
         let P : Option Tag → Type 0 = λ q. IsFront pair_size m (opening_include mode o bs) (opening_include mode q (take m bs)) in
         let Q : Option Tag → Type 0 = λ q. IsFront pair_size m (opening_include mode q bs) None in
@@ -265,11 +279,13 @@ closing_same mode o m = by (closing_include mode o)
     by None = refl
     by (Some w) = λ le. refl
 
-closing_include_front : (mode : Mode) (bs : List ℕ) (m : ℕ) → IsFront pair_size m (closing_include mode (closing_tag bs)) (closing_include mode (closing_tag (take m bs)))
+closing_include_front : (mode : Mode) (bs : List ℕ) (m : ℕ) → IsFront pair_size m (closing_include mode (closing_tag bs))
+    (closing_include mode (closing_tag (take m bs)))
 closing_include_front mode bs m = by (closing_tag bs) (closing_tag (take m bs)) (shut_case bs m)
   where
     by : (o p : Option Tag) → TagCase m o p → IsFront pair_size m (closing_include mode o) (closing_include mode p)
-    by o p (same e) = let P : Option Tag → Type 0 = λ q. IsFront pair_size m (closing_include mode o) (closing_include mode q) in subst P (sym e) (closing_same mode o m)
+    by o p (same e) = let P : Option Tag → Type 0 = λ q. IsFront pair_size m (closing_include mode o) (closing_include mode q) in
+        subst P (sym e) (closing_same mode o m)
     by o p (past t e h f) =
         let P : Option Tag → Type 0 = λ q. IsFront pair_size m (closing_include mode o) (closing_include mode q) in
         let Q : Option Tag → Type 0 = λ q. IsFront pair_size m (closing_include mode q) None in
@@ -278,7 +294,8 @@ closing_include_front mode bs m = by (closing_tag bs) (closing_tag (take m bs)) 
 include_at_front : (mode : Mode) (bs : List ℕ) (m : ℕ) → IsFront pair_size m (include_at mode bs) (include_at mode (take m bs))
 unfolding include_at
 include_at_front mode bs m =
-    or_front pair_size m (opening_include mode (opening_tag bs) bs) (closing_include mode (closing_tag bs)) (opening_include mode (opening_tag (take m bs)) (take m bs)) (closing_include mode (closing_tag (take m bs)))
+    or_front pair_size m (opening_include mode (opening_tag bs) bs) (closing_include mode (closing_tag bs))
+    (opening_include mode (opening_tag (take m bs)) (take m bs)) (closing_include mode (closing_tag (take m bs)))
     (opening_include_front mode bs m) (closing_include_front mode bs m)
 
 -- ---- any form
@@ -291,10 +308,12 @@ signs_front bs m =
     (or_front pair_size m (run_at Closes 125 bs) _ (run_at Closes 125 xs) _ (run_front Closes 125 bs m)
     (or_front pair_size m (sign_at LinkOpen (codes "[[") 2 bs) _ (sign_at LinkOpen (codes "[[") 2 xs) _ (sign_front LinkOpen (codes "[[") bs m)
     (or_front pair_size m (sign_at LinkClose (codes "]]") 2 bs) _ (sign_at LinkClose (codes "]]") 2 xs) _ (sign_front LinkClose (codes "]]") bs m)
-    (or_front pair_size m (sign_at Pipe (codes "|") 1 bs) (sign_at Equals (codes "=") 1 bs) (sign_at Pipe (codes "|") 1 xs) (sign_at Equals (codes "=") 1 xs) (sign_front Pipe (codes "|") bs m) (sign_front Equals (codes "=") bs m)))))
+    (or_front pair_size m (sign_at Pipe (codes "|") 1 bs) (sign_at Equals (codes "=") 1 bs) (sign_at Pipe (codes "|") 1 xs)
+    (sign_at Equals (codes "=") 1 xs) (sign_front Pipe (codes "|") bs m) (sign_front Equals (codes "=") bs m)))))
 
 line_word_front : (after : Bool) (bs : List ℕ) (m : ℕ) → IsFront pair_size m (comment_line_word after bs) (comment_line_word after (take m bs))
-line_word_front true bs m = map_front len_size pair_size (λ n. (CommentLine, n)) m (comment_line_len bs) (comment_line_len (take m bs)) (λ n. refl) (line_len_front bs m)
+line_word_front true bs m = map_front len_size pair_size (λ n. (CommentLine, n)) m (comment_line_len bs)
+    (comment_line_len (take m bs)) (λ n. refl) (line_len_front bs m)
 line_word_front false bs m = refl
 
 -- the form that begins a text begins each front that holds it, and where none does, none begins a front
@@ -303,8 +322,10 @@ unfolding form_at
 form_front mode after bs m =
     let xs = take m bs in
     or_front pair_size m (comment_line_word after bs) _ (comment_line_word after xs) _ (line_word_front after bs m)
-    (or_front pair_size m (as_word Comment (comment_len bs)) _ (as_word Comment (comment_len xs)) _ (map_front len_size pair_size (λ n. (Comment, n)) m (comment_len bs) (comment_len xs) (λ n. refl) (comment_len_front bs m))
-    (or_front pair_size m (as_word Raw (raw_len bs)) _ (as_word Raw (raw_len xs)) _ (map_front len_size pair_size (λ n. (Raw, n)) m (raw_len bs) (raw_len xs) (λ n. refl) (raw_len_front bs m))
+    (or_front pair_size m (as_word Comment (comment_len bs)) _ (as_word Comment (comment_len xs)) _
+    (map_front len_size pair_size (λ n. (Comment, n)) m (comment_len bs) (comment_len xs) (λ n. refl) (comment_len_front bs m))
+    (or_front pair_size m (as_word Raw (raw_len bs)) _ (as_word Raw (raw_len xs)) _
+    (map_front len_size pair_size (λ n. (Raw, n)) m (raw_len bs) (raw_len xs) (λ n. refl) (raw_len_front bs m))
     (or_front pair_size m (include_at mode bs) _ (include_at mode xs) _ (include_at_front mode bs m)
     (or_front pair_size m (entity_word (entity_at bs)) (sign_word bs) (entity_word (entity_at xs)) (sign_word xs)
     (map_front pair_size pair_size (λ e. (Entity e.0, e.1)) m (entity_at bs) (entity_at xs) (λ e. refl) (entity_at_front bs m)) (signs_front bs m)))))

@@ -23,7 +23,8 @@ use Rattle.wt_braces.proofs.Widths.{end_is, end_append}
 taken_less : (n c m d : ℕ) → m ≤ n → d ≤ c → taken n c ≤ m → taken n c ≤ d → taken m d ≡ taken n c
 taken_less n c m d le less = by (nat_le 3 n) (nat_le 3 c) (nat_le 3 m) (nat_le 3 d) refl refl refl refl
   where
-    by : (s t u v : Bool) → nat_le 3 n ≡ s → nat_le 3 c ≡ t → nat_le 3 m ≡ u → nat_le 3 d ≡ v → (if s && t then 3 else 2) ≤ m → (if s && t then 3 else 2) ≤ d → ◌≡◌ {A = ℕ} (if u && v then 3 else 2) (if s && t then 3 else 2)
+    by : (s t u v : Bool) → nat_le 3 n ≡ s → nat_le 3 c ≡ t → nat_le 3 m ≡ u → nat_le 3 d ≡ v → (if s && t then 3 else 2) ≤ m
+        → (if s && t then 3 else 2) ≤ d → ◌≡◌ {A = ℕ} (if u && v then 3 else 2) (if s && t then 3 else 2)
     by true true true true e f g h a b = refl
     by true true true false e f g h a b = let z : nat_le 3 d ≡ true = grind (arith, nat_tests) in let w : true ≡ false = sym z ∙ h in cc
     by true true false v e f g h a b = let z : nat_le 3 m ≡ true = grind (arith, nat_tests) in let w : true ≡ false = sym z ∙ g in cc
@@ -71,7 +72,9 @@ pub record Partly (done : List Word) (c0 c : ℕ) (inside : List Member) (n : �
   pub behind : List Word
   pub done_is : done ≡ before ++ (Opens, n + used) ∷ behind
   pub place : total_width before ≡ end_of 0 rest
-  pub again_so : (d e : ℕ) → 2 ≤ d → d ≤ n → e ≤ c → again (c0 - e) rewritten (c0 - e, reduced_onto [] ((Opens, d + used) ∷ behind)) ≡ again (c - e) rewritten (c - e, inside ++ lexeme (Opens, d) ∷ [])
+  pub again_so : (d e : ℕ) → 2 ≤ d → d ≤ n → e ≤ c
+      → again (c0 - e) rewritten (c0 - e, reduced_onto [] ((Opens, d + used) ∷ behind))
+      ≡ again (c - e) rewritten (c - e, inside ++ lexeme (Opens, d) ∷ [])
 
 abbrev pub Parts : List Word → ℕ → ℕ → List Member → Type 0
 Parts done c0 c all = (inside : List Member) (n : ℕ) (rest : List Member) → all ≡ inside ++ lexeme (Opens, n) ∷ rest → 2 ≤ n → Partly done c0 c inside n rest
@@ -107,7 +110,8 @@ data InLeft (m : ℕ) (rest inside : List Member) (n : ℕ) (last : List Member)
   here : 1 ≤ m → inside ≡ [] → n ≡ m → last ≡ rest → InLeft m rest inside n last
   later : (inner : List Member) → inside ≡ left_over Opens m ++ inner → rest ≡ inner ++ lexeme (Opens, n) ∷ last → InLeft m rest inside n last
 
-in_left : (m : ℕ) (rest inside : List Member) (n : ℕ) (last : List Member) → left_over Opens m ++ rest ≡ inside ++ lexeme (Opens, n) ∷ last → InLeft m rest inside n last
+in_left : (m : ℕ) (rest inside : List Member) (n : ℕ) (last : List Member) → left_over Opens m ++ rest ≡ inside
+    ++ lexeme (Opens, n) ∷ last → InLeft m rest inside n last
 in_left m rest inside n last = by (m == 0) refl
   where
     over : (t : Bool) → (m == 0) ≡ t → left_over Opens m ≡ (if t then [] else lexeme (Opens, m) ∷ [])
@@ -117,10 +121,12 @@ in_left m rest inside n last = by (m == 0) refl
     some e = grind (arith, nat_tests)
 
     first : (xs : List Member) → (m == 0) ≡ false → inside ≡ xs → lexeme (Opens, m) ∷ rest ≡ xs ++ lexeme (Opens, n) ∷ last → InLeft m rest inside n last
-    first [] e i f = here (some e) i (sym (same_run m n (head_is (lexeme (Opens, m)) (lexeme (Opens, n)) rest last f))) (sym (tail_is (lexeme (Opens, m)) (lexeme (Opens, n)) rest last f))
+    first [] e i f = here (some e) i (sym (same_run m n (head_is (lexeme (Opens, m)) (lexeme (Opens, n)) rest last f)))
+        (sym (tail_is (lexeme (Opens, m)) (lexeme (Opens, n)) rest last f))
     first (x ∷ xs) e i f =
         let run : lexeme (Opens, m) ≡ x = head_is (lexeme (Opens, m)) x rest (xs ++ lexeme (Opens, n) ∷ last) f in
-        later xs (i ∙ ap (λ y. y ∷ xs) (sym run) ∙ ap (λ ys. ys ++ xs) (sym (over false e))) (tail_is (lexeme (Opens, m)) x rest (xs ++ lexeme (Opens, n) ∷ last) f)
+        later xs (i ∙ ap (λ y. y ∷ xs) (sym run) ∙ ap (λ ys. ys ++ xs) (sym (over false e)))
+        (tail_is (lexeme (Opens, m)) x rest (xs ++ lexeme (Opens, n) ∷ last) f)
 
     by : (t : Bool) → (m == 0) ≡ t → (if t then [] else lexeme (Opens, m) ∷ []) ++ rest ≡ inside ++ lexeme (Opens, n) ∷ last → InLeft m rest inside n last
     by true e f = later inside (ap (λ ys. ys ++ inside) (sym (over true e))) f
@@ -134,7 +140,12 @@ no_run_at (x ∷ xs) ys n h two = no_run_at xs ys n h.1 two
 
 -- a run takes from what is behind a nearer one
 one_step : (n c e : ℕ) (inside back : List Member) → NoRun inside → 2 ≤ n → 2 ≤ c → e ≤ c - taken n c
-    → again (c - e) rewritten (c - e, inside ++ lexeme (Opens, n) ∷ back) ≡ again (c - taken n c - e) rewritten (c - taken n c - e, call (taken n c) (members (reverse inside)) ∷ (left_over Opens (n - taken n c) ++ back))
+    → again (c - e) rewritten (c - e, inside ++ lexeme (Opens, n) ∷ back)
+    ≡ again (c - taken n c - e) rewritten (
+      c - taken n c - e,
+      call (taken n c) (members (reverse inside))
+          ∷ (left_over Opens (n - taken n c) ++ back),
+    )
 one_step n c e inside back free two two_c le =
     let k = taken n c in
     let s = taking n c two two_c in
@@ -150,12 +161,14 @@ one_step n c e inside back free two two_c le =
 
 -- the same where fewer braces of the run are left, but two after the taking
 fewer_step : (n d c e : ℕ) (inside : List Member) → NoRun inside → 2 ≤ n → 2 ≤ c → 2 ≤ d → d ≤ n - taken n c → e ≤ c - taken n c
-    → again (c - e) rewritten (c - e, inside ++ lexeme (Opens, d + taken n c) ∷ []) ≡ again (c - taken n c - e) rewritten (c - taken n c - e, call (taken n c) (members (reverse inside)) ∷ (lexeme (Opens, d) ∷ []))
+    → again (c - e) rewritten (c - e, inside ++ lexeme (Opens, d + taken n c) ∷ [])
+    ≡ again (c - taken n c - e) rewritten (c - taken n c - e, call (taken n c) (members (reverse inside)) ∷ (lexeme (Opens, d) ∷ []))
 fewer_step n d c e inside free two two_c low le less =
     let k = taken n c in
     let s = taking n c two two_c in
     let same : taken (d + k) c ≡ k = taken_less n c (d + k) c (omega (arith, s.opening)) (omega arith) (omega arith) s.closing in
-    let P : ℕ → Type 0 = λ j. again (c - e) rewritten (c - e, inside ++ lexeme (Opens, d + k) ∷ []) ≡ again (c - j - e) rewritten (c - j - e, call j (members (reverse inside)) ∷ (left_over Opens (d + k - j) ++ [])) in
+    let P : ℕ → Type 0 = λ j. again (c - e) rewritten (c - e, inside ++ lexeme (Opens, d + k) ∷ [])
+    ≡ again (c - j - e) rewritten (c - j - e, call j (members (reverse inside)) ∷ (left_over Opens (d + k - j) ++ [])) in
     let room : e ≤ c - taken (d + k) c = omega (arith, same, less) in
     let h = subst P same (one_step (d + k) c e inside [] free (omega arith) two_c room) in
     let z : d + k - k ≡ d = omega arith in
@@ -166,7 +179,8 @@ abbrev after_taking : ℕ → ℕ → List Member → List Member → List Membe
 after_taking n c inside rest = call (taken n c) (members (reverse inside)) ∷ (left_over Opens (n - taken n c) ++ rest)
 
 -- the run that gave braces
-taken_here : (done : List Word) (c0 c n : ℕ) (inside rest : List Member) (m : ℕ) → NoRun inside → 2 ≤ n → 2 ≤ c → Partly done c0 c inside n rest → m ≡ n - taken n c → 2 ≤ m
+taken_here : (done : List Word) (c0 c n : ℕ) (inside rest : List Member) (m : ℕ) → NoRun inside → 2 ≤ n → 2 ≤ c
+    → Partly done c0 c inside n rest → m ≡ n - taken n c → 2 ≤ m
     → Partly done c0 (c - taken n c) (call (taken n c) (members (reverse inside)) ∷ []) m rest
 taken_here done c0 c n inside rest m free two two_c p e low =
     let k = taken n c in
@@ -181,11 +195,13 @@ taken_here done c0 c n inside rest m free two two_c p e low =
       again_so = λ d f two_d le less.
           let z : d + (k + p.used) ≡ d + k + p.used = omega arith in
           ap (λ i. again (c0 - f) rewritten (c0 - f, reduced_onto [] ((Opens, i) ∷ p.behind))) z
-          ∙ p.again_so (d + k) f (omega arith) (omega (arith, e, s.opening, le)) (omega (arith, less)) ∙ fewer_step n d c f inside free two two_c two_d (omega (arith, e, le)) less;
+          ∙ p.again_so (d + k) f (omega arith) (omega (arith, e, s.opening, le)) (omega (arith, less))
+          ∙ fewer_step n d c f inside free two two_c two_d (omega (arith, e, le)) less;
     }
 
 -- a run farther on the left
-taken_later : (done : List Word) (c0 c n : ℕ) (inside inner : List Member) (m : ℕ) (last : List Member) → NoRun inside → 2 ≤ n → 2 ≤ c → Partly done c0 c (inside ++ lexeme (Opens, n) ∷ inner) m last
+taken_later : (done : List Word) (c0 c n : ℕ) (inside inner : List Member) (m : ℕ) (last : List Member) → NoRun inside → 2 ≤ n
+    → 2 ≤ c → Partly done c0 c (inside ++ lexeme (Opens, n) ∷ inner) m last
     → Partly done c0 (c - taken n c) (call (taken n c) (members (reverse inside)) ∷ (left_over Opens (n - taken n c) ++ inner)) m last
 taken_later done c0 c n inside inner m last free two two_c p = record {
   before = p.before;
@@ -197,10 +213,12 @@ taken_later done c0 c n inside inner m last free two two_c p = record {
       p.again_so d f two_d le (omega (arith, less))
       ∙ ap (λ xs. again (c - f) rewritten (c - f, xs)) (append_assoc inside (lexeme (Opens, n) ∷ inner) (lexeme (Opens, d) ∷ []))
       ∙ one_step n c f inside (inner ++ lexeme (Opens, d) ∷ []) free two two_c less
-      ∙ ap (λ xs. again (c - taken n c - f) rewritten (c - taken n c - f, call (taken n c) (members (reverse inside)) ∷ xs)) (sym (append_assoc (left_over Opens (n - taken n c)) inner (lexeme (Opens, d) ∷ [])));
+      ∙ ap (λ xs. again (c - taken n c - f) rewritten (c - taken n c - f, call (taken n c) (members (reverse inside)) ∷ xs))
+      (sym (append_assoc (left_over Opens (n - taken n c)) inner (lexeme (Opens, d) ∷ [])));
 }
 
-taken_parts : (done : List Word) (c0 c n : ℕ) (inside rest : List Member) → NoRun inside → 2 ≤ n → 2 ≤ c → Parts done c0 c (inside ++ lexeme (Opens, n) ∷ rest) → Parts done c0 (c - taken n c) (after_taking n c inside rest)
+taken_parts : (done : List Word) (c0 c n : ℕ) (inside rest : List Member) → NoRun inside → 2 ≤ n → 2 ≤ c
+    → Parts done c0 c (inside ++ lexeme (Opens, n) ∷ rest) → Parts done c0 (c - taken n c) (after_taking n c inside rest)
 taken_parts done c0 c n inside rest free two two_c h [] m last e low = absurd (no_call_run (taken n c) (members (reverse inside)) m (head_is _ _ _ _ e))
 taken_parts done c0 c n inside rest free two two_c h (x ∷ xs) m last e low = by (in_left (n - taken n c) rest xs m last (tail_is _ _ _ _ e))
   where
@@ -215,7 +233,8 @@ taken_parts done c0 c n inside rest free two two_c h (x ∷ xs) m last e low = b
         subst P same (subst Q (sym g) (taken_here done c0 c n inside rest m free two two_c (h inside n rest refl two) f low))
     by (later inner i f) =
         let P : List Member → Type 0 = λ ys. Partly done c0 (c - taken n c) ys m last in
-        let same : call (taken n c) (members (reverse inside)) ∷ (left_over Opens (n - taken n c) ++ inner) ≡ x ∷ xs = ap (λ y. y ∷ (left_over Opens (n - taken n c) ++ inner)) first ∙ ap (λ ys. x ∷ ys) (sym i) in
+        let same : call (taken n c) (members (reverse inside)) ∷ (left_over Opens (n - taken n c) ++ inner) ≡ x ∷ xs =
+        ap (λ y. y ∷ (left_over Opens (n - taken n c) ++ inner)) first ∙ ap (λ ys. x ∷ ys) (sym i) in
         let whole : inside ++ lexeme (Opens, n) ∷ rest ≡ (inside ++ lexeme (Opens, n) ∷ inner) ++ lexeme (Opens, m) ∷ last =
         ap (λ ys. inside ++ lexeme (Opens, n) ∷ ys) f ∙ sym (append_assoc inside (lexeme (Opens, n) ∷ inner) (lexeme (Opens, m) ∷ last)) in
         subst P same (taken_later done c0 c n inside inner m last free two two_c (h (inside ++ lexeme (Opens, n) ∷ inner) m last whole low))
@@ -235,7 +254,8 @@ own_step n c inside free two two_c =
     let self = taken_self n c in
     let room : 0 ≤ k - taken k k = omega arith in
     let z : k - 0 ≡ k = omega arith in
-    let P : ℕ → Type 0 = λ j. again (k - 0) rewritten (k - 0, inside ++ lexeme (Opens, k) ∷ []) ≡ again (k - j - 0) rewritten (k - j - 0, call j (members (reverse inside)) ∷ (left_over Opens (k - j) ++ [])) in
+    let P : ℕ → Type 0 = λ j. again (k - 0) rewritten (k - 0, inside ++ lexeme (Opens, k) ∷ [])
+    ≡ again (k - j - 0) rewritten (k - j - 0, call j (members (reverse inside)) ∷ (left_over Opens (k - j) ++ [])) in
     let h = subst P self (one_step k k 0 inside [] free s.two s.two room) in
     let nothing : k - k ≡ 0 = omega arith in
     let still : k - k - 0 ≡ 0 = omega arith in
@@ -247,7 +267,8 @@ reduced_is : (ws : List Word) → reduced ws ≡ reverse (reduced_onto [] ws)
 unfolding reduced
 reduced_is ws = refl
 
-made_alone : (all done : List Word) (others : List Word) (c0 c n : ℕ) (inside rest : List Member) → all ≡ done ++ (Closes, c0) ∷ others → c ≤ c0 → NoRun inside → 2 ≤ n → 2 ≤ c → Partly done c0 c inside n rest
+made_alone : (all done : List Word) (others : List Word) (c0 c n : ℕ) (inside rest : List Member)
+    → all ≡ done ++ (Closes, c0) ∷ others → c ≤ c0 → NoRun inside → 2 ≤ n → 2 ≤ c → Partly done c0 c inside n rest
     → IsMadeAlone all (end_of 0 rest + (n - taken n c)) (taken n c) (members (reverse inside))
 made_alone all done others c0 c n inside rest is le free two two_c p =
     let k = taken n c in
@@ -256,7 +277,8 @@ made_alone all done others c0 c n inside rest is le free two two_c p =
     let size : c - e ≡ k = omega (arith, s.closing) in
     let X = reduced_onto [] ((Opens, k + p.used) ∷ p.behind) in
     let closes : again (c0 - e) rewritten (c0 - e, X) ≡ (0, call k (members (reverse inside)) ∷ []) =
-    p.again_so k e s.two s.opening (omega arith) ∙ ap (λ i. again i rewritten (i, inside ++ lexeme (Opens, k) ∷ [])) size ∙ own_step n c inside free two two_c in
+    p.again_so k e s.two s.opening (omega arith) ∙ ap (λ i. again i rewritten (i, inside ++ lexeme (Opens, k) ∷ [])) size
+    ∙ own_step n c inside free two two_c in
     let onto : reduced_onto [] ((Opens, k + p.used) ∷ (p.behind ++ (Closes, c0 - e) ∷ [])) ≡ call k (members (reverse inside)) ∷ [] =
     onto_append (lexeme (Opens, k + p.used) ∷ []) p.behind ((Closes, c0 - e) ∷ []) ∙ ap (λ (y : ℕ × List Member). left_over Closes y.0 ++ y.1) closes in
     let first : n + p.used ≡ (n - k) + (k + p.used) = omega (arith, s.opening) in
@@ -270,7 +292,8 @@ made_alone all done others c0 c n inside rest is le free two two_c p =
       over = e;
       after = others;
       all_is = is ∙ ap (λ ws. ws ++ (Closes, c0) ∷ others) p.done_is ∙ append_assoc p.before ((Opens, n + p.used) ∷ p.behind) ((Closes, c0) ∷ others)
-          ∙ ap (λ i. p.before ++ (Opens, i) ∷ (p.behind ++ (Closes, c0) ∷ others)) first ∙ ap (λ i. p.before ++ (Opens, (n - k) + (k + p.used)) ∷ (p.behind ++ (Closes, i) ∷ others)) last;
+          ∙ ap (λ i. p.before ++ (Opens, i) ∷ (p.behind ++ (Closes, c0) ∷ others)) first
+          ∙ ap (λ i. p.before ++ (Opens, (n - k) + (k + p.used)) ∷ (p.behind ++ (Closes, i) ∷ others)) last;
       two_open = omega (arith, s.two);
       two_close = omega (arith, s.two, s.closing, le);
       place = omega (arith, p.place);
@@ -284,7 +307,8 @@ abbrev pub AllMade : List Word → List Member → Type 0
 AllMade all [] = Unit {0}
 AllMade all (x ∷ before) = IsMade all (end_of 0 before) x × AllMade all before
 
-made_push : (all : List Word) (at : ℕ) (xs : List Member) (y : Member) → AreMade all at (members xs) → IsMade all (at + width_of_all (members xs)) y → AreMade all at (members (xs ++ y ∷ []))
+made_push : (all : List Word) (at : ℕ) (xs : List Member) (y : Member) → AreMade all at (members xs)
+    → IsMade all (at + width_of_all (members xs)) y → AreMade all at (members (xs ++ y ∷ []))
 made_push all at [] y f g = let e : at + 0 ≡ at = omega arith in let P : ℕ → Type 0 = λ p. IsMade all p y in (subst P e g, tt)
 made_push all at (x ∷ xs) y f g =
     let e : at + (width x + width_of_all (members xs)) ≡ at + width x + width_of_all (members xs) = omega arith in
@@ -296,7 +320,8 @@ made_inside all [] base f = tt
 made_inside all (x ∷ inside) base f =
     let P : List Member → Type 0 = λ xs. AreMade all (end_of 0 base) (members xs) in
     let Q : ℕ → Type 0 = λ p. IsMade all p x in
-    let place : end_of 0 (inside ++ base) ≡ end_of 0 base + width_of_all (members (reverse inside)) = end_append 0 inside base ∙ end_is (end_of 0 base) inside in
+    let place : end_of 0 (inside ++ base) ≡ end_of 0 base + width_of_all (members (reverse inside)) = end_append 0 inside base
+    ∙ end_is (end_of 0 base) inside in
     subst P (sym (reverse-append (x ∷ []) inside)) (made_push all (end_of 0 base) (reverse inside) x (made_inside all inside base f.1) (subst Q place f.0))
 
 made_rest : (all : List Word) (inside base : List Member) → AllMade all (inside ++ base) → AllMade all base
@@ -323,7 +348,8 @@ record Taking_on (all done : List Word) (c0 c : ℕ) (before : List Member) : Ty
   pub made : AllMade all before
   pub most : c ≤ c0
 
-taking_on : (all done others : List Word) (c0 c : ℕ) (before : List Member) → all ≡ done ++ (Closes, c0) ∷ others → 2 ≤ c → (b : Behind before) → Taking_on all done c0 c before
+taking_on : (all done others : List Word) (c0 c : ℕ) (before : List Member) → all ≡ done ++ (Closes, c0) ∷ others → 2 ≤ c
+    → (b : Behind before) → Taking_on all done c0 c before
     → Taking_on all done c0 (c - taken b.braces c) (after_taking b.braces c b.inside b.rest)
 taking_on all done others c0 c before is two_c b t =
     let n = b.braces in
@@ -352,19 +378,23 @@ taking_all : (f : ℕ) (all done others : List Word) (c0 c : ℕ) (before : List
     → Taking_on all done c0 (again f rewritten (c, before)).0 (again f rewritten (c, before)).1
 taking_all zero all done others c0 c before is t = t
 taking_all (suc f) all done others c0 c before is t =
-    by_case (dec_two c) (nearest before) (taking_all f all done others c0 c before is t) (λ two_c b. taking_all f all done others c0 (c - taken b.braces c) (after_taking b.braces c b.inside b.rest) is (taking_on all done others c0 c before is two_c b t))
+    by_case (dec_two c) (nearest before) (taking_all f all done others c0 c before is t)
+    (λ two_c b. taking_all f all done others c0 (c - taken b.braces c) (after_taking b.braces c b.inside b.rest) is
+    (taking_on all done others c0 c before is two_c b t))
   where
     P : ℕ × List Member → Type 0
     P x = Taking_on all done c0 (again f rewritten x).0 (again f rewritten x).1
 
-    by_case : (c < 2) ⊎ (2 ≤ c) → NoRun before ⊎ Behind before → P (c, before) → (2 ≤ c → (b : Behind before) → P (c - taken b.braces c, after_taking b.braces c b.inside b.rest)) → P (rewritten (c, before))
+    by_case : (c < 2) ⊎ (2 ≤ c) → NoRun before ⊎ Behind before → P (c, before)
+        → (2 ≤ c → (b : Behind before) → P (c - taken b.braces c, after_taking b.braces c b.inside b.rest)) → P (rewritten (c, before))
     by_case (inl few) r h g = subst P (sym (stuck_few c before few)) h
     by_case (inr two_c) (inl free) h g = subst P (sym (stuck_free c before free)) h
     by_case (inr two_c) (inr b) h g = subst P (sym (ap (λ bs. rewritten (c, bs)) b.is ∙ rewritten_at c b.braces b.inside b.rest b.free b.two two_c)) (g two_c b)
 
 -- ---- a closing run is read
 
-few_left : (c : ℕ) (inside : List Member) (n : ℕ) (rest : List Member) → 2 ≤ n → rewritten (c, inside ++ lexeme (Opens, n) ∷ rest) ≡ (c, inside ++ lexeme (Opens, n) ∷ rest) → c < 2
+few_left : (c : ℕ) (inside : List Member) (n : ℕ) (rest : List Member) → 2 ≤ n → rewritten (c, inside ++ lexeme (Opens, n) ∷ rest)
+    ≡ (c, inside ++ lexeme (Opens, n) ∷ rest) → c < 2
 few_left c inside n rest two stuck = by (dec_two c) (nearest (inside ++ lexeme (Opens, n) ∷ rest))
   where
     by : (c < 2) ⊎ (2 ≤ c) → NoRun (inside ++ lexeme (Opens, n) ∷ rest) ⊎ Behind (inside ++ lexeme (Opens, n) ∷ rest) → c < 2
@@ -387,7 +417,8 @@ no_shut_run m n e = let z : true ≡ false = ap is_closing e in cc
     is_closing (lexeme (Closes, k)) = true
     is_closing x = false
 
-in_shut : (m : ℕ) (rest inside : List Member) (n : ℕ) (last : List Member) → left_over Closes m ++ rest ≡ inside ++ lexeme (Opens, n) ∷ last → InShut m rest inside n last
+in_shut : (m : ℕ) (rest inside : List Member) (n : ℕ) (last : List Member) → left_over Closes m ++ rest ≡ inside
+    ++ lexeme (Opens, n) ∷ last → InShut m rest inside n last
 in_shut m rest inside n last = by (m == 0) refl
   where
     over : (t : Bool) → (m == 0) ≡ t → left_over Closes m ≡ (if t then [] else lexeme (Closes, m) ∷ [])
@@ -397,13 +428,15 @@ in_shut m rest inside n last = by (m == 0) refl
     first [] e i f = absurd (no_shut_run m n (head_is (lexeme (Closes, m)) (lexeme (Opens, n)) rest last f))
     first (x ∷ xs) e i f =
         let run : lexeme (Closes, m) ≡ x = head_is (lexeme (Closes, m)) x rest (xs ++ lexeme (Opens, n) ∷ last) f in
-        behind_it xs (i ∙ ap (λ y. y ∷ xs) (sym run) ∙ ap (λ ys. ys ++ xs) (sym (over false e))) (tail_is (lexeme (Closes, m)) x rest (xs ++ lexeme (Opens, n) ∷ last) f)
+        behind_it xs (i ∙ ap (λ y. y ∷ xs) (sym run) ∙ ap (λ ys. ys ++ xs) (sym (over false e)))
+        (tail_is (lexeme (Closes, m)) x rest (xs ++ lexeme (Opens, n) ∷ last) f)
 
     by : (t : Bool) → (m == 0) ≡ t → (if t then [] else lexeme (Closes, m) ∷ []) ++ rest ≡ inside ++ lexeme (Opens, n) ∷ last → InShut m rest inside n last
     by true e f = behind_it inside (ap (λ ys. ys ++ inside) (sym (over true e))) f
     by false e f = first inside e refl f
 
-shut_replay : (done : List Word) (c0 c : ℕ) (inner : List Member) (n : ℕ) (last : List Member) → c < 2 → Partly done c0 c inner n last → Replay (done ++ (Closes, c0) ∷ []) (left_over Closes c ++ inner) n last
+shut_replay : (done : List Word) (c0 c : ℕ) (inner : List Member) (n : ℕ) (last : List Member) → c < 2
+    → Partly done c0 c inner n last → Replay (done ++ (Closes, c0) ∷ []) (left_over Closes c ++ inner) n last
 shut_replay done c0 c inner n last few p = record {
   before = p.before;
   used = p.used;
@@ -421,7 +454,8 @@ shut_replay done c0 c inner n last few p = record {
       ∙ sym (append_assoc (left_over Closes c) inner (lexeme (Opens, d) ∷ []));
 }
 
-shut_replays : (done : List Word) (c0 c : ℕ) (before : List Member) → rewritten (c, before) ≡ (c, before) → Parts done c0 c before → Replays (done ++ (Closes, c0) ∷ []) (left_over Closes c ++ before)
+shut_replays : (done : List Word) (c0 c : ℕ) (before : List Member) → rewritten (c, before) ≡ (c, before) → Parts done c0 c before
+    → Replays (done ++ (Closes, c0) ∷ []) (left_over Closes c ++ before)
 shut_replays done c0 c before stuck h inside n last e two = by (in_shut c before inside n last e)
   where
     by : InShut c before inside n last → Replay (done ++ (Closes, c0) ∷ []) inside n last
@@ -444,7 +478,8 @@ open_replay done n before place =
       again_so = λ d two le. let y : d + 0 ≡ d = omega arith in ap (λ i. lexeme (Opens, i) ∷ []) y;
     }
 
-plain_replay : (done : List Word) (w : Word) (inside : List Member) (n : ℕ) (last : List Member) → ((xs : List Member) → with_word w xs ≡ lexeme w ∷ xs) → Replay done inside n last → Replay (done ++ w ∷ []) (lexeme w ∷ inside) n last
+plain_replay : (done : List Word) (w : Word) (inside : List Member) (n : ℕ) (last : List Member)
+    → ((xs : List Member) → with_word w xs ≡ lexeme w ∷ xs) → Replay done inside n last → Replay (done ++ w ∷ []) (lexeme w ∷ inside) n last
 plain_replay done w inside n last plain r = record {
   before = r.before;
   used = r.used;
@@ -452,10 +487,12 @@ plain_replay done w inside n last plain r = record {
   done_is = ap (λ ws. ws ++ w ∷ []) r.done_is ∙ append_assoc r.before ((Opens, n + r.used) ∷ r.behind) (w ∷ []);
   place = r.place;
   again_so = λ d two le.
-      onto_append (lexeme (Opens, d + r.used) ∷ []) r.behind (w ∷ []) ∙ plain (reduced_onto (lexeme (Opens, d + r.used) ∷ []) r.behind) ∙ ap (λ xs. lexeme w ∷ xs) (r.again_so d two le);
+      onto_append (lexeme (Opens, d + r.used) ∷ []) r.behind (w ∷ [])
+      ∙ plain (reduced_onto (lexeme (Opens, d + r.used) ∷ []) r.behind) ∙ ap (λ xs. lexeme w ∷ xs) (r.again_so d two le);
 }
 
-plain_replays : (done : List Word) (w : Word) (before : List Member) → ((xs : List Member) → with_word w xs ≡ lexeme w ∷ xs) → end_of 0 before ≡ total_width done → Replays done before → Replays (done ++ w ∷ []) (lexeme w ∷ before)
+plain_replays : (done : List Word) (w : Word) (before : List Member) → ((xs : List Member) → with_word w xs ≡ lexeme w ∷ xs)
+    → end_of 0 before ≡ total_width done → Replays done before → Replays (done ++ w ∷ []) (lexeme w ∷ before)
 plain_replays done w before plain place h [] n last e two =
     let first : lexeme w ≡ lexeme (Opens, n) = head_is _ _ _ _ e in
     let word : w ≡ (Opens, n) = ap word_in first in
@@ -474,23 +511,28 @@ plain_replays done w before plain place h (x ∷ xs) n last e two =
 -- ---- all lexemes
 
 abbrev Makes : List Word → List Word → Type 0
-Makes all ws = (done : List Word) (before : List Member) → all ≡ done ++ ws → Replays done before → AllMade all before → end_of 0 before ≡ total_width done → AllMade all (reduced_onto before ws)
+Makes all ws = (done : List Word) (before : List Member) → all ≡ done ++ ws → Replays done before → AllMade all before
+    → end_of 0 before ≡ total_width done → AllMade all (reduced_onto before ws)
 
-place_after : (done : List Word) (w : Word) (before : List Member) → end_of 0 before ≡ total_width done → end_of 0 (with_word w before) ≡ total_width (done ++ w ∷ [])
+place_after : (done : List Word) (w : Word) (before : List Member) → end_of 0 before ≡ total_width done
+    → end_of 0 (with_word w before) ≡ total_width (done ++ w ∷ [])
 place_after done w before place = omega (arith, word_width w before, place, total_append done (w ∷ []))
 
 makes_plain : (all : List Word) (w : Word) (ws : List Word) → ((xs : List Member) → with_word w xs ≡ lexeme w ∷ xs) → Makes all ws → Makes all (w ∷ ws)
 makes_plain all w ws plain h = λ done before is replays made place.
     let R : List Member → Type 0 = λ xs. Replays (done ++ w ∷ []) xs in
     let M : List Member → Type 0 = λ xs. AllMade all xs in
-    h (done ++ w ∷ []) (with_word w before) (is ∙ sym (append_assoc done (w ∷ []) ws)) (subst R (sym (plain before)) (plain_replays done w before plain place replays)) (subst M (sym (plain before)) (tt, made)) (place_after done w before place)
+    h (done ++ w ∷ []) (with_word w before) (is ∙ sym (append_assoc done (w ∷ []) ws))
+    (subst R (sym (plain before)) (plain_replays done w before plain place replays)) (subst M (sym (plain before)) (tt, made))
+    (place_after done w before place)
 
 makes_shut : (all : List Word) (n : ℕ) (ws : List Word) → Makes all ws → Makes all ((Closes, n) ∷ ws)
 makes_shut all n ws h = λ done before is replays made place.
     let x = again n rewritten (n, before) in
     let t = taking_all n all done ws n n before is (record { parts = begun done n before replays; made = made; most = omega arith }) in
     let stuck = fixed_by n n before (omega arith) (lowered n before) in
-    h (done ++ (Closes, n) ∷ []) (closed_by n before) (is ∙ sym (append_assoc done ((Closes, n) ∷ []) ws)) (shut_replays done n x.0 x.1 stuck t.parts) (made_over all Closes x.0 x.1 t.made) (place_after done (Closes, n) before place)
+    h (done ++ (Closes, n) ∷ []) (closed_by n before) (is ∙ sym (append_assoc done ((Closes, n) ∷ []) ws))
+    (shut_replays done n x.0 x.1 stuck t.parts) (made_over all Closes x.0 x.1 t.made) (place_after done (Closes, n) before place)
 
 makes : (all ws : List Word) → Makes all ws
 makes all [] = λ done before is replays made place. made

@@ -38,7 +38,8 @@ first_byte byte bs h = eqb-true (get_or bs 0 0) byte (prefix_len_passes (λ b. b
 no_line : (b : ℕ) (bs : List ℕ) → (b ≡ 60 → ⊥) → is_blank b ≡ false → comment_line_len (b ∷ bs) ≡ None
 unfolding comment_line_len
 no_line b bs h e =
-    let none : remarks_len 0 (b ∷ bs) ≡ 0 = ap (λ o. remarks_with o b (λ n. remarks_len n bs)) (no_comment b bs h) ∙ ap (λ t. if t then 1 + remarks_len 0 bs else 0) e in
+    let none : remarks_len 0 (b ∷ bs) ≡ 0 = ap (λ o. remarks_with o b (λ n. remarks_len n bs)) (no_comment b bs h)
+    ∙ ap (λ t. if t then 1 + remarks_len 0 bs else 0) e in
     let no : nat_lt (blank_len (b ∷ bs)) 0 ≡ false = grind (arith, nat_tests) in
     ap (λ n. if nat_lt (blank_len (b ∷ bs)) n && is_break (slice_index (b ∷ bs) n) then Some (n + 1) else None) none
     ∙ ap (λ t. if t && is_break (slice_index (b ∷ bs) 0) then Some (0 + 1) else None) no
@@ -51,13 +52,17 @@ both_none : (o p : Option Word) → option_or o p ≡ None → (o ≡ None) × (
 both_none None p e = (refl, e)
 both_none (Some w) p e = cc
 
-sign_only : (mode : Mode) (after : Bool) (b : ℕ) (bs : List ℕ) → (b ≡ 60 → ⊥) → (b ≡ 38 → ⊥) → is_blank b ≡ false → form_at mode after (b ∷ bs) ≡ sign_word (b ∷ bs)
+sign_only : (mode : Mode) (after : Bool) (b : ℕ) (bs : List ℕ) → (b ≡ 60 → ⊥) → (b ≡ 38 → ⊥) → is_blank b ≡ false
+    → form_at mode after (b ∷ bs) ≡ sign_word (b ∷ bs)
 unfolding form_at
 sign_only mode after b bs h g e =
     let xs = b ∷ bs in
     let tags = both_none (as_word Raw (raw_len xs)) (include_at mode xs) (tag_none mode xs h) in
-    ap (λ o. option_or o (option_or (as_word Comment (comment_len xs)) (option_or (as_word Raw (raw_len xs)) (option_or (include_at mode xs) (option_or (entity_word (entity_at xs)) (sign_word xs)))))) (line_word_none after b bs h e)
-    ∙ ap (λ o. option_or (as_word Comment o) (option_or (as_word Raw (raw_len xs)) (option_or (include_at mode xs) (option_or (entity_word (entity_at xs)) (sign_word xs))))) (no_comment b bs h)
+    ap (λ o. option_or o (option_or (as_word Comment (comment_len xs))
+    (option_or (as_word Raw (raw_len xs)) (option_or (include_at mode xs)
+    (option_or (entity_word (entity_at xs)) (sign_word xs)))))) (line_word_none after b bs h e)
+    ∙ ap (λ o. option_or (as_word Comment o) (option_or (as_word Raw (raw_len xs))
+    (option_or (include_at mode xs) (option_or (entity_word (entity_at xs)) (sign_word xs))))) (no_comment b bs h)
     ∙ ap (λ o. option_or o (option_or (include_at mode xs) (option_or (entity_word (entity_at xs)) (sign_word xs)))) tags.0
     ∙ ap (λ o. option_or o (option_or (entity_word (entity_at xs)) (sign_word xs))) tags.1
     ∙ ap (λ o. option_or (entity_word o) (sign_word xs)) (entity_none xs g)
@@ -71,7 +76,9 @@ sign_opens : (bs : List ℕ) (n : ℕ) → run_of_byte 123 bs ≡ n → 2 ≤ n 
 unfolding sign_word
 sign_opens bs n e two =
     ap
-    (λ o. option_or o (option_or (run_at Closes 125 bs) (option_or (sign_at LinkOpen (codes "[[") 2 bs) (option_or (sign_at LinkClose (codes "]]") 2 bs) (option_or (sign_at Pipe (codes "|") 1 bs) (sign_at Equals (codes "=") 1 bs))))))
+    (λ o. option_or o (option_or (run_at Closes 125 bs)
+    (option_or (sign_at LinkOpen (codes "[[") 2 bs)
+    (option_or (sign_at LinkClose (codes "]]") 2 bs) (option_or (sign_at Pipe (codes "|") 1 bs) (sign_at Equals (codes "=") 1 bs))))))
     (run_is Opens 123 bs n e two)
 
 other_run : (b : ℕ) (bs : List ℕ) → b ≡ 125 → run_at Opens 123 (b ∷ bs) ≡ None
@@ -83,7 +90,8 @@ sign_closes : (b : ℕ) (bs : List ℕ) (n : ℕ) → b ≡ 125 → run_of_byte 
 unfolding sign_word
 sign_closes b bs n f e two =
     let xs = b ∷ bs in
-    let others = option_or (sign_at LinkOpen (codes "[[") 2 xs) (option_or (sign_at LinkClose (codes "]]") 2 xs) (option_or (sign_at Pipe (codes "|") 1 xs) (sign_at Equals (codes "=") 1 xs))) in
+    let others = option_or (sign_at LinkOpen (codes "[[") 2 xs)
+    (option_or (sign_at LinkClose (codes "]]") 2 xs) (option_or (sign_at Pipe (codes "|") 1 xs) (sign_at Equals (codes "=") 1 xs))) in
     ap (λ o. option_or o (option_or (run_at Closes 125 xs) others)) (other_run b bs f) ∙ ap (λ o. option_or o others) (run_is Closes 125 xs n e two)
 
 differ : (b c d : ℕ) → b ≡ c → (c == d) ≡ false → b ≡ d → ⊥
@@ -137,7 +145,8 @@ signs_run bs =
     (or_run bs (run_at Closes 125 bs) _ (if_run bs (nat_lt 1 (run_of_byte 125 bs)) (Closes, run_of_byte 125 bs) refl)
     (or_run bs (sign_at LinkOpen (codes "[[") 2 bs) _ (if_run bs (begins (codes "[[") bs) (LinkOpen, 2) tt)
     (or_run bs (sign_at LinkClose (codes "]]") 2 bs) _ (if_run bs (begins (codes "]]") bs) (LinkClose, 2) tt)
-    (or_run bs (sign_at Pipe (codes "|") 1 bs) (sign_at Equals (codes "=") 1 bs) (if_run bs (begins (codes "|") bs) (Pipe, 1) tt) (if_run bs (begins (codes "=") bs) (Equals, 1) tt)))))
+    (or_run bs (sign_at Pipe (codes "|") 1 bs) (sign_at Equals (codes "=") 1 bs) (if_run bs (begins (codes "|") bs) (Pipe, 1) tt)
+    (if_run bs (begins (codes "=") bs) (Equals, 1) tt)))))
 
 comment_run : (bs : List ℕ) (o : Option ℕ) → OptRun bs (as_word Comment o)
 comment_run bs None = tt
@@ -184,7 +193,9 @@ run_drop byte zero bs h = omega arith
 run_drop byte (suc i) [] h = omega arith
 run_drop byte (suc i) (b ∷ bs) h = by (b == byte) h (run_drop byte i bs)
   where
-    by : (t : Bool) → suc i ≤ cond t (1 + run_of_byte byte bs) 0 → (i ≤ run_of_byte byte bs → run_of_byte byte (drop i bs) ≡ run_of_byte byte bs - i) → run_of_byte byte (drop i bs) ≡ cond t (1 + run_of_byte byte bs) 0 - suc i
+    by : (t : Bool) → suc i ≤ cond t (1 + run_of_byte byte bs) 0
+        → (i ≤ run_of_byte byte bs → run_of_byte byte (drop i bs) ≡ run_of_byte byte bs - i)
+        → run_of_byte byte (drop i bs) ≡ cond t (1 + run_of_byte byte bs) 0 - suc i
     by true h rest = let z = rest (omega arith) in omega (arith, z)
     by false h rest = absurd (omega arith)
 
@@ -194,7 +205,8 @@ run_take byte zero (b ∷ bs) h = refl
 run_take byte (suc m) [] h = absurd (omega arith)
 run_take byte (suc m) (b ∷ bs) h = by (b == byte) h (run_take byte m bs)
   where
-    by : (t : Bool) → suc m ≤ cond t (1 + run_of_byte byte bs) 0 → (m ≤ run_of_byte byte bs → run_of_byte byte (take m bs) ≡ m) → cond t (1 + run_of_byte byte (take m bs)) 0 ≡ suc m
+    by : (t : Bool) → suc m ≤ cond t (1 + run_of_byte byte bs) 0 → (m ≤ run_of_byte byte bs → run_of_byte byte (take m bs) ≡ m)
+        → cond t (1 + run_of_byte byte (take m bs)) 0 ≡ suc m
     by true h rest = let z = rest (omega arith) in omega (arith, z)
     by false h rest = absurd (omega arith)
 
@@ -203,7 +215,8 @@ run_take byte (suc m) (b ∷ bs) h = by (b == byte) h (run_take byte m bs)
 abbrev Behind : Mode → List Word → List ℕ → Type 0
 Behind mode ws bs = (after : Bool) × AreLexemes mode after ws bs
 
-behind : (mode : Mode) (after : Bool) (before ws : List Word) (bs : List ℕ) → AreLexemes mode after (before ++ ws) bs → Behind mode ws (drop (total_width before) bs)
+behind : (mode : Mode) (after : Bool) (before ws : List Word) (bs : List ℕ) → AreLexemes mode after (before ++ ws) bs
+    → Behind mode ws (drop (total_width before) bs)
 behind mode after [] ws bs h = (after, h)
 behind mode after ((kind, n) ∷ before) ws bs h =
     let r = behind mode (is_break (slice_index bs (n - 1))) before ws (drop n bs) h.4 in
@@ -229,11 +242,14 @@ apart_as LinkClose mid c e post h = tt
 apart_as Pipe mid c e post h = tt
 apart_as Equals mid c e post h = tt
 
-some_front : (mode : Mode) (after : Bool) (kind : LexKind) (n m : ℕ) (bs : List ℕ) → n ≤ m → form_at mode after bs ≡ Some (kind, n) → form_at mode after (take m bs) ≡ Some (kind, n)
-some_front mode after kind n m bs le e = let P : Option Word → Type 0 = λ o. IsFront pair_size m o (form_at mode after (take m bs)) in subst P e (form_front mode after bs m) le
+some_front : (mode : Mode) (after : Bool) (kind : LexKind) (n m : ℕ) (bs : List ℕ) → n ≤ m
+    → form_at mode after bs ≡ Some (kind, n) → form_at mode after (take m bs) ≡ Some (kind, n)
+some_front mode after kind n m bs le e = let P : Option Word
+    → Type 0 = λ o. IsFront pair_size m o (form_at mode after (take m bs)) in subst P e (form_front mode after bs m) le
 
 none_front : (mode : Mode) (after : Bool) (m : ℕ) (bs : List ℕ) → form_at mode after bs ≡ None → form_at mode after (take m bs) ≡ None
-none_front mode after m bs e = let P : Option Word → Type 0 = λ o. IsFront pair_size m o (form_at mode after (take m bs)) in subst P e (form_front mode after bs m)
+none_front mode after m bs e = let P : Option Word → Type 0 = λ o. IsFront pair_size m o (form_at mode after (take m bs)) in
+    subst P e (form_front mode after bs m)
 
 break_front : (after : Bool) (bs : List ℕ) (m k : ℕ) → k ≤ m → break_before after (take m bs) k ≡ break_before after bs k
 break_front after bs m zero le = refl
@@ -242,10 +258,12 @@ break_front after bs m (suc k) le = ap is_break (byte_front bs m k (omega arith)
 chars_front : (mode : Mode) (after : Bool) (n m : ℕ) (bs : List ℕ) → n ≤ m → ((k : ℕ) → k < n → form_at mode (break_before after bs k) (drop k bs) ≡ None)
     → (k : ℕ) → k < n → form_at mode (break_before after (take m bs) k) (drop k (take m bs)) ≡ None
 chars_front mode after n m bs le free k h =
-    ap (λ t. form_at mode t (drop k (take m bs))) (break_front after bs m k (omega arith)) ∙ ap (form_at mode (break_before after bs k)) (drop_front k m bs (omega arith))
+    ap (λ t. form_at mode t (drop k (take m bs))) (break_front after bs m k (omega arith))
+    ∙ ap (form_at mode (break_before after bs k)) (drop_front k m bs (omega arith))
     ∙ none_front mode (break_before after bs k) (m - k) (drop k bs) (free k h)
 
-stands_front : (mode : Mode) (after : Bool) (kind : LexKind) (n m : ℕ) (bs : List ℕ) → n ≤ m → Stands mode after kind n bs → Stands mode after kind n (take m bs)
+stands_front : (mode : Mode) (after : Bool) (kind : LexKind) (n m : ℕ) (bs : List ℕ) → n ≤ m → Stands mode after kind n bs
+    → Stands mode after kind n (take m bs)
 stands_front mode after Chars n m bs le s = chars_front mode after n m bs le s
 stands_front mode after CommentLine n m bs le s = some_front mode after CommentLine n m bs le s
 stands_front mode after Comment n m bs le s = some_front mode after Comment n m bs le s
@@ -260,7 +278,8 @@ stands_front mode after LinkClose n m bs le s = some_front mode after LinkClose 
 stands_front mode after Pipe n m bs le s = some_front mode after Pipe n m bs le s
 stands_front mode after Equals n m bs le s = some_front mode after Equals n m bs le s
 
-front_words : (mode : Mode) (after : Bool) (mid : List Word) (c e : ℕ) (post : List Word) (bs : List ℕ) → AreLexemes mode after (mid ++ (Closes, c) ∷ post) bs → 2 ≤ e → e ≤ c
+front_words : (mode : Mode) (after : Bool) (mid : List Word) (c e : ℕ) (post : List Word) (bs : List ℕ)
+    → AreLexemes mode after (mid ++ (Closes, c) ∷ post) bs → 2 ≤ e → e ≤ c
     → AreLexemes mode after (mid ++ (Closes, e) ∷ []) (take (total_width mid + e) bs)
 front_words mode after [] c e post bs h two le =
     let z : 0 + e ≡ e = omega arith in
@@ -268,7 +287,13 @@ front_words mode after [] c e post bs h two le =
     let short = length-take e bs in
     let P : ℕ → Type 0 = λ m. AreLexemes mode after ((Closes, e) ∷ []) (take m bs) in
     let past : drop e (take e bs) ≡ [] = let f : e + 0 ≡ e = omega arith in ap (λ (m : ℕ). drop e (take m bs)) (sym f) ∙ drop-take e 0 bs ∙ nil (drop e bs) in
-    subst P (sym z) (omega arith, omega (arith, short, h.1, le), closes_form mode after (take e bs) e (run_take 125 e bs (omega (arith, run, le))) two, tt, past)
+    subst P (sym z) (
+      omega arith,
+      omega (arith, short, h.1, le),
+      closes_form mode after (take e bs) e (run_take 125 e bs (omega (arith, run, le))) two,
+      tt,
+      past,
+    )
   where
     nil : (xs : List ℕ) → take 0 xs ≡ []
     nil [] = refl
@@ -281,11 +306,17 @@ front_words mode after ((kind, n) ∷ mid) c e post bs h two le =
     let Q : List ℕ → Type 0 = λ xs. AreLexemes mode (is_break (slice_index bs (n - 1))) (mid ++ (Closes, e) ∷ []) xs in
     let R : ℕ → Type 0 = λ b. AreLexemes mode (is_break b) (mid ++ (Closes, e) ∷ []) (drop n (take (n + m) bs)) in
     let last : slice_index bs (n - 1) ≡ slice_index (take (n + m) bs) (n - 1) = sym (byte_front bs (n + m) (n - 1) (omega (arith, h.0))) in
-    subst P (sym z)
-    (h.0, omega (arith, length-take (n + m) bs, h.1), stands_front mode after kind n (n + m) bs (omega arith) h.2, apart_as kind mid c e post h.3, subst R last (subst Q (sym (drop-take n m bs)) r))
+    subst P (sym z) (
+      h.0,
+      omega (arith, length-take (n + m) bs, h.1),
+      stands_front mode after kind n (n + m) bs (omega arith) h.2,
+      apart_as kind mid c e post h.3,
+      subst R last (subst Q (sym (drop-take n m bs)) r),
+    )
 
 -- The lexemes of a slice from the last j braces of an opening run to the first e of a closing run.
-pub slice_words : (mode : Mode) (text : List ℕ) (pre mid post : List Word) (n j c e : ℕ) → words mode text ≡ pre ++ (Opens, n) ∷ (mid ++ (Closes, c) ∷ post) → 2 ≤ j → j ≤ n → 2 ≤ e → e ≤ c
+pub slice_words : (mode : Mode) (text : List ℕ) (pre mid post : List Word) (n j c e : ℕ)
+    → words mode text ≡ pre ++ (Opens, n) ∷ (mid ++ (Closes, c) ∷ post) → 2 ≤ j → j ≤ n → 2 ≤ e → e ≤ c
     → words mode (take (j + (total_width mid + e)) (drop (total_width pre + (n - j)) text)) ≡ (Opens, j) ∷ (mid ++ (Closes, e) ∷ [])
 slice_words mode text pre mid post n j c e is two le more less =
     let P : List Word → Type 0 = λ ws. AreLexemes mode false ws text in
@@ -306,8 +337,10 @@ slice_words mode text pre mid post n j c e is two le more less =
     let rest = front_words mode (is_break (slice_index bs (n - 1))) mid c e post (drop n bs) h.4 more less in
     let tail : drop j ys ≡ take M (drop n bs) = drop-take j M xs ∙ ap (take M) (drop-drop j i bs ∙ ap (λ (k : ℕ). drop k bs) whole) in
     let at : i + (j - 1) ≡ n - 1 = omega (arith, le, two) in
-    let last : slice_index bs (n - 1) ≡ slice_index ys (j - 1) = ap (λ (k : ℕ). get_or bs k 0) (sym at) ∙ sym (get_or-drop i bs (j - 1) 0) ∙ sym (byte_front xs (j + M) (j - 1) (omega (arith, two))) in
+    let last : slice_index bs (n - 1) ≡ slice_index ys (j - 1) = ap (λ (k : ℕ). get_or bs k 0) (sym at)
+    ∙ sym (get_or-drop i bs (j - 1) 0) ∙ sym (byte_front xs (j + M) (j - 1) (omega (arith, two))) in
     let Q : List ℕ → Type 0 = λ zs. AreLexemes mode (is_break (slice_index bs (n - 1))) (mid ++ (Closes, e) ∷ []) zs in
     let R : ℕ → Type 0 = λ d. AreLexemes mode (is_break d) (mid ++ (Closes, e) ∷ []) (drop j ys) in
-    let all : AreLexemes mode false ((Opens, j) ∷ (mid ++ (Closes, e) ∷ [])) ys = (omega (arith, two), omega (arith, sizes, long, h.1, le), first, tt, subst R last (subst Q (sym tail) rest)) in
+    let all : AreLexemes mode false ((Opens, j) ∷ (mid ++ (Closes, e) ∷ [])) ys =
+    (omega (arith, two), omega (arith, sizes, long, h.1, le), first, tt, subst R last (subst Q (sym tail) rest)) in
     ap (λ zs. words mode (take (j + M) zs)) (sym same) ∙ sym (words_only mode ((Opens, j) ∷ (mid ++ (Closes, e) ∷ [])) ys all)

@@ -29,7 +29,9 @@ sum_rewritten (suc (suc c)) before = by_nearest (nearest before)
         let n = suc (suc c) in
         let s = taking b.braces n b.two (omega arith) in
         let e = call_end 0 b.braces (taken b.braces n) b.inside b.rest s.opening in
-        ap (λ bs. sum_of (rewritten (n, bs))) b.is ∙ ap sum_of (rewritten_at n b.braces b.inside b.rest b.free b.two (omega arith)) ∙ omega (arith, e, s.closing) ∙ sym (ap (λ bs. end_of 0 bs + n) b.is)
+        ap (λ bs. sum_of (rewritten (n, bs))) b.is ∙ ap sum_of
+        (rewritten_at n b.braces b.inside b.rest b.free b.two (omega arith)) ∙ omega (arith, e, s.closing)
+        ∙ sym (ap (λ bs. end_of 0 bs + n) b.is)
 
 pub sum_again : (f : ℕ) (x : ℕ × List Member) → sum_of (again f rewritten x) ≡ sum_of x
 sum_again zero x = refl
@@ -74,4 +76,5 @@ calls_is at ws = refl
 
 pub depth_is : (at : ℕ) (ws : List Word) → map (nesting (calls at ws)) (calls at ws) ≡ depths_of_all 0 (members (reduced ws))
 depth_is at ws =
-    ap (λ cs. map (nesting cs) cs) (calls_is at ws) ∙ nesting_depth at (members (reverse (reduced_onto [] ws))) (wide_text (reduced_onto [] ws) (wide_reduced [] ws tt)) ∙ ap (λ xs. depths_of_all 0 (members xs)) (sym (reduced_is ws))
+    ap (λ cs. map (nesting cs) cs) (calls_is at ws) ∙ nesting_depth at (members (reverse (reduced_onto [] ws)))
+    (wide_text (reduced_onto [] ws) (wide_reduced [] ws tt)) ∙ ap (λ xs. depths_of_all 0 (members xs)) (sym (reduced_is ws))

@@ -8,6 +8,7 @@ mod matching;
 mod nesting;
 mod parts;
 mod read;
+
 pub use call::{BraceRefusal, Call, PartAt};
 pub use laws::{
     calls_are_alone, lexemes_are_adjacent, lexemes_have_braces, members_have_places,

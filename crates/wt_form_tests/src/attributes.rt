@@ -1,8 +1,8 @@
 //! The call that takes memory, on its happy path.
 
-use wt_attributes::read_attributes;
 use std::alloc::Global;
 use std::test::Fail;
+use wt_attributes::read_attributes;
 use wt_span::{Form, List, NoMemory, Origin, Piece, Text};
 use wt_tree::{Attr, AttrName};
 

@@ -4,9 +4,9 @@ ghost use Rattle.std.specs.Prelude.{◌≡◌, ◌<◌, All, IsTrue, OnOk, lengt
 ghost use Rattle.std.specs.List.{list_all};
 ghost use Rattle.wt_blocks.specs.Nesting.{IsPrefix, is_list_sign};
 
-use wt_blocks::{ListNode, heading_parts, nest_lists, paragraphs};
 use std::alloc::Global;
 use std::test::Fail;
+use wt_blocks::{ListNode, heading_parts, nest_lists, paragraphs};
 use wt_lines::{Line, LineKind};
 use wt_span::{Form, List, NoMemory, Origin, Piece, Str, Text};
 

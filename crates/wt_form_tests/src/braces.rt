@@ -1,8 +1,8 @@
 //! Texts with their calls, as two other programs read them, each written from the rules alone.
-use wt_braces::{BraceRefusal, Call, match_braces};
 use std::alloc::{AllocError, Global};
 use std::process::Abort;
 use std::test::Fail;
+use wt_braces::{BraceRefusal, Call, match_braces};
 use wt_lex::{Mode, lex};
 use wt_span::List;
 

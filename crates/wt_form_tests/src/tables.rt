@@ -1,10 +1,10 @@
 //! The calls that take memory, on their happy path.
 
-use wt_tables::{cells, extents, line_kinds};
 use std::alloc::Global;
 use std::test::Fail;
 use wt_lines::{Line, LineKind};
 use wt_span::{Form, List, NoMemory, Origin, Piece, Text};
+use wt_tables::{cells, extents, line_kinds};
 use wt_tree::AttrName;
 
 fn line_of(alloc: Global) -> Result<Line<'static>, NoMemory> {

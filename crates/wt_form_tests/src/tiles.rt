@@ -3,12 +3,12 @@
 ghost use Rattle.std.specs.Prelude.{◌<◌, ◌^◌, length, All, IfOk};
 ghost use Rattle.wt_span.specs.Origins.{IsSoundPiece};
 
-use wt_tiles::{Context, TileKind, glyphs_of, shapes, target_of, tiles};
 use std::alloc::Global;
 use std::test::Fail;
 use wt_lines::{Line, chars_piece};
 use wt_names::is_category;
 use wt_span::{List, NoMemory, Origin, Text};
+use wt_tiles::{Context, TileKind, glyphs_of, shapes, target_of, tiles};
 
 fn line_of<'a>(alloc: Global, text: &'a str) -> Result<Line<'a>, NoMemory>
     requires some { 0 < length text.now }
