@@ -1,7 +1,4 @@
-use Rattle.std.proofs.Common.{ap, ◌∙◌, sym}
 use Rattle.wt_span.specs.Items.{items}
-use Rattle.wt_lines.specs.Kinds.{line_kind}
-use Rattle.wt_lines.specs.Lines.{content}
 use Rattle.wt_tables.proofs.Steps.{few_after}
 use Rattle.wt_build.proofs.row.row_block.Goals as goal
 
