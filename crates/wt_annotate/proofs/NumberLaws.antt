@@ -1,11 +1,10 @@
 -- How many nodes of a meaning have a number: one for each line at most, and what each form makes.
-use Rattle.std.proofs.Common.{◌≡◌, ℕ, zero, suc, ◌+◌, ◌-◌, ◌*◌, ◌<◌, ◌≤◌, Bool, false, Option, Some, None, List, [], ◌∷◌, ◌++◌, length, take, drop, map, refl, sym, ap, ◌∙◌, subst, append_assoc, append-nil, arith, length-append, length-take, length-drop}
+use Rattle.std.proofs.Common.{◌≡◌, ℕ, zero, suc, ◌+◌, ◌-◌, ◌<◌, ◌≤◌, Bool, Option, Some, None, List, [], ◌∷◌, ◌++◌, length, take, drop, map, refl, sym, ap, ◌∙◌, subst, append_assoc, append-nil, arith, length-append, length-take, length-drop}
 use Rattle.std.specs.List.{flat_map}
 use Rattle.std.proofs.lemmas.List.{take-append-drop, map-append, length-map}
 use Rattle.std.proofs.lemmas.Grind.{flat_map-append}
 use Rattle.wt_span.specs.declared.form.Form.{Form}
 use Rattle.wt_span.specs.declared.form.Form.TheVariants as form
-use Rattle.wt_span.specs.declared.form.Mode.TheVariants.{Page}
 use Rattle.wt_span.specs.Entities.{entity_at}
 use Rattle.wt_span.specs.Items.{Item, char, whole, sources}
 use Rattle.wt_span.specs.Runs.{runs, IsRun, AreRuns}
@@ -22,14 +21,14 @@ use Rattle.wt_build.specs.declared.block.BlockKind.{BlockKind}
 use Rattle.wt_build.specs.declared.block.BlockKind.TheVariants.{Between, Heading, Para}
 use Rattle.wt_blocks.specs.Headings.{opening, inside, closing}
 use Rattle.wt_blocks.proofs.HeadingLaws.{joined as heading_joined}
-use Rattle.wt_build.specs.Rows.{Row, row, rows, same_block, ending}
+use Rattle.wt_build.specs.Rows.{Row, rows, same_block, ending}
 use Rattle.wt_build.specs.Blocks.{joined, line_parts, para, heading, block, lead_len, lead, without_lead, last_ending, without_ending, around, parts_by}
 use Rattle.wt_build.specs.Meaning.{row_items, run_parts, body_parts, meaning}
 use Rattle.wt_build.proofs.Ends.{content_ending}
 use Rattle.wt_build.proofs.MeaningLaws.{row_items_are}
 use Rattle.wt_annotate.specs.Annotated.{numbered, numbered_in_all}
 use Rattle.wt_annotate.specs.Labels.{width}
-use Rattle.wt_annotate.specs.Numbers.{makes, makes_all}
+use Rattle.wt_annotate.specs.Numbers.{makes_all}
 
 -- ---- what items make
 
@@ -160,11 +159,12 @@ unfolding meaning
 meaning_count xs =
     let rs = runs same_block (rows xs) in
     let all : joined (row_items (flat_map (λ r. r) rs)) ≡ xs =
-    ap (λ ss. joined (row_items ss)) (runs_joined same_block (rows xs)) ∙ ap joined (row_items_are (full_lines xs)) ∙ runs_joined goes_on xs in
+    ap (λ ss. joined (row_items ss)) (runs_joined same_block (rows xs)) ∙ ap joined (row_items_are 0 (full_lines xs)) ∙ runs_joined goes_on xs in
     let body : counts (body_parts (rows xs)) ≤ length rs + makes_all xs = subst (λ ys. counts (flat_map run_parts rs) ≤ length rs + makes_all ys) all (blocks_count rs) in
     let few_runs : length rs ≤ length (rows xs) = runs_few same_block rs (rows xs) (runs_are same_block (rows xs)) in
     let few_lines : length (full_lines xs) ≤ length xs = runs_few goes_on (full_lines xs) xs (runs_are goes_on xs) in
-    omega (arith, children_count (body_parts (rows xs)), length-map (full_lines xs) row)
+    let one_each : length (rows xs) ≡ length (full_lines xs) = sym (length-map (rows xs) (λ r. r.items)) ∙ ap length (row_items_are 0 (full_lines xs)) in
+    omega (arith, children_count (body_parts (rows xs)), one_each)
 
 -- ---- a form makes one node, and at most one more for each of its bytes
 

@@ -1,10 +1,10 @@
 -- Places and then numbers, given in one pass.
-use Rattle.std.proofs.Common.{◌≡◌, ℕ, ◌+◌, Bool, true, false, List, [], ◌∷◌, ◌++◌, refl, sym, ap, ap₂, ◌∙◌, arith}
+use Rattle.std.proofs.Common.{◌≡◌, ℕ, ◌+◌, Bool, true, false, List, [], ◌++◌, refl, ap, ap₂, ◌∙◌}
 use Rattle.std.specs.Prelude.{if◌then◌else◌}
 use Rattle.wt_tree.specs.declared.kind.Kind.{Kind}
 use Rattle.wt_tree.specs.declared.kind.Kind.TheVariants as kind
 use Rattle.wt_tree.specs.Kinds.{is_leaf, is_numbered}
-use Rattle.wt_tree.specs.Tree.{Label, Tree, tree, Trees, none, more}
+use Rattle.wt_tree.specs.Tree.{tree, Trees, more}
 use Rattle.wt_tree.specs.Tiling.{is_group}
 use Rattle.wt_span.specs.Items.{Item}
 use Rattle.wt_inline.specs.ItemTree.{ItemTree, inner, ItemTrees, nothing, further, held, held_by_all}

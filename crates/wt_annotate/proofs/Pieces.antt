@@ -1,5 +1,5 @@
 -- Items of pieces, and what a node of pieces holds.
-use Rattle.std.proofs.Common.{◌≡◌, ℕ, ◌+◌, ◌<◌, ◌≤◌, Option, List, [], ◌∷◌, ◌++◌, length, take, drop, map, get_or, refl, sym, ap, ◌∙◌, arith, append-nil, append_assoc}
+use Rattle.std.proofs.Common.{◌≡◌, ℕ, ◌+◌, ◌<◌, ◌≤◌, Option, List, [], ◌∷◌, ◌++◌, length, take, drop, map, get_or, refl, sym, ap, ◌∙◌, arith, append-nil}
 use Rattle.std.specs.List.{flat_map}
 use Rattle.std.proofs.lemmas.List.{take_more, take-append-drop}
 use Rattle.std.proofs.lemmas.Grind.{flat_map-append}
@@ -9,7 +9,7 @@ use Rattle.wt_span.specs.declared.form.Piece.{Piece}
 use Rattle.wt_span.specs.declared.form.Form.{Form}
 use Rattle.wt_span.specs.declared.form.Form.TheVariants as form
 use Rattle.wt_span.specs.Slice.{bytes_of}
-use Rattle.wt_span.specs.Items.{Item, char, items_by, items_of, items, sources}
+use Rattle.wt_span.specs.Items.{char, items_by, items_of, items, sources}
 use Rattle.wt_inline.specs.declared.tree.PieceTree.{PieceTree, out-PieceTree, fold_out-PieceTree}
 use Rattle.wt_inline.specs.ItemTree.{ItemTree, inner, forest, held, held_by_all}
 use Rattle.wt_inline.specs.View.{head_of, view_step, item_tree, item_trees}

@@ -4,18 +4,17 @@ use Rattle.std.specs.List.{AllByRecursion}
 use Rattle.wt_tree.specs.declared.kind.Kind.{Kind}
 use Rattle.wt_tree.specs.declared.kind.Kind.TheVariants as kind
 use Rattle.wt_tree.specs.Kinds.{is_leaf}
-use Rattle.wt_tree.specs.Source.{flat}
-use Rattle.wt_tree.specs.Tree.{Label, Tree, tree, Trees, none, more, subtrees, subtrees_of_all}
+use Rattle.wt_tree.specs.Tree.{Tree, Trees, subtrees, subtrees_of_all}
 use Rattle.wt_span.specs.Items.{Item, sources}
 use Rattle.wt_inline.specs.ItemTree.{Head, ItemTree, inner, ItemTrees, nothing, further, held, held_by_all}
-use Rattle.wt_annotate.specs.Labels.{width, leaf_open, open_width, close_width, if_leaf, if_inner, label_at}
+use Rattle.wt_annotate.specs.Labels.{width, leaf_open, open_width, close_width, if_inner, label_at}
 use Rattle.wt_annotate.specs.Numbering.{number_of, next_after}
 use Rattle.wt_annotate.specs.Annotated.{inside_by, numbered, annotated}
 use Rattle.wt_annotate.specs.Made.{annotated_at, all_annotated_at}
-use Rattle.wt_annotate.specs.Slices.{slice, opening_by, StandsAt, StandsIn, IsSlice, AreSlices}
+use Rattle.wt_annotate.specs.Slices.{slice, opening_by, IsSlice, AreSlices}
 use Rattle.wt_annotate.proofs.OnePass.{annotated_is}
 use Rattle.wt_annotate.proofs.TreeSource.{flat_at}
-use Rattle.wt_annotate.proofs.Widths.{sources_append, width_append, width_three}
+use Rattle.wt_annotate.proofs.Widths.{sources_append}
 
 -- ---- widths
 

@@ -1,5 +1,5 @@
 -- The source of an annotated tree is the sources of the items that it holds.
-use Rattle.std.proofs.Common.{◌≡◌, ℕ, ◌+◌, Bool, true, false, List, [], ◌∷◌, ◌++◌, refl, sym, ap, ◌∙◌, append_assoc}
+use Rattle.std.proofs.Common.{◌≡◌, ℕ, ◌+◌, Bool, true, false, List, ◌++◌, refl, sym, ap, ◌∙◌, append_assoc}
 use Rattle.std.specs.Prelude.{if◌then◌else◌}
 use Rattle.wt_tree.specs.Kinds.{is_leaf}
 use Rattle.wt_tree.specs.Tree.{Trees}
@@ -7,7 +7,7 @@ use Rattle.wt_tree.specs.Source.{flat, flat_of_all}
 use Rattle.wt_span.specs.Items.{Item, sources}
 use Rattle.wt_inline.specs.ItemTree.{ItemTree, inner, ItemTrees, nothing, further, held, held_by_all}
 use Rattle.wt_annotate.specs.Labels.{if_leaf, if_inner, width, label_at}
-use Rattle.wt_annotate.specs.Numbering.{number_of, next_after}
+use Rattle.wt_annotate.specs.Numbering.{next_after}
 use Rattle.wt_annotate.specs.Annotated.{inside_by, numbered, annotated}
 use Rattle.wt_annotate.specs.Made.{annotated_at, all_annotated_at}
 use Rattle.wt_annotate.proofs.OnePass.{annotated_is}

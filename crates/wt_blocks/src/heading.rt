@@ -70,11 +70,7 @@ fn parts_of(heading: &[Piece<'_>]) -> (u8, u32, u32)
     let cuts = heading_cuts(heading);
     let close_at = byte_len(heading, cuts.open_len + cuts.inside_len);
     let end = byte_len(heading, item_count(heading));
-    (
-        cuts.level,
-        byte_len(heading, cuts.open_len),
-        end - close_at,
-    )
+    (cuts.level, byte_len(heading, cuts.open_len), end - close_at)
 }
 
 /// The level of a heading (1 to 6), and how many bytes its open and its close delimiter have, by

@@ -18,7 +18,7 @@ use Rattle.wt_build.specs.declared.block.BlockKind.TheVariants.{Between, Heading
 use Rattle.wt_build.specs.Rows.{ending}
 use Rattle.wt_build.specs.Blocks.{joined, line_parts, para, heading, block, lead_len, last_ending, without_ending, around}
 use Rattle.wt_build.specs.Cuts.{IsAround}
-use Rattle.wt_build.proofs.Ends.{content_onto, ending_onto, content_ending}
+use Rattle.wt_build.proofs.Ends.{content_onto, ending_onto}
 
 -- ---- a block by its lines that hold something
 

@@ -1,5 +1,5 @@
 -- The children of a body grow by blocks.
-use Rattle.std.proofs.Common.{◌≡◌, ℕ, ◌+◌, List, [], ◌∷◌, ◌++◌, take, drop, refl, sym, ap, ◌∙◌, append_assoc, append-nil}
+use Rattle.std.proofs.Common.{◌≡◌, ℕ, ◌+◌, List, [], ◌∷◌, ◌++◌, take, drop, sym, ap, ◌∙◌, append_assoc, append-nil}
 use Rattle.std.proofs.lemmas.List.{drop-drop}
 use Rattle.wt_span.specs.declared.form.Piece.{Piece}
 use Rattle.wt_span.specs.Items.{Item, items}
@@ -17,7 +17,7 @@ use Rattle.wt_inline.specs.Inline.{inline_parts}
 use Rattle.wt_build.specs.Rows.{rows, ending}
 use Rattle.wt_build.specs.Blocks.{line_parts, block, around, parts_by}
 use Rattle.wt_build.specs.Meaning.{body_parts}
-use Rattle.wt_build.specs.Cuts.{IsAround, IsBlockCut, paragraph_parts}
+use Rattle.wt_build.specs.Cuts.{IsAround, IsBlockCut, parts_from, paragraph_parts}
 use Rattle.wt_build.proofs.Around.{around_is}
 
 pub grows_around : (k : BlockKind) (xs before mid after : List Item) (t : ItemTree) (g h i j : Grown) → IsAround xs before mid after → t ≡ block k (full_lines mid) → Grows g (parts Sep before) h → Grows h (node t ∷ []) i → Grows i (parts Sep after) j → Grows g (around k (full_lines xs)) j
@@ -30,43 +30,40 @@ grows_around k xs before mid after t g h i j a e p q r ps =
     ∙ ap (λ u. made g (b ++ (node u ∷ (c ++ ps)))) e
     ∙ ap (made g) (sym (append_assoc b (node (block k (full_lines mid)) ∷ c) ps) ∙ ap (λ qs. qs ++ ps) (sym (around_is k xs before mid after a)))
 
--- what the pieces from a place on give is still to come
-abbrev pub IsLeft : (List Piece → List Part) → List Piece → ℕ → Grown → Type 0
-IsLeft made_of ps at g = (qs : List Part) → made g (made_of (drop at ps) ++ qs) ≡ children (made_of ps ++ qs)
+-- of all parts these are still to come
+abbrev pub IsLeft : List Part → List Part → Grown → Type 0
+IsLeft all left g = (qs : List Part) → made g (left ++ qs) ≡ children (all ++ qs)
 
-pub left_step : (made_of : List Piece → List Part) (ps rest : List Piece) (added : List Part) (at n : ℕ) (g h : Grown) → rest ≡ drop at ps → made_of rest ≡ added ++ made_of (drop n rest) → Grows g added h
-    → IsLeft made_of ps at g → IsLeft made_of ps (at + n) h
-left_step made_of ps rest added at n g h er cut a i qs =
-    let more : drop n rest ≡ drop (at + n) ps = ap (drop n) er ∙ drop-drop n at ps in
-    let tail = made_of (drop n rest) in
-    ap (λ ws. made h (made_of ws ++ qs)) (sym more)
-    ∙ a (tail ++ qs)
-    ∙ ap (made g) (sym (append_assoc added tail qs) ∙ ap (λ ws. ws ++ qs) (sym cut ∙ ap made_of er))
-    ∙ i qs
+left_step : (all left added rest : List Part) (g h : Grown) → left ≡ added ++ rest → Grows g added h → IsLeft all left g → IsLeft all rest h
+left_step all left added rest g h e a i qs = a (rest ++ qs) ∙ ap (made g) (sym (append_assoc added rest qs) ∙ ap (λ ps. ps ++ qs) (sym e)) ∙ i qs
 
-pub left_done : (made_of : List Piece → List Part) (ps : List Piece) (at : ℕ) (g : Grown) (ts : List ItemTree) → made_of [] ≡ [] → drop at ps ≡ [] → IsLeft made_of ps at g → ts ≡ made g [] → ts ≡ children (made_of ps)
-left_done made_of ps at g ts n z i e = e ∙ ap (λ ws. made g (ws ++ [])) (sym (ap made_of z ∙ n)) ∙ i [] ∙ ap children (append-nil (made_of ps))
+left_done : (all left : List Part) (g : Grown) (ts : List ItemTree) → left ≡ [] → IsLeft all left g → ts ≡ made g [] → ts ≡ children all
+left_done all left g ts z i e = e ∙ ap (λ ps. made g (ps ++ [])) (sym z) ∙ i [] ∙ ap children (append-nil all)
+
+further : (ps rest : List Piece) (at n : ℕ) → rest ≡ drop at ps → drop n rest ≡ drop (at + n) ps
+further ps rest at n e = ap (drop n) e ∙ drop-drop n at ps
 
 -- ---- a body by its blocks
 
-abbrev pub body_of : List Piece → List Part
-body_of ps = body_parts (rows (items ps))
+pub body_step : (all : List Part) (ps rest front : List Piece) (at n t u : ℕ) (k : BlockKind) (g h : Grown) → rest ≡ drop at ps → front ≡ take n rest → IsBlockCut t rest k n u → Grows g (parts_by k (full_lines (items front))) h
+    → IsLeft all (parts_from t (drop at ps)) g → IsLeft all (parts_from u (drop (at + n) ps)) h
+body_step all ps rest front at n t u k g h er ef cut a i =
+    left_step all (parts_from t (drop at ps)) (parts_by k (full_lines (items front))) (parts_from u (drop (at + n) ps)) g h
+    (ap (parts_from t) (sym er) ∙ cut ∙ ap (λ ws. parts_by k (full_lines (items ws)) ++ parts_from u (drop n rest)) (sym ef) ∙ ap (λ ws. parts_by k (full_lines (items front)) ++ parts_from u ws) (further ps rest at n er)) a i
 
-pub body_step : (ps rest front : List Piece) (at n : ℕ) (k : BlockKind) (g h : Grown) → rest ≡ drop at ps → front ≡ take n rest → IsBlockCut rest k n → Grows g (parts_by k (full_lines (items front))) h → IsLeft body_of ps at g → IsLeft body_of ps (at + n) h
-body_step ps rest front at n k g h er ef cut a i =
-    left_step body_of ps rest (parts_by k (full_lines (items front))) at n g h er (cut ∙ ap (λ ws. parts_by k (full_lines (items ws)) ++ body_of (drop n rest)) (sym ef)) a i
-
-pub body_done : (ps : List Piece) (at : ℕ) (g : Grown) (ts : List ItemTree) → drop at ps ≡ [] → IsLeft body_of ps at g → ts ≡ made g [] → ts ≡ children (body_of ps)
-body_done ps at g ts z i e = left_done body_of ps at g ts refl z i e
+pub body_done : (ps : List Piece) (at t : ℕ) (g : Grown) (ts : List ItemTree) → drop at ps ≡ [] → IsLeft (parts_from 0 ps) (parts_from t (drop at ps)) g → ts ≡ made g [] → ts ≡ children (body_parts (rows (items ps)))
+body_done ps at t g ts z i e = left_done (parts_from 0 ps) (parts_from t (drop at ps)) g ts (ap (parts_from t) z) i e
 
 -- ---- a paragraph by its lines
 
-pub lines_step : (ps rest front : List Piece) (at n : ℕ) (g h : Grown) → rest ≡ drop at ps → front ≡ take n rest → IsLineCut rest n → Grows g (line_parts (items front)) h → IsLeft paragraph_parts ps at g → IsLeft paragraph_parts ps (at + n) h
-lines_step ps rest front at n g h er ef cut a i =
-    left_step paragraph_parts ps rest (line_parts (items front)) at n g h er (ap (flat_map line_parts) cut ∙ ap (λ ws. line_parts (items ws) ++ paragraph_parts (drop n rest)) (sym ef)) a i
+pub lines_step : (all : List Part) (ps rest front : List Piece) (at n : ℕ) (g h : Grown) → rest ≡ drop at ps → front ≡ take n rest → IsLineCut rest n → Grows g (line_parts (items front)) h
+    → IsLeft all (paragraph_parts (drop at ps)) g → IsLeft all (paragraph_parts (drop (at + n) ps)) h
+lines_step all ps rest front at n g h er ef cut a i =
+    left_step all (paragraph_parts (drop at ps)) (line_parts (items front)) (paragraph_parts (drop (at + n) ps)) g h
+    (ap paragraph_parts (sym er) ∙ ap (flat_map line_parts) cut ∙ ap (λ ws. line_parts (items ws) ++ paragraph_parts (drop n rest)) (sym ef) ∙ ap (λ ws. line_parts (items front) ++ paragraph_parts ws) (further ps rest at n er)) a i
 
-pub lines_done : (ps : List Piece) (at : ℕ) (g : Grown) (ts : List ItemTree) → drop at ps ≡ [] → IsLeft paragraph_parts ps at g → ts ≡ made g [] → ts ≡ children (paragraph_parts ps)
-lines_done ps at g ts z i e = left_done paragraph_parts ps at g ts refl z i e
+pub lines_done : (ps : List Piece) (at : ℕ) (g : Grown) (ts : List ItemTree) → drop at ps ≡ [] → IsLeft (paragraph_parts ps) (paragraph_parts (drop at ps)) g → ts ≡ made g [] → ts ≡ children (paragraph_parts ps)
+lines_done ps at g ts z i e = left_done (paragraph_parts ps) (paragraph_parts (drop at ps)) g ts (ap paragraph_parts z) i e
 
 -- a line, and its line break
 pub grows_line : (line front rest : List Piece) (n : ℕ) (g h i : Grown) → front ≡ take n line → rest ≡ drop n line → content (items line) ≡ items (take n line) → ending (items line) ≡ items (drop n line)

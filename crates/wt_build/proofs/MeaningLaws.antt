@@ -22,7 +22,8 @@ use Rattle.wt_build.specs.declared.block.BlockKind.{BlockKind}
 use Rattle.wt_build.specs.declared.block.BlockKind.TheVariants.{Between, Heading, Para}
 use Rattle.wt_blocks.specs.Headings.{opening, inside, closing}
 use Rattle.wt_blocks.proofs.HeadingLaws.{joined as heading_joined}
-use Rattle.wt_build.specs.Rows.{Row, row, rows, same_block, ending}
+use Rattle.wt_tables.specs.Extents.{behind, kinds}
+use Rattle.wt_build.specs.Rows.{Row, block_of, kind_at, line_rows, rows_from, rows, RowsHaveKinds, same_block, ending}
 use Rattle.wt_build.specs.Blocks.{joined, line_parts, para, heading, block, lead_len, lead, without_lead, last_ending, without_ending, around, parts_by}
 use Rattle.wt_build.specs.Meaning.{row_items, run_parts, body_parts, meaning, IsMeaning}
 use Rattle.wt_build.proofs.Ends.{content_ending}
@@ -162,17 +163,25 @@ held_blocks (r ∷ rs) =
     ∙ sym (opened_append (joined (row_items r)) (joined (row_items others)))
     ∙ ap opened_all (sym (joined_append (row_items r) (row_items others)) ∙ ap joined (sym (map-append (λ s. s.items) r others)))
 
-pub row_items_are : (ls : List (List Item)) → row_items (map row ls) ≡ ls
-unfolding row
-row_items_are [] = refl
-row_items_are (l ∷ ls) = ap (λ ms. l ∷ ms) (row_items_are ls)
+pub row_items_are : (t : ℕ) (ls : List (List Item)) → row_items (rows_from t ls) ≡ ls
+unfolding line_rows
+row_items_are t [] = refl
+row_items_are t (l ∷ ls) = ap (λ ms. l ∷ ms) (row_items_are (behind t (kind_at t l)) ls)
+
+kinds_are : (t : ℕ) (ls : List (List Item)) → map (λ r. r.block) (rows_from t ls) ≡ map block_of (kinds t (map content ls))
+unfolding line_rows
+kinds_are t [] = refl
+kinds_are t (l ∷ ls) = ap (λ ks. block_of (kind_at t l) ∷ ks) (kinds_are (behind t (kind_at t l)) ls)
+
+pub rows_have_kinds : (xs : List Item) → RowsHaveKinds xs
+rows_have_kinds xs = kinds_are 0 (full_lines xs)
 
 pub held_meaning : (xs : List Item) → opened_all (held (meaning xs)) ≡ opened_all xs
 unfolding meaning
 held_meaning xs =
     ap opened_all (append-nil (held_by_all (forest (children (body_parts (rows xs))))) ∙ held_children (body_parts (rows xs)))
     ∙ held_blocks (runs same_block (rows xs))
-    ∙ ap opened_all (ap (λ rs. joined (row_items rs)) (runs_joined same_block (rows xs)) ∙ ap joined (row_items_are (full_lines xs)) ∙ runs_joined goes_on xs)
+    ∙ ap opened_all (ap (λ rs. joined (row_items rs)) (runs_joined same_block (rows xs)) ∙ ap joined (row_items_are 0 (full_lines xs)) ∙ runs_joined goes_on xs)
 
 pub sources_meaning : (xs : List Item) → sources (held (meaning xs)) ≡ sources xs
 sources_meaning xs = sym (sources_opened (held (meaning xs))) ∙ ap sources (held_meaning xs) ∙ sources_opened xs
@@ -195,5 +204,5 @@ pub only_meaning : (t : ItemTree) (xs : List Item) → IsMeaning t xs → t ≡ 
 unfolding meaning
 only_meaning t xs m =
     let ls : m.its_lines ≡ full_lines xs = runs_only goes_on m.its_lines xs m.are_lines in
-    let rs : m.its_blocks ≡ runs same_block (rows xs) = runs_only same_block m.its_blocks (map row m.its_lines) m.are_blocks ∙ ap (λ ns. runs same_block (map row ns)) ls in
+    let rs : m.its_blocks ≡ runs same_block (rows xs) = runs_only same_block m.its_blocks (rows_from 0 m.its_lines) m.are_blocks ∙ ap (λ ns. runs same_block (rows_from 0 ns)) ls in
     m.is_body ∙ ap (λ ts. inner (plain kind.Body) [] (forest ts) []) (only_children m.its_children (flat_map run_parts m.its_blocks) m.are_children ∙ ap (λ bs. children (flat_map run_parts bs)) rs)

@@ -12,9 +12,11 @@ use Rattle.wt_inline.specs.Parts.{Part}
 use Rattle.wt_inline.specs.Inline.{inline_trees}
 use Rattle.wt_build.specs.declared.block.BlockKind.{BlockKind}
 use Rattle.wt_build.specs.declared.block.BlockKind.TheVariants.{Between, Heading, Para}
-use Rattle.wt_build.specs.Rows.{rows, ending}
+use Rattle.wt_span.specs.Runs.{runs}
+use Rattle.wt_tables.specs.Extents.{behind}
+use Rattle.wt_build.specs.Rows.{block_of, kind_at, rows_from, same_block, ending}
 use Rattle.wt_build.specs.Blocks.{line_parts, lead_len, parts_by}
-use Rattle.wt_build.specs.Meaning.{body_parts}
+use Rattle.wt_build.specs.Meaning.{run_parts}
 
 -- sound pieces that are parted at line breaks, of fewer than 2^32 bytes
 pub record AreReady (ps : List Piece) : Type 0 where
@@ -22,9 +24,20 @@ pub record AreReady (ps : List Piece) : Type 0 where
   pub sound : All IsSoundPiece ps
   pub few : length (sources (items ps)) < 2 ^ 32
 
--- so many pieces are the lines of the first block
-abbrev pub IsBlockCut : List Piece → BlockKind → ℕ → Type 0
-IsBlockCut ps k n = body_parts (rows (items ps)) ≡ parts_by k (full_lines (items (take n ps))) ++ body_parts (rows (items (drop n ps)))
+-- what a line makes at which so many tables are open, and how many are open behind it
+abbrev pub block_at : ℕ → List Item → BlockKind
+block_at tables l = block_of (kind_at tables l)
+
+abbrev pub behind_line : ℕ → List Item → ℕ
+behind_line tables l = behind tables (kind_at tables l)
+
+-- the parts that pieces give at which so many tables are open
+abbrev pub parts_from : ℕ → List Piece → List Part
+parts_from tables ps = flat_map run_parts (runs same_block (rows_from tables (full_lines (items ps))))
+
+-- where so many tables are open, so many pieces are the lines of the first block, and so many tables are open behind it
+abbrev pub IsBlockCut : ℕ → List Piece → BlockKind → ℕ → ℕ → Type 0
+IsBlockCut tables ps k n after = parts_from tables ps ≡ parts_by k (full_lines (items (take n ps))) ++ parts_from after (drop n ps)
 
 -- what stands before the block of these items, the block, and what stands after it
 pub record IsAround (xs before inside after : List Item) : Type 0 where

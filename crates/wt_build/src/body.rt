@@ -11,7 +11,7 @@ ghost use Rattle.wt_build.specs.Cuts.{AreReady};
 
 use crate::block::BlockKind;
 use crate::cut::cut_block;
-use crate::row::block_len;
+use crate::row::first_block;
 use crate::tree::block_tree;
 use std::alloc::Global;
 use wt_inline::{Children, Loose, NodeHead, PieceTree};
@@ -60,11 +60,13 @@ fn body_children<'a>(alloc: Global, pieces: &[Piece<'a>]) -> Result<List<PieceTr
 {
     let mut children = Children::new(alloc);
     let mut at = 0;
+    let mut tables = 0;
     while at < pieces.len() {
         let rest = rest_of(pieces, at);
-        let (kind, n) = block_len(rest);
-        children = with_lines(alloc, children, kind, front_of(rest, n))?;
-        at += n;
+        let block = first_block(rest, tables);
+        children = with_lines(alloc, children, block.kind, front_of(rest, block.len))?;
+        at += block.len;
+        tables = block.tables;
     }
     children.finish(alloc)
 }

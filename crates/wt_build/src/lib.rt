@@ -13,4 +13,4 @@ mod tree;
 
 pub use block::BlockKind;
 pub use body::{Tree, build};
-pub use laws::{meaning_holds_its_items, meaning_is_cut_by_lines};
+pub use laws::{meaning_holds_its_items, meaning_is_cut_by_lines, rows_have_kinds};

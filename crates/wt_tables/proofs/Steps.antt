@@ -2,6 +2,7 @@
 use Rattle.std.proofs.Common.{◌≡◌, ◌<◌, ◌≤◌, ℕ, zero, suc, ◌+◌, ◌-◌, Option, Some, None, List, [], ◌∷◌, ◌++◌, length, drop, map, get_or, refl, sym, ap, ◌∙◌, subst, arith, append_assoc}
 use Rattle.std.specs.Prelude.{slice_get}
 use Rattle.std.proofs.lemmas.List.{drop_more, drop_all}
+use Rattle.wt_span.specs.Items.{Item}
 use Rattle.wt_lines.specs.declared.kind.LineKind.{LineKind}
 use Rattle.wt_lines.specs.declared.kind.LineKind.TheVariants as kind
 use Rattle.wt_lines.specs.declared.line.Line.{Line}
@@ -35,8 +36,11 @@ few_by kind.List n h le = le
 few_by kind.Pre n h le = le
 few_by kind.Text n h le = le
 
+pub few_after : (n b : ℕ) (k : LineKind) (xs : List Item) → n ≤ 16 → k ≡ line_kind n xs → b ≡ behind n k → b ≤ 16
+few_after n b k xs le e f = subst (λ (m : ℕ). m ≤ 16) (sym f) (few_by k n (λ t. open_few n xs (sym e ∙ t)) le)
+
 pub few_behind : (n b : ℕ) (k : LineKind) (l : Line) → n ≤ 16 → k ≡ line_kind n (line_items l) → b ≡ behind n k → b ≤ 16
-few_behind n b k l le e f = subst (λ (m : ℕ). m ≤ 16) (sym f) (few_by k n (λ t. open_few n (line_items l) (sym e ∙ t)) le)
+few_behind n b k l le e f = few_after n b k (line_items l) le e f
 
 pub pushed : (old new : List LineKind) (k : LineKind) (rest all : List LineKind) (now : List LineKind) → new ≡ old ++ k ∷ [] → rest ≡ k ∷ now → old ++ rest ≡ all → new ++ now ≡ all
 pushed old new k rest all now e f h = ap (λ xs. xs ++ now) e ∙ append_assoc old (k ∷ []) now ∙ ap (λ xs. old ++ xs) (sym f) ∙ h

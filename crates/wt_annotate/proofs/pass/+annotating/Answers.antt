@@ -1,9 +1,8 @@
 use Rattle.std.proofs.Common.{◌≡◌, length, sym, ◌∙◌, arith}
 use Rattle.std.specs.Vec.Iter.{into_iter_items}
 use Rattle.wt_tree.specs.View.{view, views}
-use Rattle.wt_span.specs.Items.{items}
 use Rattle.wt_inline.specs.ItemTree.{forest}
-use Rattle.wt_inline.specs.View.{head_of, item_tree, item_trees}
+use Rattle.wt_inline.specs.View.{head_of, item_trees}
 use Rattle.wt_inline.specs.declared.tree.PieceTree.{out-PieceTree}
 use Rattle.wt_annotate.proofs.Passes.{so_far_init, room_place, room_number, smaller_child, smaller_children, room_inside, number_inside, so_far_step, all_done, room_closing, inside_from, inner_done, three_ok}
 use Rattle.wt_annotate.proofs.pass.+annotating.Goals as goal

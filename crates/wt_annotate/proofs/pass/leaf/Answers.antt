@@ -1,4 +1,3 @@
-use Rattle.std.proofs.Common.{List}
 use Rattle.wt_tree.specs.View.{view}
 use Rattle.wt_annotate.proofs.Passes.{leaf_done}
 use Rattle.wt_annotate.proofs.pass.leaf.Goals as goal

@@ -3,6 +3,7 @@ use Rattle.std.proofs.lemmas.Result.{IfOk-weaker}
 use Rattle.std.proofs.lemmas.List.{drop_all}
 use Rattle.wt_inline.specs.View.{item_trees}
 use Rattle.wt_inline.specs.Grown.{grown}
+use Rattle.wt_build.specs.Cuts.{paragraph_parts}
 use Rattle.wt_build.proofs.RowRuns.{within_by, rest_some}
 use Rattle.wt_build.proofs.Pieces.{parted_rest, parted_front}
 use Rattle.wt_build.proofs.Growing.{lines_step, lines_done}
@@ -26,7 +27,7 @@ loop-at-smaller c =
 pub loop-at-preserved : goal.loop-at-preserved
 loop-at-preserved c = record {
   within = within_by c.args.lines.now c.rest_of-rest.result.now c.loop-at.at c.line_len-n.result c.loop-at-test.true c.rest_of-rest.ensures c.line_len-n.ensures.within;
-  rest = lines_step c.args.lines.now c.rest_of-rest.result.now c.front_of.result.now c.loop-at.at c.line_len-n.result (grown c.loop-at.children) (grown c.in_ok-children.children) c.rest_of-rest.ensures c.front_of.ensures c.line_len-n.ensures.cut c.in_ok-children.ensures c.loop-at.invariant.rest;
+  rest = lines_step (paragraph_parts c.args.lines.now) c.args.lines.now c.rest_of-rest.result.now c.front_of.result.now c.loop-at.at c.line_len-n.result (grown c.loop-at.children) (grown c.in_ok-children.children) c.rest_of-rest.ensures c.front_of.ensures c.line_len-n.ensures.cut c.in_ok-children.ensures c.loop-at.invariant.rest;
 }
 
 pub returns : goal.returns
