@@ -9,5 +9,6 @@ mod class;
 mod laws;
 mod reader;
 mod scan;
+
 pub use laws::{one_reading, spelled_attributes};
 pub use reader::read_attributes;

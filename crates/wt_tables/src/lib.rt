@@ -10,6 +10,7 @@ mod cursor;
 mod laws;
 mod scan;
 mod table;
+
 pub use cell::{CellAt, cells};
 pub use laws::{
     cells_join, kinds_by_counts, lines_of_cells, one_cut_of_cells, parts_join, tables_nest,

@@ -24,5 +24,10 @@ returns c =
     let cuts = c.heading_cuts-cuts.result in
     ap (λ n. (cuts.level, n, c.byte_len-end.result - c.byte_len-close_at.result)) c.byte_len.ensures
     ∙ ap (λ n. (cuts.level, length (sources (take cuts.open_len (items c.args.heading.now))), n - c.byte_len-close_at.result)) c.byte_len-end.ensures
-    ∙ ap (λ n. (cuts.level, length (sources (take cuts.open_len (items c.args.heading.now))), length (sources (take c.item_count.result (items c.args.heading.now))) - n)) c.byte_len-close_at.ensures
-    ∙ delimiters_are (items c.args.heading.now) cuts.level cuts.open_len cuts.inside_len c.item_count.result c.heading_cuts-cuts.ensures.level c.heading_cuts-cuts.ensures.open_len c.heading_cuts-cuts.ensures.inside_len c.item_count.ensures
+    ∙ ap (λ n. (
+      cuts.level,
+      length (sources (take cuts.open_len (items c.args.heading.now))),
+      length (sources (take c.item_count.result (items c.args.heading.now))) - n,
+    )) c.byte_len-close_at.ensures
+    ∙ delimiters_are (items c.args.heading.now) cuts.level cuts.open_len cuts.inside_len c.item_count.result
+    c.heading_cuts-cuts.ensures.level c.heading_cuts-cuts.ensures.open_len c.heading_cuts-cuts.ensures.inside_len c.item_count.ensures

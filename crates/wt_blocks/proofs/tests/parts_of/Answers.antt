@@ -6,6 +6,7 @@ use Rattle.wt_blocks.proofs.tests.parts_of.Goals as goal
 
 pub heading_parts-requires-clause-bytes : goal.heading_parts-requires-clause-bytes
 heading_parts-requires-clause-bytes c =
-    let bytes = lone_chars c.new-pieces.result c.push.new.self (record { text = c.new.result; form = Chars; origin = Call 0 }) c.new-pieces.ensures c.in_ok-push.ensures.ok refl ∙ ap length c.new.ensures.bytes in
+    let bytes = lone_chars c.new-pieces.result c.push.new.self (record { text = c.new.result; form = Chars; origin = Call 0 })
+    c.new-pieces.ensures c.in_ok-push.ensures.ok refl ∙ ap length c.new.ensures.bytes in
     let short = c.requires.short in
     omega (arith, bytes, short)
