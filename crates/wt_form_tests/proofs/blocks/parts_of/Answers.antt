@@ -2,7 +2,7 @@ use Rattle.std.proofs.Common.{◌∙◌, ap, refl, length, arith}
 use Rattle.wt_span.specs.declared.form.Form.TheVariants.{Chars}
 use Rattle.wt_span.specs.declared.origin.Origin.TheVariants.{Call}
 use Rattle.wt_blocks.proofs.Measures.{lone_chars}
-use Rattle.wt_blocks.proofs.tests.parts_of.Goals as goal
+use Rattle.wt_form_tests.proofs.blocks.parts_of.Goals as goal
 
 pub heading_parts-requires-clause-bytes : goal.heading_parts-requires-clause-bytes
 heading_parts-requires-clause-bytes c =

@@ -1,6 +1,6 @@
 use Rattle.std.proofs.Common.{All}
 use Rattle.wt_blocks.specs.Nesting.{IsPrefix}
-use Rattle.wt_blocks.proofs.tests.shown_row.Given as goal
+use Rattle.wt_form_tests.proofs.blocks.shown_row.Given as goal
 
 abbrev pub invariant-loop-text : goal.invariant-loop-text
 invariant-loop-text l =
