@@ -70,6 +70,7 @@ para_node ls h =
           source = record { own = refl; opening = IsUtf8-nil; closing = IsUtf8-nil };
           shown = refl;
           attrs = refl;
+          origin = refl;
           mark = refl;
           mw = refl;
         },
@@ -133,6 +134,7 @@ heading_by_node xs h l c =
           source = record { own = refl; opening = texts_utf8 [] os q.0 (all_left IsPageItem os rest p); closing = texts_utf8 [] cs r.1 (all_right IsPageItem is cs v) };
           shown = refl;
           attrs = refl;
+          origin = refl;
           mark = refl;
           mw = refl;
         },
