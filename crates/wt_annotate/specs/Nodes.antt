@@ -21,6 +21,7 @@ bare h id start end open_w close_w = record {
   shown = h.shown;
   attrs = h.attrs;
   origin = None;
+  origin = None;
   mark = marks.Nothing;
   mw = h.mw;
   children = [];
@@ -41,6 +42,7 @@ inner_label at next h end opening closing = record {
   own = [];
   shown = h.shown;
   attrs = h.attrs;
+  origin = None;
   mark = marks.Nothing;
   mw = h.mw;
 }

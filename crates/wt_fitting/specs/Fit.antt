@@ -19,7 +19,7 @@ use Rattle.wt_fitting.specs.Data.{Data, data_of, id_for}
 
 -- a text of the page, or a separator: what is read has no ranges for them
 abbrev pub leaf_label : Kind → List ℕ → List ℕ → Label
-leaf_label k own shown = record { kind = k; id = 0; ranges = None; opening = []; closing = []; own = own; shown = shown; attrs = []; mark = mark.Nothing; mw = None }
+leaf_label k own shown = record { kind = k; id = 0; ranges = None; opening = []; closing = []; own = own; shown = shown; attrs = []; origin = None; mark = mark.Nothing; mw = None }
 
 abbrev pub text_leaf : List ℕ → Tree
 text_leaf bs = tree (leaf_label kind.Text bs bs) no_trees
@@ -43,7 +43,7 @@ with_sync l (Some s) = record l { ranges = Some s.dsr; opening = s.opening; clos
 -- an element of this kind with this data, and these characters in it
 abbrev pub label_for : Kind → List Pair → Data → List ℕ → Label
 label_for k ps d shown =
-    with_sync (record { kind = k; id = id_for k ps; ranges = None; opening = []; closing = []; own = []; shown = if shows_text k then shown else []; attrs = attrs_for k ps; mark = mark_of ps; mw = d.mw }) d.sync
+    with_sync (record { kind = k; id = id_for k ps; ranges = None; opening = []; closing = []; own = []; shown = if shows_text k then shown else []; attrs = attrs_for k ps; origin = None; mark = mark_of ps; mw = d.mw }) d.sync
 
 -- ---- counting
 

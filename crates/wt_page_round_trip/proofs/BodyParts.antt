@@ -70,6 +70,7 @@ para_node ls h =
           source = record { own = refl; opening = IsUtf8-nil; closing = IsUtf8-nil };
           shown = refl;
           attrs = refl;
+          origin = refl;
           mark = refl;
           mw = refl;
         },
@@ -132,6 +133,7 @@ heading_node xs l c =
           source = record { own = refl; opening = texts_utf8 [] os q.0 (all_left IsPageItem os (is ++ cs) p); closing = texts_utf8 [] cs r.1 (all_right IsPageItem is cs v) };
           shown = refl;
           attrs = refl;
+          origin = refl;
           mark = refl;
           mw = refl;
         },

@@ -99,6 +99,7 @@ nowiki_node k parent bs small e h =
           };
           shown = refl;
           attrs = refl;
+          origin = refl;
           mark = refl;
           mw = refl;
         },

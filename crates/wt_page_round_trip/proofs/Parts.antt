@@ -64,6 +64,7 @@ leaf_written k parent at next Text b bs e g = (
     opening = refl;
     closing = refl;
     attrs = refl;
+    origin = refl;
     mark = refl;
     mw = refl;
   },
@@ -80,6 +81,7 @@ leaf_written k parent at next Sep b bs e g = (
     opening = refl;
     closing = refl;
     attrs = refl;
+    origin = refl;
     mark = refl;
     mw = refl;
   },

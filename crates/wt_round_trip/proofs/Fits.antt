@@ -45,7 +45,7 @@ leaf_is parent own e = if_false (shows_text parent) _ _ e ∙ by_test (holds_tex
 text_label : (parent : Kind) (l : Label) → IsTextIn parent l → leaf_label (leaf_kind parent) l.own (shown_of (leaf_kind parent) l.own) ≡ label_read l
 text_label parent l h =
     let w : writing l.kind ≡ AsText = ap writing h.kind ∙ leaf_as_text parent in
-    rw (w, h.shown, h.kind, h.id, h.opening, h.closing, h.attrs, h.mark, h.mw)
+    rw (w, h.shown, h.kind, h.id, h.opening, h.closing, h.attrs, h.origin, h.mark, h.mw)
 
 no_children : (ts : Trees) → is_childless ts ≡ true → unranged_all ts ≡ no_trees
 no_children no_trees h = refl

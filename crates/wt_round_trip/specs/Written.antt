@@ -37,6 +37,7 @@ label_read l = record {
   own = l.own;
   shown = l.shown;
   attrs = l.attrs;
+  origin = l.origin;
   mark = l.mark;
   mw = l.mw;
 }
@@ -75,6 +76,7 @@ pub record IsTextIn (parent : Kind) (l : Label) : Type 0 where
   pub opening : l.opening ≡ []
   pub closing : l.closing ≡ []
   pub attrs : l.attrs ≡ []
+  pub origin : l.origin ≡ None
   pub mark : l.mark ≡ mark.Nothing
   pub mw : l.mw ≡ None
 
@@ -165,6 +167,7 @@ pub record IsElementLabel (l : Label) : Type 0 where
   pub source : HasSource (is_leaf l.kind) l
   pub shown : IsShown (shows_text l.kind) l.shown
   pub attrs : HasAttributes l.kind l.attrs
+  pub origin : l.origin ≡ None
   pub mark : l.mark ≡ mark.Nothing
   pub mw : HasData (is_extension_label l) l.mw
 
