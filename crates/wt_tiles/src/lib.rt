@@ -14,7 +14,8 @@ mod read;
 mod shape;
 mod switch;
 mod tag;
-mod target;mod tile;
+mod target;
+mod tile;
 mod url;
 
 pub use context::Context;

@@ -29,7 +29,8 @@ text_joined r (b ∷ bs) (more t ts) h = by_test (is_text t) refl
   where
     by_test : (x : Bool) → is_text t ≡ x
         → AreJoined (if x then more (sep_leaf (joined_ranges r (label t).ranges) ((b ∷ bs) ++ (label t).own)) ts else more (sep_leaf r (b ∷ bs)) (more t ts))
-    by_test true e = let g = subst (λ x. JoinedBy x ((t ≡ bare t) × (is_empty (label t).own ≡ false) × (begins_with_text ts ≡ false))) e h.0 in ((refl, refl, g.2), h.1)
+    by_test true e = let g = subst (λ x. JoinedBy x
+        ((t ≡ bare t) × (is_empty (label t).own ≡ false) × (begins_with_text ts ≡ false))) e h.0 in ((refl, refl, g.2), h.1)
     by_test false e = ((refl, refl, e), h)
 
 onto_joined : (t : Tree) (ts : Trees) → AreJoined ts → AreJoined (onto t ts)
@@ -44,10 +45,12 @@ joined_are none = tt
 joined_are (more t ts) = onto_joined t (joined_texts ts) (joined_are ts)
 
 -- a text before what doesn't begin with one
-pub onto_alone : (r : Option Ranges) (own : List ℕ) (ts : Trees) → is_empty own ≡ false → begins_with_text ts ≡ false → text_onto r own ts ≡ more (sep_leaf r own) ts
+pub onto_alone : (r : Option Ranges) (own : List ℕ) (ts : Trees) → is_empty own ≡ false → begins_with_text ts ≡ false
+    → text_onto r own ts ≡ more (sep_leaf r own) ts
 onto_alone r [] ts e f = absurd (cc e)
 onto_alone r (b ∷ bs) none e f = refl
-onto_alone r (b ∷ bs) (more t ts) e f = ap (λ x. if x then more (sep_leaf (joined_ranges r (label t).ranges) ((b ∷ bs) ++ (label t).own)) ts else more (sep_leaf r (b ∷ bs)) (more t ts)) f
+onto_alone r (b ∷ bs) (more t ts) e f = ap (λ x. if x then
+    more (sep_leaf (joined_ranges r (label t).ranges) ((b ∷ bs) ++ (label t).own)) ts else more (sep_leaf r (b ∷ bs)) (more t ts)) f
 
 pub ranges_joined : (n : ℕ) (r : Option Ranges) → joined_ranges (front_ranges n r) (rest_ranges n r) ≡ r
 ranges_joined n None = refl
@@ -65,7 +68,8 @@ parts_joined r [] (b ∷ bs) ts e f = by_test (is_blank (b ∷ bs))
 parts_joined r (c ∷ cs) (b ∷ bs) ts e f = by_test (is_blank (b ∷ bs))
   where
     by_test : (x : Bool)
-        → joined_texts (if x then more (text_leaf (front_ranges (length (c ∷ cs)) r) (c ∷ cs)) (more (sep_leaf (rest_ranges (length (c ∷ cs)) r) (b ∷ bs)) ts) else more (text_leaf r ((c ∷ cs) ++ (b ∷ bs))) ts)
+        → joined_texts (if x then more (text_leaf (front_ranges (length (c ∷ cs)) r) (c ∷ cs))
+        (more (sep_leaf (rest_ranges (length (c ∷ cs)) r) (b ∷ bs)) ts) else more (text_leaf r ((c ∷ cs) ++ (b ∷ bs))) ts)
         ≡ more (sep_leaf r ((c ∷ cs) ++ (b ∷ bs))) (joined_texts ts)
     by_test true =
         ap (text_onto (front_ranges (length (c ∷ cs)) r) (c ∷ cs)) (onto_alone (rest_ranges (length (c ∷ cs)) r) (b ∷ bs) (joined_texts ts) refl f)
@@ -81,14 +85,18 @@ cut_joins behind none h = refl
 cut_joins behind (more t ts) h = by_test (is_text t) refl (cut_joins (behind || is_border t) ts h.1)
   where
     by_test : (x : Bool) → is_text t ≡ x → joined_texts (cut_from (behind || is_border t) ts) ≡ ts
-        → joined_texts (if x then text_before (from_start behind (leads_to_block ts) (label t).own) (label t).ranges (label t).own (cut_from (behind || is_border t) ts) else more t (cut_from (behind || is_border t) ts)) ≡ more t ts
+        → joined_texts (if x then text_before (from_start behind (leads_to_block ts) (label t).own) (label t).ranges (label t).own
+        (cut_from (behind || is_border t) ts) else more t (cut_from (behind || is_border t) ts)) ≡ more t ts
     by_test true e i =
         let g = subst (λ x. JoinedBy x ((t ≡ bare t) × (is_empty (label t).own ≡ false) × (begins_with_text ts ≡ false))) e h.0 in
         let x = from_start behind (leads_to_block ts) (label t).own in
-        parts_joined (label t).ranges (front_of x (label t).own) (rest_of x (label t).own) (cut_from (behind || is_border t) ts) (ap is_empty (all_parts x (label t).own) ∙ g.1) (ap begins_with_text i ∙ g.2)
+        parts_joined (label t).ranges (front_of x (label t).own) (rest_of x (label t).own) (cut_from (behind || is_border t) ts)
+        (ap is_empty (all_parts x (label t).own) ∙ g.1) (ap begins_with_text i ∙ g.2)
         ∙ ap₂ (λ bs us. more (sep_leaf (label t).ranges bs) us) (all_parts x (label t).own) i
         ∙ ap (λ u. more u ts) (sym g.0)
-    by_test false e i = ap (λ b. if b then text_onto (label t).ranges (label t).own (joined_texts (cut_from (behind || is_border t) ts)) else more t (joined_texts (cut_from (behind || is_border t) ts))) e ∙ ap (more t) i
+    by_test false e i = ap (λ b. if b then text_onto (label t).ranges (label t).own
+        (joined_texts (cut_from (behind || is_border t) ts)) else more t (joined_texts (cut_from (behind || is_border t) ts))) e
+        ∙ ap (more t) i
 
 pub recut_joins : (ts : Trees) → joined_texts (recut ts) ≡ joined_texts ts
 recut_joins ts = cut_joins false (joined_texts ts) (joined_are ts)
@@ -115,7 +123,8 @@ onto_flat t ts = by_test (is_text t) refl
     by_own r (b ∷ bs) (more u us) = by_next (is_text u) refl
       where
         by_next : (x : Bool) → is_text u ≡ x
-            → flat_of_all (if x then more (sep_leaf (joined_ranges r (label u).ranges) ((b ∷ bs) ++ (label u).own)) us else more (sep_leaf r (b ∷ bs)) (more u us)) ≡ (b ∷ bs) ++ (flat u ++ flat_of_all us)
+            → flat_of_all (if x then more (sep_leaf (joined_ranges r (label u).ranges) ((b ∷ bs) ++ (label u).own)) us else
+            more (sep_leaf r (b ∷ bs)) (more u us)) ≡ (b ∷ bs) ++ (flat u ++ flat_of_all us)
         by_next true e = append_assoc (b ∷ bs) (label u).own (flat_of_all us) ∙ ap (λ x. (b ∷ bs) ++ (x ++ flat_of_all us)) (sym (text_flat u e))
         by_next false e = refl
 

@@ -15,7 +15,8 @@ use Rattle.wt_tree.proofs.CutOnly.{parts_text, parts_sep, parts_both, joined_lea
 next_cut : (behind : Bool) (ts : Trees) → begins_with_text ts ≡ false → begins_with_text (cut_from behind ts) ≡ false
 next_cut behind none e = refl
 next_cut behind (more t ts) e =
-    ap (λ x. begins_with_text (if x then text_before (from_start behind (leads_to_block ts) (label t).own) (label t).ranges (label t).own (cut_from (behind || is_border t) ts)
+    ap (λ x. begins_with_text (if x then text_before (from_start behind (leads_to_block ts) (label t).own) (label t).ranges
+    (label t).own (cut_from (behind || is_border t) ts)
     else more t (cut_from (behind || is_border t) ts))) e ∙ e
 
 cut_leads : (behind : Bool) (ts : Trees) → AreJoined ts → leads_to_block (cut_from behind ts) ≡ leads_to_block ts
@@ -30,24 +31,28 @@ spaces_blank (b ∷ bs) e = by_test (is_space b) e (λ f. spaces_blank bs f)
     by_test false e h = absurd (cc e)
 
 -- a leaf before others that don't begin with a text
-leaf_stands : (behind : Bool) (t : Tree) (ts : Trees) → is_text t ≡ true → begins_with_text ts ≡ false → IsWhole behind (leads_to_block ts) t → AreCut (behind || has_break (label t).own) ts → AreCut behind (more t ts)
+leaf_stands : (behind : Bool) (t : Tree) (ts : Trees) → is_text t ≡ true → begins_with_text ts ≡ false
+    → IsWhole behind (leads_to_block ts) t → AreCut (behind || has_break (label t).own) ts → AreCut behind (more t ts)
 leaf_stands behind t ts e f h g = (
   subst (λ x. StandsBy x (begins_with_text ts) (IsWhole behind (leads_to_block ts) t) (IsFront behind t ts)) (sym e)
       (subst (λ y. StandsBy true y (IsWhole behind (leads_to_block ts) t) (IsFront behind t ts)) (sym f) h),
   subst (λ x. AreCut (behind || x) ts) (sym (ap (λ x. if x then has_break (label t).own else shows_block t) e)) g,
 )
 
-sep_whole : (behind leads : Bool) (r : Option Ranges) (own : List ℕ) → is_empty own ≡ false → is_sep_at behind leads own ≡ true → IsWhole behind leads (sep_leaf r own)
+sep_whole : (behind leads : Bool) (r : Option Ranges) (own : List ℕ) → is_empty own ≡ false → is_sep_at behind leads own ≡ true
+    → IsWhole behind leads (sep_leaf r own)
 sep_whole behind leads r own e f = (e, subst (λ x. IsWholeBy x behind r own (sep_leaf r own)) (sym f) refl)
 
-text_whole : (behind leads : Bool) (r : Option Ranges) (own : List ℕ) → is_empty own ≡ false → is_sep_at behind leads own ≡ false → has_tail behind own ≡ false → IsWhole behind leads (text_leaf r own)
+text_whole : (behind leads : Bool) (r : Option Ranges) (own : List ℕ) → is_empty own ≡ false → is_sep_at behind leads own ≡ false
+    → has_tail behind own ≡ false → IsWhole behind leads (text_leaf r own)
 text_whole behind leads r own e f g = (e, subst (λ x. IsWholeBy x behind r own (text_leaf r own)) (sym f) (refl, g))
 
 and_false : (a b : Bool) → a ≡ false → (a && b) ≡ false
 and_false a b e = ap (λ x. x && b) e
 
 -- the text is a separator from its start on, or whole
-start_stands : (behind : Bool) (r : Option Ranges) (own : List ℕ) (ts : Trees) → is_empty own ≡ false → begins_with_text ts ≡ false → from_start behind (leads_to_block ts) own ≡ true
+start_stands : (behind : Bool) (r : Option Ranges) (own : List ℕ) (ts : Trees) → is_empty own ≡ false
+    → begins_with_text ts ≡ false → from_start behind (leads_to_block ts) own ≡ true
     → AreCut (behind || has_break own) ts → AreCut behind (parts_before r [] own ts)
 start_stands behind r own ts e f a g = by_test (is_blank own) refl
   where
@@ -62,7 +67,9 @@ start_stands behind r own ts e f a g = by_test (is_blank own) refl
     by_test false d =
         subst (AreCut behind) (sym (parts_text r [] own ts d))
         (leaf_stands behind (text_leaf r own) ts refl f
-        (text_whole behind (leads_to_block ts) r own e (and_false (is_blank own) (from_start behind (leads_to_block ts) own || begins_with_break own) d) (no_tail behind (leads_to_block ts) a d)) g)
+        (text_whole behind (leads_to_block ts) r own e
+        (and_false (is_blank own) (from_start behind (leads_to_block ts) own || begins_with_break own) d)
+        (no_tail behind (leads_to_block ts) a d)) g)
 
 -- ---- cut at a line break
 
@@ -78,7 +85,8 @@ rest_begins : (own : List ℕ) → has_break own ≡ true → begins_with_break 
 rest_begins [] e = absurd (cc e)
 rest_begins (b ∷ bs) e = by_test (is_break b) refl e (λ f. rest_begins bs f)
   where
-    by_test : (x : Bool) → is_break b ≡ x → (x || has_break bs) ≡ true → (has_break bs ≡ true → begins_with_break (from_break bs) ≡ true) → begins_with_break (if x then b ∷ bs else from_break bs) ≡ true
+    by_test : (x : Bool) → is_break b ≡ x → (x || has_break bs) ≡ true
+        → (has_break bs ≡ true → begins_with_break (from_break bs) ≡ true) → begins_with_break (if x then b ∷ bs else from_break bs) ≡ true
     by_test true d e h = d
     by_test false d e h = h e
 
@@ -100,7 +108,8 @@ sep_by a b c e f = ap₂ (λ x y. x && (b || y)) e f ∙ or_true b
 no_sep : (a b c : Bool) → b ≡ false → c ≡ false → (a && (b || c)) ≡ false
 no_sep a b c e f = ap₂ (λ x y. a && (x || y)) e f ∙ and_none a
 
-first_stands : (r : Option Ranges) (own : List ℕ) (ts : Trees) → is_empty own ≡ false → begins_with_text ts ≡ false → begins_with_break own ≡ true → AreCut true ts → AreCut false (parts_before r [] own ts)
+first_stands : (r : Option Ranges) (own : List ℕ) (ts : Trees) → is_empty own ≡ false → begins_with_text ts ≡ false
+    → begins_with_break own ≡ true → AreCut true ts → AreCut false (parts_before r [] own ts)
 first_stands r own ts e f a g = by_test (is_blank own) refl
   where
     here : AreCut (false || has_break own) ts
@@ -109,7 +118,9 @@ first_stands r own ts e f a g = by_test (is_blank own) refl
     by_test : (x : Bool) → is_blank own ≡ x → AreCut false (parts_before r [] own ts)
     by_test true d =
         subst (AreCut false) (sym (parts_sep r own ts e d))
-        (leaf_stands false (sep_leaf r own) ts refl f (sep_whole false (leads_to_block ts) r own e (sep_by (is_blank own) (leads_to_block ts && are_spaces own) (begins_with_break own) d a)) here)
+        (leaf_stands false (sep_leaf r own) ts refl f
+        (sep_whole false (leads_to_block ts) r own e
+        (sep_by (is_blank own) (leads_to_block ts && are_spaces own) (begins_with_break own) d a)) here)
     by_test false d =
         subst (AreCut false) (sym (parts_text r [] own ts d))
         (leaf_stands false (text_leaf r own) ts refl f
@@ -117,7 +128,8 @@ first_stands r own ts e f a g = by_test (is_blank own) refl
         (ap (λ x. has_break own && is_blank x) (all_from own a) ∙ ap (λ x. has_break own && x) d ∙ and_none (has_break own)))
         here)
 
-later_stands : (r : Option Ranges) (own : List ℕ) (ts : Trees) → is_empty own ≡ false → begins_with_text ts ≡ false → begins_with_break own ≡ false → has_break own ≡ true → AreCut true ts
+later_stands : (r : Option Ranges) (own : List ℕ) (ts : Trees) → is_empty own ≡ false → begins_with_text ts ≡ false
+    → begins_with_break own ≡ false → has_break own ≡ true → AreCut true ts
     → AreCut false (parts_before r (before_break own) (from_break own) ts)
 later_stands r own ts e f a b g = by_test (is_blank rest) refl
   where
@@ -147,7 +159,8 @@ later_stands r own ts e f a b g = by_test (is_blank rest) refl
           ),
           subst (λ x. AreCut x (more (sep_leaf (rest_ranges n r) rest) ts)) (sym (front_unbroken own))
               (leaf_stands false (sep_leaf (rest_ranges n r) rest) ts refl f
-              (sep_whole false (leads_to_block ts) (rest_ranges n r) rest (begun rest begins).1 (sep_by (is_blank rest) (leads_to_block ts && are_spaces rest) (begins_with_break rest) d begins))
+              (sep_whole false (leads_to_block ts) (rest_ranges n r) rest (begun rest begins).1
+              (sep_by (is_blank rest) (leads_to_block ts && are_spaces rest) (begins_with_break rest) d begins))
               (subst (λ x. AreCut x ts) (sym (begun rest begins).0) g)),
         )
     by_test false d =
@@ -159,21 +172,26 @@ later_stands r own ts e f a b g = by_test (is_blank rest) refl
         (ap (λ x. has_break own && x) d ∙ and_none (has_break own)))
         (subst (λ x. AreCut x ts) (sym b) g))
 
-break_stands : (r : Option Ranges) (own : List ℕ) (ts : Trees) → is_empty own ≡ false → begins_with_text ts ≡ false → (leads_to_block ts && are_spaces own) ≡ false → AreCut (has_break own) ts
+break_stands : (r : Option Ranges) (own : List ℕ) (ts : Trees) → is_empty own ≡ false → begins_with_text ts ≡ false
+    → (leads_to_block ts && are_spaces own) ≡ false → AreCut (has_break own) ts
     → AreCut false (parts_before r (before_break own) (from_break own) ts)
 break_stands r own ts e f a g = by_test (has_break own) refl (begins_with_break own) refl
   where
     by_test : (x : Bool) → has_break own ≡ x → (y : Bool) → begins_with_break own ≡ y → AreCut false (parts_before r (before_break own) (from_break own) ts)
     by_test true d true b =
-        subst (AreCut false) (sym (ap₂ (λ x y. parts_before r x y ts) (nothing_before own b) (all_from own b))) (first_stands r own ts e f b (subst (λ x. AreCut x ts) d g))
+        subst (AreCut false) (sym (ap₂ (λ x y. parts_before r x y ts) (nothing_before own b) (all_from own b)))
+        (first_stands r own ts e f b (subst (λ x. AreCut x ts) d g))
     by_test true d false b = later_stands r own ts e f b d (subst (λ x. AreCut x ts) d g)
     by_test false d y b =
         subst (AreCut false) (sym (ap₂ (λ x y. parts_before r x y ts) (whole_before own d) (none_from own d)))
         (leaf_stands false (text_leaf r own) ts refl f
-        (text_whole false (leads_to_block ts) r own e (no_sep (is_blank own) (leads_to_block ts && are_spaces own) (begins_with_break own) a (unbroken own d)) (ap (λ x. x && is_blank (from_break own)) d))
+        (text_whole false (leads_to_block ts) r own e
+        (no_sep (is_blank own) (leads_to_block ts && are_spaces own) (begins_with_break own) a (unbroken own d))
+        (ap (λ x. x && is_blank (from_break own)) d))
         g)
 
-text_stands : (behind : Bool) (r : Option Ranges) (own : List ℕ) (ts : Trees) → is_empty own ≡ false → begins_with_text ts ≡ false → AreCut (behind || has_break own) ts
+text_stands : (behind : Bool) (r : Option Ranges) (own : List ℕ) (ts : Trees) → is_empty own ≡ false → begins_with_text ts ≡ false
+    → AreCut (behind || has_break own) ts
     → AreCut behind (text_before (from_start behind (leads_to_block ts) own) r own ts)
 text_stands true r own ts e f g = start_stands true r own ts e f refl g
 text_stands false r own ts e f g = by_test (leads_to_block ts && are_spaces own) refl
@@ -193,8 +211,10 @@ cut_is (more t ts) behind h = by_test (is_text t) refl (cut_is ts (behind || is_
         → AreCut behind (if x then text_before (from_start behind (leads_to_block ts) (label t).own) (label t).ranges (label t).own us else more t us)
     by_test true e i =
         let g = subst (λ x. JoinedBy x ((t ≡ bare t) × (is_empty (label t).own ≡ false) × (begins_with_text ts ≡ false))) e h.0 in
-        subst (λ l. AreCut behind (text_before (from_start behind l (label t).own) (label t).ranges (label t).own us)) (cut_leads (behind || is_border t) ts h.1)
-        (text_stands behind (label t).ranges (label t).own us g.1 (next_cut (behind || is_border t) ts g.2) (subst (λ x. AreCut (behind || x) us) (text_border t e) i))
+        subst (λ l. AreCut behind (text_before (from_start behind l (label t).own) (label t).ranges (label t).own us))
+        (cut_leads (behind || is_border t) ts h.1)
+        (text_stands behind (label t).ranges (label t).own us g.1 (next_cut (behind || is_border t) ts g.2)
+        (subst (λ x. AreCut (behind || x) us) (text_border t e) i))
     by_test false e i = (subst (λ x. StandsBy x (begins_with_text us) (IsWhole behind (leads_to_block us) t) (IsFront behind t us)) (sym e) tt, i)
 
 pub recut_is : (ts : Trees) → AreCut false (recut ts)

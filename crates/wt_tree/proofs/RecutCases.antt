@@ -24,7 +24,8 @@ break_first : recut (trees (text (97 ∷ 10 ∷ []) ∷ [])) ≡ trees (text (97
 break_first = refl
 
 -- each part has its ranges
-ranges_cut : recut (trees (text_leaf (Some (place 5 8)) (97 ∷ 98 ∷ 10 ∷ []) ∷ [])) ≡ trees (text_leaf (Some (place 5 7)) (97 ∷ 98 ∷ []) ∷ sep_leaf (Some (place 7 8)) (10 ∷ []) ∷ [])
+ranges_cut : recut (trees (text_leaf (Some (place 5 8)) (97 ∷ 98 ∷ 10 ∷ []) ∷ []))
+    ≡ trees (text_leaf (Some (place 5 7)) (97 ∷ 98 ∷ []) ∷ sep_leaf (Some (place 7 8)) (10 ∷ []) ∷ [])
 ranges_cut = refl
 
 -- a list directly behind a text
@@ -32,7 +33,8 @@ list_behind : recut (trees (text (97 ∷ 32 ∷ []) ∷ child kind.Ul ∷ [])) �
 list_behind = refl
 
 -- blanks and a comment before a list
-blanks_before : recut (trees (text (32 ∷ []) ∷ child kind.Comment ∷ text (9 ∷ []) ∷ child kind.Ul ∷ [])) ≡ trees (sep (32 ∷ []) ∷ child kind.Comment ∷ sep (9 ∷ []) ∷ child kind.Ul ∷ [])
+blanks_before : recut (trees (text (32 ∷ []) ∷ child kind.Comment ∷ text (9 ∷ []) ∷ child kind.Ul ∷ []))
+    ≡ trees (sep (32 ∷ []) ∷ child kind.Comment ∷ sep (9 ∷ []) ∷ child kind.Ul ∷ [])
 blanks_before = refl
 
 -- a skip isn't passed over
@@ -40,7 +42,8 @@ blanks_skip : recut (trees (text (32 ∷ []) ∷ child kind.Skip ∷ child kind.
 blanks_skip = refl
 
 -- texts behind a list
-texts_behind : recut (trees (child kind.Ul ∷ text (32 ∷ 97 ∷ []) ∷ child kind.Br ∷ text (32 ∷ []) ∷ [])) ≡ trees (child kind.Ul ∷ text (32 ∷ 97 ∷ []) ∷ child kind.Br ∷ sep (32 ∷ []) ∷ [])
+texts_behind : recut (trees (child kind.Ul ∷ text (32 ∷ 97 ∷ []) ∷ child kind.Br ∷ text (32 ∷ []) ∷ []))
+    ≡ trees (child kind.Ul ∷ text (32 ∷ 97 ∷ []) ∷ child kind.Br ∷ sep (32 ∷ []) ∷ [])
 texts_behind = refl
 
 -- a line break in a later text; what follows it isn't blank, so the text stays whole

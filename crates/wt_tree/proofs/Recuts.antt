@@ -191,7 +191,9 @@ onto_some u none e f = rw e (by_own (label u).own f)
 onto_some u (more t ts) e f = rw e (by_own (label u).own f)
   where
     by_own : (bs : List ℕ) → is_empty bs ≡ false
-        → text_onto (label u).ranges bs (more t ts) ≡ (if is_text t then more (sep_leaf (joined_ranges (label u).ranges (label t).ranges) (bs ++ (label t).own)) ts else more (sep_leaf (label u).ranges bs) (more t ts))
+        → text_onto (label u).ranges bs (more t ts) ≡
+        (if is_text t then more (sep_leaf (joined_ranges (label u).ranges (label t).ranges) (bs ++ (label t).own)) ts else
+        more (sep_leaf (label u).ranges bs) (more t ts))
     by_own [] g = absurd (cc g)
     by_own (b ∷ bs) g = refl
 
@@ -209,17 +211,23 @@ glue_text : (ts : Trees) (u : Tree) (us : Trees) → glue (push_text ts u) us �
 glue_text none u us = refl
 glue_text (more t none) u us = by_test (is_text t) refl us
   where
-    by_test : (b : Bool) → is_text t ≡ b → (us : Trees) → glue (if b then more (joined_pair t u) none else more t (more (bare u) none)) us ≡ glue (more t none) (glue (more (bare u) none) us)
+    by_test : (b : Bool) → is_text t ≡ b → (us : Trees)
+        → glue (if b then more (joined_pair t u) none else more t (more (bare u) none)) us
+        ≡ glue (more t none) (glue (more (bare u) none) us)
     by_test true e none = sym (ap (λ c. if c && true then more (joined_pair t u) none else more t (more (bare u) none)) e)
     by_test true e (more v vs) = by_next (is_text v)
       where
-        by_next : (c : Bool) → (if c then more (joined_pair (joined_pair t u) v) vs else more (joined_pair t u) (more v vs)) ≡ glue (more t none) (if c then more (joined_pair (bare u) v) vs else more (bare u) (more v vs))
-        by_next true = ap (λ x. more x vs) (pair_assoc t u v) ∙ sym (ap (λ c. if c && true then more (joined_pair t (joined_pair (bare u) v)) vs else more t (more (joined_pair (bare u) v) vs)) e)
+        by_next : (c : Bool) → (if c then more (joined_pair (joined_pair t u) v) vs else more (joined_pair t u) (more v vs))
+            ≡ glue (more t none) (if c then more (joined_pair (bare u) v) vs else more (bare u) (more v vs))
+        by_next true = ap (λ x. more x vs) (pair_assoc t u v)
+            ∙ sym (ap (λ c. if c && true then more (joined_pair t (joined_pair (bare u) v)) vs else
+            more t (more (joined_pair (bare u) v) vs)) e)
         by_next false = sym (ap (λ c. if c && true then more (joined_pair t u) (more v vs) else more t (more (bare u) (more v vs))) e)
     by_test false e none = sym (ap (λ c. if c && true then more (joined_pair t u) none else more t (more (bare u) none)) e)
     by_test false e (more v vs) = by_next (is_text v)
       where
-        by_next : (c : Bool) → more t (if c then more (joined_pair (bare u) v) vs else more (bare u) (more v vs)) ≡ glue (more t none) (if c then more (joined_pair (bare u) v) vs else more (bare u) (more v vs))
+        by_next : (c : Bool) → more t (if c then more (joined_pair (bare u) v) vs else more (bare u) (more v vs))
+            ≡ glue (more t none) (if c then more (joined_pair (bare u) v) vs else more (bare u) (more v vs))
         by_next true = sym (ap (λ c. if c && true then more (joined_pair t (joined_pair (bare u) v)) vs else more t (more (joined_pair (bare u) v) vs)) e)
         by_next false = sym (ap (λ c. if c && true then more (joined_pair t u) (more v vs) else more t (more (bare u) (more v vs))) e)
 glue_text (more t (more s ts)) u us = glue_more t (push_text (more s ts) u) us (some_pushed (more s ts) u) ∙ ap (more t) (glue_text (more s ts) u us)
@@ -248,7 +256,8 @@ glue_joined ts u us = by_test (is_text u) refl (is_empty (label u).own) refl
         → glue (if b then (if c then ts else push_text ts u) else appended ts (more u none)) us ≡ glue ts (onto u us)
     by_test true e true f = ap (glue ts) (sym (onto_empty u us e f))
     by_test true e false f = glue_text ts u us ∙ ap (glue ts) (sym (onto_some u us e f))
-    by_test false e c f = glue_last ts u us e ∙ sym (glue_other ts u us e) ∙ ap (glue ts) (sym (ap (λ b. if b then text_onto (label u).ranges (label u).own us else more u us) e))
+    by_test false e c f = glue_last ts u us e ∙ sym (glue_other ts u us e)
+        ∙ ap (glue ts) (sym (ap (λ b. if b then text_onto (label u).ranges (label u).own us else more u us) e))
 
 all_glued : (acc ts : Trees) → pushed_all acc ts ≡ glue acc (joined_texts ts)
 all_glued acc none = sym (glue_none acc)
@@ -274,8 +283,10 @@ parts_split r [] (b ∷ bs) us = refl
 parts_split r (c ∷ cs) (b ∷ bs) us = by_test (list_all is_white (b ∷ bs))
   where
     by_test : (t : Bool)
-        → (if t then more (text_leaf (front_ranges (length (c ∷ cs)) r) (c ∷ cs)) (more (sep_leaf (rest_ranges (length (c ∷ cs)) r) (b ∷ bs)) us) else more (text_leaf r ((c ∷ cs) ++ (b ∷ bs))) us)
-        ≡ appended (if t then more (text_leaf (front_ranges (length (c ∷ cs)) r) (c ∷ cs)) (more (sep_leaf (rest_ranges (length (c ∷ cs)) r) (b ∷ bs)) none) else more (text_leaf r ((c ∷ cs) ++ (b ∷ bs))) none) us
+        → (if t then more (text_leaf (front_ranges (length (c ∷ cs)) r) (c ∷ cs))
+        (more (sep_leaf (rest_ranges (length (c ∷ cs)) r) (b ∷ bs)) us) else more (text_leaf r ((c ∷ cs) ++ (b ∷ bs))) us)
+        ≡ appended (if t then more (text_leaf (front_ranges (length (c ∷ cs)) r) (c ∷ cs))
+        (more (sep_leaf (rest_ranges (length (c ∷ cs)) r) (b ∷ bs)) none) else more (text_leaf r ((c ∷ cs) ++ (b ∷ bs))) none) us
     by_test true = refl
     by_test false = refl
 
@@ -284,7 +295,8 @@ cut_split behind leads t us = by_test (is_text t)
   where
     by_test : (b : Bool) → (if b then text_before (from_start behind leads (label t).own) (label t).ranges (label t).own us else more t us)
         ≡ appended (if b then text_before (from_start behind leads (label t).own) (label t).ranges (label t).own none else more t none) us
-    by_test true = parts_split (label t).ranges (front_of (from_start behind leads (label t).own) (label t).own) (rest_of (from_start behind leads (label t).own) (label t).own) us
+    by_test true = parts_split (label t).ranges (front_of (from_start behind leads (label t).own) (label t).own)
+        (rest_of (from_start behind leads (label t).own) (label t).own) us
     by_test false = refl
 
 pub cut_step : (all : Trees) (behind : Bool) (done : Trees) (t : Tree) (ts parts : Trees) → appended done (cut_from behind (more t ts)) ≡ cut_from false all
@@ -324,19 +336,23 @@ same_last (x ∷ xs) (y ∷ ys) b c e = same_last xs ys b c (ap tail_of e)
 pub push_one : (old new : List Node) (a : Node) → new ≡ old ++ a ∷ [] → views new ≡ appended (views old) (more (view a) none)
 push_one old new a e = ap views e ∙ views_append old (a ∷ [])
 
-pub push_two : (old mid new : List Node) (a b : Node) → mid ≡ old ++ a ∷ [] → new ≡ mid ++ b ∷ [] → views new ≡ appended (views old) (more (view a) (more (view b) none))
+pub push_two : (old mid new : List Node) (a b : Node) → mid ≡ old ++ a ∷ [] → new ≡ mid ++ b ∷ []
+    → views new ≡ appended (views old) (more (view a) (more (view b) none))
 push_two old mid new a b e f =
-    push_one mid new b f ∙ ap (λ ts. appended ts (more (view b) none)) (push_one old mid a e) ∙ appended_assoc (views old) (more (view a) none) (more (view b) none)
+    push_one mid new b f ∙ ap (λ ts. appended ts (more (view b) none)) (push_one old mid a e)
+    ∙ appended_assoc (views old) (more (view a) none) (more (view b) none)
 
 -- the last of them is a text, or isn't
-pub pushed_joined : (all old new : List Node) (last u n : Node) → all ≡ old ++ last ∷ [] → is_text (view last) ≡ true → view n ≡ joined_pair (view last) (view u) → new ≡ old ++ n ∷ []
+pub pushed_joined : (all old new : List Node) (last u n : Node) → all ≡ old ++ last ∷ [] → is_text (view last) ≡ true
+    → view n ≡ joined_pair (view last) (view u) → new ≡ old ++ n ∷ []
     → views new ≡ push_text (views all) (view u)
 pushed_joined all old new last u n e f g h =
     push_one old new n h ∙ ap (λ x. appended (views old) (more x none)) g
     ∙ sym (ap (λ ts. push_text ts (view u)) (push_one old all last e) ∙ push_last (views old) (view last) (view u)
     ∙ ap (λ b. appended (views old) (if b then more (joined_pair (view last) (view u)) none else more (view last) (more (bare (view u)) none))) f)
 
-pub pushed_beside : (all old mid new : List Node) (last u n : Node) → all ≡ old ++ last ∷ [] → is_text (view last) ≡ false → view n ≡ bare (view u) → mid ≡ old ++ last ∷ [] → new ≡ mid ++ n ∷ []
+pub pushed_beside : (all old mid new : List Node) (last u n : Node) → all ≡ old ++ last ∷ [] → is_text (view last) ≡ false
+    → view n ≡ bare (view u) → mid ≡ old ++ last ∷ [] → new ≡ mid ++ n ∷ []
     → views new ≡ push_text (views all) (view u)
 pushed_beside all old mid new last u n e f g h i =
     push_two old mid new last n h i ∙ ap (λ x. appended (views old) (more (view last) (more x none))) g
@@ -344,19 +360,23 @@ pushed_beside all old mid new last u n e f g h i =
     ∙ ap (λ b. appended (views old) (if b then more (joined_pair (view last) (view u)) none else more (view last) (more (bare (view u)) none))) f)
 
 pub pushed_other : (old new : List Node) (n : Node) → is_text (view n) ≡ false → new ≡ old ++ n ∷ [] → views new ≡ push_joined (views old) (view n)
-pushed_other old new n e f = push_one old new n f ∙ sym (ap (λ b. if b then (if is_empty (label (view n)).own then views old else push_text (views old) (view n)) else appended (views old) (more (view n) none)) e)
+pushed_other old new n e f = push_one old new n f
+    ∙ sym (ap (λ b. if b then (if is_empty (label (view n)).own then views old else push_text (views old) (view n)) else
+    appended (views old) (more (view n) none)) e)
 
 pub texts_more : (ts : List Text) (i : ℕ) (t : Text) → i < length ts → t ≡ get_or ts i t → texts_of (take (i + 1) ts) ≡ texts_of (take i ts) ++ bytes_of t
 texts_more ts i t lt e =
     ap texts_of (take_more ts i t lt ∙ ap (λ x. take i ts ++ x ∷ []) (sym e)) ∙ flat_map-append bytes_of (take i ts) (t ∷ [])
     ∙ ap (λ x. texts_of (take i ts) ++ x) (append-nil (bytes_of t))
 
-pub flags_popped : (flags left : List Bool) (lead : Bool) (t : Tree) (ts : Trees) → flags ≡ reverse (leads_of (more t ts)) → flags ≡ left ++ lead ∷ [] → (left ≡ reverse (leads_of ts)) × (lead ≡ leads_to_block ts)
+pub flags_popped : (flags left : List Bool) (lead : Bool) (t : Tree) (ts : Trees) → flags ≡ reverse (leads_of (more t ts))
+    → flags ≡ left ++ lead ∷ [] → (left ≡ reverse (leads_of ts)) × (lead ≡ leads_to_block ts)
 flags_popped flags left lead t ts e f =
     let g : left ++ lead ∷ [] ≡ reverse (leads_of ts) ++ leads_to_block ts ∷ [] = sym f ∙ e ∙ reverse-append (leads_to_block ts ∷ []) (leads_of ts) in
     (same_front left (reverse (leads_of ts)) lead (leads_to_block ts) g, same_last left (reverse (leads_of ts)) lead (leads_to_block ts) g)
 
-pub split_found : (bs cs p q : List ℕ) (n m : ℕ) → cs ≡ bs → n < length cs → NoBreakBefore cs n → is_break (get_or cs n 0) ≡ true → m ≡ n → p ≡ take m bs → q ≡ drop m bs
+pub split_found : (bs cs p q : List ℕ) (n m : ℕ) → cs ≡ bs → n < length cs → NoBreakBefore cs n → is_break (get_or cs n 0) ≡ true
+    → m ≡ n → p ≡ take m bs → q ≡ drop m bs
     → (has_break bs ≡ true) × (p ≡ before_break bs) × (q ≡ from_break bs)
 split_found bs cs p q n m e lt before here same f g =
     let h = halves_at cs n lt here before in
@@ -366,7 +386,11 @@ pub split_none : (bs cs : List ℕ) (n : ℕ) → cs ≡ bs → length cs ≤ n 
 split_none bs cs n e le before = sym (ap has_break e) ∙ no_break cs (λ k l. before k (omega (arith, l, le)))
 
 pub some_flags : (t : Tree) (ts : Trees) (flags : List Bool) → flags ≡ reverse (leads_of (more t ts)) → 0 < length flags
-some_flags t ts flags e = omega (arith, ap length (e ∙ reverse-append (leads_to_block ts ∷ []) (leads_of ts)), length-append (reverse (leads_of ts)) (leads_to_block ts ∷ []))
+some_flags t ts flags e = omega (
+  arith,
+  ap length (e ∙ reverse-append (leads_to_block ts ∷ []) (leads_of ts)),
+  length-append (reverse (leads_of ts)) (leads_to_block ts ∷ []),
+)
 
 pub no_items : {A : Type 0} (xs : List A) → length xs ≡ 0 → xs ≡ []
 no_items [] e = refl
@@ -384,11 +408,13 @@ half_whole h front t false e f g = (
 
 -- one node more was cut
 pub cutting_more : (all : Trees) (behind : Bool) (done now : List Node) (t : Node) (ts : Trees) (parts : Trees) (flags left : List Bool) (lead next : Bool)
-    → IsCutting all behind (views done) (more (view t) ts) flags → flags ≡ left ++ lead ∷ [] → parts ≡ cut_before behind lead (view t) none → next ≡ (behind || is_border (view t)) → views now ≡ appended (views done) parts
+    → IsCutting all behind (views done) (more (view t) ts) flags → flags ≡ left ++ lead ∷ []
+    → parts ≡ cut_before behind lead (view t) none → next ≡ (behind || is_border (view t)) → views now ≡ appended (views done) parts
     → IsCutting all next (views now) ts left
 cutting_more all behind done now t ts parts flags left lead next h e f g i =
     let p = flags_popped flags left lead (view t) ts h.flags_are e in
     record {
-      cut = ap₂ (λ x b. appended x (cut_from b ts)) i g ∙ cut_step all behind (views done) (view t) ts parts h.cut (f ∙ ap (λ l. cut_before behind l (view t) none) p.1);
+      cut = ap₂ (λ x b. appended x (cut_from b ts)) i g ∙ cut_step all behind (views done) (view t) ts parts h.cut
+          (f ∙ ap (λ l. cut_before behind l (view t) none) p.1);
       flags_are = p.0;
     }

@@ -5,4 +5,5 @@ use Rattle.wt_tree.proofs.Recuts.{pushed_all}
 use Rattle.wt_tree.proofs.recut.joined_texts.Given as goal
 
 abbrev pub invariant-loop-node : goal.invariant-loop-node
-invariant-loop-node l = pushed_all (views l.joined.items) (views (into_iter_items l.node-iterator)) ≡ pushed_all (views l.initial.joined.items) (views (into_iter_items l.initial.node-iterator))
+invariant-loop-node l = pushed_all (views l.joined.items) (views (into_iter_items l.node-iterator))
+    ≡ pushed_all (views l.initial.joined.items) (views (into_iter_items l.initial.node-iterator))

@@ -7,7 +7,8 @@ use Rattle.wt_tree.proofs.recut.push_parts.Goals as goal
 
 pub returns-in_ok-push-2 : goal.returns-in_ok-push-2
 returns-in_ok-push-2 c =
-    push_two c.args.nodes.now.items c.push.new.self.items c.push-in-Some.new.self.items c.args.parts.first c.in-Some.second c.in_ok-push.ensures.items c.in_ok-push-2.ensures.items
+    push_two c.args.nodes.now.items c.push.new.self.items c.push-in-Some.new.self.items c.args.parts.first c.in-Some.second
+    c.in_ok-push.ensures.items c.in_ok-push-2.ensures.items
     ∙ sym (ap (λ o. appended (views c.args.nodes.now.items) (more (view c.args.parts.first) (node_if_any o))) c.in-Some.is)
 
 pub returns-in_default : goal.returns-in_default

@@ -7,7 +7,8 @@ pub returns-then-at-bytes : goal.returns-then-at-bytes
 returns-then-at-bytes c =
     let e : c.as_bytes-bytes.result.now ≡ bytes_of c.args.text = search rules in
     let l : c.break_at-at.result < length c.as_bytes-bytes.result.now = search rules in
-    split_found (bytes_of c.args.text) c.as_bytes-bytes.result.now (bytes_of c.split_at.result.0) (bytes_of c.split_at.result.1) c.break_at-at.result _ e l c.break_at-at.ensures.before
+    split_found (bytes_of c.args.text) c.as_bytes-bytes.result.now (bytes_of c.split_at.result.0)
+    (bytes_of c.split_at.result.1) c.break_at-at.result _ e l c.break_at-at.ensures.before
     (c.break_at-at.ensures.here l) (omega (arith, c.range.ensures.start)) c.split_at.ensures.front c.split_at.ensures.back
 
 pub returns-else-at-bytes : goal.returns-else-at-bytes
