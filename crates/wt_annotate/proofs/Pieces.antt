@@ -1,5 +1,5 @@
 -- Items of pieces, and what a node of pieces holds.
-use Rattle.std.proofs.Common.{◌≡◌, ℕ, ◌+◌, ◌<◌, ◌≤◌, Option, List, [], ◌∷◌, ◌++◌, length, take, drop, map, get_or, refl, sym, ap, ◌∙◌, arith, append-nil}
+use Rattle.std.proofs.Common.{◌≡◌, ℕ, ◌+◌, ◌^◌, ◌<◌, ◌≤◌, Option, List, [], ◌∷◌, ◌++◌, length, take, drop, map, get_or, refl, sym, ap, ◌∙◌, arith, append-nil}
 use Rattle.std.specs.List.{flat_map}
 use Rattle.std.proofs.lemmas.List.{take_more, take-append-drop}
 use Rattle.std.proofs.lemmas.Grind.{flat_map-append}
@@ -83,3 +83,17 @@ pub held_out : (n : PieceTree) → held (item_tree n) ≡ items (out-PieceTree n
 held_out n =
     ap held (item_tree_out n)
     ∙ ap (λ xs. items (out-PieceTree n).opening ++ (xs ++ items (out-PieceTree n).closing)) (held_list (out-PieceTree n).children)
+
+pub own_held : (n : PieceTree) (own closing : List Piece) (children : List PieceTree) → items own ≡ items (out-PieceTree n).opening ++ (held_by_all (forest (item_trees children)) ++ items closing)
+    → children ≡ (out-PieceTree n).children → closing ≡ (out-PieceTree n).closing → items own ≡ held (item_tree n)
+own_held n own closing children e i j =
+    let o = items (out-PieceTree n).opening in
+    e
+    ∙ ap (λ ns. o ++ (held_by_all (forest (item_trees ns)) ++ items closing)) i
+    ∙ ap (λ ps. o ++ (held_by_all (forest (item_trees (out-PieceTree n).children)) ++ items ps)) j
+    ∙ sym (ap held (item_tree_out n))
+
+pub own_fits : (at w : ℕ) (own rs : List Piece) (t : ItemTree) → items own ≡ held t → rs ≡ own → w ≡ width (items rs) → at + width (held t) < 2 ^ 32 → at + w < 2 ^ 32
+own_fits at w own rs t e i f h =
+    let same : w ≡ width (held t) = f ∙ ap (λ ps. width (items ps)) i ∙ ap width e in
+    omega (arith, same, h)

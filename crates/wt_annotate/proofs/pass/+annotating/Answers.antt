@@ -9,7 +9,7 @@ use Rattle.wt_annotate.proofs.pass.+annotating.Goals as goal
 
 pub annotated_all-loop-tree-init : goal.annotated_all-loop-tree-init
 annotated_all-loop-tree-init t c =
-    so_far_init c.new-nodes.result c.args.at.place c.args.at.next (item_trees (into_iter_items c.into_iter-tree-iterator.result)) c.new-nodes.ensures
+    so_far_init c.in_ok-nodes.nodes c.args.at.place c.args.at.next (item_trees (into_iter_items c.into_iter-tree-iterator.result)) c.in_ok-nodes.ensures
 
 pub annotated_all-annotated_node-requires : goal.annotated_all-annotated_node-requires
 annotated_all-annotated_node-requires t c =
