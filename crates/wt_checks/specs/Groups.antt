@@ -1,0 +1,63 @@
+-- A group may not be changed: no mark on it or inside it, and what it shows and its data as in the page.
+use Rattle.std.specs.Prelude.{ℕ, ◌&&◌, ◌||◌, not, Bool, true, false, Option, Some, None, List, [], ◌∷◌}
+use Rattle.std.specs.Str.{bytes_eq}
+use Rattle.wt_tree.specs.declared.kind.Mark.{Mark}
+use Rattle.wt_tree.specs.declared.kind.Mark.TheVariants as marks
+use Rattle.wt_tree.specs.Tiling.{is_group}
+use Rattle.wt_tree.specs.Plain.{Face, Plain, text, element, Plains, ended, along}
+use Rattle.wt_tree.specs.Tree.{Label, Tree, tree, Trees, none, more, label}
+use Rattle.wt_checks.specs.Places.{Place, number, is_kept, numbered, Condition}
+use Rattle.wt_checks.specs.Alike.{same_kind, same_attrs, same_data}
+use Rattle.wt_checks.specs.Elements.{written_for, all_read}
+
+abbrev pub is_marked : Mark → Bool
+is_marked marks.Nothing = false
+is_marked marks.Content = true
+is_marked marks.Children = true
+is_marked marks.Other = true
+
+-- a mark stands on the node or inside it
+abbrev mutual
+  pub has_mark : Tree → Bool
+  has_mark (tree l ts) = is_marked l.mark || have_mark ts
+
+  pub have_mark : Trees → Bool
+  have_mark none = false
+  have_mark (more t ts) = has_mark t || have_mark ts
+
+-- ---- the same elements
+
+abbrev pub same_face : Face → Face → Bool
+same_face f g = same_kind f.kind g.kind && (same_attrs f.attrs g.attrs && same_data f.mw g.mw)
+
+abbrev mutual
+  pub same_plain : Plain → Plain → Bool
+  same_plain (text xs) (text ys) = bytes_eq xs ys
+  same_plain (text xs) (element g rs) = false
+  same_plain (element f qs) (text ys) = false
+  same_plain (element f qs) (element g rs) = same_face f g && same_plains qs rs
+
+  pub same_plains : Plains → Plains → Bool
+  same_plains ended ended = true
+  same_plains ended (along q qs) = false
+  same_plains (along p ps) ended = false
+  same_plains (along p ps) (along q qs) = same_plain p q && same_plains ps qs
+
+-- what the two groups show is the same, in the elements that are written for it; the word in the first
+-- element's `typeof` is the group's own attribute
+abbrev pub shows_same : Tree → Tree → Bool
+shows_same (tree l ts) (tree m us) = is_group m.kind && (same_attrs l.attrs m.attrs && same_plains (written_for ts) (all_read us))
+
+-- where the values of parameters are edited, the data isn't compared
+abbrev pub carries_same : Bool → Tree → Tree → Bool
+carries_same values t u = values || same_data (label t).mw (label u).mw
+
+-- the page's node is a group, and it isn't as it was
+abbrev pub is_changed_group : Bool → Option Place → Tree → Bool
+is_changed_group values None u = false
+is_changed_group values (Some q) u = is_group (label q.node).kind && (has_mark u || not (shows_same q.node u && carries_same values q.node u))
+
+-- InTemplate: the number of a group of the page, with a mark on it or inside it, or with other shown
+-- nodes or other data.
+abbrev pub is_in_template : Bool → List Place → Condition
+is_in_template values page before p after = is_kept p && is_changed_group values (numbered (number p) page) p.node

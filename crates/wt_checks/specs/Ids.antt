@@ -1,0 +1,33 @@
+-- Conditions on the numbers of an edited tree: unknown, repeated, moved.
+use Rattle.std.specs.Prelude.{ℕ, ◌==◌, ◌&&◌, ◌||◌, not, nat_lt, Bool, true, false, Option, Some, None, List}
+use Rattle.std.specs.List.{list_any}
+use Rattle.wt_checks.specs.Places.{Place, number, is_kept, numbered, Condition}
+
+-- the place is there
+abbrev pub is_there : Option Place → Bool
+is_there None = false
+is_there (Some q) = true
+
+-- UnknownId: the number isn't in the page's tree.
+abbrev pub is_unknown : List Place → Condition
+is_unknown page before p after = is_kept p && not (is_there (numbered (number p) page))
+
+-- one of these places has this number
+abbrev pub stands : ℕ → List Place → Bool
+stands n ps = list_any (λ q. number q == n) ps
+
+-- RepeatedId: the number stands on another element, before or after it.
+abbrev pub is_repeated : Condition
+is_repeated before p after = is_kept p && (stands (number p) before || stands (number p) after)
+
+abbrev pub has_parent : ℕ → Option Place → Bool
+has_parent n None = false
+has_parent n (Some q) = q.parent == n
+
+-- a greater number with the same kept parent stands among these places
+abbrev pub greater_stands : Place → List Place → Bool
+greater_stands p ps = list_any (λ q. is_kept q && (q.parent == p.parent && nat_lt (number p) (number q))) ps
+
+-- Moved: the kept parent isn't the page's, or a greater number with the same kept parent stands before.
+abbrev pub is_moved : List Place → Condition
+is_moved page before p after = is_kept p && (not (has_parent p.parent (numbered (number p) page)) || greater_stands p before)
