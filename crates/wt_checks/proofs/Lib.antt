@@ -1,1 +1,5 @@
+pub mod Alikes
 pub mod Cases
+pub mod Entries
+pub mod Firsts
+pub mod Visits

@@ -14,7 +14,7 @@ unfoldable pub same_kind : Kind → Kind → Bool
 same_kind a b = kind_eq.it a b
 
 -- attributes by their names and values; both lists are in the order of `AttrName`
-unfoldable pub same_attrs : List (AttrName × List ℕ) → List (AttrName × List ℕ) → Bool
+abbrev pub same_attrs : List (AttrName × List ℕ) → List (AttrName × List ℕ) → Bool
 same_attrs [] [] = true
 same_attrs [] (b ∷ ys) = false
 same_attrs (a ∷ xs) [] = false

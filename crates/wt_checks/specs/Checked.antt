@@ -3,7 +3,7 @@ use Rattle.std.specs.Prelude.{ℕ, Bool, Option, Some, None, List}
 use Rattle.wt_tree.specs.Tree.{Tree}
 use Rattle.wt_checks.specs.declared.refusal.Check.{Check}
 use Rattle.wt_checks.specs.declared.refusal.Check.TheVariants.{UnknownId, RepeatedId, Moved, InTemplate, NotEditable, UnmarkedChange}
-use Rattle.wt_checks.specs.Places.{Place, places, first}
+use Rattle.wt_checks.specs.Places.{Place, places, Page, page_of, first}
 use Rattle.wt_checks.specs.Ids.{is_unknown, is_repeated, is_moved}
 use Rattle.wt_checks.specs.Groups.{is_in_template}
 use Rattle.wt_checks.specs.Marks.{is_wrongly_marked}
@@ -14,8 +14,8 @@ abbrev pub or_else : Option ℕ → (ℕ → Check) → Option Check → Option 
 or_else None refusal rest = rest
 or_else (Some n) refusal rest = Some (refusal n)
 
--- for the places of the page and of the edited tree
-abbrev pub refused : Bool → List Place → List Place → Option Check
+-- for what the page has, and the places of the edited tree
+abbrev pub refused : Bool → Page → List Place → Option Check
 refused values page edited =
     or_else (first (is_unknown page) edited) UnknownId
     (or_else (first is_repeated edited) RepeatedId
@@ -25,4 +25,4 @@ refused values page edited =
     (or_else (first (is_unmarked_change page) edited) UnmarkedChange None)))))
 
 unfoldable pub checked : Bool → Tree → Tree → Option Check
-checked values page edited = refused values (places page) (places edited)
+checked values page edited = refused values (page_of page) (places edited)

@@ -6,7 +6,7 @@ use Rattle.wt_tree.specs.declared.kind.Mark.TheVariants as marks
 use Rattle.wt_tree.specs.Tiling.{is_group}
 use Rattle.wt_tree.specs.Plain.{Face, Plain, text, element, Plains, ended, along}
 use Rattle.wt_tree.specs.Tree.{Label, Tree, tree, Trees, none, more, label}
-use Rattle.wt_checks.specs.Places.{Place, number, is_kept, numbered, Condition}
+use Rattle.wt_checks.specs.Places.{Place, number, is_kept, Page, Condition}
 use Rattle.wt_checks.specs.Alike.{same_kind, same_attrs, same_data}
 use Rattle.wt_checks.specs.Elements.{written_for, all_read}
 
@@ -59,5 +59,5 @@ is_changed_group values (Some q) u = is_group (label q.node).kind && (has_mark u
 
 -- InTemplate: the number of a group of the page, with a mark on it or inside it, or with other shown
 -- nodes or other data.
-abbrev pub is_in_template : Bool → List Place → Condition
-is_in_template values page before p after = is_kept p && is_changed_group values (numbered (number p) page) p.node
+abbrev pub is_in_template : Bool → Page → Condition
+is_in_template values page before p after = is_kept p && is_changed_group values (page (number p)) p.node

@@ -1,7 +1,7 @@
 -- Conditions on the numbers of an edited tree: unknown, repeated, moved.
 use Rattle.std.specs.Prelude.{ℕ, ◌==◌, ◌&&◌, ◌||◌, not, nat_lt, Bool, true, false, Option, Some, None, List}
 use Rattle.std.specs.List.{list_any}
-use Rattle.wt_checks.specs.Places.{Place, number, is_kept, numbered, Condition}
+use Rattle.wt_checks.specs.Places.{Place, number, is_kept, Page, Condition}
 
 -- the place is there
 abbrev pub is_there : Option Place → Bool
@@ -9,8 +9,8 @@ is_there None = false
 is_there (Some q) = true
 
 -- UnknownId: the number isn't in the page's tree.
-abbrev pub is_unknown : List Place → Condition
-is_unknown page before p after = is_kept p && not (is_there (numbered (number p) page))
+abbrev pub is_unknown : Page → Condition
+is_unknown page before p after = is_kept p && not (is_there (page (number p)))
 
 -- one of these places has this number
 abbrev pub stands : ℕ → List Place → Bool
@@ -29,5 +29,5 @@ abbrev pub greater_stands : Place → List Place → Bool
 greater_stands p ps = list_any (λ q. is_kept q && (q.parent == p.parent && nat_lt (number p) (number q))) ps
 
 -- Moved: the kept parent isn't the page's, or a greater number with the same kept parent stands before.
-abbrev pub is_moved : List Place → Condition
-is_moved page before p after = is_kept p && (not (has_parent p.parent (numbered (number p) page)) || greater_stands p before)
+abbrev pub is_moved : Page → Condition
+is_moved page before p after = is_kept p && (not (has_parent p.parent (page (number p))) || greater_stands p before)

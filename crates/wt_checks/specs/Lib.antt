@@ -1,8 +1,10 @@
 pub mod Places
+pub mod View
 pub mod Ids
 pub mod Alike
 pub mod Elements
 pub mod Groups
 pub mod Marks
 pub mod Unmarked
+pub mod Compared
 pub mod Checked

@@ -10,7 +10,7 @@ use Rattle.wt_tree.specs.Tiling.{is_group}
 use Rattle.wt_tree.specs.Tree.{Label, Tree, tree, Trees, none, more, label}
 use Rattle.wt_checks.specs.declared.editing.Editing.{Editing}
 use Rattle.wt_checks.specs.declared.editing.Editing.TheVariants.{Never, Content, InlineContent, Children, TopChildren}
-use Rattle.wt_checks.specs.Places.{Place, number, kind_at, is_kept, is_body, is_content, numbered, Condition}
+use Rattle.wt_checks.specs.Places.{Place, number, kind_at, is_kept, is_body, is_content, Page, Condition}
 use Rattle.wt_checks.specs.Groups.{is_marked}
 
 -- Which mark a node of each kind may have: `content` always, or where the page's node has inline
@@ -95,6 +95,6 @@ allows TopChildren m q = is_children m && at_top q
 
 -- NotEditable: a mark on a kind that may not have it, on a new element, or inside a node that is
 -- marked `content`.
-abbrev pub is_wrongly_marked : List Place → Condition
+abbrev pub is_wrongly_marked : Page → Condition
 is_wrongly_marked page before p after =
-    is_marked (label p.node).mark && (p.in_content || (not (is_kept p || is_body (kind_at p)) || not (allows (editing (kind_at p)) (label p.node).mark (numbered (number p) page))))
+    is_marked (label p.node).mark && (p.in_content || (not (is_kept p || is_body (kind_at p)) || not (allows (editing (kind_at p)) (label p.node).mark (page (number p)))))

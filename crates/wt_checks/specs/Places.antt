@@ -57,6 +57,13 @@ abbrev pub numbered : ℕ → List Place → Option Place
 numbered n [] = None
 numbered n (p ∷ ps) = if number p == n then Some p else numbered n ps
 
+-- what the page has for a number
+abbrev pub Page : Type 0
+Page = ℕ → Option Place
+
+abbrev pub page_of : Tree → Page
+page_of t n = numbered n (places t)
+
 -- ---- the first place of which something holds
 
 -- what may hold of a place after some places and before others

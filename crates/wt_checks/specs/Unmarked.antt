@@ -1,6 +1,7 @@
 -- What is unmarked is as it was.
 use Rattle.std.specs.Prelude.{ℕ, ◌==◌, ◌&&◌, ◌||◌, not, Bool, true, false, Option, Some, None, List, [], ◌∷◌, ◌++◌, if◌then◌else◌}
 use Rattle.std.specs.Str.{bytes_eq}
+use Rattle.wt_tree.specs.declared.kind.Kind.{Kind}
 use Rattle.wt_tree.specs.declared.node.DataMw.{DataMw}
 use Rattle.wt_tree.specs.declared.row.Writing.{Writing}
 use Rattle.wt_tree.specs.declared.row.Writing.TheVariants.{AsText, AsVoid, RoundCharacter, RoundChildren, Unwritten}
@@ -10,61 +11,50 @@ use Rattle.wt_tree.specs.Kinds.{showing, writing}
 use Rattle.wt_tree.specs.Tiling.{is_group}
 use Rattle.wt_tree.specs.Tree.{Label, Tree, tree, Trees, none, more, label}
 use Rattle.wt_checks.specs.Alike.{same_kind, same_attrs, same_data}
-use Rattle.wt_checks.specs.Places.{Place, number, kind_at, is_kept, is_body, numbered, Condition}
+use Rattle.wt_checks.specs.Places.{Place, number, kind_at, is_kept, is_body, Page, Condition}
 use Rattle.wt_checks.specs.Groups.{is_marked}
 
 -- ---- the texts and children of a node
 
--- what is compared of a child: a text by its characters, a kept child by its number, and that a child
--- is new
+-- what is compared of a child: a text by its characters, any other by its number, which is 0 where it is new
 pub data Entry : Type 0 where
   text : List ℕ → Entry
-  kept : ℕ → Entry
-  new : Entry
-
-abbrev pub by_number : ℕ → Entry
-by_number n = if n == 0 then new else kept n
+  child : ℕ → Entry
 
 -- Separators, marks and skips, which show nothing, aren't compared.
-abbrev pub entry_by : Showing → Writing → Label → List Entry
-entry_by Nothing w l = []
-entry_by Characters AsText l = text l.shown ∷ []
-entry_by Characters AsVoid l = by_number l.id ∷ []
-entry_by Characters RoundCharacter l = by_number l.id ∷ []
-entry_by Characters RoundChildren l = by_number l.id ∷ []
-entry_by Characters Unwritten l = by_number l.id ∷ []
-entry_by Inside w l = by_number l.id ∷ []
-entry_by Element w l = by_number l.id ∷ []
+abbrev pub is_compared : Showing → Bool
+is_compared Nothing = false
+is_compared Characters = true
+is_compared Inside = true
+is_compared Element = true
 
-abbrev pub entry : Label → List Entry
-entry l = entry_by (showing l.kind) (writing l.kind) l
+abbrev pub entry_by : Writing → Label → Entry
+entry_by AsText l = text l.shown
+entry_by AsVoid l = child l.id
+entry_by RoundCharacter l = child l.id
+entry_by RoundChildren l = child l.id
+entry_by Unwritten l = child l.id
+
+abbrev pub entry : Label → Entry
+entry l = entry_by (writing l.kind) l
 
 abbrev pub entries : Trees → List Entry
 entries none = []
-entries (more t ts) = entry (label t) ++ entries ts
+entries (more t ts) = if is_compared (showing (label t).kind) then entry (label t) ∷ entries ts else entries ts
 
--- the character of an entity counts as a text
-abbrev pub own_entry : Writing → List ℕ → List Entry
-own_entry AsText bs = []
-own_entry AsVoid bs = []
-own_entry RoundCharacter bs = text bs ∷ []
-own_entry RoundChildren bs = []
-own_entry Unwritten bs = []
-
--- the list of a node's texts and children
-abbrev pub held_by : Tree → List Entry
-held_by (tree l ts) = own_entry (writing l.kind) l.shown ++ entries ts
+-- the character of an entity, which is no node
+abbrev pub own_character : Writing → List ℕ → List ℕ
+own_character AsText bs = []
+own_character AsVoid bs = []
+own_character RoundCharacter bs = bs
+own_character RoundChildren bs = []
+own_character Unwritten bs = []
 
 abbrev pub same_entry : Entry → Entry → Bool
 same_entry (text xs) (text ys) = bytes_eq xs ys
-same_entry (text xs) (kept n) = false
-same_entry (text xs) new = false
-same_entry (kept m) (text ys) = false
-same_entry (kept m) (kept n) = m == n
-same_entry (kept m) new = false
-same_entry new (text ys) = false
-same_entry new (kept n) = false
-same_entry new new = true
+same_entry (text xs) (child n) = false
+same_entry (child m) (text ys) = false
+same_entry (child m) (child n) = m == n
 
 -- text by text and child by child: neighbouring texts aren't joined
 abbrev pub same_entries : List Entry → List Entry → Bool
@@ -72,6 +62,10 @@ same_entries [] [] = true
 same_entries [] (b ∷ ys) = false
 same_entries (a ∷ xs) [] = false
 same_entries (a ∷ xs) (b ∷ ys) = same_entry a b && same_entries xs ys
+
+-- the two nodes hold the same
+abbrev pub holds_same : Tree → Tree → Bool
+holds_same (tree l ts) (tree m us) = bytes_eq (own_character (writing l.kind) l.shown) (own_character (writing m.kind) m.shown) && same_entries (entries ts) (entries us)
 
 -- ---- the condition
 
@@ -86,7 +80,7 @@ keeps_face l m = same_kind l.kind m.kind && (same_attrs l.attrs m.attrs && keeps
 
 -- a marked node may hold something else
 abbrev pub keeps_children : Tree → Tree → Bool
-keeps_children t u = is_marked (label u).mark || same_entries (held_by t) (held_by u)
+keeps_children t u = is_marked (label u).mark || holds_same t u
 
 -- the page's node is no group, and this node isn't as it was
 abbrev pub is_other : Option Place → Tree → Bool
@@ -96,5 +90,5 @@ is_other (Some q) u = not (is_group (label q.node).kind) && not (keeps_face (lab
 -- UnmarkedChange: a kept node or the body, not inside a node that is marked `content`, has another kind
 -- or other attributes than in the page, or has no mark and another list of texts and children. Groups
 -- have a condition of their own.
-abbrev pub is_unmarked_change : List Place → Condition
-is_unmarked_change page before p after = (is_kept p || is_body (kind_at p)) && (not p.in_content && is_other (numbered (number p) page) p.node)
+abbrev pub is_unmarked_change : Page → Condition
+is_unmarked_change page before p after = (is_kept p || is_body (kind_at p)) && (not p.in_content && is_other (page (number p)) p.node)

@@ -2,8 +2,14 @@
 //! repeated and moved numbers, changed groups, marks where none may stand, and changes without a mark.
 #![tactic(auto)]
 
+mod alike;
 mod editing;
+mod ids;
+mod index;
+mod marks;
 mod refusal;
+mod unmarked;
+mod visit;
 
 pub use editing::Editing;
 pub use refusal::Check;
