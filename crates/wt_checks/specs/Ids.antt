@@ -24,10 +24,10 @@ abbrev pub has_parent : ℕ → Option Place → Bool
 has_parent n None = false
 has_parent n (Some q) = q.parent == n
 
--- a greater number with the same kept parent stands among these places
-abbrev pub greater_stands : Place → List Place → Bool
-greater_stands p ps = list_any (λ q. is_kept q && (q.parent == p.parent && nat_lt (number p) (number q))) ps
+-- a kept node with this kept parent and a greater number than this stands among these places
+abbrev pub greater_stands : ℕ → ℕ → List Place → Bool
+greater_stands parent n ps = list_any (λ q. is_kept q && (q.parent == parent && nat_lt n (number q))) ps
 
 -- Moved: the kept parent isn't the page's, or a greater number with the same kept parent stands before.
 abbrev pub is_moved : Page → Condition
-is_moved page before p after = is_kept p && (not (has_parent p.parent (page (number p))) || greater_stands p before)
+is_moved page before p after = is_kept p && (not (has_parent p.parent (page (number p))) || greater_stands p.parent (number p) before)
