@@ -1,7 +1,9 @@
 pub mod Alikes
 pub mod Cases
+pub mod Elements
 pub mod Entries
 pub mod Firsts
 pub mod Moved
 pub mod Repeated
+pub mod Spans
 pub mod Visits

@@ -1,6 +1,5 @@
 -- The elements that are written for what a group shows, and those that are read in it.
-use Rattle.std.specs.Prelude.{ℕ, ◌&&◌, Bool, true, false, Option, Some, None, List, [], ◌∷◌}
-use Rattle.std.specs.Str.{bytes_eq}
+use Rattle.std.specs.Prelude.{ℕ, Option, None, List, [], ◌∷◌, ◌++◌, map}
 use Rattle.wt_tree.specs.declared.kind.Kind.TheVariants as kind
 use Rattle.wt_tree.specs.declared.kind.TagName.TheVariants as tag
 use Rattle.wt_tree.specs.declared.row.Writing.{Writing}
@@ -8,7 +7,8 @@ use Rattle.wt_tree.specs.declared.row.Writing.TheVariants.{AsText, AsVoid, Round
 use Rattle.wt_tree.specs.declared.kind.Showing.{Showing}
 use Rattle.wt_tree.specs.declared.kind.Showing.TheVariants.{Characters, Inside, Nothing, Element}
 use Rattle.wt_tree.specs.Kinds.{showing, writing}
-use Rattle.wt_tree.specs.Plain.{Face, face, Plain, text, element, Plains, ended, along, text_before, plains_before}
+use Rattle.wt_tree.specs.Plain.{Face, face, Plain, text, element, Plains, ended, along, plains_before}
+use Rattle.wt_tree.specs.Stream.{Bracket, opens, closes, Sign, byte, bracket}
 use Rattle.wt_tree.specs.Tree.{Label, Tree, tree, Trees, none, more}
 
 -- ---- as they are written
@@ -53,12 +53,12 @@ written_for ts = or_empty_span (as_elements (all_bare (plains_before ts ended)))
 -- An element of a group that was read, as it stands: its texts, and the elements in it; what is a
 -- separator there doesn't count, a mark does.
 abbrev pub read_by : Writing → Showing → Label → Plains → Plains → Plains
-read_by AsText Characters l held rest = text_before l.shown rest
+read_by AsText Characters l held rest = along (text l.shown) rest
 read_by AsText Inside l held rest = rest
 read_by AsText Nothing l held rest = rest
 read_by AsText Element l held rest = rest
 read_by AsVoid s l held rest = along (element (face l) held) rest
-read_by RoundCharacter s l held rest = along (element (face l) (text_before l.shown held)) rest
+read_by RoundCharacter s l held rest = along (element (face l) (along (text l.shown) held)) rest
 read_by RoundChildren s l held rest = along (element (face l) held) rest
 read_by Unwritten s l held rest = along (element (face l) held) rest
 
@@ -69,3 +69,15 @@ abbrev mutual
   pub all_read : Trees → Plains
   all_read none = ended
   all_read (more t ts) = read_before t (all_read ts)
+
+-- ---- from left to right
+
+-- the characters of elements, and where elements open and close among them
+abbrev mutual
+  pub signs_in : Plains → List Sign
+  signs_in ended = []
+  signs_in (along p ps) = signs_of p ++ signs_in ps
+
+  pub signs_of : Plain → List Sign
+  signs_of (text bs) = map byte bs
+  signs_of (element f qs) = bracket (opens f) ∷ (signs_in qs ++ (bracket closes ∷ []))

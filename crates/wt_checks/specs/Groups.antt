@@ -1,14 +1,14 @@
 -- A group may not be changed: no mark on it or inside it, and what it shows and its data as in the page.
-use Rattle.std.specs.Prelude.{ℕ, ◌&&◌, ◌||◌, not, Bool, true, false, Option, Some, None, List, [], ◌∷◌}
-use Rattle.std.specs.Str.{bytes_eq}
+use Rattle.std.specs.Prelude.{ℕ, ◌==◌, ◌&&◌, ◌||◌, not, Bool, true, false, Option, Some, None, List, [], ◌∷◌}
 use Rattle.wt_tree.specs.declared.kind.Mark.{Mark}
 use Rattle.wt_tree.specs.declared.kind.Mark.TheVariants as marks
 use Rattle.wt_tree.specs.Tiling.{is_group}
-use Rattle.wt_tree.specs.Plain.{Face, Plain, text, element, Plains, ended, along}
+use Rattle.wt_tree.specs.Plain.{Face}
+use Rattle.wt_tree.specs.Stream.{Bracket, opens, closes, Sign, byte, bracket}
 use Rattle.wt_tree.specs.Tree.{Label, Tree, tree, Trees, none, more, label}
 use Rattle.wt_checks.specs.Places.{Place, number, is_kept, Page, Condition}
 use Rattle.wt_checks.specs.Alike.{same_kind, same_attrs, same_data}
-use Rattle.wt_checks.specs.Elements.{written_for, all_read}
+use Rattle.wt_checks.specs.Elements.{written_for, all_read, signs_in}
 
 abbrev pub is_marked : Mark → Bool
 is_marked marks.Nothing = false
@@ -30,23 +30,28 @@ abbrev mutual
 abbrev pub same_face : Face → Face → Bool
 same_face f g = same_kind f.kind g.kind && (same_attrs f.attrs g.attrs && same_data f.mw g.mw)
 
-abbrev mutual
-  pub same_plain : Plain → Plain → Bool
-  same_plain (text xs) (text ys) = bytes_eq xs ys
-  same_plain (text xs) (element g rs) = false
-  same_plain (element f qs) (text ys) = false
-  same_plain (element f qs) (element g rs) = same_face f g && same_plains qs rs
+abbrev pub same_bracket : Bracket → Bracket → Bool
+same_bracket (opens f) (opens g) = same_face f g
+same_bracket (opens f) closes = false
+same_bracket closes (opens g) = false
+same_bracket closes closes = true
 
-  pub same_plains : Plains → Plains → Bool
-  same_plains ended ended = true
-  same_plains ended (along q qs) = false
-  same_plains (along p ps) ended = false
-  same_plains (along p ps) (along q qs) = same_plain p q && same_plains ps qs
+abbrev pub same_sign : Sign → Sign → Bool
+same_sign (byte a) (byte b) = a == b
+same_sign (byte a) (bracket k) = false
+same_sign (bracket j) (byte b) = false
+same_sign (bracket j) (bracket k) = same_bracket j k
 
--- what the two groups show is the same, in the elements that are written for it; the word in the first
--- element's `typeof` is the group's own attribute
+abbrev pub same_signs : List Sign → List Sign → Bool
+same_signs [] [] = true
+same_signs [] (t ∷ ts) = false
+same_signs (s ∷ ss) [] = false
+same_signs (s ∷ ss) (t ∷ ts) = same_sign s t && same_signs ss ts
+
+-- What the two groups show is the same, in the elements that are written for the page's, read from left
+-- to right. The word in the first element's `typeof` is the group's own attribute.
 abbrev pub shows_same : Tree → Tree → Bool
-shows_same (tree l ts) (tree m us) = is_group m.kind && (same_attrs l.attrs m.attrs && same_plains (written_for ts) (all_read us))
+shows_same (tree l ts) (tree m us) = is_group m.kind && (same_attrs l.attrs m.attrs && same_signs (signs_in (written_for ts)) (signs_in (all_read us)))
 
 -- where the values of parameters are edited, the data isn't compared
 abbrev pub carries_same : Bool → Tree → Tree → Bool

@@ -7,4 +7,5 @@ pub mod Groups
 pub mod Marks
 pub mod Unmarked
 pub mod Compared
+pub mod Tokens
 pub mod Checked

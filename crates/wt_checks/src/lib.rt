@@ -4,12 +4,15 @@
 
 mod alike;
 mod editing;
+
 mod ids;
 mod index;
 mod marks;
+mod read;
 mod refusal;
 mod unmarked;
 mod visit;
+mod written;
 
 pub use editing::Editing;
 pub use refusal::Check;
