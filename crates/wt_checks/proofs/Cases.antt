@@ -1,5 +1,5 @@
 -- Worked cases of the checks, each by computing.
-use Rattle.std.proofs.Common.{◌≡◌, ℕ, Bool, true, false, Option, Some, None, List, [], ◌∷◌, refl, codes}
+use Rattle.std.proofs.Common.{◌≡◌, ℕ, true, false, Some, None, List, [], ◌∷◌, refl, codes}
 use Rattle.wt_tree.specs.declared.kind.AttrName.{AttrName}
 use Rattle.wt_tree.specs.declared.kind.AttrName.TheVariants as attr
 use Rattle.wt_tree.specs.declared.kind.Kind.{Kind}
@@ -7,10 +7,9 @@ use Rattle.wt_tree.specs.declared.kind.Kind.TheVariants as kind
 use Rattle.wt_tree.specs.declared.kind.TagName.TheVariants as tag
 use Rattle.wt_tree.specs.declared.kind.Mark.{Mark}
 use Rattle.wt_tree.specs.declared.kind.Mark.TheVariants as marks
-use Rattle.wt_tree.specs.declared.node.DataMw.{DataMw}
 use Rattle.wt_tree.specs.declared.node.DataMw.TheVariants as data_mw
 use Rattle.wt_tree.specs.declared.node.Part.TheVariants as part
-use Rattle.wt_tree.specs.Tree.{Label, Tree, tree, Trees, none, more, trees}
+use Rattle.wt_tree.specs.Tree.{Label, Tree, tree, none, trees}
 use Rattle.wt_checks.specs.declared.refusal.Check.TheVariants.{UnknownId, RepeatedId, Moved, InTemplate, NotEditable, UnmarkedChange}
 use Rattle.wt_checks.specs.Alike.{same_kind, same_data}
 use Rattle.wt_checks.specs.Checked.{checked}

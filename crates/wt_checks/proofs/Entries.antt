@@ -1,9 +1,9 @@
 -- What is compared of a list of nodes, from a place on.
-use Rattle.std.proofs.Common.{◌≡◌, ◌≤◌, ◌<◌, ℕ, ◌+◌, Bool, true, false, List, [], ◌∷◌, length, drop, get_or, refl, sym, ap, ◌∙◌, arith}
-use Rattle.std.specs.Prelude.{if◌then◌else◌, Option, Some, slice_get}
+use Rattle.std.proofs.Common.{◌≡◌, ◌≤◌, ◌<◌, ℕ, ◌+◌, true, false, List, [], ◌∷◌, length, drop, get_or, sym, ap, ◌∙◌, arith}
+use Rattle.std.specs.Prelude.{if◌then◌else◌}
 use Rattle.std.proofs.lemmas.List.{drop_more, at_drop_more}
 use Rattle.wt_tree.specs.Kinds.{showing}
-use Rattle.wt_tree.specs.View.{view, views, label_of}
+use Rattle.wt_tree.specs.View.{views, label_of}
 use Rattle.wt_tree.specs.declared.node.Node.{Node, out-Node}
 use Rattle.wt_tree.proofs.Views.{view_out}
 use Rattle.wt_checks.specs.Unmarked.{Entry, is_compared, entry, entries}
@@ -82,10 +82,10 @@ pub left_ended : (ms ns : List Node) (i j : ℕ) → ComparedFrom ns j j → i �
 left_ended ms ns i j d e =
     let ends : same_entries (entries_of (drop i ms)) (entries_of (drop j ns)) ≡ same_entries [] (entries_of (drop j ns)) = ap (λ (es : List Entry). same_entries es (entries_of (drop j ns))) (nothing_left ms i e) in
     elim (slice_get_cases ns j).1 [
-      inl w ↦ let f = has_first ns j d w.1 in
-        test_less j (length ns) w.1 ∙ sym (ends ∙ ap (λ (es : List Entry). same_entries [] es) f.1)
-    | inr w ↦ let within : j ≤ length ns = d.within in let past : length ns ≤ j = w.0 in let f : j ≡ length ns = omega arith in
-        test_end j (length ns) f ∙ sym (ends ∙ ap (λ (es : List Entry). same_entries [] es) (nothing_left ns j f))
+      | inl w ↦ let f = has_first ns j d w.1 in
+          test_less j (length ns) w.1 ∙ sym (ends ∙ ap (λ (es : List Entry). same_entries [] es) f.1)
+      | inr w ↦ let within : j ≤ length ns = d.within in let past : length ns ≤ j = w.0 in let f : j ≡ length ns = omega arith in
+          test_end j (length ns) f ∙ sym (ends ∙ ap (λ (es : List Entry). same_entries [] es) (nothing_left ns j f))
     ]
 
 pub right_ended : (ms ns : List Node) (i j : ℕ) → ComparedFrom ms i i → i < length ms → j ≡ length ns → nat_eq i (length ms) ≡ same_entries (entries_of (drop i ms)) (entries_of (drop j ns))

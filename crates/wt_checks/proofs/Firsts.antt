@@ -1,10 +1,8 @@
 -- The first place of which a condition holds, one place at a time.
-use Rattle.std.proofs.Common.{◌≡◌, ◌≤◌, ℕ, ◌+◌, ◌<◌, Bool, true, false, Option, Some, None, List, [], ◌∷◌, ◌++◌, length, map, take, drop, get_or, refl, sym, ap, ◌∙◌, append_assoc, append-nil, length-append, arith}
+use Rattle.std.proofs.Common.{◌≡◌, ◌≤◌, ℕ, ◌+◌, ◌<◌, Bool, true, false, Some, None, List, [], ◌∷◌, ◌++◌, length, take, drop, get_or, sym, ap, ◌∙◌}
 use Rattle.std.specs.Prelude.{if◌then◌else◌}
 use Rattle.std.proofs.lemmas.List.{take_more, drop_more, map-append, drop_all}
-use Rattle.wt_tree.specs.View.{view}
-use Rattle.wt_tree.specs.Tree.{label}
-use Rattle.wt_tree.specs.declared.node.Node.{Node, out-Node}
+use Rattle.wt_tree.specs.declared.node.Node.{out-Node}
 use Rattle.wt_tree.proofs.Views.{view_out}
 use Rattle.wt_checks.specs.declared.visit.Visit.{Visit}
 use Rattle.wt_checks.specs.Places.{Place, number, Condition, first_after}

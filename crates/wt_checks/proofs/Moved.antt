@@ -1,8 +1,8 @@
 -- The greatest numbers so far under each kept parent.
-use Rattle.std.proofs.Common.{◌≡◌, ℕ, ◌<◌, ◌+◌, Bool, true, false, Option, Some, None, List, [], ◌∷◌, ◌++◌, length, get_or, refl, sym, ap, ◌∙◌}
+use Rattle.std.proofs.Common.{◌≡◌, ℕ, ◌<◌, ◌+◌, Bool, true, false, List, [], ◌∷◌, ◌++◌, length, get_or, refl, sym, ap, ◌∙◌}
 use Rattle.std.specs.Prelude.{◌==◌, ◌&&◌, ◌||◌, not, nat_lt, if◌then◌else◌}
-use Rattle.std.specs.List.{list_any, slice_set}
-use Rattle.std.proofs.Common.{◌≢◌, ◌≤◌, arith, take, map, inl, inr}
+use Rattle.std.specs.List.{slice_set}
+use Rattle.std.proofs.Common.{◌≢◌, arith, take, inl, inr}
 use Rattle.std.proofs.lemmas.Bool.{cases_eq}
 use Rattle.std.proofs.lemmas.Bool.Decides.{nat_tests}
 use Rattle.std.proofs.lemmas.List.{get_or-set_same, get_or-set_other, take_more, map-append, length-set}
@@ -46,13 +46,13 @@ greatest_kept greatest ps p k within e h n m lt =
     let long : n < length greatest = rw (length-set greatest p.parent (number p)) at lt in
     greater_push n m ps p ∙ ap (λ b. greater_stands n m ps || (b && (p.parent == n && nat_lt m (number p)))) k ∙ ap (λ b. b || (p.parent == n && nat_lt m (number p))) (h n m long)
     ∙ elim (cases_eq n p.parent) [
-      inl same ↦
-        ap (λ b. nat_lt m (get_or greatest n 0) || (b && nat_lt m (number p))) (tests_equal p.parent n (sym same))
-        ∙ tests_less m (get_or greatest n 0) (number p) (ap (λ i. nat_lt (number p) (get_or greatest i 0)) same ∙ e)
-        ∙ ap (λ i. nat_lt m i) (sym (ap (λ i. get_or (slice_set greatest p.parent (number p)) i 0) same ∙ get_or-set_same greatest p.parent (number p) 0 within))
-    | inr other ↦
-        ap (λ b. nat_lt m (get_or greatest n 0) || (b && nat_lt m (number p))) (tests_other p.parent n (λ q. other (sym q)))
-        ∙ or_no (nat_lt m (get_or greatest n 0)) ∙ ap (λ i. nat_lt m i) (sym (get_or-set_other greatest p.parent n (number p) 0 other))
+      | inl same ↦
+          ap (λ b. nat_lt m (get_or greatest n 0) || (b && nat_lt m (number p))) (tests_equal p.parent n (sym same))
+          ∙ tests_less m (get_or greatest n 0) (number p) (ap (λ i. nat_lt (number p) (get_or greatest i 0)) same ∙ e)
+          ∙ ap (λ i. nat_lt m i) (sym (ap (λ i. get_or (slice_set greatest p.parent (number p)) i 0) same ∙ get_or-set_same greatest p.parent (number p) 0 within))
+      | inr other ↦
+          ap (λ b. nat_lt m (get_or greatest n 0) || (b && nat_lt m (number p))) (tests_other p.parent n (λ q. other (sym q)))
+          ∙ or_no (nat_lt m (get_or greatest n 0)) ∙ ap (λ i. nat_lt m i) (sym (get_or-set_other greatest p.parent n (number p) 0 other))
     ]
 
 -- the same of visits

@@ -5,11 +5,11 @@ use Rattle.wt_tree.specs.declared.kind.Showing.{Showing}
 use Rattle.wt_tree.specs.declared.kind.Showing.TheVariants.{Characters, Inside, Nothing, Element}
 use Rattle.wt_tree.specs.Kinds.{showing}
 use Rattle.wt_tree.specs.Plain.{Face, face, Plain, text, element, Plains, ended, along, text_before, shown_before, plain_before, plains_before}
-use Rattle.wt_tree.specs.Stream.{Sign, byte, bracket, opens, closes, signs_by, signs, signs_of_all}
+use Rattle.wt_tree.specs.Stream.{Sign, byte, bracket, opens, closes, signs_by, signs_of_all}
 use Rattle.wt_tree.specs.Tree.{Label, Tree, tree, Trees, none, more}
 use Rattle.wt_tree.proofs.Streams.{plain_signs, signs_of_plain, all_signs_before}
-use Rattle.wt_checks.specs.Elements.{span, without_data, bare, all_bare, as_element, as_elements, or_empty_span, written_for, signs_in, signs_of}
-use Rattle.wt_checks.specs.Tokens.{bare_sign, all_bare_signs, open_span, close_span, text_in_span, open_after, top_by, open_by, top_open, all_top_open, top_signs, all_top_signs, span_if_none}
+use Rattle.wt_checks.specs.Elements.{span, without_data, bare, all_bare, as_elements, or_empty_span, written_for, signs_in, signs_of}
+use Rattle.wt_checks.specs.Tokens.{bare_sign, all_bare_signs, close_span, text_in_span, open_after, top_by, open_by, top_open, all_top_open, top_signs, all_top_signs, span_if_none}
 use Rattle.wt_checks.proofs.Elements.{bare_text}
 
 -- ---- signs of plain views

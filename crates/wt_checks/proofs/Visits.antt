@@ -1,11 +1,10 @@
 -- The places of a node and of all below it.
 use Rattle.std.proofs.Common.{◌≡◌, ℕ, Bool, ◌||◌, List, [], ◌∷◌, ◌++◌, refl, ap}
 use Rattle.std.specs.List.{flat_map}
-use Rattle.wt_tree.specs.Tree.{Tree, tree}
-use Rattle.wt_tree.specs.View.{view, views, label_of}
+use Rattle.wt_tree.specs.View.{view, views}
 use Rattle.wt_tree.specs.declared.node.Node.{Node, out-Node}
 use Rattle.wt_tree.proofs.Views.{view_out}
-use Rattle.wt_checks.specs.Places.{Place, placed, all_placed, parent_below, is_content}
+use Rattle.wt_checks.specs.Places.{placed, all_placed, parent_below, is_content}
 
 pub placed_views : (parent : ℕ) (within : Bool) (ns : List Node) → all_placed parent within (views ns) ≡ flat_map (λ n. placed parent within (view n)) ns
 placed_views parent within [] = refl

@@ -1,6 +1,6 @@
 -- Whether two nodes have the same kind, attributes and data. The comparisons of kinds and data are the
 -- derived ones; the law `comparisons` says of each that it decides whether the two are one.
-use Rattle.std.specs.Prelude.{ℕ, ◌==◌, ◌&&◌, Bool, true, false, Option, Some, None, List, [], ◌∷◌}
+use Rattle.std.specs.Prelude.{ℕ, ◌==◌, ◌&&◌, Bool, true, false, Option, List, [], ◌∷◌}
 use Rattle.std.specs.Option.{option_eq}
 use Rattle.std.specs.Str.{bytes_eq}
 use Rattle.wt_tree.specs.declared.kind.Kind.{Kind}

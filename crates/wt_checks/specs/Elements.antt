@@ -1,5 +1,5 @@
 -- The elements that are written for what a group shows, and those that are read in it.
-use Rattle.std.specs.Prelude.{ℕ, Option, None, List, [], ◌∷◌, ◌++◌, map}
+use Rattle.std.specs.Prelude.{None, List, [], ◌∷◌, ◌++◌, map}
 use Rattle.wt_tree.specs.declared.kind.Kind.TheVariants as kind
 use Rattle.wt_tree.specs.declared.kind.TagName.TheVariants as tag
 use Rattle.wt_tree.specs.declared.row.Writing.{Writing}
@@ -8,7 +8,7 @@ use Rattle.wt_tree.specs.declared.kind.Showing.{Showing}
 use Rattle.wt_tree.specs.declared.kind.Showing.TheVariants.{Characters, Inside, Nothing, Element}
 use Rattle.wt_tree.specs.Kinds.{showing, writing}
 use Rattle.wt_tree.specs.Plain.{Face, face, Plain, text, element, Plains, ended, along, plains_before}
-use Rattle.wt_tree.specs.Stream.{Bracket, opens, closes, Sign, byte, bracket}
+use Rattle.wt_tree.specs.Stream.{opens, closes, Sign, byte, bracket}
 use Rattle.wt_tree.specs.Tree.{Label, Tree, tree, Trees, none, more}
 
 -- ---- as they are written

@@ -1,11 +1,11 @@
 -- A group may not be changed: no mark on it or inside it, and what it shows and its data as in the page.
-use Rattle.std.specs.Prelude.{ℕ, ◌==◌, ◌&&◌, ◌||◌, not, Bool, true, false, Option, Some, None, List, [], ◌∷◌}
+use Rattle.std.specs.Prelude.{◌==◌, ◌&&◌, ◌||◌, not, Bool, true, false, Option, Some, None, List, [], ◌∷◌}
 use Rattle.wt_tree.specs.declared.kind.Mark.{Mark}
 use Rattle.wt_tree.specs.declared.kind.Mark.TheVariants as marks
 use Rattle.wt_tree.specs.Tiling.{is_group}
 use Rattle.wt_tree.specs.Plain.{Face}
 use Rattle.wt_tree.specs.Stream.{Bracket, opens, closes, Sign, byte, bracket}
-use Rattle.wt_tree.specs.Tree.{Label, Tree, tree, Trees, none, more, label}
+use Rattle.wt_tree.specs.Tree.{Tree, tree, Trees, none, more, label}
 use Rattle.wt_checks.specs.Places.{Place, number, is_kept, Page, Condition}
 use Rattle.wt_checks.specs.Alike.{same_kind, same_attrs, same_data}
 use Rattle.wt_checks.specs.Elements.{written_for, all_read, signs_in}

@@ -1,5 +1,5 @@
 -- Where a mark may stand.
-use Rattle.std.specs.Prelude.{ℕ, ◌==◌, ◌&&◌, ◌||◌, not, Bool, true, false, Option, Some, None, List, [], ◌∷◌, if◌then◌else◌}
+use Rattle.std.specs.Prelude.{◌==◌, ◌&&◌, ◌||◌, not, Bool, true, false, Option, Some, None, if◌then◌else◌}
 use Rattle.wt_tree.specs.declared.kind.Kind.{Kind}
 use Rattle.wt_tree.specs.declared.kind.Kind.TheVariants as kind
 use Rattle.wt_tree.specs.declared.kind.Mark.{Mark}
@@ -7,7 +7,7 @@ use Rattle.wt_tree.specs.declared.kind.Mark.TheVariants as marks
 use Rattle.wt_tree.specs.declared.row.Class.TheVariants.{Block, List as ListClass}
 use Rattle.wt_tree.specs.Kinds.{shape, is_class}
 use Rattle.wt_tree.specs.Tiling.{is_group}
-use Rattle.wt_tree.specs.Tree.{Label, Tree, tree, Trees, none, more, label}
+use Rattle.wt_tree.specs.Tree.{Tree, tree, Trees, none, more, label}
 use Rattle.wt_checks.specs.declared.editing.Editing.{Editing}
 use Rattle.wt_checks.specs.declared.editing.Editing.TheVariants.{Never, Content, InlineContent, Children, TopChildren}
 use Rattle.wt_checks.specs.Places.{Place, number, kind_at, is_kept, is_body, is_content, Page, Condition}

@@ -8,7 +8,7 @@ use Rattle.wt_tree.specs.declared.row.Writing.TheVariants.{AsText, AsVoid, Round
 use Rattle.wt_tree.specs.Kinds.{showing, writing}
 use Rattle.wt_checks.specs.Unmarked.{own_character}
 use Rattle.wt_tree.specs.Plain.{face}
-use Rattle.wt_tree.specs.Stream.{Bracket, opens, closes, Sign, byte, bracket, signs_by, signs, signs_of_all}
+use Rattle.wt_tree.specs.Stream.{Bracket, opens, closes, Sign, byte, bracket, signs_by, signs_of_all}
 use Rattle.wt_tree.specs.Tree.{Label, Tree, tree, Trees, none, more}
 use Rattle.wt_tree.specs.View.{label_of}
 use Rattle.wt_checks.specs.declared.written.Written.{Written}

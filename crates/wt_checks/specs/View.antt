@@ -1,5 +1,5 @@
 -- The place that a visit of a node stands for.
-use Rattle.std.specs.Prelude.{ℕ, ◌==◌, not, Bool, List, ◌++◌, map, filter, take, Option, option_map, slice_get}
+use Rattle.std.specs.Prelude.{◌==◌, not, Bool, List, ◌++◌, map, filter, take, option_map, slice_get}
 use Rattle.wt_tree.specs.View.{view}
 use Rattle.wt_tree.specs.declared.node.Node.{out-Node}
 use Rattle.wt_checks.specs.declared.visit.Visit.{Visit}

@@ -3,8 +3,9 @@
 #![tactic(auto)]
 
 mod alike;
+mod checking;
 mod editing;
-
+mod groups;
 mod ids;
 mod index;
 mod marks;
@@ -14,5 +15,6 @@ mod unmarked;
 mod visit;
 mod written;
 
+pub use checking::check;
 pub use editing::Editing;
 pub use refusal::Check;

@@ -18,10 +18,7 @@ pub enum Written<'t, 'a> {
     Close,
 }
 
-fn push_part<'t, 'a>(
-    out: &mut Vec<Written<'t, 'a>>,
-    part: Written<'t, 'a>,
-) -> Result<(), NoMemory>
+fn push_part<'t, 'a>(out: &mut Vec<Written<'t, 'a>>, part: Written<'t, 'a>) -> Result<(), NoMemory>
     ensures { OnOk result (written_signs out.new.items ≡ written_signs out.old.items ++ written_sign part.entry ∷ []) }
 {
     out.push(part)?;

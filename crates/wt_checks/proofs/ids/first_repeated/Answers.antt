@@ -1,4 +1,4 @@
-use Rattle.std.proofs.Common.{arith, sym, ap, ◌∙◌, ◌≡◌, drop}
+use Rattle.std.proofs.Common.{arith, ap, ◌∙◌, ◌≡◌, drop}
 use Rattle.wt_checks.specs.View.{all_seen}
 use Rattle.wt_checks.proofs.Repeated.{again_is_first, first_again}
 use Rattle.wt_checks.proofs.ids.first_repeated.Goals as goal

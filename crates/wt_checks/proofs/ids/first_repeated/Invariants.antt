@@ -1,4 +1,4 @@
-use Rattle.std.proofs.Common.{◌≡◌, ◌≤◌, ◌<◌, ℕ, length, drop}
+use Rattle.std.proofs.Common.{◌≡◌, ◌≤◌, length, drop}
 use Rattle.wt_checks.specs.View.{all_seen}
 use Rattle.wt_checks.proofs.Repeated.{Noted, first_again}
 use Rattle.wt_checks.proofs.ids.first_repeated.Given as goal

@@ -1,7 +1,4 @@
-use Rattle.std.proofs.Common.{◌≡◌, ◌≤◌, ◌+◌, ◌-◌, ◌∷◌, length, drop}
-use Rattle.std.specs.Prelude.{Option, Some, slice_get}
-use Rattle.wt_tree.specs.View.{label_of}
-use Rattle.wt_tree.specs.declared.node.Node.{Node, out-Node}
+use Rattle.std.proofs.Common.{◌≡◌, ◌-◌, length, drop}
 use Rattle.wt_checks.specs.Compared.{ComparedFrom}
 use Rattle.wt_checks.specs.Unmarked.{same_entries}
 use Rattle.wt_checks.proofs.Entries.{entries_of}

@@ -1,8 +1,7 @@
-use Rattle.std.proofs.Common.{◌≡◌, ◌∷◌, ◌++◌, [], ◌||◌, take}
+use Rattle.std.proofs.Common.{◌≡◌, ◌∷◌, ◌++◌, [], take}
 use Rattle.std.specs.List.{flat_map}
 use Rattle.wt_tree.specs.View.{view}
-use Rattle.wt_tree.specs.declared.node.Node.{out-Node}
-use Rattle.wt_checks.specs.Places.{Place, placed}
+use Rattle.wt_checks.specs.Places.{placed}
 use Rattle.wt_checks.specs.View.{all_seen}
 use Rattle.wt_checks.proofs.visit.+push_visits.Given as goal
 

@@ -1,8 +1,7 @@
-use Rattle.std.proofs.Common.{sym, ap, ◌∙◌, ◌++◌, ◌≡◌, [], Bool}
-use Rattle.wt_tree.specs.Stream.{Sign}
+use Rattle.std.proofs.Common.{ap, ◌∙◌, ◌++◌, ◌≡◌, [], Bool}
 use Rattle.wt_tree.specs.View.{views}
 use Rattle.wt_checks.specs.Tokens.{written_signs, span_if_none, all_top_signs, close_span}
-use Rattle.std.proofs.Common.{List, false}
+use Rattle.std.proofs.Common.{false}
 use Rattle.wt_checks.proofs.Spans.{spans_are}
 use Rattle.wt_checks.proofs.written.elements_written.Goals as goal
 
