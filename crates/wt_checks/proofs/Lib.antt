@@ -1,0 +1,13 @@
+pub mod Alikes
+pub mod Cases
+pub mod Elements
+pub mod Entries
+pub mod Firsts
+pub mod Known
+pub mod Lookups
+pub mod Moved
+pub mod Repeated
+pub mod Shows
+pub mod Signs
+pub mod Spans
+pub mod Visits
