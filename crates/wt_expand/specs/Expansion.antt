@@ -178,20 +178,27 @@ page_output r at_start t ps =
     let o = r.template t (values_from 1 (later_parts ps)) in
     given (target_part ps).work (parts_work (later_parts ps) ++ o.work) (with_break at_start o.items)
 
--- a call that is text: its braces, bars and `=` are characters, and what stands between them is as it was expanded
-abbrev pub text_output : List Output → Output
-text_output os = then_output (just (chars (codes "{{"))) (then_output (joined os) (just (chars (codes "}}"))))
+-- the braces at the two ends of a call's source
+abbrev pub front_braces : ℕ → List ℕ → List ℕ
+front_braces k source = take k source
 
-abbrev pub called_output : Called → Reading → Bool → List ℕ → List PartOutput → List Output → Output
-called_output argument r at_start source ps os = argument_output r.frame ps
-called_output function r at_start source ps os = just (whole form.Function None source ∷ [])
-called_output (page t) r at_start source ps os = page_output r at_start t ps
-called_output text r at_start source ps os = text_output os
+abbrev pub back_braces : ℕ → List ℕ → List ℕ
+back_braces k source = drop (length source - k) source
+
+-- a call that is text: its braces, bars and `=` are characters, and what stands between them is as it was expanded
+abbrev pub text_output : ℕ → List ℕ → List Output → Output
+text_output k source os = then_output (just (chars (front_braces k source))) (then_output (joined os) (just (chars (back_braces k source))))
+
+abbrev pub called_output : Called → Reading → Bool → ℕ → List ℕ → List PartOutput → List Output → Output
+called_output argument r at_start k source ps os = argument_output r.frame ps
+called_output function r at_start k source ps os = just (whole form.Function None source ∷ [])
+called_output (page t) r at_start k source ps os = page_output r at_start t ps
+called_output text r at_start k source ps os = text_output k source os
 
 abbrev pub call_output : Reading → Bool → ℕ → List ℕ → List PartMembers → List Output → Output
 call_output r at_start k source parts os =
     let ps = part_outputs parts os in
-    called_output (called k source (target_part ps).items) r at_start source ps os
+    called_output (called k source (target_part ps).items) r at_start k source ps os
 
 -- The members of a text, which begin with these bytes. `at_start`: they begin the text or stand behind a line break.
 abbrev mutual

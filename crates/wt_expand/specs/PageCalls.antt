@@ -1,5 +1,5 @@
 -- The items of an expanded page with where they come from, its outermost calls and arguments, and its text calls.
-use Rattle.std.specs.Prelude.{ℕ, suc, ◌+◌, ◌-◌, ◌==◌, Bool, true, false, Option, Some, None, List, [], ◌∷◌, ◌++◌, map, take, drop, slice_index, codes}
+use Rattle.std.specs.Prelude.{ℕ, suc, ◌+◌, ◌-◌, ◌==◌, Bool, true, false, Option, Some, None, List, [], ◌∷◌, ◌++◌, map, take, drop, slice_index}
 use Rattle.wt_span.specs.declared.form.Form.TheVariants as form
 use Rattle.wt_span.specs.Bytes.{is_break}
 use Rattle.wt_span.specs.Items.{Item, char, whole}
@@ -9,7 +9,7 @@ use Rattle.wt_names.specs.Written.{link_to}
 use Rattle.wt_braces.specs.PartMembers.{part_members}
 use Rattle.wt_expand.specs.Targets.{Called, argument, function, page, text, called}
 use Rattle.wt_expand.specs.Work.{Pages}
-use Rattle.wt_expand.specs.Expansion.{Output, chars, target_part, part_outputs, Reading, output_of, outputs_of, text_members, page_reading}
+use Rattle.wt_expand.specs.Expansion.{chars, front_braces, back_braces, target_part, part_outputs, Reading, output_of, outputs_of, text_members, page_reading}
 
 -- what a stretch of the page gives: items of the page itself, or an outermost call with what it gives; and where a text call stands
 pub data Stretch : Type 0 where
@@ -34,7 +34,7 @@ abbrev pub call_stretches : Called → ℕ → ℕ → List ℕ → Members → 
 call_stretches argument at k source ms given inside = outer (outer_at at k source ms argument) given ∷ []
 call_stretches function at k source ms given inside = own given ∷ []
 call_stretches (page t) at k source ms given inside = outer (outer_at at k source ms (page t)) given ∷ []
-call_stretches text at k source ms given inside = text_call (at, at + (k + width_of_all ms + k)) ∷ (own (chars (codes "{{")) ∷ (inside ++ own (chars (codes "}}")) ∷ []))
+call_stretches text at k source ms given inside = text_call (at, at + (k + width_of_all ms + k)) ∷ (own (chars (front_braces k source)) ∷ (inside ++ own (chars (back_braces k source)) ∷ []))
 
 -- the stretches of the page's members, the first of which begins at `at` with these bytes
 abbrev mutual
