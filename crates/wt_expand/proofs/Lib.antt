@@ -1,4 +1,5 @@
 mod Cases
+mod ExpansionCases
 pub mod MadePieces
 pub mod PageLaws
 pub mod PiecePlaces

@@ -1,3 +1,9 @@
+pub mod Expansion
 pub mod Made
+pub mod PageCalls
 pub mod PageItems
 pub mod PiecePlaces
+pub mod Targets
+pub mod Templates
+pub mod Texts
+pub mod Work
