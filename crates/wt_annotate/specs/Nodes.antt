@@ -21,7 +21,6 @@ bare h id start end open_w close_w = record {
   shown = h.shown;
   attrs = h.attrs;
   origin = None;
-  origin = None;
   mark = marks.Nothing;
   mw = h.mw;
   children = [];

@@ -106,7 +106,7 @@ entity_node k parent c bs small e h = record {
       mw = refl;
     },
     refl,
-    tt,
+    (tt, tt),
   );
 }
 
@@ -135,7 +135,7 @@ comment_node k parent bs small h = record {
       mw = refl;
     },
     refl,
-    tt,
+    (tt, tt),
   );
 }
 
@@ -172,7 +172,7 @@ include_node k parent bs small h = record {
       mw = refl;
     },
     refl,
-    tt,
+    (tt, tt),
   );
 }
 
@@ -199,7 +199,7 @@ hidden_node k parent bs small h = record {
       mw = refl;
     },
     refl,
-    tt,
+    (tt, tt),
   );
 }
 
@@ -301,6 +301,6 @@ extension_node k parent bs small e h =
           mw = subst (λ (b : Bool). HasData b (Some (extension_data bs))) (sym (extension_passes (name_of (opening_tag bs)) n)) (extension_has bs n h.1);
         },
         refl,
-        tt,
+        (tt, tt),
       );
     }

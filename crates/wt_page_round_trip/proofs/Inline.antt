@@ -104,7 +104,7 @@ nowiki_node k parent bs small e h =
           mw = refl;
         },
         refl,
-        children_written (suc k) kind.Nowiki ps (at + width xs) (next + 1) w (omega arith) (omega arith) (omega arith),
+        (tt, children_written (suc k) kind.Nowiki ps (at + width xs) (next + 1) w (omega arith) (omega arith) (omega arith)),
       );
     }
 
