@@ -3,3 +3,5 @@ mod ExpansionCases
 pub mod MadePieces
 pub mod PageLaws
 pub mod PiecePlaces
+pub mod Given
+pub mod Joins

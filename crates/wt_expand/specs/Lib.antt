@@ -3,6 +3,7 @@ pub mod Made
 pub mod PageCalls
 pub mod PageItems
 pub mod PiecePlaces
+pub mod Stretches
 pub mod Targets
 pub mod Templates
 pub mod Texts
