@@ -1,11 +1,10 @@
 -- The origins of an expanded page, each once, join to the page.
 use Rattle.std.proofs.Common.{◌≡◌, ℕ, zero, suc, ◌+◌, ◌-◌, ◌<◌, Bool, true, false, Option, Some, None, List, [], ◌∷◌, ◌++◌, length, map, take, drop, refl, sym, ap, ◌∙◌, subst, arith, append_assoc, append-nil, length-append}
-use Rattle.std.specs.Prelude.{slice_get, slice_index, not, ◌==◌, if◌then◌else◌}
+use Rattle.std.specs.Prelude.{slice_get, slice_index, not, if◌then◌else◌}
 use Rattle.std.proofs.lemmas.Bool.Decides.{nat_tests}
 use Rattle.wt_span.specs.declared.form.Mode.{Mode}
 use Rattle.wt_span.specs.declared.form.Mode.TheVariants as mode
 use Rattle.wt_span.specs.declared.form.LexKind.{LexKind}
-use Rattle.wt_span.specs.declared.form.Form.TheVariants as form
 use Rattle.wt_span.specs.Bytes.{is_break}
 use Rattle.wt_span.specs.Items.{Item, char, whole, source, sources, call_of, items_by}
 use Rattle.wt_span.specs.Origins.{OuterCall, same_call}
@@ -15,7 +14,7 @@ use Rattle.wt_braces.specs.PartMembers.{part_members}
 use Rattle.wt_expand.specs.PageItems.{form_of}
 use Rattle.wt_expand.specs.Targets.{Called, argument, function, page, text, called}
 use Rattle.wt_expand.specs.Work.{Pages}
-use Rattle.wt_expand.specs.Expansion.{Output, chars, is_removed, lexeme_items, PartOutput, part_outputs, target_part, Reading, front_braces, back_braces, called_output, output_of, outputs_of, text_members, page_reading}
+use Rattle.wt_expand.specs.Expansion.{Output, chars, is_removed, lexeme_items, PartOutput, part_outputs, target_part, Reading, front_braces, back_braces, called_output, outputs_of, text_members, page_reading}
 use Rattle.wt_expand.specs.PageCalls.{Stretch, own, outer, text_call, call_stretches, stretches_of, all_stretches, from_call, outer_items, numbered, outer_calls, page_stretches, expanded_page}
 use Rattle.wt_expand.specs.Stretches.{page_bytes}
 use Rattle.wt_expand.proofs.PiecePlaces.{last_call, last_push, text_behind, text_here, behind_page, behind_same, AllFrom, form_from, chars_from, last_of, length_push, get_mid}

@@ -5,3 +5,6 @@ pub mod PageLaws
 pub mod PiecePlaces
 pub mod Given
 pub mod Joins
+pub mod NoCalls
+pub mod Agreements
+pub mod Absent

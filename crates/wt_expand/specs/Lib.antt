@@ -1,3 +1,4 @@
+pub mod Agreement
 pub mod Expansion
 pub mod Made
 pub mod PageCalls
