@@ -3,3 +3,8 @@ mod ExpansionCases
 pub mod MadePieces
 pub mod PageLaws
 pub mod PiecePlaces
+pub mod Given
+pub mod Joins
+pub mod NoCalls
+pub mod Agreements
+pub mod Absent

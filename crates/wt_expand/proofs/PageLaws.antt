@@ -21,7 +21,7 @@ use Rattle.wt_lex.specs.Reading.{AreLexemes}
 use Rattle.wt_lex.proofs.Readings.{words_are}
 use Rattle.wt_expand.specs.PageItems.{form_of, items_of_word, items_of_words, page_items}
 
-char_sources : (bs : List ℕ) → sources (map (char None) bs) ≡ bs
+pub char_sources : (bs : List ℕ) → sources (map (char None) bs) ≡ bs
 char_sources [] = refl
 char_sources (b ∷ bs) = ap (λ cs. b ∷ cs) (char_sources bs)
 

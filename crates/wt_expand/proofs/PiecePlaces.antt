@@ -20,17 +20,17 @@ use Rattle.wt_expand.proofs.PageLaws.{form_sources}
 
 -- ---- the item behind a cut
 
-get_mid : {A : Type 0} → (front : List A) (x : A) (xs : List A) → slice_get (front ++ x ∷ xs) (length front) ≡ Some x
+pub get_mid : {A : Type 0} → (front : List A) (x : A) (xs : List A) → slice_get (front ++ x ∷ xs) (length front) ≡ Some x
 get_mid [] x xs = refl
 get_mid (a ∷ front) x xs = get_mid front x xs
 
 -- the call of the last item
-abbrev last_call : List Item → Option ℕ
+abbrev pub last_call : List Item → Option ℕ
 last_call [] = None
 last_call (x ∷ []) = call_of x
 last_call (x ∷ y ∷ ys) = last_call (y ∷ ys)
 
-last_push : (front : List Item) (x : Item) → last_call (front ++ x ∷ []) ≡ call_of x
+pub last_push : (front : List Item) (x : Item) → last_call (front ++ x ∷ []) ≡ call_of x
 last_push [] x = refl
 last_push (a ∷ []) x = refl
 last_push (a ∷ b ∷ front) x = last_push (b ∷ front) x
@@ -46,15 +46,15 @@ free_here (a ∷ front) x xs =
     ∙ ap (λ o. not (same_call (last_call (a ∷ front)) (call_of_item o))) (get_mid front x xs)
 
 -- what stands on the page for an item behind one of this call
-abbrev text_behind : List OuterCall → Option ℕ → Item → List ℕ
+abbrev pub text_behind : List OuterCall → Option ℕ → Item → List ℕ
 text_behind calls before x = if not (same_call before (call_of x)) then text_by calls (call_of x) (source x) else []
 
-text_here : (calls : List OuterCall) (front : List Item) (x : Item) (xs : List Item) → text_at calls (front ++ x ∷ xs) (length front) ≡ text_behind calls (last_call front) x
+pub text_here : (calls : List OuterCall) (front : List Item) (x : Item) (xs : List Item) → text_at calls (front ++ x ∷ xs) (length front) ≡ text_behind calls (last_call front) x
 text_here calls front x xs =
     ap (λ t. if t then origin_text calls (slice_get (front ++ x ∷ xs) (length front)) else []) (free_here front x xs)
     ∙ ap (λ o. if not (same_call (last_call front) (call_of x)) then origin_text calls o else []) (get_mid front x xs)
 
-length_push : {A : Type 0} → (front : List A) (x : A) → length (front ++ x ∷ []) ≡ suc (length front)
+pub length_push : {A : Type 0} → (front : List A) (x : A) → length (front ++ x ∷ []) ≡ suc (length front)
 length_push front x = omega (arith, length-append front (x ∷ []))
 
 place_push : (calls : List OuterCall) (front : List Item) (x : Item) (xs : List Item)
@@ -64,15 +64,15 @@ place_push calls front x xs =
 
 -- ---- the items of a piece
 
-abbrev AllFrom : Option ℕ → List Item → Type 0
+abbrev pub AllFrom : Option ℕ → List Item → Type 0
 AllFrom o [] = Unit {0}
 AllFrom o (x ∷ xs) = (call_of x ≡ o) × AllFrom o xs
 
-chars_from : (o : Option ℕ) (bs : List ℕ) → AllFrom o (map (char o) bs)
+pub chars_from : (o : Option ℕ) (bs : List ℕ) → AllFrom o (map (char o) bs)
 chars_from o [] = tt
 chars_from o (b ∷ bs) = (refl, chars_from o bs)
 
-form_from : (f : Form) (o : Option ℕ) (bs : List ℕ) → AllFrom o (items_by f o bs)
+pub form_from : (f : Form) (o : Option ℕ) (bs : List ℕ) → AllFrom o (items_by f o bs)
 form_from form.Chars o bs = chars_from o bs
 form_from (form.Entity c) o bs = (refl, tt)
 form_from form.Nowiki o bs = (refl, tt)
@@ -100,14 +100,14 @@ form_some form.EmptyCall o bs h = omega arith
 
 -- ---- the place behind items of one origin
 
-behind_page : (calls : List OuterCall) (before : Option ℕ) (x : Item) → call_of x ≡ None → text_behind calls before x ≡ source x
+pub behind_page : (calls : List OuterCall) (before : Option ℕ) (x : Item) → call_of x ≡ None → text_behind calls before x ≡ source x
 behind_page calls None x e = ap (λ o. text_by calls o (source x)) e
 behind_page calls (Some j) x e = ap (λ o. if not (same_call (Some j) o) then text_by calls o (source x) else []) e
 
 same_self : (k : ℕ) → same_call (Some k) (Some k) ≡ true
 same_self k = grind (arith, nat_tests)
 
-behind_same : (calls : List OuterCall) (before : Option ℕ) (k : ℕ) (x : Item) → before ≡ Some k → call_of x ≡ Some k → text_behind calls before x ≡ []
+pub behind_same : (calls : List OuterCall) (before : Option ℕ) (k : ℕ) (x : Item) → before ≡ Some k → call_of x ≡ Some k → text_behind calls before x ≡ []
 behind_same calls before k x b e =
     ap (λ o. if not (same_call o (call_of x)) then text_by calls (call_of x) (source x) else []) b
     ∙ ap (λ o. if not (same_call (Some k) o) then text_by calls o (source x) else []) e
@@ -163,7 +163,7 @@ behind_of_call calls k front (z ∷ zs) xs some h =
     let e : length (front ++ z ∷ zs) ≡ length ((front ++ z ∷ []) ++ zs) = ap length (sym (append_assoc front (z ∷ []) zs)) in
     ap (place calls all) e ∙ omega (arith, r, s, behind_first calls (last_call front) k z h.0)
 
-last_of : (o : Option ℕ) (front zs : List Item) → 0 < length zs → AllFrom o zs → last_call (front ++ zs) ≡ o
+pub last_of : (o : Option ℕ) (front zs : List Item) → 0 < length zs → AllFrom o zs → last_call (front ++ zs) ≡ o
 last_of o front [] some h = absurd (omega arith)
 last_of o front (z ∷ []) some h = last_push front z ∙ h.0
 last_of o front (z ∷ y ∷ ys) some h = ap last_call (sym (append_assoc front (z ∷ []) (y ∷ ys))) ∙ last_of o (front ++ z ∷ []) (y ∷ ys) (omega arith) h.1

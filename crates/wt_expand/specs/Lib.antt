@@ -1,8 +1,10 @@
+pub mod Agreement
 pub mod Expansion
 pub mod Made
 pub mod PageCalls
 pub mod PageItems
 pub mod PiecePlaces
+pub mod Stretches
 pub mod Targets
 pub mod Templates
 pub mod Texts
