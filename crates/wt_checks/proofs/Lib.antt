@@ -1,8 +1,11 @@
 pub mod Alikes
+pub mod AsItWas
 pub mod Cases
+pub mod Comparisons
 pub mod Elements
 pub mod Entries
 pub mod Firsts
+pub mod InOrder
 pub mod Known
 pub mod Lookups
 pub mod Moved
