@@ -1,13 +1,13 @@
 -- No number unknown, repeated or moved: under each kept parent the kept nodes are some of the page's, in
 -- their order.
-use Rattle.std.proofs.Common.{◌≡◌, ◌≢◌, ◌≤◌, ◌<◌, ◌+◌, ℕ, zero, suc, Bool, true, false, List, [], ◌∷◌, ◌++◌, map, refl, sym, ap, ◌∙◌, subst, arith, inl, inr, ◌⊎◌}
+use Rattle.std.proofs.Common.{◌≡◌, ◌≢◌, ◌<◌, ◌+◌, ℕ, zero, suc, Bool, true, false, List, [], ◌∷◌, ◌++◌, map, refl, sym, ap, ◌∙◌, subst, arith, inl, inr, ◌⊎◌}
 use Rattle.std.specs.Prelude.{◌==◌, ◌&&◌, ◌||◌, not, nat_lt, if◌then◌else◌, filter, Option, Some, None}
-use Rattle.std.specs.List.{AllByRecursion, list_any, range_with_len}
+use Rattle.std.specs.List.{AllByRecursion, range_with_len}
 use Rattle.std.proofs.lemmas.Bool.{cases_eq}
 use Rattle.std.proofs.lemmas.Bool.Decides.{nat_tests}
 use Rattle.wt_checks.specs.Ids.{stands, greater_stands, has_parent, is_there, is_unknown, is_repeated, is_moved}
 use Rattle.wt_checks.specs.Kept.{IsSublist, kept_under, InOrder}
-use Rattle.wt_checks.specs.Places.{Place, number, is_kept, numbered, Condition, Page, first_after, first}
+use Rattle.wt_checks.specs.Places.{Place, number, is_kept, numbered, Condition, Page, first_after}
 use Rattle.wt_checks.proofs.Repeated.{any_push, or_false, and_not}
 
 -- ---- a condition that holds of no place
@@ -69,10 +69,10 @@ sublist_of_members [] ys i j h = tt
 sublist_of_members (x ∷ xs) [] i j h = absurd h.0
 sublist_of_members (x ∷ xs) (y ∷ ys) i j h =
     elim (cases_eq y x) [
-      inl e ↦ inl (sym e, sublist_of_members xs ys i.1 j.1 (members_behind y xs ys (subst (λ (k : ℕ). Above k xs) (sym e) i.0) h.1))
-    | inr d ↦ let m : Member x ys = elim h.0 as (λ w. Member x ys) [ inl e ↦ absurd (d e) | inr k ↦ k ] in
-        let lt : y < x = above_member y x ys j.0 m in
-        inr (sublist_of_members (x ∷ xs) ys i j.1 (m, members_behind y xs ys (above_less y x xs lt i.0) h.1))
+      | inl e ↦ inl (sym e, sublist_of_members xs ys i.1 j.1 (members_behind y xs ys (subst (λ (k : ℕ). Above k xs) (sym e) i.0) h.1))
+      | inr d ↦ let m : Member x ys = elim h.0 as (λ w. Member x ys) [ inl e ↦ absurd (d e) | inr k ↦ k ] in
+          let lt : y < x = above_member y x ys j.0 m in
+          inr (sublist_of_members (x ∷ xs) ys i j.1 (m, members_behind y xs ys (above_less y x xs lt i.0) h.1))
     ]
 
 sublist_member : (xs ys : List ℕ) (k : ℕ) → IsSublist xs ys → Member k xs → Member k ys
@@ -260,6 +260,7 @@ member_parent k n (p ∷ ps) z inc m =
         let lt : number p < k = above_member (number p) k (kept_under n ps) (under_above (number p) n ps (above_rest (is_kept p) p (filter is_kept ps) e inc)) m in
         absurd (omega (arith, lt, s))
     here_by false t e f s m = absurd (cc)
+
     parent_by : (b : Bool) → (number p == k) ≡ b → (Member k (kept_under n ps) → has_parent n (numbered k ps) ≡ true) → has_parent n (if b then Some p else numbered k ps) ≡ true
     parent_by true e f =
         let s : number p ≡ k = same_by (number p) k e in
@@ -280,10 +281,11 @@ test_equal a b e = grind (arith, nat_tests)
 
 all_right : (page : List Place) (all ps : List Place) → Increasing (kept_numbers page) → InOrder page all → ((n k : ℕ) → Member k (kept_under n ps) → Member k (kept_under n all)) → AllByRecursion (Right (λ k. numbered k page)) ps
 all_right page all [] inc o h = tt
-all_right page all (p ∷ ps) inc o h =
-    ( λ e. member_parent (number p) p.parent page (kept_not_zero (number p) e) inc
-      (sublist_member (kept_under p.parent all) (kept_under p.parent page) (number p) (o p.parent) (h p.parent (number p) (member_first (is_kept p) (p.parent == p.parent) (number p) (number p) (kept_under p.parent ps) e (test_equal p.parent p.parent refl) refl)))
-    , all_right page all ps inc o (λ n k m. h n k (member_more (is_kept p && p.parent == n) k (number p) (kept_under n ps) m)) )
+all_right page all (p ∷ ps) inc o h = (
+  λ e. member_parent (number p) p.parent page (kept_not_zero (number p) e) inc
+      (sublist_member (kept_under p.parent all) (kept_under p.parent page) (number p) (o p.parent) (h p.parent (number p) (member_first (is_kept p) (p.parent == p.parent) (number p) (number p) (kept_under p.parent ps) e (test_equal p.parent p.parent refl) refl))),
+  all_right page all ps inc o (λ n k m. h n k (member_more (is_kept p && p.parent == n) k (number p) (kept_under n ps) m)),
+)
 
 -- a kept node and one behind it
 record Behind (p q : Place) : Type 0 where
@@ -305,16 +307,17 @@ above_there false m i ns a = a
 
 behind_all : (page : Page) (p : Place) (ps : List Place) → is_kept p ≡ true → Right page p → Above (number p) (kept_under p.parent ps) → AllByRecursion (Right page) ps → AllByRecursion (λ q. is_kept q ≡ true → Behind p q) ps
 behind_all page p [] k r a h = tt
-behind_all page p (q ∷ ps) k r a h =
-    ( λ e. elim (cases_eq q.parent p.parent) [
-        inl s ↦ let lt : number p < number q = above_here (is_kept q) (q.parent == p.parent) (number p) (number q) (kept_under p.parent ps) e (test_equal q.parent p.parent s) a in
-          record { other = λ i. omega (arith, lt, i); later = λ i. lt }
-      | inr d ↦ record {
-          other = λ i. d (parent_one q.parent p.parent (page (number p)) (ap (λ m. has_parent q.parent (page m)) i ∙ h.0 e) (r k));
-          later = λ i. absurd (d (sym i));
-        }
-      ]
-    , behind_all page p ps k r (above_there (is_kept q && q.parent == p.parent) (number p) (number q) (kept_under p.parent ps) a) h.1 )
+behind_all page p (q ∷ ps) k r a h = (
+  λ e. elim (cases_eq q.parent p.parent) [
+    | inl s ↦ let lt : number p < number q = above_here (is_kept q) (q.parent == p.parent) (number p) (number q) (kept_under p.parent ps) e (test_equal q.parent p.parent s) a in
+        record { other = λ i. omega (arith, lt, i); later = λ i. lt }
+    | inr d ↦ record {
+      other = λ i. d (parent_one q.parent p.parent (page (number p)) (ap (λ m. has_parent q.parent (page m)) i ∙ h.0 e) (r k));
+      later = λ i. absurd (d (sym i));
+    }
+  ],
+  behind_all page p ps k r (above_there (is_kept q && q.parent == p.parent) (number p) (number q) (kept_under p.parent ps) a) h.1,
+)
 
 -- what is known of the places before
 abbrev Free : List Place → Place → Type 0
@@ -340,11 +343,12 @@ zero_of n e = grind (arith, nat_tests)
 
 free_push : (before : List Place) (p q : Place) → (is_kept p ≡ true → is_kept q ≡ true → Behind p q) → Free before q → Free (before ++ p ∷ []) q
 free_push before p q b h k =
-    let f = h k in
-    ( any_push (λ r. is_kept r && (r.parent == q.parent && nat_lt (number q) (number r))) before p
-      ∙ or_both (greater_stands q.parent (number q) before) (is_kept p && (p.parent == q.parent && nat_lt (number q) (number p))) f.0
-      (greater_test (is_kept p) (p.parent == q.parent) (nat_lt (number q) (number p)) (λ e t. test_greater (number p) (number q) ((b e k).later (same_by p.parent q.parent t))))
-    , any_push (λ r. number r == number q) before p ∙ or_both (stands (number q) before) (number p == number q) f.1 (different (is_kept p) refl) )
+    let f = h k in (
+      any_push (λ r. is_kept r && (r.parent == q.parent && nat_lt (number q) (number r))) before p
+          ∙ or_both (greater_stands q.parent (number q) before) (is_kept p && (p.parent == q.parent && nat_lt (number q) (number p))) f.0
+          (greater_test (is_kept p) (p.parent == q.parent) (nat_lt (number q) (number p)) (λ e t. test_greater (number p) (number q) ((b e k).later (same_by p.parent q.parent t)))),
+      any_push (λ r. number r == number q) before p ∙ or_both (stands (number q) before) (number p == number q) f.1 (different (is_kept p) refl),
+    )
   where
     different : (c : Bool) → is_kept p ≡ c → (number p == number q) ≡ false
     different true e = test_other (number p) (number q) ((b e k).other)

@@ -14,3 +14,4 @@ pub mod Shows
 pub mod Signs
 pub mod Spans
 pub mod Visits
+pub mod WhatIsKept

@@ -1,9 +1,9 @@
 -- What is kept, in other words than the tests of a place: as sublists of numbers, and as equations.
-use Rattle.std.specs.Prelude.{◌≡◌, ◌⊎◌, ℕ, ◌==◌, ◌&&◌, ◌||◌, Bool, true, false, Option, Some, None, MatchOption, List, [], ◌∷◌, if◌then◌else◌}
+use Rattle.std.specs.Prelude.{◌≡◌, ◌⊎◌, ℕ, ◌==◌, ◌&&◌, ◌||◌, Bool, true, false, None, MatchOption, List, [], ◌∷◌, if◌then◌else◌}
 use Rattle.std.specs.List.{AllByRecursion}
 use Rattle.wt_tree.specs.Kinds.{writing}
 use Rattle.wt_tree.specs.Tiling.{is_group}
-use Rattle.wt_tree.specs.Tree.{Label, Tree, tree, Trees, label}
+use Rattle.wt_tree.specs.Tree.{Tree, tree, Trees, label}
 use Rattle.wt_checks.specs.Elements.{written_for, all_read, signs_in}
 use Rattle.wt_checks.specs.Groups.{is_marked, has_mark}
 use Rattle.wt_checks.specs.Marks.{editing, allows}
