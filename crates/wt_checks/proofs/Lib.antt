@@ -1,8 +1,11 @@
 pub mod Alikes
+pub mod AsItWas
 pub mod Cases
+pub mod Comparisons
 pub mod Elements
 pub mod Entries
 pub mod Firsts
+pub mod InOrder
 pub mod Known
 pub mod Lookups
 pub mod Moved
@@ -11,3 +14,4 @@ pub mod Shows
 pub mod Signs
 pub mod Spans
 pub mod Visits
+pub mod WhatIsKept

@@ -197,3 +197,7 @@ index_at t vs n b h e =
 
 pub index_is : (t : Tree) (vs : List Visit) → (label t).kind ≡ kind.Body → InPreorder t → all_seen vs ≡ places t → indexed (index_list vs) ≡ page_of t
 index_is t vs b h e = λ i n. index_at t vs n b h e i
+
+-- the numbers of the kept nodes of a page
+pub page_numbers : (t : Tree) → (label t).kind ≡ kind.Body → InPreorder t → map number (filter is_kept (places t)) ≡ range_with_len 1 (length (numbers t))
+page_numbers t b h = (ordered t b h).kept

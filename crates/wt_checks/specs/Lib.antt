@@ -8,4 +8,5 @@ pub mod Marks
 pub mod Unmarked
 pub mod Compared
 pub mod Tokens
+pub mod Kept
 pub mod Checked

@@ -8,6 +8,7 @@ mod editing;
 mod groups;
 mod ids;
 mod index;
+mod laws;
 mod marks;
 mod read;
 mod refusal;
@@ -17,4 +18,5 @@ mod written;
 
 pub use checking::check;
 pub use editing::Editing;
+pub use laws::what_is_kept;
 pub use refusal::Check;
