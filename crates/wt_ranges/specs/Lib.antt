@@ -3,3 +3,4 @@ pub mod Clean
 pub mod Grouped
 pub mod GroupParts
 pub mod Reached
+pub mod WithoutCalls

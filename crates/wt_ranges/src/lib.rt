@@ -4,6 +4,6 @@
 mod laws;
 
 pub use laws::{
-    annotated_page, body_is_clean, each_call_in_one_group, groups_are_smallest,
-    groups_end_at_free_cuts,
+    annotated_page, annotated_without_calls, body_is_clean, each_call_in_one_group,
+    groups_are_smallest, groups_end_at_free_cuts, plain_view_stays,
 };
