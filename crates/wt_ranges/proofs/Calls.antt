@@ -124,7 +124,7 @@ runs_calls all i ((c ∷ d ∷ ds) ∷ rs) cs h k =
     ∙ ap (begun all i) (sym (size_append (c ∷ d ∷ ds) h.0))
     ∙ sym (ap (λ es. begun all i (size_of_all es)) h.1)
 
-children_size : (all : List Item) (n : ℕ) (ts : ItemTrees) → size_of_all (children all n ts) ≡ length (held_by_all ts)
+pub children_size : (all : List Item) (n : ℕ) (ts : ItemTrees) → size_of_all (children all n ts) ≡ length (held_by_all ts)
 children_size all n nothing = refl
 children_size all n (further t ts) = omega (arith, children_size all (n + length (held t)) ts, length-append (held t) (held_by_all ts))
 

@@ -2,9 +2,13 @@ pub mod Calls
 mod Cases
 pub mod Ends
 pub mod Numbers
+pub mod PartWalks
+pub mod PieceWalks
 pub mod Places
 pub mod PlainView
+pub mod Seams
 pub mod Slices
 pub mod Smallest
 pub mod Tiles
+pub mod Walks
 pub mod WithoutCalls

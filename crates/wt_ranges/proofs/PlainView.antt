@@ -37,7 +37,7 @@ all_unplaced_joined : (cs ds : List Child) (rest : Plains) → plains_before (al
 all_unplaced_joined [] ds rest = refl
 all_unplaced_joined (c ∷ cs) ds rest = ap (plain_before (unplaced c.tree)) (all_unplaced_joined cs ds rest)
 
-children_nodes : (all : List Item) (n : ℕ) (ts : ItemTrees) → nodes_of (children all n ts) ≡ ts
+pub children_nodes : (all : List Item) (n : ℕ) (ts : ItemTrees) → nodes_of (children all n ts) ≡ ts
 children_nodes all n nothing = refl
 children_nodes all n (further t ts) = ap (further t) (children_nodes all (n + length (held t)) ts)
 

@@ -2,5 +2,8 @@ pub mod Annotated
 pub mod Clean
 pub mod Grouped
 pub mod GroupParts
+pub mod Pieces
 pub mod Reached
+pub mod Seams
+pub mod Walked
 pub mod WithoutCalls

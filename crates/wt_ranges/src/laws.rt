@@ -1,6 +1,6 @@
 //! What holds of the groups of any tree over items.
 
-ghost use Rattle.std.specs.Prelude.{◌≡◌, ℕ, [], List, Option, length, true};
+ghost use Rattle.std.specs.Prelude.{◌≡◌, ℕ, [], List, Option, None, length, true};
 ghost use Rattle.wt_span.specs.Items.{Item};
 ghost use Rattle.wt_span.specs.Cuts.{page_of};
 ghost use Rattle.wt_span.specs.Origins.{OuterCall};
@@ -12,11 +12,12 @@ ghost use Rattle.std.specs.List.{list_all};
 ghost use Rattle.wt_tree.specs.Plain.{plain as plain_view};
 ghost use Rattle.wt_inline.specs.ItemTree.{plain, ItemTree, inner, ItemTrees, held};
 ghost use Rattle.wt_annotate.specs.Annotated.{annotated as annotated_plainly};
-ghost use Rattle.wt_ranges.specs.Annotated.{annotated, unplaced};
+ghost use Rattle.wt_ranges.specs.Annotated.{annotated, placed, unplaced};
 ghost use Rattle.wt_ranges.specs.Clean.{is_clean, is_page};
 ghost use Rattle.wt_ranges.specs.Grouped.{grouped};
 ghost use Rattle.wt_ranges.specs.GroupParts.{Part, begun};
 ghost use Rattle.wt_ranges.specs.Reached.{AreReachedSlices, AreSmallest, AtFreeCuts, Fills, calls_in_groups};
+ghost use Rattle.wt_ranges.specs.Walked.{walked};
 ghost use Rattle.wt_ranges.specs.WithoutCalls.{NoneEmpty};
 
 /// The body of a page is clean, whatever it holds.
@@ -61,4 +62,10 @@ pub fn plain_view_stays()
 /// the annotated tree is that of a page without calls.
 pub fn annotated_without_calls()
     ensures { (calls : List OuterCall) (carried : List Part → Option DataMw) (t : ItemTree) → list_all is_page (held t) ≡ true → NoneEmpty t → annotated calls carried t ≡ annotated_plainly t }
+{}
+
+/// A walk over the tree that knows only the calls of the items beside it, and the byte at which it
+/// stands, makes the tree with its groups.
+pub fn groups_by_walking()
+    ensures { (calls : List OuterCall) (carried : List Part → Option DataMw) (t : ItemTree) → walked calls carried None 0 None t ≡ placed calls carried (held t) (grouped (held t) 0 t) }
 {}

@@ -2,8 +2,10 @@
 #![tactic(auto)]
 
 mod laws;
+mod page_text;
+mod seam;
 
 pub use laws::{
     annotated_page, annotated_without_calls, body_is_clean, each_call_in_one_group,
-    groups_are_smallest, groups_end_at_free_cuts, plain_view_stays,
+    groups_are_smallest, groups_by_walking, groups_end_at_free_cuts, plain_view_stays,
 };
