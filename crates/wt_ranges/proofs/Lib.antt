@@ -1,6 +1,7 @@
 pub mod Calls
 mod Cases
 pub mod Ends
+pub mod HeldPieces
 pub mod Numbers
 pub mod PartWalks
 pub mod PieceWalks
@@ -10,5 +11,6 @@ pub mod Seams
 pub mod Slices
 pub mod Smallest
 pub mod Tiles
+pub mod UnplacedNodes
 pub mod Walks
 pub mod WithoutCalls

@@ -2,6 +2,7 @@ pub mod Annotated
 pub mod Clean
 pub mod Grouped
 pub mod GroupParts
+pub mod Nodes
 pub mod Pieces
 pub mod Reached
 pub mod Seams

@@ -1,9 +1,12 @@
 //! From a page with calls to its annotated tree: clean nodes, groups and their places.
 #![tactic(auto)]
 
+mod held;
 mod laws;
+mod node;
 mod page_text;
 mod seam;
+mod unplaced;
 
 pub use laws::{
     annotated_page, annotated_without_calls, body_is_clean, each_call_in_one_group,
