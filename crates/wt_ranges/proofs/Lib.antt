@@ -1,5 +1,6 @@
 pub mod Calls
 mod Cases
+pub mod ChildWalks
 pub mod Ends
 pub mod HeldPieces
 pub mod Numbers

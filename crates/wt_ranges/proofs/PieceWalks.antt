@@ -175,9 +175,9 @@ text_front calls ps n o =
     ap (λ qs. text_from calls o (items qs)) (sym (take-append-drop n ps)) ∙ ap (text_from calls o) (items_append (take n ps) (drop n ps)) ∙ text_append_from calls o (items (take n ps)) (items (drop n ps)) in
     omega (arith, ap length e, length-append (text_from calls o (items (take n ps))) (text_from calls (last_of o (items (take n ps))) (items (drop n ps))))
 
-pub first_found : (ps : List Piece) (at : ℕ) (p : Piece) (o call : Option ℕ) (v : Bool) → at < length ps → p ≡ get_or ps at p → v ≡ is_hollow p → not v ≡ true → call ≡ call_of_origin p.origin → first_of (items (drop at ps)) o ≡ first_of (items ps) o
+pub first_found : (ps : List Piece) (at : ℕ) (p : Piece) (o call : Option ℕ) (v : Bool) → at < length ps → p ≡ get_or ps at p → v ≡ is_hollow p → v ≡ false → call ≡ call_of_origin p.origin → first_of (items (drop at ps)) o ≡ first_of (items ps) o
     → call ≡ first_of (items ps) o
-first_found ps at p o call true l e h n c i = absurd (subst (λ (b : Bool). cond b ⊥ (Unit {0})) n tt)
+first_found ps at p o call true l e h n c i = cc
 first_found ps at p o call false l e h n c i =
     c ∙ ap (λ v. cond v (first_of (items (drop (at + 1) ps)) o) (call_of_origin p.origin)) h ∙ sym (first_step ps at p o l e) ∙ i
 

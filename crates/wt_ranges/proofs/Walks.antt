@@ -27,8 +27,14 @@ use Rattle.wt_ranges.proofs.Tiles.{Carried}
 
 -- ---- clean nodes
 
-clean_by : (a b c d e f g h own some : Bool) → a ≡ e → b ≡ f → c ≡ g → d ≡ h → (a && (b && (c && (d && (own && some))))) ≡ (e && (f && (g && (h && (own && some)))))
-clean_by a b c d e f g h own some p q r s = rw (p, q, r, s) refl
+and_four : (a b c d w : Bool) → ((a && (b && (c && d))) && w) ≡ (a && (b && (c && (d && w))))
+and_four true true true d w = refl
+and_four true true false d w = refl
+and_four true false c d w = refl
+and_four false b c d w = refl
+
+clean_by : (a b c d e f g h w : Bool) → a ≡ e → b ≡ f → c ≡ g → d ≡ h → ((a && (b && (c && d))) && w) ≡ (e && (f && (g && (h && w))))
+clean_by a b c d e f g h w p q r s = rw (p, q, r, s) (and_four e f g h w)
 
 clean_is : (all : List Item) (n : ℕ) (t : ItemTree) (after : List Item) → drop n all ≡ held t ++ after → clean_at (before_call all n) (after_call all (n + length (held t))) t ≡ is_clean all n t
 clean_is all n (inner h o ts c) after e =
@@ -51,7 +57,7 @@ clean_is all n (inner h o ts c) after e =
     let f4 : parted (last_of (last_of (last_of (before_call all n) o) i) c) p ≡ is_free all (n + length o + length i + length c) =
     ap (λ q. parted q p) (sym b4) ∙ ap (λ m. parted (before_call all (n + length o + length i + length c)) (after_call all m)) end ∙ sym (free_is all (n + length o + length i + length c)) in
     clean_by (parted (before_call all n) (first_of o (first_of i (first_of c p)))) (parted (last_of (before_call all n) o) (first_of i (first_of c p))) (parted (last_of (last_of (before_call all n) o) i) (first_of c p)) (parted (last_of (last_of (last_of (before_call all n) o) i) c) p)
-    (is_free all n) (is_free all (n + length o)) (is_free all (n + length o + length i)) (is_free all (n + length o + length i + length c)) (list_all is_page (own_by (is_leaf h.kind) o i c)) (is_body h.kind || list_any is_page (o ++ (i ++ c))) f1 f2 f3 f4
+    (is_free all n) (is_free all (n + length o)) (is_free all (n + length o + length i)) (is_free all (n + length o + length i + length c)) (list_all is_page (own_by (is_leaf h.kind) o i c) && (is_body h.kind || list_any is_page (o ++ (i ++ c)))) f1 f2 f3 f4
 
 -- ---- runs
 

@@ -1,6 +1,8 @@
 pub mod Annotated
+pub mod Children
 pub mod Clean
 pub mod Grouped
+pub mod GroupData
 pub mod GroupParts
 pub mod Nodes
 pub mod Pieces

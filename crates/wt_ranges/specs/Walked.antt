@@ -17,12 +17,16 @@ use Rattle.wt_ranges.specs.Seams.{last_of, first_of, parted, text_from}
 
 -- ---- clean nodes
 
+-- the four cuts of a node between items of these calls are free
+abbrev pub free_places : Option ℕ → List Item → List Item → List Item → Option ℕ → Bool
+free_places o opening inside closing p =
+    parted o (first_of opening (first_of inside (first_of closing p)))
+    && (parted (last_of o opening) (first_of inside (first_of closing p))
+    && (parted (last_of (last_of o opening) inside) (first_of closing p) && parted (last_of (last_of (last_of o opening) inside) closing) p))
+
 abbrev pub clean_at : Option ℕ → Option ℕ → ItemTree → Bool
 clean_at o p (inner h opening ts closing) =
-    parted o (first_of opening (first_of (held_by_all ts) (first_of closing p)))
-    && (parted (last_of o opening) (first_of (held_by_all ts) (first_of closing p))
-    && (parted (last_of (last_of o opening) (held_by_all ts)) (first_of closing p) && (parted (last_of (last_of (last_of o opening) (held_by_all ts)) closing) p
-    && (list_all is_page (own_by (is_leaf h.kind) opening (held_by_all ts) closing) && (is_body h.kind || list_any is_page (opening ++ (held_by_all ts ++ closing)))))))
+    free_places o opening (held_by_all ts) closing p && (list_all is_page (own_by (is_leaf h.kind) opening (held_by_all ts) closing) && (is_body h.kind || list_any is_page (opening ++ (held_by_all ts ++ closing))))
 
 -- ---- the parts of a group
 
@@ -70,10 +74,15 @@ near_nodes (c ∷ cs) = further c.tree (near_nodes cs)
 abbrev pub group_at : List OuterCall → (List Part → Option DataMw) → Option ℕ → ℕ → ItemTrees → Tree
 group_at calls carried o at ts = tree (group_label at (text_from calls o (held_by_all ts)) (carried (parts_from o None (held_by_all ts)))) (all_unplaced ts)
 
+-- the group of these children
+abbrev pub near_group : List OuterCall → (List Part → Option DataMw) → List Near → Tree
+near_group calls carried [] = group_at calls carried None 0 nothing
+near_group calls carried (c ∷ cs) = group_at calls carried c.before c.byte (near_nodes (c ∷ cs))
+
 abbrev pub near_run : List OuterCall → (List Part → Option DataMw) → List Near → Tree
-near_run calls carried [] = group_at calls carried None 0 nothing
-near_run calls carried (c ∷ []) = if c.clean then c.whole else group_at calls carried c.before c.byte (further c.tree nothing)
-near_run calls carried (c ∷ d ∷ ds) = group_at calls carried c.before c.byte (near_nodes (c ∷ d ∷ ds))
+near_run calls carried [] = near_group calls carried []
+near_run calls carried (c ∷ []) = if c.clean then c.whole else near_group calls carried (c ∷ [])
+near_run calls carried (c ∷ d ∷ ds) = near_group calls carried (c ∷ d ∷ ds)
 
 abbrev pub near_runs : List OuterCall → (List Part → Option DataMw) → List Near → List Tree
 near_runs calls carried cs = map (near_run calls carried) (runs near_tied cs)

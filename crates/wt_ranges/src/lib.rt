@@ -1,6 +1,7 @@
 //! From a page with calls to its annotated tree: clean nodes, groups and their places.
 #![tactic(auto)]
 
+mod child;
 mod held;
 mod laws;
 mod node;
