@@ -8,6 +8,7 @@ pub mod PartWalks
 pub mod PieceWalks
 pub mod Places
 pub mod PlainView
+pub mod RunCuts
 pub mod Seams
 pub mod Slices
 pub mod Smallest

@@ -7,6 +7,7 @@ pub mod GroupParts
 pub mod Nodes
 pub mod Pieces
 pub mod Reached
+pub mod RunTrees
 pub mod Seams
 pub mod Walked
 pub mod WithoutCalls

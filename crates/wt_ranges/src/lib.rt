@@ -6,6 +6,7 @@ mod held;
 mod laws;
 mod node;
 mod page_text;
+mod run;
 mod seam;
 mod unplaced;
 
