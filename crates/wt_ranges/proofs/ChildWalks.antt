@@ -1,5 +1,5 @@
 -- The children of a node, read from the last to the first and then from the first to the last.
-use Rattle.std.proofs.Common.{◌≡◌, ℕ, ◌+◌, ◌^◌, ◌<◌, Bool, true, false, Option, List, [], ◌∷◌, ◌++◌, length, map, refl, sym, ap, ◌∙◌, subst, arith, length-append, append_assoc, append-nil}
+use Rattle.std.proofs.Common.{◌≡◌, ℕ, ◌+◌, ◌^◌, ◌<◌, Bool, Option, List, [], ◌∷◌, ◌++◌, length, map, refl, sym, ap, ◌∙◌, arith, length-append, append_assoc, append-nil}
 use Rattle.std.specs.Prelude.{reverse}
 use Rattle.std.proofs.lemmas.List.{map-append, reverse-append}
 use Rattle.wt_span.specs.Items.{Item}
@@ -12,7 +12,7 @@ use Rattle.wt_ranges.specs.declared.child.Followed.{Followed}
 use Rattle.wt_ranges.specs.Children.{near_of, nears_of, children_at, tree_after, trees_after}
 use Rattle.wt_ranges.specs.GroupData.{group_data}
 use Rattle.wt_ranges.specs.Seams.{first_of, last_of, parted, text_from}
-use Rattle.wt_ranges.specs.Walked.{Near, clean_at, walked, near}
+use Rattle.wt_ranges.specs.Walked.{Near, clean_at, walked}
 use Rattle.wt_ranges.proofs.Seams.{first_append, text_append_from}
 
 abbrev pub Pair : Type 0

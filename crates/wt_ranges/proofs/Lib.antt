@@ -2,7 +2,11 @@ pub mod Calls
 mod Cases
 pub mod ChildWalks
 pub mod Ends
+pub mod Groupings
+pub mod GroupNodes
 pub mod HeldPieces
+pub mod KeptNodes
+pub mod Numberings
 pub mod Numbers
 pub mod PartWalks
 pub mod PieceWalks

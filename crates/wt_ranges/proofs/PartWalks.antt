@@ -1,15 +1,15 @@
 -- The parts of a group, found by a walk over its items.
-use Rattle.std.proofs.Common.{◌≡◌, ℕ, zero, suc, ◌+◌, ◌-◌, ◌≤◌, Bool, true, false, Option, None, Some, List, [], ◌∷◌, ◌++◌, length, drop, refl, sym, ap, ◌∙◌, cond, arith, append_assoc, append-nil, length-append}
+use Rattle.std.proofs.Common.{◌≡◌, ℕ, zero, suc, ◌+◌, ◌-◌, ◌≤◌, Bool, true, false, Option, None, Some, List, [], ◌∷◌, ◌++◌, length, drop, refl, ap, ◌∙◌, cond, arith, append-nil, length-append}
 use Rattle.std.specs.Prelude.{slice_get}
 use Rattle.wt_span.specs.Items.{Item, source, call_of}
 use Rattle.wt_span.specs.Origins.{OuterCall}
-use Rattle.wt_span.specs.Cuts.{call_of_item, is_free, source_of_call, text_by, text_at, text_between}
-use Rattle.wt_ranges.specs.GroupParts.{Part, called, Begun, begun_by, begun_at, begun, slice_part, text_after, parts_by, parts}
-use Rattle.wt_ranges.specs.Seams.{parted, text_step}
-use Rattle.wt_ranges.specs.Walked.{longer, slice_since, part_step, parts_from}
+use Rattle.wt_span.specs.Cuts.{call_of_item, source_of_call, text_by, text_at, text_between}
+use Rattle.wt_ranges.specs.GroupParts.{Part, called, Begun, begun_by, begun_at, begun, slice_part, parts_by, parts}
+use Rattle.wt_ranges.specs.Seams.{parted}
+use Rattle.wt_ranges.specs.Walked.{part_step, parts_from}
 use Rattle.wt_ranges.proofs.Calls.{at_get, at_rest}
 use Rattle.wt_ranges.proofs.Places.{text_append}
-use Rattle.wt_ranges.proofs.Seams.{before_call, after_call, free_is, after_is, step_is}
+use Rattle.wt_ranges.proofs.Seams.{before_call, free_is, after_is, step_is}
 
 begun_is : (all : List Item) (n : ℕ) (x : Item) (rest : List Item) → drop n all ≡ x ∷ rest → begun_at all n ≡ cond (parted (before_call all n) (call_of x)) (begun_by n (call_of x)) []
 begun_is all n x rest e =

@@ -1,7 +1,7 @@
 -- Items of pieces: those of one piece come from one call.
-use Rattle.std.proofs.Common.{◌≡◌, ℕ, zero, suc, ◌+◌, ◌<◌, Bool, true, false, Option, None, Some, List, [], ◌∷◌, ◌++◌, ◌⊎◌, inl, inr, length, map, take, drop, get_or, refl, sym, ap, ◌∙◌, subst, cond, ◌≤◌, arith, append_assoc, append-nil, length-append}
+use Rattle.std.proofs.Common.{◌≡◌, ℕ, suc, ◌+◌, ◌<◌, Bool, true, false, Option, None, Some, List, [], ◌∷◌, ◌++◌, ◌⊎◌, inl, inr, length, map, take, drop, get_or, refl, sym, ap, ◌∙◌, subst, cond, ◌≤◌, arith, append-nil, length-append}
 use Rattle.std.specs.Prelude.{slice_get, not, ◌&&◌, ◌||◌, ◌==◌}
-use Rattle.std.specs.List.{flat_map, list_all, list_any}
+use Rattle.std.specs.List.{list_all, list_any}
 use Rattle.std.proofs.lemmas.Grind.{flat_map-append}
 use Rattle.std.proofs.lemmas.Bool.Decides.{nat_tests}
 use Rattle.std.proofs.lemmas.List.{drop_more, take_more, take-append-drop}
@@ -10,12 +10,12 @@ use Rattle.wt_span.specs.declared.form.Form.{Form}
 use Rattle.wt_span.specs.declared.form.Form.TheVariants as form
 use Rattle.wt_span.specs.declared.form.Piece.{Piece}
 use Rattle.wt_span.specs.Slice.{bytes_of}
-use Rattle.wt_span.specs.Items.{Item, char, whole, source, call_of, call_of_origin, items_by, items_of, items}
-use Rattle.wt_span.specs.Origins.{OuterCall, same_call}
+use Rattle.wt_span.specs.Items.{Item, char, whole, call_of_origin, items_by, items_of, items}
+use Rattle.wt_span.specs.Origins.{OuterCall}
 use Rattle.wt_span.specs.Cuts.{source_of_call, text_by}
 use Rattle.wt_ranges.specs.Clean.{is_no_call, is_page}
 use Rattle.wt_ranges.specs.Pieces.{is_characters, is_hollow}
-use Rattle.wt_ranges.specs.Seams.{first_of, last_of, parted, text_step, text_from}
+use Rattle.wt_ranges.specs.Seams.{first_of, last_of, parted, text_from}
 use Rattle.wt_ranges.proofs.Seams.{last_append, first_append, text_append_from}
 
 -- ---- one piece

@@ -1,5 +1,5 @@
 -- Runs of children, cut one by one.
-use Rattle.std.proofs.Common.{◌≡◌, ℕ, suc, ◌+◌, ◌<◌, ◌≤◌, Bool, true, false, List, [], ◌∷◌, ◌++◌, length, map, refl, sym, ap, ◌∙◌, subst, cond, arith, append_assoc, append-nil}
+use Rattle.std.proofs.Common.{◌≡◌, ◌<◌, ◌≤◌, true, false, List, [], ◌∷◌, ◌++◌, length, map, refl, sym, ap, ◌∙◌, subst, cond, arith, append_assoc, append-nil}
 use Rattle.std.specs.Prelude.{not}
 use Rattle.std.specs.List.{flat_map}
 use Rattle.std.proofs.lemmas.List.{map-append}
@@ -46,7 +46,7 @@ closed rs ss r (c ∷ cs) d rest all new s e i f n = record {
       ∙ ap (λ (u : Tree). map (run_tree calls) rs ++ (u ∷ near_runs calls (group_data calls) (nears_of calls (new ++ rest)))) (i.becomes calls)
       ∙ ap (λ (xs : List Child). map (run_tree calls) rs ++ (near_run calls (group_data calls) (nears_of calls (c ∷ cs)) ∷ near_runs calls (group_data calls) (nears_of calls (xs ++ rest)))) n
       ∙ ap (λ (qs : List (List Near)). map (run_tree calls) rs ++ map (near_run calls (group_data calls)) qs)
-          (sym (runs_cut near_tied (nears_of calls (c ∷ cs)) (nears_of calls (d ∷ rest)) (is_run calls c cs d rest s.tied f)) ∙ ap (runs near_tied) (sym (map-append (near_of calls) (c ∷ cs) (d ∷ rest))))
+      (sym (runs_cut near_tied (nears_of calls (c ∷ cs)) (nears_of calls (d ∷ rest)) (is_run calls c cs d rest s.tied f)) ∙ ap (runs near_tied) (sym (map-append (near_of calls) (c ∷ cs) (d ∷ rest))))
       ∙ s.become calls;
   tied = subst AreTied (sym n) tt;
 }

@@ -1,9 +1,9 @@
 -- A cut of the whole page, told by the calls beside it.
-use Rattle.std.proofs.Common.{◌≡◌, ℕ, zero, suc, ◌+◌, Bool, true, false, Option, None, Some, List, [], ◌∷◌, ◌++◌, length, drop, refl, sym, ap, ◌∙◌, cond, arith, append_assoc}
+use Rattle.std.proofs.Common.{◌≡◌, ℕ, zero, suc, ◌+◌, Option, None, List, [], ◌∷◌, ◌++◌, length, drop, refl, sym, ap, ◌∙◌, cond, arith, append_assoc}
 use Rattle.std.specs.Prelude.{slice_get}
-use Rattle.wt_span.specs.Items.{Item, source, call_of}
+use Rattle.wt_span.specs.Items.{Item, call_of}
 use Rattle.wt_span.specs.Origins.{OuterCall}
-use Rattle.wt_span.specs.Cuts.{call_of_item, is_free, text_by, origin_text, text_at, text_between}
+use Rattle.wt_span.specs.Cuts.{call_of_item, is_free, origin_text, text_at, text_between}
 use Rattle.wt_ranges.specs.Seams.{last_of, first_of, parted, text_step, text_from}
 use Rattle.wt_ranges.proofs.Calls.{at_get, at_rest}
 

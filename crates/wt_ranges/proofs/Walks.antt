@@ -1,23 +1,23 @@
 -- A walk over the tree makes the placed tree of the whole page.
-use Rattle.std.proofs.Common.{◌≡◌, ℕ, zero, suc, ◌+◌, Bool, true, false, Option, None, Some, List, [], ◌∷◌, ◌++◌, length, map, drop, refl, sym, ap, ◌∙◌, subst, cond, arith, length-append, append_assoc, append-nil}
-use Rattle.std.specs.Prelude.{slice_get, not, ◌&&◌, ◌||◌, if◌then◌else◌}
+use Rattle.std.proofs.Common.{◌≡◌, ℕ, ◌+◌, Bool, true, false, Option, None, List, [], ◌∷◌, ◌++◌, length, map, drop, refl, sym, ap, ◌∙◌, subst, cond, arith, length-append, append_assoc, append-nil}
+use Rattle.std.specs.Prelude.{◌&&◌, ◌||◌}
 use Rattle.std.specs.List.{list_all, list_any}
 use Rattle.wt_tree.specs.Kinds.{is_leaf}
-use Rattle.wt_tree.specs.Tree.{Tree, tree, Trees, none, more, trees}
+use Rattle.wt_tree.specs.Tree.{Tree, tree, more, trees}
 use Rattle.wt_span.specs.Items.{Item}
 use Rattle.wt_span.specs.Origins.{OuterCall}
 use Rattle.wt_span.specs.Cuts.{call_of_item, is_free, place, text_between}
 use Rattle.wt_span.specs.Runs.{put, runs, AreRuns}
 use Rattle.wt_span.proofs.RunLaws.{runs_are}
-use Rattle.wt_inline.specs.ItemTree.{Head, ItemTree, inner, ItemTrees, nothing, further, held, held_by_all}
+use Rattle.wt_inline.specs.ItemTree.{ItemTree, inner, ItemTrees, nothing, further, held, held_by_all}
 use Rattle.wt_annotate.specs.Annotated.{inside_by}
 use Rattle.wt_ranges.specs.Clean.{is_page, is_body, own_by, is_clean}
-use Rattle.wt_ranges.specs.Grouped.{Grouped, kept, group, GroupedAll, ended, along, Child, is_tied, size_of_all, nodes_of, of_run, of_runs, grouped, children}
+use Rattle.wt_ranges.specs.Grouped.{group, Child, is_tied, size_of_all, nodes_of, of_run, of_runs, grouped, children}
 use Rattle.wt_ranges.specs.GroupParts.{parts}
-use Rattle.wt_ranges.specs.Annotated.{kept_label, group_label, unplaced, all_unplaced, placed, all_placed}
+use Rattle.wt_ranges.specs.Annotated.{kept_label, group_label, all_unplaced, placed, all_placed}
 use Rattle.wt_ranges.specs.Seams.{last_of, first_of, parted, text_from}
 use Rattle.wt_ranges.specs.Walked.{clean_at, parts_from, Near, near_tied, near_nodes, group_at, near_run, near_runs, walked, near}
-use Rattle.wt_ranges.proofs.Calls.{behind, children_size}
+use Rattle.wt_ranges.proofs.Calls.{behind}
 use Rattle.wt_ranges.proofs.Ends.{none_after}
 use Rattle.wt_ranges.proofs.PartWalks.{parts_are}
 use Rattle.wt_ranges.proofs.Places.{place_between}

@@ -1,13 +1,12 @@
 -- Children of a node that is kept, as they are walked over.
-use Rattle.std.specs.Prelude.{ℕ, ◌+◌, ◌^◌, ◌<◌, Bool, true, false, Option, List, [], ◌∷◌, ◌++◌, length, map}
-use Rattle.wt_tree.specs.Tree.{Tree}
+use Rattle.std.specs.Prelude.{ℕ, Option, List, [], ◌∷◌, map}
 use Rattle.wt_span.specs.Origins.{OuterCall}
-use Rattle.wt_inline.specs.ItemTree.{ItemTree, held, held_by_all, forest}
+use Rattle.wt_inline.specs.ItemTree.{ItemTree, held_by_all, forest}
 use Rattle.wt_inline.specs.View.{item_tree}
 use Rattle.wt_ranges.specs.declared.child.Child.{Child}
 use Rattle.wt_ranges.specs.declared.child.Followed.{Followed}
 use Rattle.wt_ranges.specs.GroupData.{group_data}
-use Rattle.wt_ranges.specs.Seams.{first_of, text_from}
+use Rattle.wt_ranges.specs.Seams.{first_of}
 use Rattle.wt_ranges.specs.Walked.{Near, walked, near}
 
 abbrev pub near_of : List OuterCall → Child → Near

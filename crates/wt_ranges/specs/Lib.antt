@@ -4,7 +4,10 @@ pub mod Clean
 pub mod Grouped
 pub mod GroupData
 pub mod GroupParts
+pub mod Kept
 pub mod Nodes
+pub mod NumberedNodes
+pub mod OpenedChild
 pub mod Pieces
 pub mod Reached
 pub mod RunTrees

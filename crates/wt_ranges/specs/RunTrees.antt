@@ -1,5 +1,5 @@
 -- Runs of children, and what they become.
-use Rattle.std.specs.Prelude.{◌≡◌, Bool, true, false, List, [], ◌∷◌, ◌++◌, map}
+use Rattle.std.specs.Prelude.{◌≡◌, Bool, false, List, [], ◌∷◌, ◌++◌, map}
 use Rattle.std.specs.List.{flat_map}
 use Rattle.wt_tree.specs.Tree.{Tree}
 use Rattle.wt_span.specs.Origins.{OuterCall}

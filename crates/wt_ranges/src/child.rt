@@ -2,7 +2,17 @@
 //! whether it is clean.
 
 ghost use Rattle.std.specs.Prelude.{
-    ◌≡◌, ◌+◌, ◌^◌, ◌<◌, ◌&&◌, ◌||◌, length, map, reverse, true, IfOk,
+  ◌≡◌,
+  ◌+◌,
+  ◌^◌,
+  ◌<◌,
+  ◌&&◌,
+  ◌||◌,
+  length,
+  map,
+  reverse,
+  true,
+  IfOk,
 };
 ghost use Rattle.std.specs.List.{list_all, list_any};
 ghost use Rattle.wt_span.specs.Items.{items};

@@ -2,14 +2,20 @@
 #![tactic(auto)]
 
 mod child;
+mod data;
+mod group_node;
+mod grouping;
 mod held;
+mod kept;
 mod laws;
 mod node;
+mod number;
 mod page_text;
 mod run;
 mod seam;
 mod unplaced;
 
+pub use grouping::group;
 pub use laws::{
     annotated_page, annotated_without_calls, body_is_clean, each_call_in_one_group,
     groups_are_smallest, groups_by_walking, groups_end_at_free_cuts, plain_view_stays,

@@ -45,10 +45,7 @@ fn begins_run(run: &[Child<'_>], child: &Child<'_>) -> bool
     }
 }
 
-fn single<'a>(
-    alloc: Global,
-    child: Child<'a>,
-) -> Result<wt_span::List<Child<'a>>, NoMemory>
+fn single<'a>(alloc: Global, child: Child<'a>) -> Result<wt_span::List<Child<'a>>, NoMemory>
     ensures { IfOk result (λ cs. cs ≡ child.entry ∷ []) }
 {
     let mut children = wt_span::List::new(alloc);

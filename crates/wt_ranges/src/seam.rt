@@ -44,7 +44,11 @@ pub fn is_hollow(piece: Piece<'_>) -> bool
 pub fn last_of_piece(before: Option<u32>, piece: Piece<'_>) -> Option<u32>
     ensures { result ≡ last_of before (items_of piece.entry) }
 {
-    if is_hollow(piece) { before } else { call_of(piece.origin) }
+    if is_hollow(piece) {
+        before
+    } else {
+        call_of(piece.origin)
+    }
 }
 
 /// The call of the last item, behind one of the call `before`.

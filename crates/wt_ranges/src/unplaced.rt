@@ -76,5 +76,11 @@ fn unplaced_node<'a>(alloc: Global, tree: PieceTree<'a>) -> Result<Node<'a>, NoM
         closing,
     } = tree;
     let children = unplaced_nodes(alloc, children)?;
-    unplaced_inner(alloc, head, opening.as_slice(), children, closing.as_slice())
+    unplaced_inner(
+        alloc,
+        head,
+        opening.as_slice(),
+        children,
+        closing.as_slice(),
+    )
 }

@@ -1,4 +1,4 @@
-use Rattle.std.proofs.Common.{List, ap, ◌∙◌, refl}
+use Rattle.std.proofs.Common.{ap, ◌∙◌, refl}
 use Rattle.wt_span.specs.Items.{items}
 use Rattle.wt_inline.specs.View.{item_trees}
 use Rattle.wt_ranges.specs.Children.{trees_after}

@@ -1,4 +1,3 @@
-use Rattle.std.proofs.Common.{◌++◌}
 use Rattle.wt_tree.specs.View.{texts_of}
 use Rattle.wt_ranges.specs.Pieces.{bytes_if_any, outer_calls}
 use Rattle.wt_ranges.proofs.PieceWalks.{bytes_step, call_step}

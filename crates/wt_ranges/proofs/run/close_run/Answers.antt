@@ -1,4 +1,4 @@
-use Rattle.std.proofs.Common.{List, ◌<◌, length, arith}
+use Rattle.std.proofs.Common.{◌<◌, length, arith}
 use Rattle.wt_ranges.proofs.RunCuts.{ended}
 use Rattle.wt_ranges.proofs.run.close_run.Goals as goal
 

@@ -1,7 +1,7 @@
-use Rattle.std.proofs.Common.{◌≡◌, List, [], length, sym, ap, ◌∙◌, subst}
+use Rattle.std.proofs.Common.{◌≡◌, List, length, sym, ◌∙◌, subst}
 use Rattle.std.specs.Vec.Iter.{into_iter_items}
 use Rattle.wt_ranges.specs.declared.child.Child.{Child}
-use Rattle.wt_ranges.specs.RunTrees.{CutSoFar, AreRunsOf}
+use Rattle.wt_ranges.specs.RunTrees.{CutSoFar}
 use Rattle.wt_ranges.proofs.RunCuts.{none_left}
 use Rattle.wt_ranges.proofs.run.cut_runs.Goals as goal
 

@@ -1,12 +1,7 @@
-use Rattle.std.proofs.Common.{◌≡◌, List, [], ◌∷◌, ◌++◌, Option, None, length, sym, ◌∙◌}
-use Rattle.std.specs.Prelude.{IfOk}
+use Rattle.std.proofs.Common.{◌≡◌, length, sym, ◌∙◌}
 use Rattle.std.specs.Vec.Iter.{into_iter_items}
 use Rattle.std.proofs.lemmas.Result.{IfOk-weaker}
-use Rattle.wt_tree.specs.Tree.{tree, none}
-use Rattle.wt_tree.specs.View.{texts_of, view, views}
-use Rattle.wt_inline.specs.View.{head_of, item_tree}
-use Rattle.wt_inline.specs.declared.tree.PieceTree.{PieceTree, out-PieceTree}
-use Rattle.wt_ranges.specs.Annotated.{unplaced}
+use Rattle.wt_tree.specs.View.{view, views}
 use Rattle.wt_ranges.proofs.UnplacedNodes.{inner_unplaced, all_unplaced_done}
 use Rattle.wt_ranges.proofs.unplaced.+unplacing.Goals as goal
 

@@ -1,4 +1,3 @@
-use Rattle.std.proofs.Common.{List}
 use Rattle.wt_tree.specs.View.{view}
 use Rattle.wt_ranges.proofs.UnplacedNodes.{leaf_unplaced}
 use Rattle.wt_ranges.proofs.unplaced.unplaced_leaf.Goals as goal
