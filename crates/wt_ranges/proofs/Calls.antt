@@ -27,20 +27,20 @@ begun_append all n (suc j) k =
     ∙ sym (append_assoc (begun_at all n) (begun all (suc n) j) (begun all (suc n + j) k))
     ∙ ap (λ m. (begun_at all n ++ begun all (suc n) j) ++ begun all m k) f
 
-at_get : (all : List Item) (n : ℕ) (x : Item) (rest : List Item) → drop n all ≡ x ∷ rest → slice_get all n ≡ Some x
+pub at_get : (all : List Item) (n : ℕ) (x : Item) (rest : List Item) → drop n all ≡ x ∷ rest → slice_get all n ≡ Some x
 at_get [] zero x rest e = ap (λ ys. slice_get ys 0) e
 at_get [] (suc n) x rest e = ap (λ ys. slice_get ys 0) e
 at_get (y ∷ ys) zero x rest e = ap (λ zs. slice_get zs 0) e
 at_get (y ∷ ys) (suc n) x rest e = at_get ys n x rest e
 
-at_rest : (all : List Item) (n : ℕ) (x : Item) (rest : List Item) → drop n all ≡ x ∷ rest → drop (suc n) all ≡ rest
+pub at_rest : (all : List Item) (n : ℕ) (x : Item) (rest : List Item) → drop n all ≡ x ∷ rest → drop (suc n) all ≡ rest
 at_rest [] zero x rest e = ap (drop 1) e
 at_rest [] (suc n) x rest e = ap (drop 1) e
 at_rest (y ∷ ys) zero x rest e = ap (drop 1) e
 at_rest (y ∷ ys) (suc n) x rest e = at_rest ys n x rest e
 
 -- behind what stands there
-behind : (all : List Item) (n : ℕ) (xs ys : List Item) → drop n all ≡ xs ++ ys → drop (n + length xs) all ≡ ys
+pub behind : (all : List Item) (n : ℕ) (xs ys : List Item) → drop n all ≡ xs ++ ys → drop (n + length xs) all ≡ ys
 behind all n [] ys e = let f : n + 0 ≡ n = omega arith in ap (λ m. drop m all) f ∙ e
 behind all n (x ∷ xs) ys e =
     let f : n + length (x ∷ xs) ≡ suc n + length xs = omega arith in
@@ -59,7 +59,7 @@ page_none all n (x ∷ xs) ys e p =
     let first : begun_at all n ≡ [] = ap (λ o. cond (is_free all n) (begun_by n (call_of_item o)) []) (at_get all n x (xs ++ ys) e) ∙ none_by (call_of x) n (is_free all n) q.0 in
     ap (λ bs. bs ++ begun all (suc n) (length xs)) first ∙ page_none all (suc n) xs ys (at_rest all n x (xs ++ ys) e) q.1
 
-all_split : (xs ys : List Item) → list_all is_page (xs ++ ys) ≡ true → (list_all is_page xs ≡ true) × (list_all is_page ys ≡ true)
+pub all_split : (xs ys : List Item) → list_all is_page (xs ++ ys) ≡ true → (list_all is_page xs ≡ true) × (list_all is_page ys ≡ true)
 all_split [] ys e = (refl, e)
 all_split (x ∷ xs) ys e =
     let q = both (is_page x) (list_all is_page (xs ++ ys)) e in
@@ -124,7 +124,7 @@ runs_calls all i ((c ∷ d ∷ ds) ∷ rs) cs h k =
     ∙ ap (begun all i) (sym (size_append (c ∷ d ∷ ds) h.0))
     ∙ sym (ap (λ es. begun all i (size_of_all es)) h.1)
 
-children_size : (all : List Item) (n : ℕ) (ts : ItemTrees) → size_of_all (children all n ts) ≡ length (held_by_all ts)
+pub children_size : (all : List Item) (n : ℕ) (ts : ItemTrees) → size_of_all (children all n ts) ≡ length (held_by_all ts)
 children_size all n nothing = refl
 children_size all n (further t ts) = omega (arith, children_size all (n + length (held t)) ts, length-append (held t) (held_by_all ts))
 

@@ -121,7 +121,7 @@ mutual
 
 -- ---- the body of a page is clean
 
-none_after : (all : List Item) → slice_get all (length all) ≡ None
+pub none_after : (all : List Item) → slice_get all (length all) ≡ None
 none_after [] = refl
 none_after (x ∷ xs) = none_after xs
 

@@ -1,8 +1,22 @@
 pub mod Calls
 mod Cases
+pub mod ChildWalks
 pub mod Ends
+pub mod Groupings
+pub mod GroupNodes
+pub mod HeldPieces
+pub mod KeptNodes
+pub mod Numberings
 pub mod Numbers
+pub mod PartWalks
+pub mod PieceWalks
 pub mod Places
+pub mod PlainView
+pub mod RunCuts
+pub mod Seams
 pub mod Slices
 pub mod Smallest
 pub mod Tiles
+pub mod UnplacedNodes
+pub mod Walks
+pub mod WithoutCalls

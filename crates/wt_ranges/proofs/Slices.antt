@@ -52,7 +52,7 @@ page_three calls all n k w =
     ∙ ap (λ m. text_between calls all 0 n ++ text_between calls all m (k + r)) z
     ∙ ap (λ bs. text_between calls all 0 n ++ bs) (text_append calls all n k r)
 
-place_is : (calls : List OuterCall) (all : List Item) (n : ℕ) → place calls all n ≡ length (text_between calls all 0 n)
+pub place_is : (calls : List OuterCall) (all : List Item) (n : ℕ) → place calls all n ≡ length (text_between calls all 0 n)
 place_is calls all n =
     let z : n ≡ 0 + n = omega arith in
     ap (place calls all) z ∙ place_between calls all n 0 ∙ omega arith

@@ -1,5 +1,16 @@
 pub mod Annotated
+pub mod Children
 pub mod Clean
 pub mod Grouped
+pub mod GroupData
 pub mod GroupParts
+pub mod Kept
+pub mod Nodes
+pub mod NumberedNodes
+pub mod OpenedChild
+pub mod Pieces
 pub mod Reached
+pub mod RunTrees
+pub mod Seams
+pub mod Walked
+pub mod WithoutCalls

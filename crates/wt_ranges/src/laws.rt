@@ -1,6 +1,6 @@
 //! What holds of the groups of any tree over items.
 
-ghost use Rattle.std.specs.Prelude.{◌≡◌, ℕ, [], List, Option, length, true};
+ghost use Rattle.std.specs.Prelude.{◌≡◌, ℕ, [], List, Option, None, length, true};
 ghost use Rattle.wt_span.specs.Items.{Item};
 ghost use Rattle.wt_span.specs.Cuts.{page_of};
 ghost use Rattle.wt_span.specs.Origins.{OuterCall};
@@ -8,12 +8,17 @@ ghost use Rattle.wt_tree.specs.Source.{flat};
 ghost use Rattle.wt_tree.specs.Tiling.{InPreorder, Tiled};
 ghost use Rattle.wt_tree.specs.declared.node.DataMw.{DataMw};
 ghost use Rattle.wt_tree.specs.declared.kind.Kind.TheVariants as node_kind;
+ghost use Rattle.std.specs.List.{list_all};
+ghost use Rattle.wt_tree.specs.Plain.{plain as plain_view};
 ghost use Rattle.wt_inline.specs.ItemTree.{plain, ItemTree, inner, ItemTrees, held};
-ghost use Rattle.wt_ranges.specs.Annotated.{annotated};
-ghost use Rattle.wt_ranges.specs.Clean.{is_clean};
+ghost use Rattle.wt_annotate.specs.Annotated.{annotated as annotated_plainly};
+ghost use Rattle.wt_ranges.specs.Annotated.{annotated, placed, unplaced};
+ghost use Rattle.wt_ranges.specs.Clean.{is_clean, is_page};
 ghost use Rattle.wt_ranges.specs.Grouped.{grouped};
 ghost use Rattle.wt_ranges.specs.GroupParts.{Part, begun};
 ghost use Rattle.wt_ranges.specs.Reached.{AreReachedSlices, AreSmallest, AtFreeCuts, Fills, calls_in_groups};
+ghost use Rattle.wt_ranges.specs.Walked.{walked};
+ghost use Rattle.wt_ranges.specs.WithoutCalls.{NoneEmpty};
 
 /// The body of a page is clean, whatever it holds.
 pub fn body_is_clean()
@@ -46,4 +51,21 @@ pub fn annotated_page()
     ensures slices { (calls : List OuterCall) (carried : List Part → Option DataMw) (t : ItemTree) → is_clean (held t) 0 t ≡ true → AreReachedSlices (page_of calls (held t)) (annotated calls carried t) }
     ensures source { (calls : List OuterCall) (carried : List Part → Option DataMw) (t : ItemTree) → is_clean (held t) 0 t ≡ true → flat (annotated calls carried t) ≡ page_of calls (held t) }
     ensures numbered { (calls : List OuterCall) (carried : List Part → Option DataMw) (t : ItemTree) → InPreorder (annotated calls carried t) }
+{}
+
+/// Grouping leaves the plain view as it is: a group shows its own nodes and no others.
+pub fn plain_view_stays()
+    ensures { (calls : List OuterCall) (carried : List Part → Option DataMw) (t : ItemTree) → plain_view (annotated calls carried t) ≡ plain_view (unplaced t) }
+{}
+
+/// Where no item comes from a call and each node below the root holds an item, there is no group:
+/// the annotated tree is that of a page without calls.
+pub fn annotated_without_calls()
+    ensures { (calls : List OuterCall) (carried : List Part → Option DataMw) (t : ItemTree) → list_all is_page (held t) ≡ true → NoneEmpty t → annotated calls carried t ≡ annotated_plainly t }
+{}
+
+/// A walk over the tree that knows only the calls of the items beside it, and the byte at which it
+/// stands, makes the tree with its groups.
+pub fn groups_by_walking()
+    ensures { (calls : List OuterCall) (carried : List Part → Option DataMw) (t : ItemTree) → walked calls carried None 0 None t ≡ placed calls carried (held t) (grouped (held t) 0 t) }
 {}

@@ -1,9 +1,22 @@
 //! From a page with calls to its annotated tree: clean nodes, groups and their places.
 #![tactic(auto)]
 
+mod child;
+mod data;
+mod group_node;
+mod grouping;
+mod held;
+mod kept;
 mod laws;
+mod node;
+mod number;
+mod page_text;
+mod run;
+mod seam;
+mod unplaced;
 
+pub use grouping::group;
 pub use laws::{
-    annotated_page, body_is_clean, each_call_in_one_group, groups_are_smallest,
-    groups_end_at_free_cuts,
+    annotated_page, annotated_without_calls, body_is_clean, each_call_in_one_group,
+    groups_are_smallest, groups_by_walking, groups_end_at_free_cuts, plain_view_stays,
 };

@@ -1,0 +1,11 @@
+use Rattle.std.proofs.Common.{◌≡◌, length, take}
+use Rattle.wt_span.specs.Items.{items}
+use Rattle.wt_ranges.specs.Pieces.{outer_calls}
+use Rattle.wt_ranges.specs.Seams.{last_of, text_from}
+use Rattle.wt_ranges.proofs.page_text.page_width.Given as goal
+
+abbrev pub invariant-loop-piece : goal.invariant-loop-piece
+invariant-loop-piece l = record {
+  width : l.width ≡ length (text_from (outer_calls l.calls) l.fn.before (items (take l.piece-index l.pieces)));
+  last : l.last ≡ last_of l.fn.before (items (take l.piece-index l.pieces));
+}

@@ -1,0 +1,65 @@
+//! The pieces that trees hold.
+
+ghost use Rattle.std.specs.Prelude.{◌≡◌, ◌++◌, IfOk, OnOk};
+ghost use Rattle.wt_span.specs.Items.{items, sources};
+ghost use Rattle.wt_tree.specs.View.{texts_of};
+ghost use Rattle.wt_inline.specs.ItemTree.{forest, held, held_by_all};
+ghost use Rattle.wt_inline.specs.View.{item_tree, item_trees};
+
+use std::alloc::Global;
+use wt_inline::PieceTree;
+use wt_span::{List, NoMemory, Piece, Text};
+
+fn push_pieces<'a>(out: &mut List<Piece<'a>>, pieces: &[Piece<'a>]) -> Result<(), NoMemory>
+    ensures { OnOk result (out.new ≡ out.old ++ pieces.now) }
+{
+    for piece in pieces {
+        out.push(*piece)?;
+    }
+    Ok(())
+}
+
+fn push_held<'a>(out: &mut List<Piece<'a>>, tree: &PieceTree<'a>) -> Result<(), NoMemory>
+    ensures { OnOk result (items out.new ≡ items out.old ++ held (item_tree tree.now)) }
+{
+    push_pieces(out, tree.opening.as_slice())?;
+    for child in tree.children.as_slice() {
+        push_held(out, child)?;
+    }
+    push_pieces(out, tree.closing.as_slice())?;
+    Ok(())
+}
+
+/// All pieces that a tree holds, in their order.
+pub fn held_pieces<'a>(alloc: Global, tree: &PieceTree<'a>) -> Result<List<Piece<'a>>, NoMemory>
+    ensures { IfOk result (λ l. items l ≡ held (item_tree tree.now)) }
+{
+    let mut out = List::new(alloc);
+    push_held(&mut out, tree)?;
+    Ok(out)
+}
+
+/// All pieces that trees hold, tree after tree.
+pub fn pieces_of_all<'a>(
+    alloc: Global,
+    trees: &[PieceTree<'a>],
+) -> Result<List<Piece<'a>>, NoMemory>
+    ensures { IfOk result (λ l. items l ≡ held_by_all (forest (item_trees trees.now))) }
+{
+    let mut out = List::new(alloc);
+    for tree in trees {
+        push_held(&mut out, tree)?;
+    }
+    Ok(out)
+}
+
+/// The texts of pieces, as they were expanded.
+pub fn source_texts<'a>(alloc: Global, pieces: &[Piece<'a>]) -> Result<List<Text<'a>>, NoMemory>
+    ensures { IfOk result (λ l. texts_of l ≡ sources (items pieces.now)) }
+{
+    let mut texts = List::new(alloc);
+    for piece in pieces {
+        texts.push(piece.text)?;
+    }
+    Ok(texts)
+}

@@ -1,0 +1,148 @@
+//! Nodes that are kept, with their places and sources on the page.
+
+ghost use Rattle.std.specs.Prelude.{◌≡◌, ◌+◌, ◌^◌, ◌<◌, [], length, IfOk, Some, true};
+ghost use Rattle.wt_span.specs.Items.{items};
+ghost use Rattle.wt_tree.specs.Kinds.{is_leaf};
+ghost use Rattle.wt_tree.specs.Tree.{tree};
+ghost use Rattle.wt_tree.specs.View.{texts_of, view, views};
+ghost use Rattle.wt_annotate.specs.Labels.{leaf_open};
+ghost use Rattle.wt_inline.specs.ItemTree.{held};
+ghost use Rattle.wt_inline.specs.View.{head_of, item_tree};
+ghost use Rattle.wt_inline.specs.declared.tree.PieceTree.{out-PieceTree};
+ghost use Rattle.wt_ranges.specs.Children.{near_of};
+ghost use Rattle.wt_ranges.specs.Kept.{Fits, IsFrame, filled as filled_by, frame_ranges};
+ghost use Rattle.wt_ranges.specs.Nodes.{node_label};
+ghost use Rattle.wt_ranges.specs.Pieces.{outer_calls};
+ghost use Rattle.wt_ranges.specs.Seams.{text_from};
+
+use crate::child::Child;
+use crate::held::{held_pieces, pieces_of_all};
+use crate::node::{Sources, leaf_sources, node};
+use crate::page_text::{page_texts, page_width};
+use crate::seam::{first_call, last_call};
+use std::alloc::Global;
+use wt_inline::NodeHead;
+use wt_span::{List, NoMemory, Outer, Piece};
+use wt_tree::{Kind, Node, Ranges};
+
+/// What a kept node takes from the page beside its children: its ranges and delimiters, and the
+/// call before its first child, the byte at which that begins, and the call behind its last.
+#[derive(Drop)]
+pub struct Frame<'a> {
+    pub ranges: Ranges,
+    pub sources: Sources<'a>,
+    pub before: Option<u32>,
+    pub byte: u32,
+    pub after: Option<u32>,
+}
+
+/// The open width of a leaf with so many bytes.
+fn leaf_open(kind: Kind, width: u32) -> u32
+    ensures { result ≡ leaf_open kind width }
+{
+    match kind {
+        Kind::Sep | Kind::Text | Kind::Group => 0,
+        _ => width,
+    }
+}
+
+/// The ranges of a leaf of so many bytes.
+fn leaf_ranges(kind: Kind, start: u32, width: u32) -> Ranges
+    requires { start + width < 2 ^ 32 }
+    ensures { result ≡ record { start = start; end = start + width; open_w = leaf_open kind width; close_w = 0 } }
+{
+    Ranges {
+        start,
+        end: start + width,
+        open_w: leaf_open(kind, width),
+        close_w: 0,
+    }
+}
+
+/// A leaf that is kept.
+pub fn kept_leaf<'a>(
+    alloc: Global,
+    calls: &[Outer<'a>],
+    child: Child<'a>,
+) -> Result<Node<'a>, NoMemory>
+    requires leaf { is_leaf (out-PieceTree child.tree).head.kind ≡ true }
+    requires fits { Fits (outer_calls calls.now) child }
+    ensures { IfOk result (λ n. view n ≡ (near_of (outer_calls calls.now) child.entry).whole) }
+{
+    let held = held_pieces(alloc, &child.tree)?;
+    let width = page_width(calls, child.before, held.as_slice());
+    let own = page_texts(alloc, calls, child.before, held.as_slice())?;
+    let ranges = leaf_ranges(child.tree.head.kind, child.byte, width);
+    let sources = leaf_sources(alloc, own);
+    Ok(node(child.tree.head, Some(ranges), sources, List::new(alloc)))
+}
+
+/// The ranges of a node round its children.
+fn inner_ranges<'a>(
+    calls: &[Outer<'a>],
+    child: &Child<'a>,
+    whole: &[Piece<'a>],
+    filled: Option<u32>,
+) -> Ranges
+    requires fits { Fits (outer_calls calls.now) child.now }
+    requires whole { items whole.now ≡ held (item_tree child.now.tree) }
+    requires filled { filled ≡ filled_by child.now.before child.now.tree }
+    ensures { result ≡ frame_ranges (outer_calls calls.now) child.now }
+{
+    Ranges {
+        start: child.byte,
+        end: child.byte + page_width(calls, child.before, whole),
+        open_w: page_width(calls, child.before, child.tree.opening.as_slice()),
+        close_w: page_width(calls, filled, child.tree.closing.as_slice()),
+    }
+}
+
+fn inner_sources<'a>(
+    alloc: Global,
+    calls: &[Outer<'a>],
+    child: &Child<'a>,
+    filled: Option<u32>,
+) -> Result<Sources<'a>, NoMemory>
+    ensures opening { IfOk result (λ s. texts_of s.opening ≡ text_from (outer_calls calls.now) child.now.before (items (out-PieceTree child.now.tree).opening)) }
+    ensures closing { IfOk result (λ s. texts_of s.closing ≡ text_from (outer_calls calls.now) filled (items (out-PieceTree child.now.tree).closing)) }
+    ensures own { IfOk result (λ s. texts_of s.own ≡ []) }
+{
+    let opening = page_texts(alloc, calls, child.before, child.tree.opening.as_slice())?;
+    let closing = page_texts(alloc, calls, filled, child.tree.closing.as_slice())?;
+    Ok(Sources {
+        opening,
+        closing,
+        own: List::new(alloc),
+    })
+}
+
+/// What a node round its children takes from the page.
+pub fn inner_frame<'a>(
+    alloc: Global,
+    calls: &[Outer<'a>],
+    child: &Child<'a>,
+) -> Result<Frame<'a>, NoMemory>
+    requires { Fits (outer_calls calls.now) child.now }
+    ensures { IfOk result (λ f. IsFrame (outer_calls calls.now) child.now f) }
+{
+    let held = held_pieces(alloc, &child.tree)?;
+    let inside = pieces_of_all(alloc, child.tree.children.as_slice())?;
+    let before = last_call(child.before, child.tree.opening.as_slice());
+    let filled = last_call(before, inside.as_slice());
+    let ranges = inner_ranges(calls, child, held.as_slice(), filled);
+    let sources = inner_sources(alloc, calls, child, filled)?;
+    Ok(Frame {
+        ranges,
+        sources,
+        before,
+        byte: child.byte + ranges.open_w,
+        after: first_call(child.tree.closing.as_slice(), child.after),
+    })
+}
+
+/// The node round these children, in its frame.
+pub fn kept_inner<'a>(frame: Frame<'a>, head: NodeHead, children: List<Node<'a>>) -> Node<'a>
+    ensures { view result ≡ tree (node_label (head_of head) (Some frame.entry.ranges) (texts_of frame.entry.sources.opening) (texts_of frame.entry.sources.closing) (texts_of frame.entry.sources.own)) (views children.entry) }
+{
+    node(head, Some(frame.ranges), frame.sources, children)
+}

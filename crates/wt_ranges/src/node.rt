@@ -1,0 +1,61 @@
+//! Nodes of trees, made of their heads and texts.
+
+ghost use Rattle.std.specs.Prelude.{◌≡◌, []};
+ghost use Rattle.wt_tree.specs.Tree.{tree};
+ghost use Rattle.wt_tree.specs.View.{texts_of, view, views};
+ghost use Rattle.wt_inline.specs.View.{head_of};
+ghost use Rattle.wt_ranges.specs.Nodes.{node_label};
+
+use std::alloc::Global;
+use wt_inline::NodeHead;
+use wt_span::{List, Text};
+use wt_tree::{Mark, Node, Ranges};
+
+/// What a node has of the page: its delimiters, or the source of a leaf.
+#[derive(Drop)]
+pub struct Sources<'a> {
+    pub opening: List<Text<'a>>,
+    pub closing: List<Text<'a>>,
+    pub own: List<Text<'a>>,
+}
+
+/// A node without a number.
+pub fn node<'a>(
+    head: NodeHead,
+    ranges: Option<Ranges>,
+    sources: Sources<'a>,
+    children: List<Node<'a>>,
+) -> Node<'a>
+    ensures { view result ≡ tree (node_label (head_of head) ranges (texts_of sources.entry.opening) (texts_of sources.entry.closing) (texts_of sources.entry.own)) (views children.entry) }
+{
+    let Sources {
+        opening,
+        closing,
+        own,
+    } = sources;
+    Node {
+        kind: head.kind,
+        id: 0,
+        ranges,
+        opening,
+        closing,
+        own,
+        shown: head.shown,
+        attrs: head.attrs,
+        origin: None,
+        mark: Mark::Nothing,
+        mw: head.mw,
+        children,
+    }
+}
+
+/// The sources of a leaf.
+pub fn leaf_sources<'a>(alloc: Global, own: List<Text<'a>>) -> Sources<'a>
+    ensures { result ≡ record { opening = []; closing = []; own = own.entry } }
+{
+    Sources {
+        opening: List::new(alloc),
+        closing: List::new(alloc),
+        own,
+    }
+}

@@ -1,0 +1,133 @@
+//! Numbers, given to a finished tree.
+
+ghost use Rattle.std.specs.Prelude.{◌≡◌, ◌+◌, ◌^◌, ◌<◌, IfOk, if◌then◌else◌};
+ghost use Rattle.wt_tree.specs.Tiling.{is_group};
+ghost use Rattle.wt_tree.specs.View.{view, views};
+ghost use Rattle.wt_annotate.specs.Numbering.{
+  all_with_numbers,
+  count,
+  count_all,
+  next_after,
+  number_of,
+  with_numbers,
+};
+ghost use Rattle.wt_ranges.specs.NumberedNodes.{AreNumbered, IsNumbered};
+
+use std::alloc::Global;
+use wt_span::{List, NoMemory};
+use wt_tree::{Kind, Node};
+
+/// A node with its numbers, and the next number behind it.
+#[derive(Drop)]
+struct Numbered<'a> {
+    node: Node<'a>,
+    next: u32,
+}
+
+/// Nodes with their numbers, and the next number behind them.
+#[derive(Drop)]
+struct AllNumbered<'a> {
+    nodes: List<Node<'a>>,
+    next: u32,
+}
+
+/// The number of a node of this kind, where the next one is this; 0 where it has none.
+fn number_of(kind: Kind, next: u32) -> u32
+    ensures { result ≡ number_of kind next }
+{
+    if kind.is_numbered() { next } else { 0 }
+}
+
+/// The next number behind a node of this kind itself.
+fn next_after(kind: Kind, next: u32) -> u32
+    requires { next_after kind next < 2 ^ 32 }
+    ensures { result ≡ next_after kind next }
+{
+    if kind.is_numbered() { next + 1 } else { next }
+}
+
+fn is_group(kind: Kind) -> bool
+    ensures { result ≡ is_group kind }
+{
+    match kind {
+        Kind::Group => true,
+        _ => false,
+    }
+}
+
+/// The children of a node with their numbers; those of a group have none.
+#[cycle(numbering)]
+fn number_children<'a>(
+    alloc: Global,
+    kind: Kind,
+    nodes: List<Node<'a>>,
+    next: u32,
+) -> Result<AllNumbered<'a>, NoMemory>
+    requires { next + (if is_group kind then 0 else count_all (views nodes)) < 2 ^ 32 }
+    ensures { IfOk result (λ m. AreNumbered kind next (views nodes.entry) (views m.nodes) m.next) }
+{
+    if is_group(kind) {
+        return Ok(AllNumbered { nodes, next });
+    }
+    let mut numbered = List::new(alloc);
+    let mut behind = next;
+    for node in nodes.into_vec() {
+        let made = number_node(alloc, node, behind)?;
+        behind = made.next;
+        numbered.push(made.node)?;
+    }
+    Ok(AllNumbered {
+        nodes: numbered,
+        next: behind,
+    })
+}
+
+/// A node and all below it with their numbers.
+#[cycle(numbering)]
+fn number_node<'a>(alloc: Global, node: Node<'a>, next: u32) -> Result<Numbered<'a>, NoMemory>
+    requires { next + count (view node) < 2 ^ 32 }
+    ensures { IfOk result (λ m. IsNumbered next (view node.entry) (view m.node) m.next) }
+{
+    let Node {
+        kind,
+        id: _,
+        ranges,
+        opening,
+        closing,
+        own,
+        shown,
+        attrs,
+        origin,
+        mark,
+        mw,
+        children,
+    } = node;
+    let children = number_children(alloc, kind, children, next_after(kind, next))?;
+    let node = Node {
+        kind,
+        id: number_of(kind, next),
+        ranges,
+        opening,
+        closing,
+        own,
+        shown,
+        attrs,
+        origin,
+        mark,
+        mw,
+        children: children.nodes,
+    };
+    Ok(Numbered {
+        node,
+        next: children.next,
+    })
+}
+
+/// A tree with its numbers, which count from 1.
+pub fn number_tree<'a>(alloc: Global, node: Node<'a>) -> Result<Node<'a>, NoMemory>
+    requires { 1 + count (view node) < 2 ^ 32 }
+    ensures { IfOk result (λ n. view n ≡ with_numbers 1 (view node.entry)) }
+{
+    let numbered = number_node(alloc, node, 1)?;
+    Ok(numbered.node)
+}
