@@ -50,21 +50,28 @@ parted_sign = refl
 
 raw : rows (annotated (meaning (whole (form.Entity 60) None (codes "&lt;") ∷ whole form.Nowiki None (codes "<nowiki>''x''</nowiki>") ∷ [])))
     ≡ line 0 kind.Body 0 26 0 0 ∷ line 1 kind.Para 0 26 0 0 ∷ line 2 kind.Entity 0 4 4 0 ∷ line 3 kind.Nowiki 4 26 8 9 ∷ line 0 kind.Text 12 17 0 0 ∷ []
-unfolding annotated label_at meaning run_parts line_rows kind_of_signs children para heading block level opening inside closing inline_trees nowiki opening_tag closing_tag tag_after entity_at named_entity entity_names decimal_entity hex_entity
+unfolding annotated label_at meaning run_parts line_rows kind_of_signs children para heading block level opening inside closing
+    inline_trees nowiki opening_tag closing_tag tag_after entity_at named_entity entity_names decimal_entity hex_entity
 raw = refl
 
 raw_alone : rows (annotated (meaning (whole form.Nowiki None (codes "<nowiki/>") ∷ [])))
     ≡ line 0 kind.Body 0 9 0 0 ∷ line 1 kind.Para 0 9 0 0 ∷ line 2 kind.Nowiki 0 9 9 0 ∷ []
-unfolding annotated label_at meaning run_parts line_rows kind_of_signs children para heading block level opening inside closing inline_trees nowiki opening_tag closing_tag tag_after entity_at named_entity entity_names decimal_entity hex_entity
+unfolding annotated label_at meaning run_parts line_rows kind_of_signs children para heading block level opening inside closing
+    inline_trees nowiki opening_tag closing_tag tag_after entity_at named_entity entity_names decimal_entity hex_entity
 raw_alone = refl
 
 raw_entity : rows (annotated (meaning (whole form.Nowiki None (codes "<nowiki>a&lt;b</nowiki>") ∷ [])))
-    ≡ line 0 kind.Body 0 23 0 0 ∷ line 1 kind.Para 0 23 0 0 ∷ line 2 kind.Nowiki 0 23 8 9 ∷ line 0 kind.Text 8 9 0 0 ∷ line 3 kind.Entity 9 13 4 0 ∷ line 0 kind.Text 13 14 0 0 ∷ []
-unfolding annotated label_at meaning run_parts line_rows kind_of_signs children para heading block level opening inside closing inline_trees nowiki opening_tag closing_tag tag_after entity_at named_entity entity_names decimal_entity hex_entity
+    ≡ line 0 kind.Body 0 23 0 0 ∷ line 1 kind.Para 0 23 0 0 ∷ line 2 kind.Nowiki 0 23 8 9 ∷ line 0 kind.Text 8 9 0 0
+    ∷ line 3 kind.Entity 9 13 4 0 ∷ line 0 kind.Text 13 14 0 0 ∷ []
+unfolding annotated label_at meaning run_parts line_rows kind_of_signs children para heading block level opening inside closing
+    inline_trees nowiki opening_tag closing_tag tag_after entity_at named_entity entity_names decimal_entity hex_entity
 raw_entity = refl
 
-included : rows (annotated (meaning (whole form.Include None (codes "<noinclude>") ∷ (page (codes "a") ++ (whole form.Include None (codes "</noinclude>") ∷ whole form.Hidden None (codes "<includeonly>b</includeonly>") ∷ [])))))
-    ≡ line 0 kind.Body 0 52 0 0 ∷ line 1 kind.Include 0 11 11 0 ∷ line 2 kind.Para 11 52 0 0 ∷ line 0 kind.Text 11 12 0 0 ∷ line 3 kind.Include 12 24 12 0 ∷ line 4 kind.Include 24 52 28 0 ∷ []
+included : rows (annotated (meaning (whole form.Include None (codes "<noinclude>")
+    ∷ (page (codes "a") ++ (whole form.Include None (codes "</noinclude>")
+    ∷ whole form.Hidden None (codes "<includeonly>b</includeonly>") ∷ [])))))
+    ≡ line 0 kind.Body 0 52 0 0 ∷ line 1 kind.Include 0 11 11 0 ∷ line 2 kind.Para 11 52 0 0 ∷ line 0 kind.Text 11 12 0 0
+    ∷ line 3 kind.Include 12 24 12 0 ∷ line 4 kind.Include 24 52 28 0 ∷ []
 unfolding annotated label_at meaning run_parts line_rows kind_of_signs children para heading block level opening inside closing inline_trees nowiki
 included = refl
 

@@ -62,7 +62,8 @@ forest_count (r ∷ rs) = omega (arith, child_count r, forest_count rs, counts_a
 
 children_count : (ps : List Part) → numbered_in_all (forest (children ps)) ≤ counts ps
 unfolding children
-children_count ps = subst (λ qs. numbered_in_all (forest (map child (runs one_leaf ps))) ≤ counts qs) (runs_joined one_leaf ps) (forest_count (runs one_leaf ps))
+children_count ps = subst (λ qs. numbered_in_all (forest (map child (runs one_leaf ps))) ≤ counts qs) (runs_joined one_leaf ps)
+    (forest_count (runs one_leaf ps))
 
 -- ---- the parts of items
 
@@ -75,7 +76,14 @@ parts_count k (whole f o bs ∷ xs) = omega (arith, parts_count k xs)
 
 line_count : (l : List Item) → counts (line_parts l) ≤ makes_all l
 line_count l =
-    omega (arith, counts_append (inline_parts (content l)) (parts Text (ending l)), parts_count Text (content l), parts_count Text (ending l), makes_append (content l) (ending l), ap makes_all (content_ending l))
+    omega (
+      arith,
+      counts_append (inline_parts (content l)) (parts Text (ending l)),
+      parts_count Text (content l),
+      parts_count Text (ending l),
+      makes_append (content l) (ending l),
+      ap makes_all (content_ending l),
+    )
 
 lines_count : (ls : List (List Item)) → counts (flat_map line_parts ls) ≤ makes_all (joined ls)
 lines_count [] = omega arith
@@ -114,8 +122,10 @@ around_count : (k : BlockKind) (ls : List (List Item)) → counts (around k ls) 
 around_count k ls =
     let rest = without_lead ls in
     let b = block k (without_ending rest) in
-    let before : makes_all (lead ls) + makes_all (joined rest) ≡ makes_all (joined ls) = sym (makes_append (lead ls) (joined rest)) ∙ ap makes_all (lead_joined ls) in
-    let behind : makes_all (joined (without_ending rest)) + makes_all (last_ending rest) ≡ makes_all (joined rest) = sym (makes_append (joined (without_ending rest)) (last_ending rest)) ∙ ap makes_all (end_joined rest) in
+    let before : makes_all (lead ls) + makes_all (joined rest) ≡ makes_all (joined ls) =
+    sym (makes_append (lead ls) (joined rest)) ∙ ap makes_all (lead_joined ls) in
+    let behind : makes_all (joined (without_ending rest)) + makes_all (last_ending rest) ≡ makes_all (joined rest) =
+    sym (makes_append (joined (without_ending rest)) (last_ending rest)) ∙ ap makes_all (end_joined rest) in
     let front : counts (parts Sep (lead ls)) ≤ makes_all (lead ls) = parts_count Sep (lead ls) in
     let last : counts (parts Sep (last_ending rest)) ≤ makes_all (last_ending rest) = parts_count Sep (last_ending rest) in
     let whole_block : numbered b ≤ 1 + makes_all (joined (without_ending rest)) = block_count k (without_ending rest) in
@@ -141,7 +151,8 @@ blocks_count (r ∷ rs) =
     let here : counts (run_parts r) ≤ 1 + makes_all (joined (row_items r)) = run_count r in
     let later : counts (flat_map run_parts rs) ≤ length rs + makes_all (joined (row_items others)) = blocks_count rs in
     let both : makes_all (joined (row_items (r ++ others))) ≡ makes_all (joined (row_items r)) + makes_all (joined (row_items others)) =
-    ap makes_all (ap joined (map-append (λ s. s.items) r others) ∙ joined_append (row_items r) (row_items others)) ∙ makes_append (joined (row_items r)) (joined (row_items others)) in
+    ap makes_all (ap joined (map-append (λ s. s.items) r others) ∙ joined_append (row_items r) (row_items others))
+    ∙ makes_append (joined (row_items r)) (joined (row_items others)) in
     omega (arith, counts_append (run_parts r) (flat_map run_parts rs))
 
 -- ---- the body
@@ -160,7 +171,8 @@ meaning_count xs =
     let rs = runs same_block (rows xs) in
     let all : joined (row_items (flat_map (λ r. r) rs)) ≡ xs =
     ap (λ ss. joined (row_items ss)) (runs_joined same_block (rows xs)) ∙ ap joined (row_items_are 0 (full_lines xs)) ∙ runs_joined goes_on xs in
-    let body : counts (body_parts (rows xs)) ≤ length rs + makes_all xs = subst (λ ys. counts (flat_map run_parts rs) ≤ length rs + makes_all ys) all (blocks_count rs) in
+    let body : counts (body_parts (rows xs)) ≤ length rs + makes_all xs =
+    subst (λ ys. counts (flat_map run_parts rs) ≤ length rs + makes_all ys) all (blocks_count rs) in
     let few_runs : length rs ≤ length (rows xs) = runs_few same_block rs (rows xs) (runs_are same_block (rows xs)) in
     let few_lines : length (full_lines xs) ≤ length xs = runs_few goes_on (full_lines xs) xs (runs_are goes_on xs) in
     let one_each : length (rows xs) ≡ length (full_lines xs) = sym (length-map (rows xs) (λ r. r.items)) ∙ ap length (row_items_are 0 (full_lines xs)) in
@@ -184,7 +196,8 @@ inside_count [] = omega arith
 inside_count (char o b ∷ xs) = omega (arith, inside_count xs)
 inside_count (whole f o bs ∷ xs) = omega (arith, form_one f o bs, inside_count xs)
 
-inside_read : (o : Option ℕ) (e : Option (ℕ × ℕ)) (b : ℕ) (bs : List ℕ) → ((n : ℕ) → length (inside_items o n bs) ≤ length bs) → length (read_with o e b bs (λ n. inside_items o n bs)) ≤ suc (length bs)
+inside_read : (o : Option ℕ) (e : Option (ℕ × ℕ)) (b : ℕ) (bs : List ℕ) → ((n : ℕ) → length (inside_items o n bs) ≤ length bs)
+    → length (read_with o e b bs (λ n. inside_items o n bs)) ≤ suc (length bs)
 inside_read o None b bs h = let rest = h 0 in omega arith
 inside_read o (Some e) b bs h = let rest = h (e.1 - 1) in omega arith
 

@@ -35,7 +35,8 @@ mutual
   tiled_at at next (inner h opening ts closing) =
       let own : List Item = opening ++ (held_by_all ts ++ closing) in
       tiled_by at next (is_leaf h.kind) h opening (held_by_all ts) closing (all_annotated_at (at + width opening) (next_after h.kind next) ts)
-      (all_tiled_at (at + width opening) (next_after h.kind next) (at + width own - width closing) ts (omega (arith, width_three opening (held_by_all ts) closing)))
+      (all_tiled_at (at + width opening) (next_after h.kind next) (at + width own - width closing) ts
+      (omega (arith, width_three opening (held_by_all ts) closing)))
 
   pub all_tiled_at : (from next to : ℕ) (ts : ItemTrees) → to ≡ from + width (held_by_all ts) → TiledFrom (all_annotated_at from next ts) from to
   all_tiled_at from next to nothing e = omega arith
@@ -48,7 +49,8 @@ tiled_annotated t = subst Tiled (sym (annotated_is t)) (tiled_at 0 1 t)
 
 body_at : (ts : ItemTrees) → Covers (width (held (inner (plain kind.Body) [] ts []))) (annotated_at 0 1 (inner (plain kind.Body) [] ts []))
 unfolding label_at
-body_at ts = let n : ℕ = width (held (inner (plain kind.Body) [] ts [])) in let e : 0 + n ≡ n = omega arith in ap (λ m. Some (record { start = 0; end = m; open_w = 0; close_w = 0 })) e
+body_at ts = let n : ℕ = width (held (inner (plain kind.Body) [] ts [])) in let e : 0 + n ≡ n = omega arith in
+    ap (λ m. Some (record { start = 0; end = m; open_w = 0; close_w = 0 })) e
 
 -- a body covers all that it holds
 pub body_covers : (ts : ItemTrees) → Covers (width (held (inner (plain kind.Body) [] ts []))) (annotated (inner (plain kind.Body) [] ts []))

@@ -112,7 +112,8 @@ not_false false e = cc
 lead_in : (l others : List Item) → IsRun goes_on l others → prefix_len is_mark (l ++ others) ≡ prefix_len is_mark l
 lead_in [] others h = absurd h
 lead_in (x ∷ []) [] h = refl
-lead_in (x ∷ []) (y ∷ ys) h = let e : is_mark x ≡ false = break_is_no_mark x (not_false (is_break_item x) h) in ap (λ v. cond v (1 + prefix_len is_mark (y ∷ ys)) 0) e ∙ sym (ap (λ v. cond v 1 0) e)
+lead_in (x ∷ []) (y ∷ ys) h = let e : is_mark x ≡ false = break_is_no_mark x (not_false (is_break_item x) h) in
+    ap (λ v. cond v (1 + prefix_len is_mark (y ∷ ys)) 0) e ∙ sym (ap (λ v. cond v 1 0) e)
 lead_in (x ∷ z ∷ zs) others h = ap (λ n. cond (is_mark x) (1 + n) 0) (lead_in (z ∷ zs) others h.1)
 
 take_in : (k : ℕ) (l others : List Item) → k ≤ length l → take k (l ++ others) ≡ take k l
@@ -152,10 +153,13 @@ full_without m (n ∷ ns) a h = (goes_other m (joined (n ∷ ns)) (joined (witho
 
 abbrev AroundIs : BlockKind → List (List Item) → List Item → Type 0
 AroundIs k ls xs =
-    around k ls ≡ parts Sep (take (lead_len xs) xs) ++ (node (block k (full_lines (content (drop (lead_len xs) xs)))) ∷ parts Sep (ending (drop (lead_len xs) xs)))
+    around k ls ≡ parts Sep (take (lead_len xs) xs)
+    ++ (node (block k (full_lines (content (drop (lead_len xs) xs)))) ∷ parts Sep (ending (drop (lead_len xs) xs)))
 
-three : (k : BlockKind) (a b : List Item) (t u : ItemTree) (c d : List Item) → a ≡ b → t ≡ u → c ≡ d → parts Sep a ++ (node t ∷ parts Sep c) ≡ parts Sep b ++ (node u ∷ parts Sep d)
-three k a b t u c d e f g = ap (λ x. parts Sep x ++ (node t ∷ parts Sep c)) e ∙ ap (λ x. parts Sep b ++ (node x ∷ parts Sep c)) f ∙ ap (λ x. parts Sep b ++ (node u ∷ parts Sep x)) g
+three : (k : BlockKind) (a b : List Item) (t u : ItemTree) (c d : List Item) → a ≡ b → t ≡ u → c ≡ d
+    → parts Sep a ++ (node t ∷ parts Sep c) ≡ parts Sep b ++ (node u ∷ parts Sep d)
+three k a b t u c d e f g = ap (λ x. parts Sep x ++ (node t ∷ parts Sep c)) e ∙ ap (λ x. parts Sep b ++ (node x ∷ parts Sep c)) f
+    ∙ ap (λ x. parts Sep b ++ (node u ∷ parts Sep x)) g
 
 around_lines : (k : BlockKind) (ls : List (List Item)) (xs : List Item) → AreRuns goes_on ls xs → AroundIs k ls xs
 around_lines k [] xs h = subst (AroundIs k []) (sym h) (three k [] [] (block k []) (block k []) [] [] refl refl refl)
@@ -168,14 +172,17 @@ around_lines k (l ∷ ms) xs h =
     let some = some_lines ms others h.3 in
     let en : lead_len (l ++ others) ≡ n = lead_in l others h.2 in
     let front : take n l ≡ take (lead_len (l ++ others)) (l ++ others) = sym (ap (λ i. take i (l ++ others)) en ∙ take_in n l others le) in
-    let back : joined (m ∷ ms) ≡ drop (lead_len (l ++ others)) (l ++ others) = ap (λ ys. m ++ ys) j ∙ sym (ap (λ i. drop i (l ++ others)) en ∙ drop_in n l others le) in
+    let back : joined (m ∷ ms) ≡ drop (lead_len (l ++ others)) (l ++ others) = ap (λ ys. m ++ ys) j
+    ∙ sym (ap (λ i. drop i (l ++ others)) en ∙ drop_in n l others le) in
     let full : AreFull (l ∷ ms) = full_runs (l ∷ ms) xs h in
     let inside : filled (without_ending (m ∷ ms)) ≡ full_lines (content (drop (lead_len (l ++ others)) (l ++ others))) =
     filled_full (without_ending (m ∷ ms)) _ (full_without m ms some (goes_drop n l (joined ms) full.0, full.1)) (content_lines m ms some ∙ ap content back) in
     subst (AroundIs k (l ∷ ms)) (sym h.1)
-    (three k (take n l) _ (block k (without_ending (m ∷ ms))) _ (last_ending (m ∷ ms)) _ front (block_filled k (without_ending (m ∷ ms)) ∙ ap (block k) inside) (ending_lines m ms some ∙ ap ending back))
+    (three k (take n l) _ (block k (without_ending (m ∷ ms))) _ (last_ending (m ∷ ms)) _ front
+    (block_filled k (without_ending (m ∷ ms)) ∙ ap (block k) inside) (ending_lines m ms some ∙ ap ending back))
 
-pub around_is : (k : BlockKind) (xs before mid after : List Item) → IsAround xs before mid after → around k (full_lines xs) ≡ parts Sep before ++ (node (block k (full_lines mid)) ∷ parts Sep after)
+pub around_is : (k : BlockKind) (xs before mid after : List Item) → IsAround xs before mid after
+    → around k (full_lines xs) ≡ parts Sep before ++ (node (block k (full_lines mid)) ∷ parts Sep after)
 around_is k xs before mid after a =
     around_lines k (full_lines xs) xs (runs_are goes_on xs)
     ∙ three k _ before _ (block k (full_lines mid)) _ after a.lead (ap (λ ys. block k (full_lines ys)) a.block) a.end

@@ -34,7 +34,9 @@ opened_bytes : (o : Option ℕ) (bs : List ℕ) → opened_all (map (char o) bs)
 opened_bytes o [] = refl
 opened_bytes o (b ∷ bs) = ap (λ xs. char o b ∷ xs) (opened_bytes o bs)
 
-opened_read : (o : Option ℕ) (e : Option (ℕ × ℕ)) (b : ℕ) (bs : List ℕ) → ((n : ℕ) → opened_all (inside_items o n bs) ≡ inside_items o n bs) → opened_all (read_with o e b bs (λ n. inside_items o n bs)) ≡ read_with o e b bs (λ n. inside_items o n bs)
+opened_read : (o : Option ℕ) (e : Option (ℕ × ℕ)) (b : ℕ) (bs : List ℕ)
+    → ((n : ℕ) → opened_all (inside_items o n bs) ≡ inside_items o n bs)
+    → opened_all (read_with o e b bs (λ n. inside_items o n bs)) ≡ read_with o e b bs (λ n. inside_items o n bs)
 opened_read o None b bs h = ap (λ xs. char o b ∷ xs) (h 0)
 opened_read o (Some e) b bs h = ap (λ xs. whole (form.Entity e.0) o (b ∷ take (e.1 - 1) bs) ∷ xs) (h (e.1 - 1))
 
@@ -51,7 +53,8 @@ opened_nowiki o bs =
     let back = map (char o) (closing_of bs) in
     opened_append front (xs ++ back)
     ∙ ap (λ ys. ys ++ opened_all (xs ++ back)) (opened_bytes o (opening_of bs))
-    ∙ ap (λ ys. front ++ ys) (opened_append xs back ∙ ap (λ ys. ys ++ opened_all back) (opened_inside o 0 (inside_of bs)) ∙ ap (λ ys. xs ++ ys) (opened_bytes o (closing_of bs)))
+    ∙ ap (λ ys. front ++ ys) (opened_append xs back ∙ ap (λ ys. ys ++ opened_all back) (opened_inside o 0 (inside_of bs))
+    ∙ ap (λ ys. xs ++ ys) (opened_bytes o (closing_of bs)))
 
 opened_form : (f : Form) (o : Option ℕ) (bs : List ℕ) → opened_all (opened_whole f o bs) ≡ opened_whole f o bs
 opened_form form.Chars o bs = refl
@@ -70,7 +73,8 @@ opened_one (whole f o bs) = opened_form f o bs
 
 opened_twice : (xs : List Item) → opened_all (opened_all xs) ≡ opened_all xs
 opened_twice [] = refl
-opened_twice (x ∷ xs) = opened_append (opened x) (opened_all xs) ∙ ap (λ ys. ys ++ opened_all (opened_all xs)) (opened_one x) ∙ ap (λ ys. opened x ++ ys) (opened_twice xs)
+opened_twice (x ∷ xs) = opened_append (opened x) (opened_all xs) ∙ ap (λ ys. ys ++ opened_all (opened_all xs)) (opened_one x)
+    ∙ ap (λ ys. opened x ++ ys) (opened_twice xs)
 
 -- ---- blocks
 
@@ -92,7 +96,8 @@ held_lines (l ∷ ls) =
 
 held_para : (ls : List (List Item)) → opened_all (held (para ls)) ≡ opened_all (joined ls)
 unfolding para
-held_para ls = ap opened_all (append-nil (held_by_all (forest (children (flat_map line_parts ls)))) ∙ held_children (flat_map line_parts ls) ∙ held_lines ls) ∙ opened_twice (joined ls)
+held_para ls = ap opened_all (append-nil (held_by_all (forest (children (flat_map line_parts ls))))
+    ∙ held_children (flat_map line_parts ls) ∙ held_lines ls) ∙ opened_twice (joined ls)
 
 held_inline : (xs : List Item) → held_by_all (forest (inline_trees xs)) ≡ opened_all xs
 unfolding inline_trees
@@ -105,7 +110,9 @@ held_heading xs =
     let b = inside xs in
     let c = closing xs in
     opened_append a (held_by_all (forest (inline_trees b)) ++ c)
-    ∙ ap (λ ys. opened_all a ++ ys) (opened_append (held_by_all (forest (inline_trees b))) c ∙ ap (λ ys. opened_all ys ++ opened_all c) (held_inline b) ∙ ap (λ ys. ys ++ opened_all c) (opened_twice b) ∙ sym (opened_append b c))
+    ∙ ap (λ ys. opened_all a ++ ys) (opened_append (held_by_all (forest (inline_trees b))) c
+    ∙ ap (λ ys. opened_all ys ++ opened_all c) (held_inline b) ∙ ap (λ ys. ys ++ opened_all c) (opened_twice b)
+    ∙ sym (opened_append b c))
     ∙ sym (opened_append a (b ++ c))
     ∙ ap opened_all (heading_joined xs)
 
@@ -129,11 +136,16 @@ held_around k ls =
     let rest = without_lead ls in
     let b = block k (without_ending rest) in
     let c = parts Sep (last_ending rest) in
-    ap opened_all (held_append (parts Sep (lead ls)) (node b ∷ c) ∙ ap (λ ys. ys ++ (held b ++ held_parts c)) (held_of_parts Sep (lead ls)) ∙ ap (λ ys. opened_all (lead ls) ++ (held b ++ ys)) (held_of_parts Sep (last_ending rest)))
+    ap opened_all (held_append (parts Sep (lead ls)) (node b ∷ c)
+    ∙ ap (λ ys. ys ++ (held b ++ held_parts c)) (held_of_parts Sep (lead ls))
+    ∙ ap (λ ys. opened_all (lead ls) ++ (held b ++ ys)) (held_of_parts Sep (last_ending rest)))
     ∙ opened_append (opened_all (lead ls)) (held b ++ opened_all (last_ending rest))
     ∙ ap (λ ys. ys ++ opened_all (held b ++ opened_all (last_ending rest))) (opened_twice (lead ls))
     ∙ ap (λ ys. opened_all (lead ls) ++ ys)
-    (opened_append (held b) (opened_all (last_ending rest)) ∙ ap (λ ys. ys ++ opened_all (opened_all (last_ending rest))) (held_block k (without_ending rest)) ∙ ap (λ ys. opened_all (joined (without_ending rest)) ++ ys) (opened_twice (last_ending rest)) ∙ sym (opened_append (joined (without_ending rest)) (last_ending rest)) ∙ ap opened_all (end_joined rest))
+    (opened_append (held b) (opened_all (last_ending rest)) ∙ ap (λ ys. ys ++ opened_all (opened_all (last_ending rest)))
+    (held_block k (without_ending rest)) ∙ ap (λ ys. opened_all (joined (without_ending rest)) ++ ys)
+    (opened_twice (last_ending rest)) ∙ sym (opened_append (joined (without_ending rest)) (last_ending rest))
+    ∙ ap opened_all (end_joined rest))
     ∙ sym (opened_append (lead ls) (joined rest))
     ∙ ap opened_all (lead_joined ls)
 
@@ -204,5 +216,7 @@ pub only_meaning : (t : ItemTree) (xs : List Item) → IsMeaning t xs → t ≡ 
 unfolding meaning
 only_meaning t xs m =
     let ls : m.its_lines ≡ full_lines xs = runs_only goes_on m.its_lines xs m.are_lines in
-    let rs : m.its_blocks ≡ runs same_block (rows xs) = runs_only same_block m.its_blocks (rows_from 0 m.its_lines) m.are_blocks ∙ ap (λ ns. runs same_block (rows_from 0 ns)) ls in
-    m.is_body ∙ ap (λ ts. inner (plain kind.Body) [] (forest ts) []) (only_children m.its_children (flat_map run_parts m.its_blocks) m.are_children ∙ ap (λ bs. children (flat_map run_parts bs)) rs)
+    let rs : m.its_blocks ≡ runs same_block (rows xs) = runs_only same_block m.its_blocks (rows_from 0 m.its_lines) m.are_blocks
+    ∙ ap (λ ns. runs same_block (rows_from 0 ns)) ls in
+    m.is_body ∙ ap (λ ts. inner (plain kind.Body) [] (forest ts) [])
+    (only_children m.its_children (flat_map run_parts m.its_blocks) m.are_children ∙ ap (λ bs. children (flat_map run_parts bs)) rs)

@@ -97,7 +97,8 @@ front_sign : (xs ys : List Item) → 0 < length xs → get_or (map sign (xs ++ y
 front_sign [] ys s = absurd (omega arith)
 front_sign (x ∷ xs) ys s = refl
 
-pub one_only : (f : Form) (o : Option ℕ) (bs : List ℕ) → (is_chars f && nat_lt 1 (length bs)) ≡ false → (items_by f o bs ≡ take 1 (items_by f o bs)) × ([] ≡ drop 1 (items_by f o bs))
+pub one_only : (f : Form) (o : Option ℕ) (bs : List ℕ) → (is_chars f && nat_lt 1 (length bs)) ≡ false
+    → (items_by f o bs ≡ take 1 (items_by f o bs)) × ([] ≡ drop 1 (items_by f o bs))
 one_only form.Chars o [] e = (refl, refl)
 one_only form.Chars o (b ∷ []) e = (refl, refl)
 one_only form.Chars o (b ∷ c ∷ cs) e = absurd (more_bytes (length cs) e)
@@ -136,16 +137,19 @@ some_of : (p : Piece) → IsSoundPiece p → 0 < length (items_of p)
 some_of p h = omega (arith, some_by p.form (call_of_origin p.origin) (bytes_of p.text) h.whole)
 
 pub take_first : (p : Piece) (ps : List Piece) → IsSoundPiece p → take 1 (items_of p) ≡ take 1 (items (p ∷ ps))
-take_first p ps h = let z : 1 - length (items_of p) ≡ 0 = omega (arith, some_of p h) in sym (take_append 1 (items_of p) (items ps) ∙ ap (λ n. take 1 (items_of p) ++ take n (items ps)) z ∙ append-nil (take 1 (items_of p)))
+take_first p ps h = let z : 1 - length (items_of p) ≡ 0 = omega (arith, some_of p h) in
+    sym (take_append 1 (items_of p) (items ps) ∙ ap (λ n. take 1 (items_of p) ++ take n (items ps)) z ∙ append-nil (take 1 (items_of p)))
 
 pub drop_first : (p : Piece) (ps : List Piece) → IsSoundPiece p → drop 1 (items_of p) ++ items ps ≡ drop 1 (items (p ∷ ps))
-drop_first p ps h = let z : 1 - length (items_of p) ≡ 0 = omega (arith, some_of p h) in sym (drop_append 1 (items_of p) (items ps) ∙ ap (λ n. drop 1 (items_of p) ++ drop n (items ps)) z)
+drop_first p ps h = let z : 1 - length (items_of p) ≡ 0 = omega (arith, some_of p h) in
+    sym (drop_append 1 (items_of p) (items ps) ∙ ap (λ n. drop 1 (items_of p) ++ drop n (items ps)) z)
 
 pub sign_first : (p : Piece) (ps : List Piece) → IsSoundPiece p → get_or (map sign (items (p ∷ ps))) 0 0 ≡ get_or (map sign (items_of p)) 0 0
 sign_first p ps h = front_sign (items_of p) (items ps) (some_of p h)
 
 -- what stands before a block, the block, and what stands after it
-pub around_by : (ps front rest mid left : List Piece) (n m : ℕ) → AreLeadingMarks ps n → front ≡ take n ps → rest ≡ drop n ps → mid ≡ take m rest → left ≡ drop m rest
+pub around_by : (ps front rest mid left : List Piece) (n m : ℕ) → AreLeadingMarks ps n → front ≡ take n ps → rest ≡ drop n ps
+    → mid ≡ take m rest → left ≡ drop m rest
     → content (items rest) ≡ items (take m rest) → ending (items rest) ≡ items (drop m rest) → IsAround (items ps) (items front) (items mid) (items left)
 around_by ps front rest mid left n m h ef er em el c e =
     let b : drop (lead_len (items ps)) (items ps) ≡ items rest = h.1 ∙ ap items (sym er) in

@@ -92,12 +92,15 @@ shown_bytes o (b ∷ bs) = ap (λ cs. b ∷ cs) (shown_bytes o bs)
 pub shown_chars : (f : Form) (o : Option ℕ) (bs : List ℕ) → f ≡ form.Chars → flat_map shown_item (items_by f o bs) ≡ bs
 shown_chars f o bs e = ap (λ g. flat_map shown_item (items_by g o bs)) e ∙ shown_bytes o bs
 
-pub extension_is : (bs name inside : List ℕ) (alone : Bool) → name ≡ name_of (opening_tag bs) → alone ≡ is_alone (opening_tag bs) → inside ≡ inside_of bs → extension_of name alone inside ≡ extension_data bs
+pub extension_is : (bs name inside : List ℕ) (alone : Bool) → name ≡ name_of (opening_tag bs) → alone ≡ is_alone (opening_tag bs)
+    → inside ≡ inside_of bs → extension_of name alone inside ≡ extension_data bs
 unfolding extension_data
 extension_is bs name inside alone n a i =
-    ap (λ x. extension_of x alone inside) n ∙ ap (λ x. extension_of (name_of (opening_tag bs)) x inside) a ∙ ap (extension_of (name_of (opening_tag bs)) (is_alone (opening_tag bs))) i
+    ap (λ x. extension_of x alone inside) n ∙ ap (λ x. extension_of (name_of (opening_tag bs)) x inside) a
+    ∙ ap (extension_of (name_of (opening_tag bs)) (is_alone (opening_tag bs))) i
 
-pub extension_head_is : (bs name shown : List ℕ) (attrs : List (AttrName × List ℕ)) (d : DataMw) → shown ≡ [] → name ≡ name_of (opening_tag bs) → attrs ≡ typeof (codes "mw:Extension/" ++ name) → d ≡ extension_data bs
+pub extension_head_is : (bs name shown : List ℕ) (attrs : List (AttrName × List ℕ)) (d : DataMw) → shown ≡ []
+    → name ≡ name_of (opening_tag bs) → attrs ≡ typeof (codes "mw:Extension/" ++ name) → d ≡ extension_data bs
     → record { kind = kind.Island; shown = shown; attrs = attrs; mw = Some d } ≡ form_head form.Extension bs
 unfolding extension_typeof
 extension_head_is bs name shown attrs d s n a e =

@@ -20,4 +20,5 @@ returns-in-Heading c =
 pub returns-in-Para : goal.returns-in-Para
 returns-in-Para c =
     let ls = full_lines (items c.args.lines.now) in
-    IfOk-weaker c.paragraph-in-Para.result _ _ (λ t e. e ∙ paragraph_block ls ∙ ap (λ (k : BlockKind). block k ls) (sym c.in-Para.is)) c.paragraph-in-Para.ensures
+    IfOk-weaker c.paragraph-in-Para.result _ _ (λ t e. e ∙ paragraph_block ls
+    ∙ ap (λ (k : BlockKind). block k ls) (sym c.in-Para.is)) c.paragraph-in-Para.ensures

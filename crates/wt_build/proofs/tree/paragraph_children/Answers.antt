@@ -16,21 +16,27 @@ line_len-n-requires c = record {
 }
 
 pub with_full_line-requires : goal.with_full_line-requires
-with_full_line-requires c = parted_front c.rest_of-rest.result.now c.front_of.result.now c.line_len-n.result (parted_rest c.args.lines.now c.rest_of-rest.result.now c.loop-at.at c.requires c.rest_of-rest.ensures) c.front_of.ensures
+with_full_line-requires c = parted_front c.rest_of-rest.result.now c.front_of.result.now c.line_len-n.result
+    (parted_rest c.args.lines.now c.rest_of-rest.result.now c.loop-at.at c.requires c.rest_of-rest.ensures) c.front_of.ensures
 
 pub loop-at-smaller : goal.loop-at-smaller
 loop-at-smaller c =
     let n : 0 < c.line_len-n.result = c.line_len-n.ensures.some_of_it in
-    let w : c.loop-at.at + c.line_len-n.result ≤ length c.args.lines.now = within_by c.args.lines.now c.rest_of-rest.result.now c.loop-at.at c.line_len-n.result c.loop-at-test.true c.rest_of-rest.ensures c.line_len-n.ensures.within in
+    let w : c.loop-at.at + c.line_len-n.result ≤ length c.args.lines.now = within_by c.args.lines.now c.rest_of-rest.result.now
+    c.loop-at.at c.line_len-n.result c.loop-at-test.true c.rest_of-rest.ensures c.line_len-n.ensures.within in
     omega (arith, n, w)
 
 pub loop-at-preserved : goal.loop-at-preserved
 loop-at-preserved c = record {
-  within = within_by c.args.lines.now c.rest_of-rest.result.now c.loop-at.at c.line_len-n.result c.loop-at-test.true c.rest_of-rest.ensures c.line_len-n.ensures.within;
-  rest = lines_step (paragraph_parts c.args.lines.now) c.args.lines.now c.rest_of-rest.result.now c.front_of.result.now c.loop-at.at c.line_len-n.result (grown c.loop-at.children) (grown c.in_ok-children.children) c.rest_of-rest.ensures c.front_of.ensures c.line_len-n.ensures.cut c.in_ok-children.ensures c.loop-at.invariant.rest;
+  within = within_by c.args.lines.now c.rest_of-rest.result.now c.loop-at.at c.line_len-n.result c.loop-at-test.true
+      c.rest_of-rest.ensures c.line_len-n.ensures.within;
+  rest = lines_step (paragraph_parts c.args.lines.now) c.args.lines.now c.rest_of-rest.result.now c.front_of.result.now
+      c.loop-at.at c.line_len-n.result (grown c.loop-at.children) (grown c.in_ok-children.children) c.rest_of-rest.ensures
+      c.front_of.ensures c.line_len-n.ensures.cut c.in_ok-children.ensures c.loop-at.invariant.rest;
 }
 
 pub returns : goal.returns
 returns c =
     IfOk-weaker c.finish.result _ _
-    (λ l e. lines_done c.args.lines.now c.loop-at.at (grown c.loop-at.children) (item_trees l) (drop_all c.loop-at.at c.args.lines.now (omega arith)) c.loop-at.invariant.rest e) c.finish.ensures
+    (λ l e. lines_done c.args.lines.now c.loop-at.at (grown c.loop-at.children) (item_trees l)
+    (drop_all c.loop-at.at c.args.lines.now (omega arith)) c.loop-at.invariant.rest e) c.finish.ensures

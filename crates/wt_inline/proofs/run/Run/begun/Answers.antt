@@ -11,5 +11,6 @@ invariant_of-result c =
     let is : items c.push.new.self ≡ items_of p = items_first c.in_ok-pieces.pieces c.push.new.self p c.in_ok-pieces.ensures c.in_ok-push.ensures.ok in
     record {
       some = subst (λ (xs : List Item). 0 < length xs) (sym is) c.requires.some;
-      one_origin = ap (are_of (call_of_origin p.origin)) is ∙ chars_are p.form (call_of_origin p.origin) (call_of_origin p.origin) p.text.of.now c.requires.chars refl;
+      one_origin = ap (are_of (call_of_origin p.origin)) is ∙ chars_are p.form (call_of_origin p.origin)
+          (call_of_origin p.origin) p.text.of.now c.requires.chars refl;
     }
