@@ -81,6 +81,7 @@ label_at at id is h opening own closing = record {
   own = if_leaf is (sources own);
   shown = h.shown;
   attrs = h.attrs;
+  origin = None;
   mark = marks.Nothing;
   mw = h.mw;
 }

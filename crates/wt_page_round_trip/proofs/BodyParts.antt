@@ -10,9 +10,8 @@ use Rattle.wt_span.specs.declared.form.Form.TheVariants as form
 use Rattle.wt_span.specs.Items.{Item, char, whole, sources}
 use Rattle.wt_tree.specs.declared.kind.Kind.TheVariants as kind
 use Rattle.wt_lines.specs.Lines.{content}
-use Rattle.wt_fitting.specs.Fit.{is_blank as is_white}
-use Rattle.wt_tree.specs.declared.row.Class.TheVariants.{Anywhere}
-use Rattle.wt_tree.specs.Kinds.{shape, is_class, spelling}
+use Rattle.wt_tree.specs.Recut.{is_blank as is_white}
+use Rattle.wt_tree.specs.Kinds.{shape, is_anywhere, spelling}
 use Rattle.wt_round_trip.specs.Written.{has_level}
 use Rattle.wt_round_trip.proofs.Json.{ascii_then}
 use Rattle.wt_inline.specs.declared.loose.Loose.TheVariants.{Text, Sep}
@@ -46,10 +45,10 @@ inline_held true c e = refl
 inline_held false c e = e
 
 para_parent : IsInlineParent kind.Para
-para_parent = record { text = refl; elements = λ k h. inline_held (is_class (shape k).class Anywhere) _ h }
+para_parent = record { text = refl; elements = λ k h. inline_held (is_anywhere (shape k).class) _ h }
 
 heading_parent : (n : ℕ) → IsInlineParent (kind.Heading n)
-heading_parent n = record { text = refl; elements = λ k h. inline_held (is_class (shape k).class Anywhere) _ h }
+heading_parent n = record { text = refl; elements = λ k h. inline_held (is_anywhere (shape k).class) _ h }
 
 pub para_node : (ls : List (List Item)) → IsPageLine (joined ls) → IsWrittenNode 2 kind.Body (para ls)
 unfolding para label_at spelling
@@ -70,11 +69,12 @@ para_node ls h =
           source = record { own = refl; opening = IsUtf8-nil; closing = IsUtf8-nil };
           shown = refl;
           attrs = refl;
+          origin = refl;
           mark = refl;
           mw = refl;
         },
         refl,
-        children_written 3 kind.Para ps (at + 0) (next + 1) w (omega arith) (omega arith) (omega arith),
+        (tt, children_written 3 kind.Para ps (at + 0) (next + 1) w (omega arith) (omega arith) (omega arith)),
       );
     }
 
@@ -132,11 +132,12 @@ heading_node xs l c =
           source = record { own = refl; opening = texts_utf8 [] os q.0 (all_left IsPageItem os (is ++ cs) p); closing = texts_utf8 [] cs r.1 (all_right IsPageItem is cs v) };
           shown = refl;
           attrs = refl;
+          origin = refl;
           mark = refl;
           mw = refl;
         },
         refl,
-        children_written 3 (kind.Heading n) ps (at + width os) (next + 1) w (omega arith) (omega arith) (omega arith),
+        (tt, children_written 3 (kind.Heading n) ps (at + width os) (next + 1) w (omega arith) (omega arith) (omega arith)),
       );
     }
 
@@ -149,7 +150,7 @@ IsBodyPart (node t) = IsWrittenNode 2 kind.Body t
 
 white_on : (run : List ℕ) (b : ℕ) → is_white run ≡ true → is_white_byte b ≡ true → is_white (run ++ b ∷ []) ≡ true
 white_on [] b h e = e
-white_on (r ∷ run) b h e = by_test (r == 32 || (r == 9 || r == 10)) h (λ g. white_on run b g e)
+white_on (r ∷ run) b h e = by_test ((r == 32 || r == 9) || r == 10) h (λ g. white_on run b g e)
   where
     by_test : (t : Bool) → (t && is_white run) ≡ true → (is_white run ≡ true → is_white (run ++ b ∷ []) ≡ true) → (t && is_white (run ++ b ∷ [])) ≡ true
     by_test true h f = f h

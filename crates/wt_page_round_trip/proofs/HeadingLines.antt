@@ -12,6 +12,7 @@ use Rattle.wt_html_grammar.proofs.Steps.{if_false}
 use Rattle.wt_span.specs.Bytes.{begins}
 use Rattle.wt_span.specs.Items.{Item, char, whole, sign, is_mark, is_mark_form}
 use Rattle.wt_tree.specs.declared.kind.Kind.TheVariants as kind
+use Rattle.wt_tree.specs.Kinds.{spelling}
 use Rattle.wt_lex.proofs.Begins.{begins_get, begins_len}
 use Rattle.wt_lines.specs.declared.kind.LineKind.TheVariants as line
 use Rattle.wt_lines.specs.Kinds.{is_mark_sign, is_idle, past, is_idle_all, is_alone, is_heading, is_list, first_of, open_kind, table_rows, text_rows, kind_of_signs}
@@ -242,6 +243,7 @@ signs_level ss h =
         true≢false (sym (ap₂ (λ x y. x && y) b (ap (λ n. is_idle_all (drop n ss)) (sym f) ∙ idle)) ∙ h.two)
 
 level_test : (l : ℕ) → 1 ≤ l → l ≤ 6 → has_level (kind.Heading l) ≡ true
+unfolding spelling
 level_test l a b = grind (arith, nat_tests)
 
 -- ---- the line
