@@ -1,5 +1,5 @@
 -- What a node of the annotated tree has beside its children.
-use Rattle.std.specs.Prelude.{ℕ, ◌+◌, Bool, true, false, Some, List, [], length}
+use Rattle.std.specs.Prelude.{ℕ, ◌+◌, Bool, true, false, Some, None, List, [], length}
 use Rattle.wt_tree.specs.declared.kind.Kind.{Kind}
 use Rattle.wt_tree.specs.declared.kind.Kind.TheVariants as kind
 use Rattle.wt_tree.specs.declared.kind.Mark.TheVariants as marks
