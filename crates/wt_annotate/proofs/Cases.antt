@@ -6,14 +6,14 @@ use Rattle.wt_tree.specs.declared.kind.Kind.TheVariants as kind
 use Rattle.wt_tree.specs.declared.kind.Ranges.{Ranges}
 use Rattle.wt_tree.specs.Look.{rows}
 use Rattle.wt_span.specs.declared.form.Form.TheVariants as form
-use Rattle.wt_span.specs.Tags.{opening_tag, closing_tag, tag_after, is_extension}
+use Rattle.wt_span.specs.Tags.{opening_tag, closing_tag, tag_after}
 use Rattle.wt_span.specs.Entities.{entity_at, named_entity, entity_names, decimal_entity, hex_entity}
 use Rattle.wt_span.specs.Items.{Item, char, whole}
 use Rattle.wt_lines.specs.Kinds.{kind_of_signs}
 use Rattle.wt_inline.specs.Parts.{children, nowiki}
 use Rattle.wt_inline.specs.Inline.{inline_trees}
-use Rattle.wt_build.specs.Rows.{row}
-use Rattle.wt_build.specs.Headings.{heading_parts}
+use Rattle.wt_build.specs.Rows.{line_rows}
+use Rattle.wt_blocks.specs.Headings.{level, opening, inside, closing}
 use Rattle.wt_build.specs.Blocks.{para, heading, block}
 use Rattle.wt_build.specs.Meaning.{run_parts, meaning}
 use Rattle.wt_annotate.specs.Labels.{label_at}
@@ -30,42 +30,49 @@ line id k s e o c = (id, k, Some (record { start = s; end = e; open_w = o; close
 
 comment_line : rows (annotated (meaning (page (codes "a\n") ++ (whole form.Comment None (codes "<!-- c -->\n") ∷ page (codes "b")))))
     ≡ line 0 kind.Body 0 14 0 0 ∷ line 1 kind.Para 0 14 0 0 ∷ line 0 kind.Text 0 2 0 0 ∷ line 2 kind.Comment 2 13 11 0 ∷ line 0 kind.Text 13 14 0 0 ∷ []
-unfolding annotated label_at meaning run_parts row kind_of_signs children para heading block heading_parts inline_trees nowiki
+unfolding annotated label_at meaning run_parts line_rows kind_of_signs children para heading block level opening inside closing inline_trees nowiki
 comment_line = refl
 
 five_signs : rows (annotated (meaning (page (codes "====="))))
     ≡ line 0 kind.Body 0 5 0 0 ∷ line 1 (kind.Heading 2) 0 5 2 2 ∷ line 0 kind.Text 2 3 0 0 ∷ []
-unfolding annotated label_at meaning run_parts row kind_of_signs children para heading block heading_parts inline_trees nowiki
+unfolding annotated label_at meaning run_parts line_rows kind_of_signs children para heading block level opening inside closing inline_trees nowiki
 five_signs = refl
 
 uneven : rows (annotated (meaning (page (codes "=== x =="))))
     ≡ line 0 kind.Body 0 8 0 0 ∷ line 1 (kind.Heading 2) 0 8 2 3 ∷ line 0 kind.Text 2 5 0 0 ∷ []
-unfolding annotated label_at meaning run_parts row kind_of_signs children para heading block heading_parts inline_trees nowiki
+unfolding annotated label_at meaning run_parts line_rows kind_of_signs children para heading block level opening inside closing inline_trees nowiki
 uneven = refl
 
 parted_sign : rows (annotated (meaning (page (codes "=") ++ (whole form.Comment None (codes "<!-- -->") ∷ page (codes "=")))))
     ≡ line 0 kind.Body 0 10 0 0 ∷ line 1 (kind.Heading 1) 0 10 1 1 ∷ line 2 kind.Comment 1 9 8 0 ∷ []
-unfolding annotated label_at meaning run_parts row kind_of_signs children para heading block heading_parts inline_trees nowiki
+unfolding annotated label_at meaning run_parts line_rows kind_of_signs children para heading block level opening inside closing inline_trees nowiki
 parted_sign = refl
 
 raw : rows (annotated (meaning (whole (form.Entity 60) None (codes "&lt;") ∷ whole form.Nowiki None (codes "<nowiki>''x''</nowiki>") ∷ [])))
     ≡ line 0 kind.Body 0 26 0 0 ∷ line 1 kind.Para 0 26 0 0 ∷ line 2 kind.Entity 0 4 4 0 ∷ line 3 kind.Nowiki 4 26 8 9 ∷ line 0 kind.Text 12 17 0 0 ∷ []
-unfolding annotated label_at meaning run_parts row kind_of_signs children para heading block heading_parts inline_trees nowiki opening_tag closing_tag tag_after entity_at named_entity entity_names decimal_entity hex_entity
+unfolding annotated label_at meaning run_parts line_rows kind_of_signs children para heading block level opening inside closing
+    inline_trees nowiki opening_tag closing_tag tag_after entity_at named_entity entity_names decimal_entity hex_entity
 raw = refl
 
 raw_alone : rows (annotated (meaning (whole form.Nowiki None (codes "<nowiki/>") ∷ [])))
     ≡ line 0 kind.Body 0 9 0 0 ∷ line 1 kind.Para 0 9 0 0 ∷ line 2 kind.Nowiki 0 9 9 0 ∷ []
-unfolding annotated label_at meaning run_parts row kind_of_signs children para heading block heading_parts inline_trees nowiki opening_tag closing_tag tag_after entity_at named_entity entity_names decimal_entity hex_entity
+unfolding annotated label_at meaning run_parts line_rows kind_of_signs children para heading block level opening inside closing
+    inline_trees nowiki opening_tag closing_tag tag_after entity_at named_entity entity_names decimal_entity hex_entity
 raw_alone = refl
 
 raw_entity : rows (annotated (meaning (whole form.Nowiki None (codes "<nowiki>a&lt;b</nowiki>") ∷ [])))
-    ≡ line 0 kind.Body 0 23 0 0 ∷ line 1 kind.Para 0 23 0 0 ∷ line 2 kind.Nowiki 0 23 8 9 ∷ line 0 kind.Text 8 9 0 0 ∷ line 3 kind.Entity 9 13 4 0 ∷ line 0 kind.Text 13 14 0 0 ∷ []
-unfolding annotated label_at meaning run_parts row kind_of_signs children para heading block heading_parts inline_trees nowiki opening_tag closing_tag tag_after entity_at named_entity entity_names decimal_entity hex_entity
+    ≡ line 0 kind.Body 0 23 0 0 ∷ line 1 kind.Para 0 23 0 0 ∷ line 2 kind.Nowiki 0 23 8 9 ∷ line 0 kind.Text 8 9 0 0
+    ∷ line 3 kind.Entity 9 13 4 0 ∷ line 0 kind.Text 13 14 0 0 ∷ []
+unfolding annotated label_at meaning run_parts line_rows kind_of_signs children para heading block level opening inside closing
+    inline_trees nowiki opening_tag closing_tag tag_after entity_at named_entity entity_names decimal_entity hex_entity
 raw_entity = refl
 
-included : rows (annotated (meaning (whole form.Include None (codes "<noinclude>") ∷ (page (codes "a") ++ (whole form.Include None (codes "</noinclude>") ∷ whole form.Hidden None (codes "<includeonly>b</includeonly>") ∷ [])))))
-    ≡ line 0 kind.Body 0 52 0 0 ∷ line 1 kind.Include 0 11 11 0 ∷ line 2 kind.Para 11 52 0 0 ∷ line 0 kind.Text 11 12 0 0 ∷ line 3 kind.Include 12 24 12 0 ∷ line 4 kind.Include 24 52 28 0 ∷ []
-unfolding annotated label_at meaning run_parts row kind_of_signs children para heading block heading_parts inline_trees nowiki
+included : rows (annotated (meaning (whole form.Include None (codes "<noinclude>")
+    ∷ (page (codes "a") ++ (whole form.Include None (codes "</noinclude>")
+    ∷ whole form.Hidden None (codes "<includeonly>b</includeonly>") ∷ [])))))
+    ≡ line 0 kind.Body 0 52 0 0 ∷ line 1 kind.Include 0 11 11 0 ∷ line 2 kind.Para 11 52 0 0 ∷ line 0 kind.Text 11 12 0 0
+    ∷ line 3 kind.Include 12 24 12 0 ∷ line 4 kind.Include 24 52 28 0 ∷ []
+unfolding annotated label_at meaning run_parts line_rows kind_of_signs children para heading block level opening inside closing inline_trees nowiki
 included = refl
 
 -- two line breaks are one separator; one of a call and those of the page are three
@@ -76,16 +83,16 @@ separators : rows (annotated (meaning (page (codes "a\n\n== b ==\n") ++ (char (S
     ∷ line 2 (kind.Heading 2) 3 10 3 3 ∷ line 0 kind.Text 6 7 0 0
     ∷ line 0 kind.Sep 10 11 0 0 ∷ line 0 kind.Sep 11 12 0 0 ∷ line 0 kind.Sep 12 13 0 0
     ∷ line 3 kind.Para 13 14 0 0 ∷ line 0 kind.Text 13 14 0 0 ∷ []
-unfolding annotated label_at meaning run_parts row kind_of_signs children para heading block heading_parts inline_trees nowiki
+unfolding annotated label_at meaning run_parts line_rows kind_of_signs children para heading block level opening inside closing inline_trees nowiki
 separators = refl
 
 -- an extension's island, and what it carries
 extension : rows (annotated (meaning (whole form.Extension None (codes "<REF>y</Ref>") ∷ [])))
     ≡ line 0 kind.Body 0 12 0 0 ∷ line 1 kind.Para 0 12 0 0 ∷ line 2 kind.Island 0 12 12 0 ∷ []
-unfolding annotated label_at meaning run_parts row kind_of_signs children para heading block heading_parts inline_trees nowiki
+unfolding annotated label_at meaning run_parts line_rows kind_of_signs children para heading block level opening inside closing inline_trees nowiki
 extension = refl
 
 -- the empty page
 empty : rows (annotated (meaning [])) ≡ line 0 kind.Body 0 0 0 0 ∷ []
-unfolding annotated label_at meaning run_parts row kind_of_signs children para heading block heading_parts inline_trees nowiki
+unfolding annotated label_at meaning run_parts line_rows kind_of_signs children para heading block level opening inside closing inline_trees nowiki
 empty = refl

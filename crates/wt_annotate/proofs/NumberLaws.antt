@@ -1,13 +1,12 @@
 -- How many nodes of a meaning have a number: one for each line at most, and what each form makes.
-use Rattle.std.proofs.Common.{◌≡◌, ℕ, zero, suc, ◌+◌, ◌-◌, ◌*◌, ◌<◌, ◌≤◌, Bool, false, Option, Some, None, List, [], ◌∷◌, ◌++◌, length, take, drop, map, refl, sym, ap, ◌∙◌, subst, append_assoc, append-nil, arith, length-append, length-take, length-drop}
+use Rattle.std.proofs.Common.{◌≡◌, ℕ, zero, suc, ◌+◌, ◌-◌, ◌<◌, ◌≤◌, Bool, Option, Some, None, List, [], ◌∷◌, ◌++◌, length, take, drop, map, refl, sym, ap, ◌∙◌, subst, append_assoc, append-nil, arith, length-append, length-take, length-drop}
 use Rattle.std.specs.List.{flat_map}
 use Rattle.std.proofs.lemmas.List.{take-append-drop, map-append, length-map}
 use Rattle.std.proofs.lemmas.Grind.{flat_map-append}
 use Rattle.wt_span.specs.declared.form.Form.{Form}
 use Rattle.wt_span.specs.declared.form.Form.TheVariants as form
-use Rattle.wt_span.specs.declared.form.Mode.TheVariants.{Page}
 use Rattle.wt_span.specs.Entities.{entity_at}
-use Rattle.wt_span.specs.Items.{Item, char, whole, sign, sources}
+use Rattle.wt_span.specs.Items.{Item, char, whole, sources}
 use Rattle.wt_span.specs.Runs.{runs, IsRun, AreRuns}
 use Rattle.wt_span.proofs.RunLaws.{runs_are, runs_joined}
 use Rattle.wt_lines.specs.Lines.{content, goes_on, full_lines}
@@ -20,25 +19,22 @@ use Rattle.wt_inline.specs.Parts.{Part, loose, node, one_leaf, child, children, 
 use Rattle.wt_inline.specs.Inline.{inline_parts, inline_trees}
 use Rattle.wt_build.specs.declared.block.BlockKind.{BlockKind}
 use Rattle.wt_build.specs.declared.block.BlockKind.TheVariants.{Between, Heading, Para}
-use Rattle.wt_build.specs.declared.heading.HeadingParts.{HeadingParts}
-use Rattle.wt_build.specs.Headings.{heading_parts}
-use Rattle.wt_build.specs.Rows.{Row, row, rows, same_block, ending}
-use Rattle.wt_build.specs.Blocks.{joined, line_parts, para, heading_by, heading, block, lead_len, lead, without_lead, last_ending, without_ending, around, parts_by}
+use Rattle.wt_blocks.specs.Headings.{opening, inside, closing}
+use Rattle.wt_blocks.proofs.HeadingLaws.{joined as heading_joined}
+use Rattle.wt_build.specs.Rows.{Row, rows, same_block, ending}
+use Rattle.wt_build.specs.Blocks.{joined, line_parts, para, heading, block, lead_len, lead, without_lead, last_ending, without_ending, around, parts_by}
 use Rattle.wt_build.specs.Meaning.{row_items, run_parts, body_parts, meaning}
 use Rattle.wt_build.proofs.Ends.{content_ending}
 use Rattle.wt_build.proofs.MeaningLaws.{row_items_are}
 use Rattle.wt_annotate.specs.Annotated.{numbered, numbered_in_all}
 use Rattle.wt_annotate.specs.Labels.{width}
-use Rattle.wt_annotate.specs.Numbers.{makes, makes_all}
+use Rattle.wt_annotate.specs.Numbers.{makes_all}
 
 -- ---- what items make
 
 makes_append : (xs ys : List Item) → makes_all (xs ++ ys) ≡ makes_all xs + makes_all ys
 makes_append [] ys = omega arith
 makes_append (x ∷ xs) ys = omega (arith, makes_append xs ys)
-
-makes_parts : (n : ℕ) (xs : List Item) → makes_all (take n xs) + makes_all (drop n xs) ≡ makes_all xs
-makes_parts n xs = sym (makes_append (take n xs) (drop n xs)) ∙ ap makes_all (take-append-drop n xs)
 
 -- ---- parts
 
@@ -66,7 +62,8 @@ forest_count (r ∷ rs) = omega (arith, child_count r, forest_count rs, counts_a
 
 children_count : (ps : List Part) → numbered_in_all (forest (children ps)) ≤ counts ps
 unfolding children
-children_count ps = subst (λ qs. numbered_in_all (forest (map child (runs one_leaf ps))) ≤ counts qs) (runs_joined one_leaf ps) (forest_count (runs one_leaf ps))
+children_count ps = subst (λ qs. numbered_in_all (forest (map child (runs one_leaf ps))) ≤ counts qs) (runs_joined one_leaf ps)
+    (forest_count (runs one_leaf ps))
 
 -- ---- the parts of items
 
@@ -79,7 +76,14 @@ parts_count k (whole f o bs ∷ xs) = omega (arith, parts_count k xs)
 
 line_count : (l : List Item) → counts (line_parts l) ≤ makes_all l
 line_count l =
-    omega (arith, counts_append (inline_parts (content l)) (parts Text (ending l)), parts_count Text (content l), parts_count Text (ending l), makes_append (content l) (ending l), ap makes_all (content_ending l))
+    omega (
+      arith,
+      counts_append (inline_parts (content l)) (parts Text (ending l)),
+      parts_count Text (content l),
+      parts_count Text (ending l),
+      makes_append (content l) (ending l),
+      ap makes_all (content_ending l),
+    )
 
 lines_count : (ls : List (List Item)) → counts (flat_map line_parts ls) ≤ makes_all (joined ls)
 lines_count [] = omega arith
@@ -93,14 +97,11 @@ inline_count : (xs : List Item) → numbered_in_all (forest (inline_trees xs)) �
 unfolding inline_trees
 inline_count xs = omega (arith, children_count (inline_parts xs), parts_count Text xs)
 
-heading_by_count : (h : HeadingParts) (xs : List Item) → numbered (heading_by h xs) ≤ 1 + makes_all xs
-heading_by_count h xs =
-    let rest = drop h.open_len xs in
-    omega (arith, inline_count (take h.inside_len rest), makes_parts h.inside_len rest, makes_parts h.open_len xs)
-
 heading_count : (xs : List Item) → numbered (heading xs) ≤ 1 + makes_all xs
 unfolding heading
-heading_count xs = heading_by_count (heading_parts (map sign xs)) xs
+heading_count xs =
+    let all : makes_all (opening xs ++ (inside xs ++ closing xs)) ≡ makes_all xs = ap makes_all (heading_joined xs) in
+    omega (arith, inline_count (inside xs), makes_append (opening xs) (inside xs ++ closing xs), makes_append (inside xs) (closing xs), all)
 
 block_count : (k : BlockKind) (ls : List (List Item)) → numbered (block k ls) ≤ 1 + makes_all (joined ls)
 unfolding block
@@ -121,8 +122,10 @@ around_count : (k : BlockKind) (ls : List (List Item)) → counts (around k ls) 
 around_count k ls =
     let rest = without_lead ls in
     let b = block k (without_ending rest) in
-    let before : makes_all (lead ls) + makes_all (joined rest) ≡ makes_all (joined ls) = sym (makes_append (lead ls) (joined rest)) ∙ ap makes_all (lead_joined ls) in
-    let behind : makes_all (joined (without_ending rest)) + makes_all (last_ending rest) ≡ makes_all (joined rest) = sym (makes_append (joined (without_ending rest)) (last_ending rest)) ∙ ap makes_all (end_joined rest) in
+    let before : makes_all (lead ls) + makes_all (joined rest) ≡ makes_all (joined ls) =
+    sym (makes_append (lead ls) (joined rest)) ∙ ap makes_all (lead_joined ls) in
+    let behind : makes_all (joined (without_ending rest)) + makes_all (last_ending rest) ≡ makes_all (joined rest) =
+    sym (makes_append (joined (without_ending rest)) (last_ending rest)) ∙ ap makes_all (end_joined rest) in
     let front : counts (parts Sep (lead ls)) ≤ makes_all (lead ls) = parts_count Sep (lead ls) in
     let last : counts (parts Sep (last_ending rest)) ≤ makes_all (last_ending rest) = parts_count Sep (last_ending rest) in
     let whole_block : numbered b ≤ 1 + makes_all (joined (without_ending rest)) = block_count k (without_ending rest) in
@@ -148,7 +151,8 @@ blocks_count (r ∷ rs) =
     let here : counts (run_parts r) ≤ 1 + makes_all (joined (row_items r)) = run_count r in
     let later : counts (flat_map run_parts rs) ≤ length rs + makes_all (joined (row_items others)) = blocks_count rs in
     let both : makes_all (joined (row_items (r ++ others))) ≡ makes_all (joined (row_items r)) + makes_all (joined (row_items others)) =
-    ap makes_all (ap joined (map-append (λ s. s.items) r others) ∙ joined_append (row_items r) (row_items others)) ∙ makes_append (joined (row_items r)) (joined (row_items others)) in
+    ap makes_all (ap joined (map-append (λ s. s.items) r others) ∙ joined_append (row_items r) (row_items others))
+    ∙ makes_append (joined (row_items r)) (joined (row_items others)) in
     omega (arith, counts_append (run_parts r) (flat_map run_parts rs))
 
 -- ---- the body
@@ -166,11 +170,13 @@ unfolding meaning
 meaning_count xs =
     let rs = runs same_block (rows xs) in
     let all : joined (row_items (flat_map (λ r. r) rs)) ≡ xs =
-    ap (λ ss. joined (row_items ss)) (runs_joined same_block (rows xs)) ∙ ap joined (row_items_are (full_lines xs)) ∙ runs_joined goes_on xs in
-    let body : counts (body_parts (rows xs)) ≤ length rs + makes_all xs = subst (λ ys. counts (flat_map run_parts rs) ≤ length rs + makes_all ys) all (blocks_count rs) in
+    ap (λ ss. joined (row_items ss)) (runs_joined same_block (rows xs)) ∙ ap joined (row_items_are 0 (full_lines xs)) ∙ runs_joined goes_on xs in
+    let body : counts (body_parts (rows xs)) ≤ length rs + makes_all xs =
+    subst (λ ys. counts (flat_map run_parts rs) ≤ length rs + makes_all ys) all (blocks_count rs) in
     let few_runs : length rs ≤ length (rows xs) = runs_few same_block rs (rows xs) (runs_are same_block (rows xs)) in
     let few_lines : length (full_lines xs) ≤ length xs = runs_few goes_on (full_lines xs) xs (runs_are goes_on xs) in
-    omega (arith, children_count (body_parts (rows xs)), length-map (full_lines xs) row)
+    let one_each : length (rows xs) ≡ length (full_lines xs) = sym (length-map (rows xs) (λ r. r.items)) ∙ ap length (row_items_are 0 (full_lines xs)) in
+    omega (arith, children_count (body_parts (rows xs)), one_each)
 
 -- ---- a form makes one node, and at most one more for each of its bytes
 
@@ -190,7 +196,8 @@ inside_count [] = omega arith
 inside_count (char o b ∷ xs) = omega (arith, inside_count xs)
 inside_count (whole f o bs ∷ xs) = omega (arith, form_one f o bs, inside_count xs)
 
-inside_read : (o : Option ℕ) (e : Option (ℕ × ℕ)) (b : ℕ) (bs : List ℕ) → ((n : ℕ) → length (inside_items o n bs) ≤ length bs) → length (read_with o e b bs (λ n. inside_items o n bs)) ≤ suc (length bs)
+inside_read : (o : Option ℕ) (e : Option (ℕ × ℕ)) (b : ℕ) (bs : List ℕ) → ((n : ℕ) → length (inside_items o n bs) ≤ length bs)
+    → length (read_with o e b bs (λ n. inside_items o n bs)) ≤ suc (length bs)
 inside_read o None b bs h = let rest = h 0 in omega arith
 inside_read o (Some e) b bs h = let rest = h (e.1 - 1) in omega arith
 

@@ -2,8 +2,6 @@
 use Rattle.std.proofs.Common.{◌≡◌, ℕ, ◌+◌, ◌<◌, ◌≤◌, Bool, true, false, List, [], ◌∷◌, ◌++◌, length, map, refl, sym, ap, subst, ◌∙◌, arith, append_assoc, append-nil}
 use Rattle.std.specs.Prelude.{if◌then◌else◌, Result, Ok, Err, IfOk}
 use Rattle.std.proofs.lemmas.List.{map-append}
-use Rattle.wt_tree.specs.declared.kind.Kind.{Kind}
-use Rattle.wt_tree.specs.declared.kind.Kind.TheVariants as kind
 use Rattle.wt_tree.specs.Kinds.{is_leaf, is_numbered}
 use Rattle.wt_tree.specs.Tree.{Tree, tree, Trees, none, more, trees}
 use Rattle.wt_tree.specs.View.{view, views}
@@ -33,19 +31,23 @@ number_leaf k o c ts next e =
     let z : count_by (is_leaf k.kind) (numbered_in_all ts) ≡ 0 = ap (λ is. count_by is (numbered_in_all ts)) e in
     omega (arith, number_by (is_numbered k.kind) (is_leaf k.kind) next (numbered_in_all ts), z)
 
-pub number_inner : (k : Head) (o c : List Item) (ts : ItemTrees) (next : ℕ) → is_leaf k.kind ≡ false → next_after k.kind next + numbered_in_all ts ≡ next + numbered (inner k o ts c)
+pub number_inner : (k : Head) (o c : List Item) (ts : ItemTrees) (next : ℕ) → is_leaf k.kind ≡ false
+    → next_after k.kind next + numbered_in_all ts ≡ next + numbered (inner k o ts c)
 number_inner k o c ts next e =
     let z : count_by (is_leaf k.kind) (numbered_in_all ts) ≡ numbered_in_all ts = ap (λ is. count_by is (numbered_in_all ts)) e in
     omega (arith, number_by (is_numbered k.kind) (is_leaf k.kind) next (numbered_in_all ts), z)
 
 -- ---- one node
 
-leaf_by : (is : Bool) (at next : ℕ) (k : Head) (o own c : List Item) (us : Trees) → is ≡ true → tree (label_at at (number_of k.kind next) is k o own c) (inside_by is us) ≡ tree (leaf_label at next k own) none
+leaf_by : (is : Bool) (at next : ℕ) (k : Head) (o own c : List Item) (us : Trees) → is ≡ true
+    → tree (label_at at (number_of k.kind next) is k o own c) (inside_by is us) ≡ tree (leaf_label at next k own) none
 unfolding label_at
 leaf_by true at next k o own c us e = refl
 leaf_by false at next k o own c us e = cc
 
-pub leaf_made : (at next place number : ℕ) (k : Head) (o c : List Item) (ts : ItemTrees) (u : Tree) → is_leaf k.kind ≡ true → u ≡ tree (leaf_label at next k (held (inner k o ts c))) none → place ≡ at + width (held (inner k o ts c)) → number ≡ next_after k.kind next
+pub leaf_made : (at next place number : ℕ) (k : Head) (o c : List Item) (ts : ItemTrees) (u : Tree) → is_leaf k.kind ≡ true
+    → u ≡ tree (leaf_label at next k (held (inner k o ts c))) none → place ≡ at + width (held (inner k o ts c))
+    → number ≡ next_after k.kind next
     → IsMade at next (inner k o ts c) u place number
 leaf_made at next place number k o c ts u e f p n = record {
   tree_is = f ∙ sym (leaf_by (is_leaf k.kind) at next k o (held (inner k o ts c)) c (all_annotated_at (at + width o) (next_after k.kind next) ts) e);
@@ -53,12 +55,14 @@ leaf_made at next place number k o c ts u e f p n = record {
   number_is = n ∙ number_leaf k o c ts next e;
 }
 
-inner_by : (is : Bool) (at next : ℕ) (k : Head) (o own c : List Item) (us : Trees) → is ≡ false → tree (label_at at (number_of k.kind next) is k o own c) (inside_by is us) ≡ tree (inner_label at next k (at + width own) o c) us
+inner_by : (is : Bool) (at next : ℕ) (k : Head) (o own c : List Item) (us : Trees) → is ≡ false
+    → tree (label_at at (number_of k.kind next) is k o own c) (inside_by is us) ≡ tree (inner_label at next k (at + width own) o c) us
 unfolding label_at
 inner_by true at next k o own c us e = cc
 inner_by false at next k o own c us e = refl
 
-pub inner_made : (at next place number mid after : ℕ) (k : Head) (o c : List Item) (ts : ItemTrees) (us : Trees) (u : Tree) → is_leaf k.kind ≡ false → AreMade (at + width o) (next_after k.kind next) ts us mid after
+pub inner_made : (at next place number mid after : ℕ) (k : Head) (o c : List Item) (ts : ItemTrees) (us : Trees) (u : Tree)
+    → is_leaf k.kind ≡ false → AreMade (at + width o) (next_after k.kind next) ts us mid after
     → u ≡ tree (inner_label at next k (mid + width c) o c) us → place ≡ mid + width c → number ≡ after → IsMade at next (inner k o ts c) u place number
 inner_made at next place number mid after k o c ts us u e a f p n =
     let end : mid + width c ≡ at + width (held (inner k o ts c)) = omega (arith, a.place_is, width_three o (held_by_all ts) c) in
@@ -73,20 +77,26 @@ inner_made at next place number mid after k o c ts us u e a f p n =
     }
 
 -- the same of nodes of pieces
-pub leaf_done : (n : PieceTree) (at next place number w : ℕ) (ps qs rs : List Piece) (u : Tree) → is_leaf (out-PieceTree n).head.kind ≡ true → items ps ≡ held (item_tree n) → qs ≡ ps → rs ≡ ps
-    → u ≡ tree (leaf_label at next (head_of (out-PieceTree n).head) (items qs)) none → w ≡ width (items rs) → place ≡ at + w → number ≡ next_after (out-PieceTree n).head.kind next → IsMade at next (item_tree n) u place number
+pub leaf_done : (n : PieceTree) (at next place number w : ℕ) (ps qs rs : List Piece) (u : Tree)
+    → is_leaf (out-PieceTree n).head.kind ≡ true → items ps ≡ held (item_tree n) → qs ≡ ps → rs ≡ ps
+    → u ≡ tree (leaf_label at next (head_of (out-PieceTree n).head) (items qs)) none → w ≡ width (items rs) → place ≡ at + w
+    → number ≡ next_after (out-PieceTree n).head.kind next → IsMade at next (item_tree n) u place number
 leaf_done n at next place number w ps qs rs u e h i j f v p m =
     let k = head_of (out-PieceTree n).head in
     let o = items (out-PieceTree n).opening in
     let c = items (out-PieceTree n).closing in
     let ts = forest (item_trees (out-PieceTree n).children) in
     let own : items ps ≡ held (inner k o ts c) = h ∙ ap held (item_tree_out n) in
-    let made = leaf_made at next place number k o c ts u e (f ∙ ap (λ xs. tree (leaf_label at next k xs) none) (ap items i ∙ own)) (p ∙ ap (λ x. at + x) (v ∙ ap width (ap items j ∙ own))) m in
+    let made = leaf_made at next place number k o c ts u e (f ∙ ap (λ xs. tree (leaf_label at next k xs) none) (ap items i ∙ own))
+    (p ∙ ap (λ x. at + x) (v ∙ ap width (ap items j ∙ own))) m in
     subst (λ (t : ItemTree). IsMade at next t u place number) (sym (item_tree_out n)) made
 
 pub inner_done : (n : PieceTree) (at next place number mid after : ℕ) (us : Trees) (u : Tree) → is_leaf (out-PieceTree n).head.kind ≡ false
-    → AreMade (at + width (items (out-PieceTree n).opening)) (next_after (out-PieceTree n).head.kind next) (forest (item_trees (out-PieceTree n).children)) us mid after
-    → u ≡ tree (inner_label at next (head_of (out-PieceTree n).head) (mid + width (items (out-PieceTree n).closing)) (items (out-PieceTree n).opening) (items (out-PieceTree n).closing)) us → place ≡ mid + width (items (out-PieceTree n).closing) → number ≡ after
+    → AreMade (at + width (items (out-PieceTree n).opening)) (next_after (out-PieceTree n).head.kind next)
+    (forest (item_trees (out-PieceTree n).children)) us mid after
+    → u ≡ tree (inner_label at next (head_of (out-PieceTree n).head) (mid + width (items (out-PieceTree n).closing))
+    (items (out-PieceTree n).opening) (items (out-PieceTree n).closing)) us
+    → place ≡ mid + width (items (out-PieceTree n).closing) → number ≡ after
     → IsMade at next (item_tree n) u place number
 inner_done n at next place number mid after us u e a f p m =
     let k = head_of (out-PieceTree n).head in
@@ -124,7 +134,9 @@ pub record MadeSoFar (done : List Tree) (place number : ℕ) (rest : List ItemTr
 pub so_far_none : (at next : ℕ) (all : List ItemTree) → MadeSoFar [] at next all at next all
 so_far_none at next all = record { trees_are = refl; place_is = refl; number_is = refl; fewer = omega arith }
 
-pub so_far_more : (done new : List Tree) (u : Tree) (place number place2 number2 at next : ℕ) (t : ItemTree) (ts all : List ItemTree) → MadeSoFar done place number (t ∷ ts) at next all → IsMade place number t u place2 number2 → new ≡ done ++ u ∷ []
+pub so_far_more : (done new : List Tree) (u : Tree) (place number place2 number2 at next : ℕ) (t : ItemTree)
+    (ts all : List ItemTree) → MadeSoFar done place number (t ∷ ts) at next all → IsMade place number t u place2 number2
+    → new ≡ done ++ u ∷ []
     → MadeSoFar new place2 number2 ts at next all
 so_far_more done new u place number place2 number2 at next t ts all s m e = record {
   trees_are =
@@ -139,7 +151,8 @@ so_far_more done new u place number place2 number2 at next t ts all s m e = reco
   fewer = omega (arith, s.fewer);
 }
 
-pub so_far_all : (done : List Tree) (place number at next : ℕ) (rest all : List ItemTree) → MadeSoFar done place number rest at next all → rest ≡ [] → AreMade at next (forest all) (trees done) place number
+pub so_far_all : (done : List Tree) (place number at next : ℕ) (rest all : List ItemTree)
+    → MadeSoFar done place number rest at next all → rest ≡ [] → AreMade at next (forest all) (trees done) place number
 so_far_all done place number at next rest all s z = record {
   trees_are = ap trees (sym (append-nil done) ∙ ap (λ ts. done ++ annotated_list place number ts) (sym z) ∙ s.trees_are) ∙ sym (forest_list at next all);
   place_is = let e : width (held_by_all (forest rest)) ≡ 0 = ap (λ ts. width (held_by_all (forest ts))) z in omega (arith, s.place_is, e);
@@ -155,35 +168,44 @@ none_left (r ∷ rs) e = absurd (omega arith)
 pub so_far_init : (ns : List Node) (at next : ℕ) (ts : List ItemTree) → ns ≡ [] → MadeSoFar (map view ns) at next ts at next ts
 so_far_init ns at next ts e = subst (λ (ms : List Node). MadeSoFar (map view ms) at next ts at next ts) (sym e) (so_far_none at next ts)
 
-pub room_place : (done : List Tree) (place number at next m : ℕ) (n : PieceTree) (ns rs ys bs : List PieceTree) → MadeSoFar done place number (item_trees rs) at next (item_trees ys) → rs ≡ n ∷ ns → ys ≡ bs
+pub room_place : (done : List Tree) (place number at next m : ℕ) (n : PieceTree) (ns rs ys bs : List PieceTree)
+    → MadeSoFar done place number (item_trees rs) at next (item_trees ys) → rs ≡ n ∷ ns → ys ≡ bs
     → at + width (held_by_all (forest (item_trees bs))) < m → place + width (held (item_tree n)) < m
 room_place done place number at next m n ns rs ys bs s r e h =
     let f : width (held_by_all (forest (item_trees rs))) ≡ width (held (item_tree n)) + width (held_by_all (forest (item_trees ns))) =
     ap (λ xs. width (held_by_all (forest (item_trees xs)))) r ∙ width_append (held (item_tree n)) (held_by_all (forest (item_trees ns))) in
-    let g : width (held_by_all (forest (item_trees ys))) ≡ width (held_by_all (forest (item_trees bs))) = ap (λ xs. width (held_by_all (forest (item_trees xs)))) e in
+    let g : width (held_by_all (forest (item_trees ys))) ≡ width (held_by_all (forest (item_trees bs))) =
+    ap (λ xs. width (held_by_all (forest (item_trees xs)))) e in
     omega (arith, s.place_is, f, g, h)
 
-pub room_number : (done : List Tree) (place number at next m : ℕ) (n : PieceTree) (ns rs ys bs : List PieceTree) → MadeSoFar done place number (item_trees rs) at next (item_trees ys) → rs ≡ n ∷ ns → ys ≡ bs
+pub room_number : (done : List Tree) (place number at next m : ℕ) (n : PieceTree) (ns rs ys bs : List PieceTree)
+    → MadeSoFar done place number (item_trees rs) at next (item_trees ys) → rs ≡ n ∷ ns → ys ≡ bs
     → next + numbered_in_all (forest (item_trees bs)) < m → number + numbered (item_tree n) < m
 room_number done place number at next m n ns rs ys bs s r e h =
-    let f : numbered_in_all (forest (item_trees rs)) ≡ numbered (item_tree n) + numbered_in_all (forest (item_trees ns)) = ap (λ xs. numbered_in_all (forest (item_trees xs))) r in
+    let f : numbered_in_all (forest (item_trees rs)) ≡ numbered (item_tree n) + numbered_in_all (forest (item_trees ns)) =
+    ap (λ xs. numbered_in_all (forest (item_trees xs))) r in
     let g : numbered_in_all (forest (item_trees ys)) ≡ numbered_in_all (forest (item_trees bs)) = ap (λ xs. numbered_in_all (forest (item_trees xs))) e in
     omega (arith, s.number_is, f, g, h)
 
-pub smaller_child : (done : List Tree) (place number at next : ℕ) (n : PieceTree) (ns rs ys bs : List PieceTree) → MadeSoFar done place number (item_trees rs) at next (item_trees ys) → rs ≡ n ∷ ns → ys ≡ bs
+pub smaller_child : (done : List Tree) (place number at next : ℕ) (n : PieceTree) (ns rs ys bs : List PieceTree)
+    → MadeSoFar done place number (item_trees rs) at next (item_trees ys) → rs ≡ n ∷ ns → ys ≡ bs
     → nodes_in (item_tree n) < 1 + nodes_in_all (forest (item_trees bs))
 smaller_child done place number at next n ns rs ys bs s r e =
-    let f : nodes_in_all (forest (item_trees rs)) ≡ nodes_in (item_tree n) + nodes_in_all (forest (item_trees ns)) = ap (λ xs. nodes_in_all (forest (item_trees xs))) r in
+    let f : nodes_in_all (forest (item_trees rs)) ≡ nodes_in (item_tree n) + nodes_in_all (forest (item_trees ns)) =
+    ap (λ xs. nodes_in_all (forest (item_trees xs))) r in
     let g : nodes_in_all (forest (item_trees ys)) ≡ nodes_in_all (forest (item_trees bs)) = ap (λ xs. nodes_in_all (forest (item_trees xs))) e in
     omega (arith, s.fewer, f, g)
 
-pub so_far_step : (ms us : List Node) (u : Node) (place number place2 number2 at next : ℕ) (n : PieceTree) (ns rs : List PieceTree) (all : List ItemTree) → MadeSoFar (map view ms) place number (item_trees rs) at next all → rs ≡ n ∷ ns
+pub so_far_step : (ms us : List Node) (u : Node) (place number place2 number2 at next : ℕ) (n : PieceTree)
+    (ns rs : List PieceTree) (all : List ItemTree) → MadeSoFar (map view ms) place number (item_trees rs) at next all → rs ≡ n ∷ ns
     → IsMade place number (item_tree n) (view u) place2 number2 → us ≡ ms ++ u ∷ [] → MadeSoFar (map view us) place2 number2 (item_trees ns) at next all
 so_far_step ms us u place number place2 number2 at next n ns rs all s r m e =
     so_far_more (map view ms) (map view us) (view u) place number place2 number2 at next (item_tree n) (item_trees ns) all
     (subst (λ (xs : List PieceTree). MadeSoFar (map view ms) place number (item_trees xs) at next all) r s) m (ap (map view) e ∙ map-append view ms (u ∷ []))
 
-pub all_done : (ms : List Node) (place number at next : ℕ) (rs ys bs : List PieceTree) → MadeSoFar (map view ms) place number (item_trees rs) at next (item_trees ys) → length rs ≡ 0 → ys ≡ bs → AreMade at next (forest (item_trees bs)) (views ms) place number
+pub all_done : (ms : List Node) (place number at next : ℕ) (rs ys bs : List PieceTree)
+    → MadeSoFar (map view ms) place number (item_trees rs) at next (item_trees ys) → length rs ≡ 0 → ys ≡ bs
+    → AreMade at next (forest (item_trees bs)) (views ms) place number
 all_done ms place number at next rs ys bs s z e =
     subst (λ (xs : List PieceTree). AreMade at next (forest (item_trees xs)) (views ms) place number) e
     (so_far_all (map view ms) place number at next (item_trees rs) (item_trees ys) s (ap item_trees (none_left rs z)))
@@ -195,17 +217,20 @@ smaller_children n =
     let e : nodes_in (item_tree n) ≡ 2 + nodes_in_all (forest (item_trees (out-PieceTree n).children)) = ap nodes_in (item_tree_out n) in
     omega (arith, e)
 
-pub room_inside : (n : PieceTree) (at inside w m : ℕ) (qs : List Piece) → inside ≡ at + w → w ≡ width (items qs) → qs ≡ (out-PieceTree n).opening → at + width (held (item_tree n)) < m
+pub room_inside : (n : PieceTree) (at inside w m : ℕ) (qs : List Piece) → inside ≡ at + w → w ≡ width (items qs)
+    → qs ≡ (out-PieceTree n).opening → at + width (held (item_tree n)) < m
     → inside + width (held_by_all (forest (item_trees (out-PieceTree n).children))) < m
 room_inside n at inside w m qs i v e h =
     let o = items (out-PieceTree n).opening in
     let c = items (out-PieceTree n).closing in
     let ts = forest (item_trees (out-PieceTree n).children) in
-    let f : width (held (item_tree n)) ≡ width o + width (held_by_all ts) + width c = ap (λ t. width (held t)) (item_tree_out n) ∙ width_three o (held_by_all ts) c in
+    let f : width (held (item_tree n)) ≡ width o + width (held_by_all ts) + width c = ap (λ t. width (held t)) (item_tree_out n)
+    ∙ width_three o (held_by_all ts) c in
     let g : width (items qs) ≡ width o = ap (λ xs. width (items xs)) e in
     omega (arith, i, v, f, g, h)
 
-pub number_inside : (n : PieceTree) (first next m : ℕ) → is_leaf (out-PieceTree n).head.kind ≡ false → next ≡ next_after (out-PieceTree n).head.kind first → first + numbered (item_tree n) < m
+pub number_inside : (n : PieceTree) (first next m : ℕ) → is_leaf (out-PieceTree n).head.kind ≡ false
+    → next ≡ next_after (out-PieceTree n).head.kind first → first + numbered (item_tree n) < m
     → next + numbered_in_all (forest (item_trees (out-PieceTree n).children)) < m
 number_inside n first next m e i h =
     let k = head_of (out-PieceTree n).head in
@@ -216,18 +241,22 @@ number_inside n first next m e i h =
     let g : next_after k.kind first + numbered_in_all ts ≡ first + numbered (inner k o ts c) = number_inner k o c ts first e in
     omega (arith, i, f, g, h)
 
-pub room_closing : (n : PieceTree) (at place inside w next mid after m : ℕ) (qs : List Piece) (us : Trees) → AreMade inside next (forest (item_trees (out-PieceTree n).children)) us mid after → inside ≡ at + w → w ≡ width (items qs)
+pub room_closing : (n : PieceTree) (at place inside w next mid after m : ℕ) (qs : List Piece) (us : Trees)
+    → AreMade inside next (forest (item_trees (out-PieceTree n).children)) us mid after → inside ≡ at + w → w ≡ width (items qs)
     → qs ≡ (out-PieceTree n).opening → at + width (held (item_tree n)) < m → mid + width (items (out-PieceTree n).closing) < m
 room_closing n at place inside w next mid after m qs us a i v e h =
     let o = items (out-PieceTree n).opening in
     let c = items (out-PieceTree n).closing in
     let ts = forest (item_trees (out-PieceTree n).children) in
-    let f : width (held (item_tree n)) ≡ width o + width (held_by_all ts) + width c = ap (λ t. width (held t)) (item_tree_out n) ∙ width_three o (held_by_all ts) c in
+    let f : width (held (item_tree n)) ≡ width o + width (held_by_all ts) + width c = ap (λ t. width (held t)) (item_tree_out n)
+    ∙ width_three o (held_by_all ts) c in
     let g : width (items qs) ≡ width o = ap (λ xs. width (items xs)) e in
     omega (arith, a.place_is, i, v, f, g, h)
 
 -- the children begin where the opening ends
-pub inside_from : (inside next at w m : ℕ) (qs os : List Piece) (k : Head) (first : ℕ) (ts : ItemTrees) (us : Trees) (mid after : ℕ) → AreMade inside next ts us mid after → inside ≡ at + w → w ≡ width (items qs) → qs ≡ os → next ≡ next_after k.kind first
+pub inside_from : (inside next at w m : ℕ) (qs os : List Piece) (k : Head) (first : ℕ) (ts : ItemTrees) (us : Trees)
+    (mid after : ℕ) → AreMade inside next ts us mid after → inside ≡ at + w → w ≡ width (items qs) → qs ≡ os
+    → next ≡ next_after k.kind first
     → AreMade (at + width (items os)) (next_after k.kind first) ts us mid after
 inside_from inside next at w m qs os k first ts us mid after a i v e n =
     let p : inside ≡ at + width (items os) = i ∙ ap (λ x. at + x) (v ∙ ap (λ xs. width (items xs)) e) in

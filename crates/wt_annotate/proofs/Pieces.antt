@@ -1,5 +1,5 @@
 -- Items of pieces, and what a node of pieces holds.
-use Rattle.std.proofs.Common.{◌≡◌, ℕ, ◌+◌, ◌<◌, ◌≤◌, Option, List, [], ◌∷◌, ◌++◌, length, take, drop, map, get_or, refl, sym, ap, ◌∙◌, arith, append-nil, append_assoc}
+use Rattle.std.proofs.Common.{◌≡◌, ℕ, ◌+◌, ◌^◌, ◌<◌, ◌≤◌, Option, List, [], ◌∷◌, ◌++◌, length, take, drop, map, get_or, refl, sym, ap, ◌∙◌, arith, append-nil}
 use Rattle.std.specs.List.{flat_map}
 use Rattle.std.proofs.lemmas.List.{take_more, take-append-drop}
 use Rattle.std.proofs.lemmas.Grind.{flat_map-append}
@@ -9,7 +9,7 @@ use Rattle.wt_span.specs.declared.form.Piece.{Piece}
 use Rattle.wt_span.specs.declared.form.Form.{Form}
 use Rattle.wt_span.specs.declared.form.Form.TheVariants as form
 use Rattle.wt_span.specs.Slice.{bytes_of}
-use Rattle.wt_span.specs.Items.{Item, char, items_by, items_of, items, sources}
+use Rattle.wt_span.specs.Items.{char, items_by, items_of, items, sources}
 use Rattle.wt_inline.specs.declared.tree.PieceTree.{PieceTree, out-PieceTree, fold_out-PieceTree}
 use Rattle.wt_inline.specs.ItemTree.{ItemTree, inner, forest, held, held_by_all}
 use Rattle.wt_inline.specs.View.{head_of, view_step, item_tree, item_trees}
@@ -42,10 +42,12 @@ pub items_more : (ps : List Piece) (p : Piece) → items (ps ++ p ∷ []) ≡ it
 items_more ps p = items_append ps (p ∷ []) ∙ ap (λ xs. items ps ++ xs) (append-nil (items_of p))
 
 -- one more piece of several
-pub width_step : (ps : List Piece) (at w n : ℕ) (p : Piece) → at < length ps → p ≡ get_or ps at p → w ≡ width (items (take at ps)) → n ≡ length (bytes_of p.text) → w + n ≡ width (items (take (at + 1) ps))
+pub width_step : (ps : List Piece) (at w n : ℕ) (p : Piece) → at < length ps → p ≡ get_or ps at p → w ≡ width (items (take at ps))
+    → n ≡ length (bytes_of p.text) → w + n ≡ width (items (take (at + 1) ps))
 width_step ps at w n p l i e f =
     let more : width (items (take (at + 1) ps)) ≡ width (items (take at ps)) + width (items_of (get_or ps at p)) =
-    ap (λ qs. width (items qs)) (take_more ps at p l) ∙ ap width (items_more (take at ps) (get_or ps at p)) ∙ width_append (items (take at ps)) (items_of (get_or ps at p)) in
+    ap (λ qs. width (items qs)) (take_more ps at p l) ∙ ap width (items_more (take at ps) (get_or ps at p))
+    ∙ width_append (items (take at ps)) (items_of (get_or ps at p)) in
     let one : width (items_of (get_or ps at p)) ≡ length (bytes_of p.text) = ap (λ q. width (items_of q)) (sym i) ∙ ap length (sources_piece p) in
     omega (arith, more, one, e, f)
 
@@ -53,13 +55,15 @@ width_step ps at w n p l i e f =
 pub width_front : (ps : List Piece) (n : ℕ) → width (items (take n ps)) ≤ width (items ps)
 width_front ps n =
     let e : width (items (take n ps)) + width (items (drop n ps)) ≡ width (items ps) =
-    sym (width_append (items (take n ps)) (items (drop n ps))) ∙ ap width (sym (items_append (take n ps) (drop n ps))) ∙ ap (λ qs. width (items qs)) (take-append-drop n ps) in
+    sym (width_append (items (take n ps)) (items (drop n ps))) ∙ ap width (sym (items_append (take n ps) (drop n ps)))
+    ∙ ap (λ qs. width (items qs)) (take-append-drop n ps) in
     omega (arith, e)
 
 texts_more : (ts : List Text) (t : Text) → texts_of (ts ++ t ∷ []) ≡ texts_of ts ++ bytes_of t
 texts_more ts t = flat_map-append bytes_of ts (t ∷ []) ∙ ap (λ xs. texts_of ts ++ xs) (append-nil (bytes_of t))
 
-pub texts_step : (ts us : List Text) (ps : List Piece) (at : ℕ) (p : Piece) → at < length ps → p ≡ get_or ps at p → texts_of ts ≡ sources (items (take at ps)) → us ≡ ts ++ p.text ∷ [] → texts_of us ≡ sources (items (take (at + 1) ps))
+pub texts_step : (ts us : List Text) (ps : List Piece) (at : ℕ) (p : Piece) → at < length ps → p ≡ get_or ps at p
+    → texts_of ts ≡ sources (items (take at ps)) → us ≡ ts ++ p.text ∷ [] → texts_of us ≡ sources (items (take (at + 1) ps))
 texts_step ts us ps at p l i e f =
     ap texts_of f
     ∙ texts_more ts p.text
@@ -72,14 +76,32 @@ texts_step ts us ps at p l i e f =
 
 -- ---- a node
 
-pub item_tree_out : (n : PieceTree) → item_tree n ≡ inner (head_of (out-PieceTree n).head) (items (out-PieceTree n).opening) (forest (item_trees (out-PieceTree n).children)) (items (out-PieceTree n).closing)
+pub item_tree_out : (n : PieceTree) → item_tree n ≡ inner (head_of (out-PieceTree n).head) (items (out-PieceTree n).opening)
+    (forest (item_trees (out-PieceTree n).children)) (items (out-PieceTree n).closing)
 item_tree_out n = fold_out-PieceTree ItemTree view_step n
 
 pub held_list : (ns : List PieceTree) → held_by_all (forest (item_trees ns)) ≡ flat_map (λ n. held (item_tree n)) ns
 held_list [] = refl
 held_list (n ∷ ns) = ap (λ xs. held (item_tree n) ++ xs) (held_list ns)
 
-pub held_out : (n : PieceTree) → held (item_tree n) ≡ items (out-PieceTree n).opening ++ (flat_map (λ m. held (item_tree m)) (out-PieceTree n).children ++ items (out-PieceTree n).closing)
+pub held_out : (n : PieceTree) → held (item_tree n) ≡ items (out-PieceTree n).opening
+    ++ (flat_map (λ m. held (item_tree m)) (out-PieceTree n).children ++ items (out-PieceTree n).closing)
 held_out n =
     ap held (item_tree_out n)
     ∙ ap (λ xs. items (out-PieceTree n).opening ++ (xs ++ items (out-PieceTree n).closing)) (held_list (out-PieceTree n).children)
+
+pub own_held : (n : PieceTree) (own closing : List Piece) (children : List PieceTree)
+    → items own ≡ items (out-PieceTree n).opening ++ (held_by_all (forest (item_trees children)) ++ items closing)
+    → children ≡ (out-PieceTree n).children → closing ≡ (out-PieceTree n).closing → items own ≡ held (item_tree n)
+own_held n own closing children e i j =
+    let o = items (out-PieceTree n).opening in
+    e
+    ∙ ap (λ ns. o ++ (held_by_all (forest (item_trees ns)) ++ items closing)) i
+    ∙ ap (λ ps. o ++ (held_by_all (forest (item_trees (out-PieceTree n).children)) ++ items ps)) j
+    ∙ sym (ap held (item_tree_out n))
+
+pub own_fits : (at w : ℕ) (own rs : List Piece) (t : ItemTree) → items own ≡ held t → rs ≡ own → w ≡ width (items rs)
+    → at + width (held t) < 2 ^ 32 → at + w < 2 ^ 32
+own_fits at w own rs t e i f h =
+    let same : w ≡ width (held t) = f ∙ ap (λ ps. width (items ps)) i ∙ ap width e in
+    omega (arith, same, h)

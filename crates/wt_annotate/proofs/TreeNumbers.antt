@@ -4,14 +4,12 @@ use Rattle.std.specs.Prelude.{All, if◌then◌else◌}
 use Rattle.std.specs.List.{range_with_len, AllByRecursion}
 use Rattle.std.proofs.lemmas.List.FromFn.{length-range_with_len}
 use Rattle.std.proofs.lemmas.List.Elements.{All-nil, All-cons}
-use Rattle.wt_tree.specs.declared.kind.Kind.{Kind}
-use Rattle.wt_tree.specs.declared.kind.Kind.TheVariants as kind
 use Rattle.wt_tree.specs.Kinds.{is_leaf, is_numbered}
 use Rattle.wt_tree.specs.Tree.{Tree, Trees}
 use Rattle.wt_tree.specs.Tiling.{is_group, numbers, numbers_of_all, ids_of_all, others, others_of_all, InPreorder}
 use Rattle.wt_inline.specs.ItemTree.{ItemTree, inner, ItemTrees, nothing, further, held}
 use Rattle.wt_annotate.specs.Labels.{width, label_at}
-use Rattle.wt_annotate.specs.Numbering.{number_of, next_after}
+use Rattle.wt_annotate.specs.Numbering.{next_after}
 use Rattle.wt_annotate.specs.Annotated.{inside_by, count_by, numbered, numbered_in_all, annotated}
 use Rattle.wt_annotate.specs.Made.{annotated_at, all_annotated_at}
 use Rattle.wt_annotate.proofs.OnePass.{group_leaf, annotated_is}
@@ -31,7 +29,8 @@ range_join n (suc a) b =
     ∙ ap (range_with_len n) (sym f)
 
 numbers_by : (n g is : Bool) (next m : ℕ) (ts : Trees) → (g ≡ true → is ≡ true) → numbers_of_all ts ≡ range_with_len (if n then next + 1 else next) m
-    → (if n then (if n then next else 0) ∷ [] else []) ++ (if g then [] else numbers_of_all (inside_by is ts)) ≡ range_with_len next ((if n then 1 else 0) + count_by is m)
+    → (if n then (if n then next else 0) ∷ [] else []) ++ (if g then [] else numbers_of_all (inside_by is ts))
+    ≡ range_with_len next ((if n then 1 else 0) + count_by is m)
 numbers_by n true false next m ts h e = absurd (let x : false ≡ true = h refl in cc)
 numbers_by true true true next m ts h e = refl
 numbers_by true false true next m ts h e = refl
@@ -45,7 +44,9 @@ mutual
 
   pub numbers_at : (at next : ℕ) (t : ItemTree) → numbers (annotated_at at next t) ≡ range_with_len next (numbered t)
   numbers_at at next (inner h opening ts closing) =
-      numbers_by (is_numbered h.kind) (is_group h.kind) (is_leaf h.kind) next (numbered_in_all ts) (all_annotated_at (at + width opening) (next_after h.kind next) ts) (group_leaf h.kind) (all_numbers_at (at + width opening) (next_after h.kind next) ts)
+      numbers_by (is_numbered h.kind) (is_group h.kind) (is_leaf h.kind) next (numbered_in_all ts)
+      (all_annotated_at (at + width opening) (next_after h.kind next) ts) (group_leaf h.kind)
+      (all_numbers_at (at + width opening) (next_after h.kind next) ts)
 
   pub all_numbers_at : (at next : ℕ) (ts : ItemTrees) → numbers_of_all (all_annotated_at at next ts) ≡ range_with_len next (numbered_in_all ts)
   all_numbers_at at next nothing = refl
@@ -82,12 +83,16 @@ mutual
 
   pub others_at : (at next : ℕ) (t : ItemTree) → AllZero (others (annotated_at at next t))
   others_at at next (inner h opening ts closing) =
-      others_by (is_numbered h.kind) (is_group h.kind) (is_leaf h.kind) next (all_annotated_at (at + width opening) (next_after h.kind next) ts) (group_leaf h.kind) (all_others_at (at + width opening) (next_after h.kind next) ts)
+      others_by (is_numbered h.kind) (is_group h.kind) (is_leaf h.kind) next
+      (all_annotated_at (at + width opening) (next_after h.kind next) ts) (group_leaf h.kind)
+      (all_others_at (at + width opening) (next_after h.kind next) ts)
 
   pub all_others_at : (at next : ℕ) (ts : ItemTrees) → AllZero (others_of_all (all_annotated_at at next ts))
   all_others_at at next nothing = tt
   all_others_at at next (further t ts) =
-      zeros_append (others (annotated_at at next t)) (others_of_all (all_annotated_at (at + width (held t)) (next + numbered t) ts)) (others_at at next t) (all_others_at (at + width (held t)) (next + numbered t) ts)
+      zeros_append (others (annotated_at at next t))
+      (others_of_all (all_annotated_at (at + width (held t)) (next + numbered t) ts)) (others_at at next t)
+      (all_others_at (at + width (held t)) (next + numbered t) ts)
 
 pub counted : (t : ItemTree) → length (numbers (annotated t)) ≡ numbered t
 counted t = ap (λ u. length (numbers u)) (annotated_is t) ∙ ap length (numbers_at 0 1 t) ∙ length-range_with_len 1 (numbered t)

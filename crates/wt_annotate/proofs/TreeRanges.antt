@@ -1,6 +1,5 @@
 -- The ranges of an annotated tree tile it.
-use Rattle.std.proofs.Common.{◌≡◌, ℕ, ◌+◌, ◌-◌, ◌≤◌, Bool, true, false, List, [], ◌∷◌, ◌++◌, length, Some, refl, sym, ap, subst, ◌∙◌, arith}
-use Rattle.wt_tree.specs.declared.kind.Kind.{Kind}
+use Rattle.std.proofs.Common.{◌≡◌, ℕ, ◌+◌, ◌-◌, Bool, true, false, List, [], ◌++◌, Some, refl, sym, ap, subst, arith}
 use Rattle.wt_tree.specs.declared.kind.Kind.TheVariants as kind
 use Rattle.wt_tree.specs.Kinds.{is_leaf}
 use Rattle.wt_tree.specs.Tree.{Trees, label}
@@ -8,7 +7,7 @@ use Rattle.wt_tree.specs.Tiling.{BeginsAt, end_of, TiledBy, Tiled, TiledFrom, Co
 use Rattle.wt_span.specs.Items.{Item}
 use Rattle.wt_inline.specs.ItemTree.{Head, plain, ItemTree, inner, ItemTrees, nothing, further, held, held_by_all}
 use Rattle.wt_annotate.specs.Labels.{width, label_at}
-use Rattle.wt_annotate.specs.Numbering.{number_of, next_after}
+use Rattle.wt_annotate.specs.Numbering.{next_after}
 use Rattle.wt_annotate.specs.Annotated.{inside_by, numbered, annotated}
 use Rattle.wt_annotate.specs.Made.{annotated_at, all_annotated_at}
 use Rattle.wt_annotate.proofs.OnePass.{annotated_is}
@@ -36,7 +35,8 @@ mutual
   tiled_at at next (inner h opening ts closing) =
       let own : List Item = opening ++ (held_by_all ts ++ closing) in
       tiled_by at next (is_leaf h.kind) h opening (held_by_all ts) closing (all_annotated_at (at + width opening) (next_after h.kind next) ts)
-      (all_tiled_at (at + width opening) (next_after h.kind next) (at + width own - width closing) ts (omega (arith, width_three opening (held_by_all ts) closing)))
+      (all_tiled_at (at + width opening) (next_after h.kind next) (at + width own - width closing) ts
+      (omega (arith, width_three opening (held_by_all ts) closing)))
 
   pub all_tiled_at : (from next to : ℕ) (ts : ItemTrees) → to ≡ from + width (held_by_all ts) → TiledFrom (all_annotated_at from next ts) from to
   all_tiled_at from next to nothing e = omega arith
@@ -49,7 +49,8 @@ tiled_annotated t = subst Tiled (sym (annotated_is t)) (tiled_at 0 1 t)
 
 body_at : (ts : ItemTrees) → Covers (width (held (inner (plain kind.Body) [] ts []))) (annotated_at 0 1 (inner (plain kind.Body) [] ts []))
 unfolding label_at
-body_at ts = let n : ℕ = width (held (inner (plain kind.Body) [] ts [])) in let e : 0 + n ≡ n = omega arith in ap (λ m. Some (record { start = 0; end = m; open_w = 0; close_w = 0 })) e
+body_at ts = let n : ℕ = width (held (inner (plain kind.Body) [] ts [])) in let e : 0 + n ≡ n = omega arith in
+    ap (λ m. Some (record { start = 0; end = m; open_w = 0; close_w = 0 })) e
 
 -- a body covers all that it holds
 pub body_covers : (ts : ItemTrees) → Covers (width (held (inner (plain kind.Body) [] ts []))) (annotated (inner (plain kind.Body) [] ts []))

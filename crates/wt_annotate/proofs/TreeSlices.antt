@@ -4,18 +4,17 @@ use Rattle.std.specs.List.{AllByRecursion}
 use Rattle.wt_tree.specs.declared.kind.Kind.{Kind}
 use Rattle.wt_tree.specs.declared.kind.Kind.TheVariants as kind
 use Rattle.wt_tree.specs.Kinds.{is_leaf}
-use Rattle.wt_tree.specs.Source.{flat}
-use Rattle.wt_tree.specs.Tree.{Label, Tree, tree, Trees, none, more, subtrees, subtrees_of_all}
+use Rattle.wt_tree.specs.Tree.{Tree, Trees, subtrees, subtrees_of_all}
 use Rattle.wt_span.specs.Items.{Item, sources}
 use Rattle.wt_inline.specs.ItemTree.{Head, ItemTree, inner, ItemTrees, nothing, further, held, held_by_all}
-use Rattle.wt_annotate.specs.Labels.{width, leaf_open, open_width, close_width, if_leaf, if_inner, label_at}
+use Rattle.wt_annotate.specs.Labels.{width, leaf_open, open_width, close_width, if_inner, label_at}
 use Rattle.wt_annotate.specs.Numbering.{number_of, next_after}
 use Rattle.wt_annotate.specs.Annotated.{inside_by, numbered, annotated}
 use Rattle.wt_annotate.specs.Made.{annotated_at, all_annotated_at}
-use Rattle.wt_annotate.specs.Slices.{slice, opening_by, StandsAt, StandsIn, IsSlice, AreSlices}
+use Rattle.wt_annotate.specs.Slices.{slice, opening_by, IsSlice, AreSlices}
 use Rattle.wt_annotate.proofs.OnePass.{annotated_is}
 use Rattle.wt_annotate.proofs.TreeSource.{flat_at}
-use Rattle.wt_annotate.proofs.Widths.{sources_append, width_append, width_three}
+use Rattle.wt_annotate.proofs.Widths.{sources_append}
 
 -- ---- widths
 
@@ -25,9 +24,11 @@ leaf_most kind.Text n = omega arith
 leaf_most kind.Group n = omega arith
 leaf_most k n = omega arith
 
-open_by : (is : Bool) (at id : ℕ) (h : Head) (opening own closing : List Item) → open_width is h.kind opening own ≡ length (opening_by is (label_at at id is h opening own closing))
+open_by : (is : Bool) (at id : ℕ) (h : Head) (opening own closing : List Item)
+    → open_width is h.kind opening own ≡ length (opening_by is (label_at at id is h opening own closing))
 unfolding label_at
-open_by true at id h opening own closing = omega (arith, length-take (leaf_open h.kind (length (sources own))) (sources own), leaf_most h.kind (length (sources own)))
+open_by true at id h opening own closing = omega
+    (arith, length-take (leaf_open h.kind (length (sources own))) (sources own), leaf_most h.kind (length (sources own)))
 open_by false at id h opening own closing = refl
 
 close_by : (is : Bool) (closing : List Item) → close_width is closing ≡ length (if_inner is (sources closing))
@@ -45,7 +46,8 @@ drop_front [] ys = refl
 drop_front (x ∷ xs) ys = drop_front xs ys
 
 -- what stands between two texts
-slice_between : (page before source after : List ℕ) (start end : ℕ) → page ≡ before ++ (source ++ after) → start ≡ length before → end ≡ start + length source → slice page start end ≡ source
+slice_between : (page before source after : List ℕ) (start end : ℕ) → page ≡ before ++ (source ++ after) → start ≡ length before
+    → end ≡ start + length source → slice page start end ≡ source
 slice_between page before source after start end p s e =
     let q : page ≡ (before ++ source) ++ after = p ∙ sym (append_assoc before source after) in
     let n : end ≡ length (before ++ source) = omega (arith, e, s, length-append before source) in
@@ -55,7 +57,8 @@ slice_between page before source after start end p s e =
     ∙ ap (λ m. drop m (before ++ source)) s
     ∙ drop_front before source
 
-node_slice : (page before after : List ℕ) (at next : ℕ) (t : ItemTree) → page ≡ before ++ (sources (held t) ++ after) → at ≡ length before → IsSlice page (annotated_at at next t)
+node_slice : (page before after : List ℕ) (at next : ℕ) (t : ItemTree) → page ≡ before ++ (sources (held t) ++ after)
+    → at ≡ length before → IsSlice page (annotated_at at next t)
 unfolding label_at
 node_slice page before after at next (inner h opening ts closing) p a =
     let own : List Item = opening ++ (held_by_all ts ++ closing) in
@@ -75,12 +78,14 @@ all_both : (P : Tree → Type 0) (us vs : List Tree) → AllByRecursion P us →
 all_both P [] vs g h = h
 all_both P (u ∷ us) vs g h = (g.0, all_both P us vs g.1 h)
 
-inside_slices : (is : Bool) (page : List ℕ) (us : Trees) → AllByRecursion (IsSlice page) (subtrees_of_all us) → AllByRecursion (IsSlice page) (subtrees_of_all (inside_by is us))
+inside_slices : (is : Bool) (page : List ℕ) (us : Trees) → AllByRecursion (IsSlice page) (subtrees_of_all us)
+    → AllByRecursion (IsSlice page) (subtrees_of_all (inside_by is us))
 inside_slices true page us h = tt
 inside_slices false page us h = h
 
 mutual
-  pub slices_at : (page before after : List ℕ) (at next : ℕ) (t : ItemTree) → page ≡ before ++ (sources (held t) ++ after) → at ≡ length before → AreSlices page (annotated_at at next t)
+  pub slices_at : (page before after : List ℕ) (at next : ℕ) (t : ItemTree) → page ≡ before ++ (sources (held t) ++ after)
+      → at ≡ length before → AreSlices page (annotated_at at next t)
   slices_at page before after at next (inner h opening ts closing) p a =
       let inside : List ℕ = sources (held_by_all ts) in
       let three : sources (opening ++ (held_by_all ts ++ closing)) ≡ sources opening ++ (inside ++ sources closing) =
@@ -93,7 +98,8 @@ mutual
       ∙ sym (append_assoc before (sources opening) (inside ++ (sources closing ++ after))) in (
         node_slice page before after at next (inner h opening ts closing) p a,
         inside_slices (is_leaf h.kind) page (all_annotated_at (at + width opening) (next_after h.kind next) ts)
-            (all_slices page (before ++ sources opening) (sources closing ++ after) (at + width opening) (next_after h.kind next) ts page_is (omega (arith, a, length-append before (sources opening)))),
+            (all_slices page (before ++ sources opening) (sources closing ++ after) (at + width opening)
+            (next_after h.kind next) ts page_is (omega (arith, a, length-append before (sources opening)))),
       )
 
   pub all_slices : (page before after : List ℕ) (at next : ℕ) (ts : ItemTrees) → page ≡ before ++ (sources (held_by_all ts) ++ after) → at ≡ length before
@@ -102,10 +108,14 @@ mutual
   all_slices page before after at next (further t ts) p a =
       let others : List ℕ = sources (held_by_all ts) in
       let first : page ≡ before ++ (sources (held t) ++ (others ++ after)) =
-      p ∙ ap (λ xs. before ++ (xs ++ after)) (sources_append (held t) (held_by_all ts)) ∙ ap (λ xs. before ++ xs) (append_assoc (sources (held t)) others after) in
+      p ∙ ap (λ xs. before ++ (xs ++ after)) (sources_append (held t) (held_by_all ts))
+      ∙ ap (λ xs. before ++ xs) (append_assoc (sources (held t)) others after) in
       all_both (IsSlice page) (subtrees (annotated_at at next t)) (subtrees_of_all (all_annotated_at (at + width (held t)) (next + numbered t) ts))
       (slices_at page before (others ++ after) at next t first a)
-      (all_slices page (before ++ sources (held t)) after (at + width (held t)) (next + numbered t) ts (first ∙ sym (append_assoc before (sources (held t)) (others ++ after))) (omega (arith, a, length-append before (sources (held t)))))
+      (all_slices page (before ++ sources (held t)) after (at + width (held t)) (next + numbered t) ts
+      (first ∙ sym (append_assoc before (sources (held t)) (others ++ after)))
+      (omega (arith, a, length-append before (sources (held t)))))
 
 pub annotated_slices : (t : ItemTree) → AreSlices (sources (held t)) (annotated t)
-annotated_slices t = subst (AreSlices (sources (held t))) (sym (annotated_is t)) (slices_at (sources (held t)) [] [] 0 1 t (sym (append-nil (sources (held t)))) refl)
+annotated_slices t = subst (AreSlices (sources (held t))) (sym (annotated_is t))
+    (slices_at (sources (held t)) [] [] 0 1 t (sym (append-nil (sources (held t)))) refl)

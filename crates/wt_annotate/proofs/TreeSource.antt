@@ -1,5 +1,5 @@
 -- The source of an annotated tree is the sources of the items that it holds.
-use Rattle.std.proofs.Common.{◌≡◌, ℕ, ◌+◌, Bool, true, false, List, [], ◌∷◌, ◌++◌, refl, sym, ap, ◌∙◌, append_assoc}
+use Rattle.std.proofs.Common.{◌≡◌, ℕ, ◌+◌, Bool, true, false, List, ◌++◌, refl, sym, ap, ◌∙◌, append_assoc}
 use Rattle.std.specs.Prelude.{if◌then◌else◌}
 use Rattle.wt_tree.specs.Kinds.{is_leaf}
 use Rattle.wt_tree.specs.Tree.{Trees}
@@ -7,14 +7,16 @@ use Rattle.wt_tree.specs.Source.{flat, flat_of_all}
 use Rattle.wt_span.specs.Items.{Item, sources}
 use Rattle.wt_inline.specs.ItemTree.{ItemTree, inner, ItemTrees, nothing, further, held, held_by_all}
 use Rattle.wt_annotate.specs.Labels.{if_leaf, if_inner, width, label_at}
-use Rattle.wt_annotate.specs.Numbering.{number_of, next_after}
+use Rattle.wt_annotate.specs.Numbering.{next_after}
 use Rattle.wt_annotate.specs.Annotated.{inside_by, numbered, annotated}
 use Rattle.wt_annotate.specs.Made.{annotated_at, all_annotated_at}
 use Rattle.wt_annotate.proofs.OnePass.{annotated_is}
 use Rattle.wt_annotate.proofs.Widths.{sources_append}
 
 flat_by : (is : Bool) (opening inside closing : List Item) (ts : Trees) → flat_of_all ts ≡ sources inside
-    → (if is then if_leaf is (sources (opening ++ (inside ++ closing))) else if_inner is (sources opening) ++ flat_of_all (inside_by is ts) ++ if_inner is (sources closing)) ≡ sources (opening ++ (inside ++ closing))
+    → (if is then if_leaf is (sources (opening ++ (inside ++ closing))) else
+    if_inner is (sources opening) ++ flat_of_all (inside_by is ts) ++ if_inner is (sources closing))
+    ≡ sources (opening ++ (inside ++ closing))
 flat_by true opening inside closing ts e = refl
 flat_by false opening inside closing ts e =
     ap (λ bs. sources opening ++ bs ++ sources closing) e
@@ -27,7 +29,8 @@ mutual
 
   pub flat_at : (at next : ℕ) (t : ItemTree) → flat (annotated_at at next t) ≡ sources (held t)
   flat_at at next (inner h opening ts closing) =
-      flat_by (is_leaf h.kind) opening (held_by_all ts) closing (all_annotated_at (at + width opening) (next_after h.kind next) ts) (flat_all_at (at + width opening) (next_after h.kind next) ts)
+      flat_by (is_leaf h.kind) opening (held_by_all ts) closing
+      (all_annotated_at (at + width opening) (next_after h.kind next) ts) (flat_all_at (at + width opening) (next_after h.kind next) ts)
 
   pub flat_all_at : (at next : ℕ) (ts : ItemTrees) → flat_of_all (all_annotated_at at next ts) ≡ sources (held_by_all ts)
   flat_all_at at next nothing = refl

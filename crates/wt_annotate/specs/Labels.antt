@@ -1,8 +1,7 @@
 -- What a node of the annotated tree has beside its children.
-use Rattle.std.specs.Prelude.{ℕ, ◌+◌, Bool, true, false, Option, Some, None, List, [], ◌∷◌, length}
+use Rattle.std.specs.Prelude.{ℕ, ◌+◌, Bool, true, false, Some, List, [], length}
 use Rattle.wt_tree.specs.declared.kind.Kind.{Kind}
 use Rattle.wt_tree.specs.declared.kind.Kind.TheVariants as kind
-use Rattle.wt_tree.specs.declared.kind.Ranges.{Ranges}
 use Rattle.wt_tree.specs.declared.kind.Mark.TheVariants as marks
 use Rattle.wt_tree.specs.Tree.{Label}
 use Rattle.wt_span.specs.Items.{Item, sources}
@@ -82,6 +81,7 @@ label_at at id is h opening own closing = record {
   own = if_leaf is (sources own);
   shown = h.shown;
   attrs = h.attrs;
+  origin = None;
   mark = marks.Nothing;
   mw = h.mw;
 }

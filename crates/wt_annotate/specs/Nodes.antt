@@ -41,6 +41,7 @@ inner_label at next h end opening closing = record {
   own = [];
   shown = h.shown;
   attrs = h.attrs;
+  origin = None;
   mark = marks.Nothing;
   mw = h.mw;
 }

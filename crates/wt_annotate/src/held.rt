@@ -1,10 +1,9 @@
 ghost use Rattle.std.specs.Prelude.{◌≡◌, ◌++◌, IfOk, OnOk};
 ghost use Rattle.wt_span.specs.Items.{items};
-ghost use Rattle.wt_inline.specs.ItemTree.{held};
-ghost use Rattle.wt_inline.specs.View.{item_tree};
+ghost use Rattle.wt_inline.specs.ItemTree.{forest, held, held_by_all};
+ghost use Rattle.wt_inline.specs.View.{item_tree, item_trees};
 
 use crate::piece::push_pieces;
-use std::alloc::Global;
 use wt_inline::PieceTree;
 use wt_span::{List, NoMemory, Piece};
 
@@ -19,11 +18,18 @@ fn push_held<'a>(out: &mut List<Piece<'a>>, tree: &PieceTree<'a>) -> Result<(), 
     Ok(())
 }
 
-/// All pieces that a node holds, in their order.
-pub fn held_pieces<'a>(alloc: Global, tree: &PieceTree<'a>) -> Result<List<Piece<'a>>, NoMemory>
-    ensures { IfOk result (λ l. items l ≡ held (item_tree tree.now)) }
+/// All pieces of a leaf: those of its opening, which aren't copied, and what else it holds.
+pub fn own_pieces<'a>(
+    opening: List<Piece<'a>>,
+    children: &[PieceTree<'a>],
+    closing: &[Piece<'a>],
+) -> Result<List<Piece<'a>>, NoMemory>
+    ensures { IfOk result (λ l. items l ≡ items opening.entry ++ (held_by_all (forest (item_trees children.now)) ++ items closing.now)) }
 {
-    let mut out = List::new(alloc);
-    push_held(&mut out, tree)?;
-    Ok(out)
+    let mut own = opening;
+    for child in children {
+        push_held(&mut own, child)?;
+    }
+    push_pieces(&mut own, closing)?;
+    Ok(own)
 }

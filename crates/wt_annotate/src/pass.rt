@@ -15,11 +15,11 @@ ghost use Rattle.wt_annotate.specs.Made.{IsMade, AreMade};
 ghost use Rattle.wt_annotate.specs.Nodes.{inner_label};
 
 use crate::cursor::Cursor;
-use crate::held::held_pieces;
+use crate::held::own_pieces;
 use crate::node::{inner_node, leaf_node};
 use crate::piece::width;
 use std::alloc::Global;
-use wt_inline::{NodeHead, PieceTree};
+use wt_inline::{NodeHead, PieceTree, with_room};
 use wt_span::{List, NoMemory, Piece};
 use wt_tree::Node;
 
@@ -43,9 +43,15 @@ fn leaf<'a>(alloc: Global, tree: PieceTree<'a>, at: Cursor) -> Result<Made<'a>, 
     requires number { at.next + numbered (item_tree tree) < 2 ^ 32 }
     ensures { IfOk result (λ m. IsMade at.place at.next (item_tree tree.entry) (view m.node) m.behind.place m.behind.next) }
 {
-    let own = held_pieces(alloc, &tree)?;
-    let behind = at.after(tree.head.kind, width(own.as_slice()));
-    let node = leaf_node(alloc, tree.head, at, own.as_slice())?;
+    let PieceTree {
+        head,
+        opening,
+        children,
+        closing,
+    } = tree;
+    let own = own_pieces(opening, children.as_slice(), closing.as_slice())?;
+    let behind = at.after(head.kind, width(own.as_slice()));
+    let node = leaf_node(alloc, head, at, own.as_slice())?;
     Ok(Made { node, behind })
 }
 
@@ -95,7 +101,7 @@ fn annotated_all<'a>(
     requires number { at.next + numbered_in_all (forest (item_trees trees)) < 2 ^ 32 }
     ensures { IfOk result (λ m. AreMade at.place at.next (forest (item_trees trees.entry)) (views m.nodes) m.behind.place m.behind.next) }
 {
-    let mut nodes = List::new(alloc);
+    let mut nodes = with_room(alloc, trees.len())?;
     let mut behind = at;
     for tree in trees.into_vec() {
         let made = annotated_node(alloc, tree, behind)?;

@@ -5,6 +5,7 @@ ghost use Rattle.wt_tree.specs.View.{texts_of};
 ghost use Rattle.wt_annotate.specs.Labels.{width};
 
 use std::alloc::Global;
+use wt_inline::with_room;
 use wt_span::{List, NoMemory, Piece, Text};
 
 fn text_width(text: Text<'_>) -> u32
@@ -29,7 +30,7 @@ pub fn width(pieces: &[Piece<'_>]) -> u32
 pub fn texts<'a>(alloc: Global, pieces: &[Piece<'a>]) -> Result<List<Text<'a>>, NoMemory>
     ensures { IfOk result (λ l. texts_of l ≡ sources (items pieces.now)) }
 {
-    let mut texts = List::new(alloc);
+    let mut texts = with_room(alloc, pieces.len())?;
     for piece in pieces {
         texts.push(piece.text)?;
     }

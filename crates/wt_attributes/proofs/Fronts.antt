@@ -68,10 +68,12 @@ pub border_word : (w bs : List ℕ) → IsUtf8 bs → 0 < length w → get_or w 
 border_word w bs u s a e =
     let is = word_is w bs e in
     let k = length w - 1 in
-    let size : length (take (length w) bs) ≡ length w = sym (length-map (take (length w) bs) to_ascii_lowercase) ∙ ap length is ∙ length-map w to_ascii_lowercase in
+    let size : length (take (length w) bs) ≡ length w = sym (length-map (take (length w) bs) to_ascii_lowercase) ∙ ap length is
+    ∙ length-map w to_ascii_lowercase in
     let within : length w ≤ length bs = omega (arith, size, length-take (length w) bs) in
     let there : to_ascii_lowercase (get_or (take (length w) bs) k 0) ≡ to_ascii_lowercase (get_or w k 0) =
-    sym (get_or-map to_ascii_lowercase (take (length w) bs) k 0 0 (omega (arith, size))) ∙ ap (λ (l : List ℕ). get_or l k 0) is ∙ get_or-map to_ascii_lowercase w k 0 0 (omega arith) in
+    sym (get_or-map to_ascii_lowercase (take (length w) bs) k 0 0 (omega (arith, size))) ∙ ap (λ (l : List ℕ). get_or l k 0) is
+    ∙ get_or-map to_ascii_lowercase w k 0 0 (omega arith) in
     let low : get_or (take (length w) bs) k 0 < 128 = raised _ (subst (λ (n : ℕ). n < 128) (sym there) (lowercase_ascii _ a)) in
     let at : get_or bs k 0 < 128 = subst (λ (n : ℕ). n < 128) (get_or-take (length w) bs k 0 (omega arith)) low in
     subst (IsCharBoundary bs) (omega arith) (IsCharBoundary-after_ascii bs k u (omega arith) at)

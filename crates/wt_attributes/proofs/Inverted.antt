@@ -25,7 +25,8 @@ record HasName (m : AttrName) (bs rest : List ℕ) : Type 0 where
   named : IsName m (lower word)
   joined : bs ≡ word ++ rest
 
-one_name : (m n : AttrName) (w bs rest : List ℕ) → ((v : List ℕ) → lower v ≡ lower w → IsName n (lower v)) → after_word n w bs ≡ Some (m, rest) → HasName m bs rest
+one_name : (m n : AttrName) (w bs rest : List ℕ) → ((v : List ℕ) → lower v ≡ lower w → IsName n (lower v))
+    → after_word n w bs ≡ Some (m, rest) → HasName m bs rest
 one_name m n w bs rest is e =
     let h = if_some (begins_any_case w bs) (n, drop (length w) bs) (m, rest) e in
     let same : n ≡ m = ap (λ (p : AttrName × List ℕ). p.0) h.1 in
@@ -72,10 +73,12 @@ is_sign b q e = grind (arith, nat_tests)
 
 cut_at : (bs : List ℕ) (n q : ℕ) → n < length bs → get_or bs n 0 ≡ q → bs ≡ (take n bs ++ q ∷ []) ++ drop (n + 1) bs
 cut_at bs n q l e =
-    sym (take-append-drop n bs) ∙ ap (λ (r : List ℕ). take n bs ++ r) (drop_more bs n 0 l ∙ ap (λ (b : ℕ). b ∷ drop (n + 1) bs) e) ∙ sym (append_assoc (take n bs) (q ∷ []) (drop (n + 1) bs))
+    sym (take-append-drop n bs) ∙ ap (λ (r : List ℕ). take n bs ++ r) (drop_more bs n 0 l ∙ ap (λ (b : ℕ). b ∷ drop (n + 1) bs) e)
+    ∙ sym (append_assoc (take n bs) (q ∷ []) (drop (n + 1) bs))
 
 -- in quotes, by a class that is all but the quote
-quoted_written : (c : Class) (q : ℕ) (bs v rest : List ℕ) → (q ≡ 34) ⊎ (q ≡ 39) → run_len c bs ≡ prefix_len (λ b. not (b == q)) bs → quoted c bs ≡ Some (v, rest) → HasValue v (q ∷ bs) rest
+quoted_written : (c : Class) (q : ℕ) (bs v rest : List ℕ) → (q ≡ 34) ⊎ (q ≡ 39) → run_len c bs ≡ prefix_len (λ b. not (b == q)) bs
+    → quoted c bs ≡ Some (v, rest) → HasValue v (q ∷ bs) rest
 unfolding quoted
 quoted_written c q bs v rest h is e =
     let p : ℕ → Bool = λ b. not (b == q) in
@@ -85,7 +88,8 @@ quoted_written c q bs v rest h is e =
     record {
       value = in_quotes q v;
       good = (h, subst (Each p) cut.1 (each_taken p bs));
-      joined = ap (λ (l : List ℕ). q ∷ l) (cut_at bs n q cut.0 there ∙ ap (λ (l : List ℕ). (l ++ q ∷ []) ++ drop (n + 1) bs) cut.1 ∙ ap (λ (l : List ℕ). (v ++ q ∷ []) ++ l) cut.2);
+      joined = ap (λ (l : List ℕ). q ∷ l) (cut_at bs n q cut.0 there ∙ ap (λ (l : List ℕ). (l ++ q ∷ []) ++ drop (n + 1) bs) cut.1
+          ∙ ap (λ (l : List ℕ). (v ++ q ∷ []) ++ l) cut.2);
       shown = refl;
     }
 
@@ -102,7 +106,11 @@ bare_written bs v rest e =
     let joined : bs ≡ v ++ rest = sym (take-append-drop n bs) ∙ ap (λ (l : List ℕ). l ++ drop n bs) front ∙ ap (λ (l : List ℕ). v ++ l) back in
     record {
       value = without_quotes v;
-      good = (some_bare bs n v (lt_of_test _ _ h.0) (prefix_len-le-length is_bare bs) front, subst (Each is_bare) front (each_taken is_bare bs), subst (EndsAt is_bare) back (ends_dropped is_bare bs));
+      good = (
+        some_bare bs n v (lt_of_test _ _ h.0) (prefix_len-le-length is_bare bs) front,
+        subst (Each is_bare) front (each_taken is_bare bs),
+        subst (EndsAt is_bare) back (ends_dropped is_bare bs),
+      );
       joined = joined;
       shown = refl;
     }
@@ -116,8 +124,10 @@ sign_written s [] rest e = absurd cc
 sign_written s (b ∷ bs) rest e = sign_by (b == s) s b bs rest refl e
 
 value_by : (o p : Option (List ℕ)) (bs v rest : List ℕ) → after_sign 34 bs ≡ o → after_sign 39 bs ≡ p → opened o p bs ≡ Some (v, rest) → HasValue v bs rest
-value_by (Some inside) p bs v rest d s e = subst (λ (l : List ℕ). HasValue v l rest) (sym (sign_written 34 bs inside d)) (quoted_written class.NoDouble 34 inside v rest (inl refl) refl e)
-value_by None (Some inside) bs v rest d s e = subst (λ (l : List ℕ). HasValue v l rest) (sym (sign_written 39 bs inside s)) (quoted_written class.NoSingle 39 inside v rest (inr refl) refl e)
+value_by (Some inside) p bs v rest d s e = subst (λ (l : List ℕ). HasValue v l rest) (sym (sign_written 34 bs inside d))
+    (quoted_written class.NoDouble 34 inside v rest (inl refl) refl e)
+value_by None (Some inside) bs v rest d s e = subst (λ (l : List ℕ). HasValue v l rest) (sym (sign_written 39 bs inside s))
+    (quoted_written class.NoSingle 39 inside v rest (inr refl) refl e)
 value_by None None bs v rest d s e = bare_written bs v rest e
 
 value_written : (bs v rest : List ℕ) → value_at bs ≡ Some (v, rest) → HasValue v bs rest
@@ -153,7 +163,8 @@ given_by true bs before b cs v rest h j s e =
       blank_before = h;
       blank_after = each_taken is_blank cs;
       good = w.good;
-      joined = j ∙ ap (λ (q : ℕ). before ++ (q ∷ cs)) (is_sign b 61 s) ∙ ap (λ (l : List ℕ). before ++ (61 ∷ l)) (past_joined cs ∙ ap (λ (l : List ℕ). gap ++ l) w.joined);
+      joined = j ∙ ap (λ (q : ℕ). before ++ (q ∷ cs)) (is_sign b 61 s)
+          ∙ ap (λ (l : List ℕ). before ++ (61 ∷ l)) (past_joined cs ∙ ap (λ (l : List ℕ). gap ++ l) w.joined);
       shown = w.shown;
     }
 
@@ -176,7 +187,8 @@ pub record IsWritten (bs : List ℕ) (a : Named) (rest : List ℕ) : Type 0 wher
 spell_joined : (w b a v rest : List ℕ) → w ++ (b ++ (61 ∷ (a ++ (v ++ rest)))) ≡ (w ++ (b ++ (61 ∷ (a ++ v)))) ++ rest
 spell_joined w b a v rest = simp append_assoc
 
-with_given : (m : AttrName) (bs cs : List ℕ) (o : Read (List ℕ)) (a : Named) (rest : List ℕ) → HasName m bs cs → assigned cs ≡ o → with_name m o ≡ Some (a, rest) → IsWritten bs a rest
+with_given : (m : AttrName) (bs cs : List ℕ) (o : Read (List ℕ)) (a : Named) (rest : List ℕ) → HasName m bs cs → assigned cs ≡ o
+    → with_name m o ≡ Some (a, rest) → IsWritten bs a rest
 with_given m bs cs None a rest n is e = absurd cc
 with_given m bs cs (Some (v, left)) a rest n is e =
     let same : (m, v) ≡ a = ap (λ (p : Named × List ℕ). p.0) (some_same (((m, v), left)) (a, rest) e) in
@@ -213,5 +225,6 @@ attribute_front bs a rest e =
     let s = w.it in
     let more = s.after ++ spell_value s.value in
     let h = front_by (s.word ++ s.before) more rest in
-    let again : spell s ++ rest ≡ ((s.word ++ s.before) ++ (61 ∷ more)) ++ rest = ap (λ (l : List ℕ). l ++ rest) (sym (append_assoc s.word s.before (61 ∷ more))) in
+    let again : spell s ++ rest ≡ ((s.word ++ s.before) ++ (61 ∷ more)) ++ rest =
+    ap (λ (l : List ℕ). l ++ rest) (sym (append_assoc s.word s.before (61 ∷ more))) in
     record { first = h.first; others = h.others; joined = w.joined ∙ again ∙ h.joined }

@@ -17,11 +17,13 @@ skipped : (xs rest : List ℕ) → readings false (length xs) (xs ++ rest) ≡ r
 skipped [] rest = refl
 skipped (x ∷ xs) rest = skipped xs rest
 
-found_at : (b : ℕ) (xs : List ℕ) (a : Named) (rest : List ℕ) → attribute_at (b ∷ (xs ++ rest)) ≡ Some (a, rest) → readings true 0 (b ∷ (xs ++ rest)) ≡ a ∷ readings false 0 rest
+found_at : (b : ℕ) (xs : List ℕ) (a : Named) (rest : List ℕ) → attribute_at (b ∷ (xs ++ rest)) ≡ Some (a, rest)
+    → readings true 0 (b ∷ (xs ++ rest)) ≡ a ∷ readings false 0 rest
 found_at b xs a rest e =
     let bs = xs ++ rest in
     let n : length bs - length rest ≡ length xs = omega (arith, length-append xs rest) in
-    ap (λ o. going_on o bs (λ n. readings false n bs) (readings (is_blank b) zero bs)) e ∙ ap (λ (k : ℕ). a ∷ readings false k bs) n ∙ ap (λ (l : List Named). a ∷ l) (skipped xs rest)
+    ap (λ o. going_on o bs (λ n. readings false n bs) (readings (is_blank b) zero bs)) e
+    ∙ ap (λ (k : ℕ). a ∷ readings false k bs) n ∙ ap (λ (l : List Named). a ∷ l) (skipped xs rest)
 
 pub found : (bs : List ℕ) (a : Named) (rest : List ℕ) → attribute_at bs ≡ Some (a, rest) → readings true 0 bs ≡ a ∷ readings false 0 rest
 found bs a rest e =
@@ -43,7 +45,8 @@ pub to_blank : (bs : List ℕ) → run_len class.NoBlank bs < length bs → read
 to_blank [] l = absurd (omega arith)
 to_blank (b ∷ bs) l = blank_by (is_blank b) b bs refl l (to_blank bs)
 
-none_by : (t : Bool) (b : ℕ) (bs : List ℕ) → is_blank b ≡ t → suc (length bs) ≤ cond (not t) (1 + run_len class.NoBlank bs) 0 → (length bs ≤ run_len class.NoBlank bs → readings false 0 bs ≡ [])
+none_by : (t : Bool) (b : ℕ) (bs : List ℕ) → is_blank b ≡ t → suc (length bs) ≤ cond (not t) (1 + run_len class.NoBlank bs) 0
+    → (length bs ≤ run_len class.NoBlank bs → readings false 0 bs ≡ [])
     → readings t 0 bs ≡ []
 none_by true b bs e l h = absurd (omega arith)
 none_by false b bs e l h = h (omega arith)
@@ -62,7 +65,8 @@ pub blank_none : (bs : List ℕ) → ended (run_len class.NoBlank bs) bs ≡ Non
 blank_none bs e = sym (no_blank bs (ended_none _ bs e))
 
 -- where an attribute may begin or not
-pub found_here : (fresh : Bool) (bs : List ℕ) (a : Named) (rest : List ℕ) → attribute_if fresh bs ≡ Some (a, rest) → readings fresh 0 bs ≡ a ∷ readings false 0 rest
+pub found_here : (fresh : Bool) (bs : List ℕ) (a : Named) (rest : List ℕ) → attribute_if fresh bs ≡ Some (a, rest)
+    → readings fresh 0 bs ≡ a ∷ readings false 0 rest
 found_here true bs a rest e = found bs a rest e
 found_here false bs a rest e = absurd cc
 

@@ -10,7 +10,8 @@ abbrev text : List ℕ → List Item
 text bs = map (char None) bs
 
 -- values in either quote and without quotes; blanks round the `=`; names in any case; other text is passed over
-forms : attributes (text (codes " class=\"a b\" ROWSPAN = 2 id=x lang='d''e'")) ≡ (attr.Class, codes "a b") ∷ (attr.Rowspan, codes "2") ∷ (attr.Lang, codes "d") ∷ []
+forms : attributes (text (codes " class=\"a b\" ROWSPAN = 2 id=x lang='d''e'")) ≡ (attr.Class, codes "a b")
+    ∷ (attr.Rowspan, codes "2") ∷ (attr.Lang, codes "d") ∷ []
 unfolding begins_any_case name_at quoted bare value_at past_blanks assigned attribute_at attributes
 forms = refl
 
@@ -33,6 +34,8 @@ unfolding begins_any_case name_at quoted bare value_at past_blanks assigned attr
 items_read = refl
 
 -- blanks after a `=` are passed over too; a name without a value, and a value that is empty in quotes
-empty_values : map (λ bs. attributes (text bs)) (codes "class= lang=\"\" dir" ∷ codes "dir lang=\"\" class=" ∷ codes "class==a scope =''" ∷ []) ≡ ((attr.Class, codes "lang") ∷ []) ∷ ((attr.Lang, []) ∷ []) ∷ ((attr.Scope, []) ∷ []) ∷ []
+empty_values : map (λ bs. attributes (text bs))
+    (codes "class= lang=\"\" dir" ∷ codes "dir lang=\"\" class=" ∷ codes "class==a scope =''" ∷ [])
+    ≡ ((attr.Class, codes "lang") ∷ []) ∷ ((attr.Lang, []) ∷ []) ∷ ((attr.Scope, []) ∷ []) ∷ []
 unfolding begins_any_case name_at quoted bare value_at past_blanks assigned attribute_at attributes
 empty_values = refl

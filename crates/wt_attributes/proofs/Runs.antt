@@ -20,7 +20,8 @@ run_over p [] [] h e = refl
 run_over p [] (y ∷ ys) h e = rw e refl
 run_over p (x ∷ xs) ys h e = rw (h.0, one-add) (ap suc (run_over p xs ys h.1 e))
 
-each_by : (p : ℕ → Bool) (b : ℕ) (bs : List ℕ) (v : Bool) → p b ≡ v → Each p (take (prefix_len p bs) bs) → Each p (take (cond v (1 + prefix_len p bs) 0) (b ∷ bs))
+each_by : (p : ℕ → Bool) (b : ℕ) (bs : List ℕ) (v : Bool) → p b ≡ v → Each p (take (prefix_len p bs) bs)
+    → Each p (take (cond v (1 + prefix_len p bs) 0) (b ∷ bs))
 each_by p b bs false e h = tt
 each_by p b bs true e h = rw one-add (e, h)
 
@@ -28,7 +29,8 @@ pub each_taken : (p : ℕ → Bool) (bs : List ℕ) → Each p (take (prefix_len
 each_taken p [] = tt
 each_taken p (b ∷ bs) = each_by p b bs (p b) refl (each_taken p bs)
 
-ends_by : (p : ℕ → Bool) (b : ℕ) (bs : List ℕ) (v : Bool) → p b ≡ v → EndsAt p (drop (prefix_len p bs) bs) → EndsAt p (drop (cond v (1 + prefix_len p bs) 0) (b ∷ bs))
+ends_by : (p : ℕ → Bool) (b : ℕ) (bs : List ℕ) (v : Bool) → p b ≡ v → EndsAt p (drop (prefix_len p bs) bs)
+    → EndsAt p (drop (cond v (1 + prefix_len p bs) 0) (b ∷ bs))
 ends_by p b bs false e h = e
 ends_by p b bs true e h = rw one-add h
 

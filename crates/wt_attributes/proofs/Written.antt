@@ -26,7 +26,8 @@ test low w = bytes_eq (take (length w) low) (lower w)
 
 test_is : (w bs low : List ℕ) → lower bs ≡ low → begins_any_case w bs ≡ test low w
 unfolding begins_any_case
-test_is w bs low e = ap (λ (l : List ℕ). bytes_eq l (lower w)) (sym (take-map to_ascii_lowercase (length w) bs)) ∙ ap (λ (l : List ℕ). bytes_eq (take (length w) l) (lower w)) e
+test_is w bs low e = ap (λ (l : List ℕ). bytes_eq l (lower w)) (sym (take-map to_ascii_lowercase (length w) bs))
+    ∙ ap (λ (l : List ℕ). bytes_eq (take (length w) l) (lower w)) e
 
 low_front : (word rest lit : List ℕ) → lower word ≡ lit → lower (word ++ rest) ≡ lit ++ lower rest
 low_front word rest lit h = map-append to_ascii_lowercase word rest ∙ ap (λ (l : List ℕ). l ++ lower rest) h
@@ -46,7 +47,8 @@ unfolding name_at
 colspan_read word rest h =
     let bs = word ++ rest in
     let low = low_front word rest (codes "colspan") h in
-    rw (test_is (codes "class") bs _ low, test_is (codes "colspan") bs _ low) (ap (λ (l : List ℕ). Some (attr.Colspan, l)) (left_behind word rest (codes "colspan") h))
+    rw (test_is (codes "class") bs _ low, test_is (codes "colspan") bs _ low)
+    (ap (λ (l : List ℕ). Some (attr.Colspan, l)) (left_behind word rest (codes "colspan") h))
 
 rowspan_read : (word rest : List ℕ) → lower word ≡ codes "rowspan" → name_at (word ++ rest) ≡ Some (attr.Rowspan, rest)
 unfolding name_at
@@ -69,7 +71,13 @@ unfolding name_at
 lang_read word rest h =
     let bs = word ++ rest in
     let low = low_front word rest (codes "lang") h in
-    rw (test_is (codes "class") bs _ low, test_is (codes "colspan") bs _ low, test_is (codes "rowspan") bs _ low, test_is (codes "scope") bs _ low, test_is (codes "lang") bs _ low)
+    rw (
+      test_is (codes "class") bs _ low,
+      test_is (codes "colspan") bs _ low,
+      test_is (codes "rowspan") bs _ low,
+      test_is (codes "scope") bs _ low,
+      test_is (codes "lang") bs _ low,
+    )
     (ap (λ (l : List ℕ). Some (attr.Lang, l)) (left_behind word rest (codes "lang") h))
 
 dir_read : (word rest : List ℕ) → lower word ≡ codes "dir" → name_at (word ++ rest) ≡ Some (attr.Dir, rest)
@@ -77,7 +85,14 @@ unfolding name_at
 dir_read word rest h =
     let bs = word ++ rest in
     let low = low_front word rest (codes "dir") h in
-    rw (test_is (codes "class") bs _ low, test_is (codes "colspan") bs _ low, test_is (codes "rowspan") bs _ low, test_is (codes "scope") bs _ low, test_is (codes "lang") bs _ low, test_is (codes "dir") bs _ low)
+    rw (
+      test_is (codes "class") bs _ low,
+      test_is (codes "colspan") bs _ low,
+      test_is (codes "rowspan") bs _ low,
+      test_is (codes "scope") bs _ low,
+      test_is (codes "lang") bs _ low,
+      test_is (codes "dir") bs _ low,
+    )
     (ap (λ (l : List ℕ). Some (attr.Dir, l)) (left_behind word rest (codes "dir") h))
 
 name_read : (m : AttrName) (word rest : List ℕ) → IsName m (lower word) → name_at (word ++ rest) ≡ Some (m, rest)
@@ -98,7 +113,8 @@ name_read attr.DataParsoid word rest h = absurd h
 
 -- ---- values
 
-quoted_read : (c : Class) (q : ℕ) (v rest : List ℕ) → ((bs : List ℕ) → run_len c bs ≡ prefix_len (λ b. not (b == q)) bs) → not (q == q) ≡ false → Each (λ b. not (b == q)) v
+quoted_read : (c : Class) (q : ℕ) (v rest : List ℕ) → ((bs : List ℕ) → run_len c bs ≡ prefix_len (λ b. not (b == q)) bs)
+    → not (q == q) ≡ false → Each (λ b. not (b == q)) v
     → quoted c ((v ++ q ∷ []) ++ rest) ≡ Some (v, rest)
 unfolding quoted
 quoted_read c q v rest is ends each =
@@ -109,7 +125,8 @@ quoted_read c q v rest is ends each =
     let within : length v < length bs = omega (arith, length-append (v ++ q ∷ []) rest, size) in
     let front : take (length v) bs ≡ v = ap (take (length v)) same ∙ take_at v (q ∷ rest) (length v) refl in
     let back : drop (length v + 1) bs ≡ rest = drop_at (v ++ q ∷ []) rest (length v + 1) size in
-    ap (λ (k : ℕ). ended k bs) n ∙ ended_is (length v) bs within ∙ ap (λ (l : List ℕ). Some (l, drop (length v + 1) bs)) front ∙ ap (λ (l : List ℕ). Some (v, l)) back
+    ap (λ (k : ℕ). ended k bs) n ∙ ended_is (length v) bs within ∙ ap (λ (l : List ℕ). Some (l, drop (length v + 1) bs)) front
+    ∙ ap (λ (l : List ℕ). Some (v, l)) back
 
 bare_read : (v rest : List ℕ) → 0 < length v → Each is_bare v → EndsAt is_bare rest → bare (v ++ rest) ≡ Some (v, rest)
 unfolding bare
@@ -164,7 +181,8 @@ given_read : (before after : List ℕ) (value : Value) (rest : List ℕ) → Eac
 unfolding assigned
 given_read before after value rest b a h =
     let bs = spell_value value ++ rest in
-    ap (λ (l : List ℕ). value_in (after_equals l)) (past_over before (61 ∷ (after ++ bs)) b refl) ∙ ap value_at (past_over after bs a (value_no_blank value rest h)) ∙ value_read value rest h
+    ap (λ (l : List ℕ). value_in (after_equals l)) (past_over before (61 ∷ (after ++ bs)) b refl)
+    ∙ ap value_at (past_over after bs a (value_no_blank value rest h)) ∙ value_read value rest h
 
 spell_apart : (w b a v rest : List ℕ) → (w ++ (b ++ (61 ∷ (a ++ v)))) ++ rest ≡ w ++ (b ++ (61 ∷ (a ++ (v ++ rest))))
 spell_apart w b a v rest = simp append_assoc
@@ -173,5 +191,6 @@ pub attribute_read : (s : Spelled) (rest : List ℕ) → IsSpelled s rest → at
 unfolding attribute_at
 attribute_read s rest h =
     let more = s.before ++ (61 ∷ (s.after ++ (spell_value s.value ++ rest))) in
-    ap (λ (l : List ℕ). with_value (name_at l)) (spell_apart s.word s.before s.after (spell_value s.value) rest) ∙ ap with_value (name_read s.name s.word more h.named)
+    ap (λ (l : List ℕ). with_value (name_at l)) (spell_apart s.word s.before s.after (spell_value s.value) rest)
+    ∙ ap with_value (name_read s.name s.word more h.named)
     ∙ ap (with_name s.name) (given_read s.before s.after s.value rest h.blank_before h.blank_after h.valued)

@@ -9,8 +9,6 @@ mod class;
 mod laws;
 mod reader;
 mod scan;
-#[cfg(test)]
-mod tests;
 
 pub use laws::{one_reading, spelled_attributes};
 pub use reader::read_attributes;

@@ -62,7 +62,8 @@ none_common (c ∷ p) [] e = refl
 none_common (c ∷ p) (f ∷ q) e = rw e refl
 
 -- a line of another list begins as one after no line
-begun_apart : (d : ℕ) (before : List ℕ) (l : ListLine) (ls : List ListLine) → same_list (get_or before 0 0) (sign_of l) ≡ false → begun d before (l ∷ ls) ≡ begun d [] (l ∷ ls)
+begun_apart : (d : ℕ) (before : List ℕ) (l : ListLine) (ls : List ListLine) → same_list (get_or before 0 0) (sign_of l) ≡ false
+    → begun d before (l ∷ ls) ≡ begun d [] (l ∷ ls)
 begun_apart d before l ls e = ap (λ n. begun_by d n l.number l.prefix ++ begun d l.prefix ls) (none_common before l.prefix e)
 
 same_suc : (a b : ℕ) → (suc a == suc b) ≡ (a == b)
@@ -73,9 +74,17 @@ deeper_by : (d n k c e : ℕ) (p : List ℕ) → begun_by d (suc n) k (c ∷ e �
 deeper_by d n k c e p =
     let one : d + (2 * suc (suc (length p)) - 1) ≡ suc (suc d) + (2 * suc (length p) - 1) = omega arith in
     let two : d + 2 * suc n ≡ suc (suc d) + 2 * n = omega arith in
-    ap (λ v. cond v (record { depth = d + (2 * suc (suc (length p)) - 1); item = true; sign = last_sign (e ∷ p); line = k } ∷ []) (opened (d + 2 * suc n) k (drop n (e ∷ p)))) (same_suc n (suc (length p)))
-    ∙ ap (λ m. cond (n == suc (length p)) (record { depth = m; item = true; sign = last_sign (e ∷ p); line = k } ∷ []) (opened (d + 2 * suc n) k (drop n (e ∷ p)))) one
-    ∙ ap (λ m. cond (n == suc (length p)) (record { depth = suc (suc d) + (2 * suc (length p) - 1); item = true; sign = last_sign (e ∷ p); line = k } ∷ []) (opened m k (drop n (e ∷ p)))) two
+    ap (λ v. cond v (record { depth = d + (2 * suc (suc (length p)) - 1); item = true; sign = last_sign (e ∷ p); line = k } ∷ [])
+    (opened (d + 2 * suc n) k (drop n (e ∷ p)))) (same_suc n (suc (length p)))
+    ∙ ap (λ m. cond (n == suc (length p)) (record { depth = m; item = true; sign = last_sign (e ∷ p); line = k } ∷ [])
+    (opened (d + 2 * suc n) k (drop n (e ∷ p)))) one
+    ∙ ap (λ m. cond (n == suc (length p)) (record {
+      depth = suc (suc d) + (2 * suc (length p) - 1);
+      item = true;
+      sign =
+          last_sign (e ∷ p);
+      line = k;
+    } ∷ []) (opened m k (drop n (e ∷ p)))) two
 
 deeper_one : (d k : ℕ) (before p : List ℕ) → 0 < length before → nat_lt 1 (length p) ≡ true → same_list (get_or before 0 0) (get_or p 0 0) ≡ true
     → begun_by d (common before p) k p ≡ begun_by (suc (suc d)) (common (drop 1 before) (drop 1 p)) k (drop 1 p)
@@ -84,7 +93,8 @@ deeper_one d k (b ∷ before) [] s g e = cc
 deeper_one d k (b ∷ before) (c ∷ []) s g e = cc
 deeper_one d k (b ∷ before) (c ∷ f ∷ p) s g e = rw e (deeper_by d (common before (f ∷ p)) k c f p)
 
-deeper : (n d : ℕ) (before : List ℕ) (ls : List ListLine) → 0 < length before → AreBounded n ls → AllGoOn ls → Alike before ls → begun d before ls ≡ begun (suc (suc d)) (drop 1 before) (map without_sign ls)
+deeper : (n d : ℕ) (before : List ℕ) (ls : List ListLine) → 0 < length before → AreBounded n ls → AllGoOn ls → Alike before ls
+    → begun d before ls ≡ begun (suc (suc d)) (drop 1 before) (map without_sign ls)
 deeper n d before [] s b g a = refl
 deeper n d before (l ∷ ls) s b g a =
     ap (λ rs. rs ++ begun d l.prefix ls) (deeper_one d l.number before l.prefix s g.0 a.0)
@@ -132,7 +142,8 @@ first_begun d k [] s = absurd (omega arith)
 first_begun d k (c ∷ p) s =
     let z : d + 0 ≡ d = omega arith in
     let v : (0 == suc (length p)) ≡ false = grind (arith, nat_tests) in
-    ap (λ w. cond w (record { depth = d + (2 * suc (length p) - 1); item = true; sign = last_sign (c ∷ p); line = k } ∷ []) (opened (d + 2 * 0) k (c ∷ p))) v ∙ ap (λ m. opened m k (c ∷ p)) z
+    ap (λ w. cond w (record { depth = d + (2 * suc (length p) - 1); item = true; sign = last_sign (c ∷ p); line = k } ∷ [])
+    (opened (d + 2 * 0) k (c ∷ p))) v ∙ ap (λ m. opened m k (c ∷ p)) z
 
 short : (p : List ℕ) → nat_lt 1 (length p) ≡ false → drop 1 p ≡ []
 short [] e = refl
@@ -163,14 +174,17 @@ inside n d l ls h g b a = inside_by n d l ls (goes_on l) refl h g b a
 
 -- the first one, with the list
 first_by : (d k : ℕ) (p : List ℕ) (rs : List Row) → 0 < length p
-    → record { depth = d; item = false; sign = get_or p 0 0; line = k } ∷ record { depth = suc d; item = true; sign = get_or p 0 0; line = k } ∷ (opened (suc (suc d)) k (drop 1 p) ++ rs) ≡ begun_by d 0 k p ++ rs
+    → record { depth = d; item = false; sign = get_or p 0 0; line = k }
+    ∷ record { depth = suc d; item = true; sign = get_or p 0 0; line = k } ∷ (opened (suc (suc d)) k (drop 1 p) ++ rs)
+    ≡ begun_by d 0 k p ++ rs
 first_by d k [] rs s = absurd (omega arith)
 first_by d k (c ∷ p) rs s = ap (λ (qs : List Row). qs ++ rs) (sym (first_begun d k (c ∷ p) s))
 
 first_item : (n d : ℕ) (l : ListLine) (ls : List ListLine) → Shown n → AllGoOn ls → AreBounded (suc n) (l ∷ ls) → Alike l.prefix ls
     → record { depth = d; item = false; sign = sign_of l; line = l.number } ∷ rows (suc d) (item_by (lists n) (l ∷ ls)) ≡ begun d [] (l ∷ ls)
 first_item n d l ls h g b a =
-    ap (λ (rs : List Row). record { depth = d; item = false; sign = sign_of l; line = l.number } ∷ record { depth = suc d; item = true; sign = sign_of l; line = l.number } ∷ rs) (inside n d l ls h g b a)
+    ap (λ (rs : List Row). record { depth = d; item = false; sign = sign_of l; line = l.number }
+    ∷ record { depth = suc d; item = true; sign = sign_of l; line = l.number } ∷ rs) (inside n d l ls h g b a)
     ∙ first_by d l.number l.prefix (begun d l.prefix ls) b.0.0
 
 none_left : (p : List ℕ) → common p [] ≡ 0
@@ -178,7 +192,8 @@ none_left [] = refl
 none_left (c ∷ p) = refl
 
 -- another one, whose first line has one sign
-next_by : (d k : ℕ) (before p : List ℕ) (rs : List Row) → 0 < length before → 0 < length p → nat_lt 1 (length p) ≡ false → same_list (get_or before 0 0) (get_or p 0 0) ≡ true
+next_by : (d k : ℕ) (before p : List ℕ) (rs : List Row) → 0 < length before → 0 < length p → nat_lt 1 (length p) ≡ false
+    → same_list (get_or before 0 0) (get_or p 0 0) ≡ true
     → record { depth = suc d; item = true; sign = get_or p 0 0; line = k } ∷ (opened (suc (suc d)) k (drop 1 p) ++ rs) ≡ begun_by d (common before p) k p ++ rs
 next_by d k [] p rs s t g e = absurd (omega arith)
 next_by d k (c ∷ before) [] rs s t g e = absurd (omega arith)
@@ -187,7 +202,8 @@ next_by d k (c ∷ before) (f ∷ []) rs s t g e =
     rw (e, none_left before) (ap (λ m. record { depth = m; item = true; sign = f; line = k } ∷ rs) one)
 next_by d k (c ∷ before) (f ∷ q ∷ p) rs s t g e = let h : nat_lt 1 (suc (suc (length p))) ≡ true = grind (arith, nat_tests) in cc
 
-next_item : (n d : ℕ) (before : List ℕ) (l : ListLine) (ls : List ListLine) → Shown n → 0 < length before → goes_on l ≡ false → AllGoOn ls → AreBounded (suc n) (l ∷ ls) → Alike before (l ∷ ls)
+next_item : (n d : ℕ) (before : List ℕ) (l : ListLine) (ls : List ListLine) → Shown n → 0 < length before → goes_on l ≡ false
+    → AllGoOn ls → AreBounded (suc n) (l ∷ ls) → Alike before (l ∷ ls)
     → rows (suc d) (item_by (lists n) (l ∷ ls)) ≡ begun d before (l ∷ ls)
 next_item n d before l ls h s v g b a =
     ap (λ (rs : List Row). record { depth = suc d; item = true; sign = sign_of l; line = l.number } ∷ rs) (inside n d l ls h g b a.1)
@@ -202,7 +218,8 @@ begins_after : (l : ListLine) (ls others : List ListLine) → IsRun one_item (l 
 begins_after l ls [] r = tt
 begins_after l ls (m ∷ ms) r = item_ends l ls m ms r
 
-next_items : (n d : ℕ) (rs : List (List ListLine)) (all : List ListLine) (before : List ℕ) → Shown n → AreRuns one_item rs all → 0 < length before → Begins all → AreBounded (suc n) all → Alike before all
+next_items : (n d : ℕ) (rs : List (List ListLine)) (all : List ListLine) (before : List ℕ) → Shown n → AreRuns one_item rs all
+    → 0 < length before → Begins all → AreBounded (suc n) all → Alike before all
     → rows_of_all (suc d) (forest (map (item_by (lists n)) rs)) ≡ begun d before all
 next_items n d [] all before h r s v b a = ap (begun d before) (sym r)
 next_items n d ([] ∷ rs) all before h r s v b a = absurd r.2
@@ -212,9 +229,11 @@ next_items n d ((l ∷ ls) ∷ rs) all before h r s v b a =
     let bb = subst (AreBounded (suc n)) r.1 b in
     let aa = subst (Alike before) r.1 a in
     let vv = subst Begins r.1 v in
-    ap (λ qs. qs ++ rows_of_all (suc d) (forest (map (item_by (lists n)) rs))) (next_item n d before l ls h s vv g (bounded_front (suc n) (l ∷ ls) others bb) (alike_front before (l ∷ ls) others aa))
+    ap (λ qs. qs ++ rows_of_all (suc d) (forest (map (item_by (lists n)) rs)))
+    (next_item n d before l ls h s vv g (bounded_front (suc n) (l ∷ ls) others bb) (alike_front before (l ∷ ls) others aa))
     ∙ ap (λ qs. begun d before (l ∷ ls) ++ qs)
-    (next_items n d rs others (last_prefix before (l ∷ ls)) h r.3 (some_last (suc n) before (l ∷ ls) s (bounded_front (suc n) (l ∷ ls) others bb)) (begins_after l ls others r.2)
+    (next_items n d rs others (last_prefix before (l ∷ ls)) h r.3
+    (some_last (suc n) before (l ∷ ls) s (bounded_front (suc n) (l ∷ ls) others bb)) (begins_after l ls others r.2)
     (bounded_back (suc n) (l ∷ ls) others bb) (alike_back before (l ∷ ls) others aa))
     ∙ sym (begun_append d before (l ∷ ls) others)
     ∙ ap (begun d before) (sym r.1)
@@ -234,11 +253,13 @@ chained : (r others : List ListLine) → IsRun one_list r others → Chained r
 chained [] others r = absurd r
 chained (l ∷ ls) others r = list_alike l ls others r
 
-list_ends : (l : ListLine) (ls : List ListLine) (m : ListLine) (ms : List ListLine) → IsRun one_list (l ∷ ls) (m ∷ ms) → same_list (get_or (last_prefix l.prefix ls) 0 0) (sign_of m) ≡ false
+list_ends : (l : ListLine) (ls : List ListLine) (m : ListLine) (ms : List ListLine) → IsRun one_list (l ∷ ls) (m ∷ ms)
+    → same_list (get_or (last_prefix l.prefix ls) 0 0) (sign_of m) ≡ false
 list_ends l [] m ms r = r
 list_ends l (k ∷ ls) m ms r = list_ends k ls m ms r.1
 
-one_run : (n d : ℕ) (rs : List (List ListLine)) (all : List ListLine) → Shown n → AreRuns one_item rs all → 0 < length all → AreBounded (suc n) all → Chained all
+one_run : (n d : ℕ) (rs : List (List ListLine)) (all : List ListLine) → Shown n → AreRuns one_item rs all → 0 < length all
+    → AreBounded (suc n) all → Chained all
     → rows d (node_of false all (map (item_by (lists n)) rs)) ≡ begun d [] all
 one_run n d [] all h r s b a = let z : length all ≡ 0 = ap length r in absurd (omega arith)
 one_run n d ([] ∷ rs) all h r s b a = absurd r.2
@@ -258,7 +279,8 @@ one_run n d ((l ∷ ls) ∷ rs) all h r s b a =
 
 list_begun : (n d : ℕ) (r others : List ListLine) → Shown n → IsRun one_list r others → AreBounded (suc n) r → rows d (list_by (lists n) r) ≡ begun d [] r
 list_begun n d [] others h run b = absurd run
-list_begun n d (l ∷ ls) others h run b = one_run n d (runs one_item (l ∷ ls)) (l ∷ ls) h (runs_are one_item (l ∷ ls)) (omega arith) b (chained (l ∷ ls) others run)
+list_begun n d (l ∷ ls) others h run b = one_run n d (runs one_item (l ∷ ls)) (l ∷ ls) h (runs_are one_item (l ∷ ls))
+    (omega arith) b (chained (l ∷ ls) others run)
 
 -- a list after another one begins as after no line
 apart : (d : ℕ) (r others : List ListLine) → IsRun one_list r others → begun d (last_prefix [] r) others ≡ begun d [] others
@@ -266,7 +288,8 @@ apart d [] others run = absurd run
 apart d (l ∷ ls) [] run = refl
 apart d (l ∷ ls) (m ∷ ms) run = begun_apart d (last_prefix l.prefix ls) m ms (list_ends l ls m ms run)
 
-lists_begun : (n d : ℕ) (rs : List (List ListLine)) (all : List ListLine) → Shown n → AreRuns one_list rs all → AreBounded (suc n) all → rows_of_all d (forest (map (list_by (lists n)) rs)) ≡ begun d [] all
+lists_begun : (n d : ℕ) (rs : List (List ListLine)) (all : List ListLine) → Shown n → AreRuns one_list rs all
+    → AreBounded (suc n) all → rows_of_all d (forest (map (list_by (lists n)) rs)) ≡ begun d [] all
 lists_begun n d [] all h r b = ap (begun d []) (sym r)
 lists_begun n d (run ∷ rs) all h r b =
     let others = r.0 in

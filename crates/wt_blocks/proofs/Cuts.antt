@@ -22,7 +22,8 @@ prefix_taken p zero xs = omega arith
 prefix_taken p (suc n) [] = omega arith
 prefix_taken p (suc n) (x ∷ xs) = ap (λ k. cond (p x) (1 + k) 0) (prefix_taken p n xs) ∙ front_case n (prefix_len p xs) (p x)
 
-past_by : (p : ℕ → Bool) (x : ℕ) (xs : List ℕ) (v : Bool) → past p xs ≡ drop (prefix_len p xs) xs → cond v (past p xs) (x ∷ xs) ≡ drop (cond v (1 + prefix_len p xs) 0) (x ∷ xs)
+past_by : (p : ℕ → Bool) (x : ℕ) (xs : List ℕ) (v : Bool) → past p xs ≡ drop (prefix_len p xs) xs
+    → cond v (past p xs) (x ∷ xs) ≡ drop (cond v (1 + prefix_len p xs) 0) (x ∷ xs)
 past_by p x xs true e = rw (one-add (prefix_len p xs)) e
 past_by p x xs false e = refl
 
@@ -109,7 +110,8 @@ level_fits c level e = let a = level_small c in omega (arith, a.0, e)
 
 -- ---- the delimiters
 
-pub open_is : (ss : List ℕ) (c level rest blanks : ℕ) → c ≡ length (core ss) → level ≡ level_of (core ss) → rest ≡ c - level → blanks ≡ min rest (blank_len (drop level ss)) → level + blanks ≡ open_len (core ss)
+pub open_is : (ss : List ℕ) (c level rest blanks : ℕ) → c ≡ length (core ss) → level ≡ level_of (core ss) → rest ≡ c - level
+    → blanks ≡ min rest (blank_len (drop level ss)) → level + blanks ≡ open_len (core ss)
 open_is ss c level rest blanks ec el er eb =
     let r : rest ≡ length ss - prefix_len is_idle (reverse ss) - level = er ∙ ap (λ n. n - level) (ec ∙ core_is ss) in
     let b : blanks ≡ blank_len (drop level (core ss)) =
@@ -121,13 +123,15 @@ pub between : (c : List ℕ) (o d l : ℕ) → d ≡ length c - l - o → blank_
 between c o zero l e = omega arith
 between c o (suc d) l e = ap blank_len (middle c o (suc d) l (omega arith)) ∙ prefix_taken is_blank (suc d) (drop l (reverse c))
 
-pub inside_is : (ss : List ℕ) (c level rest opened d blanks : ℕ) → c ≡ length (core ss) → level ≡ level_of (core ss) → rest ≡ c - level → opened ≡ open_len (core ss) → d ≡ rest - opened
+pub inside_is : (ss : List ℕ) (c level rest opened d blanks : ℕ) → c ≡ length (core ss) → level ≡ level_of (core ss)
+    → rest ≡ c - level → opened ≡ open_len (core ss) → d ≡ rest - opened
     → blanks ≡ min d (blank_len (drop level (past is_idle (reverse ss)))) → d - blanks ≡ inside_len (core ss)
 inside_is ss c level rest opened d blanks ec el er eo ed eb =
     let k = core ss in
     let de : d ≡ length k - level_of k - open_len k = omega (arith, ec, el, er, eo, ed) in
     let b : blanks ≡ blank_len (reverse (take d (drop (open_len k) k))) =
-    eb ∙ ap (λ n. min d (blank_len (drop n (past is_idle (reverse ss))))) el ∙ ap (λ xs. min d (blank_len (drop (level_of k) xs))) (sym (core_back ss)) ∙ sym (between k (open_len k) d (level_of k) de) in
+    eb ∙ ap (λ n. min d (blank_len (drop n (past is_idle (reverse ss))))) el ∙ ap (λ xs. min d (blank_len (drop (level_of k) xs)))
+    (sym (core_back ss)) ∙ sym (between k (open_len k) d (level_of k) de) in
     let tl : length (take d (drop (open_len k) k)) ≡ d = length-take-le d (drop (open_len k) k) (omega (arith, length-drop (open_len k) k, de)) in
     ap (λ n. d - n) b ∙ ap (λ n. n - blank_len (reverse (take d (drop (open_len k) k)))) (sym tl) ∙ ap (λ n. trimmed_len (take n (drop (open_len k) k))) de
 
@@ -147,11 +151,16 @@ cuts_within ss =
 pub one_further : (whole s t : List ℕ) (i b : ℕ) → s ≡ b ∷ t → s ≡ drop i whole → t ≡ drop (i + 1) whole
 one_further whole s t i b e h = sym (ap (drop 1) e) ∙ ap (drop 1) h ∙ drop-drop 1 i whole
 
-pub delimiters_are : (xs : List Item) (level opened inner count : ℕ) → level ≡ level_of (core (map sign xs)) → opened ≡ open_len (core (map sign xs)) → inner ≡ inside_len (core (map sign xs)) → count ≡ length xs
+pub delimiters_are : (xs : List Item) (level opened inner count : ℕ) → level ≡ level_of (core (map sign xs))
+    → opened ≡ open_len (core (map sign xs)) → inner ≡ inside_len (core (map sign xs)) → count ≡ length xs
     → (level, length (sources (take opened xs)), length (sources (take count xs)) - length (sources (take (opened + inner) xs))) ≡ delimiters xs
 unfolding Rattle.wt_blocks.specs.Headings.level opening closing
 delimiters_are xs level opened inner count el eo ei ec =
     ap (λ n. (n, length (sources (take opened xs)), length (sources (take count xs)) - length (sources (take (opened + inner) xs)))) el
     ∙ ap (λ n. (level_of (core (map sign xs)), length (sources (take opened xs)), n)) (rest_bytes xs count (opened + inner) ec)
     ∙ ap (λ n. (level_of (core (map sign xs)), length (sources (take n xs)), length (sources (drop (n + inner) xs)))) eo
-    ∙ ap (λ n. (level_of (core (map sign xs)), length (sources (take (open_len (core (map sign xs))) xs)), length (sources (drop (open_len (core (map sign xs)) + n) xs)))) ei
+    ∙ ap (λ n. (
+      level_of (core (map sign xs)),
+      length (sources (take (open_len (core (map sign xs))) xs)),
+      length (sources (drop (open_len (core (map sign xs)) + n) xs)),
+    )) ei

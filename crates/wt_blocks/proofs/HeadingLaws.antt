@@ -16,7 +16,8 @@ use Rattle.wt_blocks.specs.HeadingEnds.{StandAtEnds, AllPass, IsOpening, IsClosi
 
 -- ---- runs of `=`
 
-equal_by : (n x : ℕ) (c : List ℕ) (v : Bool) → (x == 61) ≡ v → suc n ≤ cond v (1 + equals c) 0 → (n ≤ equals c → take n c ≡ replicate n 61) → x ∷ take n c ≡ 61 ∷ replicate n 61
+equal_by : (n x : ℕ) (c : List ℕ) (v : Bool) → (x == 61) ≡ v → suc n ≤ cond v (1 + equals c) 0
+    → (n ≤ equals c → take n c ≡ replicate n 61) → x ∷ take n c ≡ 61 ∷ replicate n 61
 equal_by n x c true e h ih = let f : x ≡ 61 = grind (arith, nat_tests) in ap (λ y. y ∷ take n c) f ∙ ap (λ (ys : List ℕ). 61 ∷ ys) (ih (omega arith))
 equal_by n x c false e h ih = absurd (omega arith)
 
@@ -40,7 +41,8 @@ passes_back : (c : List ℕ) (i : ℕ) → i < length c → length c ≤ i + equ
 passes_back c i h g =
     let at : length c - 1 - (length c - 1 - i) ≡ i = omega arith in
     let r = length-reverse c in
-    sym (ap (λ x. x == 61) (get_or-reverse c (length c - 1 - i) 0 (omega arith) ∙ ap (λ k. get_or c k 0) at)) ∙ prefix_len_passes (λ s. s == 61) (reverse c) (length c - 1 - i) 0 (omega arith)
+    sym (ap (λ x. x == 61) (get_or-reverse c (length c - 1 - i) 0 (omega arith) ∙ ap (λ k. get_or c k 0) at))
+    ∙ prefix_len_passes (λ s. s == 61) (reverse c) (length c - 1 - i) 0 (omega arith)
 
 short_back : (c : List ℕ) (i : ℕ) → i < length c → (get_or c i 0 == 61) ≡ false → i + equals (reverse c) < length c
 short_back c i h e = lt_of_not-le (λ g. let t : (get_or c i 0 == 61) ≡ true = passes_back c i h g in cc)
@@ -57,7 +59,8 @@ all_back c e =
 abbrev level_cond : List ℕ → Bool → ℕ
 level_cond c v = cond v (min 6 ((length c - 1) / 2)) (min 6 (min (equals c) (equals (reverse c))))
 
-stands_by : (c : List ℕ) (v : Bool) → (equals c == length c) ≡ v → 0 < length c → (level_cond c v ≤ equals c) × (level_cond c v ≤ equals (reverse c)) × (2 * level_cond c v < length c)
+stands_by : (c : List ℕ) (v : Bool) → (equals c == length c) ≡ v → 0 < length c
+    → (level_cond c v ≤ equals c) × (level_cond c v ≤ equals (reverse c)) × (2 * level_cond c v < length c)
 stands_by c true e s =
     let f : equals c ≡ length c = grind (arith, nat_tests) in
     let g = all_back c f in
@@ -82,7 +85,8 @@ level_greatest c n a h = greatest_by c n (equals c == length c) a (equal_back n 
 
 -- ---- the delimiters
 
-all_by : (p : ℕ → Bool) (n x : ℕ) (xs : List ℕ) (v : Bool) → p x ≡ v → suc n ≤ cond v (1 + prefix_len p xs) 0 → (n ≤ prefix_len p xs → AllPass p (take n xs)) → AllPass p (x ∷ take n xs)
+all_by : (p : ℕ → Bool) (n x : ℕ) (xs : List ℕ) (v : Bool) → p x ≡ v → suc n ≤ cond v (1 + prefix_len p xs) 0
+    → (n ≤ prefix_len p xs → AllPass p (take n xs)) → AllPass p (x ∷ take n xs)
 all_by p n x xs true e h ih = (e, ih (omega arith))
 all_by p n x xs false e h ih = absurd (omega arith)
 
@@ -121,11 +125,13 @@ open_is ss h =
     let n = core_is ss in
     let blanks = take (blank_len (drop l c)) (drop l c) in (
       blanks,
-      sym (take-take (open_len c) (length ss - prefix_len is_idle (reverse ss)) ss (omega (arith, r, n))) ∙ take-add l (blank_len (drop l c)) c ∙ ap (λ xs. xs ++ blanks) (equal_front l c a.0),
+      sym (take-take (open_len c) (length ss - prefix_len is_idle (reverse ss)) ss (omega (arith, r, n)))
+          ∙ take-add l (blank_len (drop l c)) c ∙ ap (λ xs. xs ++ blanks) (equal_front l c a.0),
       all_front is_blank (blank_len (drop l c)) (drop l c) (omega arith),
     )
 
-inside_value : (c : List ℕ) → inside_len c ≡ length c - level_of c - open_len c - min (length c - level_of c - open_len c) (blank_len (drop (level_of c) (reverse c)))
+inside_value : (c : List ℕ) → inside_len c ≡ length c - level_of c - open_len c - min (length c - level_of c - open_len c)
+    (blank_len (drop (level_of c) (reverse c)))
 inside_value c =
     let d = length c - level_of c - open_len c in
     let tl : length (take d (drop (open_len c) c)) ≡ d = length-take-le d (drop (open_len c) c) (omega (arith, length-drop (open_len c) c)) in
@@ -185,7 +191,8 @@ ends ss h =
     let rl = length-reverse t in
     let at : o + (length t - 1 - k) ≡ o + inside_len c - 1 = omega arith in
     let is : get_or (reverse t) k 0 ≡ get_or ss (o + inside_len c - 1) 0 =
-    get_or-reverse t k 0 (omega arith) ∙ get_or-take d (drop o c) (length t - 1 - k) 0 (omega (arith, tl)) ∙ get_or-drop o c (length t - 1 - k) 0 ∙ ap (λ q. get_or c q 0) at
+    get_or-reverse t k 0 (omega arith) ∙ get_or-take d (drop o c) (length t - 1 - k) 0 (omega (arith, tl))
+    ∙ get_or-drop o c (length t - 1 - k) 0 ∙ ap (λ q. get_or c q 0) at
     ∙ get_or-take (length ss - prefix_len is_idle (reverse ss)) ss (o + inside_len c - 1) 0 (omega (arith, n, tl)) in
     ap is_blank (sym is) ∙ prefix_len_stops is_blank (reverse t) 0 (omega (arith, rl))
 
@@ -204,7 +211,8 @@ unfolding opening inside closing
 joined xs =
     let o = open_len (core (map sign xs)) in
     let i = inside_len (core (map sign xs)) in
-    ap (λ ys. take o xs ++ (take i (drop o xs) ++ ys)) (sym (drop-drop i o xs)) ∙ ap (λ ys. take o xs ++ ys) (take-append-drop i (drop o xs)) ∙ take-append-drop o xs
+    ap (λ ys. take o xs ++ (take i (drop o xs) ++ ys)) (sym (drop-drop i o xs))
+    ∙ ap (λ ys. take o xs ++ ys) (take-append-drop i (drop o xs)) ∙ take-append-drop o xs
 
 pub opens : (xs : List Item) → 0 < level xs → IsOpening (level xs) (map sign (opening xs))
 unfolding level opening
@@ -212,7 +220,8 @@ opens xs h = subst (IsOpening (level_of (core (map sign xs)))) (take-map sign (o
 
 pub closes : (xs : List Item) → 0 < level xs → IsClosing (level xs) (map sign (closing xs))
 unfolding level closing
-closes xs h = subst (IsClosing (level_of (core (map sign xs)))) (drop-map sign (open_len (core (map sign xs)) + inside_len (core (map sign xs))) xs) (close_is (map sign xs) h)
+closes xs h = subst (IsClosing (level_of (core (map sign xs))))
+    (drop-map sign (open_len (core (map sign xs)) + inside_len (core (map sign xs))) xs) (close_is (map sign xs) h)
 
 opening_len : (xs : List Item) → length (opening xs) ≡ open_len (core (map sign xs))
 unfolding opening
@@ -232,7 +241,8 @@ bare_front xs h = ap (λ k. is_blank (get_or (map sign xs) k 0)) (opening_len xs
 pub bare_end : (xs : List Item) → 0 < length (inside xs) → is_blank (get_or (map sign xs) (length (opening xs) + length (inside xs) - 1) 0) ≡ false
 bare_end xs h =
     let i = inner_len xs in
-    ap (λ k. is_blank (get_or (map sign xs) (k + length (inside xs) - 1) 0)) (opening_len xs) ∙ ap (λ k. is_blank (get_or (map sign xs) (open_len (core (map sign xs)) + k - 1) 0)) i
+    ap (λ k. is_blank (get_or (map sign xs) (k + length (inside xs) - 1) 0)) (opening_len xs)
+    ∙ ap (λ k. is_blank (get_or (map sign xs) (open_len (core (map sign xs)) + k - 1) 0)) i
     ∙ ends (map sign xs) (omega (arith, i, h))
 
 pub six : (xs : List Item) → level xs ≤ 6

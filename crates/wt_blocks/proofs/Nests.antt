@@ -20,7 +20,8 @@ numbered_append n (p ∷ ps) qs =
     let e : suc n + length ps ≡ n + suc (length ps) = omega arith in
     ap (λ (ls : List ListLine). record { number = n; prefix = p } ∷ ls) (numbered_append (suc n) ps qs ∙ ap (λ m. numbered (suc n) ps ++ numbered m qs) e)
 
-pub lines_append : (first depth : ℕ) (ps qs : List (List ℕ)) → lines_from first depth (ps ++ qs) ≡ lines_from first depth ps ++ lines_from (first + length ps) depth qs
+pub lines_append : (first depth : ℕ) (ps qs : List (List ℕ)) → lines_from first depth (ps ++ qs) ≡ lines_from first depth ps
+    ++ lines_from (first + length ps) depth qs
 lines_append first depth ps qs =
     ap (numbered first) (map-append (drop depth) ps qs) ∙ numbered_append first (map (drop depth) ps) (map (drop depth) qs)
     ∙ ap (λ m. lines_from first depth ps ++ numbered (first + m) (map (drop depth) qs)) (length-map ps (drop depth))
@@ -37,8 +38,10 @@ run_of_lines joins over depth e f g (p ∷ q ∷ ps) qs r = (e p q f (suc f) ∙
 sign_after : (depth : ℕ) (p : List ℕ) → get_or (drop depth p) 0 0 ≡ get_or p depth 0
 sign_after depth p = let z : depth + 0 ≡ depth = omega arith in get_or-drop depth p 0 0 ∙ ap (λ k. get_or p k 0) z
 
-list_joins : (depth : ℕ) (p q : List ℕ) (a b : ℕ) → one_list (record { number = a; prefix = drop depth p }) (record { number = b; prefix = drop depth q }) ≡ one_list_at depth p q
-list_joins depth p q a b = ap (λ c. same_list c (get_or (drop depth q) 0 0)) (sign_after depth p) ∙ ap (λ c. same_list (get_or p depth 0) c) (sign_after depth q)
+list_joins : (depth : ℕ) (p q : List ℕ) (a b : ℕ) → one_list (record { number = a; prefix = drop depth p })
+    (record { number = b; prefix = drop depth q }) ≡ one_list_at depth p q
+list_joins depth p q a b = ap (λ c. same_list c (get_or (drop depth q) 0 0)) (sign_after depth p)
+    ∙ ap (λ c. same_list (get_or p depth 0) c) (sign_after depth q)
 
 goes_on_at : (depth : ℕ) (q : List ℕ) → nat_lt 1 (length (drop depth q)) ≡ nat_lt (depth + 1) (length q)
 goes_on_at depth q = let e = length-drop depth q in grind (arith, nat_tests)
@@ -51,7 +54,8 @@ lists_cut (suc n) r o s run =
     let e : suc n - 1 ≡ n = omega arith in
     ap (map (list_by (lists n))) (runs_cut one_list r o run) ∙ ap (λ m. list_by (lists m) r ∷ lists (suc n) o) (sym e)
 
-pub items_cut : (lists_in : List ListLine → List ListTree) (r o : List ListLine) → IsRun one_item r o → items_by lists_in (r ++ o) ≡ item_by lists_in r ∷ items_by lists_in o
+pub items_cut : (lists_in : List ListLine → List ListTree) (r o : List ListLine) → IsRun one_item r o
+    → items_by lists_in (r ++ o) ≡ item_by lists_in r ∷ items_by lists_in o
 items_cut lists_in r o run = ap (map (item_by lists_in)) (runs_cut one_item r o run)
 
 no_lists : (n : ℕ) → lists n [] ≡ []
@@ -71,9 +75,11 @@ lines_cut first depth at m ps rest e w =
     ∙ ap (λ qs. lines_from (first + at) depth (take m rest) ++ lines_from (first + (at + m)) depth qs) d
 
 -- one more list
-pub list_done : (n first depth at m : ℕ) (ps rest run : List (List ℕ)) (done all : List ListTree) (t : ListTree) → 0 < n → rest ≡ drop at ps → run ≡ take m rest → m ≤ length rest
+pub list_done : (n first depth at m : ℕ) (ps rest run : List (List ℕ)) (done all : List ListTree) (t : ListTree) → 0 < n
+    → rest ≡ drop at ps → run ≡ take m rest → m ≤ length rest
     → IsFront (one_list_at depth) rest m → t ≡ list_by (lists (n - 1)) (lines_from (first + at) depth run)
-    → done ++ lists n (lines_from (first + at) depth (drop at ps)) ≡ all → (done ++ t ∷ []) ++ lists n (lines_from (first + (at + m)) depth (drop (at + m) ps)) ≡ all
+    → done ++ lists n (lines_from (first + at) depth (drop at ps)) ≡ all
+    → (done ++ t ∷ []) ++ lists n (lines_from (first + (at + m)) depth (drop (at + m) ps)) ≡ all
 list_done n first depth at m ps rest run done all t s e r w front is h =
     let others = lines_from (first + (at + m)) depth (drop (at + m) ps) in
     let d : drop m rest ≡ drop (at + m) ps = ap (drop m) e ∙ drop-drop m at ps in
@@ -86,9 +92,11 @@ list_done n first depth at m ps rest run done all t s e r w front is h =
     ∙ h
 
 -- one more item
-pub item_done : (lists_in : List ListLine → List ListTree) (first depth at m : ℕ) (ps rest item : List (List ℕ)) (done all : List ListTree) (t : ListTree) → rest ≡ drop at ps → item ≡ take m rest → m ≤ length rest
+pub item_done : (lists_in : List ListLine → List ListTree) (first depth at m : ℕ) (ps rest item : List (List ℕ))
+    (done all : List ListTree) (t : ListTree) → rest ≡ drop at ps → item ≡ take m rest → m ≤ length rest
     → IsFront (one_item_at depth) rest m → t ≡ item_by lists_in (lines_from (first + at) depth item)
-    → done ++ items_by lists_in (lines_from (first + at) depth (drop at ps)) ≡ all → (done ++ t ∷ []) ++ items_by lists_in (lines_from (first + (at + m)) depth (drop (at + m) ps)) ≡ all
+    → done ++ items_by lists_in (lines_from (first + at) depth (drop at ps)) ≡ all
+    → (done ++ t ∷ []) ++ items_by lists_in (lines_from (first + (at + m)) depth (drop (at + m) ps)) ≡ all
 item_done lists_in first depth at m ps rest item done all t e r w front is h =
     let others = lines_from (first + (at + m)) depth (drop (at + m) ps) in
     let d : drop m rest ≡ drop (at + m) ps = ap (drop m) e ∙ drop-drop m at ps in
@@ -100,10 +108,13 @@ item_done lists_in first depth at m ps rest item done all t e r w front is h =
     ∙ ap (λ ts. done ++ ts) (sym (ap (items_by lists_in) (lines_cut first depth at m ps rest e w) ∙ cut))
     ∙ h
 
-pub lists_end : (n number depth : ℕ) (rest : List (List ℕ)) (done all : List ListTree) → rest ≡ [] → done ++ lists n (lines_from number depth rest) ≡ all → done ≡ all
-lists_end n number depth rest done all e h = sym (append-nil done) ∙ ap (λ ts. done ++ ts) (sym (no_lists n) ∙ ap (λ qs. lists n (lines_from number depth qs)) (sym e)) ∙ h
+pub lists_end : (n number depth : ℕ) (rest : List (List ℕ)) (done all : List ListTree) → rest ≡ []
+    → done ++ lists n (lines_from number depth rest) ≡ all → done ≡ all
+lists_end n number depth rest done all e h = sym (append-nil done)
+    ∙ ap (λ ts. done ++ ts) (sym (no_lists n) ∙ ap (λ qs. lists n (lines_from number depth qs)) (sym e)) ∙ h
 
-pub items_end : (lists_in : List ListLine → List ListTree) (number depth : ℕ) (rest : List (List ℕ)) (done all : List ListTree) → rest ≡ [] → done ++ items_by lists_in (lines_from number depth rest) ≡ all → done ≡ all
+pub items_end : (lists_in : List ListLine → List ListTree) (number depth : ℕ) (rest : List (List ℕ)) (done all : List ListTree)
+    → rest ≡ [] → done ++ items_by lists_in (lines_from number depth rest) ≡ all → done ≡ all
 items_end lists_in number depth rest done all e h = sym (append-nil done) ∙ ap (λ qs. done ++ items_by lists_in (lines_from number depth qs)) (sym e) ∙ h
 
 -- ---- the lines that go on in an item
@@ -123,10 +134,12 @@ inner_all first depth (p ∷ ps) h =
     (ap (λ (cs : List ℕ). record { number = first; prefix = cs } ∷ inner (lines_from (suc first) depth ps)) (drop-drop 1 depth p)
     ∙ ap (λ (ls : List ListLine). record { number = first; prefix = drop (depth + 1) p } ∷ ls) (inner_all (suc first) depth ps h.1))
 
-pub inner_longer : (first depth : ℕ) (p : List ℕ) (ps : List (List ℕ)) → AllGoOn depth ps → nat_lt (depth + 1) (length p) ≡ true → inner (lines_from first depth (p ∷ ps)) ≡ lines_from first (depth + 1) (p ∷ ps)
+pub inner_longer : (first depth : ℕ) (p : List ℕ) (ps : List (List ℕ)) → AllGoOn depth ps → nat_lt (depth + 1) (length p) ≡ true
+    → inner (lines_from first depth (p ∷ ps)) ≡ lines_from first (depth + 1) (p ∷ ps)
 inner_longer first depth p ps h e = inner_all first depth (p ∷ ps) (e, h)
 
-pub inner_shorter : (first depth : ℕ) (p : List ℕ) (ps : List (List ℕ)) → AllGoOn depth ps → nat_lt (depth + 1) (length p) ≡ false → inner (lines_from first depth (p ∷ ps)) ≡ lines_from (suc first) (depth + 1) ps
+pub inner_shorter : (first depth : ℕ) (p : List ℕ) (ps : List (List ℕ)) → AllGoOn depth ps → nat_lt (depth + 1) (length p) ≡ false
+    → inner (lines_from first depth (p ∷ ps)) ≡ lines_from (suc first) (depth + 1) ps
 inner_shorter first depth p ps h e = rw (goes_on_at depth p, e) (inner_all (suc first) depth ps h)
 
 go_on_at : (depth : ℕ) (ps : List (List ℕ)) → AllGoOn depth ps → (k : ℕ) (d : List ℕ) → k < length ps → depth + 1 < length (get_or ps k d)
@@ -134,7 +147,8 @@ go_on_at depth [] h k d l = absurd (omega arith)
 go_on_at depth (p ∷ ps) h zero d l = let e : nat_lt (depth + 1) (length p) ≡ true = h.0 in grind (arith, nat_tests)
 go_on_at depth (p ∷ ps) h (suc k) d l = go_on_at depth ps h.1 k d (omega arith)
 
-pub left_longer : (depth : ℕ) (ps others : List (List ℕ)) → AreLeft depth ps → IsRun (one_item_at depth) ps others → nat_lt (depth + 1) (length (get_or ps 0 [])) ≡ true → AreLeft (depth + 1) ps
+pub left_longer : (depth : ℕ) (ps others : List (List ℕ)) → AreLeft depth ps → IsRun (one_item_at depth) ps others
+    → nat_lt (depth + 1) (length (get_or ps 0 [])) ≡ true → AreLeft (depth + 1) ps
 left_longer depth [] others a r e k d l = absurd r
 left_longer depth (p ∷ ps) others a r e k d l = (go_on_at depth (p ∷ ps) (e, all_go_on depth p ps others r) k d l, (a k d l).1)
 
@@ -150,7 +164,8 @@ inside_longer first depth (p ∷ ps) others r e =
     let z : first + (suc (length ps) - suc (length ps)) ≡ first = omega arith in
     inner_longer first depth p ps (all_go_on depth p ps others r) e ∙ ap (λ n. lines_from n (depth + 1) (p ∷ ps)) (sym z)
 
-pub inside_shorter : (first depth : ℕ) (ps qs others : List (List ℕ)) → qs ≡ drop 1 ps → IsRun (one_item_at depth) ps others → nat_lt (depth + 1) (length (get_or ps 0 [])) ≡ false
+pub inside_shorter : (first depth : ℕ) (ps qs others : List (List ℕ)) → qs ≡ drop 1 ps → IsRun (one_item_at depth) ps others
+    → nat_lt (depth + 1) (length (get_or ps 0 [])) ≡ false
     → inner (lines_from first depth ps) ≡ lines_from (first + (length ps - length qs)) (depth + 1) qs
 inside_shorter first depth [] qs others q r e = absurd r
 inside_shorter first depth (p ∷ ps) qs others q r e =
@@ -172,12 +187,15 @@ pushed ns ms n e = ap list_trees e ∙ map-append list_tree ns (n ∷ [])
 
 -- the signs that are left of some of the lines
 pub left_rest : (depth at : ℕ) (ps rest : List (List ℕ)) → rest ≡ drop at ps → AreLeft depth ps → AreLeft depth rest
-left_rest depth at ps rest e a = subst (AreLeft depth) (sym e) (λ k d l. subst (λ (p : List ℕ). (depth < length p) × (length p ≤ 32)) (sym (get_or-drop at ps k d)) (a (at + k) d (omega (arith, length-drop at ps))))
+left_rest depth at ps rest e a = subst (AreLeft depth) (sym e)
+    (λ k d l. subst (λ (p : List ℕ). (depth < length p) × (length p ≤ 32)) (sym (get_or-drop at ps k d))
+    (a (at + k) d (omega (arith, length-drop at ps))))
 
 pub left_front : (depth m : ℕ) (rest run : List (List ℕ)) → run ≡ take m rest → m ≤ length rest → AreLeft depth rest → AreLeft depth run
 left_front depth m rest run e w a =
     subst (AreLeft depth) (sym e)
-    (λ k d l. let h : k < m = omega (arith, length-take-le m rest w) in subst (λ (p : List ℕ). (depth < length p) × (length p ≤ 32)) (sym (get_or-take m rest k d h)) (a k d (omega arith)))
+    (λ k d l. let h : k < m = omega (arith, length-take-le m rest w) in
+    subst (λ (p : List ℕ). (depth < length p) × (length p ≤ 32)) (sym (get_or-take m rest k d h)) (a k d (omega arith)))
 
 pub from_the_first : (n : ℕ) (ps : List (List ℕ)) → lines_from n 0 ps ≡ numbered n ps
 from_the_first n [] = refl

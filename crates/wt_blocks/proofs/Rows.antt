@@ -42,7 +42,8 @@ no_lines = refl
 
 -- ---- paragraphs
 
-text_runs : paragraph_ranges (kind.Text ∷ kind.Text ∷ kind.Blank ∷ kind.Text ∷ kind.Heading ∷ kind.Blank ∷ kind.Pre ∷ kind.Text ∷ []) ≡ (0, 2) ∷ (3, 4) ∷ (7, 8) ∷ []
+text_runs : paragraph_ranges (kind.Text ∷ kind.Text ∷ kind.Blank ∷ kind.Text ∷ kind.Heading ∷ kind.Blank ∷ kind.Pre ∷ kind.Text
+    ∷ []) ≡ (0, 2) ∷ (3, 4) ∷ (7, 8) ∷ []
 unfolding paragraph_ranges
 text_runs = refl
 
@@ -69,7 +70,9 @@ abbrev atom : Item
 atom = whole form.Nowiki None (codes "<nowiki/>")
 
 -- a mark before the heading is no part of it; one behind it counts by its source, and one within parts a run
-marks : heading_parts (remark ∷ (map (char None) (codes "==a ==") ++ remark ∷ map (char None) (codes " "))) ∷ heading_parts (char None 61 ∷ remark ∷ map (char None) (codes "=")) ∷ heading_parts (char None 61 ∷ atom ∷ map (char None) (codes "=")) ∷ []
+marks : heading_parts (remark ∷ (map (char None) (codes "==a ==") ++ remark ∷ map (char None) (codes " ")))
+    ∷ heading_parts (char None 61 ∷ remark ∷ map (char None) (codes "="))
+    ∷ heading_parts (char None 61 ∷ atom ∷ map (char None) (codes "=")) ∷ []
     ≡ (2, 2, 14) ∷ (1, 1, 1) ∷ (1, 1, 1) ∷ []
 unfolding level opening closing
 marks = refl

@@ -27,7 +27,8 @@ left zero (j ∷ ks) rest k e = cc
 left (suc at) [] rest k e = cc
 left (suc at) (j ∷ ks) rest k e = left at ks rest k e
 
-by_places : (ks rest : List LineKind) (at : ℕ) → drop at ks ≡ rest → flat_map (paragraph_at ks) (range_with_len at (length rest)) ≡ told at (is_text_before ks at) rest
+by_places : (ks rest : List LineKind) (at : ℕ) → drop at ks ≡ rest → flat_map (paragraph_at ks) (range_with_len at (length rest))
+    ≡ told at (is_text_before ks at) rest
 by_places ks [] at e = refl
 by_places ks (k ∷ rest) at e =
     let g : is_text_kind (slice_get ks at) ≡ is_text k = ap is_text_kind (got at ks rest k e) in
@@ -86,7 +87,8 @@ run_told_by at k ks others true e r =
     let z : suc at + length ks ≡ at + suc (length ks) = omega arith in
     ap (λ v. cond (v && true) ((at, at + prefix_len is_text (k ∷ ks ++ others)) ∷ []) [] ++ told (suc at) v (ks ++ others)) e
     ∙ ap (λ n. (at, at + n) ∷ told (suc at) true (ks ++ others)) (text_front (k ∷ ks) others a both.1)
-    ∙ ap (λ rs. (at, at + suc (length ks)) ∷ rs) (told_on (suc at) ks others both.0 ∙ ap (λ n. told n true others) z ∙ told_after (at + suc (length ks)) others both.1)
+    ∙ ap (λ rs. (at, at + suc (length ks)) ∷ rs) (told_on (suc at) ks others both.0 ∙ ap (λ n. told n true others) z
+    ∙ told_after (at + suc (length ks)) others both.1)
     ∙ ap (λ v. cond v ((at, at + suc (length ks)) ∷ []) [] ++ told (at + suc (length ks)) false others) (sym (all_text (k ∷ ks) a))
 run_told_by at k [] others false e r =
     let z : suc at ≡ at + 1 = omega arith in
@@ -95,7 +97,8 @@ run_told_by at k [] others false e r =
     ∙ ap (λ v. cond (v && true) ((at, at + 1) ∷ []) [] ++ told (at + 1) false others) (sym e)
 run_told_by at k (j ∷ ks) others false e r = let h : false ≡ true = sym (ap (λ v. v && is_text j) e) ∙ r.0 in cc
 
-run_told : (at : ℕ) (r others : List LineKind) → IsRun one_paragraph r others → told at false (r ++ others) ≡ run_range at r ++ told (at + length r) false others
+run_told : (at : ℕ) (r others : List LineKind) → IsRun one_paragraph r others → told at false (r ++ others) ≡ run_range at r
+    ++ told (at + length r) false others
 run_told at [] others run = absurd run
 run_told at (k ∷ ks) others run = run_told_by at k ks others (is_text k) refl run
 
@@ -109,5 +112,6 @@ unfolding paragraph_ranges
 paragraphs_same ks = by_places ks ks 0 refl ∙ sym (runs_told 0 (runs one_paragraph ks) ks (runs_are one_paragraph ks))
 
 -- all places were looked at
-pub paragraphs_done : (all ks : List LineKind) (at : ℕ) (found : List (ℕ × ℕ)) → ks ≡ all → at ≡ length ks → found ≡ flat_map (paragraph_at ks) (range_with_len 0 at) → found ≡ paragraph_ranges all
+pub paragraphs_done : (all ks : List LineKind) (at : ℕ) (found : List (ℕ × ℕ)) → ks ≡ all → at ≡ length ks
+    → found ≡ flat_map (paragraph_at ks) (range_with_len 0 at) → found ≡ paragraph_ranges all
 paragraphs_done all ks at found e n h = h ∙ ap (λ m. flat_map (paragraph_at ks) (range_with_len 0 m)) n ∙ ap paragraphs_by_place e ∙ paragraphs_same all

@@ -25,19 +25,19 @@ fn level_by(core_len: usize, first: usize, last: usize) -> usize
     level.min(MOST_LEVEL)
 }
 
-/// The level of a heading, and how many items stand in its open delimiter and between the
-/// delimiters.
-#[derive(Clone, Copy, Debug)]
-struct Cuts {
-    level: usize,
-    open_len: usize,
-    inside_len: usize,
+/// Where a heading is cut: its level (1 to 6), and how many items stand in its open delimiter and
+/// between the delimiters.
+#[derive(Clone, Copy, Debug, PartialEq, Eq)]
+pub struct HeadingCuts {
+    pub level: u8,
+    pub open_len: usize,
+    pub inside_len: usize,
 }
 
-/// Where the delimiters end, of a line from its first visible item on.
-fn cuts_of(pieces: &[Piece<'_>]) -> Cuts
-    requires few { length pieces.now < 2 ^ 32 }
-    requires bytes { length (sources (items pieces.now)) < 2 ^ 32 }
+/// Where the delimiters end, of a heading from its first visible item on: `heading_parts` for a layer
+/// that keeps the pieces of many lines in one list, and cuts them by items.
+pub fn heading_cuts(pieces: &[Piece<'_>]) -> HeadingCuts
+    requires { length (sources (items pieces.now)) < 2 ^ 32 }
     ensures level { result.level ≡ level_of (core (map sign (items pieces.now))) }
     ensures open_len { result.open_len ≡ open_len (core (map sign (items pieces.now))) }
     ensures inside_len { result.inside_len ≡ inside_len (core (map sign (items pieces.now))) }
@@ -55,8 +55,8 @@ fn cuts_of(pieces: &[Piece<'_>]) -> Cuts
     let open_len = level + front_len(past_front(signs, level), Class::Blank, rest_len);
     let between = rest_len.saturating_sub(open_len);
     let blanks = back_len(before_back(core_back, level), Class::Blank, between);
-    Cuts {
-        level,
+    HeadingCuts {
+        level: level as u8,
         open_len,
         inside_len: between - blanks,
     }
@@ -64,18 +64,13 @@ fn cuts_of(pieces: &[Piece<'_>]) -> Cuts
 
 /// The parts of a heading, from its first visible item on.
 fn parts_of(heading: &[Piece<'_>]) -> (u8, u32, u32)
-    requires few { length heading.now < 2 ^ 32 }
-    requires bytes { length (sources (items heading.now)) < 2 ^ 32 }
+    requires { length (sources (items heading.now)) < 2 ^ 32 }
     ensures { result ≡ delimiters (items heading.now) }
 {
-    let cuts = cuts_of(heading);
+    let cuts = heading_cuts(heading);
     let close_at = byte_len(heading, cuts.open_len + cuts.inside_len);
     let end = byte_len(heading, item_count(heading));
-    (
-        cuts.level as u8,
-        byte_len(heading, cuts.open_len),
-        end - close_at,
-    )
+    (cuts.level, byte_len(heading, cuts.open_len), end - close_at)
 }
 
 /// The level of a heading (1 to 6), and how many bytes its open and its close delimiter have, by
@@ -86,7 +81,6 @@ fn parts_of(heading: &[Piece<'_>]) -> (u8, u32, u32)
 /// gives.
 pub fn heading_parts(line: &Line<'_>) -> (u8, u32, u32)
     requires sound { All IsSoundPiece line.now.pieces }
-    requires few { length line.now.pieces < 2 ^ 32 }
     requires bytes { length (sources (line_items line.now)) < 2 ^ 32 }
     ensures { result ≡ heading_parts (line_items line.now) }
 {

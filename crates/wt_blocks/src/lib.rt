@@ -10,10 +10,8 @@ mod laws;
 mod measure;
 mod nest;
 mod paragraph;
-#[cfg(test)]
-mod tests;
 
-pub use heading::heading_parts;
+pub use heading::{HeadingCuts, heading_cuts, heading_parts};
 pub use laws::{heading_is_its_parts, nested_by_neighbours, paragraphs_by_places};
 pub use nest::{ListNode, nest_lists};
 pub use paragraph::paragraphs;

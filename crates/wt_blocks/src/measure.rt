@@ -8,8 +8,7 @@ use wt_span::Piece;
 
 /// How many items the pieces hold.
 pub fn item_count(pieces: &[Piece<'_>]) -> usize
-    requires few { length pieces.now < 2 ^ 32 }
-    requires bytes { length (sources (items pieces.now)) < 2 ^ 32 }
+    requires { length (sources (items pieces.now)) < 2 ^ 32 }
     ensures { result ≡ length (items pieces.now) }
 {
     let mut count = 0;

@@ -50,19 +50,23 @@ mutual
   none_left : (c : CallAt) (at n : ℕ) (p : Option ℕ) (m : Member) → c.from ≤ at → count_by (lies_in c) (calls_of at p n m) ≡ 0
   none_left c at n p (lexeme w) le = refl
   none_left c at n p (call k ms) le =
-      count_no (lies_in c) (root_at at p k ms) (calls_of_all (at + k) (Some n) (n + 1) ms) (and_first (nat_lt at c.from) (nat_lt c.to (at + (k + width_of_all ms + k))) (not_lt at c.from le)) ∙ none_left_all c (at + k) (n + 1) (Some n) ms (omega (arith, le))
+      count_no (lies_in c) (root_at at p k ms) (calls_of_all (at + k) (Some n) (n + 1) ms)
+      (and_first (nat_lt at c.from) (nat_lt c.to (at + (k + width_of_all ms + k))) (not_lt at c.from le))
+      ∙ none_left_all c (at + k) (n + 1) (Some n) ms (omega (arith, le))
 
   none_left_all : (c : CallAt) (at n : ℕ) (p : Option ℕ) (ms : Members) → c.from ≤ at → count_by (lies_in c) (calls_of_all at p n ms) ≡ 0
   none_left_all c at n p none le = refl
   none_left_all c at n p (more m ms) le =
-      count_append (lies_in c) (calls_of at p n m) (calls_of_all (at + width m) p (n + call_count m) ms) ∙ omega (arith, none_left c at n p m le, none_left_all c (at + width m) (n + call_count m) p ms (omega (arith, le)))
+      count_append (lies_in c) (calls_of at p n m) (calls_of_all (at + width m) p (n + call_count m) ms)
+      ∙ omega (arith, none_left c at n p m le, none_left_all c (at + width m) (n + call_count m) p ms (omega (arith, le)))
 
 -- nor do calls that end no later
 mutual
   none_right : (c : CallAt) (at n : ℕ) (p : Option ℕ) (m : Member) → at + width m ≤ c.to → count_by (lies_in c) (calls_of at p n m) ≡ 0
   none_right c at n p (lexeme w) le = refl
   none_right c at n p (call k ms) le =
-      count_no (lies_in c) (root_at at p k ms) (calls_of_all (at + k) (Some n) (n + 1) ms) (and_second (nat_lt at c.from) (nat_lt c.to (at + (k + width_of_all ms + k))) (not_lt c.to (at + (k + width_of_all ms + k)) le))
+      count_no (lies_in c) (root_at at p k ms) (calls_of_all (at + k) (Some n) (n + 1) ms)
+      (and_second (nat_lt at c.from) (nat_lt c.to (at + (k + width_of_all ms + k))) (not_lt c.to (at + (k + width_of_all ms + k)) le))
       ∙ none_right_all c (at + k) (n + 1) (Some n) ms (omega (arith, le))
 
   none_right_all : (c : CallAt) (at n : ℕ) (p : Option ℕ) (ms : Members) → at + width_of_all ms ≤ c.to → count_by (lies_in c) (calls_of_all at p n ms) ≡ 0
@@ -78,29 +82,38 @@ abbrev Counts : (CallAt → ℕ) → ℕ → ℕ → ℕ → List CallAt → Typ
 Counts count from to depth cs = (c : CallAt) → from ≤ c.from → c.from < c.to → c.to ≤ to → count c ≡ depth + count_by (lies_in c) cs
 
 mutual
-  depth_one : (count : CallAt → ℕ) (at n depth : ℕ) (p : Option ℕ) (m : Member) → IsWide m → Counts count at (at + width m) depth (calls_of at p n m) → map count (calls_of at p n m) ≡ depths_of depth m
+  depth_one : (count : CallAt → ℕ) (at n depth : ℕ) (p : Option ℕ) (m : Member) → IsWide m
+      → Counts count at (at + width m) depth (calls_of at p n m) → map count (calls_of at p n m) ≡ depths_of depth m
   depth_one count at n depth p (lexeme w) wide h = refl
   depth_one count at n depth p (call k ms) wide h =
       let root = root_at at p k ms in
       let inner = calls_of_all (at + k) (Some n) (n + 1) ms in
       let here : count root ≡ depth =
       h root (omega arith) (omega (arith, wide.0)) (omega arith)
-      ∙ ap (λ i. depth + i) (count_no (lies_in root) root inner (and_first (nat_lt at at) (nat_lt root.to root.to) (not_lt at at (omega arith))) ∙ none_left_all root (at + k) (n + 1) (Some n) ms (omega arith)) ∙ omega arith in
+      ∙ ap (λ i. depth + i) (count_no (lies_in root) root inner
+      (and_first (nat_lt at at) (nat_lt root.to root.to) (not_lt at at (omega arith)))
+      ∙ none_left_all root (at + k) (n + 1) (Some n) ms (omega arith)) ∙ omega arith in
       let below : Counts count (at + k) (at + k + width_of_all ms) (depth + 1) inner = λ c from some to.
       h c (omega (arith, from)) some (omega (arith, to))
-      ∙ ap (λ i. depth + i) (count_yes (lies_in c) root inner (and_true (nat_lt at c.from) (nat_lt c.to root.to) (is_lt at c.from (omega (arith, from, wide.0))) (is_lt c.to root.to (omega (arith, to, wide.0))))) ∙ omega arith in
+      ∙ ap (λ i. depth + i) (count_yes (lies_in c) root inner
+      (and_true (nat_lt at c.from) (nat_lt c.to root.to) (is_lt at c.from (omega (arith, from, wide.0)))
+      (is_lt c.to root.to (omega (arith, to, wide.0))))) ∙ omega arith in
       ap (λ d. d ∷ map count inner) here ∙ ap (λ ds. depth ∷ ds) (depth_all count (at + k) (n + 1) (depth + 1) (Some n) ms wide.1 below)
 
-  depth_all : (count : CallAt → ℕ) (at n depth : ℕ) (p : Option ℕ) (ms : Members) → AreWide ms → Counts count at (at + width_of_all ms) depth (calls_of_all at p n ms) → map count (calls_of_all at p n ms) ≡ depths_of_all depth ms
+  depth_all : (count : CallAt → ℕ) (at n depth : ℕ) (p : Option ℕ) (ms : Members) → AreWide ms
+      → Counts count at (at + width_of_all ms) depth (calls_of_all at p n ms) → map count (calls_of_all at p n ms) ≡ depths_of_all depth ms
   depth_all count at n depth p none wide h = refl
   depth_all count at n depth p (more m ms) wide h =
       let first = calls_of at p n m in
       let others = calls_of_all (at + width m) p (n + call_count m) ms in
       let one : Counts count at (at + width m) depth first = λ c from some to.
-      h c from some (omega (arith, to)) ∙ ap (λ i. depth + i) (count_append (lies_in c) first others) ∙ omega (arith, none_left_all c (at + width m) (n + call_count m) p ms (omega (arith, some, to))) in
+      h c from some (omega (arith, to)) ∙ ap (λ i. depth + i) (count_append (lies_in c) first others)
+      ∙ omega (arith, none_left_all c (at + width m) (n + call_count m) p ms (omega (arith, some, to))) in
       let two : Counts count (at + width m) (at + width m + width_of_all ms) depth others = λ c from some to.
-      h c (omega (arith, from)) some (omega (arith, to)) ∙ ap (λ i. depth + i) (count_append (lies_in c) first others) ∙ omega (arith, none_right c at n p m (omega (arith, from, some))) in
-      map-append count first others ∙ ap (λ ds. ds ++ map count others) (depth_one count at n depth p m wide.0 one) ∙ ap (λ ds. depths_of depth m ++ ds) (depth_all count (at + width m) (n + call_count m) depth p ms wide.1 two)
+      h c (omega (arith, from)) some (omega (arith, to)) ∙ ap (λ i. depth + i) (count_append (lies_in c) first others)
+      ∙ omega (arith, none_right c at n p m (omega (arith, from, some))) in
+      map-append count first others ∙ ap (λ ds. ds ++ map count others) (depth_one count at n depth p m wide.0 one)
+      ∙ ap (λ ds. depths_of depth m ++ ds) (depth_all count (at + width m) (n + call_count m) depth p ms wide.1 two)
 
 nesting_is : (cs : List CallAt) (c : CallAt) → nesting cs c ≡ count_by (lies_in c) cs
 unfolding nesting
@@ -122,7 +135,8 @@ among_is : (all cs : List CallAt) → deep_among all cs ≡ first_deep cs (map (
 among_is all [] = refl
 among_is all (c ∷ cs) = ap (λ o. if nat_le 100 (nesting all c) then Some c.from else o) (among_is all cs)
 
-first_append : (cs ds : List CallAt) (ns ks : List ℕ) → length cs ≡ length ns → first_deep (cs ++ ds) (ns ++ ks) ≡ option_or (first_deep cs ns) (first_deep ds ks)
+first_append : (cs ds : List CallAt) (ns ks : List ℕ) → length cs ≡ length ns → first_deep (cs ++ ds) (ns ++ ks)
+    ≡ option_or (first_deep cs ns) (first_deep ds ks)
 first_append [] ds [] ks e = refl
 first_append [] ds (n ∷ ns) ks e = absurd (omega (arith, e))
 first_append (c ∷ cs) ds [] ks e = absurd (omega (arith, e))
@@ -147,7 +161,8 @@ mutual
   same_length_all : (at n depth : ℕ) (p : Option ℕ) (ms : Members) → length (calls_of_all at p n ms) ≡ length (depths_of_all depth ms)
   same_length_all at n depth p none = refl
   same_length_all at n depth p (more m ms) =
-      lengths (calls_of at p n m) (calls_of_all (at + width m) p (n + call_count m) ms) (depths_of depth m) (depths_of_all depth ms) (same_length at n depth p m) (same_length_all (at + width m) (n + call_count m) depth p ms)
+      lengths (calls_of at p n m) (calls_of_all (at + width m) p (n + call_count m) ms) (depths_of depth m)
+      (depths_of_all depth ms) (same_length at n depth p m) (same_length_all (at + width m) (n + call_count m) depth p ms)
 
 mutual
   deep_one : (at n depth : ℕ) (p : Option ℕ) (m : Member) → first_deep (calls_of at p n m) (depths_of depth m) ≡ deep_of at depth m
@@ -157,7 +172,8 @@ mutual
   deep_all : (at n depth : ℕ) (p : Option ℕ) (ms : Members) → first_deep (calls_of_all at p n ms) (depths_of_all depth ms) ≡ deep_of_all at depth ms
   deep_all at n depth p none = refl
   deep_all at n depth p (more m ms) =
-      first_append (calls_of at p n m) (calls_of_all (at + width m) p (n + call_count m) ms) (depths_of depth m) (depths_of_all depth ms) (same_length at n depth p m)
+      first_append (calls_of at p n m) (calls_of_all (at + width m) p (n + call_count m) ms) (depths_of depth m)
+      (depths_of_all depth ms) (same_length at n depth p m)
       ∙ ap (λ o. option_or o (first_deep (calls_of_all (at + width m) p (n + call_count m) ms) (depths_of_all depth ms))) (deep_one at n depth p m)
       ∙ ap (option_or (deep_of at depth m)) (deep_all (at + width m) (n + call_count m) depth p ms)
 

@@ -29,7 +29,8 @@ reverse_push xs x = reverse-append xs (x ∷ [])
 pub map_reverse : {A B : Type 0} → (f : A → B) (xs : List A) → map f (reverse xs) ≡ reverse (map f xs)
 map_reverse f [] = refl
 map_reverse f (x ∷ xs) =
-    ap (map f) (reverse-append (x ∷ []) xs) ∙ map-append f (reverse xs) (x ∷ []) ∙ ap (λ ys. ys ++ f x ∷ []) (map_reverse f xs) ∙ sym (reverse-append (f x ∷ []) (map f xs))
+    ap (map f) (reverse-append (x ∷ []) xs) ∙ map-append f (reverse xs) (x ∷ []) ∙ ap (λ ys. ys ++ f x ∷ []) (map_reverse f xs)
+    ∙ sym (reverse-append (f x ∷ []) (map f xs))
 
 last_is : {A : Type 0} → (xs : List A) (n : ℕ) (x : A) → n + 1 ≡ length xs → Some x ≡ slice_get xs n → xs ≡ take n xs ++ x ∷ []
 last_is [] n x e h = absurd (omega (arith, e))

@@ -13,7 +13,8 @@ abbrev pub counted : ℕ → List Member → List Member → List Sign
 counted from [] after = []
 counted from (x ∷ before) after = counted from before (x ∷ after) ++ (if in_link before after then [] else sign_of x (end_of from before))
 
-signs_split : (from : ℕ) (before after : List Member) → signs from [] (reverse before ++ after) ≡ counted from before after ++ signs (end_of from before) before after
+signs_split : (from : ℕ) (before after : List Member) → signs from [] (reverse before ++ after) ≡ counted from before after
+    ++ signs (end_of from before) before after
 signs_split from [] after = refl
 signs_split from (x ∷ before) after =
     let one = if in_link before after then [] else sign_of x (end_of from before) in
@@ -56,20 +57,24 @@ pub with_close : (at : ℕ) (x : Member) (l : Level) → is_kind_close x ≡ tru
 with_close at x l e = ap (λ t. if t then shut l else (if is_kind_open x then open_one l else put (sign_of x at) l)) e
 
 pub with_open : (at : ℕ) (x : Member) (l : Level) → is_kind_close x ≡ false → is_kind_open x ≡ true → level_with at x l ≡ open_one l
-with_open at x l e f = ap (λ t. if t then shut l else (if is_kind_open x then open_one l else put (sign_of x at) l)) e ∙ ap (λ t. if t then open_one l else put (sign_of x at) l) f
+with_open at x l e f = ap (λ t. if t then shut l else (if is_kind_open x then open_one l else put (sign_of x at) l)) e
+    ∙ ap (λ t. if t then open_one l else put (sign_of x at) l) f
 
 pub with_plain : (at : ℕ) (x : Member) (l : Level) → is_kind_close x ≡ false → is_kind_open x ≡ false → level_with at x l ≡ put (sign_of x at) l
-with_plain at x l e f = ap (λ t. if t then shut l else (if is_kind_open x then open_one l else put (sign_of x at) l)) e ∙ ap (λ t. if t then open_one l else put (sign_of x at) l) f
+with_plain at x l e f = ap (λ t. if t then shut l else (if is_kind_open x then open_one l else put (sign_of x at) l)) e
+    ∙ ap (λ t. if t then open_one l else put (sign_of x at) l) f
 
 -- ---- counts of links
 
 abbrev Opened : Bool → Bool → ℕ → ℕ
 Opened close opens n = if close then n - 1 else (if opens then 1 + n else n)
 
-links_open_by : (x : Member) (before : List Member) (a b : Bool) → is_kind_close x ≡ a → is_kind_open x ≡ b → links_open (x ∷ before) ≡ Opened a b (links_open before)
+links_open_by : (x : Member) (before : List Member) (a b : Bool) → is_kind_close x ≡ a → is_kind_open x ≡ b
+    → links_open (x ∷ before) ≡ Opened a b (links_open before)
 links_open_by x before a b e f = ap (λ t. Opened t (is_kind_open x) (links_open before)) e ∙ ap (λ t. Opened a t (links_open before)) f
 
-links_close_by : (x : Member) (after : List Member) (a b : Bool) → is_kind_close x ≡ a → is_kind_open x ≡ b → links_close (x ∷ after) ≡ Opened b a (links_close after)
+links_close_by : (x : Member) (after : List Member) (a b : Bool) → is_kind_close x ≡ a → is_kind_open x ≡ b
+    → links_close (x ∷ after) ≡ Opened b a (links_close after)
 links_close_by x after a b e f = ap (λ t. Opened t (is_kind_close x) (links_close after)) f ∙ ap (λ t. Opened b t (links_close after)) e
 
 -- the open links are within the signs
@@ -116,10 +121,14 @@ pub links_are : (base : List Sign) (from : ℕ) (before : List Member) → lengt
 links_are base from [] = refl
 links_are base from (x ∷ before) = by_shape x (end_of from before) (level base from before) before (shape x) (links_are base from before)
   where
-    by_shape : (x : Member) (at : ℕ) (l : Level) (before : List Member) → Shape x → length l.links ≡ links_open before → length (level_with at x l).links ≡ links_open (x ∷ before)
-    by_shape x at l before (closing s) h = ap (λ (m : Level). length m.links) (with_close at x l s.close) ∙ shut_length l.signs l.links ∙ ap (λ n. n - 1) h ∙ sym (links_open_by x before true false s.close s.no_open)
-    by_shape x at l before (opening s) h = ap (λ (m : Level). length m.links) (with_open at x l s.no_close s.open_link) ∙ omega (arith, h, links_open_by x before false true s.no_close s.open_link)
-    by_shape x at l before (plain s) h = ap (λ (m : Level). length m.links) (with_plain at x l s.no_close s.no_open) ∙ h ∙ sym (links_open_by x before false false s.no_close s.no_open)
+    by_shape : (x : Member) (at : ℕ) (l : Level) (before : List Member) → Shape x → length l.links ≡ links_open before
+        → length (level_with at x l).links ≡ links_open (x ∷ before)
+    by_shape x at l before (closing s) h = ap (λ (m : Level). length m.links) (with_close at x l s.close)
+        ∙ shut_length l.signs l.links ∙ ap (λ n. n - 1) h ∙ sym (links_open_by x before true false s.close s.no_open)
+    by_shape x at l before (opening s) h = ap (λ (m : Level). length m.links) (with_open at x l s.no_close s.open_link)
+        ∙ omega (arith, h, links_open_by x before false true s.no_close s.open_link)
+    by_shape x at l before (plain s) h = ap (λ (m : Level). length m.links) (with_plain at x l s.no_close s.no_open) ∙ h
+        ∙ sym (links_open_by x before false false s.no_close s.no_open)
 
 -- ---- they are the same
 
@@ -146,19 +155,22 @@ left_put : (n m : ℕ) (ss ts : List Sign) (ks : List ℕ) → length ks ≡ m �
 left_put zero m ss ts ks e h = ap (λ t. ss ++ (if t then [] else ts)) (sym (and_no (nat_lt 0 m)))
 left_put (suc n) m ss ts [] e h =
     let f : nat_lt 0 m ≡ false = ap (λ k. nat_lt 0 k) (sym e) in
-    left_none n (ss ++ ts) ∙ ap (λ us. us ++ ts) (sym (left_none n ss)) ∙ ap (λ t. left_by n (record { signs = ss; links = [] }) ++ (if t && nat_lt 0 (suc n) then [] else ts)) (sym f)
+    left_none n (ss ++ ts) ∙ ap (λ us. us ++ ts) (sym (left_none n ss))
+    ∙ ap (λ t. left_by n (record { signs = ss; links = [] }) ++ (if t && nat_lt 0 (suc n) then [] else ts)) (sym f)
 left_put (suc n) m ss ts (k ∷ ks) e h =
     let f : nat_lt 0 m ≡ true = grind (arith, nat_tests) in
     let g : nat_lt 0 (suc n) ≡ true = grind (arith, nat_tests) in
     let both : (nat_lt 0 m && nat_lt 0 (suc n)) ≡ true = ap (λ t. t && nat_lt 0 (suc n)) f ∙ g in
     let one = left_by n (record { signs = take k ss; links = ks }) in
-    ap (λ us. left_by n (record { signs = us; links = ks })) (take-append-le k ss ts h.0) ∙ sym (append-nil one) ∙ ap (λ t. one ++ (if t then [] else ts)) (sym both)
+    ap (λ us. left_by n (record { signs = us; links = ks })) (take-append-le k ss ts h.0) ∙ sym (append-nil one)
+    ∙ ap (λ t. one ++ (if t then [] else ts)) (sym both)
 
 none_same : (t : Bool) (ss : List Sign) → ss ≡ [] → (if t then [] else ss) ≡ []
 none_same true ss e = refl
 none_same false ss e = e
 
-same_by : (x : Member) (base : List Sign) (from : ℕ) (before after : List Member) → Shape x → left_by (links_close (x ∷ after)) (level base from before) ≡ base ++ counted from before (x ∷ after)
+same_by : (x : Member) (base : List Sign) (from : ℕ) (before after : List Member) → Shape x
+    → left_by (links_close (x ∷ after)) (level base from before) ≡ base ++ counted from before (x ∷ after)
     → left_by (links_close after) (level base from (x ∷ before)) ≡ base ++ counted from (x ∷ before) after
 same_by x base from before after (closing s) h =
     let at = end_of from before in
@@ -166,7 +178,9 @@ same_by x base from before after (closing s) h =
     let c = links_close after in
     let more : links_close (x ∷ after) ≡ suc c = links_close_by x after true false s.close s.no_open ∙ omega arith in
     let none : (if in_link before after then [] else sign_of x at) ≡ [] = none_same (in_link before after) (sign_of x at) (s.no_sign at) in
-    ap (left_by c) (with_close at x l s.close) ∙ ap (λ n. left_by n l) (sym more) ∙ h ∙ ap (λ ss. base ++ ss) (sym (append-nil (counted from before (x ∷ after))) ∙ ap (λ ss. counted from before (x ∷ after) ++ ss) (sym none))
+    ap (left_by c) (with_close at x l s.close) ∙ ap (λ n. left_by n l) (sym more) ∙ h
+    ∙ ap (λ ss. base ++ ss) (sym (append-nil (counted from before (x ∷ after)))
+    ∙ ap (λ ss. counted from before (x ∷ after) ++ ss) (sym none))
 same_by x base from before after (opening s) h =
     let at = end_of from before in
     let l = level base from before in
@@ -181,10 +195,12 @@ same_by x base from before after (plain s) h =
     let c = links_close after in
     let same : links_close (x ∷ after) ≡ c = links_close_by x after false false s.no_close s.no_open in
     let one = if in_link before after then [] else sign_of x at in
-    ap (left_by c) (with_plain at x l s.no_close s.no_open) ∙ left_put c (links_open before) l.signs (sign_of x at) l.links (links_are base from before) (within_level base from before)
+    ap (left_by c) (with_plain at x l s.no_close s.no_open) ∙ left_put c (links_open before) l.signs (sign_of x at) l.links
+    (links_are base from before) (within_level base from before)
     ∙ ap (λ ss. ss ++ one) (ap (λ n. left_by n l) (sym same) ∙ h) ∙ append_assoc base (counted from before (x ∷ after)) one
 
-level_left : (base : List Sign) (from : ℕ) (before after : List Member) → left_by (links_close after) (level base from before) ≡ base ++ counted from before after
+level_left : (base : List Sign) (from : ℕ) (before after : List Member) → left_by (links_close after) (level base from before)
+    ≡ base ++ counted from before after
 level_left base from [] after = left_none (links_close after) base ∙ sym (append-nil base)
 level_left base from (x ∷ before) after = same_by x base from before after (shape x) (level_left base from before (x ∷ after))
 

@@ -15,3 +15,8 @@ pub mod Takings
 pub mod TextLaws
 pub mod Wholes
 pub mod Widths
+pub mod FrontForms
+pub mod FrontTags
+pub mod SliceWords
+pub mod Replays
+pub mod AloneLaws

@@ -61,7 +61,9 @@ place_first at x None value bar ps =
 place_first at x (Some (xs, n)) value bar ps =
     let e : at + (width x + width_of xs + n + width_of value) ≡ at + width x + (width_of xs + n + width_of value) = omega arith in
     let f : at + (width x + width_of xs) ≡ at + width x + width_of xs = omega arith in
-    ap (λ i. part_as at i (Some (at + (width x + width_of xs))) (i + bar) ps) e ∙ ap (λ i. part_as at (at + width x + (width_of xs + n + width_of value)) (Some i) (at + width x + (width_of xs + n + width_of value) + bar) ps) f
+    ap (λ i. part_as at i (Some (at + (width x + width_of xs))) (i + bar) ps) e
+    ∙ ap (λ i. part_as at (at + width x + (width_of xs + n + width_of value)) (Some i)
+    (at + width x + (width_of xs + n + width_of value) + bar) ps) f
 
 place_member : (at : ℕ) (x : Member) (ps : List PartMembers) → placed at (with_member x ps) ≡ begun_at at (placed (at + width x) ps)
 place_member at x [] = refl
@@ -80,16 +82,20 @@ place_equals at n [] = refl
 place_equals at n (p ∷ ps) =
     let e : at + (0 + n + width_of (joined p.name p.value)) ≡ at + n + (name_width p.name + width_of p.value) = omega (arith, joined_width p.name p.value) in
     let f : at + 0 ≡ at = omega arith in
-    ap (λ i. part_as at i (Some (at + 0)) (i + p.bar) ps) e ∙ ap (λ i. part_as at (at + n + (name_width p.name + width_of p.value)) (Some i) (at + n + (name_width p.name + width_of p.value) + p.bar) ps) f
+    ap (λ i. part_as at i (Some (at + 0)) (i + p.bar) ps) e
+    ∙ ap (λ i. part_as at (at + n + (name_width p.name + width_of p.value)) (Some i)
+    (at + n + (name_width p.name + width_of p.value) + p.bar) ps) f
 
-place_pipe : (at n : ℕ) (ps : List PartMembers) → placed at (record { name = None; value = []; bar = n } ∷ ps) ≡ record { from = at; to = at; equals_at = None } ∷ placed (at + n) ps
+place_pipe : (at n : ℕ) (ps : List PartMembers) → placed at (record { name = None; value = []; bar = n } ∷ ps)
+    ≡ record { from = at; to = at; equals_at = None } ∷ placed (at + n) ps
 place_pipe at n ps = let e : at + (0 + 0) ≡ at = omega arith in ap (λ i. part_as at i None (i + n) ps) e
 
 unnamed : (e : ℕ) (ps : List PartAt) → with_name false e ps ≡ ps
 unnamed e [] = refl
 unnamed e (p ∷ ps) = refl
 
-one_more : (later : Bool) (at to : ℕ) (x : Member) (ss rest : List Sign) (others : Bool → List PartMembers) → SignView at (width x) ss → ((l : Bool) → parts_between l (at + width x) to rest ≡ placed (at + width x) (others l))
+one_more : (later : Bool) (at to : ℕ) (x : Member) (ss rest : List Sign) (others : Bool → List PartMembers)
+    → SignView at (width x) ss → ((l : Bool) → parts_between l (at + width x) to rest ≡ placed (at + width x) (others l))
     → parts_between later at to (ss ++ rest) ≡ placed at (with_sign_of later x ss (others (later_after later ss)))
 one_more later at to x ss rest others (no_sign e) h =
     let P : List Sign → Type 0 = λ s. parts_between later at to (s ++ rest) ≡ placed at (with_sign_of later x s (others (later_after later s))) in
@@ -102,13 +108,16 @@ one_more true at to x ss rest others (an_equals e) h =
     subst P (sym e) (ap (with_name true at) (begin true at (at + width x) to rest ∙ ap (begun_at at) (h true)) ∙ sym (place_equals at (width x) (others true)))
 one_more false at to x ss rest others (an_equals e) h =
     let P : List Sign → Type 0 = λ s. parts_between false at to (s ++ rest) ≡ placed at (with_sign_of false x s (others (later_after false s))) in
-    subst P (sym e) (unnamed at (parts_between false at to rest) ∙ begin false at (at + width x) to rest ∙ ap (begun_at at) (h false) ∙ sym (place_member at x (others false)))
+    subst P (sym e) (unnamed at (parts_between false at to rest) ∙ begin false at (at + width x) to rest
+    ∙ ap (begun_at at) (h false) ∙ sym (place_member at x (others false)))
 
-split_places : (later : Bool) (at to : ℕ) (before xs : List Member) → to ≡ at + width_of xs → parts_between later at to (signs at before xs) ≡ placed at (split_members later at before xs)
+split_places : (later : Bool) (at to : ℕ) (before xs : List Member) → to ≡ at + width_of xs
+    → parts_between later at to (signs at before xs) ≡ placed at (split_members later at before xs)
 split_places later at to before [] e =
     let f : to ≡ at + (0 + 0) = omega (arith, e) in ap (λ i. part_as at i None 0 []) f
 split_places later at to before (x ∷ xs) e =
-    one_more later at to x (if in_link before xs then [] else sign_of x at) (signs (at + width x) (x ∷ before) xs) (λ l. split_members l (at + width x) (x ∷ before) xs) (if_view (in_link before xs) x at)
+    one_more later at to x (if in_link before xs then [] else sign_of x at) (signs (at + width x) (x ∷ before) xs)
+    (λ l. split_members l (at + width x) (x ∷ before) xs) (if_view (in_link before xs) x at)
     (λ l. split_places l (at + width x) to (x ∷ before) xs (omega (arith, e)))
 
 members_listed : (ms : Members) → members (listed ms) ≡ ms

@@ -18,7 +18,8 @@ mutual
 
   pub closed_count_all : (at n : ℕ) (ms : Members) → length (closed_of_all at n ms) ≡ call_count_of_all ms
   closed_count_all at n none = refl
-  closed_count_all at n (more m ms) = length-append (closed_of at n m) (closed_of_all (at + width m) (n + call_count m) ms) ∙ omega (arith, closed_count at n m, closed_count_all (at + width m) (n + call_count m) ms)
+  closed_count_all at n (more m ms) = length-append (closed_of at n m) (closed_of_all (at + width m) (n + call_count m) ms)
+      ∙ omega (arith, closed_count at n m, closed_count_all (at + width m) (n + call_count m) ms)
 
 -- ---- where there is none
 
@@ -29,7 +30,8 @@ none_one at n (call k ms) e = absurd (omega (arith, e))
 none_all : (at n : ℕ) (ms : Members) → call_count_of_all ms ≡ 0 → closed_of_all at n ms ≡ []
 none_all at n none e = refl
 none_all at n (more m ms) e =
-    ap (λ cs. cs ++ closed_of_all (at + width m) (n + call_count m) ms) (none_one at n m (omega (arith, e))) ∙ none_all (at + width m) (n + call_count m) ms (omega (arith, e))
+    ap (λ cs. cs ++ closed_of_all (at + width m) (n + call_count m) ms) (none_one at n m (omega (arith, e)))
+    ∙ none_all (at + width m) (n + call_count m) ms (omega (arith, e))
 
 no_call_one : (at n : ℕ) (p : Option ℕ) (m : Member) → call_count m ≡ 0 → calls_of at p n m ≡ []
 no_call_one at n p (lexeme w) e = refl
@@ -38,7 +40,8 @@ no_call_one at n p (call k ms) e = absurd (omega (arith, e))
 no_call_all : (at n : ℕ) (p : Option ℕ) (ms : Members) → call_count_of_all ms ≡ 0 → calls_of_all at p n ms ≡ []
 no_call_all at n p none e = refl
 no_call_all at n p (more m ms) e =
-    ap (λ cs. cs ++ calls_of_all (at + width m) p (n + call_count m) ms) (no_call_one at n p m (omega (arith, e))) ∙ no_call_all (at + width m) (n + call_count m) p ms (omega (arith, e))
+    ap (λ cs. cs ++ calls_of_all (at + width m) p (n + call_count m) ms) (no_call_one at n p m (omega (arith, e)))
+    ∙ no_call_all (at + width m) (n + call_count m) p ms (omega (arith, e))
 
 no_deep_one : (at depth : ℕ) (m : Member) → call_count m ≡ 0 → deep_of at depth m ≡ None
 no_deep_one at depth (lexeme w) e = refl
@@ -47,7 +50,8 @@ no_deep_one at depth (call k ms) e = absurd (omega (arith, e))
 no_deep_all : (at depth : ℕ) (ms : Members) → call_count_of_all ms ≡ 0 → deep_of_all at depth ms ≡ None
 no_deep_all at depth none e = refl
 no_deep_all at depth (more m ms) e =
-    ap (λ o. option_or o (deep_of_all (at + width m) depth ms)) (no_deep_one at depth m (omega (arith, e))) ∙ no_deep_all (at + width m) depth ms (omega (arith, e))
+    ap (λ o. option_or o (deep_of_all (at + width m) depth ms)) (no_deep_one at depth m (omega (arith, e)))
+    ∙ no_deep_all (at + width m) depth ms (omega (arith, e))
 
 -- ---- calls that are begun
 
@@ -97,18 +101,24 @@ after_all at n ms cs w d = settled n cs (calls_of_all at (innermost cs) (n + len
 
 -- a call, by what its inside writes
 root_written : (at n k : ℕ) (ms : Members) (cs : List ClosedAt) (w : List CallAt) (d : Option ℕ)
-    → settled n (root_of at n k ms ∷ cs) (calls_of_all (at + k) (Some (n + length cs)) (n + length (root_of at n k ms ∷ cs)) ms ++ w) (option_or (deep_of_all (at + k) (length (root_of at n k ms ∷ cs)) ms) d) ≡ after_one at n (call k ms) cs w d
+    → settled n (root_of at n k ms ∷ cs) (calls_of_all (at + k) (Some (n + length cs)) (n + length (root_of at n k ms ∷ cs)) ms
+    ++ w) (option_or (deep_of_all (at + k) (length (root_of at n k ms ∷ cs)) ms) d) ≡ after_one at n (call k ms) cs w d
 root_written at n k ms cs w d =
     let r = root_of at n k ms in
     let e : n + length (r ∷ cs) ≡ n + length cs + 1 = omega arith in
     let f : length (r ∷ cs) ≡ length cs + 1 = omega arith in
-    settled_yes n r cs (calls_of_all (at + k) (Some (n + length cs)) (n + length (r ∷ cs)) ms ++ w) (option_or (deep_of_all (at + k) (length (r ∷ cs)) ms) d) (omega arith)
-    ∙ ap (λ i. settled n cs (call_in r cs ∷ (calls_of_all (at + k) (Some (n + length cs)) i ms ++ w)) (deep_in r cs (option_or (deep_of_all (at + k) (length (r ∷ cs)) ms) d))) e
-    ∙ ap (λ i. settled n cs (call_in r cs ∷ (calls_of_all (at + k) (Some (n + length cs)) (n + length cs + 1) ms ++ w)) (deep_in r cs (option_or (deep_of_all (at + k) i ms) d))) f
-    ∙ ap (λ o. settled n cs (call_in r cs ∷ (calls_of_all (at + k) (Some (n + length cs)) (n + length cs + 1) ms ++ w)) o) (deep_root (nat_le 100 (length cs)) at (deep_of_all (at + k) (length cs + 1) ms) d)
+    settled_yes n r cs (calls_of_all (at + k) (Some (n + length cs)) (n + length (r ∷ cs)) ms ++ w)
+    (option_or (deep_of_all (at + k) (length (r ∷ cs)) ms) d) (omega arith)
+    ∙ ap (λ i. settled n cs (call_in r cs ∷ (calls_of_all (at + k) (Some (n + length cs)) i ms ++ w))
+    (deep_in r cs (option_or (deep_of_all (at + k) (length (r ∷ cs)) ms) d))) e
+    ∙ ap (λ i. settled n cs (call_in r cs ∷ (calls_of_all (at + k) (Some (n + length cs)) (n + length cs + 1) ms ++ w))
+    (deep_in r cs (option_or (deep_of_all (at + k) i ms) d))) f
+    ∙ ap (λ o. settled n cs (call_in r cs ∷ (calls_of_all (at + k) (Some (n + length cs)) (n + length cs + 1) ms ++ w)) o)
+    (deep_root (nat_le 100 (length cs)) at (deep_of_all (at + k) (length cs + 1) ms) d)
 
 -- the same where nothing lies in it
-root_alone : (at n k : ℕ) (ms : Members) (cs : List ClosedAt) (w : List CallAt) (d : Option ℕ) → call_count_of_all ms ≡ 0 → settled n (root_of at n k ms ∷ cs) w d ≡ after_one at n (call k ms) cs w d
+root_alone : (at n k : ℕ) (ms : Members) (cs : List ClosedAt) (w : List CallAt) (d : Option ℕ) → call_count_of_all ms ≡ 0
+    → settled n (root_of at n k ms ∷ cs) w d ≡ after_one at n (call k ms) cs w d
 root_alone at n k ms cs w d e =
     let r = root_of at n k ms in
     let p : Option ℕ = Some (n + length cs) in
@@ -118,27 +128,36 @@ root_alone at n k ms cs w d e =
 
 -- members, by what each of two writes
 both_written : (at n : ℕ) (m : Member) (ms : Members) (cs : List ClosedAt) (w : List CallAt) (d : Option ℕ)
-    → settled n cs (calls_of at (innermost cs) (n + length cs) m ++ (calls_of_all (at + width m) (innermost cs) (n + call_count m + length cs) ms ++ w)) (option_or (deep_of at (length cs) m) (option_or (deep_of_all (at + width m) (length cs) ms) d))
+    → settled n cs (calls_of at (innermost cs) (n + length cs) m
+    ++ (calls_of_all (at + width m) (innermost cs) (n + call_count m + length cs) ms ++ w))
+    (option_or (deep_of at (length cs) m) (option_or (deep_of_all (at + width m) (length cs) ms) d))
     ≡ after_all at n (more m ms) cs w d
 both_written at n m ms cs w d =
     let e : n + call_count m + length cs ≡ n + length cs + call_count m = omega arith in
     let first = calls_of at (innermost cs) (n + length cs) m in
-    ap (λ i. settled n cs (first ++ (calls_of_all (at + width m) (innermost cs) i ms ++ w)) (option_or (deep_of at (length cs) m) (option_or (deep_of_all (at + width m) (length cs) ms) d))) e
-    ∙ ap (λ xs. settled n cs xs (option_or (deep_of at (length cs) m) (option_or (deep_of_all (at + width m) (length cs) ms) d))) (sym (append_assoc first (calls_of_all (at + width m) (innermost cs) (n + length cs + call_count m) ms) w))
-    ∙ ap (λ o. settled n cs ((first ++ calls_of_all (at + width m) (innermost cs) (n + length cs + call_count m) ms) ++ w) o) (sym (or_or (deep_of at (length cs) m) (deep_of_all (at + width m) (length cs) ms) d))
+    ap (λ i. settled n cs (first ++ (calls_of_all (at + width m) (innermost cs) i ms ++ w))
+    (option_or (deep_of at (length cs) m) (option_or (deep_of_all (at + width m) (length cs) ms) d))) e
+    ∙ ap (λ xs. settled n cs xs (option_or (deep_of at (length cs) m) (option_or (deep_of_all (at + width m) (length cs) ms) d)))
+    (sym (append_assoc first (calls_of_all (at + width m) (innermost cs) (n + length cs + call_count m) ms) w))
+    ∙ ap (λ o. settled n cs ((first ++ calls_of_all (at + width m) (innermost cs) (n + length cs + call_count m) ms) ++ w) o)
+    (sym (or_or (deep_of at (length cs) m) (deep_of_all (at + width m) (length cs) ms) d))
 
 some_or_none : (n : ℕ) → (n ≡ 0) ⊎ (0 < n)
 some_or_none zero = inl refl
 some_or_none (suc n) = inr (omega arith)
 
 abbrev OneOrders : ℕ → ℕ → Member → Type 0
-OneOrders at n m = (rest cs : List ClosedAt) (w : List CallAt) (d : Option ℕ) → length rest ≡ n → AtMost n cs → 0 < call_count m → ordered (reverse (closed_of at n m) ++ rest) (State cs w d) ≡ ordered rest (after_one at n m cs w d)
+OneOrders at n m = (rest cs : List ClosedAt) (w : List CallAt) (d : Option ℕ) → length rest ≡ n → AtMost n cs → 0 < call_count m
+    → ordered (reverse (closed_of at n m) ++ rest) (State cs w d) ≡ ordered rest (after_one at n m cs w d)
 
 abbrev AllOrders : ℕ → ℕ → Members → Type 0
-AllOrders at n ms = (rest cs : List ClosedAt) (w : List CallAt) (d : Option ℕ) → length rest ≡ n → AtMost n cs → 0 < call_count_of_all ms → ordered (reverse (closed_of_all at n ms) ++ rest) (State cs w d) ≡ ordered rest (after_all at n ms cs w d)
+AllOrders at n ms = (rest cs : List ClosedAt) (w : List CallAt) (d : Option ℕ) → length rest ≡ n → AtMost n cs
+    → 0 < call_count_of_all ms → ordered (reverse (closed_of_all at n ms) ++ rest) (State cs w d) ≡ ordered rest (after_all at n ms cs w d)
 
-order_inside : (at n k : ℕ) (ms : Members) → AllOrders (at + k) n ms → (rest cs : List ClosedAt) (w : List CallAt) (d : Option ℕ) → length rest ≡ n → AtMost n cs → (call_count_of_all ms ≡ 0) ⊎ (0 < call_count_of_all ms)
-    → ordered (reverse (closed_of_all (at + k) n ms) ++ rest) (settled (n + call_count_of_all ms) (root_of at n k ms ∷ cs) w d) ≡ ordered rest (after_one at n (call k ms) cs w d)
+order_inside : (at n k : ℕ) (ms : Members) → AllOrders (at + k) n ms → (rest cs : List ClosedAt) (w : List CallAt) (d : Option ℕ)
+    → length rest ≡ n → AtMost n cs → (call_count_of_all ms ≡ 0) ⊎ (0 < call_count_of_all ms)
+    → ordered (reverse (closed_of_all (at + k) n ms) ++ rest) (settled (n + call_count_of_all ms) (root_of at n k ms ∷ cs) w d)
+    ≡ ordered rest (after_one at n (call k ms) cs w d)
 order_inside at n k ms inner rest cs w d len h (inl e) =
     let z : n + call_count_of_all ms ≡ n = omega (arith, e) in
     ap (λ xs. ordered (reverse xs ++ rest) (settled (n + call_count_of_all ms) (root_of at n k ms ∷ cs) w d)) (none_all (at + k) n ms e)
@@ -150,9 +169,11 @@ order_inside at n k ms inner rest cs w d len h (inr some) =
     ∙ inner rest (r ∷ cs) w d len (omega arith, h) some
     ∙ ap (ordered rest) (root_written at n k ms cs w d)
 
-order_both : (at n : ℕ) (m : Member) (ms : Members) → OneOrders at n m → AllOrders (at + width m) (n + call_count m) ms → (rest cs : List ClosedAt) (w : List CallAt) (d : Option ℕ) → length rest ≡ n → AtMost n cs → 0 < call_count_of_all (more m ms)
+order_both : (at n : ℕ) (m : Member) (ms : Members) → OneOrders at n m → AllOrders (at + width m) (n + call_count m) ms
+    → (rest cs : List ClosedAt) (w : List CallAt) (d : Option ℕ) → length rest ≡ n → AtMost n cs → 0 < call_count_of_all (more m ms)
     → (call_count m ≡ 0) ⊎ (0 < call_count m) → (call_count_of_all ms ≡ 0) ⊎ (0 < call_count_of_all ms)
-    → ordered (reverse (closed_of_all (at + width m) (n + call_count m) ms) ++ (reverse (closed_of at n m) ++ rest)) (State cs w d) ≡ ordered rest (after_all at n (more m ms) cs w d)
+    → ordered (reverse (closed_of_all (at + width m) (n + call_count m) ms) ++ (reverse (closed_of at n m) ++ rest))
+    (State cs w d) ≡ ordered rest (after_all at n (more m ms) cs w d)
 order_both at n m ms one others rest cs w d len h some (inl e) (inl f) = absurd (omega (arith, some, e, f))
 order_both at n m ms one others rest cs w d len h some (inl e) (inr g) =
     let z : n + call_count m ≡ n = omega (arith, e) in
@@ -170,8 +191,11 @@ order_both at n m ms one others rest cs w d len h some (inr g) (inl f) =
     let i = n + call_count m + length cs in
     ap (λ xs. ordered (reverse xs ++ (reverse (closed_of at n m) ++ rest)) (State cs w d)) (none_all next (n + call_count m) ms f)
     ∙ one rest cs w d len h g
-    ∙ ap (λ xs. ordered rest (settled n cs (calls_of at (innermost cs) (n + length cs) m ++ (xs ++ w)) (option_or (deep_of at (length cs) m) d))) (sym (no_call_all next i (innermost cs) ms f))
-    ∙ ap (λ o. ordered rest (settled n cs (calls_of at (innermost cs) (n + length cs) m ++ (calls_of_all next (innermost cs) i ms ++ w)) (option_or (deep_of at (length cs) m) (option_or o d)))) (sym (no_deep_all next (length cs) ms f))
+    ∙ ap (λ xs. ordered rest (settled n cs (calls_of at (innermost cs) (n + length cs) m ++ (xs ++ w))
+    (option_or (deep_of at (length cs) m) d))) (sym (no_call_all next i (innermost cs) ms f))
+    ∙ ap (λ o. ordered rest (settled n cs (calls_of at (innermost cs) (n + length cs) m
+    ++ (calls_of_all next (innermost cs) i ms ++ w)) (option_or (deep_of at (length cs) m) (option_or o d))))
+    (sym (no_deep_all next (length cs) ms f))
     ∙ ap (ordered rest) (both_written at n m ms cs w d)
 order_both at n m ms one others rest cs w d len h some (inr g) (inr k) =
     let next = at + width m in
@@ -189,7 +213,8 @@ mutual
   order_one at n (call k ms) rest cs w d len h some =
       let r = root_of at n k ms in
       let inside = closed_of_all (at + k) n ms in
-      let long : length (reverse inside ++ rest) ≡ n + call_count_of_all ms = len_left inside rest (call_count_of_all ms) n (closed_count_all (at + k) n ms) len in
+      let long : length (reverse inside ++ rest) ≡ n + call_count_of_all ms = len_left inside rest (call_count_of_all ms) n
+      (closed_count_all (at + k) n ms) len in
       ap (λ xs. ordered xs (State cs w d)) (rev_root inside r rest)
       ∙ ap (λ i. ordered (reverse inside ++ rest) (settled i (r ∷ cs) w d)) long
       ∙ order_inside at n k ms (order_all (at + k) n ms) rest cs w d len h (some_or_none (call_count_of_all ms))
@@ -198,9 +223,11 @@ mutual
   order_all at n none rest cs w d len h some = absurd (omega (arith, some))
   order_all at n (more m ms) rest cs w d len h some =
       ap (λ xs. ordered xs (State cs w d)) (rev_both (closed_of at n m) (closed_of_all (at + width m) (n + call_count m) ms) rest)
-      ∙ order_both at n m ms (order_one at n m) (order_all (at + width m) (n + call_count m) ms) rest cs w d len h some (some_or_none (call_count m)) (some_or_none (call_count_of_all ms))
+      ∙ order_both at n m ms (order_one at n m) (order_all (at + width m) (n + call_count m) ms) rest cs w d len h some
+      (some_or_none (call_count m)) (some_or_none (call_count_of_all ms))
 
-order_by : (at : ℕ) (ms : Members) → (call_count_of_all ms ≡ 0) ⊎ (0 < call_count_of_all ms) → ordered (reverse (closed_of_all at 0 ms)) (State [] [] None) ≡ State [] (calls_of_all at None 0 ms) (deep_of_all at 0 ms)
+order_by : (at : ℕ) (ms : Members) → (call_count_of_all ms ≡ 0) ⊎ (0 < call_count_of_all ms)
+    → ordered (reverse (closed_of_all at 0 ms)) (State [] [] None) ≡ State [] (calls_of_all at None 0 ms) (deep_of_all at 0 ms)
 order_by at ms (inl e) =
     ap (λ xs. ordered (reverse xs) (State [] [] None)) (none_all at 0 ms e)
     ∙ ap (λ xs. State [] xs None) (sym (no_call_all at 0 None ms e)) ∙ ap (λ o. State [] (calls_of_all at None 0 ms) o) (sym (no_deep_all at 0 ms e))
@@ -214,5 +241,6 @@ order_by at ms (inr some) =
     or_none None = refl
     or_none (Some n) = refl
 
-pub in_order : (at : ℕ) (ms : Members) → ordered (reverse (closed_of_all at 0 ms)) (State [] [] None) ≡ State [] (calls_of_all at None 0 ms) (deep_of_all at 0 ms)
+pub in_order : (at : ℕ) (ms : Members) → ordered (reverse (closed_of_all at 0 ms)) (State [] [] None)
+    ≡ State [] (calls_of_all at None 0 ms) (deep_of_all at 0 ms)
 in_order at ms = order_by at ms (some_or_none (call_count_of_all ms))

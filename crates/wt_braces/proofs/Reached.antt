@@ -29,9 +29,10 @@ rev_open [] h = tt
 rev_open (x ∷ xs) h = subst NoOpen (sym (rev_cons x xs)) (open_append (reverse xs) (x ∷ []) (rev_open xs h.1) (h.0, tt))
 
 rev_mid : (inside : List Member) (x : Member) (rest : List Member) → reverse (inside ++ x ∷ rest) ≡ reverse rest ++ x ∷ reverse inside
-rev_mid inside x rest = reverse-append inside (x ∷ rest) ∙ ap (λ zs. zs ++ reverse inside) (rev_cons x rest) ∙ append_assoc (reverse rest) (x ∷ []) (reverse inside)
+rev_mid inside x rest = reverse-append inside (x ∷ rest) ∙ ap (λ zs. zs ++ reverse inside) (rev_cons x rest)
+    ∙ append_assoc (reverse rest) (x ∷ []) (reverse inside)
 
-left_some : (kind : LexKind) (n : ℕ) → 1 ≤ n → left_over kind n ≡ lexeme (kind, n) ∷ []
+pub left_some : (kind : LexKind) (n : ℕ) → 1 ≤ n → left_over kind n ≡ lexeme (kind, n) ∷ []
 left_some kind n some = let e : (n == 0) ≡ false = grind (arith, nat_tests) in ap (λ t. if t then [] else lexeme (kind, n) ∷ []) e
 
 rev_left : (kind : LexKind) (n : ℕ) → reverse (left_over kind n) ≡ left_over kind n
@@ -54,7 +55,8 @@ after_step c before b = call (taken b.braces c) (members (reverse b.inside)) ∷
 front_is : (before : List Member) (b : Behind before) → reverse before ≡ reverse b.rest ++ lexeme (Opens, b.braces) ∷ reverse b.inside
 front_is before b = ap reverse b.is ∙ rev_mid b.inside (lexeme (Opens, b.braces)) b.rest
 
-step_text : (c : ℕ) (before : List Member) (ws : List Word) (b : Behind before) → NoPair (reverse before) → 2 ≤ c → IsStep (text before c ws) (text (after_step c before b) (c - taken b.braces c) ws)
+step_text : (c : ℕ) (before : List Member) (ws : List Word) (b : Behind before) → NoPair (reverse before) → 2 ≤ c
+    → IsStep (text before c ws) (text (after_step c before b) (c - taken b.braces c) ws)
 step_text c before ws b free more =
     let k = taken b.braces c in
     let x = call k (members (reverse b.inside)) in
@@ -66,12 +68,16 @@ step_text c before ws b free more =
       inside = reverse b.inside;
       closing = c;
       after = as_members ws;
-      from_is = ap (λ xs. xs ++ (left_over Closes c ++ as_members ws)) (front_is before b) ∙ ap (λ ys. (reverse b.rest ++ lexeme (Opens, b.braces) ∷ reverse b.inside) ++ (ys ++ as_members ws)) (left_some Closes c (omega (arith, more)));
+      from_is = ap (λ xs. xs ++ (left_over Closes c ++ as_members ws)) (front_is before b)
+          ∙ ap (λ ys. (reverse b.rest ++ lexeme (Opens, b.braces) ∷ reverse b.inside) ++ (ys ++ as_members ws))
+          (left_some Closes c (omega (arith, more)));
       two_open = b.two;
       two_close = more;
       nearest = rev_open b.inside b.free;
       leftmost = subst NoPair (front_is before b) free;
-      to_is = ap (λ zs. zs ++ tail) (rev_cons x (over ++ b.rest)) ∙ ap (λ zs. (zs ++ x ∷ []) ++ tail) (rev_over Opens (b.braces - k) b.rest) ∙ append_assoc (reverse b.rest ++ over) (x ∷ []) tail ∙ append_assoc (reverse b.rest) over (x ∷ tail);
+      to_is = ap (λ zs. zs ++ tail) (rev_cons x (over ++ b.rest))
+          ∙ ap (λ zs. (zs ++ x ∷ []) ++ tail) (rev_over Opens (b.braces - k) b.rest)
+          ∙ append_assoc (reverse b.rest ++ over) (x ∷ []) tail ∙ append_assoc (reverse b.rest) over (x ∷ tail);
     }
 
 abbrev is_closing : Member → Bool
@@ -86,7 +92,8 @@ left_pair j rest h = by_test (j == 0)
   where
     by_test : (t : Bool) → NoPair (reverse ((if t then [] else lexeme (Opens, j) ∷ []) ++ rest))
     by_test true = h
-    by_test false = subst NoPair (sym (rev_cons (lexeme (Opens, j)) rest)) (pair_push (reverse rest) (lexeme (Opens, j)) h (not_closing (lexeme (Opens, j)) refl))
+    by_test false = subst NoPair (sym (rev_cons (lexeme (Opens, j)) rest))
+        (pair_push (reverse rest) (lexeme (Opens, j)) h (not_closing (lexeme (Opens, j)) refl))
 
 step_free : (c : ℕ) (before : List Member) (b : Behind before) → NoPair (reverse before) → NoPair (reverse (after_step c before b))
 step_free c before b free =
@@ -119,15 +126,23 @@ pub record Closed (from : List Member) (ws : List Word) (x : ℕ × List Member)
   pub many : Many from (text x.1 x.0 ws)
   pub free : NoPair (reverse x.1)
 
-step_closed : (f c : ℕ) (before : List Member) (ws : List Word) → NoPair (reverse before) → 2 ≤ c → (b : Behind before) → Closed (text (after_step c before b) (c - taken b.braces c) ws) ws (again f rewritten (c - taken b.braces c, after_step c before b))
+step_closed : (f c : ℕ) (before : List Member) (ws : List Word) → NoPair (reverse before) → 2 ≤ c → (b : Behind before)
+    → Closed (text (after_step c before b) (c - taken b.braces c) ws) ws (again f rewritten (c - taken b.braces c, after_step c before b))
     → Closed (text before c ws) ws (again f rewritten (rewritten (c, before)))
 step_closed f c before ws free more b h =
-    let is : rewritten (c, before) ≡ (c - taken b.braces c, after_step c before b) = ap (λ bs. rewritten (c, bs)) b.is ∙ rewritten_at c b.braces b.inside b.rest b.free b.two more in
+    let is : rewritten (c, before) ≡ (c - taken b.braces c, after_step c before b) = ap (λ bs. rewritten (c, bs)) b.is
+    ∙ rewritten_at c b.braces b.inside b.rest b.free b.two more in
     let P : ℕ × List Member → Type 0 = λ x. Closed (text before c ws) ws (again f rewritten x) in
     let x = again f rewritten (c - taken b.braces c, after_step c before b) in
-    subst P (sym is) (record { many = one_many (text before c ws) (text (after_step c before b) (c - taken b.braces c) ws) (text x.1 x.0 ws) (step_text c before ws b free more) h.many; free = h.free })
+    subst P (sym is) (record {
+      many = one_many (text before c ws) (text (after_step c before b) (c - taken b.braces c) ws)
+          (text x.1 x.0 ws) (step_text c before ws b free more) h.many;
+      free = h.free;
+    })
 
-stay_closed : (f c : ℕ) (before : List Member) (ws : List Word) → rewritten (c, before) ≡ (c, before) → Closed (text before c ws) ws (again f rewritten (c, before)) → Closed (text before c ws) ws (again f rewritten (rewritten (c, before)))
+stay_closed : (f c : ℕ) (before : List Member) (ws : List Word) → rewritten (c, before) ≡ (c, before)
+    → Closed (text before c ws) ws (again f rewritten (c, before))
+    → Closed (text before c ws) ws (again f rewritten (rewritten (c, before)))
 stay_closed f c before ws e h = let P : ℕ × List Member → Type 0 = λ x. Closed (text before c ws) ws (again f rewritten x) in subst P (sym e) h
 
 dec_two : (c : ℕ) → (c < 2) ⊎ (2 ≤ c)
@@ -138,10 +153,12 @@ dec_two (suc (suc c)) = inr (omega arith)
 closing_steps : (f c : ℕ) (before : List Member) (ws : List Word) → NoPair (reverse before) → Closed (text before c ws) ws (again f rewritten (c, before))
 closing_steps zero c before ws free = record { many = same_many (text before c ws) (text before c ws) refl; free = free }
 closing_steps (suc f) c before ws free =
-    by_case (dec_two c) (nearest before) (closing_steps f c before ws free) (λ b. closing_steps f (c - taken b.braces c) (after_step c before b) ws (step_free c before b free))
+    by_case (dec_two c) (nearest before) (closing_steps f c before ws free)
+    (λ b. closing_steps f (c - taken b.braces c) (after_step c before b) ws (step_free c before b free))
   where
     by_case : (c < 2) ⊎ (2 ≤ c) → NoRun before ⊎ Behind before → Closed (text before c ws) ws (again f rewritten (c, before))
-        → ((b : Behind before) → Closed (text (after_step c before b) (c - taken b.braces c) ws) ws (again f rewritten (c - taken b.braces c, after_step c before b)))
+        → ((b : Behind before) → Closed (text (after_step c before b) (c - taken b.braces c) ws) ws
+        (again f rewritten (c - taken b.braces c, after_step c before b)))
         → Closed (text before c ws) ws (again f rewritten (rewritten (c, before)))
     by_case (inl few) r h g = stay_closed f c before ws (stuck_few c before few) h
     by_case (inr more) (inl none) h g = stay_closed f c before ws (stuck_free c before none) h
@@ -149,13 +166,15 @@ closing_steps (suc f) c before ws free =
 
 -- ---- a closing run stops where it can't take more
 
-fixed_by : (bound c : ℕ) (before : List Member) → c ≤ bound → (rewritten (c, before) ≡ (c, before)) ⊎ Lowered c before → rewritten (again c rewritten (c, before)) ≡ again c rewritten (c, before)
+pub fixed_by : (bound c : ℕ) (before : List Member) → c ≤ bound → (rewritten (c, before) ≡ (c, before)) ⊎ Lowered c before
+    → rewritten (again c rewritten (c, before)) ≡ again c rewritten (c, before)
 fixed_by bound c before le (inl e) = ap rewritten (stuck_again c (c, before) e) ∙ e ∙ sym (stuck_again c (c, before) e)
 fixed_by zero c before le (inr l) = absurd (omega (arith, l.less))
 fixed_by (suc bound) zero before le (inr l) = absurd (omega (arith, l.less))
 fixed_by (suc bound) (suc c) before le (inr l) =
     let more = l.less in
-    let is : again (suc c) rewritten (suc c, before) ≡ again l.left rewritten (l.left, l.after) = ap (again c rewritten) l.is ∙ fuel c l.left l.after (omega arith) in
+    let is : again (suc c) rewritten (suc c, before) ≡ again l.left rewritten (l.left, l.after) = ap (again c rewritten) l.is
+    ∙ fuel c l.left l.after (omega arith) in
     ap rewritten is ∙ fixed_by bound l.left l.after (omega arith) (lowered l.left l.after) ∙ sym is
 
 end_free : (c : ℕ) (before : List Member) → rewritten (c, before) ≡ (c, before) → NoPair (reverse before) → NoPair (reverse (left_over Closes c ++ before))
@@ -166,7 +185,8 @@ end_free c before e free = by_test (c == 0)
     by_case (inr more) (inl none) = pair_free (reverse before) (lexeme (Closes, c)) (rev_open before none)
     by_case (inr more) (inr b) =
         let s = taking b.braces c b.two more in
-        let is : rewritten (c, before) ≡ (c - taken b.braces c, after_step c before b) = ap (λ bs. rewritten (c, bs)) b.is ∙ rewritten_at c b.braces b.inside b.rest b.free b.two more in
+        let is : rewritten (c, before) ≡ (c - taken b.braces c, after_step c before b) = ap (λ bs. rewritten (c, bs)) b.is
+        ∙ rewritten_at c b.braces b.inside b.rest b.free b.two more in
         let z : c ≡ c - taken b.braces c = ap (λ x. x.0) (sym e ∙ is) in
         absurd (omega (arith, z, s.two, s.closing))
 
@@ -175,7 +195,8 @@ end_free c before e free = by_test (c == 0)
     by_test false = subst NoPair (sym (rev_cons (lexeme (Closes, c)) before)) (by_case (dec_two c) (nearest before))
 
 closed_text : (c : ℕ) (before : List Member) (ws : List Word) → text before c ws ≡ reverse (left_over Closes c ++ before) ++ as_members ws
-closed_text c before ws = sym (append_assoc (reverse before) (left_over Closes c) (as_members ws)) ∙ ap (λ zs. zs ++ as_members ws) (sym (rev_over Closes c before))
+closed_text c before ws = sym (append_assoc (reverse before) (left_over Closes c) (as_members ws))
+    ∙ ap (λ zs. zs ++ as_members ws) (sym (rev_over Closes c before))
 
 -- ---- all lexemes
 
@@ -189,14 +210,19 @@ plain_text w before ws = ap (λ zs. zs ++ as_members ws) (rev_cons (lexeme w) be
 abbrev Reaches : List Word → Type 0
 Reaches ws = (before : List Member) → NoPair (reverse before) → Reached (reverse before ++ as_members ws) (reduced_onto before ws)
 
-plain_free : (w : Word) (before : List Member) → NoPair (reverse before) → ((c : ℕ) → lexeme w ≡ lexeme (Closes, c) → 2 ≤ c → ⊥) → NoPair (reverse (lexeme w ∷ before))
+plain_free : (w : Word) (before : List Member) → NoPair (reverse before) → ((c : ℕ) → lexeme w ≡ lexeme (Closes, c) → 2 ≤ c → ⊥)
+    → NoPair (reverse (lexeme w ∷ before))
 plain_free w before free never = subst NoPair (sym (rev_cons (lexeme w) before)) (pair_push (reverse before) (lexeme w) free never)
 
-plain_word : (w : Word) (before : List Member) (ws : List Word) → NoPair (reverse before) → ((c : ℕ) → lexeme w ≡ lexeme (Closes, c) → 2 ≤ c → ⊥) → Reaches ws → Reached (reverse before ++ lexeme w ∷ as_members ws) (reduced_onto (lexeme w ∷ before) ws)
+plain_word : (w : Word) (before : List Member) (ws : List Word) → NoPair (reverse before)
+    → ((c : ℕ) → lexeme w ≡ lexeme (Closes, c) → 2 ≤ c → ⊥) → Reaches ws → Reached (reverse before ++ lexeme w ∷ as_members ws)
+    (reduced_onto (lexeme w ∷ before) ws)
 plain_word w before ws free never others =
-    let P : List Member → Type 0 = λ xs. Reached xs (reduced_onto (lexeme w ∷ before) ws) in subst P (plain_text w before ws) (others (lexeme w ∷ before) (plain_free w before free never))
+    let P : List Member → Type 0 = λ xs. Reached xs (reduced_onto (lexeme w ∷ before) ws) in
+    subst P (plain_text w before ws) (others (lexeme w ∷ before) (plain_free w before free never))
 
-closing_word : (n : ℕ) (before : List Member) (ws : List Word) → 1 ≤ n → NoPair (reverse before) → Reaches ws → Reached (reverse before ++ lexeme (Closes, n) ∷ as_members ws) (reduced_onto (closed_by n before) ws)
+closing_word : (n : ℕ) (before : List Member) (ws : List Word) → 1 ≤ n → NoPair (reverse before) → Reaches ws
+    → Reached (reverse before ++ lexeme (Closes, n) ∷ as_members ws) (reduced_onto (closed_by n before) ws)
 closing_word n before ws some free others =
     let x = again n rewritten (n, before) in
     let h = closing_steps n n before ws free in
@@ -206,7 +232,9 @@ closing_word n before ws some free others =
     let to = reverse (reduced_onto (closed_by n before) ws) in
     let next = reverse (closed_by n before) ++ as_members ws in
     record {
-      many = many_from start (text before n ws) to (same_many start (text before n ws) begin) (many_from (text before n ws) (text x.1 x.0 ws) to h.many (many_from (text x.1 x.0 ws) next to (same_many (text x.1 x.0 ws) next (closed_text x.0 x.1 ws)) g.many));
+      many = many_from start (text before n ws) to (same_many start (text before n ws) begin)
+          (many_from (text before n ws) (text x.1 x.0 ws) to h.many
+          (many_from (text x.1 x.0 ws) next to (same_many (text x.1 x.0 ws) next (closed_text x.0 x.1 ws)) g.many));
       free = g.free;
     }
 

@@ -89,9 +89,25 @@ nearest [] = inl tt
 nearest (x ∷ before) = by_test (has_two x) refl (nearest before)
   where
     by_test : (t : Bool) → has_two x ≡ t → NoRun before ⊎ Behind before → NoRun (x ∷ before) ⊎ Behind (x ∷ before)
-    by_test true e h = let r = run_of x e in inr (record { inside = []; braces = r.braces; rest = before; is = ap (λ y. y ∷ before) r.is; free = tt; two = r.two })
+    by_test true e h = let r = run_of x e in inr (record {
+      inside = [];
+      braces = r.braces;
+      rest = before;
+      is =
+          ap (λ y. y ∷ before) r.is;
+      free = tt;
+      two = r.two;
+    })
     by_test false e (inl h) = inl (e, h)
-    by_test false e (inr h) = inr (record { inside = x ∷ h.inside; braces = h.braces; rest = h.rest; is = ap (λ ys. x ∷ ys) h.is; free = (e, h.free); two = h.two })
+    by_test false e (inr h) = inr (record {
+      inside = x ∷ h.inside;
+      braces = h.braces;
+      rest = h.rest;
+      is =
+          ap (λ ys. x ∷ ys) h.is;
+      free = (e, h.free);
+      two = h.two;
+    })
 
 pub place_none : (before : List Member) → NoRun before → position_or_len has_two before ≡ length before
 place_none [] h = refl
@@ -99,10 +115,12 @@ place_none (x ∷ before) h =
     let e : position_or_len has_two (x ∷ before) ≡ 1 + position_or_len has_two before = ap (λ t. if not t then 1 + position_or_len has_two before else 0) h.0 in
     omega (arith, e, place_none before h.1)
 
-pub place_some : (inside : List Member) (x : Member) (rest : List Member) → NoRun inside → has_two x ≡ true → position_or_len has_two (inside ++ x ∷ rest) ≡ length inside
+pub place_some : (inside : List Member) (x : Member) (rest : List Member) → NoRun inside → has_two x ≡ true
+    → position_or_len has_two (inside ++ x ∷ rest) ≡ length inside
 place_some [] x rest h e = ap (λ t. if not t then 1 + position_or_len has_two rest else 0) e
 place_some (y ∷ inside) x rest h e =
-    let f : position_or_len has_two (y ∷ (inside ++ x ∷ rest)) ≡ 1 + position_or_len has_two (inside ++ x ∷ rest) = ap (λ t. if not t then 1 + position_or_len has_two (inside ++ x ∷ rest) else 0) h.0 in
+    let f : position_or_len has_two (y ∷ (inside ++ x ∷ rest)) ≡ 1 + position_or_len has_two (inside ++ x ∷ rest) =
+    ap (λ t. if not t then 1 + position_or_len has_two (inside ++ x ∷ rest) else 0) h.0 in
     omega (arith, f, place_some inside x rest h.1 e)
 
 pub get_at : (inside : List Member) (x : Member) (rest : List Member) → slice_get (inside ++ x ∷ rest) (length inside) ≡ Some x

@@ -68,8 +68,10 @@ wide_rewritten (suc (suc c)) before f = by_nearest (nearest before)
         let inside = wide_left b.inside (run ∷ b.rest) whole in
         let rest = wide_right b.inside (run ∷ b.rest) whole in
         let is = ap (λ bs. (rewritten (n, bs)).1) b.is ∙ ap (λ x. x.1) (rewritten_at n b.braces b.inside b.rest b.free b.two (omega arith)) in
-        subst AllWide (sym is)
-        (((taking b.braces n b.two (omega arith)).two, wide_members (reverse b.inside) (wide_reverse b.inside inside)), wide_append (left_over Opens (b.braces - k)) b.rest (wide_over Opens (b.braces - k)) rest.1)
+        subst AllWide (sym is) (
+          ((taking b.braces n b.two (omega arith)).two, wide_members (reverse b.inside) (wide_reverse b.inside inside)),
+          wide_append (left_over Opens (b.braces - k)) b.rest (wide_over Opens (b.braces - k)) rest.1,
+        )
 
 wide_again : (f : ℕ) (x : ℕ × List Member) → AllWide x.1 → AllWide (again f rewritten x).1
 wide_again zero x h = h
@@ -120,7 +122,8 @@ mutual
 
   few_all : (at n : ℕ) (ms : Members) → n + call_count_of_all ms ≤ 2 ^ 30 → AreFew (closed_of_all at n ms)
   few_all at n none le = tt
-  few_all at n (more m ms) le = few_append (closed_of at n m) (closed_of_all (at + width m) (n + call_count m) ms) (few_one at n m (omega (arith, le))) (few_all (at + width m) (n + call_count m) ms (omega (arith, le)))
+  few_all at n (more m ms) le = few_append (closed_of at n m) (closed_of_all (at + width m) (n + call_count m) ms)
+      (few_one at n m (omega (arith, le))) (few_all (at + width m) (n + call_count m) ms (omega (arith, le)))
 
 few_reverse : (xs : List ClosedAt) → AreFew xs → AreFew (reverse xs)
 few_reverse [] f = tt

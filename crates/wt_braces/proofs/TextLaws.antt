@@ -15,7 +15,7 @@ use Rattle.wt_braces.proofs.Sizes.{wide_reduced, wide_text}
 use Rattle.wt_braces.proofs.Depths.{nesting_depth}
 
 -- the width of members, and of what is left of a closing run
-abbrev sum_of : ℕ × List Member → ℕ
+abbrev pub sum_of : ℕ × List Member → ℕ
 sum_of (c, before) = end_of 0 before + c
 
 sum_rewritten : (c : ℕ) (before : List Member) → sum_of (rewritten (c, before)) ≡ sum_of (c, before)
@@ -29,9 +29,11 @@ sum_rewritten (suc (suc c)) before = by_nearest (nearest before)
         let n = suc (suc c) in
         let s = taking b.braces n b.two (omega arith) in
         let e = call_end 0 b.braces (taken b.braces n) b.inside b.rest s.opening in
-        ap (λ bs. sum_of (rewritten (n, bs))) b.is ∙ ap sum_of (rewritten_at n b.braces b.inside b.rest b.free b.two (omega arith)) ∙ omega (arith, e, s.closing) ∙ sym (ap (λ bs. end_of 0 bs + n) b.is)
+        ap (λ bs. sum_of (rewritten (n, bs))) b.is ∙ ap sum_of
+        (rewritten_at n b.braces b.inside b.rest b.free b.two (omega arith)) ∙ omega (arith, e, s.closing)
+        ∙ sym (ap (λ bs. end_of 0 bs + n) b.is)
 
-sum_again : (f : ℕ) (x : ℕ × List Member) → sum_of (again f rewritten x) ≡ sum_of x
+pub sum_again : (f : ℕ) (x : ℕ × List Member) → sum_of (again f rewritten x) ≡ sum_of x
 sum_again zero x = refl
 sum_again (suc f) x = sum_again f (rewritten x) ∙ sum_rewritten x.0 x.1
 
@@ -42,7 +44,7 @@ left_width n before = by_test (n == 0) refl
     by_test true e = let z : n ≡ 0 = grind (arith, nat_tests) in omega (arith, z)
     by_test false e = refl
 
-word_width : (w : Word) (before : List Member) → end_of 0 (with_word w before) ≡ end_of 0 before + w.1
+pub word_width : (w : Word) (before : List Member) → end_of 0 (with_word w before) ≡ end_of 0 before + w.1
 word_width (Chars, n) before = refl
 word_width (CommentLine, n) before = refl
 word_width (Comment, n) before = refl
@@ -74,4 +76,5 @@ calls_is at ws = refl
 
 pub depth_is : (at : ℕ) (ws : List Word) → map (nesting (calls at ws)) (calls at ws) ≡ depths_of_all 0 (members (reduced ws))
 depth_is at ws =
-    ap (λ cs. map (nesting cs) cs) (calls_is at ws) ∙ nesting_depth at (members (reverse (reduced_onto [] ws))) (wide_text (reduced_onto [] ws) (wide_reduced [] ws tt)) ∙ ap (λ xs. depths_of_all 0 (members xs)) (sym (reduced_is ws))
+    ap (λ cs. map (nesting cs) cs) (calls_is at ws) ∙ nesting_depth at (members (reverse (reduced_onto [] ws)))
+    (wide_text (reduced_onto [] ws) (wide_reduced [] ws tt)) ∙ ap (λ xs. depths_of_all 0 (members xs)) (sym (reduced_is ws))

@@ -27,23 +27,36 @@ use Rattle.wt_braces.proofs.Depths.{too_deep_is}
 
 -- ---- lexeme by lexeme
 
-pub reads_first : (xs : List Lexeme) (m : Matched) → AreAdjacent xs → m ≡ record { runs = []; signs = []; links = []; closed = [] } → Reading (first_place xs) (reduced_onto [] (map word_of xs)) m xs
+pub reads_first : (xs : List Lexeme) (m : Matched) → AreAdjacent xs
+    → m ≡ record { runs = []; signs = []; links = []; closed = [] } → Reading (first_place xs) (reduced_onto [] (map word_of xs)) m xs
 reads_first xs m h e = record { place = first_place xs; before = []; stands = record { read = e; ends = refl }; follow = h; small = omega arith; same = refl }
 
-reads_more : (at : ℕ) (goal : List Member) (m new : Matched) (x : Lexeme) (rest : List Lexeme) → Reading at goal m (x ∷ rest) → ((from : ℕ) (before : List Member) → Stands from before m x.at.start → Stands from (with_word (word_of x) before) new x.at.end)
+reads_more : (at : ℕ) (goal : List Member) (m new : Matched) (x : Lexeme) (rest : List Lexeme) → Reading at goal m (x ∷ rest)
+    → ((from : ℕ) (before : List Member) → Stands from before m x.at.start → Stands from (with_word (word_of x) before) new x.at.end)
     → x.at.end < 2 ^ 32 → Reading at goal new rest
 reads_more at goal m new x rest h read small =
     let P : ℕ → Type 0 = λ p. Stands at h.before m p in
-    record { place = x.at.end; before = with_word (word_of x) h.before; stands = read at h.before (subst P (sym h.follow.0) h.stands); follow = h.follow.1; small = omega (arith, small); same = h.same }
+    record {
+      place = x.at.end;
+      before = with_word (word_of x) h.before;
+      stands =
+          read at h.before (subst P (sym h.follow.0) h.stands);
+      follow = h.follow.1;
+      small = omega (arith, small);
+      same = h.same;
+    }
 
 next : (xs : List Lexeme) (i : ℕ) (x : Lexeme) → i < length xs → x ≡ get_or xs i x → drop i xs ≡ x ∷ drop (i + 1) xs
 next xs i x lt is = drop_more xs i x lt ∙ ap (λ y. y ∷ drop (i + 1) xs) (sym is)
 
-pub reads_next : (at : ℕ) (goal : List Member) (m new : Matched) (xs : List Lexeme) (i : ℕ) (x : Lexeme) → i < length xs → x ≡ get_or xs i x → Reading at goal m (drop i xs)
-    → ((from : ℕ) (before : List Member) → Stands from before m x.at.start → Stands from (with_word (word_of x) before) new x.at.end) → x.at.end < 2 ^ 32 → Reading at goal new (drop (i + 1) xs)
+pub reads_next : (at : ℕ) (goal : List Member) (m new : Matched) (xs : List Lexeme) (i : ℕ) (x : Lexeme) → i < length xs
+    → x ≡ get_or xs i x → Reading at goal m (drop i xs)
+    → ((from : ℕ) (before : List Member) → Stands from before m x.at.start → Stands from
+    (with_word (word_of x) before) new x.at.end) → x.at.end < 2 ^ 32 → Reading at goal new (drop (i + 1) xs)
 reads_next at goal m new xs i x lt is h read small = reads_more at goal m new x (drop (i + 1) xs) (subst (Reading at goal m) (next xs i x lt is) h) read small
 
-pub is_read : (at : ℕ) (goal : List Member) (m : Matched) (xs : List Lexeme) (i : ℕ) (x : Lexeme) → i < length xs → x ≡ get_or xs i x → Reading at goal m (drop i xs) → IsRead m x.at.start
+pub is_read : (at : ℕ) (goal : List Member) (m : Matched) (xs : List Lexeme) (i : ℕ) (x : Lexeme) → i < length xs
+    → x ≡ get_or xs i x → Reading at goal m (drop i xs) → IsRead m x.at.start
 is_read at goal m xs i x lt is h =
     let f : Reading at goal m (x ∷ drop (i + 1) xs) = subst (Reading at goal m) (next xs i x lt is) h in
     let P : ℕ → Type 0 = λ p. Stands at f.before m p in
@@ -57,7 +70,8 @@ reads_all at goal m xs e h =
 
 -- ---- the calls in the order of their last bytes
 
-if_closed : (t : Bool) (m : Matched) (ss : List Sign) (ls : List ℕ) → (if t then record { runs = m.runs; signs = ss; links = ls; closed = m.closed } else m).closed ≡ m.closed
+if_closed : (t : Bool) (m : Matched) (ss : List Sign) (ls : List ℕ)
+    → (if t then record { runs = m.runs; signs = ss; links = ls; closed = m.closed } else m).closed ≡ m.closed
 if_closed true m ss ls = refl
 if_closed false m ss ls = refl
 
@@ -69,7 +83,14 @@ level_closed at x m (plain s) = ap (λ y. y.closed) (level_plain at x m s.no_clo
 run_closed : (at n : ℕ) (m : Matched) → (with_run at n m).closed ≡ m.closed
 run_closed at n m = by_test (nat_le 2 n)
   where
-    by_test : (t : Bool) → (if t then record { runs = record { at = at; left = n; signs = length m.signs; links = length m.links; calls = length m.closed } ∷ m.runs; signs = m.signs; links = m.links; closed = m.closed } else m).closed ≡ m.closed
+    by_test : (t : Bool) → (if t then record {
+      runs =
+          record { at = at; left = n; signs = length m.signs; links = length m.links; calls = length m.closed } ∷ m.runs;
+      signs =
+          m.signs;
+      links = m.links;
+      closed = m.closed;
+    } else m).closed ≡ m.closed
     by_test true = refl
     by_test false = refl
 
@@ -96,7 +117,8 @@ calls_are : (at : ℕ) (ws : List Word) → calls at ws ≡ calls_of_all at None
 unfolding calls reduced text_of
 calls_are at ws = refl
 
-closed_are : (at : ℕ) (ws : List Word) (m : Matched) (closed : List Closed) → AllRead at (reduced_onto [] ws) m → map closed_at closed ≡ m.closed → map closed_at closed ≡ closed_of_all at 0 (text_of ws)
+closed_are : (at : ℕ) (ws : List Word) (m : Matched) (closed : List Closed) → AllRead at (reduced_onto [] ws) m
+    → map closed_at closed ≡ m.closed → map closed_at closed ≡ closed_of_all at 0 (text_of ws)
 unfolding text_of
 closed_are at ws m closed h e = e ∙ ap (λ y. y.closed) h.stands.read ∙ closed_read at (reduced_onto [] ws) ∙ closed_members at 0 (reduced_onto [] ws)
 
@@ -104,21 +126,27 @@ small_count : (at : ℕ) (ws : List Word) (m : Matched) → AllRead at (reduced_
 unfolding text_of
 small_count at ws m h = omega (arith, light_all (text_of ws) (wide_words ws), end_is at (reduced_onto [] ws), h.stands.ends, h.small)
 
-pub few_found : (at : ℕ) (ws : List Word) (m : Matched) (closed : List Closed) → AllRead at (reduced_onto [] ws) m → map closed_at closed ≡ m.closed → AreFew (reverse (map closed_at closed))
+pub few_found : (at : ℕ) (ws : List Word) (m : Matched) (closed : List Closed) → AllRead at (reduced_onto [] ws) m
+    → map closed_at closed ≡ m.closed → AreFew (reverse (map closed_at closed))
 few_found at ws m closed h e =
-    let P : List ClosedAt → Type 0 = λ cs. AreFew (reverse cs) in subst P (sym (closed_are at ws m closed h e)) (few_closed at (text_of ws) (small_count at ws m h))
+    let P : List ClosedAt → Type 0 = λ cs. AreFew (reverse cs) in subst P (sym (closed_are at ws m closed h e))
+    (few_closed at (text_of ws) (small_count at ws m h))
 
-pub number_found : (at : ℕ) (ws : List Word) (m : Matched) (closed : List Closed) → AllRead at (reduced_onto [] ws) m → map closed_at closed ≡ m.closed → length closed ≤ 2 ^ 30
+pub number_found : (at : ℕ) (ws : List Word) (m : Matched) (closed : List Closed) → AllRead at (reduced_onto [] ws) m
+    → map closed_at closed ≡ m.closed → length closed ≤ 2 ^ 30
 number_found at ws m closed h e =
-    let n : length closed ≡ call_count_of_all (text_of ws) = sym (length-map closed closed_at) ∙ ap length (closed_are at ws m closed h e) ∙ closed_count_all at 0 (text_of ws) in
+    let n : length closed ≡ call_count_of_all (text_of ws) = sym (length-map closed closed_at)
+    ∙ ap length (closed_are at ws m closed h e) ∙ closed_count_all at 0 (text_of ws) in
     omega (arith, n, small_count at ws m h)
 
-answer : (cs : List CallAt) (deep : Option ℕ) (r : Result (Listed Call) BraceRefusal) → too_deep cs ≡ deep → OrderedAnswer (record { begun = []; written = cs; deep = deep }) r → AnswersCalls cs r
+answer : (cs : List CallAt) (deep : Option ℕ) (r : Result (Listed Call) BraceRefusal) → too_deep cs ≡ deep
+    → OrderedAnswer (record { begun = []; written = cs; deep = deep }) r → AnswersCalls cs r
 answer cs deep (Ok found) e h = (h.0, e ∙ h.1)
 answer cs deep (Err (refusal.BracesTooDeep place)) e h = e ∙ h
 answer cs deep (Err refusal.NoMemory) e h = tt
 
-pub calls_found : (at : ℕ) (ws : List Word) (m : Matched) (closed : List Closed) (r : Result (Listed Call) BraceRefusal) → AllRead at (reduced_onto [] ws) m → map closed_at closed ≡ m.closed
+pub calls_found : (at : ℕ) (ws : List Word) (m : Matched) (closed : List Closed) (r : Result (Listed Call) BraceRefusal)
+    → AllRead at (reduced_onto [] ws) m → map closed_at closed ≡ m.closed
     → OrderedAnswer (ordered (reverse (map closed_at closed)) (record { begun = []; written = []; deep = None })) r → AnswersCalls (calls at ws) r
 calls_found at ws m closed r h e a =
     let ms = text_of ws in

@@ -25,7 +25,8 @@ pub end_append : (at : ℕ) (xs rest : List Member) → end_of at (xs ++ rest) �
 end_append at [] rest = refl
 end_append at (x ∷ xs) rest = ap (λ n. n + width x) (end_append at xs rest)
 
-closed_push : (at n : ℕ) (xs : List Member) (y : Member) → closed_of_all at n (members (xs ++ y ∷ [])) ≡ closed_of_all at n (members xs) ++ closed_of (at + width_of_all (members xs)) (n + call_count_of_all (members xs)) y
+closed_push : (at n : ℕ) (xs : List Member) (y : Member) → closed_of_all at n (members (xs ++ y ∷ []))
+    ≡ closed_of_all at n (members xs) ++ closed_of (at + width_of_all (members xs)) (n + call_count_of_all (members xs)) y
 closed_push at n [] y =
     let e : at ≡ at + 0 = omega arith in
     let f : n ≡ n + 0 = omega arith in
@@ -35,7 +36,8 @@ closed_push at n (x ∷ xs) y =
     let f : n + call_count x + call_count_of_all (members xs) ≡ n + (call_count x + call_count_of_all (members xs)) = omega arith in
     let front = closed_of at n x ++ closed_of_all (at + width x) (n + call_count x) (members xs) in
     ap (λ cs. closed_of at n x ++ cs) (closed_push (at + width x) (n + call_count x) xs y)
-    ∙ sym (append_assoc (closed_of at n x) (closed_of_all (at + width x) (n + call_count x) (members xs)) (closed_of (at + width x + width_of_all (members xs)) (n + call_count x + call_count_of_all (members xs)) y))
+    ∙ sym (append_assoc (closed_of at n x) (closed_of_all (at + width x) (n + call_count x) (members xs))
+    (closed_of (at + width x + width_of_all (members xs)) (n + call_count x + call_count_of_all (members xs)) y))
     ∙ ap (λ a. front ++ closed_of a (n + call_count x + call_count_of_all (members xs)) y) e
     ∙ ap (λ k. front ++ closed_of (at + (width x + width_of_all (members xs))) k y) f
 
@@ -79,4 +81,5 @@ if_signed false x at to ss f = signed x at to ss f
 
 pub signs_fit : (at to : ℕ) (before xs : List Member) → at + width_of_all (members xs) ≡ to → Fit at to (signs at before xs)
 signs_fit at to before [] e = omega (arith, e)
-signs_fit at to before (x ∷ xs) e = if_signed (in_link before xs) x at to (signs (at + width x) (x ∷ before) xs) (signs_fit (at + width x) to (x ∷ before) xs (omega (arith, e)))
+signs_fit at to before (x ∷ xs) e = if_signed (in_link before xs) x at to (signs (at + width x) (x ∷ before) xs)
+    (signs_fit (at + width x) to (x ∷ before) xs (omega (arith, e)))

@@ -1,3 +1,4 @@
+pub mod Alone
 pub mod Deep
 pub mod Depth
 pub mod Found

@@ -1,9 +1,10 @@
 ghost use Rattle.std.specs.Prelude.{◌≡◌, ℕ, List, map};
 ghost use Rattle.wt_span.specs.declared.form.Mode.{Mode as TextMode};
 ghost use Rattle.wt_span.specs.Lexemes.{Word, words};
-ghost use Rattle.wt_span.specs.Braces.{Members, members, parts_of, reduced, width_of_all, calls, nesting};
+ghost use Rattle.wt_span.specs.Braces.{Members, members, parts_of, reduced, width_of_all, calls, nesting, IsCall};
 ghost use Rattle.wt_lex.specs.declared.lexeme.Lexeme.{Lexeme as LexemeAt};
 ghost use Rattle.wt_lex.specs.Places.{Follow};
+ghost use Rattle.wt_braces.specs.Alone.{AreAlone, IsOneCall};
 ghost use Rattle.wt_braces.specs.Depth.{depths_of_all};
 ghost use Rattle.wt_braces.specs.Found.{AreAdjacent};
 ghost use Rattle.wt_braces.specs.PartMembers.{part_members, placed};
@@ -36,6 +37,14 @@ pub fn widths_stay()
 /// places.
 pub fn members_have_places()
     ensures { (from : ℕ) (ms : Members) → parts_of from ms ≡ placed from (part_members from ms) }
+{}
+
+/// The bytes of each call of a text, read by themselves, are this very call and nothing else: what
+/// stands round a call has no part in how it is read. So a call of some text is a call of its own
+/// bytes alone.
+pub fn calls_are_alone()
+    ensures alone { (mode : TextMode) (text : List ℕ) → AreAlone mode text 0 (members (reduced (words mode text))) }
+    ensures one_call { (mode : TextMode) (bs : List ℕ) → IsCall mode bs → IsOneCall mode bs }
 {}
 
 /// Lexemes that follow one another, as `lex` gives them, are what `match_braces` asks for.

@@ -8,12 +8,10 @@ mod matching;
 mod nesting;
 mod parts;
 mod read;
-#[cfg(test)]
-mod tests;
 
 pub use call::{BraceRefusal, Call, PartAt};
 pub use laws::{
-    lexemes_are_adjacent, lexemes_have_braces, members_have_places, nesting_is_depth, one_end,
-    widths_stay,
+    calls_are_alone, lexemes_are_adjacent, lexemes_have_braces, members_have_places,
+    nesting_is_depth, one_end, widths_stay,
 };
 pub use read::match_braces;

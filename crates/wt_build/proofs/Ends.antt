@@ -65,16 +65,21 @@ ends_break (p ∷ q ∷ qs) (suc n) d h l b = ends_onto p q qs n h.1 (ends_break
 ends_all : (ps : List Piece) (n : ℕ) (d : Piece) → AllParted ps → length ps ≡ suc n → is_break_piece (get_or ps n d) ≡ false → Ends ps (suc n)
 ends_all [] n d h l b = absurd (omega arith)
 ends_all (p ∷ []) zero d h l b =
-    let u : IsUnbroken (items_of p) = unbroken_piece p h.0 b in
-    (ap content (append-nil (items_of p)) ∙ content_all (items_of p) u ∙ sym (append-nil (items_of p)), ap ending (append-nil (items_of p)) ∙ ending_none (items_of p) u)
+    let u : IsUnbroken (items_of p) = unbroken_piece p h.0 b in (
+      ap content (append-nil (items_of p)) ∙ content_all (items_of p) u
+          ∙ sym (append-nil (items_of p)),
+      ap ending (append-nil (items_of p)) ∙ ending_none (items_of p) u,
+    )
 ends_all (p ∷ []) (suc n) d h l b = absurd (omega arith)
 ends_all (p ∷ q ∷ qs) zero d h l b = absurd (omega arith)
 ends_all (p ∷ q ∷ qs) (suc n) d h l b = ends_onto p q qs (suc n) h.1 (ends_all (q ∷ qs) n d h.1 (omega arith) b)
 
-pub ends_by_break : (ps : List Piece) (p : Piece) → AllParted ps → 0 < length ps → p ≡ get_or ps (length ps - 1) p → is_break_piece p ≡ true → Ends ps (length ps - 1)
+pub ends_by_break : (ps : List Piece) (p : Piece) → AllParted ps → 0 < length ps → p ≡ get_or ps (length ps - 1) p
+    → is_break_piece p ≡ true → Ends ps (length ps - 1)
 ends_by_break ps p h s e b = ends_break ps (length ps - 1) p h (omega arith) (ap is_break_piece (sym e) ∙ b)
 
-pub ends_by_all : (ps : List Piece) (p : Piece) → AllParted ps → 0 < length ps → p ≡ get_or ps (length ps - 1) p → is_break_piece p ≡ false → Ends ps (length ps)
+pub ends_by_all : (ps : List Piece) (p : Piece) → AllParted ps → 0 < length ps → p ≡ get_or ps (length ps - 1) p
+    → is_break_piece p ≡ false → Ends ps (length ps)
 ends_by_all ps p h s i b =
     let e : suc (length ps - 1) ≡ length ps = omega arith in
     subst (Ends ps) e (ends_all ps (length ps - 1) p h (omega arith) (ap is_break_piece (sym i) ∙ b))

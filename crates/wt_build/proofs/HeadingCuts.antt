@@ -3,15 +3,18 @@ use Rattle.std.proofs.Common.{◌≡◌, ℕ, zero, suc, ◌+◌, ◌-◌, ◌/�
 use Rattle.std.specs.Prelude.{◌⊎◌, ◌==◌, min, reverse, slice_get, if◌then◌else◌}
 use Rattle.std.specs.List.{prefix_len}
 use Rattle.std.proofs.lemmas.Bool.Decides.{nat_tests}
-use Rattle.std.proofs.lemmas.List.{get_or-take, get_or-drop, get_or-reverse, length-take-le, length-reverse, length-map, drop-map}
+use Rattle.std.proofs.lemmas.List.{get_or-take, get_or-drop, get_or-reverse, length-take-le, length-reverse, length-map, drop-map, drop-drop}
 use Rattle.std.proofs.lemmas.List.Sums.{prefix_len-le-length, prefix_len_passes}
 use Rattle.wt_span.specs.Bytes.{is_blank, blank_len}
 use Rattle.wt_span.specs.Items.{Item, char, whole, sign}
 use Rattle.wt_lines.specs.Kinds.{is_idle}
 use Rattle.wt_lines.specs.Pieces.{begins_char}
-use Rattle.wt_build.specs.declared.heading.HeadingParts.{HeadingParts}
-use Rattle.wt_build.specs.Cuts.{IsOpenCut, IsInsideCut}
-use Rattle.wt_build.specs.Headings.{equals, core, level_of, open_len, trimmed_len, heading_parts}
+use Rattle.wt_blocks.specs.Headings.{equals, core, level_of, open_len, trimmed_len, inside_len, level, opening, inside, closing}
+use Rattle.wt_tree.specs.declared.kind.Kind.TheVariants as kind
+use Rattle.wt_inline.specs.ItemTree.{plain, inner, forest}
+use Rattle.wt_inline.specs.Inline.{inline_trees}
+use Rattle.wt_build.specs.Blocks.{heading}
+use Rattle.wt_build.specs.Cuts.{IsOpenCut, IsInsideCut, heading_by}
 
 -- ---- signs by place
 
@@ -30,7 +33,8 @@ IsSign ss i = i < length ss → (get_or ss i 0 < 128) ⊎ (256 ≤ get_or ss i 0
 
 low_is : (xs : List Item) (i : ℕ) → IsSign (map sign xs) i → begins_char (slice_get xs i) ≡ true
 low_is [] i h = refl
-low_is (char o b ∷ xs) zero h = ⊎_elim (λ l. let k : b < 128 = l in grind (arith, nat_tests)) (λ l. let k : 256 ≤ b = l in grind (arith, nat_tests)) (h (omega arith))
+low_is (char o b ∷ xs) zero h = ⊎_elim (λ l. let k : b < 128 = l in grind (arith, nat_tests))
+    (λ l. let k : 256 ≤ b = l in grind (arith, nat_tests)) (h (omega arith))
 low_is (whole f o bs ∷ xs) zero h = refl
 low_is (x ∷ xs) (suc i) h = low_is xs i (λ l. h (omega arith))
 
@@ -72,14 +76,17 @@ last_equals_get c l s h =
     omega (arith, low, is)
 
 -- the level is at most either run, or all is one run
-level_by : (c : List ℕ) (v : Bool) → (equals c == length c) ≡ v → (if v then min 6 ((length c - 1) / 2) else min 6 (min (equals c) (equals (reverse c)))) ≤ equals c
+level_by : (c : List ℕ) (v : Bool) → (equals c == length c) ≡ v
+    → (if v then min 6 ((length c - 1) / 2) else min 6 (min (equals c) (equals (reverse c)))) ≤ equals c
 level_by c true e = let is : equals c ≡ length c = grind (arith, nat_tests) in omega arith
 level_by c false e = omega arith
 
 level_first : (c : List ℕ) → level_of c ≤ equals c
 level_first c = level_by c (equals c == length c) refl
 
-level_last_by : (c : List ℕ) (v : Bool) (l : ℕ) → (equals c == length c) ≡ v → l ≡ (if v then min 6 ((length c - 1) / 2) else min 6 (min (equals c) (equals (reverse c)))) → 0 < l → l ≤ length c → get_or c (length c - l) 0 < 128
+level_last_by : (c : List ℕ) (v : Bool) (l : ℕ) → (equals c == length c) ≡ v
+    → l ≡ (if v then min 6 ((length c - 1) / 2) else min 6 (min (equals c) (equals (reverse c)))) → 0 < l → l ≤ length c
+    → get_or c (length c - l) 0 < 128
 level_last_by c true l e i s h = let is : equals c ≡ length c = grind (arith, nat_tests) in equals_get c (length c - l) (omega arith)
 level_last_by c false l e i s h = last_equals_get c l s (omega arith)
 
@@ -100,8 +107,7 @@ open_sign_by c l (suc k) h e s =
     let is : get_or (drop l c) k 0 ≡ get_or c (l + suc k - 1) 0 = get_or-drop l c k 0 ∙ ap (λ i. get_or c i 0) (sym at) in
     (omega (arith, length-drop l c), blank_low (get_or c (l + suc k - 1) 0) (ap is_blank (sym is) ∙ passes))
 
-pub open_sign : (ss : List ℕ) → 0 < (heading_parts ss).open_len → ((heading_parts ss).open_len - 1 < length ss) × (get_or ss ((heading_parts ss).open_len - 1) 0 < 128)
-unfolding heading_parts
+pub open_sign : (ss : List ℕ) → 0 < open_len (core ss) → (open_len (core ss) - 1 < length ss) × (get_or ss (open_len (core ss) - 1) 0 < 128)
 open_sign ss s =
     let c = core ss in
     let o = open_sign_by c (level_of c) (blank_len (drop (level_of c) c)) (level_first c) refl s in
@@ -117,10 +123,12 @@ inside_level ss (suc l) e le =
     λ h.
     let c = core ss in
     let low : get_or c (length c - level_of c) 0 < 128 = level_last c (omega arith) (omega arith) in
-    let is : get_or c (length c - level_of c) 0 ≡ get_or ss (length c - suc l) 0 = ap (λ k. get_or c (length c - k) 0) (sym e) ∙ core_get ss (length c - suc l) (omega arith) in
+    let is : get_or c (length c - level_of c) 0 ≡ get_or ss (length c - suc l) 0 = ap (λ k. get_or c (length c - k) 0) (sym e)
+    ∙ core_get ss (length c - suc l) (omega arith) in
     inl (omega (arith, low, is))
 
-inside_by : (ss : List ℕ) (o l d b : ℕ) → l ≡ level_of (core ss) → d ≡ length (core ss) - l - o → b ≡ blank_len (reverse (take d (drop o (core ss)))) → 0 < d - b → IsSign ss (o + (d - b))
+inside_by : (ss : List ℕ) (o l d b : ℕ) → l ≡ level_of (core ss) → d ≡ length (core ss) - l - o
+    → b ≡ blank_len (reverse (take d (drop o (core ss)))) → 0 < d - b → IsSign ss (o + (d - b))
 inside_by ss o l d zero el ed eb s =
     let c = core ss in
     let at : o + (d - 0) ≡ length c - l = omega arith in
@@ -133,11 +141,12 @@ inside_by ss o l d (suc b) el ed eb s =
     let rl : length (reverse t) ≡ length t = length-reverse t in
     let passes : is_blank (get_or (reverse t) b 0) ≡ true = prefix_len_passes is_blank (reverse t) b 0 (omega arith) in
     let at : length t - 1 - b ≡ d - suc b = omega arith in
-    let is : get_or (reverse t) b 0 ≡ get_or ss (o + (d - suc b)) 0 = get_or-reverse t b 0 (omega arith) ∙ ap (λ k. get_or t k 0) at ∙ get_or-take d (drop o c) (d - suc b) 0 (omega arith) ∙ get_or-drop o c (d - suc b) 0 ∙ core_get ss (o + (d - suc b)) (omega arith) in
+    let is : get_or (reverse t) b 0 ≡ get_or ss (o + (d - suc b)) 0 = get_or-reverse t b 0 (omega arith)
+    ∙ ap (λ k. get_or t k 0) at ∙ get_or-take d (drop o c) (d - suc b) 0 (omega arith) ∙ get_or-drop o c (d - suc b) 0
+    ∙ core_get ss (o + (d - suc b)) (omega arith) in
     inl (blank_low (get_or ss (o + (d - suc b)) 0) (ap is_blank (sym is) ∙ passes))
 
-pub inside_sign : (ss : List ℕ) → 0 < (heading_parts ss).inside_len → IsSign ss ((heading_parts ss).open_len + (heading_parts ss).inside_len)
-unfolding heading_parts
+pub inside_sign : (ss : List ℕ) → 0 < inside_len (core ss) → IsSign ss (open_len (core ss) + inside_len (core ss))
 inside_sign ss s =
     let c = core ss in
     let o = open_len c in
@@ -149,16 +158,34 @@ inside_sign ss s =
 
 -- ---- on items
 
-pub open_cut : (xs : List Item) (h : HeadingParts) → h ≡ heading_parts (map sign xs) → IsOpenCut h.open_len xs
-open_cut xs h e s =
-    let o : 0 < (heading_parts (map sign xs)).open_len = subst (λ (g : HeadingParts). 0 < g.open_len) e s in
+pub open_cut : (xs : List Item) (n : ℕ) → n ≡ open_len (core (map sign xs)) → IsOpenCut n xs
+open_cut xs n e s =
+    let o : 0 < open_len (core (map sign xs)) = subst (λ (k : ℕ). 0 < k) e s in
     let is = open_sign (map sign xs) o in
-    subst (λ (g : HeadingParts). (g.open_len - 1 < length xs) × (get_or (map sign xs) (g.open_len - 1) 0 < 128)) (sym e) (omega (arith, is.0, length-map xs sign), is.1)
+    subst (λ (k : ℕ). (k - 1 < length xs) × (get_or (map sign xs) (k - 1) 0 < 128)) (sym e) (omega (arith, is.0, length-map xs sign), is.1)
 
-pub inside_cut : (xs : List Item) (h : HeadingParts) → h ≡ heading_parts (map sign xs) → IsInsideCut h.open_len h.inside_len xs
-inside_cut xs h e s =
-    let i : 0 < (heading_parts (map sign xs)).inside_len = subst (λ (g : HeadingParts). 0 < g.inside_len) e s in
-    subst (λ (g : HeadingParts). begins_char (slice_get xs (g.open_len + g.inside_len)) ≡ true) (sym e) (low_is xs ((heading_parts (map sign xs)).open_len + (heading_parts (map sign xs)).inside_len) (inside_sign (map sign xs) i))
+pub inside_cut : (xs : List Item) (n m : ℕ) → n ≡ open_len (core (map sign xs)) → m ≡ inside_len (core (map sign xs)) → IsInsideCut n m xs
+inside_cut xs n m en em s =
+    let i : 0 < inside_len (core (map sign xs)) = subst (λ (k : ℕ). 0 < k) em s in
+    let at : n + m ≡ open_len (core (map sign xs)) + inside_len (core (map sign xs)) = omega (arith, en, em) in
+    subst (λ (k : ℕ). begins_char (slice_get xs k) ≡ true) (sym at)
+    (low_is xs (open_len (core (map sign xs)) + inside_len (core (map sign xs))) (inside_sign (map sign xs) i))
+
+-- ---- the heading of the cuts
+
+cut_twice : (xs : List Item) (l o i : ℕ) → heading_by l o i xs
+    ≡ inner (plain (kind.Heading l)) (take o xs) (forest (inline_trees (take i (drop o xs)))) (drop (o + i) xs)
+cut_twice xs l o i = ap (λ ys. inner (plain (kind.Heading l)) (take o xs) (forest (inline_trees (take i (drop o xs)))) ys) (drop-drop i o xs)
+
+heading_cut : (xs : List Item) → heading_by (level_of (core (map sign xs))) (open_len (core (map sign xs))) (inside_len (core (map sign xs))) xs ≡ heading xs
+unfolding heading level opening inside closing
+heading_cut xs = cut_twice xs (level_of (core (map sign xs))) (open_len (core (map sign xs))) (inside_len (core (map sign xs)))
+
+pub heading_is : (xs : List Item) (l o i : ℕ) → l ≡ level_of (core (map sign xs)) → o ≡ open_len (core (map sign xs))
+    → i ≡ inside_len (core (map sign xs)) → heading_by l o i xs ≡ heading xs
+heading_is xs l o i el eo ei =
+    ap (λ n. heading_by n o i xs) el ∙ ap (λ n. heading_by (level_of (core (map sign xs))) n i xs) eo
+    ∙ ap (λ n. heading_by (level_of (core (map sign xs))) (open_len (core (map sign xs))) n xs) ei ∙ heading_cut xs
 
 get_past : (n m : ℕ) (xs : List Item) → slice_get (drop n xs) m ≡ slice_get xs (n + m)
 get_past zero m xs = let z : 0 + m ≡ m = omega arith in ap (slice_get xs) (sym z)
@@ -175,5 +202,6 @@ low_border xs i h = low_is xs i (λ l. inl h)
 pub low_past : (xs ys : List Item) (i : ℕ) → ys ≡ drop i xs → get_or (map sign xs) i 0 < 128 → get_or (map sign ys) 0 0 < 128
 low_past xs ys i e h =
     let z : i + 0 ≡ i = omega arith in
-    let is : get_or (map sign ys) 0 0 ≡ get_or (map sign xs) i 0 = ap (λ zs. get_or (map sign zs) 0 0) e ∙ ap (λ ss. get_or ss 0 0) (sym (drop-map sign i xs)) ∙ get_or-drop i (map sign xs) 0 0 ∙ ap (λ k. get_or (map sign xs) k 0) z in
+    let is : get_or (map sign ys) 0 0 ≡ get_or (map sign xs) i 0 = ap (λ zs. get_or (map sign zs) 0 0) e
+    ∙ ap (λ ss. get_or ss 0 0) (sym (drop-map sign i xs)) ∙ get_or-drop i (map sign xs) 0 0 ∙ ap (λ k. get_or (map sign xs) k 0) z in
     subst (λ (b : ℕ). b < 128) (sym is) h

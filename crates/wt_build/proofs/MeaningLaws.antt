@@ -7,7 +7,7 @@ use Rattle.wt_tree.specs.declared.kind.Kind.TheVariants as kind
 use Rattle.wt_span.specs.declared.form.Form.{Form}
 use Rattle.wt_span.specs.declared.form.Form.TheVariants as form
 use Rattle.wt_span.specs.Entities.{entity_at}
-use Rattle.wt_span.specs.Items.{Item, char, whole, sign, sources}
+use Rattle.wt_span.specs.Items.{Item, char, whole, sources}
 use Rattle.wt_span.specs.Runs.{runs}
 use Rattle.wt_span.proofs.RunLaws.{runs_are, runs_only, runs_joined}
 use Rattle.wt_lines.specs.Lines.{content, goes_on, full_lines}
@@ -20,10 +20,11 @@ use Rattle.wt_inline.specs.Inline.{inline_trees}
 use Rattle.wt_inline.proofs.HeldLaws.{held_children, held_of_parts, held_append, opened_append, sources_opened, are_children, only_children}
 use Rattle.wt_build.specs.declared.block.BlockKind.{BlockKind}
 use Rattle.wt_build.specs.declared.block.BlockKind.TheVariants.{Between, Heading, Para}
-use Rattle.wt_build.specs.declared.heading.HeadingParts.{HeadingParts}
-use Rattle.wt_build.specs.Headings.{heading_parts}
-use Rattle.wt_build.specs.Rows.{Row, row, rows, same_block, ending}
-use Rattle.wt_build.specs.Blocks.{joined, line_parts, para, heading_by, heading, block, lead_len, lead, without_lead, last_ending, without_ending, around, parts_by}
+use Rattle.wt_blocks.specs.Headings.{opening, inside, closing}
+use Rattle.wt_blocks.proofs.HeadingLaws.{joined as heading_joined}
+use Rattle.wt_tables.specs.Extents.{behind, kinds}
+use Rattle.wt_build.specs.Rows.{Row, block_of, kind_at, line_rows, rows_from, rows, RowsHaveKinds, same_block, ending}
+use Rattle.wt_build.specs.Blocks.{joined, line_parts, para, heading, block, lead_len, lead, without_lead, last_ending, without_ending, around, parts_by}
 use Rattle.wt_build.specs.Meaning.{row_items, run_parts, body_parts, meaning, IsMeaning}
 use Rattle.wt_build.proofs.Ends.{content_ending}
 
@@ -33,7 +34,9 @@ opened_bytes : (o : Option ℕ) (bs : List ℕ) → opened_all (map (char o) bs)
 opened_bytes o [] = refl
 opened_bytes o (b ∷ bs) = ap (λ xs. char o b ∷ xs) (opened_bytes o bs)
 
-opened_read : (o : Option ℕ) (e : Option (ℕ × ℕ)) (b : ℕ) (bs : List ℕ) → ((n : ℕ) → opened_all (inside_items o n bs) ≡ inside_items o n bs) → opened_all (read_with o e b bs (λ n. inside_items o n bs)) ≡ read_with o e b bs (λ n. inside_items o n bs)
+opened_read : (o : Option ℕ) (e : Option (ℕ × ℕ)) (b : ℕ) (bs : List ℕ)
+    → ((n : ℕ) → opened_all (inside_items o n bs) ≡ inside_items o n bs)
+    → opened_all (read_with o e b bs (λ n. inside_items o n bs)) ≡ read_with o e b bs (λ n. inside_items o n bs)
 opened_read o None b bs h = ap (λ xs. char o b ∷ xs) (h 0)
 opened_read o (Some e) b bs h = ap (λ xs. whole (form.Entity e.0) o (b ∷ take (e.1 - 1) bs) ∷ xs) (h (e.1 - 1))
 
@@ -50,7 +53,8 @@ opened_nowiki o bs =
     let back = map (char o) (closing_of bs) in
     opened_append front (xs ++ back)
     ∙ ap (λ ys. ys ++ opened_all (xs ++ back)) (opened_bytes o (opening_of bs))
-    ∙ ap (λ ys. front ++ ys) (opened_append xs back ∙ ap (λ ys. ys ++ opened_all back) (opened_inside o 0 (inside_of bs)) ∙ ap (λ ys. xs ++ ys) (opened_bytes o (closing_of bs)))
+    ∙ ap (λ ys. front ++ ys) (opened_append xs back ∙ ap (λ ys. ys ++ opened_all back) (opened_inside o 0 (inside_of bs))
+    ∙ ap (λ ys. xs ++ ys) (opened_bytes o (closing_of bs)))
 
 opened_form : (f : Form) (o : Option ℕ) (bs : List ℕ) → opened_all (opened_whole f o bs) ≡ opened_whole f o bs
 opened_form form.Chars o bs = refl
@@ -69,7 +73,8 @@ opened_one (whole f o bs) = opened_form f o bs
 
 opened_twice : (xs : List Item) → opened_all (opened_all xs) ≡ opened_all xs
 opened_twice [] = refl
-opened_twice (x ∷ xs) = opened_append (opened x) (opened_all xs) ∙ ap (λ ys. ys ++ opened_all (opened_all xs)) (opened_one x) ∙ ap (λ ys. opened x ++ ys) (opened_twice xs)
+opened_twice (x ∷ xs) = opened_append (opened x) (opened_all xs) ∙ ap (λ ys. ys ++ opened_all (opened_all xs)) (opened_one x)
+    ∙ ap (λ ys. opened x ++ ys) (opened_twice xs)
 
 -- ---- blocks
 
@@ -91,26 +96,25 @@ held_lines (l ∷ ls) =
 
 held_para : (ls : List (List Item)) → opened_all (held (para ls)) ≡ opened_all (joined ls)
 unfolding para
-held_para ls = ap opened_all (append-nil (held_by_all (forest (children (flat_map line_parts ls)))) ∙ held_children (flat_map line_parts ls) ∙ held_lines ls) ∙ opened_twice (joined ls)
+held_para ls = ap opened_all (append-nil (held_by_all (forest (children (flat_map line_parts ls))))
+    ∙ held_children (flat_map line_parts ls) ∙ held_lines ls) ∙ opened_twice (joined ls)
 
 held_inline : (xs : List Item) → held_by_all (forest (inline_trees xs)) ≡ opened_all xs
 unfolding inline_trees
 held_inline xs = held_children (parts Text xs) ∙ held_of_parts Text xs
 
-held_heading_by : (h : HeadingParts) (xs : List Item) → opened_all (held (heading_by h xs)) ≡ opened_all xs
-held_heading_by h xs =
-    let a = take h.open_len xs in
-    let rest = drop h.open_len xs in
-    let b = take h.inside_len rest in
-    let c = drop h.inside_len rest in
-    opened_append a (held_by_all (forest (inline_trees b)) ++ c)
-    ∙ ap (λ ys. opened_all a ++ ys) (opened_append (held_by_all (forest (inline_trees b))) c ∙ ap (λ ys. opened_all ys ++ opened_all c) (held_inline b) ∙ ap (λ ys. ys ++ opened_all c) (opened_twice b) ∙ sym (opened_append b c) ∙ ap opened_all (take-append-drop h.inside_len rest))
-    ∙ sym (opened_append a rest)
-    ∙ ap opened_all (take-append-drop h.open_len xs)
-
 held_heading : (xs : List Item) → opened_all (held (heading xs)) ≡ opened_all xs
 unfolding heading
-held_heading xs = held_heading_by (heading_parts (map sign xs)) xs
+held_heading xs =
+    let a = opening xs in
+    let b = inside xs in
+    let c = closing xs in
+    opened_append a (held_by_all (forest (inline_trees b)) ++ c)
+    ∙ ap (λ ys. opened_all a ++ ys) (opened_append (held_by_all (forest (inline_trees b))) c
+    ∙ ap (λ ys. opened_all ys ++ opened_all c) (held_inline b) ∙ ap (λ ys. ys ++ opened_all c) (opened_twice b)
+    ∙ sym (opened_append b c))
+    ∙ sym (opened_append a (b ++ c))
+    ∙ ap opened_all (heading_joined xs)
 
 held_block : (k : BlockKind) (ls : List (List Item)) → opened_all (held (block k ls)) ≡ opened_all (joined ls)
 unfolding block
@@ -132,11 +136,16 @@ held_around k ls =
     let rest = without_lead ls in
     let b = block k (without_ending rest) in
     let c = parts Sep (last_ending rest) in
-    ap opened_all (held_append (parts Sep (lead ls)) (node b ∷ c) ∙ ap (λ ys. ys ++ (held b ++ held_parts c)) (held_of_parts Sep (lead ls)) ∙ ap (λ ys. opened_all (lead ls) ++ (held b ++ ys)) (held_of_parts Sep (last_ending rest)))
+    ap opened_all (held_append (parts Sep (lead ls)) (node b ∷ c)
+    ∙ ap (λ ys. ys ++ (held b ++ held_parts c)) (held_of_parts Sep (lead ls))
+    ∙ ap (λ ys. opened_all (lead ls) ++ (held b ++ ys)) (held_of_parts Sep (last_ending rest)))
     ∙ opened_append (opened_all (lead ls)) (held b ++ opened_all (last_ending rest))
     ∙ ap (λ ys. ys ++ opened_all (held b ++ opened_all (last_ending rest))) (opened_twice (lead ls))
     ∙ ap (λ ys. opened_all (lead ls) ++ ys)
-    (opened_append (held b) (opened_all (last_ending rest)) ∙ ap (λ ys. ys ++ opened_all (opened_all (last_ending rest))) (held_block k (without_ending rest)) ∙ ap (λ ys. opened_all (joined (without_ending rest)) ++ ys) (opened_twice (last_ending rest)) ∙ sym (opened_append (joined (without_ending rest)) (last_ending rest)) ∙ ap opened_all (end_joined rest))
+    (opened_append (held b) (opened_all (last_ending rest)) ∙ ap (λ ys. ys ++ opened_all (opened_all (last_ending rest)))
+    (held_block k (without_ending rest)) ∙ ap (λ ys. opened_all (joined (without_ending rest)) ++ ys)
+    (opened_twice (last_ending rest)) ∙ sym (opened_append (joined (without_ending rest)) (last_ending rest))
+    ∙ ap opened_all (end_joined rest))
     ∙ sym (opened_append (lead ls) (joined rest))
     ∙ ap opened_all (lead_joined ls)
 
@@ -166,17 +175,25 @@ held_blocks (r ∷ rs) =
     ∙ sym (opened_append (joined (row_items r)) (joined (row_items others)))
     ∙ ap opened_all (sym (joined_append (row_items r) (row_items others)) ∙ ap joined (sym (map-append (λ s. s.items) r others)))
 
-pub row_items_are : (ls : List (List Item)) → row_items (map row ls) ≡ ls
-unfolding row
-row_items_are [] = refl
-row_items_are (l ∷ ls) = ap (λ ms. l ∷ ms) (row_items_are ls)
+pub row_items_are : (t : ℕ) (ls : List (List Item)) → row_items (rows_from t ls) ≡ ls
+unfolding line_rows
+row_items_are t [] = refl
+row_items_are t (l ∷ ls) = ap (λ ms. l ∷ ms) (row_items_are (behind t (kind_at t l)) ls)
+
+kinds_are : (t : ℕ) (ls : List (List Item)) → map (λ r. r.block) (rows_from t ls) ≡ map block_of (kinds t (map content ls))
+unfolding line_rows
+kinds_are t [] = refl
+kinds_are t (l ∷ ls) = ap (λ ks. block_of (kind_at t l) ∷ ks) (kinds_are (behind t (kind_at t l)) ls)
+
+pub rows_have_kinds : (xs : List Item) → RowsHaveKinds xs
+rows_have_kinds xs = kinds_are 0 (full_lines xs)
 
 pub held_meaning : (xs : List Item) → opened_all (held (meaning xs)) ≡ opened_all xs
 unfolding meaning
 held_meaning xs =
     ap opened_all (append-nil (held_by_all (forest (children (body_parts (rows xs))))) ∙ held_children (body_parts (rows xs)))
     ∙ held_blocks (runs same_block (rows xs))
-    ∙ ap opened_all (ap (λ rs. joined (row_items rs)) (runs_joined same_block (rows xs)) ∙ ap joined (row_items_are (full_lines xs)) ∙ runs_joined goes_on xs)
+    ∙ ap opened_all (ap (λ rs. joined (row_items rs)) (runs_joined same_block (rows xs)) ∙ ap joined (row_items_are 0 (full_lines xs)) ∙ runs_joined goes_on xs)
 
 pub sources_meaning : (xs : List Item) → sources (held (meaning xs)) ≡ sources xs
 sources_meaning xs = sym (sources_opened (held (meaning xs))) ∙ ap sources (held_meaning xs) ∙ sources_opened xs
@@ -199,5 +216,7 @@ pub only_meaning : (t : ItemTree) (xs : List Item) → IsMeaning t xs → t ≡ 
 unfolding meaning
 only_meaning t xs m =
     let ls : m.its_lines ≡ full_lines xs = runs_only goes_on m.its_lines xs m.are_lines in
-    let rs : m.its_blocks ≡ runs same_block (rows xs) = runs_only same_block m.its_blocks (map row m.its_lines) m.are_blocks ∙ ap (λ ns. runs same_block (map row ns)) ls in
-    m.is_body ∙ ap (λ ts. inner (plain kind.Body) [] (forest ts) []) (only_children m.its_children (flat_map run_parts m.its_blocks) m.are_children ∙ ap (λ bs. children (flat_map run_parts bs)) rs)
+    let rs : m.its_blocks ≡ runs same_block (rows xs) = runs_only same_block m.its_blocks (rows_from 0 m.its_lines) m.are_blocks
+    ∙ ap (λ ns. runs same_block (rows_from 0 ns)) ls in
+    m.is_body ∙ ap (λ ts. inner (plain kind.Body) [] (forest ts) [])
+    (only_children m.its_children (flat_map run_parts m.its_blocks) m.are_children ∙ ap (λ bs. children (flat_map run_parts bs)) rs)

@@ -1,8 +1,9 @@
 -- Pieces, ready for the cuts of this crate, and the signs of their items.
-use Rattle.std.proofs.Common.{◌≡◌, ℕ, zero, suc, ◌+◌, ◌-◌, ◌<◌, true, false, Option, List, [], ◌∷◌, ◌++◌, length, take, drop, map, get_or, refl, sym, ap, ◌∙◌, subst, arith, append-nil, length-drop}
+use Rattle.std.proofs.Common.{◌≡◌, ℕ, zero, suc, ◌+◌, ◌-◌, ◌^◌, ◌<◌, true, false, Option, List, [], ◌∷◌, ◌++◌, length, take, drop, map, get_or, refl, sym, ap, ◌∙◌, subst, arith, append-nil, length-append, length-drop}
 use Rattle.std.specs.Prelude.{All, ◌&&◌, nat_lt}
 use Rattle.std.proofs.lemmas.Bool.Decides.{nat_tests}
-use Rattle.std.proofs.lemmas.List.{length-map, take-map, drop-map, drop-drop}
+use Rattle.std.proofs.lemmas.List.{length-map, take-map, drop-map, drop-drop, take-append-drop}
+use Rattle.std.proofs.lemmas.Grind.{flat_map-append}
 use Rattle.std.proofs.Math.Seq.{take-add}
 use Rattle.wt_span.proofs.Lists.{take_append, drop_append}
 use Rattle.wt_span.specs.Slice.{bytes_of}
@@ -14,7 +15,7 @@ use Rattle.std.proofs.lemmas.List.Elements.{All-nil, All-cons, All-head, All-tai
 use Rattle.wt_span.specs.declared.form.Form.{Form}
 use Rattle.wt_span.specs.declared.form.Form.TheVariants as form
 use Rattle.wt_span.specs.declared.form.Piece.{Piece}
-use Rattle.wt_span.specs.Items.{Item, char, sign, items, items_of, items_by, call_of_origin}
+use Rattle.wt_span.specs.Items.{Item, char, source, sources, sign, items, items_of, items_by, call_of_origin}
 use Rattle.wt_span.specs.Origins.{IsSoundPiece}
 use Rattle.wt_lines.specs.Pieces.{AllParted, is_chars, AreLeadingMarks}
 use Rattle.wt_build.specs.Cuts.{AreReady, IsAround}
@@ -48,11 +49,24 @@ sound_take zero ps h = All-nil IsSoundPiece
 sound_take (suc n) [] h = h
 sound_take (suc n) (p ∷ ps) h = All-cons IsSoundPiece p (take n ps) (All-head IsSoundPiece p ps h) (sound_take n ps (All-tail IsSoundPiece p ps h))
 
+bytes_apart : (n : ℕ) (ps : List Piece) → length (sources (items (take n ps))) + length (sources (items (drop n ps))) ≡ length (sources (items ps))
+bytes_apart n ps =
+    let xs = items (take n ps) in
+    let ys = items (drop n ps) in
+    sym (length-append (sources xs) (sources ys))
+    ∙ ap length (sym (flat_map-append source xs ys) ∙ ap sources (sym (flat_map-append items_of (take n ps) (drop n ps)) ∙ ap items (take-append-drop n ps)))
+
+few_drop : (n : ℕ) (ps : List Piece) → length (sources (items ps)) < 2 ^ 32 → length (sources (items (drop n ps))) < 2 ^ 32
+few_drop n ps h = omega (arith, bytes_apart n ps, h)
+
+few_take : (n : ℕ) (ps : List Piece) → length (sources (items ps)) < 2 ^ 32 → length (sources (items (take n ps))) < 2 ^ 32
+few_take n ps h = omega (arith, bytes_apart n ps, h)
+
 pub ready_rest : (ps qs : List Piece) (n : ℕ) → AreReady ps → qs ≡ drop n ps → AreReady qs
-ready_rest ps qs n h e = subst AreReady (sym e) (record { parted = parted_drop n ps h.parted; sound = sound_drop n ps h.sound })
+ready_rest ps qs n h e = subst AreReady (sym e) (record { parted = parted_drop n ps h.parted; sound = sound_drop n ps h.sound; few = few_drop n ps h.few })
 
 pub ready_front : (ps qs : List Piece) (n : ℕ) → AreReady ps → qs ≡ take n ps → AreReady qs
-ready_front ps qs n h e = subst AreReady (sym e) (record { parted = parted_take n ps h.parted; sound = sound_take n ps h.sound })
+ready_front ps qs n h e = subst AreReady (sym e) (record { parted = parted_take n ps h.parted; sound = sound_take n ps h.sound; few = few_take n ps h.few })
 
 pub parted_rest : (ps qs : List Piece) (n : ℕ) → AllParted ps → qs ≡ drop n ps → AllParted qs
 parted_rest ps qs n h e = subst AllParted (sym e) (parted_drop n ps h)
@@ -83,7 +97,8 @@ front_sign : (xs ys : List Item) → 0 < length xs → get_or (map sign (xs ++ y
 front_sign [] ys s = absurd (omega arith)
 front_sign (x ∷ xs) ys s = refl
 
-pub one_only : (f : Form) (o : Option ℕ) (bs : List ℕ) → (is_chars f && nat_lt 1 (length bs)) ≡ false → (items_by f o bs ≡ take 1 (items_by f o bs)) × ([] ≡ drop 1 (items_by f o bs))
+pub one_only : (f : Form) (o : Option ℕ) (bs : List ℕ) → (is_chars f && nat_lt 1 (length bs)) ≡ false
+    → (items_by f o bs ≡ take 1 (items_by f o bs)) × ([] ≡ drop 1 (items_by f o bs))
 one_only form.Chars o [] e = (refl, refl)
 one_only form.Chars o (b ∷ []) e = (refl, refl)
 one_only form.Chars o (b ∷ c ∷ cs) e = absurd (more_bytes (length cs) e)
@@ -122,16 +137,19 @@ some_of : (p : Piece) → IsSoundPiece p → 0 < length (items_of p)
 some_of p h = omega (arith, some_by p.form (call_of_origin p.origin) (bytes_of p.text) h.whole)
 
 pub take_first : (p : Piece) (ps : List Piece) → IsSoundPiece p → take 1 (items_of p) ≡ take 1 (items (p ∷ ps))
-take_first p ps h = let z : 1 - length (items_of p) ≡ 0 = omega (arith, some_of p h) in sym (take_append 1 (items_of p) (items ps) ∙ ap (λ n. take 1 (items_of p) ++ take n (items ps)) z ∙ append-nil (take 1 (items_of p)))
+take_first p ps h = let z : 1 - length (items_of p) ≡ 0 = omega (arith, some_of p h) in
+    sym (take_append 1 (items_of p) (items ps) ∙ ap (λ n. take 1 (items_of p) ++ take n (items ps)) z ∙ append-nil (take 1 (items_of p)))
 
 pub drop_first : (p : Piece) (ps : List Piece) → IsSoundPiece p → drop 1 (items_of p) ++ items ps ≡ drop 1 (items (p ∷ ps))
-drop_first p ps h = let z : 1 - length (items_of p) ≡ 0 = omega (arith, some_of p h) in sym (drop_append 1 (items_of p) (items ps) ∙ ap (λ n. drop 1 (items_of p) ++ drop n (items ps)) z)
+drop_first p ps h = let z : 1 - length (items_of p) ≡ 0 = omega (arith, some_of p h) in
+    sym (drop_append 1 (items_of p) (items ps) ∙ ap (λ n. drop 1 (items_of p) ++ drop n (items ps)) z)
 
 pub sign_first : (p : Piece) (ps : List Piece) → IsSoundPiece p → get_or (map sign (items (p ∷ ps))) 0 0 ≡ get_or (map sign (items_of p)) 0 0
 sign_first p ps h = front_sign (items_of p) (items ps) (some_of p h)
 
 -- what stands before a block, the block, and what stands after it
-pub around_by : (ps front rest mid left : List Piece) (n m : ℕ) → AreLeadingMarks ps n → front ≡ take n ps → rest ≡ drop n ps → mid ≡ take m rest → left ≡ drop m rest
+pub around_by : (ps front rest mid left : List Piece) (n m : ℕ) → AreLeadingMarks ps n → front ≡ take n ps → rest ≡ drop n ps
+    → mid ≡ take m rest → left ≡ drop m rest
     → content (items rest) ≡ items (take m rest) → ending (items rest) ≡ items (drop m rest) → IsAround (items ps) (items front) (items mid) (items left)
 around_by ps front rest mid left n m h ef er em el c e =
     let b : drop (lead_len (items ps)) (items ps) ≡ items rest = h.1 ∙ ap items (sym er) in

@@ -1,17 +1,16 @@
 -- Blocks: what the lines of one block are as a tree, and what stands before and after it.
-use Rattle.std.specs.Prelude.{ℕ, List, [], ◌∷◌, ◌++◌, map, take, drop}
+use Rattle.std.specs.Prelude.{ℕ, List, [], ◌∷◌, ◌++◌, take, drop}
 use Rattle.std.specs.List.{flat_map, prefix_len}
 use Rattle.wt_tree.specs.declared.kind.Kind.TheVariants as kind
-use Rattle.wt_span.specs.Items.{Item, sign, is_mark}
+use Rattle.wt_span.specs.Items.{Item, is_mark}
 use Rattle.wt_lines.specs.Lines.{content}
+use Rattle.wt_blocks.specs.Headings.{level, opening, inside, closing}
 use Rattle.wt_inline.specs.declared.loose.Loose.TheVariants.{Text, Sep}
 use Rattle.wt_inline.specs.ItemTree.{plain, ItemTree, inner, forest}
 use Rattle.wt_inline.specs.Parts.{Part, node, parts, children}
 use Rattle.wt_inline.specs.Inline.{inline_parts, inline_trees}
 use Rattle.wt_build.specs.declared.block.BlockKind.{BlockKind}
 use Rattle.wt_build.specs.declared.block.BlockKind.TheVariants.{Between, Heading, Para}
-use Rattle.wt_build.specs.declared.heading.HeadingParts.{HeadingParts}
-use Rattle.wt_build.specs.Headings.{heading_parts}
 use Rattle.wt_build.specs.Rows.{ending}
 
 abbrev pub joined : List (List Item) → List Item
@@ -28,13 +27,9 @@ para ls = inner (plain kind.Para) [] (forest (children (flat_map line_parts ls))
 
 -- ---- a heading
 
-abbrev pub heading_by : HeadingParts → List Item → ItemTree
-heading_by h line =
-    inner (plain (kind.Heading h.level)) (take h.open_len line) (forest (inline_trees (take h.inside_len (drop h.open_len line)))) (drop h.inside_len (drop h.open_len line))
-
 -- of a line without its line break, from its first `=` on
 unfoldable pub heading : List Item → ItemTree
-heading line = heading_by (heading_parts (map sign line)) line
+heading line = inner (plain (kind.Heading (level line))) (opening line) (forest (inline_trees (inside line))) (closing line)
 
 -- ---- any block
 

@@ -7,7 +7,7 @@ use Rattle.wt_span.specs.Runs.{runs, AreRuns}
 use Rattle.wt_lines.specs.Lines.{goes_on}
 use Rattle.wt_inline.specs.ItemTree.{plain, ItemTree, inner, forest}
 use Rattle.wt_inline.specs.Parts.{Part, children, AreChildren}
-use Rattle.wt_build.specs.Rows.{Row, row, rows, same_block}
+use Rattle.wt_build.specs.Rows.{Row, rows_from, rows, same_block}
 use Rattle.wt_build.specs.Blocks.{parts_by}
 
 abbrev pub row_items : List Row → List (List Item)
@@ -32,6 +32,6 @@ pub record IsMeaning (t : ItemTree) (xs : List Item) : Type 0 where
   pub its_blocks : List (List Row)
   pub its_children : List ItemTree
   pub are_lines : AreRuns goes_on its_lines xs
-  pub are_blocks : AreRuns same_block its_blocks (map row its_lines)
+  pub are_blocks : AreRuns same_block its_blocks (rows_from 0 its_lines)
   pub are_children : AreChildren its_children (flat_map run_parts its_blocks)
   pub is_body : t ≡ inner (plain kind.Body) [] (forest its_children) []

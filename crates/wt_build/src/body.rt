@@ -1,5 +1,5 @@
-ghost use Rattle.std.specs.Prelude.{◌≡◌, IfOk};
-ghost use Rattle.wt_span.specs.Items.{items};
+ghost use Rattle.std.specs.Prelude.{◌≡◌, ◌<◌, ◌^◌, length, IfOk};
+ghost use Rattle.wt_span.specs.Items.{items, sources};
 ghost use Rattle.wt_lines.specs.Lines.{full_lines};
 ghost use Rattle.wt_inline.specs.Parts.{children};
 ghost use Rattle.wt_inline.specs.View.{item_tree, item_trees};
@@ -11,7 +11,7 @@ ghost use Rattle.wt_build.specs.Cuts.{AreReady};
 
 use crate::block::BlockKind;
 use crate::cut::cut_block;
-use crate::row::block_len;
+use crate::row::first_block;
 use crate::tree::block_tree;
 use std::alloc::Global;
 use wt_inline::{Children, Loose, NodeHead, PieceTree};
@@ -60,11 +60,13 @@ fn body_children<'a>(alloc: Global, pieces: &[Piece<'a>]) -> Result<List<PieceTr
 {
     let mut children = Children::new(alloc);
     let mut at = 0;
+    let mut tables = 0;
     while at < pieces.len() {
         let rest = rest_of(pieces, at);
-        let (kind, n) = block_len(rest);
-        children = with_lines(alloc, children, kind, front_of(rest, n))?;
-        at += n;
+        let block = first_block(rest, tables);
+        children = with_lines(alloc, children, block.kind, front_of(rest, block.len))?;
+        at += block.len;
+        tables = block.tables;
     }
     children.finish(alloc)
 }
@@ -96,6 +98,7 @@ impl<'a> Tree<'a> {
 /// the items.
 #[tactic(auto, unfolding(crate::specs::Meaning::meaning))]
 pub fn build<'a>(alloc: Global, items: &Items<'a>) -> Result<Tree<'a>, NoMemory>
+    requires { length (sources items.now.items) < 2 ^ 32 }
     ensures { IfOk result (λ t. item_tree t.body ≡ meaning items.now.items) }
 {
     let pieces = parted(alloc, items.pieces())?;

@@ -5,6 +5,7 @@ ghost use Rattle.wt_span.specs.Items.{Item, sources};
 ghost use Rattle.wt_inline.specs.Inside.{opened_all};
 ghost use Rattle.wt_inline.specs.ItemTree.{ItemTree, held};
 ghost use Rattle.wt_build.specs.Meaning.{meaning, IsMeaning};
+ghost use Rattle.wt_build.specs.Rows.{RowsHaveKinds};
 
 /// The meaning of items holds them in their order, but that a `nowiki` may be opened in it; joined,
 /// its sources are theirs.
@@ -17,4 +18,10 @@ pub fn meaning_holds_its_items()
 pub fn meaning_is_cut_by_lines()
     ensures are { (xs : List Item) → IsMeaning (meaning xs) xs }
     ensures only { (t : ItemTree) (xs : List Item) → IsMeaning t xs → t ≡ meaning xs }
+{}
+
+/// The rows of a page, one for each line so far, have the kinds of its lines, each of which knows how
+/// many tables are open at it.
+pub fn rows_have_kinds()
+    ensures { (xs : List Item) → RowsHaveKinds xs }
 {}

@@ -6,14 +6,11 @@
 mod block;
 mod body;
 mod cut;
-mod heading;
 mod laws;
 mod row;
-mod sign;
 mod split;
 mod tree;
 
 pub use block::BlockKind;
 pub use body::{Tree, build};
-pub use heading::HeadingParts;
-pub use laws::{meaning_holds_its_items, meaning_is_cut_by_lines};
+pub use laws::{meaning_holds_its_items, meaning_is_cut_by_lines, rows_have_kinds};

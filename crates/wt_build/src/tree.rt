@@ -1,29 +1,67 @@
 //! The tree of a block, by its pieces.
 
-ghost use Rattle.std.specs.Prelude.{◌≡◌, ◌∷◌, [], All, IfOk};
+ghost use Rattle.std.specs.Prelude.{◌≡◌, ◌∷◌, [], IfOk};
 ghost use Rattle.wt_span.specs.Items.{items};
-ghost use Rattle.wt_span.specs.Origins.{IsSoundPiece};
+ghost use Rattle.wt_lines.specs.Lines.{full_lines};
+ghost use Rattle.wt_lines.specs.Pieces.{AllParted};
 ghost use Rattle.wt_tree.specs.declared.kind.Kind.TheVariants as node_kind;
 ghost use Rattle.wt_inline.specs.ItemTree.{plain, inner, forest};
-ghost use Rattle.wt_inline.specs.Inline.{inline_trees};
-ghost use Rattle.wt_inline.specs.View.{item_tree};
-ghost use Rattle.wt_build.specs.Blocks.{heading_by, heading, block};
-ghost use Rattle.wt_build.specs.Cuts.{AreReady, IsOpenCut, IsInsideCut};
+ghost use Rattle.wt_inline.specs.Parts.{children};
+ghost use Rattle.wt_inline.specs.View.{item_tree, item_trees};
+ghost use Rattle.wt_inline.specs.Grown.{grown, Grows};
+ghost use Rattle.wt_build.specs.Blocks.{line_parts, heading, block};
+ghost use Rattle.wt_build.specs.Cuts.{AreReady, IsOpenCut, IsInsideCut, paragraph_parts, heading_by};
 
 use crate::block::BlockKind;
-use crate::heading::{HeadingParts, heading_parts};
-use crate::sign::signs;
+use crate::cut::content_len;
 use crate::split::{split_before, split_behind};
 use std::alloc::Global;
-use wt_inline::{NodeHead, PieceTree, inline_children};
-use wt_span::{List, NoMemory, Piece};
+use wt_blocks::{HeadingCuts, heading_cuts};
+use wt_inline::{Children, Loose, NodeHead, PieceTree, inline_children};
+use wt_lines::line_len;
+use wt_span::{List, NoMemory, Piece, front_of, rest_of};
 use wt_tree::Kind;
 
-/// A paragraph.
-fn paragraph<'a>(alloc: Global, pieces: &[Piece<'a>]) -> Result<PieceTree<'a>, NoMemory>
-    ensures { IfOk result (λ t. item_tree t ≡ inner (plain node_kind.Para) [] (forest (inline_trees (items pieces.now))) []) }
+/// The children of a paragraph with one more line: what stands on it is read by itself, and its line
+/// break is text.
+fn with_full_line<'a>(
+    alloc: Global,
+    children: Children<'a>,
+    line: &[Piece<'a>],
+) -> Result<Children<'a>, NoMemory>
+    requires { AllParted line.now }
+    ensures { IfOk result (λ c. Grows (grown children.entry) (line_parts (items line.now)) (grown c)) }
 {
-    let children = inline_children(alloc, pieces)?;
+    let n = content_len(line);
+    let children = children.with_line(alloc, front_of(line, n))?;
+    children.with_pieces(alloc, Loose::Text, rest_of(line, n))
+}
+
+/// The children of a paragraph of these lines.
+fn paragraph_children<'a>(
+    alloc: Global,
+    lines: &[Piece<'a>],
+) -> Result<List<PieceTree<'a>>, NoMemory>
+    requires { AllParted lines.now }
+    ensures { IfOk result (λ l. item_trees l ≡ children (paragraph_parts lines.now)) }
+{
+    let mut children = Children::new(alloc);
+    let mut at = 0;
+    while at < lines.len() {
+        let rest = rest_of(lines, at);
+        let n = line_len(rest);
+        children = with_full_line(alloc, children, front_of(rest, n))?;
+        at += n;
+    }
+    children.finish(alloc)
+}
+
+/// A paragraph.
+fn paragraph<'a>(alloc: Global, lines: &[Piece<'a>]) -> Result<PieceTree<'a>, NoMemory>
+    requires { AllParted lines.now }
+    ensures { IfOk result (λ t. item_tree t ≡ inner (plain node_kind.Para) [] (forest (children (paragraph_parts lines.now))) []) }
+{
+    let children = paragraph_children(alloc, lines)?;
     Ok(PieceTree {
         head: NodeHead::plain(alloc, Kind::Para),
         opening: List::new(alloc),
@@ -32,22 +70,22 @@ fn paragraph<'a>(alloc: Global, pieces: &[Piece<'a>]) -> Result<PieceTree<'a>, N
     })
 }
 
-/// A heading with these parts, of its line from the first `=` on.
+/// A heading that is cut here, of its line from the first `=` on.
 fn heading_by<'a>(
     alloc: Global,
-    parts: HeadingParts,
+    cuts: HeadingCuts,
     line: &[Piece<'a>],
 ) -> Result<PieceTree<'a>, NoMemory>
-    requires sound { All IsSoundPiece line.now }
-    requires opening { IsOpenCut parts.open_len (items line.now) }
-    requires inside { IsInsideCut parts.open_len parts.inside_len (items line.now) }
-    ensures { IfOk result (λ t. item_tree t ≡ heading_by parts (items line.now)) }
+    requires ready { AreReady line.now }
+    requires opening { IsOpenCut cuts.open_len (items line.now) }
+    requires inside { IsInsideCut cuts.open_len cuts.inside_len (items line.now) }
+    ensures { IfOk result (λ t. item_tree t ≡ heading_by cuts.level cuts.open_len cuts.inside_len (items line.now)) }
 {
-    let (opening, rest) = split_behind(alloc, line, parts.open_len)?;
-    let (inside, closing) = split_before(alloc, rest.as_slice(), parts.inside_len)?;
+    let (opening, rest) = split_behind(alloc, line, cuts.open_len)?;
+    let (inside, closing) = split_before(alloc, rest.as_slice(), cuts.inside_len)?;
     let children = inline_children(alloc, inside.as_slice())?;
     Ok(PieceTree {
-        head: NodeHead::plain(alloc, Kind::Heading(parts.level)),
+        head: NodeHead::plain(alloc, Kind::Heading(cuts.level)),
         opening,
         children,
         closing,
@@ -59,23 +97,21 @@ fn heading<'a>(alloc: Global, line: &[Piece<'a>]) -> Result<PieceTree<'a>, NoMem
     requires { AreReady line.now }
     ensures { IfOk result (λ t. item_tree t ≡ heading (items line.now)) }
 {
-    let signs = signs(alloc, line)?;
-    let parts = heading_parts(signs.as_slice());
-    heading_by(alloc, parts, line)
+    heading_by(alloc, heading_cuts(line), line)
 }
 
 /// The node of a block, whose lines begin with a visible item and end without a line break.
 pub fn block_tree<'a>(
     alloc: Global,
     kind: BlockKind,
-    pieces: &[Piece<'a>],
+    lines: &[Piece<'a>],
 ) -> Result<PieceTree<'a>, NoMemory>
-    requires { AreReady pieces.now }
-    ensures { IfOk result (λ t. item_tree t ≡ block kind (items pieces.now ∷ [])) }
+    requires { AreReady lines.now }
+    ensures { IfOk result (λ t. item_tree t ≡ block kind (full_lines (items lines.now))) }
 {
     match kind {
-        BlockKind::Between => paragraph(alloc, pieces),
-        BlockKind::Heading => heading(alloc, pieces),
-        BlockKind::Para => paragraph(alloc, pieces),
+        BlockKind::Between => paragraph(alloc, lines),
+        BlockKind::Heading => heading(alloc, lines),
+        BlockKind::Para => paragraph(alloc, lines),
     }
 }

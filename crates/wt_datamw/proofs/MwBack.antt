@@ -33,12 +33,14 @@ sources : List Param → Members
 sources [] = no_members
 sources (p ∷ ps) = member p.0 (wt_data p.1) (sources ps)
 
-below_middle : (n : List ℕ) (done : List Param) (p : Param) (more : List Param) → AllByRecursion (λ y. slice_cmp nat_cmp n y ≡ Less) (names (done ++ p ∷ more)) → slice_cmp nat_cmp n p.0 ≡ Less
+below_middle : (n : List ℕ) (done : List Param) (p : Param) (more : List Param)
+    → AllByRecursion (λ y. slice_cmp nat_cmp n y ≡ Less) (names (done ++ p ∷ more)) → slice_cmp nat_cmp n p.0 ≡ Less
 below_middle n [] p more h = h.0
 below_middle n (d ∷ done) p more h = below_middle n done p more h.1
 
 -- a name that is above those before it goes last
-put_last : (done : List Param) (p : Param) (more : List Param) → IsStrictlySortedBy (slice_cmp nat_cmp) (names (done ++ p ∷ more)) → put p.0 (wt_data p.1) (sources done) ≡ sources (done ++ p ∷ [])
+put_last : (done : List Param) (p : Param) (more : List Param) → IsStrictlySortedBy (slice_cmp nat_cmp) (names (done ++ p ∷ more))
+    → put p.0 (wt_data p.1) (sources done) ≡ sources (done ++ p ∷ [])
 unfolding IsStrictlySortedBy sources
 put_last [] p more h = refl
 put_last (d ∷ done) p more h =
@@ -61,7 +63,8 @@ params_back : (ps : List Param) → IsStrictlySortedBy (slice_cmp nat_cmp) (name
 unfolding sources
 params_back ps h = ap params_of (all_last [] ps h) ∙ params_of_sources ps
 
-match_pass : (o : Ordering) (a b c : Members) → all_values is_source a ≡ true → all_values is_source b ≡ true → all_values is_source c ≡ true → all_values is_source (match_ordering o a b c) ≡ true
+match_pass : (o : Ordering) (a b c : Members) → all_values is_source a ≡ true → all_values is_source b ≡ true
+    → all_values is_source c ≡ true → all_values is_source (match_ordering o a b c) ≡ true
 match_pass Less a b c e f g = e
 match_pass Equal a b c e f g = f
 match_pass Greater a b c e f g = g

@@ -14,11 +14,15 @@ group ds = object (member (codes "parts") (array ds) no_members)
 abbrev transclusion : Num → Members → Data
 transclusion i params =
     object (member (codes "template")
-    (object (member (codes "target") (object (member (codes "wt") (string (codes "x ")) (member (codes "href") (string (codes "./Template:X")) no_members))) (member (codes "params") (object params) (member (codes "i") (number i) no_members))))
+    (object (member (codes "target") (object (member (codes "wt") (string (codes "x "))
+    (member (codes "href") (string (codes "./Template:X")) no_members)))
+    (member (codes "params") (object params) (member (codes "i") (number i) no_members))))
     no_members)
 
-three_parts : mw_of_data (group (item (transclusion (unsigned 3) (member (codes "1") (wt_data (codes " c ")) no_members)) (item (string (codes "b")) (item (object (member (codes "param") (wt_data (codes "{{{1}}}")) no_members)) no_items))))
-    ≡ Ok (mw.Parts (part.Template (codes "x ") (codes "./Template:X") ((codes "1", codes " c ") ∷ []) 3 ∷ part.Literal (codes "b") ∷ part.Param (codes "{{{1}}}") ∷ []))
+three_parts : mw_of_data (group (item (transclusion (unsigned 3) (member (codes "1") (wt_data (codes " c ")) no_members))
+    (item (string (codes "b")) (item (object (member (codes "param") (wt_data (codes "{{{1}}}")) no_members)) no_items))))
+    ≡ Ok (mw.Parts (part.Template (codes "x ") (codes "./Template:X") ((codes "1", codes " c ") ∷ []) 3 ∷ part.Literal (codes "b")
+    ∷ part.Param (codes "{{{1}}}") ∷ []))
 unfolding mw_of_data is_mw_shape has_small_numbers template_of
 three_parts = refl
 
@@ -31,7 +35,8 @@ shape_first : mw_of_data (group (item (transclusion (unsigned 4294967296) no_mem
 unfolding mw_of_data is_mw_shape has_small_numbers
 shape_first = refl
 
-empty_body : mw_of_data (object (member (codes "name") (string (codes "ref")) (member (codes "body") (object (member (codes "extsrc") (string []) no_members)) no_members)))
+empty_body : mw_of_data (object (member (codes "name") (string (codes "ref"))
+    (member (codes "body") (object (member (codes "extsrc") (string []) no_members)) no_members)))
     ≡ Ok (mw.Extension (codes "ref") (Some []))
 unfolding mw_of_data is_mw_shape has_small_numbers
 empty_body = refl

@@ -24,7 +24,8 @@ or_right : (a b : Bool) → (a || b) ≡ false → b ≡ false
 or_right true b e = cc
 or_right false b e = e
 
-match_free : (o : Ordering) (a b c : Members) → members_have_float a ≡ false → members_have_float b ≡ false → members_have_float c ≡ false → members_have_float (match_ordering o a b c) ≡ false
+match_free : (o : Ordering) (a b c : Members) → members_have_float a ≡ false → members_have_float b ≡ false
+    → members_have_float c ≡ false → members_have_float (match_ordering o a b c) ≡ false
 match_free Less a b c e f g = e
 match_free Equal a b c e f g = f
 match_free Greater a b c e f g = g
@@ -35,7 +36,8 @@ put_free k d (member l e ms) hd hm =
     let one = or_left (has_float e) (members_have_float ms) hm in
     let more = or_right (has_float e) (members_have_float ms) hm in
     match_free (slice_cmp nat_cmp k l) (member k d (member l e ms)) (member l d ms) (member l e (put k d ms))
-    (or_free (has_float d) (members_have_float (member l e ms)) hd hm) (or_free (has_float d) (members_have_float ms) hd more) (or_free (has_float e) (members_have_float (put k d ms)) one (put_free k d ms hd more))
+    (or_free (has_float d) (members_have_float (member l e ms)) hd hm) (or_free (has_float d) (members_have_float ms) hd more)
+    (or_free (has_float e) (members_have_float (put k d ms)) one (put_free k d ms hd more))
 
 params_free : (ps : List (List ℕ × List ℕ)) (ms : Members) → members_have_float ms ≡ false → members_have_float (params_from ms ps) ≡ false
 params_free [] ms h = h
@@ -43,7 +45,8 @@ params_free (p ∷ ps) ms h = params_free ps (put p.0 (wt_data p.1) ms) (put_fre
 
 part_free : (p : Part) → has_float (part_data p) ≡ false
 unfolding template_data params_data
-part_free (part.Template target href ps i) = or_free (members_have_float (params_from no_members ps) || false) false (or_free (members_have_float (params_from no_members ps)) false (params_free ps no_members refl) refl) refl
+part_free (part.Template target href ps i) = or_free (members_have_float (params_from no_members ps) || false) false
+    (or_free (members_have_float (params_from no_members ps)) false (params_free ps no_members refl) refl) refl
 part_free (part.Param source) = refl
 part_free (part.Literal text) = refl
 
@@ -56,7 +59,8 @@ mw_free (mw.Parts ps) = or_free (items_have_float (parts_items ps)) false (parts
 mw_free (mw.Extension name None) = refl
 mw_free (mw.Extension name (Some body)) = refl
 
-match_depth : (n : ℕ) (o : Ordering) (a b c : Members) → members_depth a ≤ n → members_depth b ≤ n → members_depth c ≤ n → members_depth (match_ordering o a b c) ≤ n
+match_depth : (n : ℕ) (o : Ordering) (a b c : Members) → members_depth a ≤ n → members_depth b ≤ n → members_depth c ≤ n
+    → members_depth (match_ordering o a b c) ≤ n
 match_depth n Less a b c e f g = e
 match_depth n Equal a b c e f g = f
 match_depth n Greater a b c e f g = g

@@ -11,11 +11,14 @@ use Rattle.wt_datamw.specs.SyncRead.{small, ranges_of, is_sync_shape, sync_of_da
 small_is : (n : ℕ) → n < 2 ^ 32 → small (Some n) ≡ Some n
 small_is n h = rw ((Decides-ltb n (2 ^ 32)).1 h)
 
-ranges_is : (r : Ranges) → r.start < 2 ^ 32 → r.end < 2 ^ 32 → r.open_w < 2 ^ 32 → r.close_w < 2 ^ 32 → ranges_of (small (Some r.start)) (small (Some r.end)) (small (Some r.open_w)) (small (Some r.close_w)) ≡ Some r
+ranges_is : (r : Ranges) → r.start < 2 ^ 32 → r.end < 2 ^ 32 → r.open_w < 2 ^ 32 → r.close_w < 2 ^ 32
+    → ranges_of (small (Some r.start)) (small (Some r.end)) (small (Some r.open_w)) (small (Some r.close_w)) ≡ Some r
 ranges_is r a b c d = rw (small_is r.start a, small_is r.end b, small_is r.open_w c, small_is r.close_w d)
 
-parts_back : (r : Ranges) (o c : List ℕ) (src : Option (List ℕ)) → ranges_of (small (Some r.start)) (small (Some r.end)) (small (Some r.open_w)) (small (Some r.close_w)) ≡ Some r
-    → sync_of_data (object (put_source src (put_text (codes "o") o (put_dsr r (put_text (codes "c") c no_members))))) ≡ Ok (record { dsr = r; opening = o; closing = c; src = src })
+parts_back : (r : Ranges) (o c : List ℕ) (src : Option (List ℕ)) → ranges_of (small (Some r.start)) (small (Some r.end))
+    (small (Some r.open_w)) (small (Some r.close_w)) ≡ Some r
+    → sync_of_data (object (put_source src (put_text (codes "o") o (put_dsr r (put_text (codes "c") c no_members)))))
+    ≡ Ok (record { dsr = r; opening = o; closing = c; src = src })
 unfolding sync_of_data is_sync_shape
 parts_back r [] [] None e = rw e
 parts_back r [] [] (Some s) e = rw e

@@ -1,3 +1,10 @@
 mod Cases
+mod ExpansionCases
 pub mod MadePieces
 pub mod PageLaws
+pub mod PiecePlaces
+pub mod Given
+pub mod Joins
+pub mod NoCalls
+pub mod Agreements
+pub mod Absent

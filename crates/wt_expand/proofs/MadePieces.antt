@@ -212,7 +212,7 @@ before_page [] o e = refl
 before_page (p ∷ os) (origin.Page r) e = refl
 before_page (p ∷ os) (origin.Call k) e = absurd cc
 
-once_page : (os : List Origin) (o : Origin) → call_of_origin o ≡ None → once (o ∷ os) ≡ o ∷ once os
+pub once_page : (os : List Origin) (o : Origin) → call_of_origin o ≡ None → once (o ∷ os) ≡ o ∷ once os
 once_page os o e = ap (λ b. if b then once os else o ∷ once os) (before_page os o e)
 
 follow_made : (page : List ℕ) (ps : List Piece) (xs : List Lexeme) (at to : ℕ) → AreMade page ps xs → Follow at xs to → FollowFrom at (map (span_of_origin []) (once (origins ps)))

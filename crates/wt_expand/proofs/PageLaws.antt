@@ -21,11 +21,11 @@ use Rattle.wt_lex.specs.Reading.{AreLexemes}
 use Rattle.wt_lex.proofs.Readings.{words_are}
 use Rattle.wt_expand.specs.PageItems.{form_of, items_of_word, items_of_words, page_items}
 
-char_sources : (bs : List ℕ) → sources (map (char None) bs) ≡ bs
+pub char_sources : (bs : List ℕ) → sources (map (char None) bs) ≡ bs
 char_sources [] = refl
 char_sources (b ∷ bs) = ap (λ cs. b ∷ cs) (char_sources bs)
 
-form_sources : (f : Form) (bs : List ℕ) → sources (items_by f None bs) ≡ bs
+pub form_sources : (f : Form) (bs : List ℕ) → sources (items_by f None bs) ≡ bs
 form_sources form.Chars bs = char_sources bs
 form_sources (form.Entity c) bs = append-nil bs
 form_sources form.Nowiki bs = append-nil bs

@@ -1,2 +1,11 @@
+pub mod Agreement
+pub mod Expansion
 pub mod Made
+pub mod PageCalls
 pub mod PageItems
+pub mod PiecePlaces
+pub mod Stretches
+pub mod Targets
+pub mod Templates
+pub mod Texts
+pub mod Work

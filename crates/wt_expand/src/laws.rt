@@ -1,10 +1,58 @@
-ghost use Rattle.std.specs.Prelude.{◌≡◌, ℕ, List, None};
+ghost use Rattle.std.specs.Prelude.{◌≡◌, ℕ, suc, List, [], ◌∷◌, None, false, length, map};
 ghost use Rattle.std.specs.List.{All};
-ghost use Rattle.wt_span.specs.Items.{sources, call_of};
+ghost use Rattle.wt_span.specs.declared.form.Mode.TheVariants as text_mode;
+ghost use Rattle.wt_span.specs.Braces.{call_count_of_all};
+ghost use Rattle.wt_span.specs.Cuts.{page_of};
+ghost use Rattle.wt_span.specs.Items.{sources, call_of, items};
+ghost use Rattle.wt_span.specs.Origins.{AreItems, OuterCall, Span, once, span_of_origin};
+ghost use Rattle.wt_span.specs.declared.form.Piece.{Piece as PieceAt};
+ghost use Rattle.wt_names.specs.declared.title.Title.{Title as TitleOf};
+ghost use Rattle.wt_names.specs.Namespace.{full_name_of};
+ghost use Rattle.wt_expand.specs.Agreement.{AgreeOn};
+ghost use Rattle.wt_expand.specs.Expansion.{Frame, absent_text, chars, page_reading, page_work, template_output, text_given, text_members};
+ghost use Rattle.wt_expand.specs.PageCalls.{expanded_page};
 ghost use Rattle.wt_expand.specs.PageItems.{page_items};
+ghost use Rattle.wt_expand.specs.PiecePlaces.{BeginFrom, end_of_spans};
+ghost use Rattle.wt_expand.specs.Texts.{shown_text};
+ghost use Rattle.wt_expand.specs.Work.{Pages, fetched, is_among};
 
 /// The sources of a page's items, joined, are the page, and none comes from a call.
 pub fn whole_page()
     ensures joined { (page : List ℕ) → sources (page_items page) ≡ page }
     ensures no_calls { (page : List ℕ) → All (λ x. call_of x ≡ None) (page_items page) }
+{}
+
+/// Under what `Items` keeps: the cut before the first item of a page's own piece has the piece's
+/// first byte as its place, and the page has as many bytes as the origins cover.
+pub fn pieces_have_places()
+    ensures begin { (ps : List PieceAt) (calls : List OuterCall) (ts : List Span) → AreItems ps calls ts → BeginFrom calls (items ps) 0 ps }
+    ensures covered { (ps : List PieceAt) (calls : List OuterCall) (ts : List Span) → AreItems ps calls ts → length (page_of calls (items ps)) ≡ end_of_spans 0 (map (span_of_origin calls) (once (map (λ p. p.origin) ps))) }
+{}
+
+/// The origins of an expanded page, each once, join to the page.
+pub fn origins_join()
+    ensures { (pages : Pages) (page : List ℕ) → page_of (expanded_page pages page).outer (expanded_page pages page).items ≡ page }
+{}
+
+/// The expanded page shows what its text gives, whatever calls it comes from.
+pub fn shows_what_is_given()
+    ensures { (pages : Pages) (page : List ℕ) → shown_text (expanded_page pages page).items ≡ shown_text (text_given (page_reading pages) page).items }
+{}
+
+/// A page without calls and arguments has the items of its lexemes, whatever the folder has.
+pub fn without_calls()
+    ensures { (pages : Pages) (page : List ℕ) → call_count_of_all (text_members text_mode.Page page) ≡ 0 → expanded_page pages page ≡ record { items = page_items page; outer = []; text_calls = [] } }
+{}
+
+/// What an expansion gives, and its work, hang on no page that isn't fetched for it: with any other
+/// folder that has the same pages where these are fetched they are the same.
+pub fn hangs_on_what_is_fetched()
+    ensures page { (pages others : Pages) (page : List ℕ) → AgreeOn pages others (page_work pages page) → expanded_page pages page ≡ expanded_page others page }
+    ensures work { (pages others : Pages) (page : List ℕ) → AgreeOn pages others (page_work pages page) → page_work pages page ≡ page_work others page }
+{}
+
+/// A call whose page is absent gives the characters of the link to it, and asks for this page
+/// alone.
+pub fn absent_page_is_a_link()
+    ensures { (pages : Pages) (left : ℕ) (titles : List (List ℕ)) (t : TitleOf) (v : Frame) → is_among (full_name_of t) titles ≡ false → pages (full_name_of t) ≡ None → template_output pages (suc left) titles t v ≡ record { items = chars (absent_text (full_name_of t)); work = fetched (full_name_of t) ∷ [] } }
 {}

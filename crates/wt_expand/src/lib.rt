@@ -6,5 +6,8 @@ mod laws;
 mod page;
 mod piece;
 
-pub use laws::whole_page;
+pub use laws::{
+    absent_page_is_a_link, hangs_on_what_is_fetched, origins_join, pieces_have_places,
+    shows_what_is_given, whole_page, without_calls,
+};
 pub use page::page_items;

@@ -1,5 +1,5 @@
 -- Worked cases of reading, each by computing.
-use Rattle.std.proofs.Common.{◌≡◌, ℕ, [], ◌∷◌, Some, refl, codes}
+use Rattle.std.proofs.Common.{◌≡◌, ℕ, [], ◌∷◌, Some, None, refl, codes}
 use Rattle.wt_span.specs.Tags.{is_extension}
 use Rattle.wt_tree.specs.declared.kind.AttrName.TheVariants as attr
 use Rattle.wt_tree.specs.declared.kind.Kind.{Kind}
@@ -14,19 +14,19 @@ use Rattle.wt_tree.specs.Values.{extension_prefix, placeholder, no_include, no_i
 use Rattle.std.specs.Fmt.{digits}
 use Rattle.wt_tree.specs.declared.kind.TagName.TheVariants as tag
 use Rattle.wt_fitting.specs.Rows.{link_read}
-use Rattle.wt_fitting.specs.Fit.{leaf_label, text_leaf, sep_leaf}
+use Rattle.wt_tree.specs.Recut.{leaf_label, text_leaf, sep_leaf}
 use Rattle.wt_fitting.specs.Read.{page, ill, misfit, read_tree, read}
 
 -- a node without data
 abbrev label_with : Kind → ℕ → Mark → Label
-label_with k id m = record (leaf_label k [] []) { id = id; mark = m }
+label_with k id m = record (leaf_label k None [] []) { id = id; mark = m }
 
 abbrev bare : Kind → ℕ → Trees → Tree
 bare k id ts = tree (label_with k id mark.Nothing) ts
 
 -- an escape, a separator and a head; no paragraph has a source
 escaped : read (codes "<html>\n<head><meta/></head><body>\n<p>a &lt; b</p></body></html>")
-    ≡ page (bare kind.Body 0 (one_more (sep_leaf (codes "\n")) (one_more (bare kind.Para 0 (one_more (text_leaf (codes "a < b")) no_trees)) no_trees))) (Some 5)
+    ≡ page (bare kind.Body 0 (one_more (sep_leaf None (codes "\n")) (one_more (bare kind.Para 0 (one_more (text_leaf None (codes "a < b")) no_trees)) no_trees))) (Some 5)
 unfolding read read_tree spelling tag_name attribute_name digits placeholder switch_prefix is_switch lib.Utf8.encode
 escaped = refl
 
@@ -70,7 +70,7 @@ cut = refl
 
 -- an entity by its character, nowiki round a text, a comment and an include tag
 few_rows : read (codes "<html><body><p><span typeof='mw:Entity'>&lt;</span><span typeof='mw:Nowiki'>''</span><meta typeof='mw:Comment'/></p><meta typeof='mw:Includes/NoInclude'/></body></html>")
-    ≡ page (bare kind.Body 0 (one_more (bare kind.Para 0 (one_more (tree (record (label_with kind.Entity 0 mark.Nothing) { shown = codes "<" }) no_trees) (one_more (bare kind.Nowiki 0 (one_more (text_leaf (codes "''")) no_trees)) (one_more (bare kind.Comment 0 no_trees) no_trees)))) (one_more (tree (record (label_with kind.Include 0 mark.Nothing) { attrs = (attr.Typeof, codes "mw:Includes/NoInclude") ∷ [] }) no_trees) no_trees))) (Some 3)
+    ≡ page (bare kind.Body 0 (one_more (bare kind.Para 0 (one_more (tree (record (label_with kind.Entity 0 mark.Nothing) { shown = codes "<" }) no_trees) (one_more (bare kind.Nowiki 0 (one_more (text_leaf None (codes "''")) no_trees)) (one_more (bare kind.Comment 0 no_trees) no_trees)))) (one_more (tree (record (label_with kind.Include 0 mark.Nothing) { attrs = (attr.Typeof, codes "mw:Includes/NoInclude") ∷ [] }) no_trees) no_trees))) (Some 3)
 unfolding read read_tree spelling tag_name attribute_name digits placeholder switch_prefix is_switch lib.Utf8.encode extension_prefix no_include no_include_end only_include only_include_end include_only
 few_rows = refl
 
@@ -90,7 +90,7 @@ no_nowiki = refl
 
 -- links by `rel`; the link of a page is read as the link to its title, another as it stands
 links : read (codes "<html><body><p><a rel='mw:WikiLink' href='./a b'>x</a><a rel='mw:ExtLink' href='./a b'></a></p></body></html>")
-    ≡ page (bare kind.Body 0 (one_more (bare kind.Para 0 (one_more (tree (record (label_with kind.WikiLink 0 mark.Nothing) { attrs = (attr.Href, link_read (codes "./a b")) ∷ [] }) (one_more (text_leaf (codes "x")) no_trees)) (one_more (tree (record (label_with kind.ExtLink 0 mark.Nothing) { attrs = (attr.Href, codes "./a b") ∷ [] }) no_trees) no_trees))) no_trees)) (Some 3)
+    ≡ page (bare kind.Body 0 (one_more (bare kind.Para 0 (one_more (tree (record (label_with kind.WikiLink 0 mark.Nothing) { attrs = (attr.Href, link_read (codes "./a b")) ∷ [] }) (one_more (text_leaf None (codes "x")) no_trees)) (one_more (tree (record (label_with kind.ExtLink 0 mark.Nothing) { attrs = (attr.Href, codes "./a b") ∷ [] }) no_trees) no_trees))) no_trees)) (Some 3)
 unfolding read read_tree spelling tag_name attribute_name digits placeholder switch_prefix is_switch
 links = refl
 
@@ -118,3 +118,29 @@ switch_and_island = refl
 other_switch : read (codes "<html><body><meta property='mw:PageProp/other'/></body></html>") ≡ misfit 3 why.Element
 unfolding read read_tree spelling tag_name attribute_name digits placeholder switch_prefix is_switch
 other_switch = refl
+
+-- ---- lists and tables
+
+item_with_list : read (codes "<html><body><ul><li> a\n<ul></ul> </li>\n</ul></body></html>")
+    ≡ page (bare kind.Body 0 (one_more (bare kind.Ul 0 (one_more (bare kind.Li 0 (one_more (text_leaf None (codes " a")) (one_more (sep_leaf None (codes "\n")) (one_more (bare kind.Ul 0 no_trees) (one_more (sep_leaf None (codes " ")) no_trees))))) (one_more (sep_leaf None (codes "\n")) no_trees))) no_trees)) (Some 3)
+unfolding read read_tree spelling tag_name attribute_name digits placeholder switch_prefix is_switch lib.Utf8.encode
+item_with_list = refl
+
+-- an inline element behind a list, and text in a list
+inline_behind : read (codes "<html><body><ul><li><b></b><ol></ol> a<i></i></li></ul></body></html>") ≡ misfit 7 why.Place
+unfolding read read_tree spelling tag_name attribute_name digits placeholder switch_prefix is_switch
+inline_behind = refl
+
+text_in_list : read (codes "<html><body><dl>a<dt></dt></dl></body></html>") ≡ misfit 3 why.Text
+unfolding read read_tree spelling tag_name attribute_name digits placeholder switch_prefix is_switch
+text_in_list = refl
+
+-- a block in an item has no place, and in a cell it has
+block_in_item : read (codes "<html><body><ol><li><p></p></li></ol></body></html>") ≡ misfit 5 why.Place
+unfolding read read_tree spelling tag_name attribute_name digits placeholder switch_prefix is_switch
+block_in_item = refl
+
+block_in_cell : read (codes "<html><body><table class='c'><caption></caption><tbody><tr><td colspan='2' id='x'><p></p></td></tr></tbody></table></body></html>")
+    ≡ page (bare kind.Body 0 (one_more (tree (record (label_with kind.Table 0 mark.Nothing) { attrs = (attr.Class, codes "c") ∷ [] }) (one_more (bare kind.Caption 0 no_trees) (one_more (bare kind.Tbody 0 (one_more (bare kind.Tr 0 (one_more (tree (record (label_with kind.Td 0 mark.Nothing) { attrs = (attr.Colspan, codes "2") ∷ [] }) (one_more (bare kind.Para 0 no_trees) no_trees)) no_trees)) no_trees)) no_trees))) no_trees)) (Some 3)
+unfolding read read_tree spelling tag_name attribute_name digits placeholder switch_prefix is_switch
+block_in_cell = refl

@@ -1,11 +1,10 @@
 -- The first misfit by going over the tree is the first in the list of elements.
 use Rattle.std.proofs.Common.{◌≡◌, ℕ, suc, ◌+◌, ◌++◌, Bool, true, false, Option, Some, None, Result, Ok, Err, List, [], ◌∷◌, refl, sym, ap, ap₂, ◌∙◌, subst}
-use Rattle.std.specs.Prelude.{not, is_some, if◌then◌else◌}
+use Rattle.std.specs.Prelude.{not, ◌||◌, is_some, if◌then◌else◌}
 use Rattle.std.specs.List.{AllByRecursion}
 use Rattle.std.specs.Option.{option_or}
 use Rattle.wt_tree.specs.declared.kind.Kind.{Kind}
 use Rattle.wt_tree.specs.declared.kind.Kind.TheVariants as kind
-use Rattle.wt_tree.specs.Kinds.{may_hold}
 use Rattle.wt_tree.specs.Tree.{Label, Tree, Trees}
 use Rattle.wt_html_grammar.specs.Markup.{Pair, Markup, Markups, text, node, empty, more}
 use Rattle.wt_html_grammar.proofs.Steps.{if_true, if_false}
@@ -13,7 +12,7 @@ use Rattle.wt_fitting.specs.declared.why.FitWhy.{FitWhy}
 use Rattle.wt_fitting.specs.declared.why.FitWhy.TheVariants as why
 use Rattle.wt_fitting.specs.Rows.{row}
 use Rattle.wt_fitting.specs.Data.{Data, data_of}
-use Rattle.wt_fitting.specs.Fit.{Misfit, Found, elements, label_for, texts_in, onto, onto_told, with_children, one_tree, text_fits, fit_told, fit_as, fit_row, fit_node, fit_nodes, fit_body, fit, body_of}
+use Rattle.wt_fitting.specs.Fit.{Misfit, Found, elements, label_for, texts_in, onto, onto_told, with_children, one_tree, is_block_element, has_place, text_fits, fit_told, fit_as, fit_row, fit_node, fit_nodes, fit_body, fit, body_of}
 use Rattle.wt_fitting.specs.Misfits.{Place, place, places, places_of_all, places_of_body, is_wrong, IsReason, FitsAlone, FirstMisfit}
 
 -- ---- the first in a list
@@ -64,19 +63,19 @@ told_agrees (Ok (Some t)) s o p h k = onto_agrees t s o p h k
 told_agrees (Err e) s o p h k = ap (λ x. option_or x p) h
 
 -- an element by itself, before what stands in it
-inside_agrees : (l : Label) (r : Result Trees Misfit) (o : Option Misfit) → Agrees r o → Agrees (with_children l r) o
-inside_agrees l (Ok ts) o h = h
-inside_agrees l (Err e) o h = h
+inside_agrees : (k : Kind) (l : Label) (r : Result Trees Misfit) (o : Option Misfit) → Agrees r o → Agrees (with_children k l r) o
+inside_agrees k l (Ok ts) o h = h
+inside_agrees k l (Err e) o h = h
 
-text_agrees : (t : Bool) (n : ℕ) (l : Label) (r : Result Trees Misfit) (o : Option Misfit) → Agrees r o
-    → Agrees (if t then with_children l r else Err (n, why.Text)) (option_or (misfit_at n (chain false false false (not t))) o)
-text_agrees true n l r o h = inside_agrees l r o h
-text_agrees false n l r o h = refl
+text_agrees : (t : Bool) (n : ℕ) (k : Kind) (l : Label) (r : Result Trees Misfit) (o : Option Misfit) → Agrees r o
+    → Agrees (if t then with_children k l r else Err (n, why.Text)) (option_or (misfit_at n (chain false false false (not t))) o)
+text_agrees true n k l r o h = inside_agrees k l r o h
+text_agrees false n k l r o h = refl
 
 data_agrees : (d : Option Data) (n : ℕ) (k : Kind) (ps : List Pair) (c : Markups) (r : Result Trees Misfit) (o : Option Misfit) → Agrees r o
     → Agrees (fit_told n k ps d c r) (option_or (misfit_at n (chain false false (not (is_some d)) (not (text_fits k c)))) o)
 data_agrees None n k ps c r o h = refl
-data_agrees (Some d) n k ps c r o h = text_agrees (text_fits k c) n (label_for k ps d (texts_in c)) r o h
+data_agrees (Some d) n k ps c r o h = text_agrees (text_fits k c) n k (label_for k ps d (texts_in c)) r o h
 
 one_agrees : (r : Result Tree Misfit) (o : Option Misfit) → Agrees r o → Agrees (one_tree r) o
 one_agrees (Ok t) o h = h
@@ -87,26 +86,28 @@ place_agrees : (b : Bool) (n : ℕ) (k : Kind) (ps : List Pair) (c : Markups) (r
 place_agrees true n k ps c r o h = one_agrees (fit_as n k ps c r) _ (data_agrees (data_of k ps) n k ps c r o h)
 place_agrees false n k ps c r o h = refl
 
-row_agrees : (j : Option Kind) (n : ℕ) (parent : Kind) (ps : List Pair) (c : Markups) (inside : Kind → Result Trees Misfit) (below : Option Kind → Option Misfit) → ((k : Kind) → Agrees (inside k) (below (Some k)))
-    → Agrees (fit_row n parent j ps c inside) (option_or (misfit_at n (wrong_of (place n (Some parent) j ps c))) (below j))
-row_agrees None n parent ps c inside below h = refl
-row_agrees (Some k) n parent ps c inside below h = place_agrees (may_hold parent k) n k ps c (inside k) (below (Some k)) (h k)
+row_agrees : (j : Option Kind) (n : ℕ) (parent : Kind) (behind : Bool) (ps : List Pair) (c : Markups) (inside : Kind → Result Trees Misfit) (below : Option Kind → Option Misfit) → ((k : Kind) → Agrees (inside k) (below (Some k)))
+    → Agrees (fit_row n parent behind j ps c inside) (option_or (misfit_at n (wrong_of (place n (Some parent) behind j ps c))) (below j))
+row_agrees None n parent behind ps c inside below h = refl
+row_agrees (Some k) n parent behind ps c inside below h = place_agrees (has_place parent behind k) n k ps c (inside k) (below (Some k)) (h k)
 
 mutual
-  node_agrees : (t : Markup) (n : ℕ) (parent : Kind) → Agrees (fit_node n parent t) (first_wrong (places n (Some parent) t))
-  node_agrees (text bs) n parent = refl
-  node_agrees (node name ps c) n parent =
-      row_agrees (row name ps) n parent ps c (λ k. fit_nodes (suc n) k c) (λ j. first_wrong (places_of_all (suc n) j c)) (λ k. nodes_agree c (suc n) k)
+  node_agrees : (t : Markup) (n : ℕ) (parent : Kind) (behind : Bool) → Agrees (fit_node n parent behind t) (first_wrong (places n (Some parent) behind t))
+  node_agrees (text bs) n parent behind = refl
+  node_agrees (node name ps c) n parent behind =
+      row_agrees (row name ps) n parent behind ps c (λ k. fit_nodes (suc n) k false c) (λ j. first_wrong (places_of_all (suc n) j false c)) (λ k. nodes_agree c (suc n) k false)
 
-  nodes_agree : (ts : Markups) (n : ℕ) (parent : Kind) → Agrees (fit_nodes n parent ts) (first_wrong (places_of_all n (Some parent) ts))
-  nodes_agree empty n parent = refl
-  nodes_agree (more t ts) n parent =
-      agrees_at (onto_told (fit_node n parent t) (fit_nodes (n + elements t) parent ts)) _ _ (first_append (places n (Some parent) t) (places_of_all (n + elements t) (Some parent) ts))
-      (told_agrees (fit_node n parent t) (fit_nodes (n + elements t) parent ts) _ _ (node_agrees t n parent) (nodes_agree ts (n + elements t) parent))
+  nodes_agree : (ts : Markups) (n : ℕ) (parent : Kind) (behind : Bool) → Agrees (fit_nodes n parent behind ts) (first_wrong (places_of_all n (Some parent) behind ts))
+  nodes_agree empty n parent behind = refl
+  nodes_agree (more t ts) n parent behind =
+      let m = n + elements t in
+      let b = behind || is_block_element t in
+      agrees_at (onto_told (fit_node n parent behind t) (fit_nodes m parent b ts)) _ _ (first_append (places n (Some parent) behind t) (places_of_all m (Some parent) b ts))
+      (told_agrees (fit_node n parent behind t) (fit_nodes m parent b ts) _ _ (node_agrees t n parent behind) (nodes_agree ts m parent b))
 
 body_agrees : (f : Found) → Agrees (fit_body (Some f)) (first_wrong (places_of_body f))
 body_agrees f =
-    data_agrees (data_of kind.Body f.attributes) f.number kind.Body f.attributes f.contents (fit_nodes (suc f.number) kind.Body f.contents) _ (nodes_agree f.contents (suc f.number) kind.Body)
+    data_agrees (data_of kind.Body f.attributes) f.number kind.Body f.attributes f.contents (fit_nodes (suc f.number) kind.Body false f.contents) _ (nodes_agree f.contents (suc f.number) kind.Body false)
 
 -- ---- what the first is
 

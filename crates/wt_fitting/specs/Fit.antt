@@ -1,6 +1,6 @@
 -- Which trees of elements are pages, and what page each is. The elements are counted from 1 in
 -- document order; the first that doesn't fit is told, with the first reason for it.
-use Rattle.std.specs.Prelude.{ℕ, suc, ◌+◌, ◌++◌, ◌==◌, ◌&&◌, ◌||◌, Bool, true, not, Option, Some, None, Result, Ok, Err, List, [], ◌∷◌, codes, if◌then◌else◌}
+use Rattle.std.specs.Prelude.{ℕ, suc, ◌+◌, ◌++◌, ◌==◌, ◌&&◌, ◌||◌, Bool, true, false, not, Option, Some, None, Result, Ok, Err, List, [], ◌∷◌, codes, if◌then◌else◌}
 use Rattle.std.specs.Str.{bytes_eq}
 use Rattle.wt_tree.specs.declared.kind.Kind.{Kind}
 use Rattle.wt_tree.specs.declared.kind.Kind.TheVariants as kind
@@ -11,25 +11,19 @@ use Rattle.wt_html_grammar.specs.Markup.{Pair, Markup, Markups, text, node, empt
 use Rattle.wt_fitting.specs.declared.why.FitWhy.{FitWhy}
 use Rattle.wt_fitting.specs.declared.why.FitWhy.TheVariants as why
 use Rattle.wt_fitting.specs.Attributes.{has, is_typed, id_of, mark_of}
-use Rattle.wt_tree.specs.Kinds.{may_hold}
+use Rattle.wt_tree.specs.declared.row.Texts.{Texts}
+use Rattle.wt_tree.specs.declared.row.Texts.TheVariants.{Separators, Page, Bordered, OwnCharacter}
+use Rattle.wt_tree.specs.Kinds.{may_hold, may_follow, is_block, texts_of_kind}
+use Rattle.wt_tree.specs.Recut.{is_blank, text_leaf, sep_leaf, recut}
 use Rattle.wt_fitting.specs.Rows.{row, holds_text, shows_text, attrs_for}
 use Rattle.wt_fitting.specs.Data.{Data, data_of, id_for}
 
 -- ---- labels
 
--- a text of the page, or a separator: what is read has no ranges for them
-abbrev pub leaf_label : Kind → List ℕ → List ℕ → Label
-leaf_label k own shown = record { kind = k; id = 0; ranges = None; opening = []; closing = []; own = own; shown = shown; attrs = []; mark = mark.Nothing; mw = None }
-
-abbrev pub text_leaf : List ℕ → Tree
-text_leaf bs = tree (leaf_label kind.Text bs bs) no_trees
-
-abbrev pub sep_leaf : List ℕ → Tree
-sep_leaf bs = tree (leaf_label kind.Sep bs []) no_trees
-
--- a text in a parent of this kind; the character of an entity is no node
+-- A text in a parent of this kind, without ranges: a text of the page, or a separator. The character
+-- of an entity is no node.
 abbrev pub leaf_in : Kind → List ℕ → Option Tree
-leaf_in parent bs = if shows_text parent then None else if holds_text parent then Some (text_leaf bs) else Some (sep_leaf bs)
+leaf_in parent bs = if shows_text parent then None else if holds_text parent then Some (text_leaf None bs) else Some (sep_leaf None bs)
 
 abbrev pub source_of : Option (List ℕ) → List ℕ
 source_of None = []
@@ -43,7 +37,7 @@ with_sync l (Some s) = record l { ranges = Some s.dsr; opening = s.opening; clos
 -- an element of this kind with this data, and these characters in it
 abbrev pub label_for : Kind → List Pair → Data → List ℕ → Label
 label_for k ps d shown =
-    with_sync (record { kind = k; id = id_for k ps; ranges = None; opening = []; closing = []; own = []; shown = if shows_text k then shown else []; attrs = attrs_for k ps; mark = mark_of ps; mw = d.mw }) d.sync
+    with_sync (record { kind = k; id = id_for k ps; ranges = None; opening = []; closing = []; own = []; shown = if shows_text k then shown else []; attrs = attrs_for k ps; origin = None; mark = mark_of ps; mw = d.mw }) d.sync
 
 -- ---- counting
 
@@ -58,10 +52,6 @@ abbrev mutual
   elements_of_all (more t ts) = elements t + elements_of_all ts
 
 -- ---- texts
-
-abbrev pub is_blank : List ℕ → Bool
-is_blank [] = true
-is_blank (b ∷ bs) = (b == 32 || (b == 9 || b == 10)) && is_blank bs
 
 -- the texts directly there, joined
 abbrev pub texts_in : Markups → List ℕ
@@ -91,9 +81,21 @@ onto_told (Ok None) r = r
 onto_told (Ok (Some t)) r = onto t r
 onto_told (Err e) r = Err e
 
-abbrev pub with_children : Label → Result Trees Misfit → Result Tree Misfit
-with_children l (Ok ts) = Ok (tree l ts)
-with_children l (Err e) = Err e
+-- in an item, a cell or a caption texts and separators are cut at the border between them
+abbrev pub held_as : Texts → Trees → Trees
+held_as Separators ts = ts
+held_as Page ts = ts
+held_as Bordered ts = recut ts
+held_as OwnCharacter ts = ts
+
+-- what an element of this kind holds, when all that stands in it fits
+abbrev pub children_in : Kind → Trees → Trees
+children_in k ts = held_as (texts_of_kind k) ts
+
+-- a node of this kind with this label
+abbrev pub with_children : Kind → Label → Result Trees Misfit → Result Tree Misfit
+with_children k l (Ok ts) = Ok (tree l (children_in k ts))
+with_children k l (Err e) = Err e
 
 abbrev pub one_tree : Result Tree Misfit → Result (Option Tree) Misfit
 one_tree (Ok t) = Ok (Some t)
@@ -106,25 +108,41 @@ text_fits k c = holds_text k || are_blank c
 -- element n is of this kind, with this data and this inside
 abbrev pub fit_told : ℕ → Kind → List Pair → Option Data → Markups → Result Trees Misfit → Result Tree Misfit
 fit_told n k ps None c inside = Err (n, why.Data)
-fit_told n k ps (Some d) c inside = if text_fits k c then with_children (label_for k ps d (texts_in c)) inside else Err (n, why.Text)
+fit_told n k ps (Some d) c inside = if text_fits k c then with_children k (label_for k ps d (texts_in c)) inside else Err (n, why.Text)
 
 abbrev pub fit_as : ℕ → Kind → List Pair → Markups → Result Trees Misfit → Result Tree Misfit
 fit_as n k ps c inside = fit_told n k ps (data_of k ps) c inside
 
+-- ---- places
+
+abbrev pub is_block_row : Option Kind → Bool
+is_block_row None = false
+is_block_row (Some k) = is_block k
+
+-- a block or a list
+abbrev pub is_block_element : Markup → Bool
+is_block_element (text bs) = false
+is_block_element (node name ps c) = is_block_row (row name ps)
+
+-- in a parent of that kind, behind a block or not
+abbrev pub has_place : Kind → Bool → Kind → Bool
+has_place parent behind k = may_hold parent k && may_follow behind k
+
 -- element n in a parent of that kind, by its row
-abbrev pub fit_row : ℕ → Kind → Option Kind → List Pair → Markups → (Kind → Result Trees Misfit) → Result (Option Tree) Misfit
-fit_row n parent None ps c inside = Err (n, why.Element)
-fit_row n parent (Some k) ps c inside = if may_hold parent k then one_tree (fit_as n k ps c (inside k)) else Err (n, why.Place)
+abbrev pub fit_row : ℕ → Kind → Bool → Option Kind → List Pair → Markups → (Kind → Result Trees Misfit) → Result (Option Tree) Misfit
+fit_row n parent behind None ps c inside = Err (n, why.Element)
+fit_row n parent behind (Some k) ps c inside = if has_place parent behind k then one_tree (fit_as n k ps c (inside k)) else Err (n, why.Place)
 
--- What stands in a parent of that kind: its first element, if it has one, is number n.
+-- What stands in a parent of that kind, behind a block or not: its first element, if it has one, is
+-- number n.
 abbrev mutual
-  pub fit_node : ℕ → Kind → Markup → Result (Option Tree) Misfit
-  fit_node n parent (text bs) = Ok (leaf_in parent bs)
-  fit_node n parent (node name ps c) = fit_row n parent (row name ps) ps c (λ k. fit_nodes (suc n) k c)
+  pub fit_node : ℕ → Kind → Bool → Markup → Result (Option Tree) Misfit
+  fit_node n parent behind (text bs) = Ok (leaf_in parent bs)
+  fit_node n parent behind (node name ps c) = fit_row n parent behind (row name ps) ps c (λ k. fit_nodes (suc n) k false c)
 
-  pub fit_nodes : ℕ → Kind → Markups → Result Trees Misfit
-  fit_nodes n parent empty = Ok no_trees
-  fit_nodes n parent (more t ts) = onto_told (fit_node n parent t) (fit_nodes (n + elements t) parent ts)
+  pub fit_nodes : ℕ → Kind → Bool → Markups → Result Trees Misfit
+  fit_nodes n parent behind empty = Ok no_trees
+  fit_nodes n parent behind (more t ts) = onto_told (fit_node n parent behind t) (fit_nodes (n + elements t) parent (behind || is_block_element t) ts)
 
 -- ---- the frame
 
@@ -158,7 +176,7 @@ body_of (node name ps c) = if bytes_eq name (codes "html") && not (is_marked_roo
 
 abbrev pub fit_body : Option Found → Result Tree Misfit
 fit_body None = Err (1, why.Root)
-fit_body (Some f) = fit_as f.number kind.Body f.attributes f.contents (fit_nodes (suc f.number) kind.Body f.contents)
+fit_body (Some f) = fit_as f.number kind.Body f.attributes f.contents (fit_nodes (suc f.number) kind.Body false f.contents)
 
 -- the page that a tree of elements is, or its first misfit
 abbrev pub fit : Markup → Result Tree Misfit

@@ -1,48 +1,49 @@
 -- The first element that doesn't fit, without going over the tree: all elements in document order,
--- each with its number and its parent's kind, and what is wrong with each by itself.
-use Rattle.std.specs.Prelude.{◌≡◌, ℕ, suc, ◌+◌, ◌++◌, Bool, true, false, not, is_some, Option, Some, None, List, [], ◌∷◌}
+-- each with its number, its parent's kind and whether a block stands before it there, and what is
+-- wrong with each by itself.
+use Rattle.std.specs.Prelude.{◌≡◌, ℕ, suc, ◌+◌, ◌++◌, ◌||◌, Bool, true, false, not, is_some, Option, Some, None, List, [], ◌∷◌}
 use Rattle.std.specs.List.{AllByRecursion}
 use Rattle.wt_tree.specs.declared.kind.Kind.{Kind}
 use Rattle.wt_tree.specs.declared.kind.Kind.TheVariants as kind
-use Rattle.wt_tree.specs.Kinds.{may_hold}
 use Rattle.wt_html_grammar.specs.Markup.{Pair, Markup, Markups, text, node, empty, more}
 use Rattle.wt_fitting.specs.declared.why.FitWhy.{FitWhy}
 use Rattle.wt_fitting.specs.declared.why.FitWhy.TheVariants as why
 use Rattle.wt_fitting.specs.Rows.{row}
 use Rattle.wt_fitting.specs.Data.{data_of}
-use Rattle.wt_fitting.specs.Fit.{Found, elements, text_fits}
+use Rattle.wt_fitting.specs.Fit.{Found, elements, is_block_element, has_place, text_fits}
 
 -- an element with its number, its parent's kind and its own; the body's parent has none, and neither
 -- has an element that is no row
 pub record Place : Type 0 where
   pub number : ℕ
   pub parent : Option Kind
+  pub behind : Bool
   pub kind : Option Kind
   pub attributes : List Pair
   pub contents : Markups
 
-abbrev pub place : ℕ → Option Kind → Option Kind → List Pair → Markups → Place
-place n p k ps c = record { number = n; parent = p; kind = k; attributes = ps; contents = c }
+abbrev pub place : ℕ → Option Kind → Bool → Option Kind → List Pair → Markups → Place
+place n p b k ps c = record { number = n; parent = p; behind = b; kind = k; attributes = ps; contents = c }
 
 abbrev mutual
-  pub places : ℕ → Option Kind → Markup → List Place
-  places n p (text bs) = []
-  places n p (node name ps c) = place n p (row name ps) ps c ∷ places_of_all (suc n) (row name ps) c
+  pub places : ℕ → Option Kind → Bool → Markup → List Place
+  places n p behind (text bs) = []
+  places n p behind (node name ps c) = place n p behind (row name ps) ps c ∷ places_of_all (suc n) (row name ps) false c
 
-  pub places_of_all : ℕ → Option Kind → Markups → List Place
-  places_of_all n p empty = []
-  places_of_all n p (more t ts) = places n p t ++ places_of_all (n + elements t) p ts
+  pub places_of_all : ℕ → Option Kind → Bool → Markups → List Place
+  places_of_all n p behind empty = []
+  places_of_all n p behind (more t ts) = places n p behind t ++ places_of_all (n + elements t) p (behind || is_block_element t) ts
 
 -- the body, and all below it
 abbrev pub places_of_body : Found → List Place
-places_of_body f = place f.number None (Some kind.Body) f.attributes f.contents ∷ places_of_all (suc f.number) (Some kind.Body) f.contents
+places_of_body f = place f.number None false (Some kind.Body) f.attributes f.contents ∷ places_of_all (suc f.number) (Some kind.Body) false f.contents
 
 -- ---- what is wrong with an element
 
-abbrev pub is_misplaced : Option Kind → Option Kind → Bool
-is_misplaced None k = false
-is_misplaced (Some p) None = false
-is_misplaced (Some p) (Some k) = not (may_hold p k)
+abbrev pub is_misplaced : Option Kind → Bool → Option Kind → Bool
+is_misplaced None behind k = false
+is_misplaced (Some p) behind None = false
+is_misplaced (Some p) behind (Some k) = not (has_place p behind k)
 
 abbrev pub has_bad_data : Option Kind → List Pair → Bool
 has_bad_data None ps = false
@@ -56,7 +57,7 @@ has_other_text (Some k) c = not (text_fits k c)
 abbrev pub is_wrong : FitWhy → Place → Bool
 is_wrong why.Root x = false
 is_wrong why.Element x = not (is_some x.kind)
-is_wrong why.Place x = is_misplaced x.parent x.kind
+is_wrong why.Place x = is_misplaced x.parent x.behind x.kind
 is_wrong why.Data x = has_bad_data x.kind x.attributes
 is_wrong why.Text x = has_other_text x.kind x.contents
 

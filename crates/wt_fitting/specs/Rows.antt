@@ -23,12 +23,14 @@ use Rattle.wt_fitting.specs.Attributes.{value_of}
 
 -- ---- which element is which kind
 
--- the kinds whose elements are read: all but items, cells and captions, and what holds these
+-- the kinds whose elements are read: all but the body and what is no element of its own
 abbrev pub read_kinds : List Kind
 read_kinds =
     kind.Para ∷ kind.WikiLink ∷ kind.ExtLink ∷ kind.Bold ∷ kind.Italic
     ∷ kind.Entity ∷ kind.Nowiki ∷ kind.Island ∷ kind.Tag tag.Span
     ∷ kind.Comment ∷ kind.Include ∷ kind.Switch ∷ kind.Skip ∷ kind.Category ∷ kind.Br
+    ∷ kind.Li ∷ kind.Ul ∷ kind.Ol ∷ kind.Dl ∷ kind.Dt ∷ kind.Dd
+    ∷ kind.Td ∷ kind.Th ∷ kind.Tr ∷ kind.Tbody ∷ kind.Caption ∷ kind.Table
     ∷ kind.Tag tag.Sup ∷ kind.Tag tag.Sub ∷ kind.Tag tag.Small ∷ kind.Tag tag.S ∷ kind.Tag tag.U ∷ kind.Tag tag.Code
     ∷ kind.Heading 1 ∷ kind.Heading 2 ∷ kind.Heading 3 ∷ kind.Heading 4 ∷ kind.Heading 5 ∷ kind.Heading 6
     ∷ kind.Rule ∷ kind.Pre ∷ []

@@ -21,7 +21,8 @@ flush_child empty (c ∷ cs) t = refl
 flush_child (more s ts) r t = ap (more s) (flush_child ts r t)
 
 -- the text behind the items
-pub flushed_some : (ns ms : List Content) (n : Content) (r : List ℕ) → ms ≡ ns ++ n ∷ [] → view_content n ≡ text r → (r ≡ [] → ⊥) → views ms ≡ append (views ns) (flush r empty)
+pub flushed_some : (ns ms : List Content) (n : Content) (r : List ℕ) → ms ≡ ns ++ n ∷ [] → view_content n ≡ text r → (r ≡ [] → ⊥)
+    → views ms ≡ append (views ns) (flush r empty)
 flushed_some ns ms n [] e v h = absurd (h refl)
 flushed_some ns ms n (c ∷ cs) e v h = ap views e ∙ views_push ns n ∙ ap (λ t. append (views ns) (more t empty)) v
 
@@ -29,8 +30,10 @@ pub flushed_none : (ns : List Content) (r : List ℕ) → r ≡ [] → views ns 
 flushed_none ns r e = sym (append_empty (views ns)) ∙ ap (λ q. append (views ns) (flush q empty)) (sym e)
 
 -- a child behind that
-pub child_push : (n : List ℕ) (ps : List Pair) (ns ms : List Content) (c : Content) (a : Markups) (r q : List ℕ) → ms ≡ ns ++ c ∷ [] → views ns ≡ append a (flush r empty) → q ≡ []
-    → record { name = n; attributes = ps; items = views ms; run = q } ≡ (let f : Frame = record { name = n; attributes = ps; items = append a (flush r (more (view_content c) empty)); run = [] } in f)
+pub child_push : (n : List ℕ) (ps : List Pair) (ns ms : List Content) (c : Content) (a : Markups) (r q : List ℕ)
+    → ms ≡ ns ++ c ∷ [] → views ns ≡ append a (flush r empty) → q ≡ []
+    → record { name = n; attributes = ps; items = views ms; run = q }
+    ≡ (let f : Frame = record { name = n; attributes = ps; items = append a (flush r (more (view_content c) empty)); run = [] } in f)
 child_push n ps ns ms c a r q e v z =
     let F : Markups → List ℕ → Frame = λ x y. record { name = n; attributes = ps; items = x; run = y } in
     ap (λ x. F x q) (ap views e ∙ views_push ns c ∙ ap (λ x. append x (more (view_content c) empty)) v ∙ flush_child a r (view_content c))

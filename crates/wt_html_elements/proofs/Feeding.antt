@@ -37,7 +37,8 @@ fed_none r bytes e h =
 none_fed : (r : Reader) (bytes : List ℕ) → r.failed ≡ None → Fed r bytes → IsFed r bytes
 none_fed r bytes e h = let P : Option HtmlRefusal → Type 0 = λ o. FedAs o r bytes in subst P (sym e) (h.runs, h.count, h.built)
 
-tell_more : (bs cs : List ℕ) (t : State) (x : Building) (g : State → Building) → ((u : State) → run u bs ≡ Ok t → tell (g u) u (bs ++ cs) ≡ tell (tell (g u) u bs) t cs)
+tell_more : (bs cs : List ℕ) (t : State) (x : Building) (g : State → Building)
+    → ((u : State) → run u bs ≡ Ok t → tell (g u) u (bs ++ cs) ≡ tell (tell (g u) u bs) t cs)
     → (o : Result State HtmlWhy) → onward (λ u. run u bs) o ≡ Ok t → tell_on x (λ u. tell (g u) u (bs ++ cs)) o ≡ tell (tell_on x (λ u. tell (g u) u bs) o) t cs
 tell_more bs cs t x g h (Ok u) e = h u e
 tell_more bs cs t x g h (Err w) e = absurd cc
@@ -55,7 +56,8 @@ told_last : (x : Building) (s t : State) (b : ℕ) → mended b (step s b) ≡ O
 told_last x s t b e = ap (tell_on x (λ u. put x (out s b))) e
 
 -- a byte that was taken
-pub byte_ok : (r q : Reader) (b : ℕ) (v : Event) → r.failed ≡ None → q.failed ≡ None → q.taken ≡ r.taken + 1 → mended b (step (view r.machine) b) ≡ Ok (view q.machine)
+pub byte_ok : (r q : Reader) (b : ℕ) (v : Event) → r.failed ≡ None → q.failed ≡ None → q.taken ≡ r.taken + 1
+    → mended b (step (view r.machine) b) ≡ Ok (view q.machine)
     → v ≡ out (view r.machine) b → building q.builder ≡ put (building r.builder) v
     → (bytes : List ℕ) → IsFed r bytes → IsFed q (bytes ++ b ∷ [])
 byte_ok r q b v e f k h o w bytes fed =
@@ -116,7 +118,8 @@ ends_well r bytes n e a o h =
     let b = ap (λ (x : Building). x.root) (g.built ∙ stands_told bytes t s) in
     (w.0, w.1, w.2, sym (o t b))
 
-pub ends_ill : (r : Reader) (bytes : List ℕ) → r.failed ≡ None → is_accepted (view r.machine) ≡ false → IsFed r bytes → RefusedFor bytes (refusals.Html r.taken End)
+pub ends_ill : (r : Reader) (bytes : List ℕ) → r.failed ≡ None → is_accepted (view r.machine) ≡ false → IsFed r bytes
+    → RefusedFor bytes (refusals.Html r.taken End)
 ends_ill r bytes e a h =
     let g = fed_none r bytes e h in
     let P : ℕ → Type 0 = λ k. RefusedFor bytes (refusals.Html k End) in
@@ -135,7 +138,8 @@ pub front_clause : (r : Reader) (o : Result (Unit {0}) HtmlRefusal) → o ≡ an
 front_clause r (Ok u) e = λ bytes h. going_front r bytes (answer_ok r.failed u e) h
 front_clause r (Err f) e = tt
 
-pub refused_clause : (r : Reader) (o : Result (Unit {0}) HtmlRefusal) → o ≡ answer_of r.failed → IfErr o (λ e. (bytes : List ℕ) → IsFed r bytes → RefusedFor bytes e)
+pub refused_clause : (r : Reader) (o : Result (Unit {0}) HtmlRefusal) → o ≡ answer_of r.failed
+    → IfErr o (λ e. (bytes : List ℕ) → IsFed r bytes → RefusedFor bytes e)
 refused_clause r (Ok u) e = tt
 refused_clause r (Err f) e = λ bytes h. failed_right r.failed f r bytes (answer_err r.failed f e) h
 

@@ -38,7 +38,8 @@ takes_open : (ns : List (List ℕ)) (b : ℕ) (r : Result Event Fault) (s : Stat
 takes_open [] b r s e h = absurd cc
 takes_open (m ∷ ns) b r s e h = h
 
-pub takes_inside : {V : Type 0} (f : V → List ℕ) (xs ys : List V) (t : Bool) (b : ℕ) (r : Result Event Fault) (s : State) → xs ≡ ys → t ≡ (length xs == 0) → t ≡ false
+pub takes_inside : {V : Type 0} (f : V → List ℕ) (xs ys : List V) (t : Bool) (b : ℕ) (r : Result Event Fault) (s : State)
+    → xs ≡ ys → t ≡ (length xs == 0) → t ≡ false
     → Takes (in_contents (reverse (map f ys)) b) (if in_text b then ev.Byte b else ev.Quiet) r s
     → Takes (step (inside (reverse (map f ys))) b) (out (inside (reverse (map f ys))) b) r s
 takes_inside f xs ys t b r s same e g h =

@@ -7,7 +7,6 @@ use Rattle.wt_html_grammar.specs.Signs.{Follow, letters_of, begins_character}
 use Rattle.wt_html_grammar.specs.Machine.{Escape, ampersand, apart, letters, sharp, digits, wide, Turn, stop, on, ended, State, start, first, doctype, inside, less, naming, gap, attribute, named_so, equals, value, valued, slashed, closing, closed, escaping, Tag}
 use Rattle.wt_html_elements.specs.declared.fault.Fault.{Fault}
 use Rattle.wt_html_elements.specs.declared.fault.Fault.TheVariants as faults
-use Rattle.wt_html_elements.specs.declared.signs.Following.{Following}
 use Rattle.wt_html_elements.specs.declared.escape.EscapeAt.{EscapeAt}
 use Rattle.wt_html_elements.specs.declared.escape.EscapeAt.TheVariants as escapes
 use Rattle.wt_html_elements.specs.declared.escape.TurnTo.{TurnTo}
@@ -18,13 +17,6 @@ use Rattle.wt_html_elements.specs.declared.machine.Within.{Within}
 use Rattle.wt_html_elements.specs.declared.machine.Within.TheVariants as withins
 use Rattle.wt_html_elements.specs.declared.machine.Machine.{Machine}
 use Rattle.wt_html_elements.specs.Names.{names_in}
-
-abbrev pub follow_of : Following → Follow
-follow_of f = record { low = f.low; high = f.high; more = f.more }
-
-abbrev pub follow_in : Option Following → Option Follow
-follow_in None = None
-follow_in (Some f) = Some (follow_of f)
 
 abbrev pub escape_of : EscapeAt → Escape
 escape_of escapes.Ampersand = ampersand

@@ -10,12 +10,12 @@ use crate::escape::{EscapeAt, TurnTo, turn};
 use crate::fault::{Fault, mended};
 use crate::names::AttributeNames;
 use crate::signs::{
-    Following, follow, is_attribute_byte, is_lower, is_name_byte, is_plain_text, is_plain_value,
-    is_quote, is_space, is_void,
+    is_attribute_byte, is_lower, is_name_byte, is_plain_text, is_plain_value, is_quote, is_space,
+    is_void,
 };
 use std::alloc::Global;
 use std::mem;
-use wt_html_grammar::{Event, HtmlWhy};
+use wt_html_grammar::{Event, Following, HtmlWhy, follow};
 
 /// Where a reader is, outside escapes and characters of several bytes.
 #[derive(Clone, Copy, Debug, PartialEq, Eq)]

@@ -1,27 +1,26 @@
 ghost use Rattle.std.specs.Prelude.{◌≡◌};
-ghost use Rattle.wt_html_grammar.specs.Signs.{is_lower, is_digit, is_space, is_name_byte, is_attribute_byte, is_quote, in_text, in_value, is_void, is_digit_of, digit_value, follow, begins_character};
+ghost use Rattle.wt_html_grammar.specs.Signs.{is_lower, is_digit, is_space, is_name_byte, is_attribute_byte, is_quote, in_text, in_value, is_void, is_digit_of, digit_value, begins_character};
 ghost use Rattle.wt_html_grammar.specs.Machine.{is_plain};
-ghost use Rattle.wt_html_elements.specs.View.{follow_in};
 
-use wt_html_grammar::Radix;
+use wt_html_grammar::{Radix, follow};
 
 pub fn is_lower(byte: u8) -> bool
     ensures { result ≡ is_lower byte }
 {
-    97 <= byte && byte <= 122
+    b'a' <= byte && byte <= b'z'
 }
 
 pub fn is_digit(byte: u8) -> bool
     ensures { result ≡ is_digit byte }
 {
-    48 <= byte && byte <= 57
+    b'0' <= byte && byte <= b'9'
 }
 
-/// White space: space, tab, line break, carriage return.
+/// White space of the HTML standard without form feed.
 pub fn is_space(byte: u8) -> bool
     ensures { result ≡ is_space byte }
 {
-    byte == 32 || byte == 9 || byte == 10 || byte == 13
+    byte == b' ' || byte == b'\t' || byte == b'\n' || byte == b'\r'
 }
 
 /// Whether the name of an element goes on with this byte.
@@ -35,27 +34,27 @@ pub fn is_name_byte(byte: u8) -> bool
 pub fn is_attribute_byte(byte: u8) -> bool
     ensures { result ≡ is_attribute_byte byte }
 {
-    is_lower(byte) || is_digit(byte) || byte == 45 || byte == 58
+    is_lower(byte) || is_digit(byte) || byte == b'-' || byte == b':'
 }
 
 pub fn is_quote(byte: u8) -> bool
     ensures { result ≡ is_quote byte }
 {
-    byte == 34 || byte == 39
+    byte == b'"' || byte == b'\''
 }
 
 /// Whether the byte is an ASCII character that stands for itself in a text.
 pub fn is_plain_text(byte: u8) -> bool
     ensures { result ≡ is_plain in_text byte }
 {
-    byte < 128 && (!(byte == 60) && !(byte == 38))
+    byte < 128 && (!(byte == b'<') && !(byte == b'&'))
 }
 
 /// Whether the byte is an ASCII character that stands for itself in a value.
 pub fn is_plain_value(quote: u8, byte: u8) -> bool
     ensures { result ≡ is_plain (in_value quote) byte }
 {
-    byte < 128 && (!(byte == quote) && !(byte == 38))
+    byte < 128 && (!(byte == quote) && !(byte == b'&'))
 }
 
 /// Whether elements of this name are void.
@@ -76,42 +75,9 @@ pub fn is_digit_of(radix: Radix, byte: u8) -> bool
     match radix {
         Radix::Decimal => is_digit(byte),
         Radix::Hexadecimal => {
-            is_digit(byte) || (97 <= byte && byte <= 102) || (65 <= byte && byte <= 70)
+            is_digit(byte) || (b'a' <= byte && byte <= b'f') || (b'A' <= byte && byte <= b'F')
         }
     }
-}
-
-/// What follows the first byte of a character of several bytes: the bounds of the next byte, and how
-/// many more there are.
-#[derive(Clone, Copy, Debug, PartialEq, Eq)]
-pub struct Following {
-    pub low: u8,
-    pub high: u8,
-    pub more: u8,
-}
-
-/// What follows this byte where it begins a character of several bytes in UTF-8.
-pub fn follow(byte: u8) -> Option<Following>
-    ensures { follow_in result ≡ follow byte }
-{
-    let (low, high, more) = if 194 <= byte && byte <= 223 {
-        (128, 191, 0)
-    } else if byte == 224 {
-        (160, 191, 1)
-    } else if byte == 237 {
-        (128, 159, 1)
-    } else if 225 <= byte && byte <= 239 {
-        (128, 191, 1)
-    } else if byte == 240 {
-        (144, 191, 2)
-    } else if 241 <= byte && byte <= 243 {
-        (128, 191, 2)
-    } else if byte == 244 {
-        (128, 143, 2)
-    } else {
-        return None;
-    };
-    Some(Following { low, high, more })
 }
 
 /// Whether a character begins with this byte.

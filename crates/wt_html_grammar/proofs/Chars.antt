@@ -34,18 +34,22 @@ encode_three c b x y l h e f g =
 two : (b x c : ℕ) → 194 ≤ b → b ≤ 223 → 128 ≤ x → x ≤ 191 → c ≡ (b - 192) * 64 + (x - 128) → IsChar (b ∷ x ∷ [])
 two b x c l h lx hx e = (c, scalar_low c (omega arith), encode_two c b x (omega arith) (omega arith) (omega arith) (omega arith))
 
-three_low : (b x y c : ℕ) → 224 ≤ b → b ≤ 237 → 128 ≤ x → x ≤ 191 → 128 ≤ y → y ≤ 191 → c ≡ ((b - 224) * 64 + (x - 128)) * 64 + (y - 128) → 2048 ≤ c → c < 55296 → IsChar (b ∷ x ∷ y ∷ [])
+three_low : (b x y c : ℕ) → 224 ≤ b → b ≤ 237 → 128 ≤ x → x ≤ 191 → 128 ≤ y → y ≤ 191
+    → c ≡ ((b - 224) * 64 + (x - 128)) * 64 + (y - 128) → 2048 ≤ c → c < 55296 → IsChar (b ∷ x ∷ y ∷ [])
 three_low b x y c l h lx hx ly hy e low high =
     (c, scalar_low c high, encode_three c b x y low (omega arith) (omega arith) (omega arith) (omega arith))
 
-three_high : (b x y c : ℕ) → 238 ≤ b → b ≤ 239 → 128 ≤ x → x ≤ 191 → 128 ≤ y → y ≤ 191 → c ≡ ((b - 224) * 64 + (x - 128)) * 64 + (y - 128) → IsChar (b ∷ x ∷ y ∷ [])
+three_high : (b x y c : ℕ) → 238 ≤ b → b ≤ 239 → 128 ≤ x → x ≤ 191 → 128 ≤ y → y ≤ 191
+    → c ≡ ((b - 224) * 64 + (x - 128)) * 64 + (y - 128) → IsChar (b ∷ x ∷ y ∷ [])
 three_high b x y c l h lx hx ly hy e =
     (c, scalar_high c (omega arith) (omega arith), encode_three c b x y (omega arith) (omega arith) (omega arith) (omega arith) (omega arith))
 
-encode_four : (c b x y z : ℕ) → 65536 ≤ c → 240 + c / 262144 ≡ b → 128 + (c / 4096) % 64 ≡ x → 128 + (c / 64) % 64 ≡ y → 128 + c % 64 ≡ z → encode c ≡ b ∷ x ∷ y ∷ z ∷ []
+encode_four : (c b x y z : ℕ) → 65536 ≤ c → 240 + c / 262144 ≡ b → 128 + (c / 4096) % 64 ≡ x → 128 + (c / 64) % 64 ≡ y
+    → 128 + c % 64 ≡ z → encode c ≡ b ∷ x ∷ y ∷ z ∷ []
 unfolding encode
 encode_four c b x y z l e f g i =
-    if_false (nat_lt c 128) _ _ (not_lt c 128 (omega arith)) ∙ if_false (nat_lt c 2048) _ _ (not_lt c 2048 (omega arith)) ∙ if_false (nat_lt c 65536) _ _ (not_lt c 65536 l)
+    if_false (nat_lt c 128) _ _ (not_lt c 128 (omega arith)) ∙ if_false (nat_lt c 2048) _ _ (not_lt c 2048 (omega arith))
+    ∙ if_false (nat_lt c 65536) _ _ (not_lt c 65536 l)
     ∙ ap (λ m. m ∷ (128 + (c / 4096) % 64) ∷ (128 + (c / 64) % 64) ∷ (128 + c % 64) ∷ []) e ∙ ap (λ m. b ∷ m ∷ (128 + (c / 64) % 64) ∷ (128 + c % 64) ∷ []) f
     ∙ ap (λ m. b ∷ x ∷ m ∷ (128 + c % 64) ∷ []) g ∙ ap (λ m. b ∷ x ∷ y ∷ m ∷ []) i
 
@@ -65,14 +69,17 @@ after_one b low high [] k h = absurd h
 after_one b low high (x ∷ bs) k h =
     let P : List ℕ → Type 0 = λ q. IsChar (b ∷ x ∷ q) in subst P (sym h.1) (k x (above low high x h.0) (below low high x h.0))
 
-after_two : (b low high : ℕ) (bs : List ℕ) → ((x y : ℕ) → low ≤ x → x ≤ high → 128 ≤ y → y ≤ 191 → IsChar (b ∷ x ∷ y ∷ [])) → IsFollow low high 1 bs → IsChar (b ∷ bs)
+after_two : (b low high : ℕ) (bs : List ℕ) → ((x y : ℕ) → low ≤ x → x ≤ high → 128 ≤ y → y ≤ 191 → IsChar (b ∷ x ∷ y ∷ []))
+    → IsFollow low high 1 bs → IsChar (b ∷ bs)
 after_two b low high [] k h = absurd h
 after_two b low high (x ∷ []) k h = absurd h.1
 after_two b low high (x ∷ y ∷ bs) k h =
     let P : List ℕ → Type 0 = λ q. IsChar (b ∷ x ∷ y ∷ q) in
     subst P (sym h.1.1) (k x y (above low high x h.0) (below low high x h.0) (above 128 191 y h.1.0) (below 128 191 y h.1.0))
 
-after_three : (b low high : ℕ) (bs : List ℕ) → ((x y z : ℕ) → low ≤ x → x ≤ high → 128 ≤ y → y ≤ 191 → 128 ≤ z → z ≤ 191 → IsChar (b ∷ x ∷ y ∷ z ∷ [])) → IsFollow low high 2 bs → IsChar (b ∷ bs)
+after_three : (b low high : ℕ) (bs : List ℕ) →
+    ((x y z : ℕ) → low ≤ x → x ≤ high → 128 ≤ y → y ≤ 191 → 128 ≤ z → z ≤ 191 → IsChar (b ∷ x ∷ y ∷ z ∷ []))
+    → IsFollow low high 2 bs → IsChar (b ∷ bs)
 after_three b low high [] k h = absurd h
 after_three b low high (x ∷ []) k h = absurd h.1
 after_three b low high (x ∷ y ∷ []) k h = absurd h.1.1
@@ -81,7 +88,8 @@ after_three b low high (x ∷ y ∷ z ∷ bs) k h =
     subst P (sym h.1.1.1)
     (k x y z (above low high x h.0) (below low high x h.0) (above 128 191 y h.1.0) (below 128 191 y h.1.0) (above 128 191 z h.1.1.0) (below 128 191 z h.1.1.0))
 
-three_any : (b x y : ℕ) → 225 ≤ b → b ≤ 239 → (b == 237) ≡ false → 128 ≤ x → x ≤ 191 → 128 ≤ y → y ≤ 191 → (nat_lt b 237 ≡ true → IsChar (b ∷ x ∷ y ∷ [])) → IsChar (b ∷ x ∷ y ∷ [])
+three_any : (b x y : ℕ) → 225 ≤ b → b ≤ 239 → (b == 237) ≡ false → 128 ≤ x → x ≤ 191 → 128 ≤ y → y ≤ 191
+    → (nat_lt b 237 ≡ true → IsChar (b ∷ x ∷ y ∷ [])) → IsChar (b ∷ x ∷ y ∷ [])
 three_any b x y l h n lx hx ly hy k = by_test (nat_lt b 237) refl
   where
     by_test : (t : Bool) → nat_lt b 237 ≡ t → IsChar (b ∷ x ∷ y ∷ [])
@@ -107,11 +115,13 @@ of_bytes b bs =
     three_any b x y (above 225 239 b e) (below 225 239 b e) n l h ly hy (λ t. let q : b < 237 = less_237 b t in let p : 225 ≤ b = above 225 239 b e in
     three_low b x y _ (omega arith) (omega arith) l h ly hy refl (omega arith) (omega arith)))) (λ _.
     if_case P (b == 240) _ _ (λ e. let q : b ≡ 240 = eqb-true b 240 e in
-    after_three b 144 191 bs (λ x y z l h ly hy lz hz. four b x y z _ (omega arith) (omega arith) (omega arith) h ly hy lz hz refl (omega arith) (omega arith))) (λ _.
+    after_three b 144 191 bs (λ x y z l h ly hy lz hz. four b x y z _ (omega arith) (omega arith) (omega arith) h ly hy lz hz refl
+    (omega arith) (omega arith))) (λ _.
     if_case P (between 241 243 b) _ _ (λ e. let q : 241 ≤ b = above 241 243 b e in let p : b ≤ 243 = below 241 243 b e in
     after_three b 128 191 bs (λ x y z l h ly hy lz hz. four b x y z _ (omega arith) (omega arith) l h ly hy lz hz refl (omega arith) (omega arith))) (λ _.
     if_case P (b == 244) _ _ (λ e. let q : b ≡ 244 = eqb-true b 244 e in
-    after_three b 128 143 bs (λ x y z l h ly hy lz hz. four b x y z _ (omega arith) (omega arith) l (omega arith) ly hy lz hz refl (omega arith) (omega arith))) (λ _.
+    after_three b 128 143 bs (λ x y z l h ly hy lz hz. four b x y z _ (omega arith) (omega arith) l (omega arith) ly hy lz hz refl
+    (omega arith) (omega arith))) (λ _.
     (λ h. absurd h))))))))
 
 make_between : (low high b : ℕ) → low ≤ b → b ≤ high → between low high b ≡ true
@@ -127,14 +137,19 @@ table_two c b x l h e f =
     if_case P (between 194 223 b) _ _ (λ _. (make_between 128 191 x (omega arith) (omega arith), refl))
     (λ n. absurd (let t : between 194 223 b ≡ true = make_between 194 223 b (omega arith) (omega arith) in let u : true ≡ false = sym t ∙ n in cc))
 
-table_three : (c b x y : ℕ) → 2048 ≤ c → c < 65536 → (c < 55296) ⊎ (57344 ≤ c) → 224 + c / 4096 ≡ b → 128 + (c / 64) % 64 ≡ x → 128 + c % 64 ≡ y → Follows (follow b) (x ∷ y ∷ [])
+table_three : (c b x y : ℕ) → 2048 ≤ c → c < 65536 → (c < 55296) ⊎ (57344 ≤ c) → 224 + c / 4096 ≡ b → 128 + (c / 64) % 64 ≡ x
+    → 128 + c % 64 ≡ y → Follows (follow b) (x ∷ y ∷ [])
 table_three c b x y l h s e f g =
     let P : Option Follow → Type 0 = λ o. Follows o (x ∷ y ∷ []) in
     let nil : List ℕ = [] in
     let last : (between 128 191 y ≡ true) × (nil ≡ []) = (make_between 128 191 y (omega arith) (omega arith), refl) in
     if_case P (between 194 223 b) _ _ (λ t. absurd (omega (arith, below 194 223 b t))) (λ _.
     if_case P (b == 224) _ _ (λ t. (let q : b ≡ 224 = eqb-true b 224 t in make_between 160 191 x (omega arith) (omega arith), last)) (λ not_224.
-    if_case P (b == 237) _ _ (λ t. (let q : b ≡ 237 = eqb-true b 237 t in make_between 128 159 x (omega arith) (⊎_elim (λ k. omega arith) (λ k. absurd (omega arith)) s), last)) (λ _.
+    if_case P (b == 237) _ _ (λ t. (
+      let q : b ≡ 237 = eqb-true b 237 t in
+          make_between 128 159 x (omega arith) (⊎_elim (λ k. omega arith) (λ k. absurd (omega arith)) s),
+      last,
+    )) (λ _.
     if_case P (between 225 239 b) _ _ (λ t. (make_between 128 191 x (omega arith) (omega arith), last)) (λ n.
     absurd (not_three b (omega arith) (omega arith) not_224 n)))))
   where

@@ -74,10 +74,12 @@ closing_run (c ∷ cs) ns rest =
     run_step (closing (c ∷ cs) ns) (closing cs ns) c (cs ++ rest) (if_true (nat_eq c c) _ _ (eq_self c))
     ∙ closing_run cs ns rest
 
-pub letters_run : (cs : List ℕ) (n : EscapeName) (s : State) (rest : List ℕ) → run (escaping s (letters n cs)) (cs ++ rest) ≡ run (escaping s (letters n [])) rest
+pub letters_run : (cs : List ℕ) (n : EscapeName) (s : State) (rest : List ℕ) → run (escaping s (letters n cs)) (cs ++ rest)
+    ≡ run (escaping s (letters n [])) rest
 letters_run [] n s rest = refl
 letters_run (c ∷ cs) n s rest =
-    run_step (escaping s (letters n (c ∷ cs))) (escaping s (letters n cs)) c (cs ++ rest) (ap (turned s (letters n (c ∷ cs))) (if_true (nat_eq c c) _ _ (eq_self c)))
+    run_step (escaping s (letters n (c ∷ cs))) (escaping s (letters n cs)) c (cs ++ rest)
+    (ap (turned s (letters n (c ∷ cs))) (if_true (nat_eq c c) _ _ (eq_self c)))
     ∙ letters_run cs n s rest
 
 pub close_all : (ns : List (List ℕ)) → run (inside ns) (closers ns) ≡ Ok (inside [])

@@ -161,7 +161,8 @@ Sound (p_attribute o g a) = IsOpening o × IsWideGap g × IsAttributeName a
 Sound (p_named o g a lg) = IsOpening o × IsWideGap g × IsAttributeName a × (is_among a (names_of o.attributes) ≡ false) × IsGap lg
 Sound (p_equals o g a lg rg) = IsOpening o × IsWideGap g × IsAttributeName a × (is_among a (names_of o.attributes) ≡ false) × IsGap lg × IsGap rg
 Sound (p_value o g a lg rg q ps) =
-    IsOpening o × IsWideGap g × IsAttributeName a × (is_among a (names_of o.attributes) ≡ false) × ArePieces (in_value q) ps × (is_quote q ≡ true) × IsGap lg × IsGap rg
+    IsOpening o × IsWideGap g × IsAttributeName a × (is_among a (names_of o.attributes) ≡ false) × ArePieces (in_value q) ps
+    × (is_quote q ≡ true) × IsGap lg × IsGap rg
 Sound (p_slashed o g) = IsOpening o × IsGap g × (is_void o.name ≡ true)
 Sound (p_valued o) = IsOpening o
 Sound (p_closing l ls got left) = IsLevel (length ls) l × AreLevels ls × (got ++ left ≡ l.name)
@@ -216,7 +217,8 @@ are_pieces_push t (p ∷ ps) x h g = (h.0, are_pieces_push t ps x h.1 g)
 
 attributes_push : (xs : List Attribute) (a : Attribute) → spell_attributes (xs ++ a ∷ []) ≡ spell_attributes xs ++ spell_attribute a
 attributes_push [] a = append-nil (spell_attribute a)
-attributes_push (x ∷ xs) a = ap (λ s. spell_attribute x ++ s) (attributes_push xs a) ∙ sym (append_assoc (spell_attribute x) (spell_attributes xs) (spell_attribute a))
+attributes_push (x ∷ xs) a = ap (λ s. spell_attribute x ++ s) (attributes_push xs a)
+    ∙ sym (append_assoc (spell_attribute x) (spell_attributes xs) (spell_attribute a))
 
 names_push : (xs : List Attribute) (a : Attribute) → names_of (xs ++ a ∷ []) ≡ names_of xs ++ a.name ∷ []
 names_push [] a = refl
@@ -351,7 +353,8 @@ digits_advance p e r ds b h t g =
     (λ f. (
       p_escaping p (b_digits r (ds ++ b ∷ [])),
       (h, t, (each_push (is_digit_of r) ds b g.0 d, begun_push r ds b f)),
-      ap (escaping (seen p)) (ap (λ (k : ℕ). digits r k (number_from r 0 (ds ++ b ∷ []))) (length-append ds (b ∷ [])) ∙ ap (digits r (length ds + 1)) (number_push r ds 0 b)),
+      ap (escaping (seen p)) (ap (λ (k : ℕ). digits r k (number_from r 0 (ds ++ b ∷ []))) (length-append ds (b ∷ []))
+          ∙ ap (digits r (length ds + 1)) (number_push r ds 0 b)),
       same,
     ))
     (λ _. tt))
@@ -360,7 +363,12 @@ digits_advance p e r ds b h t g =
     (λ f. along (written p ++ spell_piece (number r ds)) w (Ok (seen p))
     (ap (λ c. written p ++ (38 ∷ 35 ∷ (sg ++ (ds ++ c ∷ [])))) (sym (eqb-true b 59 d)) ∙ same)
     (piece_reached p (number r ds) h t
-    (let m : IsPiece in_text (number r ds) = (lt_of_test 0 (length ds) (and_left _ _ f), begun_le r (length ds) (number_from r 0 ds) g.1, g.0, and_right (nat_lt 0 (length ds)) _ f) in (m, λ q _. m))))
+    (let m : IsPiece in_text (number r ds) = (
+      lt_of_test 0 (length ds) (and_left _ _ f),
+      begun_le r (length ds) (number_from r 0 ds) g.1,
+      g.0,
+      and_right (nat_lt 0 (length ds)) _ f,
+    ) in (m, λ q _. m))))
     (λ _. tt))
     (λ _. tt))
 
@@ -370,7 +378,8 @@ letter_advance : (p : Partial) (b : ℕ) (n : EscapeName) (c : ℕ) (cs : List �
 letter_advance p b n c cs h t g e =
     (p_escaping p (b_letters n (c ∷ []) cs), (h, t, g), refl, ap (λ x. written p ++ (38 ∷ x ∷ [])) (sym e) ∙ sym (append_assoc (written p) (38 ∷ []) (b ∷ [])))
 
-ampersand_advance : (p : Partial) (b : ℕ) → Sound p → TakesPiece p → Reached ((written p ++ 38 ∷ []) ++ b ∷ []) (turned (seen p) ampersand (in_escape ampersand b))
+ampersand_advance : (p : Partial) (b : ℕ) → Sound p → TakesPiece p
+    → Reached ((written p ++ 38 ∷ []) ++ b ∷ []) (turned (seen p) ampersand (in_escape ampersand b))
 ampersand_advance p b h t =
     let w : List ℕ = (written p ++ 38 ∷ []) ++ b ∷ [] in
     let P : Turn → Type 0 = λ u. Reached w (turned (seen p) ampersand u) in
@@ -393,9 +402,19 @@ escape_advance p b_apart b h t g =
     let P : Turn → Type 0 = λ u. Reached w (turned (seen p) apart u) in
     let same : written p ++ (38 ∷ 97 ∷ b ∷ []) ≡ w = sym (append_assoc (written p) (38 ∷ 97 ∷ []) (b ∷ [])) in
     if_case P (b == 109) _ _
-    (λ e. (p_escaping p (b_letters Amp (97 ∷ 109 ∷ []) (112 ∷ [])), (h, t, refl), refl, ap (λ c. written p ++ (38 ∷ 97 ∷ c ∷ [])) (sym (eqb-true b 109 e)) ∙ same))
+    (λ e. (
+      p_escaping p (b_letters Amp (97 ∷ 109 ∷ []) (112 ∷ [])),
+      (h, t, refl),
+      refl,
+      ap (λ c. written p ++ (38 ∷ 97 ∷ c ∷ [])) (sym (eqb-true b 109 e)) ∙ same,
+    ))
     (λ _. if_case P (b == 112) _ _
-    (λ e. (p_escaping p (b_letters Apos (97 ∷ 112 ∷ []) (111 ∷ 115 ∷ [])), (h, t, refl), refl, ap (λ c. written p ++ (38 ∷ 97 ∷ c ∷ [])) (sym (eqb-true b 112 e)) ∙ same))
+    (λ e. (
+      p_escaping p (b_letters Apos (97 ∷ 112 ∷ []) (111 ∷ 115 ∷ [])),
+      (h, t, refl),
+      refl,
+      ap (λ c. written p ++ (38 ∷ 97 ∷ c ∷ [])) (sym (eqb-true b 112 e)) ∙ same,
+    ))
     (λ _. tt))
 escape_advance p (b_wide begin got low high zero) b h t g =
     let w : List ℕ = (written p ++ (begin ∷ got)) ++ b ∷ [] in
@@ -555,7 +574,8 @@ value_ends o g a lg rg q ps b h e =
       (h.0.0, h.0.1, are_attributes_push [] o.attributes x h.0.2 (h.1, h.2, h.4, h.5, h.6, h.7) h.3, h.0.3),
       ap (λ s. valued (record { outer = names o.outer; name = o.name; seen = s })) (names_push o.attributes x),
       ap (λ s. levels o.outer ++ (60 ∷ (o.name ++ (s ++ [])))) (attributes_push o.attributes x)
-          ∙ ap (λ c. levels o.outer ++ (60 ∷ (o.name ++ ((spell_attributes o.attributes ++ (g ++ (a ++ (lg ++ (61 ∷ (rg ++ (q ∷ (spell_pieces ps ++ c ∷ [])))))))) ++ [])))) (sym e)
+          ∙ ap (λ c. levels o.outer ++ (60 ∷ (o.name ++
+          ((spell_attributes o.attributes ++ (g ++ (a ++ (lg ++ (61 ∷ (rg ++ (q ∷ (spell_pieces ps ++ c ∷ [])))))))) ++ [])))) (sym e)
           ∙ simp (append_assoc, append-nil),
     )
 

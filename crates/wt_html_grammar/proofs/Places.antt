@@ -43,7 +43,8 @@ pub taken_err : (bytes more : List ℕ) (s : State) (w : HtmlWhy) → run s byte
 taken_err [] more s w e = absurd cc
 taken_err (b ∷ bs) more s w e = err_on bs more w (λ u. taken_err bs more u w) (mended b (step s b)) e
 
-pub taken_last : (bytes : List ℕ) (b : ℕ) (s t : State) (w : HtmlWhy) → run s bytes ≡ Ok t → mended b (step t b) ≡ Err w → taken s (bytes ++ b ∷ []) ≡ length bytes
+pub taken_last : (bytes : List ℕ) (b : ℕ) (s t : State) (w : HtmlWhy) → run s bytes ≡ Ok t → mended b (step t b) ≡ Err w
+    → taken s (bytes ++ b ∷ []) ≡ length bytes
 taken_last bytes b s t w e f =
     let z : taken t (b ∷ []) ≡ 0 = ap (count_on (λ u. taken u [])) f in
     omega (arith, taken_append bytes (b ∷ []) s t e, z)
@@ -70,7 +71,8 @@ taken_within [] s = omega arith
 taken_within (b ∷ bs) s = within_on bs (taken_within bs) (mended b (step s b))
 
 -- beyond it stops
-stops_on : (b : ℕ) (bs : List ℕ) (k : ℕ) (w : HtmlWhy) → ((u : State) → run u bs ≡ Err w → taken u bs < k → run u (take k bs) ≡ Err w) → (o : Result State HtmlWhy)
+stops_on : (b : ℕ) (bs : List ℕ) (k : ℕ) (w : HtmlWhy)
+    → ((u : State) → run u bs ≡ Err w → taken u bs < k → run u (take k bs) ≡ Err w) → (o : Result State HtmlWhy)
     → onward (λ u. run u bs) o ≡ Err w → count_on (λ u. taken u bs) o < suc k → onward (λ u. run u (take k bs)) o ≡ Err w
 stops_on b bs k w h (Ok u) e lt = h u e (omega arith)
 stops_on b bs k w h (Err v) e lt = e

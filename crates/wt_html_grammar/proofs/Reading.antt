@@ -25,7 +25,8 @@ inner_pieces (p ∷ ps) rest = spell_piece p ++ inner_pieces ps rest
 
 abbrev pub inner_attributes : List Attribute → List ℕ → List ℕ
 inner_attributes [] rest = rest
-inner_attributes (a ∷ others) rest = a.gap ++ (a.name ++ (a.left ++ (61 ∷ (a.right ++ (a.quote ∷ inner_pieces a.value (a.quote ∷ inner_attributes others rest))))))
+inner_attributes (a ∷ others) rest = a.gap ++
+    (a.name ++ (a.left ++ (61 ∷ (a.right ++ (a.quote ∷ inner_pieces a.value (a.quote ∷ inner_attributes others rest))))))
 
 abbrev mutual
   pub inner : Element → List ℕ → List ℕ
@@ -46,7 +47,8 @@ pub attributes_is : (attributes : List Attribute) (rest : List ℕ) → spell_at
 attributes_is [] rest = refl
 attributes_is (a ∷ others) rest =
     let one : spell_attribute a ++ inner_attributes others rest ≡ inner_attributes (a ∷ others) rest =
-    simp append_assoc (ap (λ x. a.gap ++ (a.name ++ (a.left ++ (61 ∷ (a.right ++ (a.quote ∷ x)))))) (pieces_is a.value (a.quote ∷ inner_attributes others rest))) in
+    simp append_assoc (ap (λ x. a.gap ++ (a.name ++ (a.left ++ (61 ∷ (a.right ++ (a.quote ∷ x))))))
+    (pieces_is a.value (a.quote ∷ inner_attributes others rest))) in
     append_assoc (spell_attribute a) (spell_attributes others) rest ∙ ap (λ x. spell_attribute a ++ x) (attributes_is others rest) ∙ one
 
 mutual
@@ -135,7 +137,8 @@ follow_run (b ∷ bs) low high (suc n) s rest h =
     (ap (turned s (wide low high (suc n))) (if_true (between low high b) _ _ h.0))
     ∙ follow_run bs 128 191 n s rest h.1
 
-follows_run : (b : ℕ) (o : Option Follow) (bs : List ℕ) (s : State) (rest : List ℕ) → Follows o bs → onward (λ t. run t (bs ++ rest)) (mended b (begins s o)) ≡ run s rest
+follows_run : (b : ℕ) (o : Option Follow) (bs : List ℕ) (s : State) (rest : List ℕ) → Follows o bs
+    → onward (λ t. run t (bs ++ rest)) (mended b (begins s o)) ≡ run s rest
 follows_run b None bs s rest h = absurd h
 follows_run b (Some f) bs s rest h = follow_run bs f.low f.high f.more s rest h
 
@@ -148,7 +151,8 @@ high_follow b bs false e h = e
 
 -- what takes pieces: text, and a value
 abbrev pub Takes : (ℕ → Bool) → State → Type 0
-Takes p s = ((b : ℕ) → is_plain p b ≡ true → step s b ≡ Ok s) × (step s 38 ≡ Ok (escaping s ampersand)) × ((b : ℕ) → nat_lt b 128 ≡ false → step s b ≡ begins s (follow b))
+Takes p s = ((b : ℕ) → is_plain p b ≡ true → step s b ≡ Ok s) × (step s 38 ≡ Ok (escaping s ampersand))
+    × ((b : ℕ) → nat_lt b 128 ≡ false → step s b ≡ begins s (follow b))
 
 pub high_le : (b : ℕ) → nat_lt b 128 ≡ false → 128 ≤ b
 high_le b e = grind (arith, nat_tests)
@@ -192,7 +196,8 @@ takes_text n ns = (
   λ b e. if_true (is_plain in_text b) _ _ e,
   refl,
   λ b e.
-      if_false (is_plain in_text b) _ _ (not_both (nat_lt b 128) _ e) ∙ if_false (b == 60) _ _ (high_not b 60 (lit< tt) e) ∙ if_false (b == 38) _ _ (high_not b 38 (lit< tt) e),
+      if_false (is_plain in_text b) _ _ (not_both (nat_lt b 128) _ e) ∙ if_false (b == 60) _ _ (high_not b 60 (lit< tt) e)
+      ∙ if_false (b == 38) _ _ (high_not b 38 (lit< tt) e),
 )
 
 quote_low : (q : ℕ) → is_quote q ≡ true → q < 128
@@ -213,7 +218,8 @@ takes_value t q h = (
   λ b e. if_true (is_plain (in_value q) b) _ _ e,
   if_false (is_plain (in_value q) 38) _ _ (value_not q) ∙ if_false (38 == q) _ _ (quote_not q h),
   λ b e.
-      if_false (is_plain (in_value q) b) _ _ (not_both (nat_lt b 128) _ e) ∙ if_false (b == q) _ _ (high_not b q (quote_low q h) e) ∙ if_false (b == 38) _ _ (high_not b 38 (lit< tt) e),
+      if_false (is_plain (in_value q) b) _ _ (not_both (nat_lt b 128) _ e)
+      ∙ if_false (b == q) _ _ (high_not b q (quote_low q h) e) ∙ if_false (b == 38) _ _ (high_not b 38 (lit< tt) e),
 )
 
 -- start tags
@@ -257,7 +263,8 @@ attribute_start [] t rest h = absurd h
 attribute_start (c ∷ cs) t rest h =
     run_step (gap t) (attribute t (c ∷ [])) c (cs ++ rest) (if_true (is_attribute_byte c) _ _ h.0) ∙ attribute_run cs t (c ∷ []) rest h.1
 
-slash_run : (g : List ℕ) (t : Tag) (s : State) → Opens t s → (rest : List ℕ) → IsGap g → is_void t.name ≡ true → run s (g ++ (47 ∷ 62 ∷ rest)) ≡ run (inside t.outer) rest
+slash_run : (g : List ℕ) (t : Tag) (s : State) → Opens t s → (rest : List ℕ) → IsGap g → is_void t.name ≡ true
+    → run s (g ++ (47 ∷ 62 ∷ rest)) ≡ run (inside t.outer) rest
 slash_run [] t s o rest h v = run_step s (slashed t) 47 (62 ∷ rest) (o 47 refl ∙ if_true (is_void t.name) _ _ v)
 slash_run (c ∷ cs) t s o rest h v =
     space_step t s o c (cs ++ (47 ∷ 62 ∷ rest)) h.0 ∙ spaces_run cs t (47 ∷ 62 ∷ rest) h.1
@@ -268,7 +275,8 @@ named_run_on : (cs : List ℕ) (t : Tag) (rest : List ℕ) → IsGap cs → run 
 named_run_on [] t rest h = refl
 named_run_on (c ∷ cs) t rest h = run_step (named_so t) (named_so t) c (cs ++ (61 ∷ rest)) (if_true (is_space c) _ _ h.0) ∙ named_run_on cs t rest h.1
 
-pub left_run : (cs : List ℕ) (t : Tag) (a : List ℕ) → is_among a t.seen ≡ false → (rest : List ℕ) → IsGap cs → run (attribute t a) (cs ++ (61 ∷ rest)) ≡ run (equals (with_seen t a)) rest
+pub left_run : (cs : List ℕ) (t : Tag) (a : List ℕ) → is_among a t.seen ≡ false → (rest : List ℕ) → IsGap cs
+    → run (attribute t a) (cs ++ (61 ∷ rest)) ≡ run (equals (with_seen t a)) rest
 left_run [] t a n rest h = run_step (attribute t a) (equals (with_seen t a)) 61 rest (if_false (is_among a t.seen) _ _ n)
 left_run (c ∷ cs) t a n rest h =
     run_step (attribute t a) (named_so (with_seen t a)) c (cs ++ (61 ∷ rest))
@@ -309,7 +317,8 @@ closed_run (c ∷ cs) ns rest h =
 end_run : (g : List ℕ) (ns : List (List ℕ)) (rest : List ℕ) → IsGap g → run (closing [] ns) (g ++ (62 ∷ rest)) ≡ run (inside ns) rest
 end_run [] ns rest h = refl
 end_run (c ∷ cs) ns rest h =
-    run_step (closing [] ns) (closed ns) c (cs ++ (62 ∷ rest)) (if_false (is_name_byte c) _ _ (space_not_name c h.0) ∙ if_true (is_space c) _ _ h.0) ∙ closed_run cs ns rest h.1
+    run_step (closing [] ns) (closed ns) c (cs ++ (62 ∷ rest))
+    (if_false (is_name_byte c) _ _ (space_not_name c h.0) ∙ if_true (is_space c) _ _ h.0) ∙ closed_run cs ns rest h.1
 
 -- where an element with this name may begin
 abbrev pub Names : List (List ℕ) → State → Type 0
@@ -327,13 +336,15 @@ start_run (c ∷ cs) ns s o rest h =
     run_step s (naming ns (c ∷ [])) c (cs ++ rest) (o c h.0) ∙ name_run cs ns (c ∷ []) rest h.1
 
 mutual
-  element_run : (e : Element) (ns : List (List ℕ)) (s : State) → Names ns s → (rest : List ℕ) → IsElement (length ns) e → run s (inner e rest) ≡ run (inside ns) rest
+  element_run : (e : Element) (ns : List (List ℕ)) (s : State) → Names ns s → (rest : List ℕ) → IsElement (length ns) e
+      → run s (inner e rest) ≡ run (inside ns) rest
   element_run (element n attributes g items end) ns s q rest h =
       let tail : List ℕ = 60 ∷ 47 ∷ (n ++ (end ++ (62 ∷ rest))) in
       let after : List ℕ = inner_items items tail in
       start_run n ns s q _ h.1
       ∙ attributes_run attributes (record { outer = ns; name = n; seen = [] }) (naming ns n) (opens_naming ns n) _ h.2 _
-      (λ u r o e f. open_run g u r o after h.3 ∙ ap (λ m. run (inside m) after) (if_false (is_void u.name) u.outer (u.name ∷ u.outer) (ap is_void e ∙ h.6) ∙ ap (λ m. m ∷ u.outer) e ∙ ap (λ m. n ∷ m) f))
+      (λ u r o e f. open_run g u r o after h.3 ∙ ap (λ m. run (inside m) after)
+      (if_false (is_void u.name) u.outer (u.name ∷ u.outer) (ap is_void e ∙ h.6) ∙ ap (λ m. m ∷ u.outer) e ∙ ap (λ m. n ∷ m) f))
       ∙ items_run items n ns tail h.4
       ∙ closing_run n ns (end ++ (62 ∷ rest))
       ∙ end_run end ns rest h.5

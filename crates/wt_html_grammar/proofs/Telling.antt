@@ -42,14 +42,18 @@ digit_not_end Hexadecimal b e = grind (arith, nat_tests)
 quiet_digit : (r : Radix) (k n b : ℕ) (s : State) → is_digit_of r b ≡ true → out (escaping s (digits r k n)) b ≡ ev.Quiet
 quiet_digit r k n b s e = ap (unit_if s) (if_false (b == 59) _ _ (digit_not_end r b e))
 
-digits_tell : (r : Radix) (ds : List ℕ) (k n : ℕ) (x : Building) (s : State) (rest : List ℕ) → k + length ds ≤ most_digits r → 0 < k + length ds → Each (is_digit_of r) ds
+digits_tell : (r : Radix) (ds : List ℕ) (k n : ℕ) (x : Building) (s : State) (rest : List ℕ) → k + length ds ≤ most_digits r
+    → 0 < k + length ds → Each (is_digit_of r) ds
     → scalar (number_from r n ds) ≡ true → tell x (escaping s (digits r k n)) (ds ++ (59 ∷ rest)) ≡ tell (put x (unit_char s (number_from r n ds))) s rest
 digits_tell r [] k n x s rest h some d e =
     tell_step x (escaping s (digits r k n)) s 59 rest (unit_char s n)
-    (ap (turned s (digits r k n)) (if_false (is_digit_of r 59) _ _ (semicolon_not r) ∙ if_true (is_whole k n) _ _ (and_true (nat_lt 0 k) (scalar n) (lt_test 0 k (omega arith)) e))) refl
+    (ap (turned s (digits r k n)) (if_false (is_digit_of r 59) _ _ (semicolon_not r)
+    ∙ if_true (is_whole k n) _ _ (and_true (nat_lt 0 k) (scalar n) (lt_test 0 k (omega arith)) e))) refl
 digits_tell r (c ∷ cs) k n x s rest h some d e =
     tell_step x (escaping s (digits r k n)) (escaping s (digits r (k + 1) (n * base_of r + digit_value c))) c (cs ++ (59 ∷ rest)) ev.Quiet
-    (ap (turned s (digits r k n)) (if_true (is_digit_of r c) _ _ d.0 ∙ if_true (is_begun r (k + 1) (n * base_of r + digit_value c)) _ _ (begun r cs (k + 1) (n * base_of r + digit_value c) (omega arith) e)))
+    (ap (turned s (digits r k n)) (if_true (is_digit_of r c) _ _ d.0
+    ∙ if_true (is_begun r (k + 1) (n * base_of r + digit_value c)) _ _
+    (begun r cs (k + 1) (n * base_of r + digit_value c) (omega arith) e)))
     (quiet_digit r k n c s d.0)
     ∙ digits_tell r cs (k + 1) (n * base_of r + digit_value c) x s rest (omega arith) (omega arith) d.1 e
 
@@ -91,7 +95,8 @@ follow_tell : (p : ℕ → Bool) (s : State) → Tells p s → (bs : List ℕ) (
     → tell x (escaping s (wide low high n)) (bs ++ rest) ≡ tell (adding s x bs) s rest
 follow_tell p s t [] low high n x rest h = absurd h
 follow_tell p s t (b ∷ bs) low high zero x rest h =
-    tell_step x (escaping s (wide low high zero)) s b (bs ++ rest) (unit_byte s b) (ap (turned s (wide low high zero)) (if_true (between low high b) _ _ h.0)) refl
+    tell_step x (escaping s (wide low high zero)) s b (bs ++ rest) (unit_byte s b)
+    (ap (turned s (wide low high zero)) (if_true (between low high b) _ _ h.0)) refl
     ∙ ap (λ y. tell y s (bs ++ rest)) (t.4 x b) ∙ ap (λ cs. tell (adding s x (b ∷ [])) s (cs ++ rest)) h.1
     ∙ ap (λ cs. tell (adding s x (b ∷ cs)) s rest) (sym h.1)
 follow_tell p s t (b ∷ bs) low high (suc n) x rest h =
@@ -151,7 +156,8 @@ high_in_value q b h e = grind (arith, nat_tests)
 
 add_twice : (x : Building) (fs : List Frame) (bs cs : List ℕ) → with_open x (add_bytes (add_bytes fs bs) cs) ≡ with_open x (add_bytes fs (bs ++ cs))
 add_twice x [] bs cs = refl
-add_twice x (f ∷ fs) bs cs = ap (λ r. with_open x (record { name = f.name; attributes = f.attributes; items = f.items; run = r } ∷ fs)) (append_assoc f.run bs cs)
+add_twice x (f ∷ fs) bs cs = ap (λ r. with_open x
+    (record { name = f.name; attributes = f.attributes; items = f.items; run = r } ∷ fs)) (append_assoc f.run bs cs)
 
 tells_text : (n : List ℕ) (ns : List (List ℕ)) → Tells in_text (inside (n ∷ ns))
 tells_text n ns = (
@@ -217,7 +223,8 @@ key_tell : (cs : List ℕ) (t : Tag) (a : List ℕ) (x : Building) (rest : List 
     → tell x (attribute t a) (cs ++ rest) ≡ tell (with_key x (x.key ++ cs)) (attribute t (a ++ cs)) rest
 key_tell [] t a x rest h = simp append-nil
 key_tell (c ∷ cs) t a x rest h =
-    tell_step x (attribute t a) (attribute t (a ++ c ∷ [])) c (cs ++ rest) (ev.Key c) (if_true (is_attribute_byte c) _ _ h.0) (if_true (is_attribute_byte c) _ _ h.0)
+    tell_step x (attribute t a) (attribute t (a ++ c ∷ [])) c (cs ++ rest) (ev.Key c) (if_true (is_attribute_byte c) _ _ h.0)
+    (if_true (is_attribute_byte c) _ _ h.0)
     ∙ key_tell cs t (a ++ c ∷ []) (put x (ev.Key c)) rest h.1
     ∙ ap (λ m. tell (with_key x m) (attribute t ((a ++ c ∷ []) ++ cs)) rest) (append_assoc x.key (c ∷ []) cs)
     ∙ ap (λ m. tell (with_key x (x.key ++ c ∷ cs)) (attribute t m) rest) (append_assoc a (c ∷ []) cs)
@@ -229,7 +236,8 @@ Quiets t s = (b : ℕ) → is_attribute_byte b ≡ false → out s b ≡ out_ope
 space_not_end : (b : ℕ) → is_space b ≡ true → (b == 62) ≡ false
 space_not_end b e = grind (arith, nat_tests)
 
-space_tell : (x : Building) (t : Tag) (s : State) → Opens t s → Quiets t s → (c : ℕ) (rest : List ℕ) → is_space c ≡ true → tell x s (c ∷ rest) ≡ tell x (gap t) rest
+space_tell : (x : Building) (t : Tag) (s : State) → Opens t s → Quiets t s → (c : ℕ) (rest : List ℕ) → is_space c ≡ true
+    → tell x s (c ∷ rest) ≡ tell x (gap t) rest
 space_tell x t s o q c rest e =
     tell_step x s (gap t) c rest ev.Quiet (o c (space_not_attribute c e) ∙ if_true (is_space c) _ _ e)
     (q c (space_not_attribute c e) ∙ if_false (c == 62) _ _ (space_not_end c e))
@@ -247,7 +255,8 @@ spaces_tell : (cs : List ℕ) (x : Building) (t : Tag) (rest : List ℕ) → IsG
 spaces_tell [] x t rest h = refl
 spaces_tell (c ∷ cs) x t rest h = space_tell x t (gap t) (opens_gap t) (quiets_gap t) c (cs ++ rest) h.0 ∙ spaces_tell cs x t rest h.1
 
-wide_tell : (g : List ℕ) (x : Building) (t : Tag) (s : State) → Opens t s → Quiets t s → (rest : List ℕ) → IsWideGap g → tell x s (g ++ rest) ≡ tell x (gap t) rest
+wide_tell : (g : List ℕ) (x : Building) (t : Tag) (s : State) → Opens t s → Quiets t s → (rest : List ℕ) → IsWideGap g
+    → tell x s (g ++ rest) ≡ tell x (gap t) rest
 wide_tell [] x t s o q rest h = absurd h
 wide_tell (c ∷ cs) x t s o q rest h = space_tell x t s o q c (cs ++ rest) h.0 ∙ spaces_tell cs x t rest h.1
 
@@ -360,20 +369,23 @@ attributes_tell (a ∷ others) x t s o q end h b k =
     ∙ key_start a.name x t _ h.0.1
     ∙ left_tell a.left y t a.name h.1 (a.right ++ (a.quote ∷ inner_pieces a.value (a.quote ∷ more_bytes))) h.0.4
     ∙ right_tell a.right y u (a.quote ∷ inner_pieces a.value (a.quote ∷ more_bytes)) h.0.5
-    ∙ tell_step y (equals u) (value u a.quote) a.quote (inner_pieces a.value (a.quote ∷ more_bytes)) ev.ValueBegin (if_true (is_quote a.quote) _ _ h.0.3) (begin_value u a.quote h.0.3)
+    ∙ tell_step y (equals u) (value u a.quote) a.quote (inner_pieces a.value (a.quote ∷ more_bytes)) ev.ValueBegin
+    (if_true (is_quote a.quote) _ _ h.0.3) (begin_value u a.quote h.0.3)
     ∙ value_tell a.value u a.quote h.0.3 (with_value y []) (a.quote ∷ more_bytes) h.0.2
     ∙ tell_step z (value u a.quote) (valued u) a.quote more_bytes ev.ValueEnd (quote_ends u a.quote) (end_value u a.quote)
     ∙ attributes_tell others (put z ev.ValueEnd) u (valued u) (λ c e. refl) (λ c e. refl) end h.2 b
     (λ v w r p g e f i j. k v w r p g e f i (j ∙ append_assoc x.attributes (pair_of a ∷ []) (map pair_of others)))
 
 -- end tags
-closed_tell : (g : List ℕ) (x : Building) (ns : List (List ℕ)) (rest : List ℕ) → IsGap g → tell x (closed ns) (g ++ (62 ∷ rest)) ≡ tell (put x ev.Closed) (inside ns) rest
+closed_tell : (g : List ℕ) (x : Building) (ns : List (List ℕ)) (rest : List ℕ) → IsGap g
+    → tell x (closed ns) (g ++ (62 ∷ rest)) ≡ tell (put x ev.Closed) (inside ns) rest
 closed_tell [] x ns rest h = tell_step x (closed ns) (inside ns) 62 rest ev.Closed refl refl
 closed_tell (c ∷ cs) x ns rest h =
     tell_step x (closed ns) (closed ns) c (cs ++ (62 ∷ rest)) ev.Quiet (if_true (is_space c) _ _ h.0) (if_false (c == 62) _ _ (space_not_end c h.0))
     ∙ closed_tell cs x ns rest h.1
 
-end_tell : (g : List ℕ) (x : Building) (ns : List (List ℕ)) (rest : List ℕ) → IsGap g → tell x (closing [] ns) (g ++ (62 ∷ rest)) ≡ tell (put x ev.Closed) (inside ns) rest
+end_tell : (g : List ℕ) (x : Building) (ns : List (List ℕ)) (rest : List ℕ) → IsGap g
+    → tell x (closing [] ns) (g ++ (62 ∷ rest)) ≡ tell (put x ev.Closed) (inside ns) rest
 end_tell [] x ns rest h = tell_step x (closing [] ns) (inside ns) 62 rest ev.Closed refl refl
 end_tell (c ∷ cs) x ns rest h =
     tell_step x (closing [] ns) (closed ns) c (cs ++ (62 ∷ rest)) ev.Quiet
@@ -435,7 +447,8 @@ void_same x y n ps s e a =
     ∙ ap (λ m. closed_into (node n ps empty) m y.root) s.0 ∙ ap (λ m. closed_into (node n ps empty) x.opened m) s.2
 
 mutual
-  element_tell : (e : Element) (ns : List (List ℕ)) (s : State) → Names ns s → Begins s → (fs : List Frame) (root : Markups) (rest : List ℕ) → IsElement (length ns) e
+  element_tell : (e : Element) (ns : List (List ℕ)) (s : State) → Names ns s → Begins s
+      → (fs : List Frame) (root : Markups) (rest : List ℕ) → IsElement (length ns) e
       → tell (calm fs root) s (inner e rest) ≡ tell (closed_into (meaning e) fs root) (inside ns) rest
   element_tell (element n attributes g items end) ns s q b fs root rest h =
       let f : Frame = record { name = n; attributes = map pair_of attributes; items = empty; run = [] } in
@@ -461,7 +474,8 @@ mutual
       ∙ ap (λ m. tell m (inside u.outer) rest) (void_same (with_name (calm fs root) n) y n (map pair_of attributes) j refl a)
       ∙ ap (λ m. tell (closed_into (node n (map pair_of attributes) empty) fs root) (inside m) rest) i)
 
-  items_tell : (items : Items) (n : List ℕ) (ns : List (List ℕ)) (f : Frame) (fs : List Frame) (root : Markups) (rest : List ℕ) → AreItems (suc (length ns)) items
+  items_tell : (items : Items) (n : List ℕ) (ns : List (List ℕ)) (f : Frame) (fs : List Frame) (root : Markups) (rest : List ℕ)
+      → AreItems (suc (length ns)) items
       → tell (calm (f ∷ fs) root) (inside (n ∷ ns)) (inner_items items rest) ≡ tell (calm (extend f items ∷ fs) root) (inside (n ∷ ns)) rest
   items_tell none n ns f fs root rest h = refl
   items_tell (sign p items) n ns f fs root rest h =
@@ -469,7 +483,8 @@ mutual
       ∙ items_tell items n ns (with_bytes f (unit_of p)) fs root rest h.1
   items_tell (child e items) n ns f fs root rest h =
       tell_step (calm (f ∷ fs) root) (inside (n ∷ ns)) (less (n ∷ ns)) 60 (inner e (inner_items items rest)) ev.Quiet refl refl
-      ∙ element_tell e (n ∷ ns) (less (n ∷ ns)) (names_less (n ∷ ns) (depth e (suc (length ns)) h.0)) (begins_less (n ∷ ns)) (f ∷ fs) root (inner_items items rest) h.0
+      ∙ element_tell e (n ∷ ns) (less (n ∷ ns)) (names_less (n ∷ ns) (depth e (suc (length ns)) h.0)) (begins_less (n ∷ ns))
+      (f ∷ fs) root (inner_items items rest) h.0
       ∙ items_tell items n ns (with_child f (meaning e)) fs root rest h.1
 
 end_spaces_tell : (g : List ℕ) (x : Building) → IsGap g → tell x (inside []) g ≡ x
@@ -490,10 +505,12 @@ word_tell [] [] x rest e = refl
 word_tell [] (c ∷ cs) x rest e = absurd cc
 word_tell (b ∷ bs) [] x rest e = absurd cc
 word_tell (b ∷ bs) (c ∷ cs) x rest e =
-    tell_step x (doctype (c ∷ cs)) (doctype cs) b (bs ++ rest) ev.Quiet (if_true (to_ascii_lowercase b == c) _ _ (eq_test (to_ascii_lowercase b) c (first_eq _ _ _ _ e))) refl
+    tell_step x (doctype (c ∷ cs)) (doctype cs) b (bs ++ rest) ev.Quiet
+    (if_true (to_ascii_lowercase b == c) _ _ (eq_test (to_ascii_lowercase b) c (first_eq _ _ _ _ e))) refl
     ∙ word_tell bs cs x rest (others_eq _ _ _ _ e)
 
-doctype_tell : (bs : List ℕ) (x : Building) (rest : List ℕ) → map to_ascii_lowercase bs ≡ codes "<!doctype html>" → tell x start (bs ++ rest) ≡ tell x (doctype []) rest
+doctype_tell : (bs : List ℕ) (x : Building) (rest : List ℕ) → map to_ascii_lowercase bs ≡ codes "<!doctype html>"
+    → tell x start (bs ++ rest) ≡ tell x (doctype []) rest
 doctype_tell [] x rest e = absurd cc
 doctype_tell (a ∷ []) x rest e = absurd cc
 doctype_tell (a ∷ b ∷ bs) x rest e =

@@ -140,10 +140,12 @@ next w s b (inl r) =
     subst P r.2 (along _ _ _ (ap (λ x. x ++ b ∷ []) r.3) (ahead_advance r.0 b r.1))
 next w s b (inr r) =
     let P : State → Type 0 = λ t. Comes (w ++ b ∷ []) (step t b) in
-    let same : spell_head r.0 ++ (written r.2 ++ b ∷ []) ≡ w ++ b ∷ [] = sym (append_assoc (spell_head r.0) (written r.2) (b ∷ [])) ∙ ap (λ x. x ++ b ∷ []) r.5 in
+    let same : spell_head r.0 ++ (written r.2 ++ b ∷ []) ≡ w ++ b ∷ [] =
+    sym (append_assoc (spell_head r.0) (written r.2) (b ∷ [])) ∙ ap (λ x. x ++ b ∷ []) r.5 in
     subst P r.4 (along _ _ _ same (headed r.0 _ r.1 _ (advance r.2 b r.3)))
 
-more_read : (w : List ℕ) (b : ℕ) (bs : List ℕ) → ((s : State) → InHead (w ++ b ∷ []) s ⊎ Behind (w ++ b ∷ []) s → Comes ((w ++ b ∷ []) ++ bs) (run s bs)) → (o : Result State HtmlWhy)
+more_read : (w : List ℕ) (b : ℕ) (bs : List ℕ)
+    → ((s : State) → InHead (w ++ b ∷ []) s ⊎ Behind (w ++ b ∷ []) s → Comes ((w ++ b ∷ []) ++ bs) (run s bs)) → (o : Result State HtmlWhy)
     → Comes (w ++ b ∷ []) o → Comes (w ++ b ∷ bs) (onward (λ t. run t bs) o)
 more_read w b bs h (Err why) r = tt
 more_read w b bs h (Ok s) r = along _ _ _ (append_assoc w (b ∷ []) bs) (h s r)

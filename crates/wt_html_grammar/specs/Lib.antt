@@ -1,4 +1,5 @@
 pub mod Signs
+pub mod FirstBytes
 pub mod Grammar
 pub mod Machine
 pub mod Places

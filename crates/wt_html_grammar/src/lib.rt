@@ -1,11 +1,12 @@
 //! The grammar of the HTML that is read, the tree that a document stands for, and a machine that
-//! reads it byte by byte. All lie in `specs/`; the code is the enums that they speak of, and the laws
-//! that join them.
+//! reads it byte by byte. All lie in `specs/`; the code is the enums that they speak of, the table of
+//! first bytes of UTF-8, and the laws that join them.
 #![tactic(auto)]
 
 mod event;
 mod laws;
 mod names;
+mod utf8;
 mod why;
 
 pub use event::Event;
@@ -14,4 +15,5 @@ pub use laws::{
     white_space,
 };
 pub use names::{EscapeName, Radix};
+pub use utf8::{Following, follow};
 pub use why::HtmlWhy;

@@ -12,7 +12,7 @@ use Rattle.wt_html_elements.specs.declared.content.Content.{Content}
 use Rattle.wt_html_elements.specs.Built.{view_content, pairs, views as markups}
 use Rattle.wt_html_grammar.specs.Events.{append}
 use Rattle.wt_html_in.specs.declared.frame.Found.{Found}
-use Rattle.wt_fitting.specs.Fit.{with_children, elements, elements_of_all, fit_as, fit_nodes, elements_in, body_in, body_of, Found as FoundBody}
+use Rattle.wt_fitting.specs.Fit.{children_in, with_children, elements, elements_of_all, fit_as, fit_nodes, elements_in, body_in, body_of, Found as FoundBody}
 use Rattle.wt_fitting.specs.Unsourced.{is_marked, unsourced_nodes}
 use Rattle.wt_html_in.specs.Texts.{are_utf8_values, is_utf8_markup, are_utf8_markups}
 use Rattle.wt_html_in.specs.declared.refusal.FitFault.{FitFault}
@@ -127,12 +127,12 @@ bodied_at n ps qs xs ys r d e h = rw (sym d, sym e) h
 
 pub body_made : (n : ℕ) (ps : List Pair) (c : Markups) (h : Head) (w v : Walk) (ns : List Node) (b : Node) (e : Edited)
     → Bodied n ps c (Ok h) → w.next ≡ n + 1 → w.unsourced ≡ marked_here n ps → FitsNodes w kind.Body c v (Ok ns)
-    → view b ≡ tree (label_of_head h) (views ns) → body_told e ≡ view b → unsourced_of e ≡ v.unsourced → FitsBody (Some (found_of n ps c)) (Ok e)
+    → view b ≡ tree (label_of_head h) (children_in h.kind (views ns)) → body_told e ≡ view b → unsourced_of e ≡ v.unsourced → FitsBody (Some (found_of n ps c)) (Ok e)
 body_made n ps c h w v ns b e f x y g i j k =
     let s : w.next ≡ suc n = omega (arith, x) in (
-      f (λ z. fit_nodes (suc n) kind.Body c)
-          ∙ ap (λ z. with_children (label_of_head h) (fit_nodes z kind.Body c)) (sym s)
-          ∙ ap (with_children (label_of_head h)) g.0
+      f (λ z. fit_nodes (suc n) kind.Body false c)
+          ∙ ap (λ z. with_children h.kind (label_of_head h) (fit_nodes z kind.Body false c)) (sym s)
+          ∙ ap (with_children h.kind (label_of_head h)) g.0
           ∙ ap (λ z. Ok z) (sym (j ∙ i)),
       sym (k ∙ g.1.unsourced ∙ ap (λ z. option_or z (unsourced_nodes w.next c)) y
           ∙ here_or (is_marked ps) n (unsourced_nodes w.next c)
@@ -140,14 +140,14 @@ body_made n ps c h w v ns b e f x y g i j k =
     )
 
 pub body_misfit : (n : ℕ) (ps : List Pair) (c : Markups) (e : FitFault) → Bodied n ps c (Err e) → FitsBody (Some (found_of n ps c)) (Err e)
-body_misfit n ps c (faults.Unfit m y) f = f (λ z. fit_nodes (suc n) kind.Body c)
+body_misfit n ps c (faults.Unfit m y) f = f (λ z. fit_nodes (suc n) kind.Body false c)
 body_misfit n ps c faults.NoMemory f = tt
 
 pub body_inside : (n : ℕ) (ps : List Pair) (c : Markups) (h : Head) (w v : Walk) (e : FitFault) → Bodied n ps c (Ok h) → w.next ≡ n + 1
     → FitsNodes w kind.Body c v (Err e) → FitsBody (Some (found_of n ps c)) (Err e)
 body_inside n ps c h w v (faults.Unfit m y) f x g =
     let s : suc n ≡ w.next = omega (arith, x) in
-    f (λ z. fit_nodes (suc n) kind.Body c) ∙ ap (λ z. with_children (label_of_head h) (fit_nodes z kind.Body c)) s ∙ ap (with_children (label_of_head h)) g
+    f (λ z. fit_nodes (suc n) kind.Body false c) ∙ ap (λ z. with_children h.kind (label_of_head h) (fit_nodes z kind.Body false c)) s ∙ ap (with_children h.kind (label_of_head h)) g
 body_inside n ps c h w v faults.NoMemory f x g = tt
 
 pub fits_at : (f g : Option FoundBody) (r s : Result Edited FitFault) → f ≡ g → r ≡ s → FitsBody g s → FitsBody f r

@@ -1,6 +1,7 @@
 pub mod Values
 pub mod Labels
 pub mod Joining
+pub mod Blocks
 pub mod Walking
 pub mod Frames
 pub mod Standing

@@ -1,7 +1,7 @@
 ghost use Rattle.std.specs.Prelude.{◌≡◌, true, IfOk, IfErr};
 ghost use Rattle.wt_html_elements.specs.Built.{pairs, views};
 ghost use Rattle.wt_fitting.specs.Rows.{row};
-ghost use Rattle.wt_fitting.specs.Fit.{texts_in, fit_as, fit_row};
+ghost use Rattle.wt_fitting.specs.Fit.{texts_in, has_place, fit_as, fit_row};
 ghost use Rattle.wt_html_in.specs.Texts.{are_utf8_values, are_utf8_markups};
 ghost use Rattle.wt_html_in.specs.Told.{data_both};
 ghost use Rattle.wt_html_in.specs.Fits.{IsHeadOf, HeadFits, RowFits};
@@ -88,18 +88,26 @@ pub fn head_as(
     }
 }
 
-/// What the element of this number is in one of the kind `outer`.
+/// Whether an element of this kind may stand in one of the kind `outer`, behind a block or not.
+fn has_place(outer: Kind, behind: bool, kind: Kind) -> bool
+    ensures { result ≡ has_place outer behind kind }
+{
+    outer.may_hold(kind) && kind.may_follow(behind)
+}
+
+/// What the element of this number is in one of the kind `outer`, behind a block or not.
 pub fn head_in(
     alloc: Global,
     number: u32,
     outer: Kind,
+    behind: bool,
     name: &[u8],
     attributes: &[Attribute],
     contents: &[Content],
 ) -> Result<Head, FitFault>
     requires values { are_utf8_values (pairs attributes.now) ≡ true }
     requires texts { are_utf8_markups (views contents.now) ≡ true }
-    ensures { RowFits (λ inside. fit_row number outer (row name.now (pairs attributes.now)) (pairs attributes.now) (views contents.now) inside) result }
+    ensures { RowFits (λ inside. fit_row number outer behind (row name.now (pairs attributes.now)) (pairs attributes.now) (views contents.now) inside) result }
 {
     match row(name, attributes) {
         None => Err(FitFault::Unfit {
@@ -107,7 +115,7 @@ pub fn head_in(
             why: FitWhy::Element,
         }),
         Some(kind) => {
-            if outer.may_hold(kind) {
+            if has_place(outer, behind, kind) {
                 head_as(alloc, number, kind, attributes, contents)
             } else {
                 Err(FitFault::Unfit {

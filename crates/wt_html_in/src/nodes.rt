@@ -2,7 +2,8 @@ ghost use Rattle.std.specs.Prelude.{◌≡◌, true, Some, None, option_map, IfO
 ghost use Rattle.std.specs.Str.{is_utf8};
 ghost use Rattle.wt_tree.specs.Tree.{tree, none as no_trees};
 ghost use Rattle.wt_tree.specs.View.{view, views, texts_of};
-ghost use Rattle.wt_fitting.specs.Fit.{leaf_label, text_leaf, sep_leaf, leaf_in, source_of};
+ghost use Rattle.wt_tree.specs.Recut.{leaf_label, text_leaf, sep_leaf};
+ghost use Rattle.wt_fitting.specs.Fit.{leaf_in, children_in, source_of};
 ghost use Rattle.wt_html_in.specs.Fits.{label_of_head};
 ghost use Rattle.wt_html_in.specs.Sources.{source_view, source_told, sourced_label};
 
@@ -14,7 +15,7 @@ use bumpalo::Bump;
 use std::alloc::Global;
 use wt_datamw::Sync;
 use wt_span::{List, Str, Text};
-use wt_tree::{Kind, Mark, Node, Ranges};
+use wt_tree::{Kind, Mark, Node, Ranges, Texts, recut_texts};
 
 /// A text in the arena; nothing where it is empty. One of 2^32 - 1 bytes or more is answered as want
 /// of memory.
@@ -37,7 +38,7 @@ fn kept<'a>(alloc: Global, arena: &'a Bump<Global>, text: &str) -> Result<List<T
 
 /// A leaf without number, ranges and delimiters.
 fn leaf<'a>(alloc: Global, kind: Kind, own: List<Text<'a>>, shown: Str) -> Node<'a>
-    ensures { view result ≡ tree (leaf_label kind (texts_of own.entry) shown) no_trees }
+    ensures { view result ≡ tree (leaf_label kind None (texts_of own.entry) shown) no_trees }
 {
     Node {
         kind,
@@ -56,7 +57,7 @@ fn leaf<'a>(alloc: Global, kind: Kind, own: List<Text<'a>>, shown: Str) -> Node<
 }
 
 fn text_leaf<'a>(alloc: Global, arena: &'a Bump<Global>, text: &str) -> Result<Node<'a>, FitFault>
-    ensures leaf { IfOk result (λ n. view n ≡ text_leaf text.now) }
+    ensures leaf { IfOk result (λ n. view n ≡ text_leaf None text.now) }
     ensures memory { IfErr result (λ e. e ≡ FitFault.NoMemory) }
 {
     let own = kept(alloc, arena, text)?;
@@ -65,7 +66,7 @@ fn text_leaf<'a>(alloc: Global, arena: &'a Bump<Global>, text: &str) -> Result<N
 }
 
 fn sep_leaf<'a>(alloc: Global, arena: &'a Bump<Global>, text: &str) -> Result<Node<'a>, FitFault>
-    ensures leaf { IfOk result (λ n. view n ≡ sep_leaf text.now) }
+    ensures leaf { IfOk result (λ n. view n ≡ sep_leaf None text.now) }
     ensures memory { IfErr result (λ e. e ≡ FitFault.NoMemory) }
 {
     let own = kept(alloc, arena, text)?;
@@ -199,17 +200,39 @@ fn sourced<'a>(head: Head, source: Source<'a>, children: List<Node<'a>>) -> Node
     }
 }
 
+/// What an element of this kind holds, when the nodes that stand in it are these: in an item, a cell or
+/// a caption texts and separators are cut at the border between them.
+fn children_in<'a>(
+    alloc: Global,
+    kind: Kind,
+    nodes: List<Node<'a>>,
+) -> Result<List<Node<'a>>, FitFault>
+    ensures children { IfOk result (λ l. views l ≡ children_in kind (views nodes.entry)) }
+    ensures memory { IfErr result (λ e. e ≡ FitFault.NoMemory) }
+{
+    match kind.shape().texts {
+        Texts::Bordered => {
+            let cut = recut_texts(alloc, nodes)?;
+            Ok(cut)
+        }
+        Texts::Separators => Ok(nodes),
+        Texts::Page => Ok(nodes),
+        Texts::OwnCharacter => Ok(nodes),
+    }
+}
+
 /// The node that an element is.
 #[tactic(auto, using(crate::proofs::Labels::sourced_is))]
 pub fn node_of<'a>(
     alloc: Global,
     arena: &'a Bump<Global>,
     head: Head,
-    children: List<Node<'a>>,
+    nodes: List<Node<'a>>,
 ) -> Result<Node<'a>, FitFault>
-    ensures node { IfOk result (λ n. view n ≡ tree (label_of_head head) (views children.entry)) }
+    ensures node { IfOk result (λ n. view n ≡ tree (label_of_head head) (children_in head.kind (views nodes.entry))) }
     ensures memory { IfErr result (λ e. e ≡ FitFault.NoMemory) }
 {
     let source = source_for(alloc, arena, &head.sync)?;
+    let children = children_in(alloc, head.kind, nodes)?;
     Ok(sourced(head, source, children))
 }

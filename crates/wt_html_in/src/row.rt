@@ -3,7 +3,8 @@ ghost use Rattle.std.specs.Str.{bytes_eq};
 ghost use Rattle.wt_html_elements.specs.Built.{pairs, view_content, views};
 ghost use Rattle.wt_tree.specs.Kinds.{fixed_of, level_digits};
 ghost use Rattle.wt_fitting.specs.Rows.{values_at, agrees, is_value, agrees_by, tells, is_named, is_row, row_by, row, holds_text, shows_text};
-ghost use Rattle.wt_fitting.specs.Fit.{is_blank, are_blank, text_fits};
+ghost use Rattle.wt_tree.specs.Recut.{is_blank};
+ghost use Rattle.wt_fitting.specs.Fit.{are_blank, text_fits};
 ghost use Rattle.wt_html_in.specs.Told.{is_blank_or_element};
 
 use crate::attributes::value_of;
@@ -13,7 +14,7 @@ use wt_span::rest_of;
 use wt_tree::{AttrName, Fixed, Kind, Own, TagName, Texts, Values};
 
 /// The kinds whose elements are read.
-const READ_KINDS: [Kind; 29] = [
+const READ_KINDS: [Kind; 41] = [
     Kind::Para,
     Kind::WikiLink,
     Kind::ExtLink,
@@ -29,6 +30,18 @@ const READ_KINDS: [Kind; 29] = [
     Kind::Skip,
     Kind::Category,
     Kind::Br,
+    Kind::Li,
+    Kind::Ul,
+    Kind::Ol,
+    Kind::Dl,
+    Kind::Dt,
+    Kind::Dd,
+    Kind::Td,
+    Kind::Th,
+    Kind::Tr,
+    Kind::Tbody,
+    Kind::Caption,
+    Kind::Table,
     Kind::Tag(TagName::Sup),
     Kind::Tag(TagName::Sub),
     Kind::Tag(TagName::Small),

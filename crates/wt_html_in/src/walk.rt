@@ -1,9 +1,10 @@
-ghost use Rattle.std.specs.Prelude.{◌≡◌, ◌+◌, ◌<◌, ◌^◌, ◌++◌, true, OnOk, IfErr};
+ghost use Rattle.std.specs.Prelude.{◌≡◌, ◌+◌, ◌<◌, ◌^◌, ◌++◌, ◌||◌, true, option_map, OnOk, IfErr};
+ghost use Rattle.wt_tree.specs.View.{view};
 ghost use Rattle.wt_html_elements.specs.Built.{view_content, pairs, views};
 ghost use Rattle.wt_fitting.specs.Rows.{row};
 ghost use Rattle.wt_fitting.specs.Fit.{fit_row, elements, elements_of_all};
 ghost use Rattle.wt_html_in.specs.Texts.{are_utf8_values, is_utf8_markup, are_utf8_markups};
-ghost use Rattle.wt_html_in.specs.Fits.{RowFits, listed, FitsNode, FitsNodes, Passed, unsourced_here};
+ghost use Rattle.wt_html_in.specs.Fits.{RowFits, listed, is_block_node, FitsNode, FitsNodes, Passed, unsourced_here};
 
 use crate::attributes::is_unsourced;
 use crate::head::{Head, head_in};
@@ -42,6 +43,7 @@ fn begin(
     alloc: Global,
     walk: &mut Walk,
     outer: Kind,
+    behind: bool,
     name: Vec<u8>,
     attributes: Vec<Attribute>,
     contents: &[Content],
@@ -49,7 +51,7 @@ fn begin(
     requires few { walk.old.next + 1 < 2 ^ 32 }
     requires values { are_utf8_values (pairs attributes.items) ≡ true }
     requires texts { are_utf8_markups (views contents.now) ≡ true }
-    ensures head { RowFits (λ inside. fit_row walk.old.next outer (row name.items (pairs attributes.items)) (pairs attributes.items) (views contents.now) inside) result }
+    ensures head { RowFits (λ inside. fit_row walk.old.next outer behind (row name.items (pairs attributes.items)) (pairs attributes.items) (views contents.now) inside) result }
     ensures passed { Passed walk.old walk.new 1 (unsourced_here walk.old.next (pairs attributes.items)) }
 {
     let number = enter(walk, attributes.as_slice());
@@ -57,6 +59,7 @@ fn begin(
         alloc,
         number,
         outer,
+        behind,
         name.as_slice(),
         attributes.as_slice(),
         contents,
@@ -77,18 +80,29 @@ fn push_if_any<'a>(nodes: &mut Vec<Node<'a>>, node: Option<Node<'a>>) -> Result<
     }
 }
 
-/// What a text or an element stands for in one of the kind `outer`.
+/// Whether the nodes up to this one have a block or a list among them.
+fn is_behind(behind: bool, node: &Option<Node<'_>>) -> bool
+    ensures { result ≡ (behind || is_block_node (option_map view node.now)) }
+{
+    match node {
+        None => behind,
+        Some(node) => behind || node.kind.is_block(),
+    }
+}
+
+/// What a text or an element stands for in one of the kind `outer`, behind a block or not.
 #[cycle(fitting)]
 fn node<'a>(
     alloc: Global,
     arena: &'a Bump<Global>,
     walk: &mut Walk,
     outer: Kind,
+    behind: bool,
     content: Content,
 ) -> Result<Option<Node<'a>>, FitFault>
     requires few { walk.old.next + elements (view_content content) < 2 ^ 32 }
     requires utf8 { is_utf8_markup (view_content content) ≡ true }
-    ensures { FitsNode walk.old outer (view_content content) walk.new result }
+    ensures { FitsNode walk.old outer behind (view_content content) walk.new result }
 {
     match content {
         Content::Text(bytes) => leaf_in(alloc, arena, outer, bytes.as_slice()),
@@ -97,7 +111,15 @@ fn node<'a>(
             attributes,
             contents,
         } => {
-            let head = begin(alloc, walk, outer, name, attributes, contents.as_slice())?;
+            let head = begin(
+                alloc,
+                walk,
+                outer,
+                behind,
+                name,
+                attributes,
+                contents.as_slice(),
+            )?;
             let children = nodes(alloc, arena, walk, head.kind, contents)?;
             let node = node_of(alloc, arena, head, children)?;
             Ok(Some(node))
@@ -120,8 +142,10 @@ pub fn nodes<'a>(
     ensures { FitsNodes walk.old outer (views contents.items) walk.new result }
 {
     let mut children = Vec::with_capacity(alloc, contents.len())?;
+    let mut behind = false;
     for content in contents {
-        let child = node(alloc, arena, walk, outer, content)?;
+        let child = node(alloc, arena, walk, outer, behind, content)?;
+        behind = is_behind(behind, &child);
         push_if_any(&mut children, child)?;
     }
     Ok(List::from_vec(children))

@@ -15,5 +15,6 @@ html_views (n ∷ ns) = ap (λ s. html (view n) ++ s) (html_views ns)
 pub html_level : (n : Node) → html (view n) ≡ written (writing (out-Node n).kind) (label_of (out-Node n)) (html_of_all (views (out-Node n).children))
 html_level n = rw (view_out n)
 
-pub html_children : (n : Node) → writing (out-Node n).kind ≡ RoundChildren → html (view n) ≡ start_tag (label_of (out-Node n)) ++ (html_of_all (views (out-Node n).children) ++ end_tag (label_of (out-Node n)))
+pub html_children : (n : Node) → writing (out-Node n).kind ≡ RoundChildren → html (view n) ≡ start_tag (label_of (out-Node n))
+    ++ (html_of_all (views (out-Node n).children) ++ end_tag (label_of (out-Node n)))
 html_children n e = html_level n ∙ ap (λ w. written w (label_of (out-Node n)) (html_of_all (views (out-Node n).children))) e

@@ -18,10 +18,13 @@ spends_more left rest a b None h k = omega (arith, h, k, length-append a b)
 spends_more left rest a b (Some m) h k = omega (arith, h, k, length-append a b)
 
 -- one turn of a loop over the parts of a text
-pub spends_turn : {A : Type 0} (f : A → List ℕ) (xs : List A) (i : ℕ) (x : A) (left rest : ℕ) (r : Option ℕ) → i < length xs → x ≡ get_or xs i x → Spends left (flat_map f (take i xs)) (Some rest) → Spends rest (f x) r → Spends left (flat_map f (take (i + 1) xs)) r
+pub spends_turn : {A : Type 0} (f : A → List ℕ) (xs : List A) (i : ℕ) (x : A) (left rest : ℕ) (r : Option ℕ) → i < length xs
+    → x ≡ get_or xs i x → Spends left (flat_map f (take i xs)) (Some rest) → Spends rest (f x) r
+    → Spends left (flat_map f (take (i + 1) xs)) r
 spends_turn f xs i x left rest r lt is h k =
     let e : flat_map f (take (i + 1) xs) ≡ flat_map f (take i xs) ++ f x =
-    ap (flat_map f) (take_more xs i x lt ∙ ap (λ y. take i xs ++ y ∷ []) (sym is)) ∙ flat_map-append f (take i xs) (x ∷ []) ∙ ap (λ s. flat_map f (take i xs) ++ s) (append-nil (f x)) in
+    ap (flat_map f) (take_more xs i x lt ∙ ap (λ y. take i xs ++ y ∷ []) (sym is)) ∙ flat_map-append f (take i xs) (x ∷ [])
+    ∙ ap (λ s. flat_map f (take i xs) ++ s) (append-nil (f x)) in
     rw e (spends_more left rest (flat_map f (take i xs)) (f x) r h k)
 
 -- the rest of a list begins with the member at its place
@@ -29,11 +32,20 @@ pub next_of : {A : Type 0} (xs : List A) (i : ℕ) (x : A) → i < length xs →
 next_of xs i x lt is = drop_more xs i x lt ∙ ap (λ y. y ∷ drop (i + 1) xs) (sym is)
 
 -- a part that is too long ends the loop
-pub spends_stop : {A : Type 0} (f : A → List ℕ) (xs : List A) (i : ℕ) (x : A) (left rest : ℕ) → drop i xs ≡ x ∷ drop (i + 1) xs → Spends left (flat_map f (take i xs)) (Some rest) → Spends rest (f x) None → Spends left (flat_map f xs) None
+pub spends_stop : {A : Type 0} (f : A → List ℕ) (xs : List A) (i : ℕ) (x : A) (left rest : ℕ) → drop i xs ≡ x ∷ drop (i + 1) xs
+    → Spends left (flat_map f (take i xs)) (Some rest) → Spends rest (f x) None → Spends left (flat_map f xs) None
 spends_stop f xs i x left rest next h k =
     let e : xs ≡ take i xs ++ (x ∷ drop (i + 1) xs) = sym (take-append-drop i xs) ∙ ap (λ ys. take i xs ++ ys) next in
-    let s : flat_map f xs ≡ flat_map f (take i xs) ++ (f x ++ flat_map f (drop (i + 1) xs)) = ap (flat_map f) e ∙ flat_map-append f (take i xs) (x ∷ drop (i + 1) xs) in
-    omega (arith, h, k, ap length s, length-append (flat_map f (take i xs)) (f x ++ flat_map f (drop (i + 1) xs)), length-append (f x) (flat_map f (drop (i + 1) xs)))
+    let s : flat_map f xs ≡ flat_map f (take i xs) ++ (f x ++ flat_map f (drop (i + 1) xs)) = ap (flat_map f) e
+    ∙ flat_map-append f (take i xs) (x ∷ drop (i + 1) xs) in
+    omega (
+      arith,
+      h,
+      k,
+      ap length s,
+      length-append (flat_map f (take i xs)) (f x ++ flat_map f (drop (i + 1) xs)),
+      length-append (f x) (flat_map f (drop (i + 1) xs)),
+    )
 
 pub escaped_texts : (ts : List Text) → escaped (texts_of ts) ≡ flat_map (λ t. escaped (bytes_of t)) ts
 escaped_texts [] = refl

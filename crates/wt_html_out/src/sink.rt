@@ -1,35 +1,14 @@
-ghost use Rattle.std.specs.Prelude.{◌≡◌, ◌≤◌, length, take, OnOk, OnErr, IfErr};
+ghost use Rattle.std.specs.Prelude.{◌≡◌, OnOk, IfErr};
 ghost use Rattle.std.specs.Io.KnownBytes.{Appends};
 ghost use Rattle.wt_html_out.specs.Refusals.{WroteFront};
 ghost use Rattle.wt_markup.specs.Html.{html_text};
-ghost use Rattle.wt_outer.specs.Device.{Rose};
 ghost use Rattle.wt_tree.specs.View.{view};
 
 use crate::nodes::html_bytes;
 use crate::refusal::WriteRefusal;
 use std::alloc::Global;
-use wt_outer::Sink;
-use wt_span::rest_of;
+use wt_outer::{Sink, write_all};
 use wt_tree::Annotated;
-
-/// Writes all of the bytes. An `Err` has the number of those that were written.
-fn write_bytes<W: Sink>(out: &mut W, bytes: &[u8]) -> Result<(), usize>
-    ensures all { OnOk result (Appends (W.taken out.old) (W.taken out.new) bytes.now) }
-    ensures front { IfErr result (λ n. Appends (W.taken out.old) (W.taken out.new) (take n bytes.now)) }
-    ensures within { IfErr result (λ n. n ≤ length bytes.now) }
-    ensures kept { OnOk result (W.fault_count out.new ≡ W.fault_count out.old) }
-    ensures cause { OnErr result (Rose (W.fault_count out.old) (W.fault_count out.new)) }
-{
-    let mut done = 0;
-    while done < bytes.len() {
-        match out.write(rest_of(bytes, done)) {
-            Ok(0) => return Err(done),
-            Ok(count) => done += count,
-            Err(_) => return Err(done),
-        }
-    }
-    Ok(())
-}
 
 /// Writes the HTML of a page to a sink. After a fault of the sink it has taken the first bytes of
 /// the HTML, as many as the refusal says; after want of memory it has taken nothing.
@@ -45,7 +24,7 @@ pub fn write_html<W: Sink>(
     let Ok(bytes) = html_bytes(alloc, t) else {
         return Err(WriteRefusal::NoMemory);
     };
-    match write_bytes(out, bytes.as_slice()) {
+    match write_all(out, bytes.as_slice()) {
         Ok(()) => Ok(()),
         Err(count) => Err(WriteRefusal::WriteFault(count)),
     }

@@ -1,20 +1,23 @@
 -- What an element has beside its source.
-use Rattle.std.proofs.Common.{◌≡◌, ℕ, zero, suc, ◌+◌, ◌<◌, Bool, true, false, Option, Some, None, List, [], ◌∷◌, take, drop, map, get_or, refl, sym, ap, ◌∙◌, subst, arith}
-use Rattle.std.specs.Prelude.{codes, if◌then◌else◌}
+use Rattle.std.proofs.Common.{◌≡◌, ℕ, zero, suc, ◌+◌, ◌<◌, Bool, true, false, Option, Some, None, List, [], ◌∷◌, ◌++◌, take, drop, map, get_or, refl, sym, ap, ◌∙◌, subst, arith}
+use Rattle.std.specs.Prelude.{◌≢◌, codes, if◌then◌else◌}
 use Rattle.std.specs.List.{flat_map, prefix_len}
 use Rattle.std.specs.Char.{to_ascii_lowercase, is_ascii_alphabetic, is_ascii_alphanumeric}
 use Rattle.std.specs.Str.{IsAscii}
 use Rattle.std.proofs.Math.Numerals.{one-add}
 use Rattle.std.proofs.lemmas.Str.Ascii.{lowercase_ascii, lowercase_is}
 use Rattle.std.proofs.lemmas.Bool.Decides.{nat_tests}
-use Rattle.wt_tree.specs.declared.node.DataMw.TheVariants as mw
 use Rattle.wt_span.specs.declared.form.Form.{Form}
 use Rattle.wt_span.specs.declared.form.Form.TheVariants as form
 use Rattle.wt_span.specs.Bytes.{lower, name_len}
 use Rattle.wt_span.specs.Tags.{Tag, opening_tag, tag_after, is_noinclude}
 use Rattle.wt_span.specs.Items.{char, items_by}
 use Rattle.wt_inline.specs.RawTag.{name_of, is_alone, inside_of}
-use Rattle.wt_inline.specs.Carried.{shown_item, include_name, noinclude_typeof, onlyinclude_typeof, extension_data}
+use Rattle.wt_inline.specs.Carried.{shown_item, include_name, noinclude_typeof, onlyinclude_typeof, typeof, extension_typeof, extension_of, extension_data, data_whole}
+use Rattle.wt_tree.specs.declared.kind.AttrName.{AttrName}
+use Rattle.wt_tree.specs.declared.kind.Kind.TheVariants as kind
+use Rattle.wt_tree.specs.declared.node.DataMw.{DataMw}
+use Rattle.wt_inline.specs.Parts.{form_head}
 
 -- ---- names of tags are ASCII
 
@@ -89,14 +92,29 @@ shown_bytes o (b ∷ bs) = ap (λ cs. b ∷ cs) (shown_bytes o bs)
 pub shown_chars : (f : Form) (o : Option ℕ) (bs : List ℕ) → f ≡ form.Chars → flat_map shown_item (items_by f o bs) ≡ bs
 shown_chars f o bs e = ap (λ g. flat_map shown_item (items_by g o bs)) e ∙ shown_bytes o bs
 
-pub data_alone : (bs bytes name : List ℕ) → bytes ≡ bs → name ≡ name_of (opening_tag bytes) → is_alone (opening_tag bytes) ≡ true → mw.Extension name None ≡ extension_data bs
+pub extension_is : (bs name inside : List ℕ) (alone : Bool) → name ≡ name_of (opening_tag bs) → alone ≡ is_alone (opening_tag bs)
+    → inside ≡ inside_of bs → extension_of name alone inside ≡ extension_data bs
 unfolding extension_data
-data_alone bs bytes name i n e =
-    let f : is_alone (opening_tag bs) ≡ true = ap (λ t. is_alone (opening_tag t)) (sym i) ∙ e in
-    rw f (ap (λ x. mw.Extension x None) (n ∙ ap (λ t. name_of (opening_tag t)) i))
+extension_is bs name inside alone n a i =
+    ap (λ x. extension_of x alone inside) n ∙ ap (λ x. extension_of (name_of (opening_tag bs)) x inside) a
+    ∙ ap (extension_of (name_of (opening_tag bs)) (is_alone (opening_tag bs))) i
 
-pub data_inside : (bs bytes name body : List ℕ) → bytes ≡ bs → name ≡ name_of (opening_tag bytes) → is_alone (opening_tag bytes) ≡ false → body ≡ inside_of bs → mw.Extension name (Some body) ≡ extension_data bs
-unfolding extension_data
-data_inside bs bytes name body i n e b =
-    let f : is_alone (opening_tag bs) ≡ false = ap (λ t. is_alone (opening_tag t)) (sym i) ∙ e in
-    rw f (ap (λ x. mw.Extension x (Some body)) (n ∙ ap (λ t. name_of (opening_tag t)) i) ∙ ap (λ x. mw.Extension (name_of (opening_tag bs)) (Some x)) b)
+pub extension_head_is : (bs name shown : List ℕ) (attrs : List (AttrName × List ℕ)) (d : DataMw) → shown ≡ []
+    → name ≡ name_of (opening_tag bs) → attrs ≡ typeof (codes "mw:Extension/" ++ name) → d ≡ extension_data bs
+    → record { kind = kind.Island; shown = shown; attrs = attrs; mw = Some d } ≡ form_head form.Extension bs
+unfolding extension_typeof
+extension_head_is bs name shown attrs d s n a e =
+    ap (λ x. record { kind = kind.Island; shown = x; attrs = attrs; mw = Some d }) s
+    ∙ ap (λ x. record { kind = kind.Island; shown = []; attrs = x; mw = Some d }) (a ∙ ap (λ x. typeof (codes "mw:Extension/" ++ x)) n)
+    ∙ ap (λ x. record { kind = kind.Island; shown = []; attrs = typeof (codes "mw:Extension/" ++ name_of (opening_tag bs)); mw = Some x }) e
+
+pub no_data : (f : Form) (bs : List ℕ) → f ≢ form.Extension → data_whole f bs ≡ None
+no_data form.Chars bs h = refl
+no_data (form.Entity c) bs h = refl
+no_data form.Nowiki bs h = refl
+no_data form.Extension bs h = absurd (h refl)
+no_data form.Function bs h = refl
+no_data form.Comment bs h = refl
+no_data form.Include bs h = refl
+no_data form.Hidden bs h = refl
+no_data form.EmptyCall bs h = refl

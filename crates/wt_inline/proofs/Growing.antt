@@ -96,11 +96,14 @@ joins k o (char p b) (char q c) e f = rw (same_loose_refl k, ← e, ← f) (same
 joins k o (char p b) (whole g q bs) e f = absurd f
 joins k o (whole g p bs) y e f = absurd e
 
-stopped_rest : (k : Loose) (o : Option ℕ) (x : Item) (xs : List Item) (ps : List Part) → IsStopped (Some (record { loose = k; call = o; items = x ∷ xs })) ps → IsStopped (Some (record { loose = k; call = o; items = xs })) ps
+stopped_rest : (k : Loose) (o : Option ℕ) (x : Item) (xs : List Item) (ps : List Part)
+    → IsStopped (Some (record { loose = k; call = o; items = x ∷ xs })) ps
+    → IsStopped (Some (record { loose = k; call = o; items = xs })) ps
 stopped_rest k o x xs [] h = tt
 stopped_rest k o x xs (p ∷ ps) h = h.1
 
-is_run : (k : Loose) (o : Option ℕ) (xs : List Item) (ps : List Part) → 0 < length xs → AllByRecursion (IsOf o) xs → IsStopped (Some (record { loose = k; call = o; items = xs })) ps → IsRun one_leaf (parts k xs) ps
+is_run : (k : Loose) (o : Option ℕ) (xs : List Item) (ps : List Part) → 0 < length xs → AllByRecursion (IsOf o) xs
+    → IsStopped (Some (record { loose = k; call = o; items = xs })) ps → IsRun one_leaf (parts k xs) ps
 is_run k o [] ps s a h = absurd (omega arith)
 is_run k o (x ∷ []) [] s a h = tt
 is_run k o (x ∷ []) (p ∷ ps) s a h = h.0
@@ -116,7 +119,8 @@ child_of_run k o [] s a = absurd (omega arith)
 child_of_run k o (char p b ∷ xs) s a = ap (λ ys. loose_leaf k (char p b ∷ ys)) (held_run k o xs a.1)
 child_of_run k o (whole f p bs ∷ xs) s a = absurd a.0
 
-close_run : (r : OpenRun) (ps : List Part) → IsOneRun r → IsStopped (Some r) ps → children (parts r.loose r.items ++ ps) ≡ loose_leaf r.loose r.items ∷ children ps
+close_run : (r : OpenRun) (ps : List Part) → IsOneRun r → IsStopped (Some r) ps
+    → children (parts r.loose r.items ++ ps) ≡ loose_leaf r.loose r.items ∷ children ps
 unfolding children
 close_run r ps one h =
     ap (map child) (runs_cut one_leaf (parts r.loose r.items) ps (is_run r.loose r.call r.items ps one.some one.one h))
@@ -127,7 +131,8 @@ close_run r ps one h =
 pub ends_none : (ts : List ItemTree) → Ends (record { trees = ts; run = None }) ts
 ends_none ts ps h = refl
 
-pub ends_some : (ts us : List ItemTree) (t : ItemTree) (r : OpenRun) → IsOneRun r → t ≡ loose_leaf r.loose r.items → us ≡ ts ++ t ∷ [] → Ends (record { trees = ts; run = Some r }) us
+pub ends_some : (ts us : List ItemTree) (t : ItemTree) (r : OpenRun) → IsOneRun r → t ≡ loose_leaf r.loose r.items
+    → us ≡ ts ++ t ∷ [] → Ends (record { trees = ts; run = Some r }) us
 ends_some ts us t r one e f ps h =
     ap (λ vs. vs ++ children ps) f
     ∙ append_assoc ts (t ∷ []) (children ps)
@@ -139,7 +144,8 @@ pub grows_begun : (ts : List ItemTree) (k : Loose) (o p : Option ℕ) (xs ys : L
 grows_begun ts k o p xs ys eo ex j ek ps = ap (λ zs. ts ++ children (map (part j) zs ++ ps)) ex ∙ ap (λ l. ts ++ children (parts l xs ++ ps)) ek
 
 pub grows_more : (ts : List ItemTree) (k j : Loose) (o p : Option ℕ) (xs ys zs : List Item) → j ≡ k → zs ≡ xs ++ ys
-    → Grows (record { trees = ts; run = Some (record { loose = k; call = o; items = xs }) }) (parts k ys) (record { trees = ts; run = Some (record { loose = j; call = p; items = zs }) })
+    → Grows (record { trees = ts; run = Some (record { loose = k; call = o; items = xs }) }) (parts k ys)
+    (record { trees = ts; run = Some (record { loose = j; call = p; items = zs }) })
 grows_more ts k j o p xs ys zs ek ez ps =
     ap (λ ws. ts ++ children (parts j ws ++ ps)) ez
     ∙ ap (λ l. ts ++ children (parts l (xs ++ ys) ++ ps)) ek
@@ -150,12 +156,14 @@ and_false : (a b : Bool) → (a && b) ≡ false → (c : Bool) → c ≡ (a && b
 and_false a b e c f = f ∙ e
 
 -- characters that the run doesn't take stop it
-all_apart : (k j : Loose) (o p : Option ℕ) (b : ℕ) (xs : List Item) → (same_loose k j && same_origin o p) ≡ false → AllByRecursion (IsOf o) xs → AllByRecursion (λ x. one_leaf (part k x) (loose j p b) ≡ false) xs
+all_apart : (k j : Loose) (o p : Option ℕ) (b : ℕ) (xs : List Item) → (same_loose k j && same_origin o p) ≡ false
+    → AllByRecursion (IsOf o) xs → AllByRecursion (λ x. one_leaf (part k x) (loose j p b) ≡ false) xs
 all_apart k j o p b [] e a = tt
 all_apart k j o p b (char q c ∷ xs) e a = (rw (← a.0) e, all_apart k j o p b xs e a.1)
 all_apart k j o p b (whole f q bs ∷ xs) e a = absurd a.0
 
-stopped_by : (k j : Loose) (o p : Option ℕ) (xs ys : List Item) (ps : List Part) → (same_loose k j && same_origin o p) ≡ false → AllByRecursion (IsOf o) xs → AllByRecursion (IsOf p) ys → 0 < length ys
+stopped_by : (k j : Loose) (o p : Option ℕ) (xs ys : List Item) (ps : List Part) → (same_loose k j && same_origin o p) ≡ false
+    → AllByRecursion (IsOf o) xs → AllByRecursion (IsOf p) ys → 0 < length ys
     → IsStopped (Some (record { loose = k; call = o; items = xs })) (parts j ys ++ ps)
 stopped_by k j o p xs [] ps e a b s = absurd (omega arith)
 stopped_by k j o p xs (char q c ∷ ys) ps e a b s = all_apart k j o q c xs (rw (← b.0) e) a
@@ -207,5 +215,7 @@ grows_both g h i ps qs a b rs = b rs ∙ a (qs ++ rs) ∙ ap (made g) (sym (appe
 pub chars_are : (f : Form) (o p : Option ℕ) (bs : List ℕ) → is_chars f ≡ true → o ≡ p → are_of o (items_by f p bs) ≡ true
 chars_are f o p bs e h = rw h (are_of_all p (items_by f p bs) (of_chars f p bs e))
 
-pub more_are : (o p : Option ℕ) (f : Form) (bs : List ℕ) (xs : List Item) → are_of o xs ≡ true → is_chars f ≡ true → same_origin o p ≡ true → are_of o (xs ++ items_by f p bs) ≡ true
-more_are o p f bs xs a e s = are_of_all o (xs ++ items_by f p bs) (of_append o xs (items_by f p bs) (all_of o xs a) (all_of o (items_by f p bs) (chars_are f o p bs e (same_origin_is o p s))))
+pub more_are : (o p : Option ℕ) (f : Form) (bs : List ℕ) (xs : List Item) → are_of o xs ≡ true → is_chars f ≡ true
+    → same_origin o p ≡ true → are_of o (xs ++ items_by f p bs) ≡ true
+more_are o p f bs xs a e s = are_of_all o (xs ++ items_by f p bs)
+    (of_append o xs (items_by f p bs) (all_of o xs a) (all_of o (items_by f p bs) (chars_are f o p bs e (same_origin_is o p s))))

@@ -49,7 +49,8 @@ left_of t (node u) = refl
 
 pub children_node : (ps qs : List Part) (t : ItemTree) → children (ps ++ node t ∷ qs) ≡ children ps ++ t ∷ children qs
 unfolding children
-children_node ps qs t = ap (map child) (runs_alone one_leaf (node t) ps qs (left_of t) (λ p. refl)) ∙ map-append child (runs one_leaf ps) ((node t ∷ []) ∷ runs one_leaf qs)
+children_node ps qs t = ap (map child) (runs_alone one_leaf (node t) ps qs (left_of t) (λ p. refl))
+    ∙ map-append child (runs one_leaf ps) ((node t ∷ []) ∷ runs one_leaf qs)
 
 -- ---- parts
 
@@ -105,7 +106,8 @@ sources_chars o (b ∷ bs) = ap (λ cs. b ∷ cs) (sources_chars o bs)
 take_rest : (n : ℕ) (bs : List ℕ) → take n bs ++ drop n bs ≡ bs
 take_rest n bs = take-append-drop n bs
 
-sources_read : (o : Option ℕ) (e : Option (ℕ × ℕ)) (b : ℕ) (bs : List ℕ) → ((n : ℕ) → sources (inside_items o n bs) ≡ drop n bs) → sources (read_with o e b bs (λ n. inside_items o n bs)) ≡ b ∷ bs
+sources_read : (o : Option ℕ) (e : Option (ℕ × ℕ)) (b : ℕ) (bs : List ℕ) → ((n : ℕ) → sources (inside_items o n bs) ≡ drop n bs)
+    → sources (read_with o e b bs (λ n. inside_items o n bs)) ≡ b ∷ bs
 sources_read o None b bs h = ap (λ cs. b ∷ cs) (h 0)
 sources_read o (Some e) b bs h = ap (λ cs. b ∷ cs) (ap (λ cs. take (e.1 - 1) bs ++ cs) (h (e.1 - 1)) ∙ take_rest (e.1 - 1) bs)
 
@@ -143,4 +145,5 @@ sources_one (whole f o bs) = sources_whole f o bs
 
 pub sources_opened : (xs : List Item) → sources (opened_all xs) ≡ sources xs
 sources_opened [] = refl
-sources_opened (x ∷ xs) = sources_append (opened x) (opened_all xs) ∙ ap (λ cs. cs ++ sources (opened_all xs)) (sources_one x) ∙ ap (λ cs. source x ++ cs) (sources_opened xs)
+sources_opened (x ∷ xs) = sources_append (opened x) (opened_all xs) ∙ ap (λ cs. cs ++ sources (opened_all xs)) (sources_one x)
+    ∙ ap (λ cs. source x ++ cs) (sources_opened xs)

@@ -42,7 +42,8 @@ inside_skip o zero (b ∷ bs) = refl
 inside_skip o (suc n) [] = refl
 inside_skip o (suc n) (b ∷ bs) = inside_skip o n bs
 
-pub inside_entity : (o : Option ℕ) (c n : ℕ) (bs : List ℕ) → entity_at bs ≡ Some (c, n) → inside_items o 0 bs ≡ whole (form.Entity c) o (take n bs) ∷ inside_items o 0 (drop n bs)
+pub inside_entity : (o : Option ℕ) (c n : ℕ) (bs : List ℕ) → entity_at bs ≡ Some (c, n)
+    → inside_items o 0 bs ≡ whole (form.Entity c) o (take n bs) ∷ inside_items o 0 (drop n bs)
 inside_entity o c zero bs e = absurd (omega (arith, entity_some bs c zero e))
 inside_entity o c (suc n) [] e = absurd (omega (arith, entity_within [] c (suc n) e))
 inside_entity o c (suc n) (b ∷ bs) e =
@@ -51,7 +52,8 @@ inside_entity o c (suc n) (b ∷ bs) e =
     ∙ ap (λ m. whole (form.Entity c) o (b ∷ take m bs) ∷ inside_items o m bs) back
     ∙ ap (λ xs. whole (form.Entity c) o (b ∷ take n bs) ∷ xs) (inside_skip o n bs)
 
-pub inside_chars : (o : Option ℕ) (n : ℕ) (bs : List ℕ) → n ≤ length bs → ((k : ℕ) → k < n → entity_at (drop k bs) ≡ None) → map (char o) (take n bs) ++ inside_items o 0 (drop n bs) ≡ inside_items o 0 bs
+pub inside_chars : (o : Option ℕ) (n : ℕ) (bs : List ℕ) → n ≤ length bs → ((k : ℕ) → k < n → entity_at (drop k bs) ≡ None)
+    → map (char o) (take n bs) ++ inside_items o 0 (drop n bs) ≡ inside_items o 0 bs
 inside_chars o zero bs le h = refl
 inside_chars o (suc n) [] le h = absurd (omega arith)
 inside_chars o (suc n) (b ∷ bs) le h =
@@ -62,9 +64,11 @@ inside_chars o (suc n) (b ∷ bs) le h =
 
 pub no_entity_sign : (bs : List ℕ) → begins (38 ∷ []) bs ≡ false → entity_at bs ≡ None
 no_entity_sign [] e = no_entity [] (λ h. absurd (omega arith))
-no_entity_sign (b ∷ bs) e = no_entity (b ∷ bs) (λ h. let t : begins (38 ∷ []) (38 ∷ bs) ≡ false = subst (λ (k : ℕ). begins (38 ∷ []) (k ∷ bs) ≡ false) h e in sign_found bs t)
+no_entity_sign (b ∷ bs) e = no_entity (b ∷ bs)
+    (λ h. let t : begins (38 ∷ []) (38 ∷ bs) ≡ false = subst (λ (k : ℕ). begins (38 ∷ []) (k ∷ bs) ≡ false) h e in sign_found bs t)
 
-pub fits_by : (bs bytes : List ℕ) (o : Option (ℕ × ℕ)) → bytes ≡ bs → o ≡ entity_at bytes → IsUtf8 bs → IfSome o (λ e. (0 < e.1) × (e.1 ≤ length bs) × IsCharBoundary bs e.1)
+pub fits_by : (bs bytes : List ℕ) (o : Option (ℕ × ℕ)) → bytes ≡ bs → o ≡ entity_at bytes → IsUtf8 bs
+    → IfSome o (λ e. (0 < e.1) × (e.1 ≤ length bs) × IsCharBoundary bs e.1)
 fits_by bs bytes None i e u = tt
 fits_by bs bytes (Some x) i e u =
     let is : entity_at bs ≡ Some x = sym (e ∙ ap entity_at i) in
@@ -74,24 +78,28 @@ first_by : (bs : List ℕ) (o : Option (ℕ × ℕ)) → OptEntity bs o → IsSo
 first_by bs None f h = cc
 first_by bs (Some e) f h = f.1
 
-pub chars_border : (text bytes : List ℕ) (n : ℕ) → bytes ≡ text → n ≤ length bytes → (n < length bytes → IsSome (entity_at (drop n bytes))) → IsCharBoundary text n
+pub chars_border : (text bytes : List ℕ) (n : ℕ) → bytes ≡ text → n ≤ length bytes
+    → (n < length bytes → IsSome (entity_at (drop n bytes))) → IsCharBoundary text n
 chars_border text bytes n i le s =
     let z : n + 0 ≡ n = omega arith in
     subst (λ (bs : List ℕ). IsCharBoundary bs n) i (
       le,
       λ lt high.
-          let is : get_or bytes n 0 ≡ 38 = sym (ap (λ k. get_or bytes k 0) z) ∙ sym (get_or-drop n bytes 0 0) ∙ first_by (drop n bytes) (entity_at (drop n bytes)) (entity_fits (drop n bytes)) (s lt) in
+          let is : get_or bytes n 0 ≡ 38 = sym (ap (λ k. get_or bytes k 0) z) ∙ sym (get_or-drop n bytes 0 0)
+          ∙ first_by (drop n bytes) (entity_at (drop n bytes)) (entity_fits (drop n bytes)) (s lt) in
           absurd (omega arith),
     )
 
-pub split_by : (o : Option ℕ) (bs text front back : List ℕ) (xs : List Item) (m n : ℕ) → text ≡ bs → m ≡ n → n ≤ length text → ((k : ℕ) → k < n → entity_at (drop k text) ≡ None)
+pub split_by : (o : Option ℕ) (bs text front back : List ℕ) (xs : List Item) (m n : ℕ) → text ≡ bs → m ≡ n → n ≤ length text
+    → ((k : ℕ) → k < n → entity_at (drop k text) ≡ None)
     → xs ≡ map (char o) front → front ≡ take m bs → back ≡ drop m bs → xs ++ inside_items o 0 back ≡ inside_items o 0 bs
 split_by o bs text front back xs m n i e le h ex ef eb =
     ap (λ ys. ys ++ inside_items o 0 back) (ex ∙ ap (map (char o)) (ef ∙ ap (λ k. take k bs) e))
     ∙ ap (λ ys. map (char o) (take n bs) ++ inside_items o 0 ys) (eb ∙ ap (λ k. drop k bs) e)
     ∙ inside_chars o n bs (subst (λ (t : List ℕ). n ≤ length t) i le) (λ k l. ap (λ t. entity_at (drop k t)) (sym i) ∙ h k l)
 
-pub entity_by : (o : Option ℕ) (c n : ℕ) (bs text rest : List ℕ) (xs : List Item) → text ≡ bs → Some (c, n) ≡ entity_at text → xs ≡ whole (form.Entity c) o (take n bs) ∷ [] → rest ≡ drop n bs
+pub entity_by : (o : Option ℕ) (c n : ℕ) (bs text rest : List ℕ) (xs : List Item) → text ≡ bs → Some (c, n) ≡ entity_at text
+    → xs ≡ whole (form.Entity c) o (take n bs) ∷ [] → rest ≡ drop n bs
     → xs ++ inside_items o 0 rest ≡ inside_items o 0 bs
 entity_by o c n bs text rest xs i e ex er =
     ap (λ ys. ys ++ inside_items o 0 rest) ex

@@ -26,12 +26,14 @@ tag_border bs t u e =
 
 -- ---- before a closing tag
 
-pub before_here : (name bs : List ℕ) (at : ℕ) → at < length bs → is_some (len_if_named name (closing_tag (drop at bs))) ≡ true → before_closing name (drop at bs) ≡ 0
+pub before_here : (name bs : List ℕ) (at : ℕ) → at < length bs → is_some (len_if_named name (closing_tag (drop at bs))) ≡ true
+    → before_closing name (drop at bs) ≡ 0
 before_here name [] at h e = absurd (omega arith)
 before_here name (b ∷ bs) zero h e = rw e refl
 before_here name (b ∷ bs) (suc at) h e = before_here name bs at (omega arith) e
 
-pub before_more : (name bs : List ℕ) (at : ℕ) → at < length bs → is_some (len_if_named name (closing_tag (drop at bs))) ≡ false → before_closing name (drop at bs) ≡ 1 + before_closing name (drop (suc at) bs)
+pub before_more : (name bs : List ℕ) (at : ℕ) → at < length bs → is_some (len_if_named name (closing_tag (drop at bs))) ≡ false
+    → before_closing name (drop at bs) ≡ 1 + before_closing name (drop (suc at) bs)
 before_more name [] at h e = absurd (omega arith)
 before_more name (b ∷ bs) zero h e = rw e refl
 before_more name (b ∷ bs) (suc at) h e = before_more name bs at (omega arith) e
@@ -40,21 +42,27 @@ before_more name (b ∷ bs) (suc at) h e = before_more name bs at (omega arith) 
 pub sign_border : (bs : List ℕ) (n : ℕ) → n ≤ length bs → (n < length bs → get_or bs n 0 ≡ 60) → IsCharBoundary bs n
 sign_border bs n le s = (le, λ lt high. let is = s lt in absurd (omega arith))
 
-pub here_value : (name bs rest : List ℕ) (at : ℕ) (v : Bool) (o : Option ℕ) → at < length bs → rest ≡ drop at bs → o ≡ len_if_named name (closing_tag rest) → v ≡ is_some o → v ≡ true
+pub here_value : (name bs rest : List ℕ) (at : ℕ) (v : Bool) (o : Option ℕ) → at < length bs → rest ≡ drop at bs
+    → o ≡ len_if_named name (closing_tag rest) → v ≡ is_some o → v ≡ true
     → at + before_closing name (drop at bs) ≡ before_closing name bs → at ≡ before_closing name bs
 here_value name bs rest at v o h er eo ev e i =
-    let z : before_closing name (drop at bs) ≡ 0 = before_here name bs at h (ap (λ r. is_some (len_if_named name (closing_tag r))) (sym er) ∙ ap is_some (sym eo) ∙ sym ev ∙ e) in
+    let z : before_closing name (drop at bs) ≡ 0 =
+    before_here name bs at h (ap (λ r. is_some (len_if_named name (closing_tag r))) (sym er) ∙ ap is_some (sym eo) ∙ sym ev ∙ e) in
     omega (arith, i, z)
 
-pub here_sign : (name bs rest : List ℕ) (at : ℕ) (v : Bool) (o : Option ℕ) → rest ≡ drop at bs → o ≡ len_if_named name (closing_tag rest) → v ≡ is_some o → v ≡ true → get_or bs at 0 ≡ 60
+pub here_sign : (name bs rest : List ℕ) (at : ℕ) (v : Bool) (o : Option ℕ) → rest ≡ drop at bs
+    → o ≡ len_if_named name (closing_tag rest) → v ≡ is_some o → v ≡ true → get_or bs at 0 ≡ 60
 here_sign name bs rest at v o er eo ev e =
     let z : at + 0 ≡ at = omega arith in
-    sym (ap (λ k. get_or bs k 0) z) ∙ sym (get_or-drop at bs 0 0) ∙ closing_sign name (drop at bs) (ap (λ r. is_some (len_if_named name (closing_tag r))) (sym er) ∙ ap is_some (sym eo) ∙ sym ev ∙ e)
+    sym (ap (λ k. get_or bs k 0) z) ∙ sym (get_or-drop at bs 0 0)
+    ∙ closing_sign name (drop at bs) (ap (λ r. is_some (len_if_named name (closing_tag r))) (sym er) ∙ ap is_some (sym eo) ∙ sym ev ∙ e)
 
-pub more_value : (name bs rest : List ℕ) (at : ℕ) (v : Bool) (o : Option ℕ) → at < length bs → rest ≡ drop at bs → o ≡ len_if_named name (closing_tag rest) → v ≡ is_some o → v ≡ false
+pub more_value : (name bs rest : List ℕ) (at : ℕ) (v : Bool) (o : Option ℕ) → at < length bs → rest ≡ drop at bs
+    → o ≡ len_if_named name (closing_tag rest) → v ≡ is_some o → v ≡ false
     → at + before_closing name (drop at bs) ≡ before_closing name bs → at + 1 + before_closing name (drop (at + 1) bs) ≡ before_closing name bs
 more_value name bs rest at v o h er eo ev e i =
     let one : at + 1 ≡ suc at = omega arith in
-    let z : before_closing name (drop at bs) ≡ 1 + before_closing name (drop (suc at) bs) = before_more name bs at h (ap (λ r. is_some (len_if_named name (closing_tag r))) (sym er) ∙ ap is_some (sym eo) ∙ sym ev ∙ e) in
+    let z : before_closing name (drop at bs) ≡ 1 + before_closing name (drop (suc at) bs) =
+    before_more name bs at h (ap (λ r. is_some (len_if_named name (closing_tag r))) (sym er) ∙ ap is_some (sym eo) ∙ sym ev ∙ e) in
     let y : before_closing name (drop (at + 1) bs) ≡ before_closing name (drop (suc at) bs) = ap (λ k. before_closing name (drop k bs)) one in
     omega (arith, i, z, y)

@@ -50,10 +50,12 @@ pub inside_step : (g h : Grown) (xs ys zs : List Item) (qs : List Part) → Grow
     → ((ps : List Part) → made g (map inside_part zs ++ ps) ≡ children (qs ++ ps)) → (ps : List Part) → made h (map inside_part ys ++ ps) ≡ children (qs ++ ps)
 inside_step g h xs ys zs qs a e i ps =
     a (map inside_part ys ++ ps)
-    ∙ ap (made g) (sym (append_assoc (map inside_part xs) (map inside_part ys) ps) ∙ ap (λ rs. rs ++ ps) (sym (map-append inside_part xs ys) ∙ ap (map inside_part) e))
+    ∙ ap (made g) (sym (append_assoc (map inside_part xs) (map inside_part ys) ps)
+    ∙ ap (λ rs. rs ++ ps) (sym (map-append inside_part xs ys) ∙ ap (map inside_part) e))
     ∙ i ps
 
-pub inside_done : (g : Grown) (o : Option ℕ) (bs : List ℕ) (qs : List Part) (ts : List ItemTree) → bs ≡ [] → ((ps : List Part) → made g (map inside_part (inside_items o 0 bs) ++ ps) ≡ children (qs ++ ps)) → ts ≡ made g [] → ts ≡ children qs
+pub inside_done : (g : Grown) (o : Option ℕ) (bs : List ℕ) (qs : List Part) (ts : List ItemTree) → bs ≡ []
+    → ((ps : List Part) → made g (map inside_part (inside_items o 0 bs) ++ ps) ≡ children (qs ++ ps)) → ts ≡ made g [] → ts ≡ children qs
 inside_done g o bs qs ts z i e = e ∙ ap (λ cs. made g (map inside_part (inside_items o 0 cs) ++ [])) (sym z) ∙ i [] ∙ ap children (append-nil qs)
 
 -- a whole form is a node by itself
@@ -68,7 +70,8 @@ whole_parts k form.Include o bs e = refl
 whole_parts k form.Hidden o bs e = refl
 whole_parts k form.EmptyCall o bs e = refl
 
-pub whole_leaf : (f : Form) (o : Option ℕ) (bs : List ℕ) → is_chars f ≡ false → (f ≡ form.Nowiki → ⊥) → leaf (form_head f bs) (items_by f o bs) ≡ whole_tree f o bs
+pub whole_leaf : (f : Form) (o : Option ℕ) (bs : List ℕ) → is_chars f ≡ false → (f ≡ form.Nowiki → ⊥)
+    → leaf (form_head f bs) (items_by f o bs) ≡ whole_tree f o bs
 whole_leaf form.Chars o bs e n = cc
 whole_leaf (form.Entity c) o bs e n = refl
 whole_leaf form.Nowiki o bs e n = absurd (n refl)
@@ -80,11 +83,13 @@ whole_leaf form.Hidden o bs e n = refl
 whole_leaf form.EmptyCall o bs e n = refl
 
 -- one more piece of several
-pub pieces_step : (g h i : Grown) (k : Loose) (ps : List Piece) (at : ℕ) (p : Piece) → at < length ps → p ≡ get_or ps at p → Grows g (parts k (items (take at ps))) h → Grows h (parts k (items_of p)) i → Grows g (parts k (items (take (at + 1) ps))) i
+pub pieces_step : (g h i : Grown) (k : Loose) (ps : List Piece) (at : ℕ) (p : Piece) → at < length ps → p ≡ get_or ps at p
+    → Grows g (parts k (items (take at ps))) h → Grows h (parts k (items_of p)) i → Grows g (parts k (items (take (at + 1) ps))) i
 pieces_step g h i k ps at p l e a b qs =
     let more : take (at + 1) ps ≡ take at ps ++ p ∷ [] = take_more ps at p l ∙ ap (λ q. take at ps ++ q ∷ []) (sym e) in
     grows_both g h i (parts k (items (take at ps))) (parts k (items_of p)) a b qs
-    ∙ ap (λ rs. made g (rs ++ qs)) (sym (map-append (part k) (items (take at ps)) (items_of p)) ∙ ap (parts k) (sym (items_more (take at ps) (take (at + 1) ps) p more)))
+    ∙ ap (λ rs. made g (rs ++ qs)) (sym (map-append (part k) (items (take at ps)) (items_of p))
+    ∙ ap (parts k) (sym (items_more (take at ps) (take (at + 1) ps) p more)))
 
 pub no_bytes : (bs text : List ℕ) (v : Bool) → text ≡ bs → v ≡ (length text == 0) → v ≡ true → bs ≡ []
 no_bytes bs text v i e t =

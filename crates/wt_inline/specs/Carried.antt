@@ -1,6 +1,6 @@
 -- What an element has beside its source: the characters that it shows, attributes, and the data of an extension. A table by
 -- form and source.
-use Rattle.std.specs.Prelude.{ℕ, Option, Some, None, List, [], ◌∷◌, ◌++◌, codes, encode_utf8, if◌then◌else◌}
+use Rattle.std.specs.Prelude.{ℕ, Bool, Option, Some, None, List, [], ◌∷◌, ◌++◌, codes, encode_utf8, if◌then◌else◌}
 use Rattle.wt_tree.specs.declared.kind.AttrName.{AttrName}
 use Rattle.wt_tree.specs.declared.kind.AttrName.TheVariants as attr
 use Rattle.wt_tree.specs.declared.node.DataMw.{DataMw}
@@ -68,8 +68,11 @@ attrs_whole form.EmptyCall bs = []
 
 -- ---- the data of an extension: its name in lower case, and its inside, which a tag that closes itself has not
 
+abbrev pub extension_of : List ℕ → Bool → List ℕ → DataMw
+extension_of name alone inside = mw.Extension name (if alone then None else Some inside)
+
 unfoldable pub extension_data : List ℕ → DataMw
-extension_data bs = mw.Extension (name_of (opening_tag bs)) (if is_alone (opening_tag bs) then None else Some (inside_of bs))
+extension_data bs = extension_of (name_of (opening_tag bs)) (is_alone (opening_tag bs)) (inside_of bs)
 
 abbrev pub data_whole : Form → List ℕ → Option DataMw
 data_whole form.Chars bs = None

@@ -1,9 +1,10 @@
 //! The heads of nodes: characters that an element shows, attributes, and the data of an extension.
 
-ghost use Rattle.std.specs.Prelude.{◌≡◌, ◌++◌, ◌∷◌, [], OnOk, IfOk, encode_utf8};
+ghost use Rattle.std.specs.Prelude.{◌≡◌, ◌≢◌, ◌++◌, ◌∷◌, [], OnOk, IfOk, encode_utf8};
 ghost use Rattle.std.specs.List.{flat_map};
 ghost use Rattle.std.specs.Str.{IsAscii};
 ghost use Rattle.wt_span.specs.Bytes.{lower};
+ghost use Rattle.wt_span.specs.declared.form.Form.TheVariants as form;
 ghost use Rattle.wt_span.specs.Slice.{bytes_of};
 ghost use Rattle.wt_span.specs.Tags.{opening_tag, closing_tag};
 ghost use Rattle.wt_span.specs.Items.{items, items_of};
@@ -11,10 +12,10 @@ ghost use Rattle.wt_tree.specs.View.{attrs_of};
 ghost use Rattle.wt_inline.specs.RawTag.{name_of};
 ghost use Rattle.wt_inline.specs.Parts.{loose_head, form_kind, form_head};
 ghost use Rattle.wt_inline.specs.View.{head_of};
-ghost use Rattle.wt_inline.specs.Carried.{shown_whole, shown_item, include_name, include_typeof, extension_typeof, extension_data, typeof, attrs_whole, data_whole};
+ghost use Rattle.wt_inline.specs.Carried.{shown_whole, shown_item, include_name, include_typeof, extension_of, typeof, attrs_whole, data_whole};
 
 use crate::loose::Loose;
-use crate::raw::{RawTag, closes_itself, opening_name};
+use crate::raw::RawTag;
 use crate::tree::NodeHead;
 use std::alloc::Global;
 use wt_lex::{closing_tag, is_same_name, opening_tag};
@@ -91,19 +92,13 @@ fn typeof_attr(alloc: Global, front: &str, back: &str) -> Result<List<Attr>, NoM
 }
 
 /// The name of a tag, in lower case.
-fn lower_name(alloc: Global, bytes: &[u8]) -> Result<Str, NoMemory>
-    ensures { IfOk result (λ s. s ≡ name_of (opening_tag bytes.now)) }
+fn lower_name(alloc: Global, name: &[u8]) -> Result<Str, NoMemory>
+    requires { IsAscii name.now }
+    ensures { IfOk result (λ s. s ≡ lower name.now) }
 {
-    let name = name_text(bytes);
-    let lower = name.to_ascii_lowercase(alloc)?;
+    let text = ascii_text(name);
+    let lower = text.to_ascii_lowercase(alloc)?;
     Ok(Str::from_string(lower))
-}
-
-/// The name of the opening tag that begins a text, as it is written.
-fn name_text(bytes: &[u8]) -> &str
-    ensures { lower result.now ≡ name_of (opening_tag bytes.entry.now) }
-{
-    ascii_text(opening_name(bytes))
 }
 
 fn ascii_text(bytes: &[u8]) -> &str
@@ -147,20 +142,14 @@ fn include_attrs(alloc: Global, bytes: &[u8]) -> Result<List<Attr>, NoMemory>
     }
 }
 
-fn extension_attrs(alloc: Global, bytes: &[u8]) -> Result<List<Attr>, NoMemory>
-    ensures { IfOk result (λ l. attrs_of l ≡ typeof (extension_typeof (name_of (opening_tag bytes.now)))) }
-{
-    let name = lower_name(alloc, bytes)?;
-    typeof_attr(alloc, "mw:Extension/", name.as_str())
-}
-
-/// The attributes of a piece that is one item, beside those that the kind of its node tells.
+/// The attributes of a piece that is one item and no extension, beside those that the kind of its
+/// node tells.
 fn attrs(alloc: Global, piece: &Piece<'_>) -> Result<List<Attr>, NoMemory>
+    requires { piece.now.form ≢ form.Extension }
     ensures { IfOk result (λ l. attrs_of l ≡ attrs_whole piece.now.form (bytes_of piece.now.text)) }
 {
     let bytes = piece.text.as_str().as_bytes();
     match piece.form {
-        Form::Extension => extension_attrs(alloc, bytes),
         Form::Function => typeof_attr(alloc, "mw:Placeholder", ""),
         Form::Include => include_attrs(alloc, bytes),
         Form::Hidden => typeof_attr(alloc, "mw:Includes/IncludeOnly", ""),
@@ -168,16 +157,13 @@ fn attrs(alloc: Global, piece: &Piece<'_>) -> Result<List<Attr>, NoMemory>
     }
 }
 
-/// The data of an extension with this source.
-fn extension_data(alloc: Global, text: Text<'_>) -> Result<DataMw, NoMemory>
-    ensures { IfOk result (λ d. d ≡ extension_data (bytes_of text.entry)) }
+/// The data of an extension with this name.
+fn extension_data(alloc: Global, name: Str, raw: RawTag<'_>) -> Result<DataMw, NoMemory>
+    ensures { IfOk result (λ d. d ≡ extension_of name raw.entry.alone (bytes_of raw.entry.inside)) }
 {
-    let bytes = text.as_str().as_bytes();
-    let name = lower_name(alloc, bytes)?;
-    if closes_itself(bytes) {
+    if raw.alone {
         return Ok(DataMw::Extension { name, body: None });
     }
-    let raw = RawTag::of(text);
     let body = Str::copy_of(alloc, raw.inside.as_str())?;
     Ok(DataMw::Extension {
         name,
@@ -185,14 +171,21 @@ fn extension_data(alloc: Global, text: Text<'_>) -> Result<DataMw, NoMemory>
     })
 }
 
-/// The data of a piece that is an extension; any other has none.
-fn data_mw(alloc: Global, piece: &Piece<'_>) -> Result<Option<DataMw>, NoMemory>
-    ensures { IfOk result (λ d. d ≡ data_whole piece.now.form (bytes_of piece.now.text)) }
+/// The head of the island of an extension with this source, whose opening tag is read once.
+fn extension_head(alloc: Global, text: Text<'_>) -> Result<NodeHead, NoMemory>
+    ensures { IfOk result (λ h. head_of h ≡ form_head form.Extension (bytes_of text.entry)) }
 {
-    match piece.form {
-        Form::Extension => Ok(Some(extension_data(alloc, piece.text)?)),
-        _ => Ok(None),
-    }
+    let raw = RawTag::of(text);
+    let shown = form_shown(alloc, Form::Extension)?;
+    let name = lower_name(alloc, raw.name)?;
+    let attrs = typeof_attr(alloc, "mw:Extension/", name.as_str())?;
+    let data = extension_data(alloc, name, raw)?;
+    Ok(NodeHead {
+        kind: Kind::Island,
+        shown,
+        attrs,
+        mw: Some(data),
+    })
 }
 
 /// The characters that a form shows: an entity the character that it stands for.
@@ -224,14 +217,26 @@ fn form_kind(form: Form) -> Kind
     }
 }
 
-/// The head of the node of a piece that is one item.
-pub fn form_head(alloc: Global, piece: &Piece<'_>) -> Result<NodeHead, NoMemory>
+/// The head of the node of a piece that is one item and no extension.
+#[tactic(auto, using(crate::proofs::Carrying::no_data))]
+fn other_head(alloc: Global, piece: &Piece<'_>) -> Result<NodeHead, NoMemory>
+    requires { piece.now.form ≢ form.Extension }
     ensures { IfOk result (λ h. head_of h ≡ form_head piece.now.form (bytes_of piece.now.text)) }
 {
     Ok(NodeHead {
         kind: form_kind(piece.form),
         shown: form_shown(alloc, piece.form)?,
         attrs: attrs(alloc, piece)?,
-        mw: data_mw(alloc, piece)?,
+        mw: None,
     })
+}
+
+/// The head of the node of a piece that is one item.
+pub fn form_head(alloc: Global, piece: &Piece<'_>) -> Result<NodeHead, NoMemory>
+    ensures { IfOk result (λ h. head_of h ≡ form_head piece.now.form (bytes_of piece.now.text)) }
+{
+    match piece.form {
+        Form::Extension => extension_head(alloc, piece.text),
+        _ => other_head(alloc, piece),
+    }
 }

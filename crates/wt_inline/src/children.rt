@@ -5,6 +5,7 @@ ghost use Rattle.wt_inline.specs.Parts.{node, parts, same_origin};
 ghost use Rattle.wt_inline.specs.View.{item_tree, item_trees};
 
 use crate::loose::Loose;
+use crate::room::with_room;
 use crate::run::Run;
 use crate::tree::PieceTree;
 use std::alloc::Global;
@@ -16,6 +17,17 @@ use wt_span::{List, NoMemory, Piece};
 pub struct Children<'a> {
     trees: List<PieceTree<'a>>,
     run: Option<Run<'a>>,
+}
+
+/// These trees, where there are none yet with room for one: most nodes have one child.
+fn roomed<'a>(alloc: Global, trees: List<PieceTree<'a>>) -> Result<List<PieceTree<'a>>, NoMemory>
+    ensures { IfOk result (λ l. l ≡ trees.entry) }
+{
+    if trees.len() == 0 {
+        with_room(alloc, 1)
+    } else {
+        Ok(trees)
+    }
 }
 
 impl<'a> Children<'a> {
@@ -35,11 +47,12 @@ impl<'a> Children<'a> {
     fn closed(self, alloc: Global) -> Result<List<PieceTree<'a>>, NoMemory>
         ensures { IfOk result (λ l. Ends (grown self.entry) (item_trees l)) }
     {
-        let Children { mut trees, run } = self;
+        let Children { trees, run } = self;
         match run {
             None => Ok(trees),
             Some(run) => {
                 let leaf = run.leaf(alloc)?;
+                let mut trees = roomed(alloc, trees)?;
                 trees.push(leaf)?;
                 Ok(trees)
             }

@@ -12,6 +12,7 @@ use crate::children::Children;
 use crate::inside::split_inside;
 use crate::loose::Loose;
 use crate::raw::RawTag;
+use crate::room::with_room;
 use crate::tree::{NodeHead, PieceTree, leaf};
 use std::alloc::Global;
 use wt_lines::{chars_piece, is_chars};
@@ -35,7 +36,7 @@ pub fn form_leaf<'a>(alloc: Global, piece: Piece<'a>) -> Result<PieceTree<'a>, N
     ensures { IfOk result (λ t. item_tree t ≡ leaf (form_head piece.entry.form (bytes_of piece.entry.text)) (items_of piece.entry)) }
 {
     let head = form_head(alloc, &piece)?;
-    let mut own = List::new(alloc);
+    let mut own = with_room(alloc, 1)?;
     own.push(piece)?;
     Ok(leaf(alloc, head, own))
 }

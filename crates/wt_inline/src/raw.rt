@@ -24,35 +24,32 @@ fn before_closing(name: &[u8], bytes: &[u8]) -> usize
     bytes.len()
 }
 
-/// How many bytes the opening tag has that begins a text; 0 where none does.
-fn opening_len(text: &str) -> usize
-    ensures value { result ≡ opening_len text.now }
-    ensures within { result ≤ length text.now }
-    ensures border { IsCharBoundary text.now result }
+/// What a raw tag needs of the opening tag that begins a text; nothing where none does.
+#[derive(Clone, Copy)]
+struct FrontTag<'a> {
+    name: &'a [u8],
+    alone: bool,
+    len: usize,
+}
+
+fn front_tag(text: &str) -> FrontTag<'_>
+    ensures name { lower result.name.now ≡ name_of (opening_tag text.entry.now) }
+    ensures alone { result.alone ≡ is_alone (opening_tag text.entry.now) }
+    ensures len { result.len ≡ opening_len text.entry.now }
+    ensures within { result.len ≤ length text.entry.now }
+    ensures border { IsCharBoundary text.entry.now result.len }
 {
     match opening_tag(text.as_bytes()) {
-        Some(tag) => tag.len,
-        None => 0,
-    }
-}
-
-/// The name of the opening tag that begins a text, as it is written; empty where none does.
-pub fn opening_name(bytes: &[u8]) -> &[u8]
-    ensures { lower result.now ≡ name_of (opening_tag bytes.entry.now) }
-{
-    match opening_tag(bytes) {
-        Some(tag) => tag.name,
-        None => &[],
-    }
-}
-
-/// Whether the opening tag that begins a text closes itself.
-pub fn closes_itself(bytes: &[u8]) -> bool
-    ensures { result ≡ is_alone (opening_tag bytes.now) }
-{
-    match opening_tag(bytes) {
-        Some(tag) => tag.alone,
-        None => false,
+        Some(tag) => FrontTag {
+            name: tag.name,
+            alone: tag.alone,
+            len: tag.len,
+        },
+        None => FrontTag {
+            name: &[],
+            alone: false,
+            len: 0,
+        },
     }
 }
 
@@ -65,9 +62,12 @@ fn inside_len(name: &[u8], text: &str) -> usize
     before_closing(name, text.as_bytes())
 }
 
-/// A raw tag's source in three.
+/// A raw tag: the name of its opening tag as it is written, whether this closes itself, and its
+/// source in three.
 #[derive(Clone, Copy, Debug)]
 pub struct RawTag<'a> {
+    pub name: &'a [u8],
+    pub alone: bool,
     pub opening: Text<'a>,
     pub inside: Text<'a>,
     pub closing: Text<'a>,
@@ -76,16 +76,19 @@ pub struct RawTag<'a> {
 impl<'a> RawTag<'a> {
     /// The parts of a text that is a raw tag.
     pub fn of(text: Text<'a>) -> RawTag<'a>
+        ensures name { lower result.name.now ≡ name_of (opening_tag (bytes_of text.entry)) }
+        ensures alone { result.alone ≡ is_alone (opening_tag (bytes_of text.entry)) }
         ensures opening { bytes_of result.opening ≡ opening_of (bytes_of text.entry) }
         ensures inside { bytes_of result.inside ≡ inside_of (bytes_of text.entry) }
         ensures closing { bytes_of result.closing ≡ closing_of (bytes_of text.entry) }
     {
-        let name = opening_name(text.as_str().as_bytes());
-        let len = opening_len(text.as_str());
-        let (opening, behind) = text.split_at(text.range().start + len as u32);
-        let len = inside_len(name, behind.as_str());
+        let tag = front_tag(text.as_str());
+        let (opening, behind) = text.split_at(text.range().start + tag.len as u32);
+        let len = inside_len(tag.name, behind.as_str());
         let (inside, closing) = behind.split_at(behind.range().start + len as u32);
         RawTag {
+            name: tag.name,
+            alone: tag.alone,
             opening,
             inside,
             closing,

@@ -6,6 +6,7 @@ ghost use Rattle.wt_inline.specs.View.{item_tree};
 
 use crate::carried::loose_head;
 use crate::loose::Loose;
+use crate::room::with_room;
 use crate::tree::{PieceTree, leaf};
 use std::alloc::Global;
 use wt_span::{List, NoMemory, Origin, Piece};
@@ -43,7 +44,7 @@ impl<'a> Run<'a> {
         ensures items { IfOk result (λ r. items r.pieces ≡ items_of piece.entry) }
     {
         let origin = piece.origin;
-        let mut pieces = List::new(alloc);
+        let mut pieces = with_room(alloc, 1)?;
         pieces.push(piece)?;
         Ok(Run {
             loose,

@@ -49,7 +49,8 @@ if_entity : (bs : List ℕ) (t : Bool) (o : Option (ℕ × ℕ)) → (t ≡ true
 if_entity bs true o f = f refl
 if_entity bs false o f = tt
 
-entry_by : (bs : List ℕ) (t : Bool) (name : List ℕ) (c : ℕ) (o : Option (ℕ × ℕ)) → (t ≡ true → Fits bs (length name) × (get_or bs 0 0 ≡ 38)) → OptEntity bs o → OptEntity bs (if t then Some (c, length name) else o)
+entry_by : (bs : List ℕ) (t : Bool) (name : List ℕ) (c : ℕ) (o : Option (ℕ × ℕ))
+    → (t ≡ true → Fits bs (length name) × (get_or bs 0 0 ≡ 38)) → OptEntity bs o → OptEntity bs (if t then Some (c, length name) else o)
 entry_by bs true name c o f g = f refl
 entry_by bs false name c o f g = g
 
@@ -66,7 +67,8 @@ name_fits name bs h e =
 table_fits : (table : List (List ℕ × ℕ)) (bs : List ℕ) → list_all (λ e. is_name e.0) table ≡ true → OptEntity bs (named_in table bs)
 table_fits [] bs h = tt
 table_fits ((name, c) ∷ entries) bs h =
-    entry_by bs (begins name bs) name c (named_in entries bs) (name_fits name bs (and_left (is_name name) _ h)) (table_fits entries bs (and_right (is_name name) _ h))
+    entry_by bs (begins name bs) name c (named_in entries bs) (name_fits name bs (and_left (is_name name) _ h))
+    (table_fits entries bs (and_right (is_name name) _ h))
 
 names_fit : (bs : List ℕ) → OptEntity bs (named_entity bs)
 unfolding named_entity entity_names
@@ -86,7 +88,8 @@ numbered_fits start most base is_digit bs first =
 
 decimal_fits : (bs : List ℕ) → OptEntity bs (decimal_entity bs)
 unfolding decimal_entity
-decimal_fits bs = if_entity bs (begins (codes "&#") bs) (numbered 2 7 10 is_ascii_digit bs) (λ e. numbered_fits 2 7 10 is_ascii_digit bs (begins_get (codes "&#") bs e 0 (omega arith)))
+decimal_fits bs = if_entity bs (begins (codes "&#") bs) (numbered 2 7 10 is_ascii_digit bs)
+    (λ e. numbered_fits 2 7 10 is_ascii_digit bs (begins_get (codes "&#") bs e 0 (omega arith)))
 
 or_first : (a b : Bool) (bs : List ℕ) → (a ≡ true → get_or bs 0 0 ≡ 38) → (b ≡ true → get_or bs 0 0 ≡ 38) → (a || b) ≡ true → get_or bs 0 0 ≡ 38
 or_first true b bs f g e = f refl
@@ -98,7 +101,8 @@ hex_fits bs =
     if_entity bs (begins (codes "&#x") bs || begins (codes "&#X") bs) (numbered 3 6 16 is_ascii_hexdigit bs)
     (λ e.
     numbered_fits 3 6 16 is_ascii_hexdigit bs
-    (or_first (begins (codes "&#x") bs) (begins (codes "&#X") bs) bs (λ f. begins_get (codes "&#x") bs f 0 (omega arith)) (λ f. begins_get (codes "&#X") bs f 0 (omega arith)) e))
+    (or_first (begins (codes "&#x") bs) (begins (codes "&#X") bs) bs (λ f. begins_get (codes "&#x") bs f 0 (omega arith))
+    (λ f. begins_get (codes "&#X") bs f 0 (omega arith)) e))
 
 pub entity_fits : (bs : List ℕ) → OptEntity bs (entity_at bs)
 unfolding entity_at
@@ -118,7 +122,8 @@ entity_none bs h = entity_none_by bs (entity_at bs) (entity_fits bs) h
 
 -- ---- signs
 
-run_fits : (after : Bool) (kind : LexKind) (byte : ℕ) (bs : List ℕ) → IsForm kind → byte < 128 → is_form_byte byte ≡ true → OptForm after bs (run_at kind byte bs)
+run_fits : (after : Bool) (kind : LexKind) (byte : ℕ) (bs : List ℕ) → IsForm kind → byte < 128 → is_form_byte byte ≡ true
+    → OptForm after bs (run_at kind byte bs)
 run_fits after kind byte bs is low first_byte =
     let n = prefix_len (λ b. b == byte) bs in
     if_form after bs (nat_lt 1 n) (Some (kind, n))
@@ -126,10 +131,18 @@ run_fits after kind byte bs is low first_byte =
     let more = lt_is 1 n e in
     let first : get_or bs 0 0 ≡ byte = eqb-true (get_or bs 0 0) byte (prefix_len_passes (λ b. b == byte) bs 0 0 (omega arith)) in
     let last : get_or bs (n - 1) 0 ≡ byte = eqb-true (get_or bs (n - 1) 0) byte (prefix_len_passes (λ b. b == byte) bs (n - 1) 0 (omega arith)) in
-    form_by after bs kind n is (record { some = omega arith; within = prefix_len-le-length (λ b. b == byte) bs; begins = ap is_form_byte first ∙ first_byte; ends = inr (omega arith) }))
+    form_by after bs kind n is (record {
+      some = omega arith;
+      within = prefix_len-le-length (λ b. b == byte) bs;
+      begins =
+          ap is_form_byte first ∙ first_byte;
+      ends = inr (omega arith);
+    }))
 
-sign_fits : (after : Bool) (kind : LexKind) (sign : List ℕ) (bs : List ℕ) → IsForm kind → has_ends sign ≡ true → OptForm after bs (sign_at kind sign (length sign) bs)
-sign_fits after kind sign bs is h = if_form after bs (begins sign bs) (Some (kind, length sign)) (λ e. form_by after bs kind (length sign) is (word_fits sign bs h e))
+sign_fits : (after : Bool) (kind : LexKind) (sign : List ℕ) (bs : List ℕ) → IsForm kind → has_ends sign ≡ true
+    → OptForm after bs (sign_at kind sign (length sign) bs)
+sign_fits after kind sign bs is h = if_form after bs (begins sign bs) (Some (kind, length sign))
+    (λ e. form_by after bs kind (length sign) is (word_fits sign bs h e))
 
 pub signs_fit : (after : Bool) (bs : List ℕ) → OptForm after bs (sign_word bs)
 unfolding sign_word
@@ -138,7 +151,8 @@ signs_fit after bs =
     (or_form after bs (run_at Closes 125 bs) _ (run_fits after Closes 125 bs tt (omega arith) refl)
     (or_form after bs (sign_at LinkOpen (codes "[[") 2 bs) _ (sign_fits after LinkOpen (codes "[[") bs tt refl)
     (or_form after bs (sign_at LinkClose (codes "]]") 2 bs) _ (sign_fits after LinkClose (codes "]]") bs tt refl)
-    (or_form after bs (sign_at Pipe (codes "|") 1 bs) (sign_at Equals (codes "=") 1 bs) (sign_fits after Pipe (codes "|") bs tt refl) (sign_fits after Equals (codes "=") bs tt refl)))))
+    (or_form after bs (sign_at Pipe (codes "|") 1 bs) (sign_at Equals (codes "=") 1 bs)
+    (sign_fits after Pipe (codes "|") bs tt refl) (sign_fits after Equals (codes "=") bs tt refl)))))
 
 -- ---- any form
 
@@ -158,7 +172,8 @@ all_fit mode after bs =
 pub form_fits : (mode : Mode) (after : Bool) (bs : List ℕ) (w : Word) → form_at mode after bs ≡ Some w → FormFits after bs w
 form_fits mode after bs w e = let P : Option Word → Type 0 = λ o. OptForm after bs o in subst P e (all_fit mode after bs)
 
-none_by : (mode : Mode) (after : Bool) (bs : List ℕ) (o : Option Word) → form_at mode after bs ≡ o → may_begin after (get_or bs 0 0) ≡ false → form_at mode after bs ≡ None
+none_by : (mode : Mode) (after : Bool) (bs : List ℕ) (o : Option Word) → form_at mode after bs ≡ o
+    → may_begin after (get_or bs 0 0) ≡ false → form_at mode after bs ≡ None
 none_by mode after bs None e h = e
 none_by mode after bs (Some w) e h = let f = form_fits mode after bs w e in let no : true ≡ false = sym f.begins ∙ h in cc
 

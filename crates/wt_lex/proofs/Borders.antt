@@ -11,7 +11,8 @@ border_before text at h low =
     let is : get_or text at 0 < 128 = omega (arith, get_or-drop at text 0 0, ap (λ k. get_or text k 0) z) in
     IsCharBoundary-before_ascii text at h is
 
-pub border_after : (text : List ℕ) (at n : ℕ) → IsUtf8 text → at ≤ length text → 0 < n → n ≤ length (drop at text) → EndsWell (drop at text) n → IsCharBoundary text (at + n)
+pub border_after : (text : List ℕ) (at n : ℕ) → IsUtf8 text → at ≤ length text → 0 < n → n ≤ length (drop at text)
+    → EndsWell (drop at text) n → IsCharBoundary text (at + n)
 border_after text at n u h pos le ends =
     ⊎_elim
     (λ e.

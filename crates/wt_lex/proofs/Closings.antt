@@ -41,4 +41,5 @@ none_cons name (suc k) (b ∷ bs) e = none_cons name k bs (none_behind _ _ e)
 pub none_later : (name bytes : List ℕ) (from at : ℕ) → from ≤ at → to_closing name (drop from bytes) ≡ None → to_closing name (drop at bytes) ≡ None
 none_later name bytes from at le e =
     let there : from + (at - from) ≡ at = omega arith in
-    ap (λ (m : ℕ). to_closing name (drop m bytes)) (sym there) ∙ ap (to_closing name) (sym (drop-drop (at - from) from bytes)) ∙ none_cons name (at - from) (drop from bytes) e
+    ap (λ (m : ℕ). to_closing name (drop m bytes)) (sym there) ∙ ap (to_closing name) (sym (drop-drop (at - from) from bytes))
+    ∙ none_cons name (at - from) (drop from bytes) e

@@ -52,7 +52,8 @@ with_same : (o : Option Word) (f g : ℕ → Cut) → ((n : ℕ) → f n ≡ g n
 with_same None f g h = let F : Cut → Cut = λ c. (suc c.0, c.1) in ap F (h 0)
 with_same (Some w) f g h = let F : Cut → Cut = λ c. (0, w ∷ closed c.0 c.1) in ap F (h (w.1 - 1))
 
-pub cuts_cons : (mode : Mode) (a : Bool) (b : ℕ) (bs : List ℕ) (o : Option Word) → form_at mode a (b ∷ bs) ≡ o → cuts mode a 0 (b ∷ bs) ≡ cut_with o (λ n. cuts mode (is_break b) n bs)
+pub cuts_cons : (mode : Mode) (a : Bool) (b : ℕ) (bs : List ℕ) (o : Option Word) → form_at mode a (b ∷ bs) ≡ o
+    → cuts mode a 0 (b ∷ bs) ≡ cut_with o (λ n. cuts mode (is_break b) n bs)
 cuts_cons mode a b bs o e = ap (λ o. cut_with o (λ n. cuts mode (is_break b) n bs)) e
 
 -- the text from a place on, by the form that begins there
@@ -65,7 +66,8 @@ cuts_more mode text at o h e =
     ∙ with_same o _ _ (λ n. ap (λ (t : Bool). cuts mode t n (drop (at + 1) text)) (sym (after_next text at)) ∙ skipped mode text n (at + 1))
 
 -- one more character
-pub char_more : (mode : Mode) (text : List ℕ) (from at : ℕ) (done : List Word) → at < length text → from ≤ at → form_at mode (after_break text at) (drop at text) ≡ None
+pub char_more : (mode : Mode) (text : List ℕ) (from at : ℕ) (done : List Word) → at < length text → from ≤ at
+    → form_at mode (after_break text at) (drop at text) ≡ None
     → done ++ closed ((at - from) + (left mode text at).0) (left mode text at).1 ≡ words mode text
     → done ++ closed ((at + 1 - from) + (left mode text (at + 1)).0) (left mode text (at + 1)).1 ≡ words mode text
 char_more mode text from at done h le e had =
@@ -77,7 +79,8 @@ char_more mode text from at done h le e had =
     ∙ ap (λ (x : Cut). done ++ closed ((at - from) + x.0) x.1) (sym c) ∙ had
 
 -- one more form
-pub form_more : (mode : Mode) (text : List ℕ) (old mid new : List Word) (from at : ℕ) (w : Word) → at < length text → 0 < w.1 → form_at mode (after_break text at) (drop at text) ≡ Some w
+pub form_more : (mode : Mode) (text : List ℕ) (old mid new : List Word) (from at : ℕ) (w : Word) → at < length text → 0 < w.1
+    → form_at mode (after_break text at) (drop at text) ≡ Some w
     → mid ≡ old ++ closed (at - from) [] → new ≡ mid ++ w ∷ []
     → old ++ closed ((at - from) + (left mode text at).0) (left mode text at).1 ≡ words mode text
     → new ++ closed ((at + w.1 - (at + w.1)) + (left mode text (at + w.1)).0) (left mode text (at + w.1)).1 ≡ words mode text

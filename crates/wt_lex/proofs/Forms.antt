@@ -79,18 +79,26 @@ ends_later word bs b m (inr (pos, le, g)) =
     let z : 1 + m - 1 ≡ suc (m - 1) = omega arith in
     inr (omega arith, omega arith, ap (λ k. get_or (b ∷ bs) k 0) z ∙ g)
 
-if_ends : (t : Bool) (word bs : List ℕ) (m : ℕ) → (t ≡ true → EndsWith word bs (length word)) → EndsWith word bs m → EndsWith word bs (if t then length word else m)
+if_ends : (t : Bool) (word bs : List ℕ) (m : ℕ) → (t ≡ true → EndsWith word bs (length word)) → EndsWith word bs m
+    → EndsWith word bs (if t then length word else m)
 if_ends true word bs m f g = f refl
 if_ends false word bs m f g = g
 
 through_ends : (word bs : List ℕ) → 0 < length word → EndsWith word bs (through word bs)
 through_ends word [] pos = inl refl
 through_ends word (b ∷ bs) pos =
-    if_ends (begins word (b ∷ bs)) word (b ∷ bs) (1 + through word bs) (λ e. inr (pos, begins_len word (b ∷ bs) e, begins_get word (b ∷ bs) e (length word - 1) (omega arith)))
+    if_ends (begins word (b ∷ bs)) word (b ∷ bs) (1 + through word bs)
+    (λ e. inr (pos, begins_len word (b ∷ bs) e, begins_get word (b ∷ bs) e (length word - 1) (omega arith)))
     (ends_later word bs b (through word bs) (through_ends word bs pos))
 
 comment_ends : (bs : List ℕ) (m : ℕ) → 4 ≤ length bs → get_or bs 0 0 ≡ 60 → EndsWith (codes "-->") (drop 4 bs) m → Fits bs (4 + m)
-comment_ends bs m le first (inl e) = record { some = omega arith; within = omega (arith, length-drop 4 bs); begins = ap is_form_byte first; ends = inl (omega (arith, length-drop 4 bs)) }
+comment_ends bs m le first (inl e) = record {
+  some = omega arith;
+  within = omega (arith, length-drop 4 bs);
+  begins =
+      ap is_form_byte first;
+  ends = inl (omega (arith, length-drop 4 bs));
+}
 comment_ends bs m le first (inr (pos, in_it, g)) =
     let z : 4 + m - 1 ≡ 4 + (m - 1) = omega arith in
     let e : get_or bs (4 + m - 1) 0 ≡ 62 = ap (λ k. get_or bs k 0) z ∙ sym (get_or-drop 4 bs (m - 1) 0) ∙ g in
@@ -100,7 +108,8 @@ pub comment_fits : (bs : List ℕ) → OptFits bs (comment_len bs)
 unfolding comment_len
 comment_fits bs =
     if_fits bs (begins (codes "<!--") bs) (4 + through (codes "-->") (drop 4 bs))
-    (λ e. comment_ends bs (through (codes "-->") (drop 4 bs)) (begins_len (codes "<!--") bs e) (begins_get (codes "<!--") bs e 0 (omega arith)) (through_ends (codes "-->") (drop 4 bs) (omega arith)))
+    (λ e. comment_ends bs (through (codes "-->") (drop 4 bs)) (begins_len (codes "<!--") bs e)
+    (begins_get (codes "<!--") bs e 0 (omega arith)) (through_ends (codes "-->") (drop 4 bs) (omega arith)))
 
 blank_first : (t : Bool) (m : ℕ) → 0 < (if t then 1 + m else 0) → t ≡ true
 blank_first true m h = refl
@@ -114,7 +123,8 @@ remarks_begin : (bs : List ℕ) → 0 < remarks_len 0 bs → may_begin true (get
 remarks_begin [] h = absurd (omega arith)
 remarks_begin (b ∷ bs) h = first_begins (comment_len (b ∷ bs)) b bs (λ n. remarks_len n bs) (comment_fits (b ∷ bs)) h
 
-line_form : (bs : List ℕ) (t : Bool) (n : ℕ) → (t ≡ true → FormFits true bs (CommentLine, n)) → OptForm true bs (as_word CommentLine (if t then Some n else None))
+line_form : (bs : List ℕ) (t : Bool) (n : ℕ) → (t ≡ true → FormFits true bs (CommentLine, n))
+    → OptForm true bs (as_word CommentLine (if t then Some n else None))
 line_form bs true n f = f refl
 line_form bs false n f = tt
 

@@ -54,7 +54,8 @@ through_by true false l m n e f = cc
 through_by false true l m n e f = cc
 through_by false false l m n e f = ap (λ k. 1 + k) (f refl)
 
-same_test : (word : List ℕ) (b : ℕ) (bs : List ℕ) (m : ℕ) (u : Bool) → begins word (b ∷ bs) ≡ u → (u ≡ true → length word ≤ suc m) → begins word (b ∷ take m bs) ≡ u
+same_test : (word : List ℕ) (b : ℕ) (bs : List ℕ) (m : ℕ) (u : Bool) → begins word (b ∷ bs) ≡ u → (u ≡ true → length word ≤ suc m)
+    → begins word (b ∷ take m bs) ≡ u
 same_test word b bs m true e le = begins_front word (b ∷ bs) (suc m) (le refl) e
 same_test word b bs m false e le = begins_none word (b ∷ bs) (suc m) e
 
@@ -88,7 +89,8 @@ prefix_front p [] (suc m) h = refl
 prefix_front p (b ∷ bs) zero h = absurd (omega arith)
 prefix_front p (b ∷ bs) (suc m) h = by (p b) h (prefix_front p bs m)
   where
-    by : (t : Bool) → cond t (1 + prefix_len p bs) 0 < suc m → (prefix_len p bs < m → prefix_len p (take m bs) ≡ prefix_len p bs) → cond t (1 + prefix_len p (take m bs)) 0 ≡ cond t (1 + prefix_len p bs) 0
+    by : (t : Bool) → cond t (1 + prefix_len p bs) 0 < suc m → (prefix_len p bs < m → prefix_len p (take m bs) ≡ prefix_len p bs)
+        → cond t (1 + prefix_len p (take m bs)) 0 ≡ cond t (1 + prefix_len p bs) 0
     by true h rest = ap (λ k. 1 + k) (rest (omega arith))
     by false h rest = refl
 
@@ -102,7 +104,8 @@ prefix_more p [] (suc m) h = refl
 prefix_more p (b ∷ bs) zero h = absurd (omega arith)
 prefix_more p (b ∷ bs) (suc m) h = by (p b) h (prefix_more p bs m)
   where
-    by : (t : Bool) → cond t (1 + prefix_len p (take m bs)) 0 < suc (length (take m bs)) → (prefix_len p (take m bs) < length (take m bs) → prefix_len p bs ≡ prefix_len p (take m bs))
+    by : (t : Bool) → cond t (1 + prefix_len p (take m bs)) 0 < suc (length (take m bs))
+        → (prefix_len p (take m bs) < length (take m bs) → prefix_len p bs ≡ prefix_len p (take m bs))
         → cond t (1 + prefix_len p bs) 0 ≡ cond t (1 + prefix_len p (take m bs)) 0
     by true h rest = ap (λ k. 1 + k) (rest (omega arith))
     by false h rest = refl

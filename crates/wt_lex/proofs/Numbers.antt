@@ -22,7 +22,8 @@ one_digit base ds i pos all h =
     let high = pow-le-pow_right pos short in
     omega arith
 
-all_by : (p : ℕ → Bool) (base : ℕ) (t : Bool) (b : ℕ) (bs : List ℕ) (n : ℕ) → (t ≡ true → digit_value b < base) → AllDigits base (take n bs) → AllDigits base (take (cond t (1 + n) 0) (b ∷ bs))
+all_by : (p : ℕ → Bool) (base : ℕ) (t : Bool) (b : ℕ) (bs : List ℕ) (n : ℕ) → (t ≡ true → digit_value b < base)
+    → AllDigits base (take n bs) → AllDigits base (take (cond t (1 + n) 0) (b ∷ bs))
 all_by p base false b bs n f h = tt
 all_by p base true b bs n f h =
     let e : 1 + n ≡ suc n = omega arith in

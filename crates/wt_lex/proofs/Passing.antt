@@ -7,7 +7,8 @@ use Rattle.wt_lex.specs.Words.{after_break, may_begin}
 use Rattle.wt_lex.proofs.AllForms.{no_form}
 use Rattle.wt_lex.proofs.Cuts.{left, chars_more}
 
-no_form_at : (mode : Mode) (text : List ℕ) (at : ℕ) → may_begin (after_break text at) (get_or text at 0) ≡ false → form_at mode (after_break text at) (drop at text) ≡ None
+no_form_at : (mode : Mode) (text : List ℕ) (at : ℕ) → may_begin (after_break text at) (get_or text at 0) ≡ false
+    → form_at mode (after_break text at) (drop at text) ≡ None
 no_form_at mode text at h =
     let z : at + 0 ≡ at = omega arith in
     no_form mode (after_break text at) (drop at text) (ap (may_begin (after_break text at)) (get_or-drop at text 0 0 ∙ ap (λ k. get_or text k 0) z) ∙ h)

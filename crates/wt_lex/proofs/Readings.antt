@@ -56,7 +56,8 @@ chars_run mode after zero bs le free =
     let F : ℕ → Cut = λ m. (m, c.1) in ap F z
 chars_run mode after (suc n) [] le free = absurd (omega arith)
 chars_run mode after (suc n) (b ∷ bs) le free =
-    let more = chars_run mode (is_break b) n bs (omega arith) (λ k below. ap (λ (t : Bool). form_at mode t (drop k bs)) (breaks b bs k) ∙ free (suc k) (omega arith)) in
+    let more = chars_run mode (is_break b) n bs (omega arith)
+    (λ k below. ap (λ (t : Bool). form_at mode t (drop k bs)) (breaks b bs k) ∙ free (suc k) (omega arith)) in
     let F : Cut → Cut = λ c. (suc c.0, c.1) in
     let H : Bool → Cut = λ t. (suc (n + (cuts mode t 0 (drop n bs)).0), (cuts mode t 0 (drop n bs)).1) in
     let c = cuts mode (is_break (slice_index (b ∷ bs) n)) 0 (drop n bs) in
@@ -76,7 +77,8 @@ form_once mode after w (b ∷ bs) pos le e =
     ap R (cuts_cons mode after b bs (Some w) e) ∙ closed_zero _ ∙ ap (λ (d : Cut). w ∷ closed d.0 d.1) there
     ∙ ap (λ (m : ℕ). w ∷ read mode (is_break (slice_index (b ∷ bs) (w.1 - 1))) (drop m (b ∷ bs))) size
 
-chars_once : (mode : Mode) (after : Bool) (n : ℕ) (ws : List Word) (bs : List ℕ) → 0 < n → n ≤ length bs → ((k : ℕ) → k < n → form_at mode (break_before after bs k) (drop k bs) ≡ None)
+chars_once : (mode : Mode) (after : Bool) (n : ℕ) (ws : List Word) (bs : List ℕ) → 0 < n → n ≤ length bs
+    → ((k : ℕ) → k < n → form_at mode (break_before after bs k) (drop k bs) ≡ None)
     → BeginsWithForm ws → ws ≡ read mode (is_break (slice_index bs (n - 1))) (drop n bs) → read mode after bs ≡ (Chars, n) ∷ ws
 chars_once mode after zero ws bs pos le free apart ih = absurd (omega arith)
 chars_once mode after (suc n) ws bs pos le free apart ih =
@@ -87,11 +89,13 @@ chars_once mode after (suc n) ws bs pos le free apart ih =
     let zeroth : c.0 ≡ 0 = begins_zero c.0 c.1 (subst P is apart) in
     let tail : closed c.0 c.1 ≡ c.1 = ap (λ (m : ℕ). closed m c.1) zeroth ∙ closed_zero c.1 in
     let all : suc n + c.0 ≡ suc n = omega arith in
-    ap (λ (d : Cut). closed d.0 d.1) (chars_run mode after (suc n) bs le free) ∙ ap (λ (m : ℕ). closed m c.1) all ∙ closed_pos (suc n) c.1 pos ∙ ap (λ vs. (Chars, suc n) ∷ vs) (sym (is ∙ tail))
+    ap (λ (d : Cut). closed d.0 d.1) (chars_run mode after (suc n) bs le free) ∙ ap (λ (m : ℕ). closed m c.1) all
+    ∙ closed_pos (suc n) c.1 pos ∙ ap (λ vs. (Chars, suc n) ∷ vs) (sym (is ∙ tail))
 
 unique : (mode : Mode) (after : Bool) (ws : List Word) (bs : List ℕ) → AreLexemes mode after ws bs → ws ≡ read mode after bs
 unique mode after [] bs h = sym (ap (read mode after) h ∙ closed_zero [])
-unique mode after ((Chars, n) ∷ ws) bs (pos, le, free, apart, rest) = sym (chars_once mode after n ws bs pos le free apart (unique mode (is_break (slice_index bs (n - 1))) ws (drop n bs) rest))
+unique mode after ((Chars, n) ∷ ws) bs (pos, le, free, apart, rest) =
+    sym (chars_once mode after n ws bs pos le free apart (unique mode (is_break (slice_index bs (n - 1))) ws (drop n bs) rest))
 unique mode after ((kind, n) ∷ ws) bs (pos, le, form, apart, rest) =
     ap (λ vs. (kind, n) ∷ vs) (unique mode (is_break (slice_index bs (n - 1))) ws (drop n bs) rest) ∙ sym (form_once mode after (kind, n) bs pos le form)
 
@@ -123,7 +127,8 @@ sound_closed mode after (suc n, ws) bs s =
     subst P (sym (closed_pos (suc n) ws (omega arith))) (omega arith, s.within, s.free, s.begins, subst Q z s.rest)
 
 sound_form : (mode : Mode) (after : Bool) (b : ℕ) (bs : List ℕ) (w : Word) → form_at mode after (b ∷ bs) ≡ Some w
-    → Sound mode (break_before (is_break b) bs (w.1 - 1)) (cuts mode (is_break b) (w.1 - 1) bs) (drop (w.1 - 1) bs) → Sound mode after (cuts mode after 0 (b ∷ bs)) (b ∷ bs)
+    → Sound mode (break_before (is_break b) bs (w.1 - 1)) (cuts mode (is_break b) (w.1 - 1) bs) (drop (w.1 - 1) bs)
+    → Sound mode after (cuts mode after 0 (b ∷ bs)) (b ∷ bs)
 sound_form mode after b bs w e s =
     let f = form_fits mode after (b ∷ bs) w e in
     let c = cuts mode (is_break b) (w.1 - 1) bs in
@@ -140,12 +145,14 @@ sound_form mode after b bs w e s =
       rest = (f.some, f.within, stands_form mode after w (b ∷ bs) f.form e, apart_form w (closed c.0 c.1) f.form, rest);
     })
 
-free_more : (mode : Mode) (after : Bool) (b : ℕ) (bs : List ℕ) (n : ℕ) → form_at mode after (b ∷ bs) ≡ None → ((k : ℕ) → k < n → form_at mode (break_before (is_break b) bs k) (drop k bs) ≡ None)
+free_more : (mode : Mode) (after : Bool) (b : ℕ) (bs : List ℕ) (n : ℕ) → form_at mode after (b ∷ bs) ≡ None
+    → ((k : ℕ) → k < n → form_at mode (break_before (is_break b) bs k) (drop k bs) ≡ None)
     → (k : ℕ) → k < suc n → form_at mode (break_before after (b ∷ bs) k) (drop k (b ∷ bs)) ≡ None
 free_more mode after b bs n e free zero below = e
 free_more mode after b bs n e free (suc k) below = ap (λ (t : Bool). form_at mode t (drop k bs)) (sym (breaks b bs k)) ∙ free k (omega arith)
 
-sound_char : (mode : Mode) (after : Bool) (b : ℕ) (bs : List ℕ) → form_at mode after (b ∷ bs) ≡ None → Sound mode (is_break b) (cuts mode (is_break b) 0 bs) bs → Sound mode after (cuts mode after 0 (b ∷ bs)) (b ∷ bs)
+sound_char : (mode : Mode) (after : Bool) (b : ℕ) (bs : List ℕ) → form_at mode after (b ∷ bs) ≡ None
+    → Sound mode (is_break b) (cuts mode (is_break b) 0 bs) bs → Sound mode after (cuts mode after 0 (b ∷ bs)) (b ∷ bs)
 sound_char mode after b bs e s =
     let c = cuts mode (is_break b) 0 bs in
     let A : Bool → Type 0 = λ t. AreLexemes mode t c.1 (drop c.0 bs) in
@@ -154,9 +161,11 @@ sound_char mode after b bs e s =
     (record { within = omega (arith, s.within); free = free_more mode after b bs c.0 e s.free; begins = s.begins; rest = subst A (breaks b bs c.0) s.rest })
 
 sound_first : (mode : Mode) (after : Bool) (b : ℕ) (bs : List ℕ) (o : Option Word) → form_at mode after (b ∷ bs) ≡ o
-    → ((n : ℕ) → n ≤ length bs → Sound mode (break_before (is_break b) bs n) (cuts mode (is_break b) n bs) (drop n bs)) → Sound mode after (cuts mode after 0 (b ∷ bs)) (b ∷ bs)
+    → ((n : ℕ) → n ≤ length bs → Sound mode (break_before (is_break b) bs n) (cuts mode (is_break b) n bs) (drop n bs))
+    → Sound mode after (cuts mode after 0 (b ∷ bs)) (b ∷ bs)
 sound_first mode after b bs None e all = sound_char mode after b bs e (all 0 (omega arith))
-sound_first mode after b bs (Some w) e all = let f = form_fits mode after (b ∷ bs) w e in sound_form mode after b bs w e (all (w.1 - 1) (omega (arith, f.within)))
+sound_first mode after b bs (Some w) e all = let f = form_fits mode after (b ∷ bs) w e in
+    sound_form mode after b bs w e (all (w.1 - 1) (omega (arith, f.within)))
 
 sound_from : (mode : Mode) (after : Bool) (bs : List ℕ) (n : ℕ) → n ≤ length bs → Sound mode (break_before after bs n) (cuts mode after n bs) (drop n bs)
 sound_from mode after [] zero le = record { within = omega arith; free = λ k below. absurd (omega arith); begins = tt; rest = refl }

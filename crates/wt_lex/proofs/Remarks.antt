@@ -49,5 +49,6 @@ remarks_more bytes at n h le pos e =
     let there : at + 1 + (n - 1) ≡ at + n = omega arith in
     let step = some_cons (get_or bytes at 0) (drop (at + 1) bytes) (n - 1) (omega (arith, length-drop (at + 1) bytes)) (sym (ap remark_len d) ∙ e ∙ size) in
     let all : remarks_len 0 (drop at bytes) ≡ suc (n - 1) + remarks_len 0 (drop (at + n) bytes) =
-    ap (remarks_len 0) d ∙ step ∙ ap (λ t. suc (n - 1) + remarks_len 0 t) (drop-drop (n - 1) (at + 1) bytes) ∙ ap (λ (m : ℕ). suc (n - 1) + remarks_len 0 (drop m bytes)) there in
+    ap (remarks_len 0) d ∙ step ∙ ap (λ t. suc (n - 1) + remarks_len 0 t) (drop-drop (n - 1) (at + 1) bytes)
+    ∙ ap (λ (m : ℕ). suc (n - 1) + remarks_len 0 (drop m bytes)) there in
     omega arith

@@ -41,7 +41,8 @@ sign_width bs =
     (or_width (run_at Closes 125 bs) _ (run_width Closes 125 bs (λ n h. omega arith))
     (or_width (sign_at LinkOpen (codes "[[") 2 bs) _ (if_width (begins (codes "[[") bs) (LinkOpen, 2) (λ e. refl))
     (or_width (sign_at LinkClose (codes "]]") 2 bs) _ (if_width (begins (codes "]]") bs) (LinkClose, 2) (λ e. refl))
-    (or_width (sign_at Pipe (codes "|") 1 bs) (sign_at Equals (codes "=") 1 bs) (if_width (begins (codes "|") bs) (Pipe, 1) (λ e. refl)) (if_width (begins (codes "=") bs) (Equals, 1) (λ e. refl))))))
+    (or_width (sign_at Pipe (codes "|") 1 bs) (sign_at Equals (codes "=") 1 bs)
+    (if_width (begins (codes "|") bs) (Pipe, 1) (λ e. refl)) (if_width (begins (codes "=") bs) (Equals, 1) (λ e. refl))))))
 
 comment_width : (o : Option ℕ) → OptWidth (as_word Comment o)
 comment_width None = tt

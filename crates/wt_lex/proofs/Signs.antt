@@ -18,7 +18,8 @@ none_if false w f = refl
 run_none : (kind : LexKind) (byte : ℕ) (bs : List ℕ) → (get_or bs 0 0 ≡ byte → ⊥) → run_at kind byte bs ≡ None
 run_none kind byte bs differs =
     let n = prefix_len (λ b. b == byte) bs in
-    none_if (nat_lt 1 n) (kind, n) (λ e. let more = lt_is 1 n e in differs (eqb-true (get_or bs 0 0) byte (prefix_len_passes (λ b. b == byte) bs 0 0 (omega arith))))
+    none_if (nat_lt 1 n) (kind, n) (λ e. let more = lt_is 1 n e in
+    differs (eqb-true (get_or bs 0 0) byte (prefix_len_passes (λ b. b == byte) bs 0 0 (omega arith))))
 
 sign_none : (kind : LexKind) (sign : List ℕ) (n : ℕ) (bs : List ℕ) → 0 < length sign → (get_or bs 0 0 ≡ get_or sign 0 0 → ⊥) → sign_at kind sign n bs ≡ None
 sign_none kind sign n bs pos differs = none_if (begins sign bs) (kind, n) (λ e. differs (begins_get sign bs e 0 pos))
@@ -54,20 +55,24 @@ equals_none bs h = sign_none Equals (codes "=") 1 bs (omega arith) h
 pub opens_alone : (bs : List ℕ) → get_or bs 0 0 ≡ 123 → sign_word bs ≡ run_at Opens 123 bs
 unfolding sign_word
 opens_alone bs e =
-    or_left (run_at Opens 123 bs) _ (five _ _ _ _ _ (closes_none bs (λ h. omega arith)) (link_open_none bs (λ h. omega arith)) (link_close_none bs (λ h. omega arith)) (pipe_none bs (λ h. omega arith)) (equals_none bs (λ h. omega arith)))
+    or_left (run_at Opens 123 bs) _ (five _ _ _ _ _ (closes_none bs (λ h. omega arith)) (link_open_none bs (λ h. omega arith))
+    (link_close_none bs (λ h. omega arith)) (pipe_none bs (λ h. omega arith)) (equals_none bs (λ h. omega arith)))
 
 pub closes_alone : (bs : List ℕ) → get_or bs 0 0 ≡ 125 → sign_word bs ≡ run_at Closes 125 bs
 unfolding sign_word
 closes_alone bs e =
     or_right (run_at Opens 123 bs) _ (opens_none bs (λ h. omega arith))
     ∙ or_left (run_at Closes 125 bs) _
-    (or_right _ _ (link_open_none bs (λ h. omega arith)) ∙ or_right _ _ (link_close_none bs (λ h. omega arith)) ∙ or_right _ _ (pipe_none bs (λ h. omega arith)) ∙ equals_none bs (λ h. omega arith))
+    (or_right _ _ (link_open_none bs (λ h. omega arith)) ∙ or_right _ _ (link_close_none bs (λ h. omega arith))
+    ∙ or_right _ _ (pipe_none bs (λ h. omega arith)) ∙ equals_none bs (λ h. omega arith))
 
 pub link_open_alone : (bs : List ℕ) → get_or bs 0 0 ≡ 91 → sign_word bs ≡ sign_at LinkOpen (codes "[[") 2 bs
 unfolding sign_word
 link_open_alone bs e =
     or_right (run_at Opens 123 bs) _ (opens_none bs (λ h. omega arith)) ∙ or_right (run_at Closes 125 bs) _ (closes_none bs (λ h. omega arith))
-    ∙ or_left (sign_at LinkOpen (codes "[[") 2 bs) _ (or_right _ _ (link_close_none bs (λ h. omega arith)) ∙ or_right _ _ (pipe_none bs (λ h. omega arith)) ∙ equals_none bs (λ h. omega arith))
+    ∙ or_left (sign_at LinkOpen (codes "[[") 2 bs) _
+    (or_right _ _ (link_close_none bs (λ h. omega arith)) ∙ or_right _ _ (pipe_none bs (λ h. omega arith))
+    ∙ equals_none bs (λ h. omega arith))
 
 pub link_close_alone : (bs : List ℕ) → get_or bs 0 0 ≡ 93 → sign_word bs ≡ sign_at LinkClose (codes "]]") 2 bs
 unfolding sign_word
@@ -80,16 +85,20 @@ pub pipe_alone : (bs : List ℕ) → get_or bs 0 0 ≡ 124 → sign_word bs ≡ 
 unfolding sign_word
 pipe_alone bs e =
     or_right (run_at Opens 123 bs) _ (opens_none bs (λ h. omega arith)) ∙ or_right (run_at Closes 125 bs) _ (closes_none bs (λ h. omega arith))
-    ∙ or_right (sign_at LinkOpen (codes "[[") 2 bs) _ (link_open_none bs (λ h. omega arith)) ∙ or_right (sign_at LinkClose (codes "]]") 2 bs) _ (link_close_none bs (λ h. omega arith))
+    ∙ or_right (sign_at LinkOpen (codes "[[") 2 bs) _ (link_open_none bs (λ h. omega arith))
+    ∙ or_right (sign_at LinkClose (codes "]]") 2 bs) _ (link_close_none bs (λ h. omega arith))
     ∙ or_left (sign_at Pipe (codes "|") 1 bs) _ (equals_none bs (λ h. omega arith))
 
 pub equals_alone : (bs : List ℕ) → get_or bs 0 0 ≡ 61 → sign_word bs ≡ sign_at Equals (codes "=") 1 bs
 unfolding sign_word
 equals_alone bs e =
     or_right (run_at Opens 123 bs) _ (opens_none bs (λ h. omega arith)) ∙ or_right (run_at Closes 125 bs) _ (closes_none bs (λ h. omega arith))
-    ∙ or_right (sign_at LinkOpen (codes "[[") 2 bs) _ (link_open_none bs (λ h. omega arith)) ∙ or_right (sign_at LinkClose (codes "]]") 2 bs) _ (link_close_none bs (λ h. omega arith))
+    ∙ or_right (sign_at LinkOpen (codes "[[") 2 bs) _ (link_open_none bs (λ h. omega arith))
+    ∙ or_right (sign_at LinkClose (codes "]]") 2 bs) _ (link_close_none bs (λ h. omega arith))
     ∙ or_right (sign_at Pipe (codes "|") 1 bs) _ (pipe_none bs (λ h. omega arith))
 
-pub no_sign : (bs : List ℕ) → (get_or bs 0 0 ≡ 123 → ⊥) → (get_or bs 0 0 ≡ 125 → ⊥) → (get_or bs 0 0 ≡ 91 → ⊥) → (get_or bs 0 0 ≡ 93 → ⊥) → (get_or bs 0 0 ≡ 124 → ⊥) → (get_or bs 0 0 ≡ 61 → ⊥) → sign_word bs ≡ None
+pub no_sign : (bs : List ℕ) → (get_or bs 0 0 ≡ 123 → ⊥) → (get_or bs 0 0 ≡ 125 → ⊥) → (get_or bs 0 0 ≡ 91 → ⊥)
+    → (get_or bs 0 0 ≡ 93 → ⊥) → (get_or bs 0 0 ≡ 124 → ⊥) → (get_or bs 0 0 ≡ 61 → ⊥) → sign_word bs ≡ None
 unfolding sign_word
-no_sign bs a b c d e f = or_right (run_at Opens 123 bs) _ (opens_none bs a) ∙ five _ _ _ _ _ (closes_none bs b) (link_open_none bs c) (link_close_none bs d) (pipe_none bs e) (equals_none bs f)
+no_sign bs a b c d e f = or_right (run_at Opens 123 bs) _ (opens_none bs a)
+    ∙ five _ _ _ _ _ (closes_none bs b) (link_open_none bs c) (link_close_none bs d) (pipe_none bs e) (equals_none bs f)

@@ -56,12 +56,14 @@ pub after_fits : (name rest : List ℕ) → OptAfter name rest (tag_after name r
 unfolding tag_after
 after_fits name rest =
     let inside = take (prefix_len is_tag_byte rest) rest in
-    if_after name rest (get_or rest (length inside) 0 == 62 && is_tag_inside inside) (record { name = lower name; len = 2 + length name + length inside; alone = closes_itself inside })
+    if_after name rest (get_or rest (length inside) 0 == 62 && is_tag_inside inside)
+    (record { name = lower name; len = 2 + length name + length inside; alone = closes_itself inside })
     (λ e.
     let last = byte_is rest (length inside) 62 (and_left (get_or rest (length inside) 0 == 62) _ e) in
     (length inside, refl, last, is_within rest (length inside) 62 last (omega arith)))
 
-opened : (bs : List ℕ) (n : ℕ) (o : Option Tag) → get_or bs 0 0 ≡ 60 → 0 < n → n ≤ length (drop 1 bs) → OptAfter (take n (drop 1 bs)) (drop (1 + n) bs) o → OptTag bs o
+opened : (bs : List ℕ) (n : ℕ) (o : Option Tag) → get_or bs 0 0 ≡ 60 → 0 < n → n ≤ length (drop 1 bs)
+    → OptAfter (take n (drop 1 bs)) (drop (1 + n) bs) o → OptTag bs o
 opened bs n None first pos le a = tt
 opened bs n (Some t) first pos le (k, size, last, there) =
     let named : length (take n (drop 1 bs)) ≡ n = omega (arith, length-take n (drop 1 bs)) in
@@ -143,7 +145,13 @@ inside_by bs t None f g = tt
 inside_by bs t (Some n) f g =
     let z : t.len + n - 1 ≡ t.len + (n - 1) = omega (arith, g.some) in
     let last : get_or bs (t.len + n - 1) 0 ≡ 62 = ap (λ i. get_or bs i 0) z ∙ sym (get_or-drop t.len bs (n - 1) 0) ∙ g.last in
-    record { some = omega (arith, f.some); within = omega (arith, f.within, g.within, length-drop t.len bs); begins = ap is_form_byte f.first; ends = inr (omega arith) }
+    record {
+      some = omega (arith, f.some);
+      within = omega (arith, f.within, g.within, length-drop t.len bs);
+      begins =
+          ap is_form_byte f.first;
+      ends = inr (omega arith);
+    }
 
 inside_if : (bs : List ℕ) (t : Tag) (v : Bool) (o : Option ℕ) → Fits bs t.len → OptFits bs o → OptFits bs (if v then Some t.len else o)
 inside_if bs t true o f g = f
@@ -193,7 +201,8 @@ closing_include_fits after mode (Some t) bs f = by (is_left_out mode t.name)
 pub include_fits : (after : Bool) (mode : Mode) (bs : List ℕ) → OptForm after bs (include_at mode bs)
 unfolding include_at
 include_fits after mode bs =
-    or_form after bs (opening_include mode (opening_tag bs) bs) (closing_include mode (closing_tag bs)) (opening_include_fits after mode (opening_tag bs) bs (opening_fits bs))
+    or_form after bs (opening_include mode (opening_tag bs) bs) (closing_include mode (closing_tag bs))
+    (opening_include_fits after mode (opening_tag bs) bs (opening_fits bs))
     (closing_include_fits after mode (closing_tag bs) bs (closing_fits bs))
 
 -- ---- texts that begin with another byte
@@ -207,5 +216,6 @@ unfolding raw_len include_at
 tag_none mode bs h =
     let opening = none_by bs (opening_tag bs) (opening_fits bs) h in
     let closing = none_by bs (closing_tag bs) (closing_fits bs) h in
-    ap (λ (o : Option Tag). option_or (as_word Raw (raw_by is_raw_name o bs)) (option_or (opening_include mode o bs) (closing_include mode (closing_tag bs)))) opening
+    ap (λ (o : Option Tag). option_or (as_word Raw (raw_by is_raw_name o bs))
+    (option_or (opening_include mode o bs) (closing_include mode (closing_tag bs)))) opening
     ∙ ap (closing_include mode) closing

@@ -15,7 +15,8 @@ comment_by bs m true k e is le =
     let same : through (codes "-->") (drop 4 (take m bs)) ≡ k =
     ap (through (codes "-->")) (drop_front 4 m bs (omega arith)) ∙ through_front (codes "-->") (drop 4 bs) (m - 4) (omega arith) (omega arith) ∙ is in
     ap (λ (t : Bool). if t then Some (4 + through (codes "-->") (drop 4 (take m bs))) else None) starts ∙ ap (λ (n : ℕ). Some (4 + n)) same
-comment_by bs m false k e is le = ap (λ (t : Bool). if t then Some (4 + through (codes "-->") (drop 4 (take m bs))) else None) (begins_none (codes "<!--") bs m e)
+comment_by bs m false k e is le = ap (λ (t : Bool). if t then Some (4 + through (codes "-->") (drop 4 (take m bs))) else None)
+    (begins_none (codes "<!--") bs m e)
 
 some_by : (t : Bool) (k c : ℕ) → (if t then Some (4 + k) else None) ≡ Some c → 4 + k ≡ c
 some_by true k c e = cc
@@ -98,4 +99,5 @@ line_front bs m c e le =
     let test : T (blank_len (take m bs)) (remarks_len 0 (take m bs)) (get_or (take m bs) (remarks_len 0 (take m bs)) 0) ≡ T (blank_len bs) n (get_or bs n 0) =
     ap (λ k. T k (remarks_len 0 (take m bs)) (get_or (take m bs) (remarks_len 0 (take m bs)) 0)) blanks
     ∙ ap (λ i. T (blank_len bs) i (get_or (take m bs) i 0)) same ∙ ap (T (blank_len bs) n) (byte_front bs m n (omega arith)) in
-    line_by (T (blank_len (take m bs)) (remarks_len 0 (take m bs)) (get_or (take m bs) (remarks_len 0 (take m bs)) 0)) (T (blank_len bs) n (get_or bs n 0)) (remarks_len 0 (take m bs)) n test same ∙ e
+    line_by (T (blank_len (take m bs)) (remarks_len 0 (take m bs)) (get_or (take m bs) (remarks_len 0 (take m bs)) 0))
+    (T (blank_len bs) n (get_or bs n 0)) (remarks_len 0 (take m bs)) n test same ∙ e

@@ -25,7 +25,8 @@ named_front : (table : List (List ℕ × ℕ)) (bs : List ℕ) (x : Entity) → 
 named_front [] bs x e = cc
 named_front ((name, c) ∷ entries) bs x e = by (begins name bs) refl e (named_front entries bs x)
   where
-    by : (t : Bool) → begins name bs ≡ t → (if t then Some (c, length name) else named_in entries bs) ≡ Some x → (named_in entries bs ≡ Some x → named_in entries (take x.1 bs) ≡ Some x)
+    by : (t : Bool) → begins name bs ≡ t → (if t then Some (c, length name) else named_in entries bs) ≡ Some x
+        → (named_in entries bs ≡ Some x → named_in entries (take x.1 bs) ≡ Some x)
         → (if begins name (take x.1 bs) then Some (c, length name) else named_in entries (take x.1 bs)) ≡ Some x
     by true h e rest =
         let size : length name ≡ x.1 = ap (λ (y : Entity). y.1) (some_same (c, length name) x e) in
@@ -36,7 +37,8 @@ named_none : (table : List (List ℕ × ℕ)) (bs : List ℕ) (m : ℕ) → name
 named_none [] bs m e = refl
 named_none ((name, c) ∷ entries) bs m e = by (begins name bs) refl e (named_none entries bs m)
   where
-    by : (t : Bool) → begins name bs ≡ t → (if t then Some (c, length name) else named_in entries bs) ≡ None → (named_in entries bs ≡ None → named_in entries (take m bs) ≡ None)
+    by : (t : Bool) → begins name bs ≡ t → (if t then Some (c, length name) else named_in entries bs) ≡ None
+        → (named_in entries bs ≡ None → named_in entries (take m bs) ≡ None)
         → (if begins name (take m bs) then Some (c, length name) else named_in entries (take m bs)) ≡ None
     by true h e rest = cc
     by false h e rest = ap (λ (t : Bool). if t then Some (c, length name) else named_in entries (take m bs)) (begins_none name bs m h) ∙ rest e
@@ -52,20 +54,23 @@ number_size start most n byte c x e = by (nat_lt 0 n && (nat_le n most && (byte 
     by true e = let same : (c, start + n + 1) ≡ x = cc in ap (λ (y : Entity). y.1) same
     by false e = cc
 
-number_front : (start most base : ℕ) (is_digit : ℕ → Bool) (bs : List ℕ) (x : Entity) → numbered start most base is_digit bs ≡ Some x → numbered start most base is_digit (take x.1 bs) ≡ Some x
+number_front : (start most base : ℕ) (is_digit : ℕ → Bool) (bs : List ℕ) (x : Entity)
+    → numbered start most base is_digit bs ≡ Some x → numbered start most base is_digit (take x.1 bs) ≡ Some x
 number_front start most base is_digit bs x e =
     let n = prefix_len is_digit (drop start bs) in
     let m = x.1 in
     let digits = take n (drop start bs) in
     let size = number_size start most n (get_or bs (start + n) 0) (digits_value base digits) x e in
     let cut : drop start (take m bs) ≡ take (m - start) (drop start bs) = drop_front start m bs (omega arith) in
-    let run : prefix_len is_digit (drop start (take m bs)) ≡ n = ap (prefix_len is_digit) cut ∙ prefix_front is_digit (drop start bs) (m - start) (omega arith) in
+    let run : prefix_len is_digit (drop start (take m bs)) ≡ n = ap (prefix_len is_digit) cut
+    ∙ prefix_front is_digit (drop start bs) (m - start) (omega arith) in
     let same : take n (drop start (take m bs)) ≡ digits = ap (take n) cut ∙ take-take n (m - start) (drop start bs) (omega arith) in
     ap (λ (i : ℕ). number_by start most i (get_or (take m bs) (start + i) 0) (digits_value base (take i (drop start (take m bs))))) run
     ∙ ap (λ (b : ℕ). number_by start most n b (digits_value base (take n (drop start (take m bs))))) (byte_front bs m (start + n) (omega arith))
     ∙ ap (λ (ds : List ℕ). number_by start most n (get_or bs (start + n) 0) (digits_value base ds)) same ∙ e
 
-started : (sign : List ℕ) (bs : List ℕ) (o : Option Entity) (x : Entity) → (if begins sign bs then o else None) ≡ Some x → (begins sign bs ≡ true) × (o ≡ Some x)
+started : (sign : List ℕ) (bs : List ℕ) (o : Option Entity) (x : Entity) → (if begins sign bs then o else None) ≡ Some x
+    → (begins sign bs ≡ true) × (o ≡ Some x)
 started sign bs o x e = by (begins sign bs) e
   where
     by : (t : Bool) → (if t then o else None) ≡ Some x → (t ≡ true) × (o ≡ Some x)
@@ -97,11 +102,13 @@ no_decimal bs e =
     never true = refl
     never false = refl
 
-hex_is : (bs : List ℕ) (x : Entity) → hex_entity bs ≡ Some x → ((begins (codes "&#x") bs ≡ true) ⊎ (begins (codes "&#X") bs ≡ true)) × (numbered 3 6 16 is_ascii_hexdigit bs ≡ Some x)
+hex_is : (bs : List ℕ) (x : Entity) → hex_entity bs ≡ Some x
+    → ((begins (codes "&#x") bs ≡ true) ⊎ (begins (codes "&#X") bs ≡ true)) × (numbered 3 6 16 is_ascii_hexdigit bs ≡ Some x)
 unfolding hex_entity
 hex_is bs x e = by (begins (codes "&#x") bs) (begins (codes "&#X") bs) e
   where
-    by : (t u : Bool) → (if t || u then numbered 3 6 16 is_ascii_hexdigit bs else None) ≡ Some x → ((t ≡ true) ⊎ (u ≡ true)) × (numbered 3 6 16 is_ascii_hexdigit bs ≡ Some x)
+    by : (t u : Bool) → (if t || u then numbered 3 6 16 is_ascii_hexdigit bs else None) ≡ Some x
+        → ((t ≡ true) ⊎ (u ≡ true)) × (numbered 3 6 16 is_ascii_hexdigit bs ≡ Some x)
     by true u e = (inl refl, e)
     by false true e = (inr refl, e)
     by false false e = cc
@@ -122,10 +129,13 @@ hex_front bs x e =
     let n = prefix_len is_ascii_hexdigit (drop 3 bs) in
     let size = number_size 3 6 n (get_or bs (3 + n) 0) (digits_value 16 (take n (drop 3 bs))) x is.1 in
     let third : is_ascii_digit (get_or bs 2 0) ≡ false =
-    ⊎_elim (λ h. ap is_ascii_digit (begins_get (codes "&#x") bs h 2 (omega arith))) (λ h. ap is_ascii_digit (begins_get (codes "&#X") bs h 2 (omega arith))) is.0 in
+    ⊎_elim (λ h. ap is_ascii_digit (begins_get (codes "&#x") bs h 2 (omega arith)))
+    (λ h. ap is_ascii_digit (begins_get (codes "&#X") bs h 2 (omega arith))) is.0 in
     let starts : (begins (codes "&#x") (take x.1 bs) ≡ true) ⊎ (begins (codes "&#X") (take x.1 bs) ≡ true) =
-    ⊎_elim (λ h. inl (begins_front (codes "&#x") bs x.1 (omega arith) h)) (λ h. inr (begins_front (codes "&#X") bs x.1 (omega arith) h)) is.0 in
-    (hex_when (take x.1 bs) starts ∙ number_front 3 6 16 is_ascii_hexdigit bs x is.1, no_decimal (take x.1 bs) (ap is_ascii_digit (byte_front bs x.1 2 (omega arith)) ∙ third))
+    ⊎_elim (λ h. inl (begins_front (codes "&#x") bs x.1 (omega arith) h)) (λ h. inr (begins_front (codes "&#X") bs x.1 (omega arith) h)) is.0 in (
+      hex_when (take x.1 bs) starts ∙ number_front 3 6 16 is_ascii_hexdigit bs x is.1,
+      no_decimal (take x.1 bs) (ap is_ascii_digit (byte_front bs x.1 2 (omega arith)) ∙ third),
+    )
 
 entity_is : (bs : List ℕ) → entity_at bs ≡ option_or (named_in entity_names bs) (option_or (decimal_entity bs) (hex_entity bs))
 unfolding entity_at named_entity

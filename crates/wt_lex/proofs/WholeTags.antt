@@ -30,9 +30,11 @@ then_some false o x e f = cc
 
 -- the tag by what stands in it and the byte after that
 abbrev tag_by : List ℕ → List ℕ → ℕ → Option Tag
-tag_by name inside byte = if byte == 62 && is_tag_inside inside then Some (record { name = lower name; len = 2 + length name + length inside; alone = closes_itself inside }) else None
+tag_by name inside byte = if byte == 62 && is_tag_inside inside then
+    Some (record { name = lower name; len = 2 + length name + length inside; alone = closes_itself inside }) else None
 
-after_is : (name rest : List ℕ) → tag_after name rest ≡ tag_by name (take (prefix_len is_tag_byte rest) rest) (get_or rest (length (take (prefix_len is_tag_byte rest) rest)) 0)
+after_is : (name rest : List ℕ) → tag_after name rest ≡ tag_by name (take (prefix_len is_tag_byte rest) rest)
+    (get_or rest (length (take (prefix_len is_tag_byte rest) rest)) 0)
 unfolding tag_after
 after_is name rest = refl
 
@@ -56,7 +58,8 @@ after_front name rest t m e le =
     let size = len_is name rest t e in
     let full : length inside ≡ k = omega (arith, length-take k rest, prefix_len-le-length is_tag_byte rest) in
     let run = prefix_front is_tag_byte rest m (omega arith) in
-    let same : take (prefix_len is_tag_byte (take m rest)) (take m rest) ≡ inside = ap (λ (i : ℕ). take i (take m rest)) run ∙ take-take k m rest (omega arith) in
+    let same : take (prefix_len is_tag_byte (take m rest)) (take m rest) ≡ inside = ap (λ (i : ℕ). take i (take m rest)) run
+    ∙ take-take k m rest (omega arith) in
     after_is name (take m rest) ∙ ap (λ (i : List ℕ). tag_by name i (get_or (take m rest) (length i) 0)) same
     ∙ ap (tag_by name inside) (byte_front rest m (length inside) (omega arith)) ∙ sym (after_is name rest) ∙ e
 
@@ -64,7 +67,8 @@ after_front name rest t m e le =
 abbrev opening_by : ℕ → ℕ → List ℕ → List ℕ → Option Tag
 opening_by first n name rest = if first == 60 && nat_lt 0 n then tag_after name rest else None
 
-opening_is : (bs : List ℕ) → opening_tag bs ≡ opening_by (get_or bs 0 0) (name_len (drop 1 bs)) (take (name_len (drop 1 bs)) (drop 1 bs)) (drop (1 + name_len (drop 1 bs)) bs)
+opening_is : (bs : List ℕ) → opening_tag bs ≡ opening_by (get_or bs 0 0) (name_len (drop 1 bs))
+    (take (name_len (drop 1 bs)) (drop 1 bs)) (drop (1 + name_len (drop 1 bs)) bs)
 unfolding opening_tag
 opening_is bs = refl
 
@@ -92,7 +96,9 @@ opening_front bs t m e le =
 abbrev closing_by : Bool → ℕ → ℕ → ℕ → List ℕ → Option Tag
 closing_by starts n k byte name = if starts && (nat_lt 0 n && byte == 62) then Some (record { name = lower name; len = 3 + n + k; alone = false }) else None
 
-closing_is : (bs : List ℕ) → closing_tag bs ≡ closing_by (begins (codes "</") bs) (name_len (drop 2 bs)) (blank_len (drop (2 + name_len (drop 2 bs)) bs)) (get_or bs (2 + name_len (drop 2 bs) + blank_len (drop (2 + name_len (drop 2 bs)) bs)) 0) (take (name_len (drop 2 bs)) (drop 2 bs))
+closing_is : (bs : List ℕ) → closing_tag bs ≡ closing_by (begins (codes "</") bs) (name_len (drop 2 bs))
+    (blank_len (drop (2 + name_len (drop 2 bs)) bs))
+    (get_or bs (2 + name_len (drop 2 bs) + blank_len (drop (2 + name_len (drop 2 bs)) bs)) 0) (take (name_len (drop 2 bs)) (drop 2 bs))
 unfolding closing_tag
 closing_is bs = refl
 
@@ -105,7 +111,8 @@ closing_same xs ys starts names blanks byte name =
     let n = name_len (drop 2 ys) in
     let k = blank_len (drop (2 + n) ys) in
     closing_is xs
-    ∙ ap (λ (i : ℕ). closing_by (begins (codes "</") xs) i (blank_len (drop (2 + i) xs)) (get_or xs (2 + i + blank_len (drop (2 + i) xs)) 0) (take i (drop 2 xs))) names
+    ∙ ap (λ (i : ℕ). closing_by (begins (codes "</") xs) i (blank_len (drop (2 + i) xs))
+    (get_or xs (2 + i + blank_len (drop (2 + i) xs)) 0) (take i (drop 2 xs))) names
     ∙ ap (λ (j : ℕ). closing_by (begins (codes "</") xs) n j (get_or xs (2 + n + j) 0) (take n (drop 2 xs))) blanks
     ∙ ap (λ (b : ℕ). closing_by (begins (codes "</") xs) n k b (take n (drop 2 xs))) byte
     ∙ ap (λ (t : Bool). closing_by t n k (get_or ys (2 + n + k) 0) (take n (drop 2 xs))) starts
@@ -137,7 +144,8 @@ closing_front bs t m e le =
     let size = f.size in
     let cut : drop 2 (take m bs) ≡ take (m - 2) (drop 2 bs) = drop_front 2 m bs (omega arith) in
     let after : drop (2 + n) (take m bs) ≡ take (m - (2 + n)) (drop (2 + n) bs) = drop_front (2 + n) m bs (omega arith) in
-    closing_same (take m bs) bs (begins_front (codes "</") bs m (omega arith) f.starts ∙ sym f.starts) (ap name_len cut ∙ name_front (drop 2 bs) (m - 2) (omega arith))
+    closing_same (take m bs) bs (begins_front (codes "</") bs m (omega arith) f.starts ∙ sym f.starts)
+    (ap name_len cut ∙ name_front (drop 2 bs) (m - 2) (omega arith))
     (ap blank_len after ∙ prefix_front is_blank (drop (2 + n) bs) (m - (2 + n)) (omega arith)) (byte_front bs m (2 + n + k) (omega arith))
     (ap (take n) cut ∙ take-take n (m - 2) (drop 2 bs) (omega arith)) ∙ e
 
@@ -154,9 +162,11 @@ closing_more bs t m e =
     let cut : drop 2 xs ≡ take (m - 2) (drop 2 bs) = drop_front 2 m bs (omega arith) in
     let after : drop (2 + n) xs ≡ take (m - (2 + n)) (drop (2 + n) bs) = drop_front (2 + n) m bs (omega arith) in
     let left : n < length (take (m - 2) (drop 2 bs)) = omega (arith, ap length cut, length-drop 2 xs) in
-    let names : name_len (drop 2 bs) ≡ n = name_more (drop 2 bs) (m - 2) (omega (arith, ap name_len cut)) (omega (arith, ap name_len cut)) ∙ ap name_len (sym cut) in
+    let names : name_len (drop 2 bs) ≡ n = name_more (drop 2 bs) (m - 2) (omega (arith, ap name_len cut))
+    (omega (arith, ap name_len cut)) ∙ ap name_len (sym cut) in
     let blanks : blank_len (drop (2 + n) bs) ≡ k =
-    prefix_more is_blank (drop (2 + n) bs) (m - (2 + n)) (omega (arith, ap blank_len after, ap length after, length-drop (2 + n) xs)) ∙ ap blank_len (sym after) in
+    prefix_more is_blank (drop (2 + n) bs) (m - (2 + n))
+    (omega (arith, ap blank_len after, ap length after, length-drop (2 + n) xs)) ∙ ap blank_len (sym after) in
     closing_same bs xs (begins_more (codes "</") bs m f.starts ∙ sym f.starts) names blanks (sym (byte_front bs m (2 + n + k) (omega arith)))
     (sym (ap (take n) cut ∙ take-take n (m - 2) (drop 2 bs) (omega arith))) ∙ e
 
@@ -177,7 +187,8 @@ named_front name bs n m e le =
     ap (len_if_named name) (closing_front bs f.0 m f.1 (omega arith) ∙ sym f.1) ∙ e
 
 -- where no closing tag of the name begins the text, none begins its front
-none_front_by : (name bs : List ℕ) (m : ℕ) (o : Option Tag) → closing_tag (take m bs) ≡ o → len_if_named name (closing_tag bs) ≡ None → len_if_named name o ≡ None
+none_front_by : (name bs : List ℕ) (m : ℕ) (o : Option Tag) → closing_tag (take m bs) ≡ o
+    → len_if_named name (closing_tag bs) ≡ None → len_if_named name o ≡ None
 none_front_by name bs m None e h = refl
 none_front_by name bs m (Some t) e h = ap (len_if_named name) (sym (closing_more bs t m e)) ∙ h
 
@@ -198,11 +209,14 @@ to_closing_front name (b ∷ bs) n zero e le = absurd (no_zero (closing_some nam
   where
     no_zero : 0 < n → ⊥
     no_zero h = omega arith
-to_closing_front name (b ∷ bs) n (suc m) e le = by (or_some (len_if_named name (closing_tag (b ∷ bs))) (to_closing name bs) n e) (to_closing_front name bs (n - 1) m)
+to_closing_front name (b ∷ bs) n (suc m) e le = by (or_some (len_if_named name (closing_tag (b ∷ bs))) (to_closing name bs) n e)
+    (to_closing_front name bs (n - 1) m)
   where
-    by : ((len_if_named name (closing_tag (b ∷ bs)) ≡ Some n) ⊎ ((len_if_named name (closing_tag (b ∷ bs)) ≡ None) × (0 < n) × (to_closing name bs ≡ Some (n - 1))))
+    by : ((len_if_named name (closing_tag (b ∷ bs)) ≡ Some n)
+        ⊎ ((len_if_named name (closing_tag (b ∷ bs)) ≡ None) × (0 < n) × (to_closing name bs ≡ Some (n - 1))))
         → (to_closing name bs ≡ Some (n - 1) → n - 1 ≤ m → to_closing name (take m bs) ≡ Some (n - 1)) → to_closing name (b ∷ take m bs) ≡ Some n
-    by (inl here) rest = ap (λ (o : Option ℕ). option_or o (option_map (λ k. 1 + k) (to_closing name (take m bs)))) (named_front name (b ∷ bs) n (suc m) here le)
+    by (inl here) rest = ap (λ (o : Option ℕ). option_or o (option_map (λ k. 1 + k) (to_closing name (take m bs))))
+        (named_front name (b ∷ bs) n (suc m) here le)
     by (inr (none, pos, later)) rest =
         let z : 1 + (n - 1) ≡ n = omega arith in
         ap (λ (o : Option ℕ). option_or o (option_map (λ k. 1 + k) (to_closing name (take m bs)))) (none_front name (b ∷ bs) (suc m) none)
@@ -210,7 +224,8 @@ to_closing_front name (b ∷ bs) n (suc m) e le = by (or_some (len_if_named name
 
 -- ---- a tag with its inside
 
-inside_by : (t : Tag) (v : Bool) (o : Option ℕ) (n : ℕ) → (if v then Some t.len else option_map (λ j. t.len + j) o) ≡ Some n → ((v ≡ true) × (t.len ≡ n)) ⊎ ((v ≡ false) × (j : ℕ) × (o ≡ Some j) × (t.len + j ≡ n))
+inside_by : (t : Tag) (v : Bool) (o : Option ℕ) (n : ℕ) → (if v then Some t.len else option_map (λ j. t.len + j) o) ≡ Some n
+    → ((v ≡ true) × (t.len ≡ n)) ⊎ ((v ≡ false) × (j : ℕ) × (o ≡ Some j) × (t.len + j ≡ n))
 inside_by t true o n e = let size : t.len ≡ n = cc in inl (refl, size)
 inside_by t false None n e = cc
 inside_by t false (Some j) n e = let size : t.len + j ≡ n = cc in inr (refl, j, refl, size)
@@ -222,9 +237,11 @@ inside_is t bs = refl
 pub inside_front : (t : Tag) (bs : List ℕ) (n m : ℕ) → with_inside t bs ≡ Some n → n ≤ m → with_inside t (take m bs) ≡ Some n
 inside_front t bs n m e le = by (inside_by t t.alone (to_closing t.name (drop t.len bs)) n (sym (inside_is t bs) ∙ e))
   where
-    by : (((t.alone ≡ true) × (t.len ≡ n)) ⊎ ((t.alone ≡ false) × (j : ℕ) × (to_closing t.name (drop t.len bs) ≡ Some j) × (t.len + j ≡ n))) → with_inside t (take m bs) ≡ Some n
+    by : (((t.alone ≡ true) × (t.len ≡ n)) ⊎ ((t.alone ≡ false) × (j : ℕ) × (to_closing t.name (drop t.len bs) ≡ Some j)
+        × (t.len + j ≡ n))) → with_inside t (take m bs) ≡ Some n
     by (inl (alone, size)) =
-        inside_is t (take m bs) ∙ ap (λ (v : Bool). if v then Some t.len else option_map (λ j. t.len + j) (to_closing t.name (drop t.len (take m bs)))) alone ∙ ap Some size
+        inside_is t (take m bs) ∙ ap (λ (v : Bool). if v then Some t.len else
+        option_map (λ j. t.len + j) (to_closing t.name (drop t.len (take m bs)))) alone ∙ ap Some size
     by (inr (alone, j, found, size)) =
         let cut : drop t.len (take m bs) ≡ take (m - t.len) (drop t.len bs) = drop_front t.len m bs (omega arith) in
         inside_is t (take m bs) ∙ ap (λ (v : Bool). if v then Some t.len else option_map (λ j. t.len + j) (to_closing t.name (drop t.len (take m bs)))) alone
@@ -240,7 +257,8 @@ tag_le t bs n e = by (inside_by t t.alone (to_closing t.name (drop t.len bs)) n 
 
 -- ---- raw tags
 
-pub raw_at : (named : List ℕ → Bool) (o : Option Tag) (bs : List ℕ) (n : ℕ) → raw_by named o bs ≡ Some n → (t : Tag) × (o ≡ Some t) × (named t.name ≡ true) × (with_inside t bs ≡ Some n)
+pub raw_at : (named : List ℕ → Bool) (o : Option Tag) (bs : List ℕ) (n : ℕ) → raw_by named o bs ≡ Some n
+    → (t : Tag) × (o ≡ Some t) × (named t.name ≡ true) × (with_inside t bs ≡ Some n)
 raw_at named None bs n e = cc
 raw_at named (Some t) bs n e = let is = if_some (named t.name) (with_inside t bs) n e in (t, refl, is.0, is.1)
 
@@ -265,7 +283,8 @@ no_opening : (xs : List ℕ) → begins (codes "</") xs ≡ true → opening_tag
 no_opening xs e =
     let slash : get_or (drop 1 xs) 0 0 ≡ 47 = get_or-drop 1 xs 0 0 ∙ begins_get (codes "</") xs e 1 (omega arith) in
     let none : name_len (drop 1 xs) ≡ 0 = ap (λ (b : ℕ). if is_ascii_alphabetic b then prefix_len is_ascii_alphanumeric (drop 1 xs) else 0) slash in
-    opening_is xs ∙ ap (λ (i : ℕ). opening_by (get_or xs 0 0) i (take i (drop 1 xs)) (drop (1 + i) xs)) none ∙ never (get_or xs 0 0 == 60) (tag_after (take 0 (drop 1 xs)) (drop (1 + 0) xs))
+    opening_is xs ∙ ap (λ (i : ℕ). opening_by (get_or xs 0 0) i (take i (drop 1 xs)) (drop (1 + i) xs)) none
+    ∙ never (get_or xs 0 0 == 60) (tag_after (take 0 (drop 1 xs)) (drop (1 + 0) xs))
   where
     never : (t : Bool) (o : Option Tag) → (if t && nat_lt 0 0 then o else None) ≡ None
     never true o = refl
@@ -286,11 +305,13 @@ opening_word : (mode : Mode) (o : Option Tag) (bs : List ℕ) (w : Word) → ope
 opening_word mode None bs w e = cc
 opening_word mode (Some t) bs w e = (t, refl, opening_word_by mode bs t w (hides mode t.name) (is_left_out mode t.name) refl refl e)
 
-closing_word : (mode : Mode) (o : Option Tag) (w : Word) → closing_include mode o ≡ Some w → (t : Tag) × (o ≡ Some t) × (is_left_out mode t.name ≡ true) × ((Include, t.len) ≡ w)
+closing_word : (mode : Mode) (o : Option Tag) (w : Word) → closing_include mode o ≡ Some w
+    → (t : Tag) × (o ≡ Some t) × (is_left_out mode t.name ≡ true) × ((Include, t.len) ≡ w)
 closing_word mode None w e = cc
 closing_word mode (Some t) w e = by (is_left_out mode t.name) refl e
   where
-    by : (v : Bool) → is_left_out mode t.name ≡ v → (if v then Some (Include, t.len) else None) ≡ Some w → (s : Tag) × (Some t ≡ Some s) × (is_left_out mode s.name ≡ true) × ((Include, s.len) ≡ w)
+    by : (v : Bool) → is_left_out mode t.name ≡ v → (if v then Some (Include, t.len) else None) ≡ Some w
+        → (s : Tag) × (Some t ≡ Some s) × (is_left_out mode s.name ≡ true) × ((Include, s.len) ≡ w)
     by true l e = let is : (Include, t.len) ≡ w = cc in (t, refl, l, is)
     by false l e = cc
 
@@ -311,7 +332,8 @@ hidden_front mode bs t (Some n) tag hid is all =
     ∙ ap (λ (v : Bool). if v then Some (Hidden, hidden_len t (take n bs)) else (if is_left_out mode t.name then Some (Include, t.len) else None)) hid
     ∙ ap (λ (o : Option ℕ). Some (Hidden, unwrap_or o (length (take n bs)))) (inside_front t bs n n is (omega arith)))
 
-opening_word_front : (mode : Mode) (bs : List ℕ) (t : Tag) (w : Word) → opening_tag bs ≡ Some t → include_at mode bs ≡ Some w → OpeningWord mode bs t w → include_at mode (take w.1 bs) ≡ Some w
+opening_word_front : (mode : Mode) (bs : List ℕ) (t : Tag) (w : Word) → opening_tag bs ≡ Some t → include_at mode bs ≡ Some w
+    → OpeningWord mode bs t w → include_at mode (take w.1 bs) ≡ Some w
 opening_word_front mode bs t w tag all (hidden hid is) =
     let P : Word → Type 0 = λ v. include_at mode (take v.1 bs) ≡ Some v in
     subst P is (hidden_front mode bs t (with_inside t bs) tag hid refl (all ∙ ap Some (sym is)))
@@ -323,12 +345,14 @@ opening_word_front mode bs t w tag all (left_out hid out is) =
     ∙ ap (λ (v : Bool). if v then Some (Hidden, hidden_len t (take t.len bs)) else (if is_left_out mode t.name then Some (Include, t.len) else None)) hid
     ∙ ap (λ (v : Bool). if v then Some (Include, t.len) else None) out))
 
-closing_word_front : (mode : Mode) (bs : List ℕ) (t : Tag) → closing_tag bs ≡ Some t → is_left_out mode t.name ≡ true → include_at mode (take t.len bs) ≡ Some (Include, t.len)
+closing_word_front : (mode : Mode) (bs : List ℕ) (t : Tag) → closing_tag bs ≡ Some t → is_left_out mode t.name ≡ true
+    → include_at mode (take t.len bs) ≡ Some (Include, t.len)
 closing_word_front mode bs t tag out =
     let same = closing_front bs t t.len tag (omega arith) in
     let f = closing_at (take t.len bs) t same in
     include_is mode (take t.len bs)
-    ∙ ap (λ (o : Option Tag). option_or (opening_include mode o (take t.len bs)) (closing_include mode (closing_tag (take t.len bs)))) (no_opening (take t.len bs) f.starts)
+    ∙ ap (λ (o : Option Tag). option_or (opening_include mode o (take t.len bs))
+    (closing_include mode (closing_tag (take t.len bs)))) (no_opening (take t.len bs) f.starts)
     ∙ ap (closing_include mode) same ∙ ap (λ (v : Bool). if v then Some (Include, t.len) else None) out
 
 pub include_front : (mode : Mode) (bs : List ℕ) (w : Word) → include_at mode bs ≡ Some w → include_at mode (take w.1 bs) ≡ Some w

@@ -49,10 +49,13 @@ same_tag s t e = cc
 named : (bs : List ℕ) (t s : Tag) (p : List ℕ → Bool) → opening_tag bs ≡ Some t → p t.name ≡ true → opening_tag bs ≡ Some s → p s.name ≡ true
 named bs t s p e h f = ap (λ (x : Tag). p x.name) (same_tag s t (sym f ∙ e)) ∙ h
 
-raw_by_name : (mode : Mode) (bs : List ℕ) (n : ℕ) (t : Tag) (u v : Bool) → raw_by is_raw_name (opening_tag bs) bs ≡ Some n → opening_tag bs ≡ Some t → is_nowiki t.name ≡ u → is_extension t.name ≡ v → (u || v) ≡ true → n ≤ length bs
+raw_by_name : (mode : Mode) (bs : List ℕ) (n : ℕ) (t : Tag) (u v : Bool) → raw_by is_raw_name (opening_tag bs) bs ≡ Some n
+    → opening_tag bs ≡ Some t → is_nowiki t.name ≡ u → is_extension t.name ≡ v → (u || v) ≡ true → n ≤ length bs
     → IsWholeWord mode Raw (take n bs)
-raw_by_name mode bs n t true v e tag nowiki extension h le = inl (raw_front is_raw_name is_nowiki bs n e (λ s f. named bs t s is_nowiki tag nowiki f) ∙ ap Some (size bs n le))
-raw_by_name mode bs n t false true e tag nowiki extension h le = inr (raw_front is_raw_name is_extension bs n e (λ s f. named bs t s is_extension tag extension f) ∙ ap Some (size bs n le))
+raw_by_name mode bs n t true v e tag nowiki extension h le =
+    inl (raw_front is_raw_name is_nowiki bs n e (λ s f. named bs t s is_nowiki tag nowiki f) ∙ ap Some (size bs n le))
+raw_by_name mode bs n t false true e tag nowiki extension h le =
+    inr (raw_front is_raw_name is_extension bs n e (λ s f. named bs t s is_extension tag extension f) ∙ ap Some (size bs n le))
 raw_by_name mode bs n t false false e tag nowiki extension h le = cc
 
 raw_whole : (mode : Mode) (bs : List ℕ) (o : Option ℕ) → raw_len bs ≡ o → OptWhole mode bs (as_word Raw o)
@@ -94,7 +97,8 @@ all_whole mode after bs =
     (or_whole mode bs (include_at mode bs) _ (include_whole mode bs (include_at mode bs) refl)
     (or_whole mode bs (entity_word (entity_at bs)) (sign_word bs) (entity_whole mode bs (entity_at bs) refl) (sign_whole mode bs)))))
 
-pub form_whole : (mode : Mode) (after : Bool) (kind : LexKind) (n : ℕ) (bs : List ℕ) → form_at mode after bs ≡ Some (kind, n) → IsWholeWord mode kind (take n bs)
+pub form_whole : (mode : Mode) (after : Bool) (kind : LexKind) (n : ℕ) (bs : List ℕ) → form_at mode after bs ≡ Some (kind, n)
+    → IsWholeWord mode kind (take n bs)
 form_whole mode after kind n bs e =
     let f = form_fits mode after bs (kind, n) e in
     let P : Option Word → Type 0 = λ o. OptWhole mode bs o in

@@ -19,7 +19,8 @@ through_head : (word : List ℕ) (b : ℕ) (bs : List ℕ) → starts_with nat_e
 through_head word b bs h = ap (λ t. if t then length word else 1 + through word bs) h
 
 -- the word begins here
-pub through_here : (word bytes : List ℕ) (at : ℕ) → at < length bytes → starts_with nat_eq (drop at bytes) word ≡ true → through word (drop at bytes) ≡ length word
+pub through_here : (word bytes : List ℕ) (at : ℕ) → at < length bytes → starts_with nat_eq (drop at bytes) word ≡ true
+    → through word (drop at bytes) ≡ length word
 through_here word bytes at h begins =
     let e = drop_more bytes at 0 h in
     ap (through word) e ∙ through_head word (get_or bytes at 0) (drop (at + 1) bytes) (ap (λ t. starts_with nat_eq t word) (sym e) ∙ begins)

@@ -12,7 +12,8 @@ right_of_all s = ap reverse (append-nil s)
 pub right_byte : (s bs rest : List ℕ) (b : ℕ) → bs ≡ rest ++ (b ∷ []) → reverse (s ++ bs) ≡ b ∷ reverse (s ++ rest)
 right_byte s bs rest b e = ap (λ cs. reverse (s ++ cs)) e ∙ ap reverse (sym (append_assoc s rest (b ∷ []))) ∙ reverse-append (s ++ rest) (b ∷ [])
 
-signs_more : (ps : List Piece) (e : ℕ) (d : Piece) → e < length ps → map sign (items (take (e + 1) ps)) ≡ map sign (items (take e ps)) ++ map sign (items_of (get_or ps e d))
+signs_more : (ps : List Piece) (e : ℕ) (d : Piece) → e < length ps → map sign (items (take (e + 1) ps))
+    ≡ map sign (items (take e ps)) ++ map sign (items_of (get_or ps e d))
 signs_more ps e d l =
     ap (λ qs. map sign (items qs)) (take_more ps e d l)
     ∙ ap (map sign) (flat_map-append items_of (take e ps) (get_or ps e d ∷ []) ∙ ap (λ xs. items (take e ps) ++ xs) (append-nil (items_of (get_or ps e d))))

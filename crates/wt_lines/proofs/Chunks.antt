@@ -31,7 +31,8 @@ border_after_break bs n u s e z =
     let first : get_or bs 0 0 ≡ 10 = break_at bs 0 (sym z ∙ e) s in
     IsCharBoundary-after_ascii bs 0 u s (omega (arith, first))
 
-taken_by : (b : ℕ) (bs : List ℕ) (v : Bool) → apart b ≡ v → no_break (take (prefix_len apart bs) bs) ≡ true → no_break (take (cond v (1 + prefix_len apart bs) 0) (b ∷ bs)) ≡ true
+taken_by : (b : ℕ) (bs : List ℕ) (v : Bool) → apart b ≡ v → no_break (take (prefix_len apart bs) bs) ≡ true
+    → no_break (take (cond v (1 + prefix_len apart bs) 0) (b ∷ bs)) ≡ true
 taken_by b bs false e h = refl
 taken_by b bs true e h = rw (one-add, e) h
 

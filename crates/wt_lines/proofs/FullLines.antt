@@ -9,7 +9,8 @@ lone x true e = rw e refl
 lone x false e = rw e refl
 
 -- one more item before a line that isn't empty
-one_more : (x y : Item) (ys : List Item) (ls rs : List (List Item)) (end : List (List Item)) (v : Bool) → is_break_item x ≡ v → ls ≡ map content ((y ∷ ys) ∷ rs) ++ end
+one_more : (x y : Item) (ys : List Item) (ls rs : List (List Item)) (end : List (List Item)) (v : Bool) → is_break_item x ≡ v
+    → ls ≡ map content ((y ∷ ys) ∷ rs) ++ end
     → cond v ([] ∷ ls) (onto (x ∷ []) ls) ≡ map content (put goes_on x ((y ∷ ys) ∷ rs)) ++ end
 one_more x y ys ls rs end true e h = rw (e, e) (ap (λ ms. [] ∷ ms) h)
 one_more x y ys ls rs end false e h = rw e (ap (onto (x ∷ [])) h)
@@ -23,7 +24,8 @@ by_put x y ls ((z ∷ zs) ∷ rs) end true f h =
     one_more x y (z ∷ zs) ls rs end (is_break_item x) refl (h ∙ ap (λ qs. map content qs ++ end) e) ∙ sym (ap (λ qs. map content (put goes_on x qs) ++ end) e)
 by_put x y ls ((z ∷ zs) ∷ rs) end false f h =
     let e : put goes_on y ((z ∷ zs) ∷ rs) ≡ (y ∷ []) ∷ (z ∷ zs) ∷ rs = rw f refl in
-    one_more x y [] ls ((z ∷ zs) ∷ rs) end (is_break_item x) refl (h ∙ ap (λ qs. map content qs ++ end) e) ∙ sym (ap (λ qs. map content (put goes_on x qs) ++ end) e)
+    one_more x y [] ls ((z ∷ zs) ∷ rs) end (is_break_item x) refl (h ∙ ap (λ qs. map content qs ++ end) e)
+    ∙ sym (ap (λ qs. map content (put goes_on x qs) ++ end) e)
 
 pub same_lines : (xs : List Item) → lines xs ≡ map content (full_lines xs) ++ empty_end xs
 same_lines [] = refl

@@ -17,7 +17,8 @@ onto_onto : (xs ys : List Item) (ls : List (List Item)) → onto xs (onto ys ls)
 onto_onto xs ys [] = refl
 onto_onto xs ys (l ∷ ls) = ap (λ m. m ∷ ls) (sym (append_assoc xs ys l))
 
-lines_by : (x : Item) (xs : List Item) (v : Bool) → onto [] (cond v ([] ∷ lines xs) (onto (x ∷ []) (lines xs))) ≡ cond v ([] ∷ lines xs) (onto (x ∷ []) (lines xs))
+lines_by : (x : Item) (xs : List Item) (v : Bool) → onto [] (cond v ([] ∷ lines xs) (onto (x ∷ []) (lines xs)))
+    ≡ cond v ([] ∷ lines xs) (onto (x ∷ []) (lines xs))
 lines_by x xs true = refl
 lines_by x xs false = onto_onto [] (x ∷ []) (lines xs)
 
@@ -44,7 +45,8 @@ are_longer x [] xs e h = absurd h
 are_longer x (l ∷ []) xs e h = ((e, h.0), ap (λ ys. x ∷ ys) h.1)
 are_longer x (l ∷ m ∷ ms) xs e h = ((e, h.0), h.1, h.2, h.3, ap (λ ys. x ∷ ys) h.4, h.5)
 
-are_by : (x : Item) (xs : List Item) (v : Bool) → is_break_item x ≡ v → AreLines (lines xs) xs → AreLines (cond v ([] ∷ lines xs) (onto (x ∷ []) (lines xs))) (x ∷ xs)
+are_by : (x : Item) (xs : List Item) (v : Bool) → is_break_item x ≡ v → AreLines (lines xs) xs
+    → AreLines (cond v ([] ∷ lines xs) (onto (x ∷ []) (lines xs))) (x ∷ xs)
 are_by x xs true e h = are_ended x (lines xs) xs e h
 are_by x xs false e h = are_longer x (lines xs) xs e h
 
@@ -117,13 +119,15 @@ pub items_push : (ps : List Piece) (p : Piece) → items (ps ++ p ∷ []) ≡ it
 items_push [] p = append-nil (items_of p)
 items_push (q ∷ ps) p = ap (λ xs. items_of q ++ xs) (items_push ps p) ∙ sym (append_assoc (items_of q) (items ps) (items_of p))
 
-pub further_line : (ls : List Line) (line : List Piece) (p : Piece) (next : List Piece) → IsParted p → is_break_piece p ≡ false → next ≡ line ++ p ∷ [] → IsFurther ls line (items_of p) ls next
+pub further_line : (ls : List Line) (line : List Piece) (p : Piece) (next : List Piece) → IsParted p → is_break_piece p ≡ false
+    → next ≡ line ++ p ∷ [] → IsFurther ls line (items_of p) ls next
 further_line ls line p next h n e = λ rest.
     ap (λ xs. map line_items ls ++ xs)
     (ap (λ ps. onto (items ps) (lines rest)) e ∙ ap (λ xs. onto xs (lines rest)) (items_push line p)
     ∙ sym (onto_onto (items line) (items_of p) (lines rest)) ∙ ap (onto (items line)) (sym (line_goes_on (items_of p) rest (unbroken_piece p h n))))
 
-pub further_break : (ls : List Line) (line : List Piece) (p : Piece) (ms : List Line) (next : List Piece) (l : Line) → IsParted p → is_break_piece p ≡ true → ms ≡ ls ++ l ∷ [] → l.pieces ≡ line → next ≡ []
+pub further_break : (ls : List Line) (line : List Piece) (p : Piece) (ms : List Line) (next : List Piece) (l : Line) → IsParted p
+    → is_break_piece p ≡ true → ms ≡ ls ++ l ∷ [] → l.pieces ≡ line → next ≡ []
     → IsFurther ls line (items_of p) ms next
 further_break ls line p ms next l h n e f z = λ rest.
     let is : items_of p ≡ char (call_of_origin p.origin) 10 ∷ [] = break_piece p h n in

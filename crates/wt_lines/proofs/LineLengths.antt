@@ -11,13 +11,17 @@ one_item : (x : Item) → length (sources (x ∷ [])) ≤ length (source x)
 one_item x = omega (arith, length-append (source x) [])
 
 longer : (x : Item) (n : ℕ) (ls : List (List Item)) → AreWithin n ls → AreWithin (length (source x) + n) (onto (x ∷ []) ls)
-longer x n [] w = All-cons (λ l. length (sources l) ≤ length (source x) + n) (x ∷ []) [] (omega (arith, one_item x)) (All-nil (λ l. length (sources l) ≤ length (source x) + n))
+longer x n [] w = All-cons (λ l. length (sources l) ≤ length (source x) + n) (x ∷ []) [] (omega (arith, one_item x))
+    (All-nil (λ l. length (sources l) ≤ length (source x) + n))
 longer x n (l ∷ ls) w =
     let P : List Item → Type 0 = λ l. length (sources l) ≤ n in
     let here : length (sources l) ≤ n = All-head P l ls w in
-    All-cons (λ l. length (sources l) ≤ length (source x) + n) (x ∷ l) ls (omega (arith, here, length-append (source x) (sources l))) (more_room n (length (source x) + n) ls (omega arith) (All-tail P l ls w))
+    All-cons (λ l. length (sources l) ≤ length (source x) + n) (x ∷ l) ls
+    (omega (arith, here, length-append (source x) (sources l)))
+    (more_room n (length (source x) + n) ls (omega arith) (All-tail P l ls w))
 
-within_by : (x : Item) (xs : List Item) (v : Bool) → AreWithin (length (sources xs)) (lines xs) → AreWithin (length (source x) + length (sources xs)) (cond v ([] ∷ lines xs) (onto (x ∷ []) (lines xs)))
+within_by : (x : Item) (xs : List Item) (v : Bool) → AreWithin (length (sources xs)) (lines xs)
+    → AreWithin (length (source x) + length (sources xs)) (cond v ([] ∷ lines xs) (onto (x ∷ []) (lines xs)))
 within_by x xs true w =
     let n = length (source x) + length (sources xs) in
     All-cons (λ l. length (sources l) ≤ n) [] (lines xs) (omega arith) (more_room (length (sources xs)) n (lines xs) (omega arith) w)
@@ -27,4 +31,5 @@ pub lines_within : (xs : List Item) → AreWithin (length (sources xs)) (lines x
 lines_within [] = All-cons (λ l. length (sources l) ≤ 0) [] [] (omega arith) (All-nil (λ l. length (sources l) ≤ 0))
 lines_within (x ∷ xs) =
     let e = length-append (source x) (sources xs) in
-    more_room (length (source x) + length (sources xs)) (length (sources (x ∷ xs))) (lines (x ∷ xs)) (omega (arith, e)) (within_by x xs (is_break_item x) (lines_within xs))
+    more_room (length (source x) + length (sources xs)) (length (sources (x ∷ xs))) (lines (x ∷ xs)) (omega (arith, e))
+    (within_by x xs (is_break_item x) (lines_within xs))

@@ -70,11 +70,13 @@ items_cut n ps = ap items (sym (take-append-drop n ps)) ∙ items_append (take n
 abbrev LineAt : List Piece → ℕ → Type 0
 LineAt ps n = IsRun goes_on (items (take n ps)) (items (drop n ps))
 
-line_by : (p : Piece) (ps : List Piece) (v : Bool) → is_break_piece p ≡ v → AllParted (p ∷ ps) → (0 < length ps → LineAt ps (line_len ps)) → LineAt (p ∷ ps) (cond v 1 (1 + line_len ps))
+line_by : (p : Piece) (ps : List Piece) (v : Bool) → is_break_piece p ≡ v → AllParted (p ∷ ps)
+    → (0 < length ps → LineAt ps (line_len ps)) → LineAt (p ∷ ps) (cond v 1 (1 + line_len ps))
 line_by p ps true e h rest = rw (break_piece p h.0 e) (line_break (call_of_origin p.origin) (items ps))
 line_by p [] false e h rest = rw append-nil (line_end (items_of p) (unbroken_piece p h.0 e) (some_items p h.0))
 line_by p (q ∷ qs) false e h rest =
-    rw one-add (line_onto (items_of p) (items (take (line_len (q ∷ qs)) (q ∷ qs))) (items (drop (line_len (q ∷ qs)) (q ∷ qs))) (unbroken_piece p h.0 e) (rest (omega arith)))
+    rw one-add (line_onto (items_of p) (items (take (line_len (q ∷ qs)) (q ∷ qs))) (items (drop (line_len (q ∷ qs)) (q ∷ qs)))
+    (unbroken_piece p h.0 e) (rest (omega arith)))
 
 line_at : (ps : List Piece) → AllParted ps → 0 < length ps → LineAt ps (line_len ps)
 line_at [] h s = absurd (omega arith)
@@ -128,11 +130,13 @@ marked form.EmptyCall o bs e = (Rattle.wt_span.specs.Items.whole form.EmptyCall 
 abbrev Leads : List Item → List Piece → ℕ → Type 0
 Leads xs ps n = (take (prefix_len is_mark xs) xs ≡ items (take n ps)) × (drop (prefix_len is_mark xs) xs ≡ items (drop n ps))
 
-lead_mark : (x : Item) (xs : List Item) (p : Piece) (ps : List Piece) (n : ℕ) → items_of p ≡ x ∷ [] → is_mark x ≡ true → Leads xs ps n → Leads (x ∷ xs) (p ∷ ps) (1 + n)
+lead_mark : (x : Item) (xs : List Item) (p : Piece) (ps : List Piece) (n : ℕ) → items_of p ≡ x ∷ [] → is_mark x ≡ true
+    → Leads xs ps n → Leads (x ∷ xs) (p ∷ ps) (1 + n)
 lead_mark x xs p ps n e m r =
     (rw (m, one-add (prefix_len is_mark xs), one-add n, e) (ap (λ ys. x ∷ ys) r.0), rw (m, one-add (prefix_len is_mark xs), one-add n) r.1)
 
-lead_by : (p : Piece) (ps : List Piece) (v : Bool) → is_mark_piece p ≡ v → IsSoundPiece p → Leads (items ps) ps (prefix_len is_mark_piece ps) → Leads (items (p ∷ ps)) (p ∷ ps) (cond v (1 + prefix_len is_mark_piece ps) 0)
+lead_by : (p : Piece) (ps : List Piece) (v : Bool) → is_mark_piece p ≡ v → IsSoundPiece p
+    → Leads (items ps) ps (prefix_len is_mark_piece ps) → Leads (items (p ∷ ps)) (p ∷ ps) (cond v (1 + prefix_len is_mark_piece ps) 0)
 lead_by p ps false e h r =
     let z : prefix_len is_mark (items_of p ++ items ps) ≡ 0 = unmarked p.form (call_of_origin p.origin) (bytes_of p.text) (items ps) h.whole e in
     (ap (λ n. take n (items_of p ++ items ps)) z, ap (λ n. drop n (items_of p ++ items ps)) z)

@@ -35,12 +35,14 @@ cut_chars form.Include o bs n s h = absurd (omega arith)
 cut_chars form.Hidden o bs n s h = absurd (omega arith)
 cut_chars form.EmptyCall o bs n s h = absurd (omega arith)
 
-pub cut_front : (p : Piece) (n : ℕ) (bs : List ℕ) → 0 < n → n < item_count p → bs ≡ take n (bytes_of p.text) → map (char (call_of_origin p.origin)) bs ≡ take n (items_of p)
+pub cut_front : (p : Piece) (n : ℕ) (bs : List ℕ) → 0 < n → n < item_count p → bs ≡ take n (bytes_of p.text)
+    → map (char (call_of_origin p.origin)) bs ≡ take n (items_of p)
 cut_front p n bs s l e =
     let o = call_of_origin p.origin in
     ap (map (char o)) e ∙ sym (take-map (char o) n (bytes_of p.text)) ∙ sym (ap (take n) (cut_chars p.form o (bytes_of p.text) n s l))
 
-pub cut_back : (p : Piece) (n : ℕ) (bs : List ℕ) → 0 < n → n < item_count p → bs ≡ drop n (bytes_of p.text) → map (char (call_of_origin p.origin)) bs ≡ drop n (items_of p)
+pub cut_back : (p : Piece) (n : ℕ) (bs : List ℕ) → 0 < n → n < item_count p → bs ≡ drop n (bytes_of p.text)
+    → map (char (call_of_origin p.origin)) bs ≡ drop n (items_of p)
 cut_back p n bs s l e =
     let o = call_of_origin p.origin in
     ap (map (char o)) e ∙ sym (drop-map (char o) n (bytes_of p.text)) ∙ sym (ap (drop n) (cut_chars p.form o (bytes_of p.text) n s l))
@@ -66,12 +68,15 @@ pub whole_back : (p : Piece) (n : ℕ) → item_count p ≤ n → drop n (items_
 whole_back p n h = drop_past n (items_of p) (omega (arith, count_is p.form (call_of_origin p.origin) (bytes_of p.text)))
 
 take_piece : (p : Piece) (ps : List Piece) (n : ℕ) → take n (items (p ∷ ps)) ≡ take n (items_of p) ++ take (n - item_count p) (items ps)
-take_piece p ps n = take_append n (items_of p) (items ps) ∙ ap (λ k. take n (items_of p) ++ take (n - k) (items ps)) (count_is p.form (call_of_origin p.origin) (bytes_of p.text))
+take_piece p ps n = take_append n (items_of p) (items ps) ∙ ap (λ k. take n (items_of p) ++ take (n - k) (items ps))
+    (count_is p.form (call_of_origin p.origin) (bytes_of p.text))
 
 drop_piece : (p : Piece) (ps : List Piece) (n : ℕ) → drop n (items (p ∷ ps)) ≡ drop n (items_of p) ++ drop (n - item_count p) (items ps)
-drop_piece p ps n = drop_append n (items_of p) (items ps) ∙ ap (λ k. drop n (items_of p) ++ drop (n - k) (items ps)) (count_is p.form (call_of_origin p.origin) (bytes_of p.text))
+drop_piece p ps n = drop_append n (items_of p) (items ps) ∙ ap (λ k. drop n (items_of p) ++ drop (n - k) (items ps))
+    (count_is p.form (call_of_origin p.origin) (bytes_of p.text))
 
-pub front_next : (f g ps : List Piece) (i left k : ℕ) (d : Piece) (whole : List Item) → i < length ps → items g ≡ items f ++ take left (items_of (get_or ps i d)) → k ≡ left - item_count (get_or ps i d)
+pub front_next : (f g ps : List Piece) (i left k : ℕ) (d : Piece) (whole : List Item) → i < length ps
+    → items g ≡ items f ++ take left (items_of (get_or ps i d)) → k ≡ left - item_count (get_or ps i d)
     → items f ++ take left (items (drop i ps)) ≡ whole → items g ++ take k (items (drop (i + 1) ps)) ≡ whole
 front_next f g ps i left k d whole l eg ek h =
     let p = get_or ps i d in
@@ -82,7 +87,8 @@ front_next f g ps i left k d whole l eg ek h =
     ∙ ap (λ xs. items f ++ xs) (sym (take_piece p rest left) ∙ ap (λ qs. take left (items qs)) (sym (drop_more ps i d l)))
     ∙ h
 
-pub back_next : (f g ps : List Piece) (i left k : ℕ) (d : Piece) (whole : List Item) → i < length ps → items g ≡ items f ++ drop left (items_of (get_or ps i d)) → k ≡ left - item_count (get_or ps i d)
+pub back_next : (f g ps : List Piece) (i left k : ℕ) (d : Piece) (whole : List Item) → i < length ps
+    → items g ≡ items f ++ drop left (items_of (get_or ps i d)) → k ≡ left - item_count (get_or ps i d)
     → items f ++ drop left (items (drop i ps)) ≡ whole → items g ++ drop k (items (drop (i + 1) ps)) ≡ whole
 back_next f g ps i left k d whole l eg ek h =
     let p = get_or ps i d in
@@ -121,25 +127,33 @@ chars_only form.Include bs n s h = absurd (omega arith)
 chars_only form.Hidden bs n s h = absurd (omega arith)
 chars_only form.EmptyCall bs n s h = absurd (omega arith)
 
-border_piece : (p : Piece) (ps : List Piece) (n : ℕ) → begins_char (slice_get (items (p ∷ ps)) n) ≡ true → 0 < n → n < item_count p → IsCharBoundary (bytes_of p.text) n
+border_piece : (p : Piece) (ps : List Piece) (n : ℕ) → begins_char (slice_get (items (p ∷ ps)) n) ≡ true → 0 < n
+    → n < item_count p → IsCharBoundary (bytes_of p.text) n
 border_piece p ps n e s l =
     let o = call_of_origin p.origin in
     let bs = bytes_of p.text in
     let lb : n < length bs = chars_only p.form bs n s l in
-    let is : slice_get (items (p ∷ ps)) n ≡ Some (char o (get_or bs n 0)) = ap (λ xs. slice_get (xs ++ items ps) n) (cut_chars p.form o bs n s l) ∙ get_char o bs (items ps) n lb in
+    let is : slice_get (items (p ∷ ps)) n ≡ Some (char o (get_or bs n 0)) =
+    ap (λ xs. slice_get (xs ++ items ps) n) (cut_chars p.form o bs n s l) ∙ get_char o bs (items ps) n lb in
     (omega arith, λ w h. high (get_or bs n 0) (sym (ap begins_char is) ∙ e) h)
 
-border_past : (p : Piece) (ps : List Piece) (n : ℕ) → begins_char (slice_get (items (p ∷ ps)) n) ≡ true → item_count p ≤ n → begins_char (slice_get (items ps) (n - item_count p)) ≡ true
+border_past : (p : Piece) (ps : List Piece) (n : ℕ) → begins_char (slice_get (items (p ∷ ps)) n) ≡ true → item_count p ≤ n
+    → begins_char (slice_get (items ps) (n - item_count p)) ≡ true
 border_past p ps n e h =
     let c = count_is p.form (call_of_origin p.origin) (bytes_of p.text) in
     let le : length (items_of p) ≤ n = omega (arith, c) in
     ap (λ k. begins_char (slice_get (items ps) (n - k))) (sym c) ∙ ap begins_char (sym (get_past (items_of p) (items ps) n le)) ∙ e
 
 -- the same, with the pieces of a loop
-pub border_here : (ps : List Piece) (i left : ℕ) (d : Piece) → i < length ps → (0 < left → begins_char (slice_get (items (drop i ps)) left) ≡ true) → 0 < left → left < item_count (get_or ps i d) → IsCharBoundary (bytes_of (get_or ps i d).text) left
-border_here ps i left d l e s h = border_piece (get_or ps i d) (drop (i + 1) ps) left (ap (λ qs. begins_char (slice_get (items qs) left)) (sym (drop_more ps i d l)) ∙ e s) s h
+pub border_here : (ps : List Piece) (i left : ℕ) (d : Piece) → i < length ps
+    → (0 < left → begins_char (slice_get (items (drop i ps)) left) ≡ true) → 0 < left → left < item_count (get_or ps i d)
+    → IsCharBoundary (bytes_of (get_or ps i d).text) left
+border_here ps i left d l e s h = border_piece (get_or ps i d) (drop (i + 1) ps) left
+    (ap (λ qs. begins_char (slice_get (items qs) left)) (sym (drop_more ps i d l)) ∙ e s) s h
 
-pub border_next : (ps : List Piece) (i left k : ℕ) (d : Piece) → i < length ps → (0 < left → begins_char (slice_get (items (drop i ps)) left) ≡ true) → k ≡ left - item_count (get_or ps i d) → 0 < k → begins_char (slice_get (items (drop (i + 1) ps)) k) ≡ true
+pub border_next : (ps : List Piece) (i left k : ℕ) (d : Piece) → i < length ps
+    → (0 < left → begins_char (slice_get (items (drop i ps)) left) ≡ true) → k ≡ left - item_count (get_or ps i d) → 0 < k
+    → begins_char (slice_get (items (drop (i + 1) ps)) k) ≡ true
 border_next ps i left k d l e ek s =
     let p = get_or ps i d in
     ap (λ m. begins_char (slice_get (items (drop (i + 1) ps)) m)) ek

@@ -14,7 +14,8 @@ pub begins_other : (b c : ℕ) (word s : List ℕ) → (b == c) ≡ false → be
 begins_other b c word s e = rw e refl
 
 -- one more byte of the word
-pub word_goes_on : (word whole s t : List ℕ) (i : ℕ) → i < length word → s ≡ get_or word i 0 ∷ t → begins (drop i word) s ≡ begins word whole → begins (drop (i + 1) word) t ≡ begins word whole
+pub word_goes_on : (word whole s t : List ℕ) (i : ℕ) → i < length word → s ≡ get_or word i 0 ∷ t
+    → begins (drop i word) s ≡ begins word whole → begins (drop (i + 1) word) t ≡ begins word whole
 word_goes_on word whole s t i l e h =
     sym (begins_step (get_or word i 0) (drop (i + 1) word) t)
     ∙ ap (λ w. begins w (get_or word i 0 ∷ t)) (sym (drop_more word i 0 l))

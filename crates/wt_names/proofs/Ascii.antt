@@ -47,8 +47,10 @@ replaced-first : (from to : ℕ) (bs : List ℕ) → replaced from to (from ∷ 
 replaced-first from to bs = ap (λ t. cond t to from ∷ replaced from to bs) (eq-eqb from from refl)
 
 -- what `replace` of a text gives, for two ASCII characters
-pub replaced_is : (from to : ℕ) (n : ℕ) (q : ℕ) (s out : List ℕ) → from < 128 → q ≡ from → ReplacesMatches FindsChar (λ c d. d ≡ c) (to ∷ []) n q s out → out ≡ replaced from to s
-replaced_is from to zero q s out small e (none, same) = same ∙ sym (replaced-same from to s (λ i h. NoCharPasses-char from s i (subst (λ (c : ℕ). FindsChar c s None) e none) small h))
+pub replaced_is : (from to : ℕ) (n : ℕ) (q : ℕ) (s out : List ℕ) → from < 128 → q ≡ from
+    → ReplacesMatches FindsChar (λ c d. d ≡ c) (to ∷ []) n q s out → out ≡ replaced from to s
+replaced_is from to zero q s out small e (none, same) = same
+    ∙ sym (replaced-same from to s (λ i h. NoCharPasses-char from s i (subst (λ (c : ℕ). FindsChar c s None) e none) small h))
 replaced_is from to (suc n) q s out small e (a, b, p, rest, found, keeps, on, same) =
     let here = subst (λ (c : ℕ). FindsChar c s (Some (a, b))) e found in
     let front : replaced from to (take a s) ≡ take a s = replaced-same from to (take a s) (λ i h. NoCharPasses-char from (take a s) i here.0 small h) in
@@ -57,7 +59,8 @@ replaced_is from to (suc n) q s out small e (a, b, p, rest, found, keeps, on, sa
     let whole : s ≡ take a s ++ from ∷ drop b s = sym (take-append-drop a s) ∙ ap (λ t. take a s ++ t) (drop_at_char from s a b here.1 small) in
     elim on [
       | inl go ↦ same ∙ ap (λ t. take a s ++ to ∷ t) (replaced_is from to n p (drop b s) rest small (keeps ∙ e) go.1)
-          ∙ sym (ap (replaced from to) whole ∙ replaced-append from to (take a s) (from ∷ drop b s) ∙ ap (λ t. t ++ replaced from to (from ∷ drop b s)) front ∙ ap (λ t. take a s ++ t) (replaced-first from to (drop b s)))
+          ∙ sym (ap (replaced from to) whole ∙ replaced-append from to (take a s) (from ∷ drop b s)
+          ∙ ap (λ t. t ++ replaced from to (from ∷ drop b s)) front ∙ ap (λ t. take a s ++ t) (replaced-first from to (drop b s)))
       | inr stop ↦ absurd (let z : a ≡ b = stop.0 in omega arith)
     ]
 
@@ -75,7 +78,8 @@ raised_wide (x ∷ xs) rest wide some = ap (λ b. b ∷ (xs ++ rest)) (upper_wid
 
 pub raised_is : (c : ℕ) (bs rest : List ℕ) → bs ≡ encode_utf8 c ++ rest → encode_utf8 (to_ascii_uppercase c) ++ rest ≡ raised bs
 raised_is c bs rest e = elim (cases_lt c 128) [
-  | inl small ↦ ap (λ t. t ++ rest) (encode_ascii (to_ascii_uppercase c) (upper_small c small)) ∙ sym (ap raised (e ∙ ap (λ t. t ++ rest) (encode_ascii c small)))
+  | inl small ↦ ap (λ t. t ++ rest) (encode_ascii (to_ascii_uppercase c) (upper_small c small))
+      ∙ sym (ap raised (e ∙ ap (λ t. t ++ rest) (encode_ascii c small)))
   | inr wide ↦ ap (λ t. encode_utf8 t ++ rest) (upper_wide c wide) ∙ sym (ap raised e ∙ raised_wide (encode_utf8 c) rest (encode_wide c wide) (encode_some c))
 ]
 

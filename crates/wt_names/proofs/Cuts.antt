@@ -25,7 +25,8 @@ split_once-none sign (b ∷ bs) e = none_step (nat_eq b sign) _ (length bs) _ _ 
 
 some_step : (t : Bool) (n : ℕ) (b : ℕ) (bs : List ℕ) (o : Option (List ℕ × List ℕ))
     → cond (not t) (1 + n) 0 < suc (length bs) → (n < length bs → o ≡ Some (take n bs, drop (n + 1) bs))
-    → cond {A = Option (List ℕ × List ℕ)} t (Some ([], bs)) (option_map (λ parts. (b ∷ parts.0, parts.1)) o) ≡ Some (take (cond (not t) (1 + n) 0) (b ∷ bs), drop (cond (not t) (1 + n) 0 + 1) (b ∷ bs))
+    → cond {A = Option (List ℕ × List ℕ)} t (Some ([], bs)) (option_map (λ parts. (b ∷ parts.0, parts.1)) o)
+    ≡ Some (take (cond (not t) (1 + n) 0) (b ∷ bs), drop (cond (not t) (1 + n) 0 + 1) (b ∷ bs))
 some_step true n b bs o lt f = refl
 some_step false n b bs o lt f =
     let small : 1 + n < suc (length bs) = lt in
@@ -33,13 +34,16 @@ some_step false n b bs o lt f =
     let d : 1 + n + 1 ≡ suc (n + 1) = omega arith in
     ap (option_map (λ parts. (b ∷ parts.0, parts.1))) (f (omega arith)) ∙ rw (e) (rw (sym e, d) refl)
 
-pub split_once-some : (sign : ℕ) (bs : List ℕ) → position_or_len (λ b. nat_eq b sign) bs < length bs → split_once sign bs ≡ Some (before_first (λ b. nat_eq b sign) bs, after_first (λ b. nat_eq b sign) bs)
+pub split_once-some : (sign : ℕ) (bs : List ℕ) → position_or_len (λ b. nat_eq b sign) bs < length bs
+    → split_once sign bs ≡ Some (before_first (λ b. nat_eq b sign) bs, after_first (λ b. nat_eq b sign) bs)
 split_once-some sign [] lt = absurd (omega arith)
 split_once-some sign (b ∷ bs) lt = some_step (nat_eq b sign) _ b bs _ lt (split_once-some sign bs)
 
 -- what `split_once` of a text gives
 pub split_once_is : (sign : ℕ) (bs : List ℕ) (r : Option (Bor (List ℕ) × Bor (List ℕ)))
-    → MatchOption r (position_or_len (λ b. nat_eq b sign) bs ≡ length bs) (λ x. (position_or_len (λ b. nat_eq b sign) bs < length bs) × (x.0.now ≡ before_first (λ b. nat_eq b sign) bs) × (x.1.now ≡ after_first (λ b. nat_eq b sign) bs))
+    → MatchOption r (position_or_len (λ b. nat_eq b sign) bs ≡ length bs)
+    (λ x. (position_or_len (λ b. nat_eq b sign) bs < length bs) × (x.0.now ≡ before_first (λ b. nat_eq b sign) bs)
+    × (x.1.now ≡ after_first (λ b. nat_eq b sign) bs))
     → option_map (λ parts. (parts.0.now, parts.1.now)) r ≡ split_once sign bs
 split_once_is sign bs None h = sym (split_once-none sign bs h)
 split_once_is sign bs (Some x) h = rw (h.1, h.2) (sym (split_once-some sign bs h.0))
@@ -90,7 +94,8 @@ cuts_end s [] r h = ap trimmed_end (sym h)
 cuts_end s (n ∷ ns) r (m, h, f, e) =
     let last = drop_at_char 32 m (length m - n) (length m) f.1 (lit< tt) in
     let none : drop (length m) m ≡ [] = drop_all (length m) m (omega arith) in
-    let whole : m ≡ take (length m - n) m ++ 32 ∷ [] = sym (take-append-drop (length m - n) m) ∙ ap (λ t. take (length m - n) m ++ t) (last ∙ ap (λ t. 32 ∷ t) none) in
+    let whole : m ≡ take (length m - n) m ++ 32 ∷ [] = sym (take-append-drop (length m - n) m)
+    ∙ ap (λ t. take (length m - n) m ++ t) (last ∙ ap (λ t. 32 ∷ t) none) in
     cuts_end s ns m h ∙ ap trimmed_end whole ∙ trimmed_end-space (take (length m - n) m) ∙ ap trimmed_end (sym e)
 
 no_space_last : (r : List ℕ) → ((front : List ℕ) → r ≢ front ++ 32 ∷ []) → trimmed_end r ≡ r

@@ -44,7 +44,8 @@ unfolding stays_in_file
 file_set b h = from_agrees (contains FILE b) (stays_in_file b) (below_by_test (agrees FILE stays_in_file) 128 refl b h)
 
 -- of a byte past ASCII both say that it is escaped
-agree : (set : AsciiSet) (kept : ℕ → Bool) → ((b : ℕ) → b < 128 → contains set b ≡ not (nat_lt b 128 && kept b)) → (b : ℕ) → should_percent_encode set b ≡ not (nat_lt b 128 && kept b)
+agree : (set : AsciiSet) (kept : ℕ → Bool) → ((b : ℕ) → b < 128 → contains set b ≡ not (nat_lt b 128 && kept b)) → (b : ℕ)
+    → should_percent_encode set b ≡ not (nat_lt b 128 && kept b)
 unfolding should_percent_encode
 agree set kept below b = elim (cases_lt b 128) [
   | inl small ↦ ap (λ t. not t || contains set b) (lt-ltb b 128 small) ∙ below b small
@@ -55,11 +56,13 @@ turned : (t : Bool) (xs ys : List ℕ) → cond (not t) xs ys ≡ cond t ys xs
 turned true xs ys = refl
 turned false xs ys = refl
 
-percent_encode_is : (set : AsciiSet) (stays : ℕ → Bool) → ((b : ℕ) → should_percent_encode set b ≡ not (stays b)) → (bs : List ℕ) → percent_encode set bs ≡ escaped stays bs
+percent_encode_is : (set : AsciiSet) (stays : ℕ → Bool) → ((b : ℕ) → should_percent_encode set b ≡ not (stays b)) → (bs : List ℕ)
+    → percent_encode set bs ≡ escaped stays bs
 unfolding percent_encode
 percent_encode_is set stays same [] = refl
 percent_encode_is set stays same (b ∷ bs) =
-    ap (λ t. cond t (percent_encode_byte b) (b ∷ []) ++ flat_map (encode_byte set) bs) (same b) ∙ ap (λ x. x ++ flat_map (encode_byte set) bs) (turned (stays b) (percent_encode_byte b) (b ∷ []))
+    ap (λ t. cond t (percent_encode_byte b) (b ∷ []) ++ flat_map (encode_byte set) bs) (same b)
+    ∙ ap (λ x. x ++ flat_map (encode_byte set) bs) (turned (stays b) (percent_encode_byte b) (b ∷ []))
     ∙ ap (λ x. cond (stays b) (b ∷ []) (percent_encode_byte b) ++ x) (percent_encode_is set stays same bs)
 
 link_byte : (b : ℕ) → should_percent_encode LINK b ≡ not (stays_in_link b)
@@ -81,4 +84,5 @@ pub read_bytes-text : (bs : List ℕ) → IsUtf8 bs → read_bytes bs ≡ read_t
 read_bytes-text bs is = cond-true (is_utf8 bs) (read_text bs) None (is_utf8-from_IsUtf8 bs is)
 
 pub read_bytes-other : (bs : List ℕ) → ¬ IsUtf8 bs → read_bytes bs ≡ None
-read_bytes-other bs other = ⊎_elim (λ e. absurd (other (IsUtf8-from_is_utf8 bs e))) (λ e. cond-false (is_utf8 bs) (read_text bs) None e) (cases_Bool (is_utf8 bs))
+read_bytes-other bs other = ⊎_elim (λ e. absurd (other (IsUtf8-from_is_utf8 bs e)))
+    (λ e. cond-false (is_utf8 bs) (read_text bs) None e) (cases_Bool (is_utf8 bs))

@@ -24,7 +24,8 @@ use Rattle.wt_names.proofs.Utf8.{utf8_bytes, utf8_replaced}
 
 -- ---- different names
 
-pub file_same : (first second : List ℕ) → All IsByte (underscored first) → All IsByte (underscored second) → file_of first ≡ file_of second → underscored first ≡ underscored second
+pub file_same : (first second : List ℕ) → All IsByte (underscored first) → All IsByte (underscored second)
+    → file_of first ≡ file_of second → underscored first ≡ underscored second
 unfolding file_of
 file_same first second small other e =
     let wiki = codes ".wiki" in
@@ -33,10 +34,12 @@ file_same first second small other e =
     append_cancel_right (underscored first) (underscored second) (percent_decode wiki) (sym one ∙ ap percent_decode e ∙ two)
 
 no_underscore : (t : Title) → IsTidy t → Lacks (is_sign 95) (full_name_of t)
-no_underscore t tidy = second_lacks is_forbidden (is_sign 95) (full_name_of t) (first_lacks is_no_fragment_byte (is_sign 35) (full_name_of t) (whole t tidy).bytes)
+no_underscore t tidy = second_lacks is_forbidden (is_sign 95) (full_name_of t)
+    (first_lacks is_no_fragment_byte (is_sign 35) (full_name_of t) (whole t tidy).bytes)
 
 pub full_same : (t u : Title) → IsTidy t → IsTidy u → underscored (full_name_of t) ≡ underscored (full_name_of u) → full_name_of t ≡ full_name_of u
-full_same t u tidy other e = sym (replaced_back 32 95 (full_name_of t) (no_underscore t tidy)) ∙ ap spaced e ∙ replaced_back 32 95 (full_name_of u) (no_underscore u other)
+full_same t u tidy other e = sym (replaced_back 32 95 (full_name_of t) (no_underscore t tidy)) ∙ ap spaced e
+    ∙ replaced_back 32 95 (full_name_of u) (no_underscore u other)
 
 underscored_bytes : (text : List ℕ) → IsUtf8 text → All IsByte (underscored text)
 underscored_bytes text is = utf8_bytes (underscored text) (utf8_replaced 32 95 text (lit< tt) (lit< tt) is)
@@ -47,7 +50,8 @@ files_same first second is other e = file_same first second (underscored_bytes f
 pub titles_same : (first second : List ℕ) (t u : Title) → IsUtf8 first → IsUtf8 second → read_text first ≡ Some t → read_text second ≡ Some u
     → file_of (full_name_of t) ≡ file_of (full_name_of u) → full_name_of t ≡ full_name_of u
 titles_same first second t u is other read reads e =
-    full_same t u (read_tidy first t read) (read_tidy second u reads) (files_same (full_name_of t) (full_name_of u) (name_is_text first t is read) (name_is_text second u other reads) e)
+    full_same t u (read_tidy first t read) (read_tidy second u reads)
+    (files_same (full_name_of t) (full_name_of u) (name_is_text first t is read) (name_is_text second u other reads) e)
 
 -- ---- what stands in them
 
@@ -83,7 +87,9 @@ pub file_bytes : (full : List ℕ) → All IsFileByte (file_of full)
 unfolding file_of
 file_bytes full =
     All-append IsFileByte (escaped stays_in_file (underscored full)) (codes ".wiki")
-    (subst (All IsFileByte) (file_escaped (underscored full)) (All-percent_encode IsFileByte FILE (underscored full) (λ b kept. inl (turned (stays_in_file b) (sym (file_byte b) ∙ kept))) escape_stays))
+    (subst (All IsFileByte) (file_escaped (underscored full))
+    (All-percent_encode IsFileByte FILE (underscored full)
+    (λ b kept. inl (turned (stays_in_file b) (sym (file_byte b) ∙ kept))) escape_stays))
     wiki_bytes
 
 byte_no_slash : (b : ℕ) → IsFileByte b → b ≢ 47
@@ -95,7 +101,8 @@ pub file_no_slash : (full : List ℕ) → All (λ b. b ≢ 47) (file_of full)
 file_no_slash full = All-weaker IsFileByte (λ b. b ≢ 47) byte_no_slash (file_of full) (file_bytes full)
 
 long_differs : (bs word : List ℕ) → length word < length bs → bytes_eq bs word ≡ false
-long_differs bs word long = ⊎_elim (λ e. let same = ap length ((bytes_eq-Decides bs word).0 e) in absurd (omega (arith, same))) (λ e. e) (cases_Bool (bytes_eq bs word))
+long_differs bs word long = ⊎_elim (λ e. let same = ap length ((bytes_eq-Decides bs word).0 e) in absurd (omega (arith, same)))
+    (λ e. e) (cases_Bool (bytes_eq bs word))
 
 pub file_no_step : (full : List ℕ) → is_step (file_of full) ≡ false
 unfolding file_of is_step
@@ -110,7 +117,8 @@ kept_dot b = cond_both (nat_eq b 32) 95 b (λ c. c ≡ 46 → b ≡ 46) (λ _ e.
 
 first_byte : (c : ℕ) (rest : List ℕ) → get_or (cond (stays_in_file c) (c ∷ []) (percent_encode_byte c) ++ rest) 0 0 ≡ 46 → c ≡ 46
 unfolding percent_encode_byte
-first_byte c rest = cond_both (stays_in_file c) (c ∷ []) (percent_encode_byte c) (λ x. get_or (x ++ rest) 0 0 ≡ 46 → c ≡ 46) (λ _ e. e) (λ _ e. absurd (let z : 37 ≡ 46 = e in omega arith))
+first_byte c rest = cond_both (stays_in_file c) (c ∷ []) (percent_encode_byte c) (λ x. get_or (x ++ rest) 0 0 ≡ 46 → c ≡ 46)
+    (λ _ e. e) (λ _ e. absurd (let z : 37 ≡ 46 = e in omega arith))
 
 pub file_dot : (full : List ℕ) → get_or (file_of full) 0 0 ≡ 46 → (full ≡ []) ⊎ (get_or full 0 0 ≡ 46)
 unfolding file_of

@@ -42,7 +42,8 @@ lacks_right test (x ∷ xs) ys l = lacks_right test xs ys l.1
 pub lacks_squeezed : (test : ℕ → Bool) (bs : List ℕ) → Lacks test bs → Lacks test (squeezed bs)
 lacks_squeezed test [] l = tt
 lacks_squeezed test (b ∷ bs) l =
-    cond_both (nat_eq b 32 && begins_with_space bs) (squeezed bs) (b ∷ squeezed bs) (Lacks test) (λ _. lacks_squeezed test bs l.1) (λ _. (l.0, lacks_squeezed test bs l.1))
+    cond_both (nat_eq b 32 && begins_with_space bs) (squeezed bs) (b ∷ squeezed bs) (Lacks test) (λ _. lacks_squeezed test bs l.1)
+    (λ _. (l.0, lacks_squeezed test bs l.1))
 
 pub lacks_trimmed_start : (test : ℕ → Bool) (bs : List ℕ) → Lacks test bs → Lacks test (trimmed_start bs)
 lacks_trimmed_start test [] l = tt
@@ -62,7 +63,8 @@ lacks_raised test keeps (b ∷ bs) l = (keeps b l.0, l.1)
 
 pub lacks_replaced : (test : ℕ → Bool) (from to : ℕ) → test to ≡ false → (bs : List ℕ) → Lacks test bs → Lacks test (replaced from to bs)
 lacks_replaced test from to fine [] l = tt
-lacks_replaced test from to fine (b ∷ bs) l = (cond_both (nat_eq b from) to b (λ c. test c ≡ false) (λ _. fine) (λ _. l.0), lacks_replaced test from to fine bs l.1)
+lacks_replaced test from to fine (b ∷ bs) l =
+    (cond_both (nat_eq b from) to b (λ c. test c ≡ false) (λ _. fine) (λ _. l.0), lacks_replaced test from to fine bs l.1)
 
 -- after the change the byte that was changed is gone
 pub lacks_replaced_byte : (from to : ℕ) → nat_eq to from ≡ false → (bs : List ℕ) → Lacks (λ b. nat_eq b from) (replaced from to bs)
@@ -79,4 +81,5 @@ byte_back from to b other = elim (eqb_tells b from) [
 -- and back
 pub replaced_back : (from to : ℕ) (bs : List ℕ) → Lacks (λ b. nat_eq b to) bs → replaced to from (replaced from to bs) ≡ bs
 replaced_back from to [] l = refl
-replaced_back from to (b ∷ bs) l = ap (λ c. c ∷ replaced to from (replaced from to bs)) (byte_back from to b l.0) ∙ ap (λ x. b ∷ x) (replaced_back from to bs l.1)
+replaced_back from to (b ∷ bs) l = ap (λ c. c ∷ replaced to from (replaced from to bs)) (byte_back from to b l.0)
+    ∙ ap (λ x. b ∷ x) (replaced_back from to bs l.1)

@@ -30,14 +30,18 @@ use Rattle.wt_names.proofs.Utf8.{one_byte, utf8_bytes, utf8_replaced, title_utf8
 -- ---- decoding
 
 -- an encoded front is decoded first
-pub decode_front : (set : AsciiSet) (bs rest : List ℕ) → contains set 37 ≡ true → All IsByte bs → percent_decode (percent_encode set bs ++ rest) ≡ bs ++ percent_decode rest
+pub decode_front : (set : AsciiSet) (bs rest : List ℕ) → contains set 37 ≡ true → All IsByte bs
+    → percent_decode (percent_encode set bs ++ rest) ≡ bs ++ percent_decode rest
 decode_front set [] rest percent small = ap (λ x. percent_decode (x ++ rest)) (percent_encode-nil set)
 decode_front set (b ∷ bs) rest percent small =
     let on = ap (λ x. b ∷ x) (decode_front set bs rest percent (All-tail IsByte b bs small)) in
     ⊎_elim
-    (λ e. ap (λ x. percent_decode (x ++ rest)) (percent_encode_escaped set b bs e) ∙ ap percent_decode (append_assoc _ (percent_encode set bs) rest) ∙ percent_decode-percent_encode_byte b (percent_encode set bs ++ rest) (All-head IsByte b bs small) ∙ on)
+    (λ e. ap (λ x. percent_decode (x ++ rest)) (percent_encode_escaped set b bs e)
+    ∙ ap percent_decode (append_assoc _ (percent_encode set bs) rest)
+    ∙ percent_decode-percent_encode_byte b (percent_encode set bs ++ rest) (All-head IsByte b bs small) ∙ on)
     (λ e. ap (λ x. percent_decode (x ++ rest)) (percent_encode_kept set b bs e)
-    ∙ percent_decode_not_percent b (percent_encode set bs ++ rest) (λ is. both_ways _ e (subst (λ (c : ℕ). should_percent_encode set c ≡ true) (sym is) (escaped_from_inside set 37 percent))) ∙ on)
+    ∙ percent_decode_not_percent b (percent_encode set bs ++ rest)
+    (λ is. both_ways _ e (subst (λ (c : ℕ). should_percent_encode set c ≡ true) (sym is) (escaped_from_inside set 37 percent))) ∙ on)
     (cases_Bool (should_percent_encode set b))
 
 -- ---- the text that a link holds
@@ -48,13 +52,17 @@ linked t = underscored (full_name_of t) ++ fragment_suffix (option_map underscor
 
 text_decoded : (text rest : List ℕ) → All IsByte (underscored text) → percent_decode (link_text text ++ rest) ≡ underscored text ++ percent_decode rest
 unfolding link_text
-text_decoded text rest small = ap (λ x. percent_decode (x ++ rest)) (sym (link_escaped (underscored text))) ∙ decode_front LINK (underscored text) rest refl small
+text_decoded text rest small = ap (λ x. percent_decode (x ++ rest)) (sym (link_escaped (underscored text)))
+    ∙ decode_front LINK (underscored text) rest refl small
 
-fragment_decoded : (fragment : Option (List ℕ)) → IfSome fragment IsUtf8 → percent_decode (link_fragment fragment) ≡ fragment_suffix (option_map underscored fragment)
+fragment_decoded : (fragment : Option (List ℕ)) → IfSome fragment IsUtf8
+    → percent_decode (link_fragment fragment) ≡ fragment_suffix (option_map underscored fragment)
 fragment_decoded None is = percent_decode-nil
 fragment_decoded (Some f) is =
     percent_decode_not_percent 35 (link_text f) (λ e. absurd (omega (arith, e)))
-    ∙ ap (λ x. 35 ∷ x) (ap percent_decode (sym (append-nil (link_text f))) ∙ text_decoded f [] (utf8_bytes _ (utf8_replaced 32 95 f (lit< tt) (lit< tt) is)) ∙ ap (λ x. underscored f ++ x) percent_decode-nil ∙ append-nil (underscored f))
+    ∙ ap (λ x. 35 ∷ x) (ap percent_decode (sym (append-nil (link_text f)))
+    ∙ text_decoded f [] (utf8_bytes _ (utf8_replaced 32 95 f (lit< tt) (lit< tt) is))
+    ∙ ap (λ x. underscored f ++ x) percent_decode-nil ∙ append-nil (underscored f))
 
 full_utf8 : (t : Title) → IsUtf8 t.name → IsUtf8 (full_name_of t)
 unfolding full_name_of
@@ -69,14 +77,19 @@ suffix_utf8 : (fragment : Option (List ℕ)) → IfSome fragment IsUtf8 → IsUt
 suffix_utf8 None is = IsUtf8-nil
 suffix_utf8 (Some f) is = IsUtf8-append (35 ∷ []) (underscored f) (one_byte 35 (lit< tt)) (utf8_replaced 32 95 f (lit< tt) (lit< tt) is)
 
-suffix_back : (fragment : Option (List ℕ)) → IfSome fragment IsTidyFragment → spaced (fragment_suffix (option_map underscored fragment)) ≡ fragment_suffix fragment
+suffix_back : (fragment : Option (List ℕ)) → IfSome fragment IsTidyFragment
+    → spaced (fragment_suffix (option_map underscored fragment)) ≡ fragment_suffix fragment
 suffix_back None tidy = refl
 suffix_back (Some f) tidy = ap (λ x. 35 ∷ x) (replaced_back 32 95 f (second_lacks is_forbidden (is_sign 95) f (lacks_from_any is_no_fragment_byte f tidy.0)))
 
 suffix_allowed : (fragment : Option (List ℕ)) → IfSome fragment IsTidyFragment → Lacks is_forbidden (fragment_suffix (option_map underscored fragment))
 unfolding is_forbidden
 suffix_allowed None tidy = tt
-suffix_allowed (Some f) tidy = (refl, lacks_replaced is_forbidden 32 95 refl f (first_lacks is_forbidden (is_sign 95) f (lacks_from_any is_no_fragment_byte f tidy.0)))
+suffix_allowed (Some f) tidy = (
+  refl,
+  lacks_replaced is_forbidden 32 95 refl f
+      (first_lacks is_forbidden (is_sign 95) f (lacks_from_any is_no_fragment_byte f tidy.0)),
+)
 
 underscore_allowed : is_forbidden 95 ≡ false
 unfolding is_forbidden
@@ -89,13 +102,16 @@ linked_reads t tidy =
     let allowed = first_lacks is_forbidden (is_sign 95) full bytes in
     let plain = second_lacks is_forbidden (is_sign 95) full bytes in
     let suffix = fragment_suffix (option_map underscored t.fragment) in
-    let back = replaced-append 95 32 (underscored full) suffix ∙ ap (λ x. x ++ spaced suffix) (replaced_back 32 95 full plain) ∙ ap (λ x. full ++ x) (suffix_back t.fragment tidy.fragment) in
-    read_written (linked t) t tidy back (lacks_append is_forbidden (underscored full) suffix (lacks_replaced is_forbidden 32 95 underscore_allowed full allowed) (suffix_allowed t.fragment tidy.fragment))
+    let back = replaced-append 95 32 (underscored full) suffix ∙ ap (λ x. x ++ spaced suffix) (replaced_back 32 95 full plain)
+    ∙ ap (λ x. full ++ x) (suffix_back t.fragment tidy.fragment) in
+    read_written (linked t) t tidy back (lacks_append is_forbidden (underscored full) suffix
+    (lacks_replaced is_forbidden 32 95 underscore_allowed full allowed) (suffix_allowed t.fragment tidy.fragment))
 
 link_decoded : (t : Title) → IsUtf8 t.name → IfSome t.fragment IsUtf8 → percent_decode (link_text (full_name_of t) ++ link_fragment t.fragment) ≡ linked t
 link_decoded t name fragment =
     let full = full_name_of t in
-    text_decoded full (link_fragment t.fragment) (utf8_bytes _ (utf8_replaced 32 95 full (lit< tt) (lit< tt) (full_utf8 t name))) ∙ ap (λ x. underscored full ++ x) (fragment_decoded t.fragment fragment)
+    text_decoded full (link_fragment t.fragment) (utf8_bytes _ (utf8_replaced 32 95 full (lit< tt) (lit< tt) (full_utf8 t name)))
+    ∙ ap (λ x. underscored full ++ x) (fragment_decoded t.fragment fragment)
 
 linked_utf8 : (t : Title) → IsUtf8 t.name → IfSome t.fragment IsUtf8 → IsUtf8 (linked t)
 linked_utf8 t name fragment = IsUtf8-append _ _ (utf8_replaced 32 95 (full_name_of t) (lit< tt) (lit< tt) (full_utf8 t name)) (suffix_utf8 t.fragment fragment)
@@ -141,7 +157,8 @@ text_back t tidy =
     let full = full_name_of t in
     let bytes = first_lacks is_no_fragment_byte (is_sign 35) full (whole t tidy).bytes in
     let plain = lacks_append is_no_fragment_byte full (fragment_suffix t.fragment) bytes (plain_suffix t.fragment tidy.fragment) in
-    read_written (text_of t) t tidy (spaced_plain (text_of t) (second_lacks is_forbidden (is_sign 95) (text_of t) plain)) (first_lacks is_forbidden (is_sign 95) (text_of t) plain)
+    read_written (text_of t) t tidy (spaced_plain (text_of t) (second_lacks is_forbidden (is_sign 95) (text_of t) plain))
+    (first_lacks is_forbidden (is_sign 95) (text_of t) plain)
 
 -- the title without its fragment
 abbrev pub without : Title → Title
@@ -154,7 +171,8 @@ good_without : (t : Title) → 0 < length t.name → is_good t ≡ true → is_g
 unfolding is_good full_name_of
 good_without t some good =
     ap (λ x. x && is_short t && has_no_colon_first t && not (has_escape t.name) && not (has_signature t.name) && not (is_relative (full_name_of t)))
-    (either_true (nat_lt 0 (length t.name)) (nat_eq (length (full_name_of t)) 0 && false) (nat_eq (length (full_name_of t)) 0 && is_some_text t.fragment) (lt-ltb 0 (length t.name) some)) ∙ good
+    (either_true (nat_lt 0 (length t.name)) (nat_eq (length (full_name_of t)) 0 && false)
+    (nat_eq (length (full_name_of t)) 0 && is_some_text t.fragment) (lt-ltb 0 (length t.name) some)) ∙ good
 
 tidy_without : (t : Title) → 0 < length t.name → IsTidy t → IsTidy (without t)
 tidy_without t some tidy = record {

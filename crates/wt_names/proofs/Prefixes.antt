@@ -23,22 +23,26 @@ is_sign sign b = nat_eq b sign
 
 view_step : (sign b : ℕ) (bs : List ℕ) (t : Bool) → nat_eq b sign ≡ t → (o : Option (List ℕ × List ℕ))
     → MatchOption o (Lacks (is_sign sign) bs) (λ p. (bs ≡ p.0 ++ sign ∷ p.1) × Lacks (is_sign sign) p.0)
-    → MatchOption (cond {A = Option (List ℕ × List ℕ)} t (Some ([], bs)) (option_map (λ p. (b ∷ p.0, p.1)) o)) (Lacks (is_sign sign) (b ∷ bs)) (λ p. (b ∷ bs ≡ p.0 ++ sign ∷ p.1) × Lacks (is_sign sign) p.0)
+    → MatchOption (cond {A = Option (List ℕ × List ℕ)} t (Some ([], bs)) (option_map (λ p. (b ∷ p.0, p.1)) o))
+    (Lacks (is_sign sign) (b ∷ bs)) (λ p. (b ∷ bs ≡ p.0 ++ sign ∷ p.1) × Lacks (is_sign sign) p.0)
 view_step sign b bs true e o h = (ap (λ x. x ∷ bs) (eqb-true b sign e), tt)
 view_step sign b bs false e None h = (e, h)
 view_step sign b bs false e (Some p) h = (ap (λ x. b ∷ x) h.0, (e, h.1))
 
 -- the parts round the first sign, or that there is none
-pub split_view : (sign : ℕ) (bs : List ℕ) → MatchOption (split_once sign bs) (Lacks (is_sign sign) bs) (λ p. (bs ≡ p.0 ++ sign ∷ p.1) × Lacks (is_sign sign) p.0)
+pub split_view : (sign : ℕ) (bs : List ℕ) → MatchOption (split_once sign bs) (Lacks (is_sign sign) bs)
+    (λ p. (bs ≡ p.0 ++ sign ∷ p.1) × Lacks (is_sign sign) p.0)
 split_view sign [] = tt
 split_view sign (b ∷ bs) = view_step sign b bs (nat_eq b sign) refl (split_once sign bs) (split_view sign bs)
 
 pub split_lacking : (sign : ℕ) (bs : List ℕ) → Lacks (is_sign sign) bs → split_once sign bs ≡ None
 split_lacking sign [] l = refl
-split_lacking sign (b ∷ bs) l = ap (λ t. cond {A = Option (List ℕ × List ℕ)} t (Some ([], bs)) (option_map (λ p. (b ∷ p.0, p.1)) (split_once sign bs))) l.0 ∙ ap (option_map (λ p. (b ∷ p.0, p.1))) (split_lacking sign bs l.1)
+split_lacking sign (b ∷ bs) l = ap (λ t. cond {A = Option (List ℕ × List ℕ)} t (Some ([], bs))
+    (option_map (λ p. (b ∷ p.0, p.1)) (split_once sign bs))) l.0 ∙ ap (option_map (λ p. (b ∷ p.0, p.1))) (split_lacking sign bs l.1)
 
 pub split_between : (sign : ℕ) (xs ys : List ℕ) → Lacks (is_sign sign) xs → split_once sign (xs ++ sign ∷ ys) ≡ Some (xs, ys)
-split_between sign [] ys l = ap (λ t. cond {A = Option (List ℕ × List ℕ)} t (Some ([], ys)) (option_map (λ p. (sign ∷ p.0, p.1)) (split_once sign ys))) (eq-eqb sign sign refl)
+split_between sign [] ys l = ap (λ t. cond {A = Option (List ℕ × List ℕ)} t (Some ([], ys))
+    (option_map (λ p. (sign ∷ p.0, p.1)) (split_once sign ys))) (eq-eqb sign sign refl)
 split_between sign (x ∷ xs) ys l =
     ap (λ t. cond {A = Option (List ℕ × List ℕ)} t (Some ([], xs ++ sign ∷ ys)) (option_map (λ p. (x ∷ p.0, p.1)) (split_once sign (xs ++ sign ∷ ys)))) l.0
     ∙ ap (option_map (λ p. (x ∷ p.0, p.1))) (split_between sign xs ys l.1)
@@ -50,7 +54,8 @@ lower_upper b = grind (arith, nat_tests)
 
 is_called-upper : (b : ℕ) (bs : List ℕ) (ns : Ns) → is_called (to_ascii_uppercase b ∷ bs) ns ≡ is_called (b ∷ bs) ns
 unfolding is_called
-is_called-upper b bs File = ap (λ c. bytes_eq (c ∷ map to_ascii_lowercase bs) (map to_ascii_lowercase (name_of File)) || bytes_eq (c ∷ map to_ascii_lowercase bs) (map to_ascii_lowercase image)) (lower_upper b)
+is_called-upper b bs File = ap (λ c. bytes_eq (c ∷ map to_ascii_lowercase bs) (map to_ascii_lowercase (name_of File))
+    || bytes_eq (c ∷ map to_ascii_lowercase bs) (map to_ascii_lowercase image)) (lower_upper b)
 is_called-upper b bs ns = ap (λ c. bytes_eq (c ∷ map to_ascii_lowercase bs) (map to_ascii_lowercase (name_of ns))) (lower_upper b)
 
 find_same : (p q : Ns → Bool) → ((n : Ns) → p n ≡ q n) → (ns : List Ns) → find p ns ≡ find q ns
@@ -96,14 +101,16 @@ part_upper : (b : ℕ) (o : Option (List ℕ × List ℕ)) → b ≢ 32
     → named_part (option_map (λ p. (to_ascii_uppercase b ∷ p.0, p.1)) o) ≡ named_part (option_map (λ p. (b ∷ p.0, p.1)) o)
 part_upper b None other = refl
 part_upper b (Some p) other =
-    ap (option_map (λ ns. (ns, trimmed p.1))) (ap namespace_named (trimmed-other (to_ascii_uppercase b) p.0 (upper_other b other)) ∙ namespace_named-upper b (trimmed_end p.0) ∙ ap namespace_named (sym (trimmed-other b p.0 other)))
+    ap (option_map (λ ns. (ns, trimmed p.1))) (ap namespace_named (trimmed-other (to_ascii_uppercase b) p.0 (upper_other b other))
+    ∙ namespace_named-upper b (trimmed_end p.0) ∙ ap namespace_named (sym (trimmed-other b p.0 other)))
 
 pub named_part-raised : (bs : List ℕ) → begins_with_space bs ≡ false → named_part (split_once 58 (raised bs)) ≡ named_part (split_once 58 bs)
 named_part-raised [] start = refl
 named_part-raised (b ∷ bs) start = elim (eqb_tells b 58) [
   | inl is ↦ ap (λ c. named_part (split_once 58 (c ∷ bs))) (upper_at_colon b is.1)
   | inr other ↦
-      ap (λ t. named_part (cond {A = Option (List ℕ × List ℕ)} t (Some ([], bs)) (option_map (λ p. (to_ascii_uppercase b ∷ p.0, p.1)) (split_once 58 bs)))) (upper_colon b ∙ other.0)
+      ap (λ t. named_part (cond {A = Option (List ℕ × List ℕ)} t (Some ([], bs))
+      (option_map (λ p. (to_ascii_uppercase b ∷ p.0, p.1)) (split_once 58 bs)))) (upper_colon b ∙ other.0)
       ∙ part_upper b (split_once 58 bs) (λ e. let u : true ≡ false = sym (eq-eqb b 32 e) ∙ start in cc)
       ∙ sym (ap (λ t. named_part (cond {A = Option (List ℕ × List ℕ)} t (Some ([], bs)) (option_map (λ p. (b ∷ p.0, p.1)) (split_once 58 bs)))) other.0)
 ]

@@ -44,7 +44,8 @@ second_lacks s t bs l = lacks_weaker (λ b. s b || t b) t (λ b e. (both_false (
 page_lacks : (s : List ℕ) (o : Option (List ℕ × List ℕ)) → MatchOption o (Lacks (is_sign 35) s) (λ p. (s ≡ p.0 ++ 35 ∷ p.1) × Lacks (is_sign 35) p.0)
     → Lacks is_no_fragment_byte s → Lacks is_no_name_byte (page_part o s)
 page_lacks s None h l = both_lack is_no_fragment_byte (is_sign 35) s l h
-page_lacks s (Some p) h l = both_lack is_no_fragment_byte (is_sign 35) p.0 (lacks_left is_no_fragment_byte p.0 (35 ∷ p.1) (subst (Lacks is_no_fragment_byte) h.0 l)) h.1
+page_lacks s (Some p) h l = both_lack is_no_fragment_byte (is_sign 35) p.0
+    (lacks_left is_no_fragment_byte p.0 (35 ∷ p.1) (subst (Lacks is_no_fragment_byte) h.0 l)) h.1
 
 fragment_tidy : (s : List ℕ) (o : Option (List ℕ × List ℕ)) → MatchOption o (Lacks (is_sign 35) s) (λ p. (s ≡ p.0 ++ 35 ∷ p.1) × Lacks (is_sign 35) p.0)
     → Lacks is_no_fragment_byte s → IfSome (fragment_part o) IsTidyFragment
@@ -95,7 +96,8 @@ or_not false false e f = refl
 name_byte_upper : (b : ℕ) → is_no_name_byte b ≡ false → is_no_name_byte (to_ascii_uppercase b) ≡ false
 unfolding is_forbidden
 name_byte_upper b e = elim (cases_lt b 128) [
-  | inl small ↦ or_not (is_no_name_byte b) (is_no_name_byte (to_ascii_uppercase b)) (below_by_test (λ c. is_no_name_byte c || not (is_no_name_byte (to_ascii_uppercase c))) 128 refl b small) e
+  | inl small ↦ or_not (is_no_name_byte b) (is_no_name_byte (to_ascii_uppercase b))
+      (below_by_test (λ c. is_no_name_byte c || not (is_no_name_byte (to_ascii_uppercase c))) 128 refl b small) e
   | inr wide ↦ ap is_no_name_byte (upper_wide b wide) ∙ e
 ]
 
@@ -147,7 +149,8 @@ pub record IsWhole (ns : Ns) (name full : List ℕ) : Type 0 where
   pub ends : trimmed full ≡ full
   pub cut : cut_namespace full ≡ (ns, name)
 
-whole_main : (name : List ℕ) → Lacks is_no_name_byte name → IsSingle name → trimmed name ≡ name → named_part (split_once 58 name) ≡ None → IsWhole Main name (prefix_of Main ++ name)
+whole_main : (name : List ℕ) → Lacks is_no_name_byte name → IsSingle name → trimmed name ≡ name
+    → named_part (split_once 58 name) ≡ None → IsWhole Main name (prefix_of Main ++ name)
 unfolding cut_namespace prefix_of
 whole_main name bytes single ends none = record { bytes = bytes; single = single; ends = ends; cut = ap (λ o. part_or o name) none }
 
@@ -159,7 +162,8 @@ single_colon : (xs ys : List ℕ) → IsSingle (xs ++ 58 ∷ []) → IsSingle ys
 single_colon [] ys s t = ((λ e. absurd (omega (arith, e))), t)
 single_colon (x ∷ xs) ys s t = ((λ e. begins_colon xs ys (s.0 e)), single_colon xs ys s.1 t)
 
-whole_prefixed : (ns : Ns) (name : List ℕ) → IsPrefixed ns → Lacks is_no_name_byte name → IsSingle name → trimmed name ≡ name → 0 < length name → IsWhole ns name (prefix_of ns ++ name)
+whole_prefixed : (ns : Ns) (name : List ℕ) → IsPrefixed ns → Lacks is_no_name_byte name → IsSingle name → trimmed name ≡ name
+    → 0 < length name → IsWhole ns name (prefix_of ns ++ name)
 unfolding cut_namespace
 whole_prefixed ns name p bytes single ends some =
     let called = name_of ns in
@@ -171,7 +175,8 @@ whole_prefixed ns name p bytes single ends some =
       bytes = lacks_append is_no_name_byte (prefix_of ns) name (lacks_from_any is_no_name_byte (prefix_of ns) p.bytes) bytes;
       single = subst IsSingle (sym full) (single_colon called name prefix_single single);
       ends = trimmed_same (prefix_of ns ++ name) (ap begins_with_space full ∙ starts) (trimmed_end-append (prefix_of ns) name some (ends_same name ends));
-      cut = ap (λ o. part_or (named_part o) (prefix_of ns ++ name)) parts ∙ ap (λ o. part_or (option_map (λ n. (n, trimmed name)) o) (prefix_of ns ++ name)) p.named ∙ ap (λ x. (ns, x)) ends;
+      cut = ap (λ o. part_or (named_part o) (prefix_of ns ++ name)) parts
+          ∙ ap (λ o. part_or (option_map (λ n. (n, trimmed name)) o) (prefix_of ns ++ name)) p.named ∙ ap (λ x. (ns, x)) ends;
     }
 
 -- a title in a namespace has a name
@@ -203,7 +208,8 @@ whole t tidy =
 
 -- the cut of a full name and a fragment
 suffix_cut : (full : List ℕ) (fragment : Option (List ℕ)) → Lacks (is_sign 35) full
-    → (split_once 35 (full ++ fragment_suffix fragment) ≡ option_map (λ f. (full, f)) fragment) × (page_part (option_map (λ f. (full, f)) fragment) (full ++ fragment_suffix fragment) ≡ full)
+    → (split_once 35 (full ++ fragment_suffix fragment) ≡ option_map (λ f. (full, f)) fragment)
+    × (page_part (option_map (λ f. (full, f)) fragment) (full ++ fragment_suffix fragment) ≡ full)
 suffix_cut full None l = (ap (split_once 35) (append-nil full) ∙ split_lacking 35 full l, append-nil full)
 suffix_cut full (Some f) l = (split_between 35 full f l, refl)
 

@@ -78,7 +78,8 @@ unfolding first_part
 first_is [] [] lacks = refl
 first_is [] (b ∷ bs) lacks = empty_first (is_slash b) b (first_part bs) ∙ ap (λ t. t && true) (eq_turned b 47)
 first_is (w ∷ ws) [] lacks = refl
-first_is (w ∷ ws) (b ∷ bs) lacks = first_step (is_slash b) (nat_eq b w) b w ws (first_part bs) _ _ (λ slash. differs b w (λ e. let u : true ≡ false = sym slash ∙ ap is_slash e ∙ lacks.0 in cc)) refl (first_is ws bs lacks.1)
+first_is (w ∷ ws) (b ∷ bs) lacks = first_step (is_slash b) (nat_eq b w) b w ws (first_part bs) _ _
+    (λ slash. differs b w (λ e. let u : true ≡ false = sym slash ∙ ap is_slash e ∙ lacks.0 in cc)) refl (first_is ws bs lacks.1)
     ∙ ap (λ t. (nat_eq b w && bytes_eq bs ws) || (t && begins (ws ++ 47 ∷ []) bs)) (eq_turned b w)
   where
     first_step : (t p : Bool) (b w : ℕ) (ws first : List ℕ) (x y : Bool) → (t ≡ true → p ≡ false) → nat_eq b w ≡ p → bytes_eq first ws ≡ (x || y)
@@ -89,13 +90,15 @@ first_is (w ∷ ws) (b ∷ bs) lacks = first_step (is_slash b) (nat_eq b w) b w 
 first_step_is : (bs : List ℕ) → is_step (first_part bs) ≡ (is_step bs || begins_with_step bs)
 unfolding is_step begins_with_step
 first_step_is bs =
-    ap (λ t. t || bytes_eq (first_part bs) (codes "..")) (first_is (codes ".") bs (refl, tt)) ∙ ap (λ t. (bytes_eq bs (codes ".") || begins (codes "./") bs) || t) (first_is (codes "..") bs (refl, (refl, tt)))
+    ap (λ t. t || bytes_eq (first_part bs) (codes "..")) (first_is (codes ".") bs (refl, tt))
+    ∙ ap (λ t. (bytes_eq bs (codes ".") || begins (codes "./") bs) || t) (first_is (codes "..") bs (refl, (refl, tt)))
     ∙ or_middle (bytes_eq bs (codes ".")) (begins (codes "./") bs) (bytes_eq bs (codes "..")) (begins (codes "../") bs)
 
 -- ---- a word at the end
 
 long_differs : (xs ys : List ℕ) → length xs ≢ length ys → bytes_eq xs ys ≡ false
-long_differs xs ys other = same_tests (bytes_eq xs ys) false (λ e. absurd (other (ap length ((bytes_eq-Decides xs ys).0 e)))) (λ e. absurd (let z : false ≡ true = e in cc))
+long_differs xs ys other = same_tests (bytes_eq xs ys) false (λ e. absurd (other (ap length ((bytes_eq-Decides xs ys).0 e))))
+    (λ e. absurd (let z : false ≡ true = e in cc))
 
 ends_more : (word bs : List ℕ) (b : ℕ) → ends word (b ∷ bs) ≡ (bytes_eq word (b ∷ bs) || ends word bs)
 ends_more word bs b = elim (cases_lt (length bs) (length word)) [
@@ -103,7 +106,8 @@ ends_more word bs b = elim (cases_lt (length bs) (length word)) [
       let whole : suc (length bs) - length word ≡ 0 = omega arith in
       let none : length bs - length word ≡ 0 = omega arith in
       ap (λ n. bytes_eq word (drop n (b ∷ bs))) whole
-      ∙ sym (ap (λ t. bytes_eq word (b ∷ bs) || t) (ap (λ n. bytes_eq word (drop n bs)) none ∙ long_differs word bs (λ e. omega arith)) ∙ or_false (bytes_eq word (b ∷ bs)))
+      ∙ sym (ap (λ t. bytes_eq word (b ∷ bs) || t) (ap (λ n. bytes_eq word (drop n bs)) none
+      ∙ long_differs word bs (λ e. omega arith)) ∙ or_false (bytes_eq word (b ∷ bs)))
   | inr short ↦
       let n : suc (length bs) - length word ≡ suc (length bs - length word) = omega arith in
       ap (λ n. bytes_eq word (drop n (b ∷ bs))) n ∙ ap (λ t. t || ends word bs) (sym (long_differs word (b ∷ bs) (λ e. omega arith)))
@@ -129,18 +133,26 @@ more : (b : ℕ) (bs : List ℕ) (t : Bool) → nat_eq 47 b ≡ t → (holds_ste
 unfolding holds_step ends_with_step
 more b bs t e =
     ap (λ x. (x || holds (codes "/../") (b ∷ bs)) || (ends (codes "/.") (b ∷ bs) || ends (codes "/..") (b ∷ bs))) (holds_more (codes "./") bs b t e)
-    ∙ ap (λ x. (((t && begins (codes "./") bs) || holds (codes "/./") bs) || x) || (ends (codes "/.") (b ∷ bs) || ends (codes "/..") (b ∷ bs))) (holds_more (codes "../") bs b t e)
-    ∙ ap (λ x. (((t && begins (codes "./") bs) || holds (codes "/./") bs) || ((t && begins (codes "../") bs) || holds (codes "/../") bs)) || (x || ends (codes "/..") (b ∷ bs))) (ends_slash (codes ".") bs b t e)
-    ∙ ap (λ x. (((t && begins (codes "./") bs) || holds (codes "/./") bs) || ((t && begins (codes "../") bs) || holds (codes "/../") bs)) || (((t && bytes_eq bs (codes ".")) || ends (codes "/.") bs) || x)) (ends_slash (codes "..") bs b t e)
+    ∙ ap (λ x. (((t && begins (codes "./") bs) || holds (codes "/./") bs) || x)
+    || (ends (codes "/.") (b ∷ bs) || ends (codes "/..") (b ∷ bs))) (holds_more (codes "../") bs b t e)
+    ∙ ap (λ x. (((t && begins (codes "./") bs) || holds (codes "/./") bs)
+    || ((t && begins (codes "../") bs) || holds (codes "/../") bs)) || (x || ends (codes "/..") (b ∷ bs)))
+    (ends_slash (codes ".") bs b t e)
+    ∙ ap (λ x. (((t && begins (codes "./") bs) || holds (codes "/./") bs)
+    || ((t && begins (codes "../") bs) || holds (codes "/../") bs))
+    || (((t && bytes_eq bs (codes ".")) || ends (codes "/.") bs) || x)) (ends_slash (codes "..") bs b t e)
 
 others_step : (b : ℕ) (bs : List ℕ) (t : Bool) → is_slash b ≡ t → list_any is_step (other_parts bs) ≡ (holds_step bs || ends_with_step bs)
     → list_any is_step (cond t (slice_split is_slash bs) (other_parts bs)) ≡ (holds_step (b ∷ bs) || ends_with_step (b ∷ bs))
 unfolding is_step begins_with_step holds_step ends_with_step
 others_step b bs true e on =
-    ap (list_any is_step) (split_parts bs) ∙ ap (λ t. t || list_any is_step (other_parts bs)) (first_step_is bs) ∙ ap (λ t. (is_step bs || begins_with_step bs) || t) on
+    ap (list_any is_step) (split_parts bs) ∙ ap (λ t. t || list_any is_step (other_parts bs)) (first_step_is bs)
+    ∙ ap (λ t. (is_step bs || begins_with_step bs) || t) on
     ∙ or_turned (is_step bs) (begins_with_step bs) (holds_step bs) (ends_with_step bs)
-    ∙ ap (λ t. t || (is_step bs || ends_with_step bs)) (or_middle (begins (codes "./") bs) (begins (codes "../") bs) (holds (codes "/./") bs) (holds (codes "/../") bs))
-    ∙ ap (λ t. ((begins (codes "./") bs || holds (codes "/./") bs) || (begins (codes "../") bs || holds (codes "/../") bs)) || t) (or_middle (bytes_eq bs (codes ".")) (bytes_eq bs (codes "..")) (ends (codes "/.") bs) (ends (codes "/..") bs))
+    ∙ ap (λ t. t || (is_step bs || ends_with_step bs))
+    (or_middle (begins (codes "./") bs) (begins (codes "../") bs) (holds (codes "/./") bs) (holds (codes "/../") bs))
+    ∙ ap (λ t. ((begins (codes "./") bs || holds (codes "/./") bs) || (begins (codes "../") bs || holds (codes "/../") bs)) || t)
+    (or_middle (bytes_eq bs (codes ".")) (bytes_eq bs (codes "..")) (ends (codes "/.") bs) (ends (codes "/..") bs))
     ∙ sym (more b bs true (eq_turned 47 b ∙ e))
 others_step b bs false e on = on ∙ sym (more b bs false (eq_turned 47 b ∙ e))
 

@@ -13,7 +13,8 @@ pub squeezed-space : (bs : List ℕ) → squeezed (32 ∷ bs) ≡ 32 ∷ squeeze
 squeezed-space [] = refl
 squeezed-space (b ∷ bs) = elim (eqb_tells b 32) [
   | inl is ↦ subst (λ (c : ℕ). squeezed (32 ∷ c ∷ bs) ≡ 32 ∷ squeezed (trimmed_start (c ∷ bs))) (sym is.1) (squeezed-space bs)
-  | inr other ↦ cond-false (nat_eq b 32) (squeezed (b ∷ bs)) (32 ∷ squeezed (b ∷ bs)) other.0 ∙ ap (λ t. 32 ∷ squeezed t) (sym (trimmed_start-other b bs other.1))
+  | inr other ↦ cond-false (nat_eq b 32) (squeezed (b ∷ bs)) (32 ∷ squeezed (b ∷ bs)) other.0
+      ∙ ap (λ t. 32 ∷ squeezed t) (sym (trimmed_start-other b bs other.1))
 ]
 
 pub squeezed-other : (b : ℕ) (bs : List ℕ) → b ≢ 32 → squeezed (b ∷ bs) ≡ b ∷ squeezed bs
@@ -21,7 +22,8 @@ squeezed-other b bs other = ap (λ t. cond (t && begins_with_space bs) (squeezed
 
 pub squeezed-others : (xs bs : List ℕ) → All (λ b. b ≢ 32) xs → squeezed (xs ++ bs) ≡ xs ++ squeezed bs
 squeezed-others [] bs others = refl
-squeezed-others (x ∷ xs) bs others = squeezed-other x (xs ++ bs) (All-head (λ b. b ≢ 32) x xs others) ∙ ap (λ t. x ∷ t) (squeezed-others xs bs (All-tail (λ b. b ≢ 32) x xs others))
+squeezed-others (x ∷ xs) bs others = squeezed-other x (xs ++ bs) (All-head (λ b. b ≢ 32) x xs others)
+    ∙ ap (λ t. x ∷ t) (squeezed-others xs bs (All-tail (λ b. b ≢ 32) x xs others))
 
 -- what is left to read, where a space was read last or not
 abbrev pub left_after : Bool → List ℕ → List ℕ
@@ -38,7 +40,8 @@ pub wrote_other : (t : Bool) (c : ℕ) (out new bs rest whole : List ℕ) → c 
 wrote_other t c out new bs rest whole other is made had =
     let others = encode_others c other in
     let now : squeezed (left_after t bs) ≡ encode_utf8 c ++ squeezed rest =
-    ap (λ x. squeezed (left_after t x)) is ∙ ap squeezed (left_others t (encode_utf8 c) rest others (encode_some c)) ∙ squeezed-others (encode_utf8 c) rest others in
+    ap (λ x. squeezed (left_after t x)) is ∙ ap squeezed (left_others t (encode_utf8 c) rest others (encode_some c))
+    ∙ squeezed-others (encode_utf8 c) rest others in
     ap (λ x. new ++ squeezed (left_after x rest)) (differs c 32 other) ∙ ap (λ x. x ++ squeezed rest) made ∙ append_assoc out (encode_utf8 c) (squeezed rest)
     ∙ ap (λ x. out ++ x) (sym now) ∙ had
 
@@ -51,11 +54,14 @@ pub wrote_space : (t : Bool) (c : ℕ) (out new bs rest whole : List ℕ) → c 
 wrote_space t c out new bs rest whole e first is made had =
     let now : squeezed (left_after t bs) ≡ 32 ∷ squeezed (trimmed_start rest) =
     ap (λ x. squeezed (left_after x bs)) first ∙ ap squeezed (space_first c bs rest e is) ∙ squeezed-space rest in
-    ap (λ x. new ++ squeezed (left_after (nat_eq x 32) rest)) e ∙ ap (λ x. x ++ squeezed (trimmed_start rest)) (made ∙ ap (λ x. out ++ x) (ap encode_utf8 e ∙ encode_ascii 32 (lit< tt)))
+    ap (λ x. new ++ squeezed (left_after (nat_eq x 32) rest)) e ∙ ap (λ x. x ++ squeezed (trimmed_start rest))
+    (made ∙ ap (λ x. out ++ x) (ap encode_utf8 e ∙ encode_ascii 32 (lit< tt)))
     ∙ append_assoc out (32 ∷ []) (squeezed (trimmed_start rest)) ∙ ap (λ x. out ++ x) (sym now) ∙ had
 
 -- a space that follows another one was left out
 pub left_out : (t : Bool) (c : ℕ) (out bs rest whole : List ℕ) → c ≡ 32 → t ≡ true → bs ≡ encode_utf8 c ++ rest
     → out ++ squeezed (left_after t bs) ≡ whole → out ++ squeezed (left_after (nat_eq c 32) rest) ≡ whole
 left_out t c out bs rest whole e after is had =
-    ap (λ x. out ++ squeezed (left_after (nat_eq x 32) rest)) e ∙ sym (ap (λ x. out ++ squeezed (left_after x bs)) after ∙ ap (λ x. out ++ squeezed (trimmed_start x)) (space_first c bs rest e is)) ∙ had
+    ap (λ x. out ++ squeezed (left_after (nat_eq x 32) rest)) e
+    ∙ sym (ap (λ x. out ++ squeezed (left_after x bs)) after ∙ ap (λ x. out ++ squeezed (trimmed_start x))
+    (space_first c bs rest e is)) ∙ had

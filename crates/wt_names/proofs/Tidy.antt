@@ -14,12 +14,14 @@ IsSingle (b ∷ bs) = (b ≡ 32 → begins_with_space bs ≡ false) × IsSingle 
 begins_squeezed : (bs : List ℕ) → begins_with_space bs ≡ false → begins_with_space (squeezed bs) ≡ false
 begins_squeezed [] e = refl
 begins_squeezed (b ∷ bs) e =
-    cond_both (nat_eq b 32 && begins_with_space bs) (squeezed bs) (b ∷ squeezed bs) (λ x. begins_with_space x ≡ false) (λ t. absurd (let z : nat_eq b 32 ≡ false = e in grind (arith, t))) (λ _. e)
+    cond_both (nat_eq b 32 && begins_with_space bs) (squeezed bs) (b ∷ squeezed bs) (λ x. begins_with_space x ≡ false)
+    (λ t. absurd (let z : nat_eq b 32 ≡ false = e in grind (arith, t))) (λ _. e)
 
 pub single_squeezed : (bs : List ℕ) → IsSingle (squeezed bs)
 single_squeezed [] = tt
 single_squeezed (b ∷ bs) =
-    cond_both (nat_eq b 32 && begins_with_space bs) (squeezed bs) (b ∷ squeezed bs) IsSingle (λ _. single_squeezed bs) (λ t. ((λ e. begins_squeezed bs (sym (ap (λ u. u && begins_with_space bs) (eq-eqb b 32 e)) ∙ t)), single_squeezed bs))
+    cond_both (nat_eq b 32 && begins_with_space bs) (squeezed bs) (b ∷ squeezed bs) IsSingle (λ _. single_squeezed bs)
+    (λ t. ((λ e. begins_squeezed bs (sym (ap (λ u. u && begins_with_space bs) (eq-eqb b 32 e)) ∙ t)), single_squeezed bs))
 
 kept : (t u : Bool) → (t ≡ true → u ≡ false) → (t && u) ≡ false
 kept true u h = h refl
@@ -49,12 +51,14 @@ single_trimmed_start (b ∷ bs) s = cond_both (nat_eq b 32) (trimmed_start bs) (
 
 begins_trimmed_end : (bs : List ℕ) → begins_with_space bs ≡ false → begins_with_space (trimmed_end bs) ≡ false
 begins_trimmed_end [] e = refl
-begins_trimmed_end (b ∷ bs) e = cond_both (nat_eq b 32 && nat_eq (length (trimmed_end bs)) 0) [] (b ∷ trimmed_end bs) (λ x. begins_with_space x ≡ false) (λ _. refl) (λ _. e)
+begins_trimmed_end (b ∷ bs) e = cond_both (nat_eq b 32 && nat_eq (length (trimmed_end bs)) 0) [] (b ∷ trimmed_end bs)
+    (λ x. begins_with_space x ≡ false) (λ _. refl) (λ _. e)
 
 pub single_trimmed_end : (bs : List ℕ) → IsSingle bs → IsSingle (trimmed_end bs)
 single_trimmed_end [] s = tt
 single_trimmed_end (b ∷ bs) s =
-    cond_both (nat_eq b 32 && nat_eq (length (trimmed_end bs)) 0) [] (b ∷ trimmed_end bs) IsSingle (λ _. tt) (λ _. ((λ e. begins_trimmed_end bs (s.0 e)), single_trimmed_end bs s.1))
+    cond_both (nat_eq b 32 && nat_eq (length (trimmed_end bs)) 0) [] (b ∷ trimmed_end bs) IsSingle (λ _. tt)
+    (λ _. ((λ e. begins_trimmed_end bs (s.0 e)), single_trimmed_end bs s.1))
 
 pub single_trimmed : (bs : List ℕ) → IsSingle bs → IsSingle (trimmed bs)
 single_trimmed bs s = single_trimmed_end (trimmed_start bs) (single_trimmed_start bs s)
@@ -72,7 +76,8 @@ pub trimmed_start_same : (bs : List ℕ) → begins_with_space bs ≡ false → 
 trimmed_start_same [] e = refl
 trimmed_start_same (b ∷ bs) e = cond-false (nat_eq b 32) (trimmed_start bs) (b ∷ bs) e
 
-trimmed_end_again : (t : Bool) (b : ℕ) (bs : List ℕ) → (nat_eq b 32 && nat_eq (length bs) 0) ≡ t → trimmed_end bs ≡ bs → trimmed_end (cond t [] (b ∷ bs)) ≡ cond t [] (b ∷ bs)
+trimmed_end_again : (t : Bool) (b : ℕ) (bs : List ℕ) → (nat_eq b 32 && nat_eq (length bs) 0) ≡ t → trimmed_end bs ≡ bs
+    → trimmed_end (cond t [] (b ∷ bs)) ≡ cond t [] (b ∷ bs)
 trimmed_end_again true b bs e same = refl
 trimmed_end_again false b bs e same = ap (λ x. cond (nat_eq b 32 && nat_eq (length x) 0) [] (b ∷ x)) same ∙ ap (λ t. cond t [] (b ∷ bs)) e
 
@@ -101,7 +106,8 @@ not_empty false x xs some = refl
 pub trimmed_end-append : (xs ys : List ℕ) → 0 < length ys → trimmed_end ys ≡ ys → trimmed_end (xs ++ ys) ≡ xs ++ ys
 trimmed_end-append [] ys some e = e
 trimmed_end-append (x ∷ xs) ys some e =
-    ap (λ t. cond (nat_eq x 32 && nat_eq (length t) 0) [] (x ∷ t)) (trimmed_end-append xs ys some e) ∙ not_empty (nat_eq x 32) x (xs ++ ys) (simp length-append (omega arith))
+    ap (λ t. cond (nat_eq x 32 && nat_eq (length t) 0) [] (x ∷ t)) (trimmed_end-append xs ys some e)
+    ∙ not_empty (nat_eq x 32) x (xs ++ ys) (simp length-append (omega arith))
 
 -- ---- the first letter raised
 
@@ -125,7 +131,8 @@ ends_raised (b ∷ bs) start end =
     let empty = nat_eq (length (trimmed_end bs)) 0 in
     let whole : b ∷ trimmed_end bs ≡ b ∷ bs = sym (other_first (nat_eq b 32) empty b (trimmed_end bs) start) ∙ end in
     let rest : trimmed_end bs ≡ bs = cc in
-    other_first (nat_eq (to_ascii_uppercase b) 32) empty (to_ascii_uppercase b) (trimmed_end bs) (upper_space b ∙ start) ∙ ap (λ x. to_ascii_uppercase b ∷ x) rest
+    other_first (nat_eq (to_ascii_uppercase b) 32) empty (to_ascii_uppercase b) (trimmed_end bs) (upper_space b ∙ start)
+    ∙ ap (λ x. to_ascii_uppercase b ∷ x) rest
 
 pub trimmed-raised : (bs : List ℕ) → trimmed bs ≡ bs → trimmed (raised bs) ≡ raised bs
 trimmed-raised bs e = trimmed_same (raised bs) (begins_raised bs ∙ begins_same bs e) (ends_raised bs (begins_same bs e) (ends_same bs e))

@@ -92,8 +92,10 @@ squeezed_chars (c ∷ cs) are =
     let on = squeezed_chars cs both.1 in
     elim (cases_lt c 128) [
       | inl ascii ↦ subst IsUtf8 (sym (ap (λ x. squeezed (x ++ rest)) (encode_ascii c ascii)))
-          (cond_both (nat_eq c 32 && begins_with_space rest) (squeezed rest) (c ∷ squeezed rest) IsUtf8 (λ _. on) (λ _. IsUtf8-append (c ∷ []) (squeezed rest) (one_byte c ascii) on))
-      | inr wide ↦ subst IsUtf8 (sym (squeezed-others (encode_utf8 c) rest (encode_others c (λ e. omega arith)))) (IsUtf8-append (encode_utf8 c) (squeezed rest) (IsUtf8-encode c both.0) on)
+          (cond_both (nat_eq c 32 && begins_with_space rest) (squeezed rest) (c ∷ squeezed rest) IsUtf8 (λ _. on)
+          (λ _. IsUtf8-append (c ∷ []) (squeezed rest) (one_byte c ascii) on))
+      | inr wide ↦ subst IsUtf8 (sym (squeezed-others (encode_utf8 c) rest (encode_others c (λ e. omega arith))))
+          (IsUtf8-append (encode_utf8 c) (squeezed rest) (IsUtf8-encode c both.0) on)
     ]
 
 pub utf8_squeezed : (bs : List ℕ) → IsUtf8 bs → IsUtf8 (squeezed bs)
@@ -109,7 +111,8 @@ raised_chars : (cs : List ℕ) → all_scalars cs ≡ true → IsUtf8 (raised (e
 raised_chars [] are = IsUtf8-nil
 raised_chars (c ∷ cs) are =
     let both = both_true _ _ are in
-    subst IsUtf8 (raised_is c (encode_utf8_all (c ∷ cs)) (encode_utf8_all cs) refl) (IsUtf8-append _ _ (IsUtf8-encode (to_ascii_uppercase c) (upper_scalar c both.0)) (cs, (both.1, refl)))
+    subst IsUtf8 (raised_is c (encode_utf8_all (c ∷ cs)) (encode_utf8_all cs) refl)
+    (IsUtf8-append _ _ (IsUtf8-encode (to_ascii_uppercase c) (upper_scalar c both.0)) (cs, (both.1, refl)))
 
 pub utf8_raised : (bs : List ℕ) → IsUtf8 bs → IsUtf8 (raised bs)
 utf8_raised bs (cs, (are, is)) = subst IsUtf8 (ap raised is) (raised_chars cs are)
@@ -133,7 +136,8 @@ utf8_tail c bs small is = (utf8_around [] bs c small is).1
 utf8_trimmed_start : (bs : List ℕ) → IsUtf8 bs → IsUtf8 (trimmed_start bs)
 utf8_trimmed_start [] is = is
 utf8_trimmed_start (b ∷ bs) is =
-    cond_both (nat_eq b 32) (trimmed_start bs) (b ∷ bs) IsUtf8 (λ e. let at = eqb-true b 32 e in utf8_trimmed_start bs (utf8_tail b bs (omega arith) is)) (λ _. is)
+    cond_both (nat_eq b 32) (trimmed_start bs) (b ∷ bs) IsUtf8
+    (λ e. let at = eqb-true b 32 e in utf8_trimmed_start bs (utf8_tail b bs (omega arith) is)) (λ _. is)
 
 end_step : (t : Bool) (b : ℕ) (bs es : List ℕ) → (t ≡ true → b ≡ 32) → (es ≡ bs) ⊎ ((rest : List ℕ) × (bs ≡ es ++ 32 ∷ rest))
     → (cond t [] (b ∷ es) ≡ b ∷ bs) ⊎ ((rest : List ℕ) × (b ∷ bs ≡ cond t [] (b ∷ es) ++ 32 ∷ rest))
@@ -155,19 +159,25 @@ utf8_trimmed bs is =
 
 -- ---- a title that is read from a text
 
-page_utf8 : (s : List ℕ) (o : Option (List ℕ × List ℕ)) → MatchOption o (Lacks (is_sign 35) s) (λ p. (s ≡ p.0 ++ 35 ∷ p.1) × Lacks (is_sign 35) p.0) → IsUtf8 s → IsUtf8 (page_part o s)
+page_utf8 : (s : List ℕ) (o : Option (List ℕ × List ℕ))
+    → MatchOption o (Lacks (is_sign 35) s) (λ p. (s ≡ p.0 ++ 35 ∷ p.1) × Lacks (is_sign 35) p.0) → IsUtf8 s → IsUtf8 (page_part o s)
 page_utf8 s None h is = is
 page_utf8 s (Some p) h is = (utf8_around p.0 p.1 35 (lit< tt) (subst IsUtf8 h.0 is)).0
 
-fragment_utf8 : (s : List ℕ) (o : Option (List ℕ × List ℕ)) → MatchOption o (Lacks (is_sign 35) s) (λ p. (s ≡ p.0 ++ 35 ∷ p.1) × Lacks (is_sign 35) p.0) → IsUtf8 s → IfSome (fragment_part o) IsUtf8
+fragment_utf8 : (s : List ℕ) (o : Option (List ℕ × List ℕ))
+    → MatchOption o (Lacks (is_sign 35) s) (λ p. (s ≡ p.0 ++ 35 ∷ p.1) × Lacks (is_sign 35) p.0) → IsUtf8 s
+    → IfSome (fragment_part o) IsUtf8
 fragment_utf8 s None h is = tt
 fragment_utf8 s (Some p) h is = utf8_trimmed p.1 (utf8_around p.0 p.1 35 (lit< tt) (subst IsUtf8 h.0 is)).1
 
-name_step : (w rest : List ℕ) (o : Option Ns) → IsUtf8 w → IsUtf8 rest → IsUtf8 (unwrap_or {T = Ns × List ℕ} (option_map (λ ns. (ns, trimmed rest)) o) (Main, w)).1
+name_step : (w rest : List ℕ) (o : Option Ns) → IsUtf8 w → IsUtf8 rest
+    → IsUtf8 (unwrap_or {T = Ns × List ℕ} (option_map (λ ns. (ns, trimmed rest)) o) (Main, w)).1
 name_step w rest None is part = is
 name_step w rest (Some ns) is part = utf8_trimmed rest part
 
-name_utf8 : (w : List ℕ) (o : Option (List ℕ × List ℕ)) → MatchOption o (Lacks (is_sign 58) w) (λ p. (w ≡ p.0 ++ 58 ∷ p.1) × Lacks (is_sign 58) p.0) → IsUtf8 w → IsUtf8 (unwrap_or {T = Ns × List ℕ} (named_part o) (Main, w)).1
+name_utf8 : (w : List ℕ) (o : Option (List ℕ × List ℕ))
+    → MatchOption o (Lacks (is_sign 58) w) (λ p. (w ≡ p.0 ++ 58 ∷ p.1) × Lacks (is_sign 58) p.0) → IsUtf8 w
+    → IsUtf8 (unwrap_or {T = Ns × List ℕ} (named_part o) (Main, w)).1
 name_utf8 w None h is = is
 name_utf8 w (Some p) h is = name_step w p.1 (namespace_named (trimmed p.0)) is (utf8_around p.0 p.1 58 (lit< tt) (subst IsUtf8 h.0 is)).1
 

@@ -29,7 +29,8 @@ found_step : (test : List ℕ → Bool) (t : Bool) (b : ℕ) (bs : List ℕ) →
 found_step test true b bs here e on = ([], b ∷ bs, refl, here)
 found_step test false b bs here e on = let found = on e in (b ∷ found.0, found.1, ap (λ x. b ∷ x) found.2, found.3)
 
-pub anywhere_found : (test : List ℕ → Bool) (bs : List ℕ) → anywhere test bs ≡ true → (front : List ℕ) × (rest : List ℕ) × (bs ≡ front ++ rest) × (test rest ≡ true)
+pub anywhere_found : (test : List ℕ → Bool) (bs : List ℕ) → anywhere test bs ≡ true
+    → (front : List ℕ) × (rest : List ℕ) × (bs ≡ front ++ rest) × (test rest ≡ true)
 anywhere_found test [] e = ([], [], refl, e)
 anywhere_found test (b ∷ bs) e = found_step test (test (b ∷ bs)) b bs refl e (anywhere_found test bs)
 
@@ -44,14 +45,16 @@ begins_rest word bs e =
 pub holds_is : (r : Bool) (word text : List ℕ) → ((r ≡ true) ↔ HasSubslice text word) → r ≡ holds word text
 holds_is r word text h = same_tests r (holds word text)
     (λ e. let parts = h.0 e in ap (holds word) parts.2 ∙ anywhere_after (begins word) parts.0 (word ++ parts.1) (begins-append word parts.1))
-    (λ e. let found = anywhere_found (begins word) text e in h.1 (found.0, drop (length word) found.1, found.2 ∙ ap (λ x. found.0 ++ x) (begins_rest word found.1 found.3)))
+    (λ e. let found = anywhere_found (begins word) text e in
+    h.1 (found.0, drop (length word) found.1, found.2 ∙ ap (λ x. found.0 ++ x) (begins_rest word found.1 found.3)))
 
 or_left : (t u : Bool) → t ≡ false → (t || u) ≡ u
 or_left true u e = absurd (let z : true ≡ false = e in cc)
 or_left false u e = refl
 
 -- where no such rest begins at a place, the search goes on after it
-pub anywhere_next : (test : List ℕ → Bool) (bs : List ℕ) (i : ℕ) → i < length bs → test (drop i bs) ≡ false → anywhere test (drop (i + 1) bs) ≡ anywhere test (drop i bs)
+pub anywhere_next : (test : List ℕ → Bool) (bs : List ℕ) (i : ℕ) → i < length bs → test (drop i bs) ≡ false
+    → anywhere test (drop (i + 1) bs) ≡ anywhere test (drop i bs)
 anywhere_next test bs i inside none =
     let step = drop_more bs i 0 inside in
     sym (ap (anywhere test) step ∙ or_left (test (get_or bs i 0 ∷ drop (i + 1) bs)) (anywhere test (drop (i + 1) bs)) (ap test (sym step) ∙ none))

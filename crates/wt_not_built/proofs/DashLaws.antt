@@ -25,11 +25,15 @@ another (suc n) b o xs lt e = ap (λ t. t && begins_dashes n xs) (no_dash b e)
 pub dash_turn : (left i : ℕ) (o : Option ℕ) (bytes : List ℕ) (xs : List Item) → i < length bytes → 0 < left → get_or bytes i 0 ≡ 45
     → begins_dashes left (map (char o) (drop i bytes) ++ xs) ≡ begins_dashes (left - 1) (map (char o) (drop (i + 1) bytes) ++ xs)
 dash_turn left i o bytes xs lt some e =
-    ap (λ d. begins_dashes left (map (char o) d ++ xs)) (drop_more bytes i 0 lt) ∙ one_dash left (get_or bytes i 0) o (map (char o) (drop (i + 1) bytes) ++ xs) some e
+    ap (λ d. begins_dashes left (map (char o) d ++ xs)) (drop_more bytes i 0 lt)
+    ∙ one_dash left (get_or bytes i 0) o (map (char o) (drop (i + 1) bytes) ++ xs) some e
 
-pub dash_stop : (left i : ℕ) (o : Option ℕ) (bytes : List ℕ) (xs : List Item) → i < length bytes → 0 < left → (get_or bytes i 0 ≡ 45 → ⊥) → begins_dashes left (map (char o) (drop i bytes) ++ xs) ≡ false
+pub dash_stop : (left i : ℕ) (o : Option ℕ) (bytes : List ℕ) (xs : List Item) → i < length bytes → 0 < left
+    → (get_or bytes i 0 ≡ 45 → ⊥) → begins_dashes left (map (char o) (drop i bytes) ++ xs) ≡ false
 dash_stop left i o bytes xs lt some e =
-    ap (λ d. begins_dashes left (map (char o) d ++ xs)) (drop_more bytes i 0 lt) ∙ another left (get_or bytes i 0) o (map (char o) (drop (i + 1) bytes) ++ xs) some e
+    ap (λ d. begins_dashes left (map (char o) d ++ xs)) (drop_more bytes i 0 lt)
+    ∙ another left (get_or bytes i 0) o (map (char o) (drop (i + 1) bytes) ++ xs) some e
 
-pub dash_end : (left i : ℕ) (o : Option ℕ) (bytes : List ℕ) (xs : List Item) → length bytes ≤ i → begins_dashes left (map (char o) (drop i bytes) ++ xs) ≡ begins_dashes left xs
+pub dash_end : (left i : ℕ) (o : Option ℕ) (bytes : List ℕ) (xs : List Item) → length bytes ≤ i
+    → begins_dashes left (map (char o) (drop i bytes) ++ xs) ≡ begins_dashes left xs
 dash_end left i o bytes xs le = ap (λ d. begins_dashes left (map (char o) d ++ xs)) (drop_all i bytes le)

@@ -29,9 +29,18 @@ some_byte front (char o b) xs e = omega arith
 some_byte front (whole f o bs) xs e = absurd cc
 
 first_here : (before xs : List Item) (x : Item) → is_unbuilt (is_front before) (x ∷ xs) ≡ true → FirstFrom before (x ∷ xs) 0
-first_here before xs x e = record { item = 0; within = omega arith; here = e; earlier = λ k lt. absurd (omega arith); at = refl; on_page = some_byte (is_front before) x xs e }
+first_here before xs x e = record {
+  item = 0;
+  within = omega arith;
+  here = e;
+  earlier = λ k lt. absurd (omega arith);
+  at =
+      refl;
+  on_page = some_byte (is_front before) x xs e;
+}
 
-first_later : (before xs : List Item) (x : Item) (n : ℕ) → is_unbuilt (is_front before) (x ∷ xs) ≡ false → FirstFrom (x ∷ before) xs n → FirstFrom before (x ∷ xs) (length (source x) + n)
+first_later : (before xs : List Item) (x : Item) (n : ℕ) → is_unbuilt (is_front before) (x ∷ xs) ≡ false
+    → FirstFrom (x ∷ before) xs n → FirstFrom before (x ∷ xs) (length (source x) + n)
 first_later before xs x n e first = record {
   item = suc first.item;
   within = omega (arith, first.within);
@@ -62,10 +71,19 @@ found_by before xs x false (Some n) e rest = first_later before xs x n e rest
 found : (before xs : List Item) → Found before xs (first_from (is_front before) xs)
 unfolding NoneFrom
 found before [] = λ k lt. absurd (omega arith)
-found before (x ∷ xs) = found_by before xs x (is_unbuilt (is_front before) (x ∷ xs)) (first_from (is_front_after (is_front before) x) xs) refl (found (x ∷ before) xs)
+found before (x ∷ xs) = found_by before xs x (is_unbuilt (is_front before) (x ∷ xs))
+    (first_from (is_front_after (is_front before) x) xs) refl (found (x ∷ before) xs)
 
 page_first : (page : List ℕ) (n : ℕ) → FirstFrom [] (page_items page) n → IsFirstUnbuilt page n
-page_first page n first = record { item = first.item; within = first.within; here = first.here; before = first.earlier; at = first.at; on_page = omega (arith, first.on_page, ap length (page_sources page)) }
+page_first page n first = record {
+  item = first.item;
+  within = first.within;
+  here = first.here;
+  before = first.earlier;
+  at =
+      first.at;
+  on_page = omega (arith, first.on_page, ap length (page_sources page));
+}
 
 page_found : (page : List ℕ) (o : Option ℕ) → Found [] (page_items page) o → MatchOption o (IsBuilt page) (λ n. IsFirstUnbuilt page n)
 unfolding NoneFrom

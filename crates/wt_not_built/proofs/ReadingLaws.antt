@@ -21,17 +21,23 @@ char_sources o (b ∷ bs) xs = ap (λ cs. b ∷ cs) (char_sources o bs xs)
 
 -- the first of some characters
 first_char : (front : Bool) (o : Option ℕ) (own text : List ℕ) (xs : List Item) → 0 < length own → text ≡ own ++ sources xs
-    → is_unbuilt front (map (char o) own ++ xs) ≡ begins_anywhere (get_or own 0 0) text || (front && (get_or own 0 0 == 32 || begins_dashes 4 (map (char o) own ++ xs)))
+    → is_unbuilt front (map (char o) own ++ xs) ≡ begins_anywhere (get_or own 0 0) text
+    || (front && (get_or own 0 0 == 32 || begins_dashes 4 (map (char o) own ++ xs)))
 first_char front o [] text xs some e = absurd (omega arith)
 first_char front o (b ∷ bs) text xs some e =
     ap (λ t. begins_anywhere b t || (front && (b == 32 || begins_dashes 4 (map (char o) (b ∷ bs) ++ xs)))) (ap (λ cs. b ∷ cs) (char_sources o bs xs) ∙ sym e)
 
-pub char_anywhere : (front : Bool) (o : Option ℕ) (own text : List ℕ) (xs : List Item) → 0 < length own → text ≡ own ++ sources xs → begins_anywhere (get_or own 0 0) text ≡ true → true ≡ is_unbuilt front (map (char o) own ++ xs)
-char_anywhere front o own text xs some e h = sym (first_char front o own text xs some e ∙ ap (λ v. v || (front && (get_or own 0 0 == 32 || begins_dashes 4 (map (char o) own ++ xs)))) h)
+pub char_anywhere : (front : Bool) (o : Option ℕ) (own text : List ℕ) (xs : List Item) → 0 < length own → text ≡ own ++ sources xs
+    → begins_anywhere (get_or own 0 0) text ≡ true → true ≡ is_unbuilt front (map (char o) own ++ xs)
+char_anywhere front o own text xs some e h = sym
+    (first_char front o own text xs some e ∙ ap (λ v. v || (front && (get_or own 0 0 == 32 || begins_dashes 4 (map (char o) own ++ xs)))) h)
 
-pub char_in_line : (front r : Bool) (o : Option ℕ) (own text : List ℕ) (xs : List Item) → 0 < length own → text ≡ own ++ sources xs → begins_anywhere (get_or own 0 0) text ≡ false
+pub char_in_line : (front r : Bool) (o : Option ℕ) (own text : List ℕ) (xs : List Item) → 0 < length own
+    → text ≡ own ++ sources xs → begins_anywhere (get_or own 0 0) text ≡ false
     → r ≡ (front && (get_or own 0 0 == 32 || begins_dashes 4 (map (char o) own ++ xs))) → r ≡ is_unbuilt front (map (char o) own ++ xs)
-char_in_line front r o own text xs some e h k = k ∙ sym (first_char front o own text xs some e ∙ ap (λ v. v || (front && (get_or own 0 0 == 32 || begins_dashes 4 (map (char o) own ++ xs)))) h)
+char_in_line front r o own text xs some e h k = k
+    ∙ sym (first_char front o own text xs some e
+    ∙ ap (λ v. v || (front && (get_or own 0 0 == 32 || begins_dashes 4 (map (char o) own ++ xs)))) h)
 
 or_false : (t : Bool) → (t || false) ≡ t
 or_false true = refl
@@ -48,17 +54,22 @@ char_step front at b o xs e =
     ∙ ap (λ t. option_map (λ k. at + k) (option_map (λ n. 1 + n) (first_from t xs))) (or_false (b == 10))
     ∙ map_twice at (first_from (b == 10) xs)
 
-pub char_turn : (front : Bool) (at : ℕ) (o : Option ℕ) (own : List ℕ) (xs : List Item) → at < length own → is_unbuilt front (map (char o) (drop at own) ++ xs) ≡ false
-    → option_map (λ k. at + k) (first_from front (map (char o) (drop at own) ++ xs)) ≡ option_map (λ k. at + 1 + k) (first_from (get_or own at 0 == 10) (map (char o) (drop (at + 1) own) ++ xs))
+pub char_turn : (front : Bool) (at : ℕ) (o : Option ℕ) (own : List ℕ) (xs : List Item) → at < length own
+    → is_unbuilt front (map (char o) (drop at own) ++ xs) ≡ false
+    → option_map (λ k. at + k) (first_from front (map (char o) (drop at own) ++ xs))
+    ≡ option_map (λ k. at + 1 + k) (first_from (get_or own at 0 == 10) (map (char o) (drop (at + 1) own) ++ xs))
 char_turn front at o own xs lt e =
     let more = drop_more own at 0 lt in
     ap (λ d. option_map (λ k. at + k) (first_from front (map (char o) d ++ xs))) more
     ∙ char_step front at (get_or own at 0) o (map (char o) (drop (at + 1) own) ++ xs) (ap (λ d. is_unbuilt front (map (char o) d ++ xs)) (sym more) ∙ e)
 
-stop_step : (front : Bool) (at b : ℕ) (o : Option ℕ) (xs : List Item) → is_unbuilt front (char o b ∷ xs) ≡ true → option_map (λ k. at + k) (first_from front (char o b ∷ xs)) ≡ Some (at + 0)
-stop_step front at b o xs e = ap (λ v. option_map (λ k. at + k) (if v then Some 0 else option_map (λ n. 1 + n) (first_from (is_front_after front (char o b)) xs))) e
+stop_step : (front : Bool) (at b : ℕ) (o : Option ℕ) (xs : List Item) → is_unbuilt front (char o b ∷ xs) ≡ true
+    → option_map (λ k. at + k) (first_from front (char o b ∷ xs)) ≡ Some (at + 0)
+stop_step front at b o xs e = ap (λ v. option_map (λ k. at + k)
+    (if v then Some 0 else option_map (λ n. 1 + n) (first_from (is_front_after front (char o b)) xs))) e
 
-pub char_stop : (front : Bool) (at : ℕ) (o : Option ℕ) (own : List ℕ) (xs : List Item) → at < length own → is_unbuilt front (map (char o) (drop at own) ++ xs) ≡ true
+pub char_stop : (front : Bool) (at : ℕ) (o : Option ℕ) (own : List ℕ) (xs : List Item) → at < length own
+    → is_unbuilt front (map (char o) (drop at own) ++ xs) ≡ true
     → option_map (λ k. at + k) (first_from front (map (char o) (drop at own) ++ xs)) ≡ Some at
 char_stop front at o own xs lt e =
     let more = drop_more own at 0 lt in
@@ -76,11 +87,13 @@ rest_joined at own text xs le e = ap (drop at) e ∙ drop-append-le at own (sour
 form_chars : (p : Piece) (bytes : List ℕ) → p.form ≡ form.Chars → bytes ≡ bytes_of p.text → items_of p ≡ map (char (call_of_origin p.origin)) bytes
 form_chars p bytes e h = ap (λ f. items_by f (call_of_origin p.origin) (bytes_of p.text)) e ∙ ap (map (char (call_of_origin p.origin))) (sym h)
 
-pub leaves_chars : (p : Piece) (bytes : List ℕ) (most : ℕ) (r : Option ℕ) → p.form ≡ form.Chars → bytes ≡ bytes_of p.text → ((o : Option ℕ) → Leaves most (map (char o) bytes) r) → Leaves most (items_of p) r
+pub leaves_chars : (p : Piece) (bytes : List ℕ) (most : ℕ) (r : Option ℕ) → p.form ≡ form.Chars → bytes ≡ bytes_of p.text
+    → ((o : Option ℕ) → Leaves most (map (char o) bytes) r) → Leaves most (items_of p) r
 leaves_chars p bytes most r e h f = let P : List Item → Type 0 = λ xs. Leaves most xs r in subst P (sym (form_chars p bytes e h)) (f (call_of_origin p.origin))
 
 pub read_chars_of : (front : Bool) (p : Piece) (bytes : List ℕ) (xs : List Item) (r : Reading) → p.form ≡ form.Chars → bytes ≡ bytes_of p.text
-    → ((o : Option ℕ) → first_from front (map (char o) bytes ++ xs) ≡ outcome (length bytes) r xs) → first_from front (items_of p ++ xs) ≡ outcome (length (bytes_of p.text)) r xs
+    → ((o : Option ℕ) → first_from front (map (char o) bytes ++ xs) ≡ outcome (length bytes) r xs)
+    → first_from front (items_of p ++ xs) ≡ outcome (length (bytes_of p.text)) r xs
 read_chars_of front p bytes xs r e h f =
     ap (λ is. first_from front (is ++ xs)) (form_chars p bytes e h) ∙ f (call_of_origin p.origin) ∙ ap (λ n. outcome n r xs) (ap length h)
 
@@ -98,7 +111,8 @@ one_source form.EmptyCall o bs xs = refl
 pub piece_first : (ps : List Piece) (i : ℕ) (p : Piece) → i < length ps → p ≡ get_or ps i p → items (drop i ps) ≡ items_of p ++ items (drop (i + 1) ps)
 piece_first ps i p lt is = ap items (drop_more ps i p lt) ∙ ap (λ q. items_of q ++ items (drop (i + 1) ps)) (sym is)
 
-pub piece_text : (ps : List Piece) (i : ℕ) (p : Piece) → i < length ps → p ≡ get_or ps i p → sources (items (drop i ps)) ≡ bytes_of p.text ++ sources (items (drop (i + 1) ps))
+pub piece_text : (ps : List Piece) (i : ℕ) (p : Piece) → i < length ps → p ≡ get_or ps i p
+    → sources (items (drop i ps)) ≡ bytes_of p.text ++ sources (items (drop (i + 1) ps))
 piece_text ps i p lt is = ap sources (piece_first ps i p lt is) ∙ one_source p.form (call_of_origin p.origin) (bytes_of p.text) (items (drop (i + 1) ps))
 
 pub no_more_dashes : (left : ℕ) → (left == 0) ≡ begins_dashes left []
@@ -121,7 +135,8 @@ map_sum a b (Some n) = ap Some (sym (add_assoc a b n))
 pub page_joined : (page bytes : List ℕ) (ps : List Piece) → bytes ≡ page → items ps ≡ page_items page → bytes ≡ sources (items ps)
 page_joined page bytes ps e h = e ∙ sym (page_sources page) ∙ ap sources (sym h)
 
-pub page_begun : (page : List ℕ) (ps : List Piece) → items ps ≡ page_items page → first_from true (page_items page) ≡ option_map (λ n. 0 + n) (first_from true (items ps))
+pub page_begun : (page : List ℕ) (ps : List Piece) → items ps ≡ page_items page → first_from true (page_items page)
+    ≡ option_map (λ n. 0 + n) (first_from true (items ps))
 page_begun page ps h = ap (first_from true) (sym h) ∙ map_zero (first_from true (items ps))
 
 pub cut_fits : (bytes own : List ℕ) (xs : List Item) (at : ℕ) → at ≤ length bytes → drop at bytes ≡ own ++ sources xs → at + length own ≤ length bytes
@@ -130,9 +145,12 @@ cut_fits bytes own xs at le e = omega (arith, ap length e, length-drop at bytes,
 pub cut_rest : (bytes own : List ℕ) (xs : List Item) (at : ℕ) → drop at bytes ≡ own ++ sources xs → drop (at + length own) bytes ≡ sources xs
 cut_rest bytes own xs at e = sym (drop-drop (length own) at bytes) ∙ ap (drop (length own)) e ∙ drop_at own (sources xs) (length own) refl
 
-pub read_on : (front next : Bool) (at : ℕ) (own bytes : List ℕ) (all : Option ℕ) (is xs ys zs : List Item) (r : Reading) → all ≡ option_map (λ n. at + n) (first_from front is) → is ≡ xs ++ ys
-    → zs ≡ ys → own ≡ bytes → r ≡ Passed next → first_from front (xs ++ zs) ≡ outcome (length bytes) r zs → all ≡ option_map (λ n. (at + length own) + n) (first_from next ys)
+pub read_on : (front next : Bool) (at : ℕ) (own bytes : List ℕ) (all : Option ℕ) (is xs ys zs : List Item) (r : Reading)
+    → all ≡ option_map (λ n. at + n) (first_from front is) → is ≡ xs ++ ys
+    → zs ≡ ys → own ≡ bytes → r ≡ Passed next → first_from front (xs ++ zs) ≡ outcome (length bytes) r zs
+    → all ≡ option_map (λ n. (at + length own) + n) (first_from next ys)
 read_on front next at own bytes all is xs ys zs r e h same text passed f =
     let found : first_from front (xs ++ ys) ≡ outcome (length own) (Passed next) ys =
-    ap (λ q. first_from front (xs ++ q)) (sym same) ∙ f ∙ ap (outcome (length bytes) r) same ∙ ap (λ q. outcome (length bytes) q ys) passed ∙ ap (λ q. outcome (length q) (Passed next) ys) (sym text) in
+    ap (λ q. first_from front (xs ++ q)) (sym same) ∙ f ∙ ap (outcome (length bytes) r) same
+    ∙ ap (λ q. outcome (length bytes) q ys) passed ∙ ap (λ q. outcome (length q) (Passed next) ys) (sym text) in
     e ∙ ap (option_map (λ n. at + n)) (ap (first_from front) h ∙ found) ∙ map_sum at (length own) (first_from next ys)

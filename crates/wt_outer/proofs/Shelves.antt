@@ -16,7 +16,8 @@ here_by e rest false d = let no_way : false ≡ true = d.1 refl in absurd cc
 here : (e : Entry) (es : List Entry) → look_up (e ∷ es) e.0 ≡ Some e.1
 here e es = here_by e (find (λ entry. bytes_eq entry.0 e.0) es) (bytes_eq e.0 e.0) (bytes_eq-Decides e.0 e.0)
 
-later_by : (e : Entry) (name : List ℕ) (rest : Option Entry) (v : Bool) → Decides v (e.0 ≡ name) → e.0 ≢ name → option_map (λ entry. entry.1) (cond v (Some e) rest) ≡ option_map (λ entry. entry.1) rest
+later_by : (e : Entry) (name : List ℕ) (rest : Option Entry) (v : Bool) → Decides v (e.0 ≡ name) → e.0 ≢ name
+    → option_map (λ entry. entry.1) (cond v (Some e) rest) ≡ option_map (λ entry. entry.1) rest
 later_by e name rest true d other = absurd (other (d.0 refl))
 later_by e name rest false d other = refl
 
@@ -27,7 +28,8 @@ found_all : (es : List Entry) → AllPairs (λ (a : Entry) (b : Entry). a.0 ≢ 
 found_all [] apart k d lt = absurd (omega arith)
 found_all (e ∷ es) apart zero d lt = here e es
 found_all (e ∷ es) apart (suc k) d lt =
-    later e es _ (apart 0 (suc k) d (omega arith) lt) ∙ found_all es (λ i j d less within. apart (suc i) (suc j) d (omega arith) (omega arith)) k d (omega arith)
+    later e es _ (apart 0 (suc k) d (omega arith) lt)
+    ∙ found_all es (λ i j d less within. apart (suc i) (suc j) d (omega arith) (omega arith)) k d (omega arith)
 
 absent_all : (es : List Entry) (name : List ℕ) → All (λ (e : Entry). e.0 ≢ name) es → look_up es name ≡ None
 absent_all [] name others = refl

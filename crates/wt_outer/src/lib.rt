@@ -10,12 +10,11 @@ mod directory;
 mod memory;
 mod shelf;
 mod streams;
+mod write;
 
 pub use device::{Failed, FetchRefusal, Fetched, Folder, Sink, Source};
 pub use directory::DirFolder;
 pub use memory::{MemSink, MemSource, NeverFailsSource};
 pub use shelf::{MemFolder, NeverFailsFolder};
 pub use streams::{StdSink, StdSource};
-
-#[cfg(test)]
-mod tests;
+pub use write::write_all;

@@ -1,18 +1,17 @@
 -- Blocks are nodes that are written, and what stands between them is separators.
-use Rattle.std.proofs.Common.{◌≡◌, ℕ, ◌+◌, ◌<◌, Bool, true, false, None, List, [], ◌∷◌, ◌++◌, take, drop, map, IsUtf8, refl, sym, ap, ◌∙◌, subst, arith, append_assoc, append-nil}
+use Rattle.std.proofs.Common.{◌≡◌, ℕ, ◌+◌, ◌<◌, Bool, true, false, None, List, [], ◌∷◌, ◌++◌, IsUtf8, refl, sym, ap, ◌∙◌, subst, arith, append_assoc, append-nil}
 use Rattle.std.specs.Prelude.{◌==◌, ◌&&◌, ◌||◌}
 use Rattle.std.specs.List.{flat_map, AllByRecursion}
 use Rattle.std.proofs.lemmas.Bool.Decides.{nat_tests}
-use Rattle.std.proofs.lemmas.List.{map-append, take-append-drop}
+use Rattle.std.proofs.lemmas.List.{map-append}
 use Rattle.std.proofs.lemmas.Str.{IsUtf8-nil, IsUtf8-append}
 use Rattle.wt_span.specs.declared.form.Form.{Form}
 use Rattle.wt_span.specs.declared.form.Form.TheVariants as form
-use Rattle.wt_span.specs.Items.{Item, char, whole, sources, sign}
+use Rattle.wt_span.specs.Items.{Item, char, whole, sources}
 use Rattle.wt_tree.specs.declared.kind.Kind.TheVariants as kind
 use Rattle.wt_lines.specs.Lines.{content}
-use Rattle.wt_fitting.specs.Fit.{is_blank as is_white}
-use Rattle.wt_tree.specs.declared.row.Class.TheVariants.{Anywhere}
-use Rattle.wt_tree.specs.Kinds.{shape, is_class, spelling}
+use Rattle.wt_tree.specs.Recut.{is_blank as is_white}
+use Rattle.wt_tree.specs.Kinds.{shape, is_anywhere, spelling}
 use Rattle.wt_round_trip.specs.Written.{has_level}
 use Rattle.wt_round_trip.proofs.Json.{ascii_then}
 use Rattle.wt_inline.specs.declared.loose.Loose.TheVariants.{Text, Sep}
@@ -20,10 +19,10 @@ use Rattle.wt_inline.specs.Inline.{inline_trees}
 use Rattle.wt_inline.specs.ItemTree.{ItemTrees, forest, held_by_all}
 use Rattle.wt_inline.specs.Parts.{Part, loose, node, part, parts, children, whole_tree, loose_kind}
 use Rattle.wt_build.specs.declared.block.BlockKind.{BlockKind}
-use Rattle.wt_build.specs.declared.heading.HeadingParts.{HeadingParts}
-use Rattle.wt_build.specs.Headings.{heading_parts}
+use Rattle.wt_blocks.specs.Headings.{level as heading_level, opening, inside, closing}
+use Rattle.wt_blocks.proofs.HeadingLaws.{joined as heading_joined}
 use Rattle.wt_build.specs.Rows.{ending}
-use Rattle.wt_build.specs.Blocks.{joined, line_parts, para, heading_by, heading, block, lead, without_lead, last_ending, without_ending, around}
+use Rattle.wt_build.specs.Blocks.{joined, line_parts, para, heading, block, lead, without_lead, last_ending, without_ending, around}
 use Rattle.wt_annotate.specs.Labels.{width, label_at}
 use Rattle.wt_page_round_trip.proofs.TextItems.{AreTexts, BeginsLow, EndsLow, cut_after, cut_items_before}
 use Rattle.wt_page_round_trip.proofs.OfPage.{IsPageItem, IsPageForm, AreOfPage}
@@ -46,10 +45,10 @@ inline_held true c e = refl
 inline_held false c e = e
 
 para_parent : IsInlineParent kind.Para
-para_parent = record { text = refl; elements = λ k h. inline_held (is_class (shape k).class Anywhere) _ h }
+para_parent = record { text = refl; elements = λ k h. inline_held (is_anywhere (shape k).class) _ h }
 
 heading_parent : (n : ℕ) → IsInlineParent (kind.Heading n)
-heading_parent n = record { text = refl; elements = λ k h. inline_held (is_class (shape k).class Anywhere) _ h }
+heading_parent n = record { text = refl; elements = λ k h. inline_held (is_anywhere (shape k).class) _ h }
 
 pub para_node : (ls : List (List Item)) → IsPageLine (joined ls) → IsWrittenNode 2 kind.Body (para ls)
 unfolding para label_at spelling
@@ -70,11 +69,12 @@ para_node ls h =
           source = record { own = refl; opening = IsUtf8-nil; closing = IsUtf8-nil };
           shown = refl;
           attrs = refl;
+          origin = refl;
           mark = refl;
           mw = refl;
         },
         refl,
-        children_written 3 kind.Para ps (at + 0) (next + 1) w (omega arith) (omega arith) (omega arith),
+        (tt, children_written 3 kind.Para ps (at + 0) (next + 1) w (omega arith) (omega arith) (omega arith)),
       );
     }
 
@@ -98,27 +98,26 @@ texts_utf8 run (char o b ∷ xs) t p = subst IsUtf8 (append_assoc run (b ∷ [])
 texts_utf8 run (whole f o bs ∷ xs) t p = IsUtf8-append run (bs ++ sources xs) t.0 (IsUtf8-append bs (sources xs) (form_utf8 f bs p.0.1) (texts_utf8 [] xs t.1 p.1))
 
 -- where the delimiters of a heading end, and its level
-pub record IsHeadingLine (xs : List Item) (h : HeadingParts) : Type 0 where
-  pub level : has_level (kind.Heading h.level) ≡ true
-  pub open_ends : EndsLow (take h.open_len xs)
-  pub close_begins : BeginsLow (drop h.inside_len (drop h.open_len xs))
+pub record IsHeadingLine (xs : List Item) : Type 0 where
+  pub level : has_level (kind.Heading (heading_level xs)) ≡ true
+  pub open_ends : EndsLow (opening xs)
+  pub close_begins : BeginsLow (closing xs)
 
-heading_by_node : (xs : List Item) (h : HeadingParts) → IsPageLine xs → IsHeadingLine xs h → IsWrittenNode 2 kind.Body (heading_by h xs)
-unfolding label_at inline_trees spelling
-heading_by_node xs h l c =
-    let os : List Item = take h.open_len xs in
-    let rest : List Item = drop h.open_len xs in
-    let is : List Item = take h.inside_len rest in
-    let cs : List Item = drop h.inside_len rest in
-    let t : AreTexts [] (os ++ rest) = subst (AreTexts []) (sym (take-append-drop h.open_len xs)) l.texts in
-    let p : AreOfPage (os ++ rest) = subst AreOfPage (sym (take-append-drop h.open_len xs)) l.page in
-    let q : AreTexts [] os × AreTexts [] rest = cut_after os rest c.open_ends t in
-    let u : AreTexts [] (is ++ cs) = subst (AreTexts []) (sym (take-append-drop h.inside_len rest)) q.1 in
-    let v : AreOfPage (is ++ cs) = subst AreOfPage (sym (take-append-drop h.inside_len rest)) (all_right IsPageItem os rest p) in
-    let r : AreTexts [] is × AreTexts [] cs = cut_items_before [] is cs c.close_begins u in
+pub heading_node : (xs : List Item) → IsPageLine xs → IsHeadingLine xs → IsWrittenNode 2 kind.Body (heading xs)
+unfolding heading label_at inline_trees spelling
+heading_node xs l c =
+    let n : ℕ = heading_level xs in
+    let os : List Item = opening xs in
+    let is : List Item = inside xs in
+    let cs : List Item = closing xs in
+    let t : AreTexts [] (os ++ (is ++ cs)) = subst (AreTexts []) (sym (heading_joined xs)) l.texts in
+    let p : AreOfPage (os ++ (is ++ cs)) = subst AreOfPage (sym (heading_joined xs)) l.page in
+    let q : AreTexts [] os × AreTexts [] (is ++ cs) = cut_after os (is ++ cs) c.open_ends t in
+    let v : AreOfPage (is ++ cs) = all_right IsPageItem os (is ++ cs) p in
+    let r : AreTexts [] is × AreTexts [] cs = cut_items_before [] is cs c.close_begins q.1 in
     let ps : List Part = parts Text is in
     let ts : ItemTrees = forest (children ps) in
-    let w : AreWrittenParts 3 (kind.Heading h.level) [] ps = text_parts 3 (kind.Heading h.level) (omega arith) (heading_parent h.level) [] is r.0 (all_left IsPageItem is cs v) in
+    let w : AreWrittenParts 3 (kind.Heading n) [] ps = text_parts 3 (kind.Heading n) (omega arith) (heading_parent n) [] is r.0 (all_left IsPageItem is cs v) in
     let a : width (os ++ (held_by_all ts ++ cs)) ≡ width os + width (held_by_all ts ++ cs) = wide_append os (held_by_all ts ++ cs) in
     let b : width (held_by_all ts ++ cs) ≡ width (held_by_all ts) + width cs = wide_append (held_by_all ts) cs in
     record {
@@ -130,20 +129,17 @@ heading_by_node xs h l c =
           level = c.level;
           number = (some, omega arith);
           places = (omega arith, room, omega arith, omega arith);
-          source = record { own = refl; opening = texts_utf8 [] os q.0 (all_left IsPageItem os rest p); closing = texts_utf8 [] cs r.1 (all_right IsPageItem is cs v) };
+          source = record { own = refl; opening = texts_utf8 [] os q.0 (all_left IsPageItem os (is ++ cs) p); closing = texts_utf8 [] cs r.1 (all_right IsPageItem is cs v) };
           shown = refl;
           attrs = refl;
+          origin = refl;
           mark = refl;
           mw = refl;
         },
         refl,
-        children_written 3 (kind.Heading h.level) ps (at + width os) (next + 1) w (omega arith) (omega arith) (omega arith),
+        (tt, children_written 3 (kind.Heading n) ps (at + width os) (next + 1) w (omega arith) (omega arith) (omega arith)),
       );
     }
-
-pub heading_node : (xs : List Item) → IsPageLine xs → IsHeadingLine xs (heading_parts (map sign xs)) → IsWrittenNode 2 kind.Body (heading xs)
-unfolding heading
-heading_node xs l c = heading_by_node xs (heading_parts (map sign xs)) l c
 
 -- ---- what stands in a body
 
@@ -154,7 +150,7 @@ IsBodyPart (node t) = IsWrittenNode 2 kind.Body t
 
 white_on : (run : List ℕ) (b : ℕ) → is_white run ≡ true → is_white_byte b ≡ true → is_white (run ++ b ∷ []) ≡ true
 white_on [] b h e = e
-white_on (r ∷ run) b h e = by_test (r == 32 || (r == 9 || r == 10)) h (λ g. white_on run b g e)
+white_on (r ∷ run) b h e = by_test ((r == 32 || r == 9) || r == 10) h (λ g. white_on run b g e)
   where
     by_test : (t : Bool) → (t && is_white run) ≡ true → (is_white run ≡ true → is_white (run ++ b ∷ []) ≡ true) → (t && is_white (run ++ b ∷ [])) ≡ true
     by_test true h f = f h

@@ -7,7 +7,7 @@ use Rattle.std.proofs.lemmas.List.{get_or-take, get_or-drop, get_or-reverse, len
 use Rattle.std.proofs.lemmas.List.Sums.{prefix_len-le-length, prefix_len_passes, prefix_len_stops}
 use Rattle.wt_html_grammar.proofs.Steps.{if_true}
 use Rattle.wt_span.specs.Bytes.{is_blank, blank_len}
-use Rattle.wt_build.specs.Headings.{equals, level_of, open_len, trimmed_len}
+use Rattle.wt_blocks.specs.Headings.{equals, level_of, open_len, trimmed_len}
 
 abbrev is_equals : ℕ → Bool
 is_equals s = s == 61

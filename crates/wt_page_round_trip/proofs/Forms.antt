@@ -101,11 +101,12 @@ entity_node k parent c bs small e h = record {
       source = record { own = subst IsUtf8 (sym (append-nil bs)) h.1; opening = refl; closing = refl };
       shown = entity_utf8 c bs h.0;
       attrs = refl;
+      origin = refl;
       mark = refl;
       mw = refl;
     },
     refl,
-    tt,
+    (tt, tt),
   );
 }
 
@@ -129,11 +130,12 @@ comment_node k parent bs small h = record {
       source = record { own = subst IsUtf8 (sym (append-nil bs)) h; opening = refl; closing = refl };
       shown = refl;
       attrs = refl;
+      origin = refl;
       mark = refl;
       mw = refl;
     },
     refl,
-    tt,
+    (tt, tt),
   );
 }
 
@@ -165,11 +167,12 @@ include_node k parent bs small h = record {
       source = record { own = subst IsUtf8 (sym (append-nil bs)) h; opening = refl; closing = refl };
       shown = refl;
       attrs = inl (include_typeof (opening_tag bs) (closing_tag bs), [], refl, include_passes (opening_tag bs) (closing_tag bs), refl, include_utf8 (include_typeof (opening_tag bs) (closing_tag bs)) (include_passes (opening_tag bs) (closing_tag bs)), refl);
+      origin = refl;
       mark = refl;
       mw = refl;
     },
     refl,
-    tt,
+    (tt, tt),
   );
 }
 
@@ -191,11 +194,12 @@ hidden_node k parent bs small h = record {
       source = record { own = subst IsUtf8 (sym (append-nil bs)) h; opening = refl; closing = refl };
       shown = refl;
       attrs = inl (includeonly_typeof, [], refl, hidden_passes, refl, include_utf8 (includeonly_typeof) (hidden_passes), refl);
+      origin = refl;
       mark = refl;
       mw = refl;
     },
     refl,
-    tt,
+    (tt, tt),
   );
 }
 
@@ -292,10 +296,11 @@ extension_node k parent bs small e h =
           source = record { own = subst IsUtf8 (sym (append-nil bs)) h.1; opening = refl; closing = refl };
           shown = refl;
           attrs = inl (extension_typeof (name_of (opening_tag bs)), [], refl, island_passes (extension_typeof (name_of (opening_tag bs))) (extension_passes (name_of (opening_tag bs)) n), refl, extension_utf8 (extension_typeof (name_of (opening_tag bs))) (extension_passes (name_of (opening_tag bs)) n), refl);
+          origin = refl;
           mark = refl;
           mw = subst (λ (b : Bool). HasData b (Some (extension_data bs))) (sym (extension_passes (name_of (opening_tag bs)) n)) (extension_has bs n h.1);
         },
         refl,
-        tt,
+        (tt, tt),
       );
     }

@@ -6,22 +6,23 @@ use Rattle.std.specs.Option.{unwrap_or}
 use Rattle.std.proofs.lemmas.Bool.{true≢false, and_parts, cases_lt}
 use Rattle.std.proofs.lemmas.Bool.Decides.{nat_tests}
 use Rattle.std.proofs.lemmas.List.Folds.{prefix_len-append}
-use Rattle.std.proofs.lemmas.List.{take-append-drop, drop-drop, get_or_append_left, get_or-take, get_or-drop, get_or-reverse, length-reverse, reverse-append}
+use Rattle.std.proofs.lemmas.List.{take-append-drop, get_or_append_left, get_or-take, get_or-drop, get_or-reverse, length-reverse, reverse-append}
 use Rattle.std.proofs.lemmas.List.Sums.{prefix_len_passes}
 use Rattle.wt_html_grammar.proofs.Steps.{if_false}
 use Rattle.wt_span.specs.Bytes.{begins}
 use Rattle.wt_span.specs.Items.{Item, char, whole, sign, is_mark, is_mark_form}
 use Rattle.wt_tree.specs.declared.kind.Kind.TheVariants as kind
+use Rattle.wt_tree.specs.Kinds.{spelling}
 use Rattle.wt_lex.proofs.Begins.{begins_get, begins_len}
 use Rattle.wt_lines.specs.declared.kind.LineKind.TheVariants as line
-use Rattle.wt_lines.specs.Kinds.{is_mark_sign, is_idle, past, is_idle_all, is_alone, is_heading, is_list, first_of, kind_of_signs}
+use Rattle.wt_lines.specs.Kinds.{is_mark_sign, is_idle, past, is_idle_all, is_alone, is_heading, is_list, first_of, open_kind, table_rows, text_rows, kind_of_signs}
 use Rattle.wt_lines.specs.Lines.{content, is_break_item}
 use Rattle.wt_round_trip.specs.Written.{has_level}
-use Rattle.wt_build.specs.Headings.{core, level_of, open_len, trimmed_len, heading_parts}
+use Rattle.wt_blocks.specs.Headings.{core, level_of, open_len, trimmed_len, level, opening, closing}
 use Rattle.wt_build.specs.Blocks.{lead_len}
 use Rattle.wt_page_round_trip.proofs.TextItems.{BeginsLow, EndsLow}
 use Rattle.wt_page_round_trip.proofs.PageLines.{IsPageLine}
-use Rattle.wt_page_round_trip.proofs.Idle.{IsSmallItem, texts_small}
+use Rattle.wt_page_round_trip.proofs.Idle.{IsSmallItem, texts_small, past_table, opens}
 use Rattle.wt_page_round_trip.proofs.BodyParts.{IsHeadingLine}
 use Rattle.wt_page_round_trip.proofs.Delimiters.{IsLevel, level_is, open_sign, middle, close_sign}
 
@@ -53,20 +54,32 @@ signs_len (x ∷ xs) = ap suc (signs_len xs)
 
 -- ---- the kind of the line
 
-heading_test : (t a b c d e : Bool) → unwrap_or (first_of ((t, line.Blank) ∷ (a, line.TableOpen) ∷ (b, line.Heading) ∷ (c, line.Rule) ∷ (d, line.List) ∷ (e, line.Pre) ∷ [])) line.Text ≡ line.Heading → b ≡ true
-heading_test true a b c d e h = absurd cc
-heading_test false true b c d e h = absurd cc
-heading_test false false true c d e h = refl
-heading_test false false false true d e h = absurd cc
-heading_test false false false false true e h = absurd cc
-heading_test false false false false false true h = absurd cc
-heading_test false false false false false false h = absurd cc
+heading_test : (b c d e : Bool) → unwrap_or (first_of ((b, line.Heading) ∷ (c, line.Rule) ∷ (d, line.List) ∷ (e, line.Pre) ∷ [])) line.Text ≡ line.Heading → b ≡ true
+heading_test true c d e h = refl
+heading_test false true d e h = absurd cc
+heading_test false false true e h = absurd cc
+heading_test false false false true h = absurd cc
+heading_test false false false false h = absurd cc
 
-heading_signs : (ss : List ℕ) → kind_of_signs 0 ss ≡ line.Heading → is_heading (past is_mark_sign ss) (past is_idle (reverse ss)) ≡ true
+heading_signs : (tables : ℕ) (ss : List ℕ) → kind_of_signs tables ss ≡ line.Heading → is_heading (past is_mark_sign ss) (past is_idle (reverse ss)) ≡ true
 unfolding kind_of_signs
-heading_signs ss h =
-    let first : List ℕ = past is_mark_sign ss in
-    heading_test (length (past is_idle ss) == 0) (nat_lt 0 16 && begins (codes "{|") (past is_idle ss)) (is_heading first (past is_idle (reverse ss))) (begins (codes "----") first) (is_list first) (begins (codes " ") first) h
+heading_signs tables ss h = by_test (length (past is_idle ss) == 0) (begins (codes "{|") s) h
+  where
+    s : List ℕ
+    s = past is_idle ss
+
+    first : List ℕ
+    first = past is_mark_sign ss
+
+    last : List ℕ
+    last = past is_idle (reverse ss)
+
+    by_test : (t o : Bool) → unwrap_or (first_of ((t, line.Blank) ∷ (o, open_kind tables) ∷ ((if nat_lt 0 tables then table_rows s else []) ++ text_rows first last))) line.Text ≡ line.Heading → is_heading first last ≡ true
+    by_test true o e = absurd cc
+    by_test false true e = absurd (opens line.Heading (nat_lt tables 16) (λ x. cc) (λ x. cc) e)
+    by_test false false e =
+        heading_test (is_heading first last) (begins (codes "----") first) (is_list first) (begins (codes " ") first)
+        (past_table line.Heading (nat_lt 0 tables) (begins (codes "|}") s) (begins (codes "|+") s) (begins (codes "|-") s) (begins (codes "|") s) (begins (codes "!") s) (text_rows first last) (λ x. cc) (λ x. cc) (λ x. cc) (λ x. cc) (λ x. cc) e)
 
 -- ---- the marks before the first visible item
 
@@ -230,12 +243,13 @@ signs_level ss h =
         true≢false (sym (ap₂ (λ x y. x && y) b (ap (λ n. is_idle_all (drop n ss)) (sym f) ∙ idle)) ∙ h.two)
 
 level_test : (l : ℕ) → 1 ≤ l → l ≤ 6 → has_level (kind.Heading l) ≡ true
+unfolding spelling
 level_test l a b = grind (arith, nat_tests)
 
 -- ---- the line
 
-heading_cut : (xs : List Item) → IsHeadingSigns (map sign xs) → IsHeadingLine xs (heading_parts (map sign xs))
-unfolding heading_parts
+heading_cut : (xs : List Item) → IsHeadingSigns (map sign xs) → IsHeadingLine xs
+unfolding level opening closing
 heading_cut xs h =
     let ss : List ℕ = map sign xs in
     let c : List ℕ = core ss in
@@ -251,13 +265,13 @@ heading_cut xs h =
     record {
       level = level_test (level_of c) v.some v.six;
       open_ends = subst (λ k. EndsLow (take k xs)) z (ends_low xs (open_len c - 1) (omega (arith, o.0, o.1, n, m)) (omega (arith, o.2, a)));
-      close_begins = subst BeginsLow (sym (drop-drop (trimmed_len (middle c)) (open_len c) xs)) (begins_low xs p (λ _. omega (arith, q.1, b)));
+      close_begins = begins_low xs p (λ _. omega (arith, q.1, b));
     }
 
-pub heading_line : (l : List Item) → IsPageLine l → kind_of_signs 0 (map sign (content l)) ≡ line.Heading
-    → IsHeadingLine (content (drop (lead_len l) l) ++ []) (heading_parts (map sign (content (drop (lead_len l) l) ++ [])))
-heading_line l h e =
+pub heading_line : (tables : ℕ) (l : List Item) → IsPageLine l → kind_of_signs tables (map sign (content l)) ≡ line.Heading
+    → IsHeadingLine (content (drop (lead_len l) l) ++ [])
+heading_line tables l h e =
     let xs : List Item = content (drop (lead_len l) l) in
     let signs : List ℕ = map sign (content l) in
     let a : past is_mark_sign signs ≡ map sign (xs ++ []) = past_lead l (texts_small l h.texts) ∙ ap (map sign) (sym (append-nil xs)) in
-    heading_cut (xs ++ []) (signs_told signs (map sign (xs ++ [])) a (heading_signs signs e))
+    heading_cut (xs ++ []) (signs_told signs (map sign (xs ++ [])) a (heading_signs tables signs e))

@@ -99,11 +99,12 @@ nowiki_node k parent bs small e h =
           };
           shown = refl;
           attrs = refl;
+          origin = refl;
           mark = refl;
           mw = refl;
         },
         refl,
-        children_written (suc k) kind.Nowiki ps (at + width xs) (next + 1) w (omega arith) (omega arith) (omega arith),
+        (tt, children_written (suc k) kind.Nowiki ps (at + width xs) (next + 1) w (omega arith) (omega arith) (omega arith)),
       );
     }
 

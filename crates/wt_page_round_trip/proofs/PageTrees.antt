@@ -94,6 +94,11 @@ page_numbered page = numbered_annotated (meaning (page_items page))
 pub tree_is : (page : List ℕ) (xs : List Item) (t : ItemTree) → t ≡ meaning xs → xs ≡ page_items page → annotated t ≡ page_tree page
 tree_is page xs t is items = ap annotated (is ∙ ap meaning items)
 
+pub small_items : (page : List ℕ) (xs : List Item) → length page ≤ 2097152 → xs ≡ page_items page → length (sources xs) < 2 ^ 32
+small_items page xs room items =
+    let len : length (sources xs) ≡ length page = ap (λ ys. length (sources ys)) items ∙ ap length (page_sources page) in
+    omega arith
+
 pub small_width : (page : List ℕ) (xs : List Item) (t : ItemTree) → length page ≤ 2097152 → t ≡ meaning xs → xs ≡ page_items page → width (held t) < 2 ^ 32
 small_width page xs t room is items =
     let len : length (sources (held t)) ≡ length page = ap (λ u. length (sources (held u))) (is ∙ ap meaning items) ∙ ap length (meaning_sources page) in

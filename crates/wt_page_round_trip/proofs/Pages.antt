@@ -51,6 +51,7 @@ written_at page u room =
         source = record { own = refl; opening = IsUtf8-nil; closing = IsUtf8-nil };
         shown = refl;
         attrs = refl;
+        origin = refl;
         mark = refl;
         mw = refl;
       },

@@ -1,5 +1,5 @@
 -- The children of a node, from its parts: each run of characters is a text or a separator that is written, and so is each node.
-use Rattle.std.proofs.Common.{◌≡◌, ℕ, ◌+◌, ◌<◌, ◌≤◌, ◌^◌, Bool, true, false, Option, None, List, [], ◌∷◌, ◌++◌, length, map, flat_map, IsUtf8, refl, sym, ap, ap₂, ◌∙◌, subst, arith, append_assoc, length-append}
+use Rattle.std.proofs.Common.{◌≡◌, ℕ, ◌+◌, ◌<◌, ◌≤◌, ◌^◌, Bool, true, false, Option, None, List, [], ◌∷◌, ◌++◌, length, map, flat_map, IsUtf8, refl, sym, ap, ap₂, ◌∙◌, subst, arith, append_assoc, length-append, inl, inr}
 use Rattle.std.specs.Prelude.{◌&&◌, if◌then◌else◌}
 use Rattle.std.proofs.lemmas.Str.{IsUtf8-nil}
 use Rattle.wt_span.specs.Items.{Item, char, sources}
@@ -7,7 +7,12 @@ use Rattle.wt_span.specs.Runs.{runs, IsRun, AreRuns}
 use Rattle.wt_span.proofs.RunLaws.{runs_are}
 use Rattle.wt_tree.specs.declared.kind.Kind.{Kind}
 use Rattle.wt_fitting.specs.Rows.{holds_text}
-use Rattle.wt_round_trip.specs.Written.{shown_of, leaf_kind, may_stand, is_text, begins_with_text, WrittenIn, AllWrittenIn}
+use Rattle.wt_tree.specs.declared.row.Texts.{Texts}
+use Rattle.wt_tree.specs.declared.row.Texts.TheVariants.{Separators, Page, Bordered, OwnCharacter}
+use Rattle.wt_tree.specs.Kinds.{texts_of_kind}
+use Rattle.wt_tree.specs.Recut.{is_text}
+use Rattle.wt_tree.specs.Cutting.{begins_with_text}
+use Rattle.wt_round_trip.specs.Written.{leaf_kind, may_stand, HasLeafKind, joins, WrittenIn, AllWrittenIn}
 use Rattle.wt_inline.specs.declared.loose.Loose.{Loose}
 use Rattle.wt_inline.specs.declared.loose.Loose.TheVariants.{Text, Sep}
 use Rattle.wt_inline.specs.Carried.{shown_item}
@@ -50,20 +55,35 @@ own_chars : (bs : List ℕ) → sources (map (char None) bs ++ []) ≡ bs
 own_chars [] = refl
 own_chars (b ∷ bs) = ap (λ cs. b ∷ cs) (own_chars bs)
 
+-- where both may stand, too
+leaf_has : (x : Texts) (parent : Kind) (j : Loose) → loose_kind j ≡ leaf_kind parent → HasLeafKind x (leaf_kind parent) (loose_kind j)
+leaf_has Separators parent j e = e
+leaf_has Page parent j e = e
+leaf_has Bordered parent Text e = inl refl
+leaf_has Bordered parent Sep e = inr refl
+leaf_has OwnCharacter parent j e = e
+
+none_joins : (x : Texts) (b : Bool) → b ≡ false → joins x b ≡ false
+none_joins Separators b e = e
+none_joins Page b e = e
+none_joins Bordered b e = refl
+none_joins OwnCharacter b e = e
+
 leaf_written : (k : ℕ) (parent : Kind) (at next : ℕ) (j : Loose) (b : ℕ) (bs : List ℕ) → loose_kind j ≡ leaf_kind parent → IsTextRun parent (b ∷ bs)
     → WrittenIn k parent (annotated_at at next (loose_leaf j (map (char None) (b ∷ bs))))
 unfolding label_at
 leaf_written k parent at next Text b bs e g = (
   record {
-    kind = e;
+    kind = leaf_has (texts_of_kind parent) parent Text e;
     characters = subst IsUtf8 (sym (own_chars (b ∷ bs))) g.0;
     some = refl;
     stands = ap (may_stand parent) (own_chars (b ∷ bs)) ∙ g.1;
-    shown = ap (λ cs. b ∷ cs) (shown_chars bs ∙ sym (own_chars bs)) ∙ ap (λ q. shown_of q (sources (map (char None) (b ∷ bs) ++ []))) e;
+    shown = ap (λ cs. b ∷ cs) (shown_chars bs ∙ sym (own_chars bs));
     id = refl;
     opening = refl;
     closing = refl;
     attrs = refl;
+    origin = refl;
     mark = refl;
     mw = refl;
   },
@@ -71,15 +91,16 @@ leaf_written k parent at next Text b bs e g = (
 )
 leaf_written k parent at next Sep b bs e g = (
   record {
-    kind = e;
+    kind = leaf_has (texts_of_kind parent) parent Sep e;
     characters = subst IsUtf8 (sym (own_chars (b ∷ bs))) g.0;
     some = refl;
     stands = ap (may_stand parent) (own_chars (b ∷ bs)) ∙ g.1;
-    shown = ap (λ q. shown_of q (sources (map (char None) (b ∷ bs) ++ []))) e;
+    shown = refl;
     id = refl;
     opening = refl;
     closing = refl;
     attrs = refl;
+    origin = refl;
     mark = refl;
     mw = refl;
   },
@@ -156,7 +177,7 @@ runs_written k parent ((node t ∷ []) ∷ rs) ps at next h w room some few =
     let v : AreWrittenParts k parent [] (node t ∷ h.0) = subst (AreWrittenParts k parent []) h.1 w in
     let a : width (held t ++ held_by_all (forest (map child rs))) ≡ width (held t) + width (held_by_all (forest (map child rs))) = wide_append (held t) (held_by_all (forest (map child rs))) in (
       v.1.written at next (omega arith) some (omega arith),
-      ap (λ x. x && begins_with_text (all_annotated_at (at + width (held t)) (next + numbered t) (forest (map child rs)))) (v.1.element at next),
+      none_joins (texts_of_kind parent) _ (ap (λ x. x && begins_with_text (all_annotated_at (at + width (held t)) (next + numbered t) (forest (map child rs)))) (v.1.element at next)),
       runs_written k parent rs h.0 (at + width (held t)) (next + numbered t) h.3 v.2 (omega arith) (omega arith) (omega arith),
     )
 runs_written k parent ((loose j o b ∷ r) ∷ rs) ps at next h w room some few =
@@ -167,7 +188,7 @@ runs_written k parent ((loose j o b ∷ r) ∷ rs) ps at next h w room some few 
     let n : begins_with_text (all_annotated_at (at + width (held t)) (next + numbered t) (forest (map child rs))) ≡ false =
     no_text_first k parent rs h.0 (at + width (held t)) (next + numbered t) h.3 q.rest q.stops in (
       subst (λ xs. WrittenIn k parent (annotated_at at next (loose_leaf j xs))) (sym q.items) (leaf_written k parent at next j q.first q.more v.0 q.good),
-      none_next (is_text (annotated_at at next t)) _ n,
+      none_joins (texts_of_kind parent) _ (none_next (is_text (annotated_at at next t)) _ n),
       runs_written k parent rs h.0 (at + width (held t)) (next + numbered t) h.3 q.rest (omega arith) (omega arith) (omega arith),
     )
   where

@@ -6,4 +6,3 @@ pub mod RefusalLines
 pub mod RunLaws
 pub mod StatusLaws
 pub mod WikitextLaws
-pub mod WriteLaws

@@ -14,7 +14,8 @@ apart_rest false y z e f = e
 pub are_apart-push : (cs : List Chunk) (c : Chunk) → are_apart cs ≡ true → (ends_in_run cs && is_run c) ≡ false → are_apart (cs ++ c ∷ []) ≡ true
 are_apart-push [] c e f = refl
 are_apart-push (b ∷ []) c e f = apart_pair (is_run b) (is_run c) f
-are_apart-push (b ∷ d ∷ cs) c e f = apart_rest (not (is_run b && is_run d)) (are_apart (d ∷ cs)) (are_apart (d ∷ (cs ++ c ∷ []))) e (λ g. are_apart-push (d ∷ cs) c g f)
+are_apart-push (b ∷ d ∷ cs) c e f = apart_rest (not (is_run b && is_run d)) (are_apart (d ∷ cs))
+    (are_apart (d ∷ (cs ++ c ∷ []))) e (λ g. are_apart-push (d ∷ cs) c g f)
 
 pub ends_in_run-push : (cs : List Chunk) (c : Chunk) → ends_in_run (cs ++ c ∷ []) ≡ is_run c
 ends_in_run-push [] c = refl

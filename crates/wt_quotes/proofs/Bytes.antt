@@ -68,8 +68,10 @@ odd_more false n had = let z : one false + n ≡ n = omega arith in ap (λ m. to
 
 switch_is : (bold : Bool) (chunks : List Chunk) (p s : ℕ) (t : Toggle) (b i : Bool) → s ≡ start_of chunks t → b ≡ t.bold → i ≡ t.italic
     → (pick bold b i && nat_le (s + bytes_by b i) p) ≡ switches_before bold chunks p t
-switch_is true chunks p s t b i e f g = ap (λ x. x && nat_le (s + bytes_by b i) p) f ∙ ap (λ x. t.bold && nat_le (x + bytes_by b i) p) e ∙ ap (λ x. t.bold && nat_le (start_of chunks t + x) p) (bytes_is t b i f g)
-switch_is false chunks p s t b i e f g = ap (λ x. x && nat_le (s + bytes_by b i) p) g ∙ ap (λ x. t.italic && nat_le (x + bytes_by b i) p) e ∙ ap (λ x. t.italic && nat_le (start_of chunks t + x) p) (bytes_is t b i f g)
+switch_is true chunks p s t b i e f g = ap (λ x. x && nat_le (s + bytes_by b i) p) f
+    ∙ ap (λ x. t.bold && nat_le (x + bytes_by b i) p) e ∙ ap (λ x. t.bold && nat_le (start_of chunks t + x) p) (bytes_is t b i f g)
+switch_is false chunks p s t b i e f g = ap (λ x. x && nat_le (s + bytes_by b i) p) g
+    ∙ ap (λ x. t.italic && nat_le (x + bytes_by b i) p) e ∙ ap (λ x. t.italic && nat_le (start_of chunks t + x) p) (bytes_is t b i f g)
 
 styled_is : (bold : Bool) (chunks : List Chunk) (p : ℕ) (had : Bool) (ts : List Toggle) (rs : List Step) → AreOf chunks ts rs
     → styled bold p had rs ≡ toggled (count_by (switches_before bold chunks p) ts % 2 == 1) had
@@ -108,7 +110,8 @@ free_is chunks p (t ∷ ts) [] h e = absurd h
 free_is chunks p (t ∷ ts) (step s b i flag ∷ rs) h e =
     let w = bytes_is t b i h.1 h.2 in
     let here = or_left (is_switch_at chunks p t) (list_any (is_switch_at chunks p) ts) e in
-    let is : (nat_le s p && nat_lt p (s + bytes_by b i)) ≡ false = ap (λ x. nat_le x p && nat_lt p (x + bytes_by b i)) h.0 ∙ ap (λ x. nat_le (start_of chunks t) p && nat_lt p (start_of chunks t + x)) w ∙ here in (
+    let is : (nat_le s p && nat_lt p (s + bytes_by b i)) ≡ false = ap (λ x. nat_le x p && nat_lt p (x + bytes_by b i)) h.0
+    ∙ ap (λ x. nat_le (start_of chunks t) p && nat_lt p (start_of chunks t + x)) w ∙ here in (
       free_by p s (bytes_by b i) is (cases_lt p s) (cases_lt p (s + bytes_by b i)),
       free_is chunks p ts rs h.3 (or_right (is_switch_at chunks p t) (list_any (is_switch_at chunks p) ts) e),
     )
@@ -118,16 +121,21 @@ from_false true = refl
 from_false false = refl
 
 styled_at : (bold : Bool) (chunks : List Chunk) (p : ℕ) → p < bytes_of chunks → is_switch chunks p ≡ false
-    → count_by (holds bold p) (styles_by (bytes_of chunks) (run false false false (steps_of chunks (toggles_of chunks)))) ≡ one (count_by (switches_before bold chunks p) (toggles_of chunks) % 2 == 1)
+    → count_by (holds bold p) (styles_by (bytes_of chunks) (run false false false (steps_of chunks (toggles_of chunks))))
+    ≡ one (count_by (switches_before bold chunks p) (toggles_of chunks) % 2 == 1)
 styled_at true chunks p l e =
     let ts : List Toggle = toggles_of chunks in
-    let is = held true p (bytes_of chunks) 0 false false false (steps_of chunks ts) (are_steps chunks) l (free_is chunks p ts (steps_of chunks ts) (are_of chunks ts) e) in
-    let by = ap one (styled_is true chunks p false ts (steps_of chunks ts) (are_of chunks ts) ∙ from_false (count_by (switches_before true chunks p) ts % 2 == 1)) in
+    let is = held true p (bytes_of chunks) 0 false false false (steps_of chunks ts) (are_steps chunks) l
+    (free_is chunks p ts (steps_of chunks ts) (are_of chunks ts) e) in
+    let by = ap one (styled_is true chunks p false ts (steps_of chunks ts) (are_of chunks ts)
+    ∙ from_false (count_by (switches_before true chunks p) ts % 2 == 1)) in
     omega (arith, is, by)
 styled_at false chunks p l e =
     let ts : List Toggle = toggles_of chunks in
-    let is = held false p (bytes_of chunks) 0 false false false (steps_of chunks ts) (are_steps chunks) l (free_is chunks p ts (steps_of chunks ts) (are_of chunks ts) e) in
-    let by = ap one (styled_is false chunks p false ts (steps_of chunks ts) (are_of chunks ts) ∙ from_false (count_by (switches_before false chunks p) ts % 2 == 1)) in
+    let is = held false p (bytes_of chunks) 0 false false false (steps_of chunks ts) (are_steps chunks) l
+    (free_is chunks p ts (steps_of chunks ts) (are_of chunks ts) e) in
+    let by = ap one (styled_is false chunks p false ts (steps_of chunks ts) (are_of chunks ts)
+    ∙ from_false (count_by (switches_before false chunks p) ts % 2 == 1)) in
     omega (arith, is, by)
 
 pub each_byte : (chunks : List Chunk) → EachByteIsStyled chunks

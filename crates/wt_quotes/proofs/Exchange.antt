@@ -18,7 +18,8 @@ use Rattle.wt_quotes.specs.Toggles.{toggle_of, toggle_at, toggles_by_length, cla
 IsFor : ℕ → ℕ → Toggle → Type 0
 IsFor k n t = (t.chunk ≡ k) × (t.plain + width_of t ≡ n) × ((t.bold || t.italic) ≡ true)
 
-for_bits : (k n : ℕ) (small two three four : Bool) → (small ≡ false → n < 2 → ⊥) → (two ≡ true → n ≡ 2) → (two ≡ false → n ≡ 2 → ⊥) → (three ≡ true → n ≡ 3) → (three ≡ false → n ≡ 3 → ⊥)
+for_bits : (k n : ℕ) (small two three four : Bool) → (small ≡ false → n < 2 → ⊥) → (two ≡ true → n ≡ 2)
+    → (two ≡ false → n ≡ 2 → ⊥) → (three ≡ true → n ≡ 3) → (three ≡ false → n ≡ 3 → ⊥)
     → (four ≡ true → n ≡ 4) → (four ≡ false → n ≡ 4 → ⊥)
     → IfSome (if small then None
     else (if two then Some (record { chunk = k; plain = 0; italic = true; bold = false })
@@ -34,7 +35,8 @@ for_bits k n false false false false s a b d e f g = (refl, omega (arith, s refl
 
 toggle_for : (k n : ℕ) → IfSome (toggle_of k n) (IsFor k n)
 toggle_for k n = for_bits k n (nat_lt n 2) (n == 2) (n == 3) (n == 4) (not_from_Decides (nat_lt n 2) (Decides-ltb n 2))
-    (Decides-eqb n 2).0 (not_from_Decides (n == 2) (Decides-eqb n 2)) (Decides-eqb n 3).0 (not_from_Decides (n == 3) (Decides-eqb n 3)) (Decides-eqb n 4).0 (not_from_Decides (n == 4) (Decides-eqb n 4))
+    (Decides-eqb n 2).0 (not_from_Decides (n == 2) (Decides-eqb n 2)) (Decides-eqb n 3).0
+    (not_from_Decides (n == 3) (Decides-eqb n 3)) (Decides-eqb n 4).0 (not_from_Decides (n == 4) (Decides-eqb n 4))
 
 with_option : (P : Toggle → Type 0) (o : Option Toggle) (ts : List Toggle) → IfSome o P → All P ts → All P (cons_option o ts)
 with_option P None ts h hs = hs
@@ -42,7 +44,8 @@ with_option P (Some t) ts h hs = All-cons P t ts h hs
 
 pub all_places : (P : Toggle → Type 0) (h : ℕ → Option Toggle) (a n : ℕ) → ((k : ℕ) → k < a + n → IfSome (h k) P) → All P (filter_map h (range_with_len a n))
 all_places P h a zero f = All-nil P
-all_places P h a (suc n) f = with_option P (h a) (filter_map h (range_with_len (a + 1) n)) (f a (omega arith)) (all_places P h (a + 1) n (λ k l. f k (omega arith)))
+all_places P h a (suc n) f = with_option P (h a) (filter_map h (range_with_len (a + 1) n)) (f a (omega arith))
+    (all_places P h (a + 1) n (λ k l. f k (omega arith)))
 
 some_weaker : (P Q : Toggle → Type 0) (o : Option Toggle) → ((t : Toggle) → P t → Q t) → IfSome o P → IfSome o Q
 some_weaker P Q None f h = tt
@@ -60,12 +63,14 @@ switch_of k n t is = is.2
 by_length_runs : (chunks : List Chunk) → All (IsOfRun chunks) (toggles_by_length chunks)
 unfolding toggle_at
 by_length_runs chunks = all_places (IsOfRun chunks) (toggle_at chunks) 0 (length chunks)
-    (λ k l. some_weaker (IsFor k (run_length (slice_get chunks k))) (IsOfRun chunks) (toggle_at chunks k) (λ t. run_of chunks k t (omega arith)) (toggle_for k (run_length (slice_get chunks k))))
+    (λ k l. some_weaker (IsFor k (run_length (slice_get chunks k))) (IsOfRun chunks) (toggle_at chunks k)
+    (λ t. run_of chunks k t (omega arith)) (toggle_for k (run_length (slice_get chunks k))))
 
 by_length_switch : (chunks : List Chunk) → All Switches (toggles_by_length chunks)
 unfolding toggle_at
 by_length_switch chunks = all_places Switches (toggle_at chunks) 0 (length chunks)
-    (λ k l. some_weaker (IsFor k (run_length (slice_get chunks k))) Switches (toggle_at chunks k) (switch_of k (run_length (slice_get chunks k))) (toggle_for k (run_length (slice_get chunks k))))
+    (λ k l. some_weaker (IsFor k (run_length (slice_get chunks k))) Switches (toggle_at chunks k)
+    (switch_of k (run_length (slice_get chunks k))) (toggle_for k (run_length (slice_get chunks k))))
 
 chosen : (P : ℕ → Type 0) (a b e : Option ℕ) → ((i : ℕ) → a ≡ Some i → P i) → ((i : ℕ) → b ≡ Some i → P i) → ((i : ℕ) → e ≡ Some i → P i)
     → (i : ℕ) → option_or a (option_or b e) ≡ Some i → P i
@@ -105,7 +110,8 @@ either_all : (P : Toggle → Type 0) (xs ys : List Toggle) (b : Bool) → All P 
 either_all P xs ys true h k = h
 either_all P xs ys false h k = k
 
-toggles_all : (P : Toggle → Type 0) (chunks : List Chunk) → ((t : Toggle) → is_bold_alone t ≡ true → P t → P (exchanged t)) → All P (toggles_by_length chunks) → All P (toggles_of chunks)
+toggles_all : (P : Toggle → Type 0) (chunks : List Chunk) → ((t : Toggle) → is_bold_alone t ≡ true → P t → P (exchanged t))
+    → All P (toggles_by_length chunks) → All P (toggles_of chunks)
 unfolding toggles_of
 toggles_all P chunks f hs =
     let ts : List Toggle = toggles_by_length chunks in
@@ -118,7 +124,8 @@ alone_width plain false i e = cc
 
 -- each toggle of a context with its plain apostrophes is its run
 pub toggles_are_runs : (chunks : List Chunk) → All (IsOfRun chunks) (toggles_of chunks)
-toggles_are_runs chunks = toggles_all (IsOfRun chunks) chunks (λ t alone run. (run.0, alone_width t.plain t.bold t.italic alone ∙ run.1)) (by_length_runs chunks)
+toggles_are_runs chunks = toggles_all (IsOfRun chunks) chunks
+    (λ t alone run. (run.0, alone_width t.plain t.bold t.italic alone ∙ run.1)) (by_length_runs chunks)
 
 pub toggles_switch : (chunks : List Chunk) → All Switches (toggles_of chunks)
 toggles_switch chunks = toggles_all Switches chunks (λ t alone run. refl) (by_length_switch chunks)
@@ -147,9 +154,11 @@ chunk_of k n t is = is.0
 pub by_length_rising : (chunks : List Chunk) → Rising 0 (toggles_by_length chunks)
 unfolding toggle_at
 by_length_rising chunks = rising_places (toggle_at chunks) 0 (length chunks)
-    (λ k. some_weaker (IsFor k (run_length (slice_get chunks k))) (λ t. t.chunk ≡ k) (toggle_at chunks k) (chunk_of k (run_length (slice_get chunks k))) (toggle_for k (run_length (slice_get chunks k))))
+    (λ k. some_weaker (IsFor k (run_length (slice_get chunks k))) (λ t. t.chunk ≡ k) (toggle_at chunks k)
+    (chunk_of k (run_length (slice_get chunks k))) (toggle_for k (run_length (slice_get chunks k))))
 
-rising_tail : (k : ℕ) (t : Toggle) (ts : List Toggle) (i : ℕ) (o : Option Toggle) → Rising k (t ∷ ts) → Rising (t.chunk + 1) (set_exchanged ts i o) → Rising k (set_exchanged (t ∷ ts) (suc i) o)
+rising_tail : (k : ℕ) (t : Toggle) (ts : List Toggle) (i : ℕ) (o : Option Toggle) → Rising k (t ∷ ts)
+    → Rising (t.chunk + 1) (set_exchanged ts i o) → Rising k (set_exchanged (t ∷ ts) (suc i) o)
 rising_tail k t ts i None h hs = h
 rising_tail k t ts i (Some u) h hs = (h.0, hs)
 
@@ -171,4 +180,5 @@ pub toggles_rise : (chunks : List Chunk) → Rising 0 (toggles_of chunks)
 unfolding toggles_of
 toggles_rise chunks =
     let ts : List Toggle = toggles_by_length chunks in
-    either_rising (exchange_at (exchange_place chunks ts) ts) ts (is_due ts) (rising_exchange ts (exchange_place chunks ts) (by_length_rising chunks)) (by_length_rising chunks)
+    either_rising (exchange_at (exchange_place chunks ts) ts) ts (is_due ts)
+    (rising_exchange ts (exchange_place chunks ts) (by_length_rising chunks)) (by_length_rising chunks)

@@ -48,7 +48,14 @@ fit_at chunks ts runs i h =
     let e : slice_get ts i ≡ Some t = slice_get-get_or ts i d h in
     let s : option_map_or (start_of chunks) (slice_get ts i) 0 ≡ start_of chunks t = ap (λ p. option_map_or (start_of chunks) p 0) e in
     let run = runs i d h in
-    omega (arith, taken_is (option_map_or (start_of chunks) (slice_get ts i) 0) ts i (opened_before ts i) t e, run.1, run_within chunks t.chunk run.0, place_le chunks (t.chunk + 1), s)
+    omega (
+      arith,
+      taken_is (option_map_or (start_of chunks) (slice_get ts i) 0) ts i (opened_before ts i) t e,
+      run.1,
+      run_within chunks t.chunk run.0,
+      place_le chunks (t.chunk + 1),
+      s,
+    )
 
 pub turns_fit : (chunks : List Chunk) (ts : List Toggle) → All (IsOfRun chunks) ts → All (Fits (bytes_of chunks)) (turns_of chunks ts)
 turns_fit chunks ts runs =

@@ -47,7 +47,8 @@ count_one p low high [] h l m = absurd (omega (arith, h))
 count_one p low high (q ∷ qs) h l m = one_by (cases_lt p q.to) (λ k. count_one p q.to high qs h.2 k m)
   where
     one_by : ((p < q.to) ⊎ (q.to ≤ p)) → (q.to ≤ p → count_by (contains p) qs ≡ 1) → count_by (contains p) (q ∷ qs) ≡ 1
-    one_by (inl k) f = let yes = ap one (contains_yes p q (omega (arith, h.0)) k) in omega (arith, sum_by-cons (λ r. one (contains p r)) q qs, yes, count_before p q.to high qs h.2 k)
+    one_by (inl k) f = let yes = ap one (contains_yes p q (omega (arith, h.0)) k) in
+        omega (arith, sum_by-cons (λ r. one (contains p r)) q qs, yes, count_before p q.to high qs h.2 k)
     one_by (inr k) f = let no = ap one (contains_no p q (inr k)) in omega (arith, sum_by-cons (λ r. one (contains p r)) q qs, no, f k)
 
 joined_le : (low high : ℕ) (qs : List Piece) → AreJoined low high qs → low ≤ high
@@ -66,7 +67,14 @@ both_kinds false c = omega arith
 count_kinds : (p : ℕ) (qs : List Piece) → count_by (contains p) qs ≡ count_by (cuts p) qs + count_by (texts p) qs
 count_kinds p [] = refl
 count_kinds p (q ∷ qs) =
-    omega (arith, sum_by-cons (λ r. one (contains p r)) q qs, sum_by-cons (λ r. one (cuts p r)) q qs, sum_by-cons (λ r. one (texts p r)) q qs, both_kinds q.delimiter (contains p q), count_kinds p qs)
+    omega (
+      arith,
+      sum_by-cons (λ r. one (contains p r)) q qs,
+      sum_by-cons (λ r. one (cuts p r)) q qs,
+      sum_by-cons (λ r. one (texts p r)) q qs,
+      both_kinds q.delimiter (contains p q),
+      count_kinds p qs,
+    )
 
 count_at : (r : Piece → Bool) (qs : List Piece) (i : ℕ) (d : Piece) → i < length qs → one (r (get_or qs i d)) ≤ count_by r qs
 count_at r [] i d l = absurd (omega arith)
@@ -103,7 +111,8 @@ context_fills chunks =
     let us : List Style = styles_by (bytes_of chunks) (run false false false rs) in
     let steps = are_steps chunks in
     subst (λ ss. Fill 0 (bytes_of chunks) (forest_of ss)) (sym (styles_read chunks))
-    (fills 0 (bytes_of chunks) us (nested (bytes_of chunks) 0 false false false rs steps) (whole (bytes_of chunks) 0 false false false rs steps) (begin_from (bytes_of chunks) 0 false false false rs steps) (omega arith))
+    (fills 0 (bytes_of chunks) us (nested (bytes_of chunks) 0 false false false rs steps)
+    (whole (bytes_of chunks) 0 false false false rs steps) (begin_from (bytes_of chunks) 0 false false false rs steps) (omega arith))
 
 is_yes : (b : Bool) → 1 ≤ one b → b ≡ true
 is_yes true h = refl
@@ -113,7 +122,8 @@ is_no : (b : Bool) → one b ≡ 0 → b ≡ false
 is_no true h = absurd (omega arith)
 is_no false h = refl
 
-switch_by : (b c switch : Bool) (marks plain : ℕ) → c ≡ true → marks + plain ≡ 1 → marks ≡ one switch → one (b && c) ≤ marks → one (not b && c) ≤ plain → switch ≡ b
+switch_by : (b c switch : Bool) (marks plain : ℕ) → c ≡ true → marks + plain ≡ 1 → marks ≡ one switch → one (b && c) ≤ marks
+    → one (not b && c) ≤ plain → switch ≡ b
 switch_by true c switch marks plain e sum is h k = is_yes switch (omega (arith, ap one e, is, h))
 switch_by false c switch marks plain e sum is h k = is_no switch (omega (arith, ap one e, is, k, sum))
 
@@ -128,7 +138,8 @@ all_switch chunks k d l p low high =
     let m : p < total = omega (arith, high, piece_within 0 total qs tiles k d l) in
     let marks = count_cuts p 0 total f fill ∙ ap (count_by (delimits p)) (preorder_of (style_tree_of chunks)) ∙ each_switch chunks p m in
     let sum = sym (count_kinds p qs) ∙ count_one p 0 total qs tiles (omega arith) m in
-    switch_by q.delimiter (contains p q) (is_switch chunks p) (count_by (cuts p) qs) (count_by (texts p) qs) (contains_yes p q low high) sum marks (count_at (cuts p) qs k d l) (count_at (texts p) qs k d l)
+    switch_by q.delimiter (contains p q) (is_switch chunks p) (count_by (cuts p) qs) (count_by (texts p) qs)
+    (contains_yes p q low high) sum marks (count_at (cuts p) qs k d l) (count_at (texts p) qs k d l)
 
 pub flattened : (chunks : List Chunk) → FlattenedIsTheLine chunks
 flattened chunks = (preorder_of (style_tree_of chunks), joined 0 (bytes_of chunks) (forest_of (style_tree_of chunks)) (context_fills chunks), all_switch chunks)

@@ -60,10 +60,12 @@ one_less ts i h e =
     let b = ap (λ (x : Bool). cond {A = ℕ} x 1 0) (alone_bold t.bold t.italic e) in
     omega (arith, sum_by-set (λ u. cond {A = ℕ} u.bold 1 0) ts i (exchanged t) nothing h, b)
 
-no_more_due : (ts : List Toggle) (i : ℕ) → i < length ts → is_bold_alone (get_or ts i nothing) ≡ true → is_due ts ≡ true → is_due (slice_set ts i (exchanged (get_or ts i nothing))) ≡ false
+no_more_due : (ts : List Toggle) (i : ℕ) → i < length ts → is_bold_alone (get_or ts i nothing) ≡ true → is_due ts ≡ true
+    → is_due (slice_set ts i (exchanged (get_or ts i nothing))) ≡ false
 no_more_due ts i h e d =
     let us : List Toggle = slice_set ts i (exchanged (get_or ts i nothing)) in
-    let odd = odd_before (count_by (λ t. t.bold) ts) (count_by (λ t. t.bold) us) (one_less ts i h e) (left_true (is_odd (λ t. t.bold) ts) (is_odd (λ t. t.italic) ts) d) in
+    let odd = odd_before (count_by (λ t. t.bold) ts) (count_by (λ t. t.bold) us) (one_less ts i h e)
+    (left_true (is_odd (λ t. t.bold) ts) (is_odd (λ t. t.italic) ts) d) in
     ap (λ x. x && is_odd (λ t. t.italic) us) odd
 
 none_if : (b : Bool) (n : ℕ) → (if b then Some n else None) ≡ None → b ≡ false
@@ -84,7 +86,8 @@ all_none None None (Some k) e = cc
 all_none None (Some j) c e = cc
 all_none (Some i) b c e = cc
 
-no_class : (alone : Bool) (class : Class) → (alone && is_same_class class OneLetter) ≡ false → (alone && is_same_class class Middle) ≡ false → (alone && is_same_class class Space) ≡ false → alone ≡ false
+no_class : (alone : Bool) (class : Class) → (alone && is_same_class class OneLetter) ≡ false
+    → (alone && is_same_class class Middle) ≡ false → (alone && is_same_class class Space) ≡ false → alone ≡ false
 no_class false class e f g = refl
 no_class true OneLetter e f g = e
 no_class true Middle e f g = f
@@ -95,9 +98,11 @@ none_alone chunks ts e k d h =
     let none = all_none (first_of chunks OneLetter ts) (first_of chunks Middle ts) (first_of chunks Space ts) e in
     let t : Toggle = get_or ts k d in
     no_class (is_bold_alone t) (class_at chunks t.chunk)
-    (position_none (is_three chunks OneLetter) ts k d none.0 h) (position_none (is_three chunks Middle) ts k d none.1 h) (position_none (is_three chunks Space) ts k d none.2 h)
+    (position_none (is_three chunks OneLetter) ts k d none.0 h) (position_none (is_three chunks Middle) ts k d none.1 h)
+    (position_none (is_three chunks Space) ts k d none.2 h)
 
-even_by : (ts : List Toggle) (b : Bool) (o : Option ℕ) → is_due ts ≡ b → ((i : ℕ) → o ≡ Some i → IsPlaceOfThree ts nothing i) → (o ≡ None → All (λ t. is_bold_alone t ≡ false) ts)
+even_by : (ts : List Toggle) (b : Bool) (o : Option ℕ) → is_due ts ≡ b → ((i : ℕ) → o ≡ Some i → IsPlaceOfThree ts nothing i)
+    → (o ≡ None → All (λ t. is_bold_alone t ≡ false) ts)
     → is_due (if b then exchange_at o ts else ts) ≡ true → All (λ t. is_bold_alone t ≡ false) (if b then exchange_at o ts else ts)
 even_by ts false o e g f h = absurd (cc)
 even_by ts true None e g f h = f refl
@@ -128,13 +133,16 @@ has_places h k a zero t e f l m = absurd (omega arith)
 has_places h k a (suc n) t e f l m = has_first h k a n t e f (cases_lt a k)
     (λ g. has_places h k (a + 1) n t e f (omega (arith, g)) (omega arith)) l
   where
-    has_first : (h : ℕ → Option Toggle) (k a n : ℕ) (t : Toggle) → h k ≡ Some t → t.chunk ≡ k → ((a < k) ⊎ (k ≤ a)) → (a < k → Has k (filter_map h (range_with_len (a + 1) n))) → a ≤ k → Has k (cons_option (h a) (filter_map h (range_with_len (a + 1) n)))
+    has_first : (h : ℕ → Option Toggle) (k a n : ℕ) (t : Toggle) → h k ≡ Some t → t.chunk ≡ k → ((a < k) ⊎ (k ≤ a))
+        → (a < k → Has k (filter_map h (range_with_len (a + 1) n))) → a ≤ k
+        → Has k (cons_option (h a) (filter_map h (range_with_len (a + 1) n)))
     has_first h k a n t e f (inl g) r l = has_option k (h a) (filter_map h (range_with_len (a + 1) n)) (r g)
     has_first h k a n t e f (inr g) r l =
         let z : k ≡ a = omega arith in
         subst (λ o. Has k (cons_option o (filter_map h (range_with_len (a + 1) n)))) (sym e ∙ ap h z) (inl f)
 
-has_kept : (k : ℕ) (t : Toggle) (ts : List Toggle) (i : ℕ) (o : Option Toggle) → (Has k ts → Has k (set_exchanged ts i o)) → Has k (t ∷ ts) → Has k (set_exchanged (t ∷ ts) (suc i) o)
+has_kept : (k : ℕ) (t : Toggle) (ts : List Toggle) (i : ℕ) (o : Option Toggle) → (Has k ts → Has k (set_exchanged ts i o))
+    → Has k (t ∷ ts) → Has k (set_exchanged (t ∷ ts) (suc i) o)
 has_kept k t ts i None f h = h
 has_kept k t ts i (Some u) f (inl e) = inl e
 has_kept k t ts i (Some u) f (inr h) = inr (f h)

@@ -9,7 +9,8 @@ use Rattle.wt_quotes.specs.declared.chunk.Chunk.{Chunk}
 use Rattle.wt_quotes.specs.declared.chunk.Chunk.TheVariants.{Text, Run, Tile}
 use Rattle.wt_quotes.specs.Runs.{chunk_bytes, bytes_of, place_of, run_length}
 
-place_next : (chunks : List Chunk) (k : ℕ) (d : Chunk) → k < length chunks → bytes_of (take (suc k) chunks) ≡ bytes_of (take k chunks) + chunk_bytes (get_or chunks k d)
+place_next : (chunks : List Chunk) (k : ℕ) (d : Chunk) → k < length chunks
+    → bytes_of (take (suc k) chunks) ≡ bytes_of (take k chunks) + chunk_bytes (get_or chunks k d)
 place_next [] k d h = absurd (omega arith)
 place_next (c ∷ []) zero d h = omega arith
 place_next (c ∷ e ∷ cs) zero d h = omega arith

@@ -46,7 +46,8 @@ joined low high (grown s f g) h =
       (
         refl,
         omega arith,
-        joined_append (s.from + s.open_w) (s.to - s.close_w) high (pieces (s.from + s.open_w) (s.to - s.close_w) f) (mark (s.to - s.close_w) s.to ∷ pieces s.to high g)
+        joined_append (s.from + s.open_w) (s.to - s.close_w) high (pieces (s.from + s.open_w) (s.to - s.close_w) f)
+            (mark (s.to - s.close_w) s.to ∷ pieces s.to high g)
             (joined (s.from + s.open_w) (s.to - s.close_w) f h.1) (refl, omega arith, joined s.to high g h.3),
       ),
     )
@@ -79,7 +80,8 @@ behind_if u s e (inr h) = absurd (grind (arith, nat_tests, h.0, h.1))
 Split : ℕ → ℕ → Style → Forest → Forest → Type 0
 Split low total s f g = Fill low (s.to - s.close_w) f × Fill s.to total g
 
-split_fill_by : (b : Bool) (low total : ℕ) (s u : Style) (f g in_g past_g : Forest) → lies_in u s ≡ b → IsBehindOrInside s u → low ≤ s.to - s.close_w → s.close_w ≤ s.to → Fill low total (grown u f g)
+split_fill_by : (b : Bool) (low total : ℕ) (s u : Style) (f g in_g past_g : Forest) → lies_in u s ≡ b → IsBehindOrInside s u
+    → low ≤ s.to - s.close_w → s.close_w ≤ s.to → Fill low total (grown u f g)
     → (u.to ≤ s.to - s.close_w → Split u.to total s in_g past_g) → Split low total s (if b then grown u f in_g else bare) (if b then past_g else grown u f g)
 unfolding Split
 split_fill_by true low total s u f g in_g past_g e r l w h k =
@@ -88,7 +90,8 @@ split_fill_by true low total s u f g in_g past_g e r l w h k =
     ((h.0, h.1, h.2, rest.0), rest.1)
 split_fill_by false low total s u f g in_g past_g e r l w h k = (l, (behind_if u s e r, h.1, h.2, h.3))
 
-split_fill : (low total : ℕ) (s : Style) (f : Forest) → Roots s f → low ≤ s.to - s.close_w → s.close_w ≤ s.to → s.to ≤ total → Fill low total f → Split low total s (inside_of s f) (past s f)
+split_fill : (low total : ℕ) (s : Style) (f : Forest) → Roots s f → low ≤ s.to - s.close_w → s.close_w ≤ s.to → s.to ≤ total
+    → Fill low total f → Split low total s (inside_of s f) (past s f)
 unfolding Split
 split_fill low total s bare r l w t h = (l, t)
 split_fill low total s (grown u f g) r l w t h =
@@ -107,7 +110,8 @@ unfolding Split
 fills low total [] h w f l = l
 fills low total (s ∷ ss) h w f l =
     let whole = All-head (IsWhole total) s ss w in
-    let rest = fills (s.from + s.open_w) total ss h.1 (All-tail (IsWhole total) s ss w) (inner_from s ss (whole.0, omega arith) h.0) (omega (arith, whole.0, whole.1)) in
+    let rest = fills (s.from + s.open_w) total ss h.1 (All-tail (IsWhole total) s ss w)
+    (inner_from s ss (whole.0, omega arith) h.0) (omega (arith, whole.0, whole.1)) in
     let roots = roots_of s (forest_of ss) (subst (All (IsBehindOrInside s)) (sym (preorder_of ss)) h.0) in
     let split = split_fill (s.from + s.open_w) total s (forest_of ss) roots (omega (arith, whole.0)) (omega (arith, whole.0)) whole.1 rest in
     (All-head (λ u. low ≤ u.from) s ss f, split.0, omega (arith, whole.0), split.1)

@@ -36,7 +36,8 @@ outside_is ts (Some a) None = refl
 outside_is ts (Some a) (Some b) = refl
 
 flag_is : (ts : List Toggle) (i : ℕ) (a b : Option ℕ) →
-    (if is_some a || is_some b then is_outside_of true ts a b else bold_ends_later ts i) ≡ outside_by (is_some a) (is_some b) (is_outside_of true ts a b) (bold_ends_later ts i)
+    (if is_some a || is_some b then is_outside_of true ts a b else bold_ends_later ts i)
+    ≡ outside_by (is_some a) (is_some b) (is_outside_of true ts a b) (bold_ends_later ts i)
 flag_is ts i None None = refl
 flag_is ts i None (Some b) = refl
 flag_is ts i (Some a) None = refl
@@ -87,17 +88,22 @@ turn_made chunks ts i =
     let a : Option ℕ = since true ts i in
     let b : Option ℕ = since false ts i in
     let z : ℕ = option_map_or (start_of chunks) (slice_get ts i) 0 in
-    ap (λ (x : Bool). turn_with z ts i a b x (is_outside_of true ts a b) (if is_some a || is_some b then is_outside_of true ts a b else bold_ends_later ts i)) (inside_is ts a b)
-    ∙ ap (λ (x : Bool). turn_with z ts i a b ((is_some a && is_some b) && not (is_outside_of true ts a b)) x (if is_some a || is_some b then is_outside_of true ts a b else bold_ends_later ts i)) (outside_is ts a b)
-    ∙ ap (λ (x : Bool). turn_with z ts i a b ((is_some a && is_some b) && not (is_outside_of true ts a b)) ((is_some a && is_some b) && is_outside_of true ts a b) x) (flag_is ts i a b)
+    ap (λ (x : Bool). turn_with z ts i a b x (is_outside_of true ts a b)
+    (if is_some a || is_some b then is_outside_of true ts a b else bold_ends_later ts i)) (inside_is ts a b)
+    ∙ ap (λ (x : Bool). turn_with z ts i a b ((is_some a && is_some b) && not (is_outside_of true ts a b)) x
+    (if is_some a || is_some b then is_outside_of true ts a b else bold_ends_later ts i)) (outside_is ts a b)
+    ∙ ap (λ (x : Bool). turn_with z ts i a b ((is_some a && is_some b) && not (is_outside_of true ts a b))
+    ((is_some a && is_some b) && is_outside_of true ts a b) x) (flag_is ts i a b)
 
 within_next : (bold : Bool) (ts : List Toggle) (i : ℕ) → i < length ts → IfSome (since bold ts i) (λ k. k < i) → IfSome (since bold ts (i + 1)) (λ k. k < i + 1)
 within_next bold ts i l h = subst (λ o. IfSome o (λ k. k < i + 1)) (sym (since_more bold ts i l)) (flipped_within (toggles_at bold ts i) i (since bold ts i) h)
 
-open_next : (bold : Bool) (ts : List Toggle) (i : ℕ) → i < length ts → is_some (since bold ts (i + 1)) ≡ toggled (toggles_at bold ts i) (is_some (since bold ts i))
+open_next : (bold : Bool) (ts : List Toggle) (i : ℕ) → i < length ts
+    → is_some (since bold ts (i + 1)) ≡ toggled (toggles_at bold ts i) (is_some (since bold ts i))
 open_next bold ts i l = ap is_some (since_more bold ts i l) ∙ some_is (toggles_at bold ts i) i (since bold ts i)
 
-outside_next : (ts : List Toggle) (i : ℕ) → i < length ts → (toggles_at true ts i || toggles_at false ts i) ≡ true → IfSome (since true ts i) (λ k. k < i) → IfSome (since false ts i) (λ k. k < i)
+outside_next : (ts : List Toggle) (i : ℕ) → i < length ts → (toggles_at true ts i || toggles_at false ts i) ≡ true
+    → IfSome (since true ts i) (λ k. k < i) → IfSome (since false ts i) (λ k. k < i)
     → is_outside_of true ts (since true ts (i + 1)) (since false ts (i + 1))
     ≡ outside_after (is_some (since true ts i)) (is_some (since false ts i)) (toggles_at true ts i) (toggles_at false ts i) (bold_ends_later ts i)
 outside_next ts i l e h k =
@@ -111,9 +117,11 @@ switches_at ts i sw h =
     let e : slice_get ts i ≡ Some (get_or ts i d) = slice_get-get_or ts i d h in
     ap (λ p. option_map_or (is_of true) p false || option_map_or (is_of false) p false) e ∙ sw i d h
 
-run_more : (chunks : List Chunk) (ts : List Toggle) (i : ℕ) (us : List Turn) (rs : List Step) → All Switches ts → i < length ts → IfSome (since true ts i) (λ k. k < i) → IfSome (since false ts i) (λ k. k < i)
+run_more : (chunks : List Chunk) (ts : List Toggle) (i : ℕ) (us : List Turn) (rs : List Step) → All Switches ts → i < length ts
+    → IfSome (since true ts i) (λ k. k < i) → IfSome (since false ts i) (λ k. k < i)
     → us ≡ run (is_some (since true ts (i + 1))) (is_some (since false ts (i + 1))) (is_outside_of true ts (since true ts (i + 1)) (since false ts (i + 1))) rs
-    → turn_at chunks ts i ∷ us ≡ run (is_some (since true ts i)) (is_some (since false ts i)) (is_outside_of true ts (since true ts i) (since false ts i)) (step_at chunks ts i ∷ rs)
+    → turn_at chunks ts i ∷ us ≡ run (is_some (since true ts i)) (is_some (since false ts i))
+    (is_outside_of true ts (since true ts i) (since false ts i)) (step_at chunks ts i ∷ rs)
 run_more chunks ts i us rs sw l h k e =
     let had_bold : Bool = is_some (since true ts i) in
     let had_italic : Bool = is_some (since false ts i) in
@@ -126,9 +134,11 @@ run_more chunks ts i us rs sw l h k e =
     ∙ ap (λ x. run (toggled b had_bold) x (is_outside_of true ts (since true ts (i + 1)) (since false ts (i + 1))) rs) (open_next false ts i l)
     ∙ ap (λ x. run (toggled b had_bold) (toggled m had_italic) x rs) (outside_next ts i l (switches_at ts i sw l) h k))
 
-turns_run : (chunks : List Chunk) (ts : List Toggle) → All Switches ts → (i m : ℕ) → i + m ≡ length ts → IfSome (since true ts i) (λ k. k < i) → IfSome (since false ts i) (λ k. k < i)
+turns_run : (chunks : List Chunk) (ts : List Toggle) → All Switches ts → (i m : ℕ) → i + m ≡ length ts
+    → IfSome (since true ts i) (λ k. k < i) → IfSome (since false ts i) (λ k. k < i)
     → map (turn_at chunks ts) (range_with_len i m)
-    ≡ run (is_some (since true ts i)) (is_some (since false ts i)) (is_outside_of true ts (since true ts i) (since false ts i)) (map (step_at chunks ts) (range_with_len i m))
+    ≡ run (is_some (since true ts i)) (is_some (since false ts i)) (is_outside_of true ts (since true ts i) (since false ts i))
+    (map (step_at chunks ts) (range_with_len i m))
 turns_run chunks ts sw i zero e h k = refl
 turns_run chunks ts sw i (suc m) e h k =
     let l : i < length ts = omega arith in
@@ -149,7 +159,8 @@ rising_all : (ts : List Toggle) → Rising 0 ts → Rising 0 (drop 0 ts)
 rising_all [] h = h
 rising_all (t ∷ ts) h = h
 
-steps_from : (chunks : List Chunk) (ts : List Toggle) → All (IsOfRun chunks) ts → All Switches ts → (i m k low : ℕ) → i + m ≡ length ts → Rising k (drop i ts) → low ≤ place_of chunks k
+steps_from : (chunks : List Chunk) (ts : List Toggle) → All (IsOfRun chunks) ts → All Switches ts → (i m k low : ℕ)
+    → i + m ≡ length ts → Rising k (drop i ts) → low ≤ place_of chunks k
     → AreSteps low (bytes_of chunks) (map (step_at chunks ts) (range_with_len i m))
 steps_from chunks ts runs sw i zero k low e rise l = omega (arith, place_le chunks k)
 steps_from chunks ts runs sw i (suc m) k low e rise l =
@@ -163,14 +174,16 @@ steps_from chunks ts runs sw i (suc m) k low e rise l =
     let run_is = runs i d h in (
       omega (arith, s, place_mono chunks k t.chunk up.0, l),
       switches_at ts i sw h,
-      steps_from chunks ts runs sw (i + 1) m (t.chunk + 1) (option_map_or (start_of chunks) (slice_get ts i) 0 + bytes_by (toggles_at true ts i) (toggles_at false ts i)) (omega arith)
+      steps_from chunks ts runs sw (i + 1) m (t.chunk + 1)
+          (option_map_or (start_of chunks) (slice_get ts i) 0 + bytes_by (toggles_at true ts i) (toggles_at false ts i)) (omega arith)
           (subst (λ n. Rising (t.chunk + 1) (drop n ts)) z up.1)
           (omega (arith, s, bytes_at ts i t is, run_is.1, run_within chunks t.chunk run_is.0)),
     )
 
 pub are_steps : (chunks : List Chunk) → AreSteps 0 (bytes_of chunks) (steps_of chunks (toggles_of chunks))
 are_steps chunks =
-    steps_from chunks (toggles_of chunks) (toggles_are_runs chunks) (toggles_switch chunks) 0 (length (toggles_of chunks)) 0 0 (omega arith) (rising_all (toggles_of chunks) (toggles_rise chunks)) (omega arith)
+    steps_from chunks (toggles_of chunks) (toggles_are_runs chunks) (toggles_switch chunks) 0 (length (toggles_of chunks)) 0 0
+    (omega arith) (rising_all (toggles_of chunks) (toggles_rise chunks)) (omega arith)
 
 turns_read : (chunks : List Chunk) (ts : List Toggle) → All Switches ts → turns_of chunks ts ≡ run false false false (steps_of chunks ts)
 turns_read chunks ts sw =

@@ -50,7 +50,8 @@ unfolding style toggles_of toggle_at place_of since next bold_ends_later effect_
 both_open = refl
 
 -- ''a'''b'': bold goes on after italic for no byte
-empty_style : style_tree_of (Run 2 ∷ Text 1 (Some 97) None ∷ Run 3 ∷ Tile 4 None None ∷ Run 2 ∷ []) ≡ style false 0 2 12 2 ∷ style true 3 3 10 0 ∷ style true 12 0 12 0 ∷ []
+empty_style : style_tree_of (Run 2 ∷ Text 1 (Some 97) None ∷ Run 3 ∷ Tile 4 None None ∷ Run 2 ∷ []) ≡ style false 0 2 12 2
+    ∷ style true 3 3 10 0 ∷ style true 12 0 12 0 ∷ []
 unfolding style toggles_of toggle_at place_of since next bold_ends_later effect_on is_bold_outside_at turn_at style_tree_of
 empty_style = refl
 
@@ -87,13 +88,15 @@ four_behind_space : class_at (Text 1 (Some 32) None ∷ Run 4 ∷ []) 1 ≡ OneL
 four_behind_space = refl
 
 -- runs of three of the classes Middle, Space and OneLetter: the last one is taken
-one_letter_first : toggles_of (Text 1 (Some 97) None ∷ Run 3 ∷ Text 2 (Some 32) (Some 98) ∷ Run 3 ∷ Text 2 (Some 99) (Some 32) ∷ Run 3 ∷ Text 1 (Some 100) None ∷ Run 2 ∷ [])
+one_letter_first : toggles_of (Text 1 (Some 97) None ∷ Run 3 ∷ Text 2 (Some 32) (Some 98) ∷ Run 3 ∷ Text 2 (Some 99) (Some 32)
+    ∷ Run 3 ∷ Text 1 (Some 100) None ∷ Run 2 ∷ [])
     ≡ toggle 1 0 false true ∷ toggle 3 0 false true ∷ toggle 5 1 true false ∷ toggle 7 0 true false ∷ []
 unfolding toggle toggles_of toggle_at
 one_letter_first = refl
 
 -- of two of one class the first is taken, and the middle class before that of a space
-first_of_middle : toggles_of (Text 2 (Some 32) (Some 97) ∷ Run 3 ∷ Text 2 (Some 98) (Some 97) ∷ Run 3 ∷ Text 2 (Some 98) (Some 97) ∷ Run 3 ∷ Text 1 (Some 100) None ∷ Run 2 ∷ [])
+first_of_middle : toggles_of (Text 2 (Some 32) (Some 97) ∷ Run 3 ∷ Text 2 (Some 98) (Some 97) ∷ Run 3 ∷ Text 2 (Some 98) (Some 97)
+    ∷ Run 3 ∷ Text 1 (Some 100) None ∷ Run 2 ∷ [])
     ≡ toggle 1 0 false true ∷ toggle 3 1 true false ∷ toggle 5 0 false true ∷ toggle 7 0 true false ∷ []
 unfolding toggle toggles_of toggle_at
 first_of_middle = refl

@@ -28,18 +28,21 @@ open_case : (bold : Bool) (ts : List Toggle) (i : ℕ) (d : Toggle) (b : Bool) �
 open_case bold ts i d true e h = ap (λ n. n % 2 == 1) (count_by_more_yes (is_of bold) ts i d h e) ∙ parity (count_by (is_of bold) (take i ts))
 open_case bold ts i d false e h = ap (λ n. n % 2 == 1) (count_by_more_no (is_of bold) ts i d h e)
 
-open_more : (bold : Bool) (ts : List Toggle) (i : ℕ) → i < length ts → is_open bold ts (suc i) ≡ (if toggles_at bold ts i then not (is_open bold ts i) else is_open bold ts i)
+open_more : (bold : Bool) (ts : List Toggle) (i : ℕ) → i < length ts
+    → is_open bold ts (suc i) ≡ (if toggles_at bold ts i then not (is_open bold ts i) else is_open bold ts i)
 open_more bold ts i h =
     let z : suc i ≡ i + 1 = omega arith in
     let d : Toggle = record { chunk = 0; plain = 0; italic = false; bold = false } in
     let e : toggles_at bold ts i ≡ is_of bold (get_or ts i d) = ap (λ o. option_map_or (is_of bold) o false) (slice_get-get_or ts i d h) in
-    ap (is_open bold ts) z ∙ open_case bold ts i d (is_of bold (get_or ts i d)) refl h ∙ ap (λ b. if b then not (is_open bold ts i) else is_open bold ts i) (sym e)
+    ap (is_open bold ts) z ∙ open_case bold ts i d (is_of bold (get_or ts i d)) refl h
+    ∙ ap (λ b. if b then not (is_open bold ts i) else is_open bold ts i) (sym e)
 
 pub since_more : (bold : Bool) (ts : List Toggle) (i : ℕ) → i < length ts → since bold ts (i + 1) ≡ flipped (toggles_at bold ts i) i (since bold ts i)
 unfolding since
 since_more bold ts i h =
     let z : i + 1 ≡ suc i = omega arith in
-    ap (since bold ts) z ∙ ap (λ o. if o then Some (last_before bold ts (suc i)) else None) (open_more bold ts i h) ∙ flip_step (toggles_at bold ts i) (is_open bold ts i) i (last_before bold ts i)
+    ap (since bold ts) z ∙ ap (λ o. if o then Some (last_before bold ts (suc i)) else None) (open_more bold ts i h)
+    ∙ flip_step (toggles_at bold ts i) (is_open bold ts i) i (last_before bold ts i)
 
 pub since_none : (bold : Bool) (ts : List Toggle) → None ≡ since bold ts 0
 unfolding since
@@ -61,7 +64,8 @@ pub turn_is : (chunks : List Chunk) (ts : List Toggle) (i start : ℕ) (o : Open
     → o.bold ≡ since true ts i → o.italic ≡ since false ts i → turn_of start ts i o ≡ turn_at chunks ts i
 unfolding turn_at
 turn_is chunks ts i start o d h s b t =
-    let e : start_of chunks (get_or ts i d) ≡ option_map_or (start_of chunks) (slice_get ts i) 0 = ap (λ p. option_map_or (start_of chunks) p 0) (sym (slice_get-get_or ts i d h)) in
+    let e : start_of chunks (get_or ts i d) ≡ option_map_or (start_of chunks) (slice_get ts i) 0 =
+    ap (λ p. option_map_or (start_of chunks) p 0) (sym (slice_get-get_or ts i d h)) in
     let z : ℕ = option_map_or (start_of chunks) (slice_get ts i) 0 in
     ap (λ x. turn_of x ts i o) (s ∙ e) ∙ ap (λ (x : Option ℕ). turn_of z ts i (record { bold = x; italic = o.italic })) b
     ∙ ap (λ (x : Option ℕ). turn_of z ts i (record { bold = since true ts i; italic = x })) t

@@ -45,6 +45,7 @@ kept_label is h at source opening closing = record {
   own = if_leaf is source;
   shown = h.shown;
   attrs = h.attrs;
+  origin = None;
   mark = marks.Nothing;
   mw = h.mw;
 }
@@ -60,6 +61,7 @@ group_label at source mw = record {
   own = source;
   shown = [];
   attrs = [];
+  origin = None;
   mark = marks.Nothing;
   mw = mw;
 }

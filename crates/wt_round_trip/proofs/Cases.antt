@@ -30,6 +30,7 @@ blank k id start end = record {
   own = [];
   shown = [];
   attrs = [];
+  origin = None;
   mark = Nothing;
   mw = None;
 }

@@ -6,16 +6,16 @@ use Rattle.wt_tree.specs.declared.kind.Kind.{Kind}
 use Rattle.wt_tree.specs.Tree.{Label, Tree, tree, Trees, none as no_trees, more as one_more}
 use Rattle.wt_tree.specs.declared.row.Writing.{Writing}
 use Rattle.wt_tree.specs.declared.row.Writing.TheVariants.{AsText, AsVoid, RoundCharacter, RoundChildren, Unwritten}
-use Rattle.wt_tree.specs.Kinds.{writing, element_name}
+use Rattle.wt_tree.specs.Kinds.{writing, element_name, texts_of_kind}
 use Rattle.wt_markup.specs.Escapes.{escaped}
 use Rattle.wt_markup.specs.Html.{attributes_of, start_tag, void_tag, end_tag, written, html, html_of_all}
 use Rattle.wt_html_grammar.specs.Signs.{in_text}
 use Rattle.wt_html_grammar.specs.Grammar.{Piece, spell_piece, spell_pieces, ArePieces, spell_attributes, slash, Element, Items, element, void, none, sign, child, spell, spell_items, IsElement, AreItems}
-use Rattle.wt_html_grammar.specs.Markup.{Markup, Markups, text, node, empty, more, unit_of, flush, meaning, contents}
+use Rattle.wt_html_grammar.specs.Markup.{Pair, Markup, Markups, text, node, empty, more, unit_of, flush, meaning, contents}
 use Rattle.wt_tree.specs.Kinds.{may_hold}
 use Rattle.wt_fitting.specs.Rows.{shows_text}
 use Rattle.wt_fitting.specs.Data.{is_empty}
-use Rattle.wt_round_trip.specs.Written.{IsShown, IsElementLabel, is_text, is_as_text, begins_with_text, is_childless, NodeIsWritten, WrittenIn, AllWrittenIn}
+use Rattle.wt_round_trip.specs.Written.{IsShown, IsElementLabel, IsCutIn, is_childless, NodeIsWritten, WrittenIn, AllWrittenIn}
 use Rattle.wt_round_trip.proofs.Pieces.{text_piece, spells_text, pieces_spelled, pieces_stand, pieces_good}
 use Rattle.wt_round_trip.proofs.Said.{said_of, said_is, attributes_for, said_spelled, said_pairs, said_good}
 use Rattle.wt_round_trip.proofs.Rows.{is_as_void, is_round_character, IsElementKind, held_kind}
@@ -96,7 +96,7 @@ spelled_by Unwritten k parent l childless H inside bytes rest e h f = absurd h
 mutual
   pub item_spelled : (t : Tree) (k : ℕ) (parent : Kind) (rest : Items) → WrittenIn k parent t → spell_items (item_before t rest) ≡ html t ++ spell_items rest
   item_spelled (tree l ts) k parent rest h =
-      spelled_by (writing l.kind) k parent l (is_childless ts) (AllWrittenIn (suc k) l.kind ts) (items_of ts) (html_of_all ts) rest refl h (λ i. items_spelled ts (suc k) l.kind i)
+      spelled_by (writing l.kind) k parent l (is_childless ts) (IsCutIn (texts_of_kind l.kind) ts × AllWrittenIn (suc k) l.kind ts) (items_of ts) (html_of_all ts) rest refl h (λ i. items_spelled ts (suc k) l.kind i.1)
 
   pub items_spelled : (ts : Trees) (k : ℕ) (parent : Kind) → AllWrittenIn k parent ts → spell_items (items_of ts) ≡ html_of_all ts
   items_spelled no_trees k parent h = refl
@@ -132,7 +132,7 @@ good_by Unwritten k parent l childless H inside rest e h f g = absurd h
 mutual
   pub item_good : (t : Tree) (k : ℕ) (parent : Kind) (rest : Items) → WrittenIn k parent t → AreItems k rest → AreItems k (item_before t rest)
   item_good (tree l ts) k parent rest h g =
-      good_by (writing l.kind) k parent l (is_childless ts) (AllWrittenIn (suc k) l.kind ts) (items_of ts) rest refl h (λ i. items_good ts (suc k) l.kind i) g
+      good_by (writing l.kind) k parent l (is_childless ts) (IsCutIn (texts_of_kind l.kind) ts × AllWrittenIn (suc k) l.kind ts) (items_of ts) rest refl h (λ i. items_good ts (suc k) l.kind i.1) g
 
   pub items_good : (ts : Trees) (k : ℕ) (parent : Kind) → AllWrittenIn k parent ts → AreItems k (items_of ts)
   items_good no_trees k parent h = tt
@@ -143,8 +143,15 @@ mutual
 abbrev pub node_for : Label → Markups → Markup
 node_for l inside = node (element_name l.kind) (pairs (said_of l)) inside
 
+-- a text before others: it is joined with a text that follows, and left out where it is empty
+abbrev pub text_before : List ℕ → Markups → Markups
+text_before [] ms = ms
+text_before (b ∷ bs) empty = more (text (b ∷ bs)) empty
+text_before (b ∷ bs) (more (text cs) ms) = more (text ((b ∷ bs) ++ cs)) ms
+text_before (b ∷ bs) (more (node name ps c) ms) = more (text (b ∷ bs)) (more (node name ps c) ms)
+
 abbrev pub marked_up : Writing → Label → Markups → Markups → Markups
-marked_up AsText l inside rest = more (text l.own) rest
+marked_up AsText l inside rest = text_before l.own rest
 marked_up AsVoid l inside rest = more (node_for l empty) rest
 marked_up RoundCharacter l inside rest = more (node_for l (flush l.shown empty)) rest
 marked_up RoundChildren l inside rest = more (node_for l inside) rest
@@ -166,25 +173,20 @@ signs_stand (p ∷ ps) run items = signs_stand ps (run ++ unit_of p) items ∙ a
 pub element_stands : (l : Label) (inside : Items) (m : Markups) → IsTold l → contents [] inside ≡ m → meaning (element_for l inside) ≡ node_for l m
 element_stands l inside m t e = ap₂ (node (element_name l.kind)) (said_pairs [] (said_of l) t.good) e
 
--- where a run of characters goes before, no text comes next
-abbrev EndsRun : List ℕ → Bool → Type 0
-EndsRun [] b = Unit {0}
-EndsRun (c ∷ cs) b = b ≡ false
+pub text_twice : (bs cs : List ℕ) (ms : Markups) → text_before bs (text_before cs ms) ≡ text_before (bs ++ cs) ms
+text_twice [] cs ms = refl
+text_twice (b ∷ bs) [] ms = ap (λ (xs : List ℕ). text_before (b ∷ xs) ms) (sym (append-nil bs))
+text_twice (b ∷ bs) (c ∷ cs) empty = refl
+text_twice (b ∷ bs) (c ∷ cs) (more (text ds) ms) = ap (λ xs. more (text (b ∷ xs)) ms) (sym (append_assoc bs (c ∷ cs) ds))
+text_twice (b ∷ bs) (c ∷ cs) (more (node name ps inside) ms) = refl
 
-flush_some : (bs : List ℕ) (ts : Markups) → is_empty bs ≡ false → flush bs ts ≡ more (text bs) ts
-flush_some [] ts h = absurd cc
-flush_some (b ∷ bs) ts h = refl
+text_empty : (run : List ℕ) → flush run empty ≡ text_before run empty
+text_empty [] = refl
+text_empty (b ∷ bs) = refl
 
--- a text after a run: the run is empty
-text_after : (run own : List ℕ) (items : Items) (m : Markups) → EndsRun run true → IsUtf8 own → is_empty own ≡ false → contents own items ≡ flush own m
-    → contents run (signs (pieces own) items) ≡ flush run (more (text own) m)
-text_after [] own items m h u some e =
-    signs_stand (pieces own) [] items ∙ ap (λ r. contents r items) (pieces_stand _ _ _ spells_text own u) ∙ e ∙ flush_some own m some
-text_after (c ∷ cs) own items m h u some e = absurd cc
-
-ends_run : (bs : List ℕ) (b : Bool) → b ≡ false → EndsRun bs b
-ends_run [] b e = tt
-ends_run (c ∷ cs) b e = e
+text_node : (run : List ℕ) (name : List ℕ) (ps : List Pair) (c ms : Markups) → flush run (more (node name ps c) ms) ≡ text_before run (more (node name ps c) ms)
+text_node [] name ps c ms = refl
+text_node (b ∷ bs) name ps c ms = refl
 
 void_stands : (l : Label) → IsTold l → meaning (void_for l) ≡ node_for l empty
 void_stands l t = ap (λ ps. node (element_name l.kind) ps empty) (said_pairs [] (said_of l) t.good)
@@ -192,30 +194,32 @@ void_stands l t = ap (λ ps. node (element_name l.kind) ps empty) (said_pairs []
 character_stands : (bs : List ℕ) → IsUtf8 bs → contents [] (signs (pieces bs) none) ≡ flush bs empty
 character_stands bs u = signs_stand (pieces bs) [] none ∙ ap (λ r. flush r empty) (pieces_stand _ _ _ spells_text bs u)
 
-stands_by : (w : Writing) (k : ℕ) (parent : Kind) (l : Label) (childless : Bool) (H : Type 0) (inside rest : Items) (m n : Markups) (run : List ℕ) (next : Bool) → writing l.kind ≡ w
-    → NodeIsWritten w k parent l childless H → (H → contents [] inside ≡ m) → EndsRun run (is_as_text w) → (is_as_text w && next) ≡ false
-    → ((r : List ℕ) → EndsRun r next → contents r rest ≡ flush r n)
-    → contents run (placed w l inside rest) ≡ flush run (marked_up w l m n)
-stands_by AsText k parent l childless H inside rest m n run next e h f q a g =
-    text_after run l.own rest n q h.0.characters h.0.some (g l.own (ends_run l.own next a))
-stands_by AsVoid k parent l childless H inside rest m n run next e h f q a g =
-    ap₂ (λ x y. flush run (more x y)) (void_stands l (told l (held_kind parent l h.1 h.2) h.2)) (g [] tt)
-stands_by RoundCharacter k parent l childless H inside rest m n run next e h f q a g =
+-- an element after a run of characters, before others
+child_stands : (l : Label) (e : Element) (m n : Markups) (rest : Items) (run : List ℕ) → meaning e ≡ node_for l m → contents [] rest ≡ n → contents run (child e rest) ≡ text_before run (more (node_for l m) n)
+child_stands l e m n rest run f g = ap₂ (λ x y. flush run (more x y)) f g ∙ text_node run (element_name l.kind) (pairs (said_of l)) m n
+
+stands_by : (w : Writing) (k : ℕ) (parent : Kind) (l : Label) (childless : Bool) (H : Type 0) (inside rest : Items) (m n : Markups) (run : List ℕ) → writing l.kind ≡ w
+    → NodeIsWritten w k parent l childless H → (H → contents [] inside ≡ m) → ((r : List ℕ) → contents r rest ≡ text_before r n)
+    → contents run (placed w l inside rest) ≡ text_before run (marked_up w l m n)
+stands_by AsText k parent l childless H inside rest m n run e h f g =
+    signs_stand (pieces l.own) run rest ∙ ap (λ r. contents (run ++ r) rest) (pieces_stand _ _ _ spells_text l.own h.0.characters) ∙ g (run ++ l.own) ∙ sym (text_twice run l.own n)
+stands_by AsVoid k parent l childless H inside rest m n run e h f g =
+    child_stands l (void_for l) empty n rest run (void_stands l (told l (held_kind parent l h.1 h.2) h.2)) (g [])
+stands_by RoundCharacter k parent l childless H inside rest m n run e h f g =
     let i : IsElementKind l.kind l.attrs = held_kind parent l h.1 h.2 in
     let u : IsUtf8 l.shown = shown_utf8 l i h.2 e in
-    ap₂ (λ x y. flush run (more x y)) (element_stands l (signs (pieces l.shown) none) (flush l.shown empty) (told l i h.2) (character_stands l.shown u)) (g [] tt)
-stands_by RoundChildren k parent l childless H inside rest m n run next e h f q a g =
-    ap₂ (λ x y. flush run (more x y)) (element_stands l inside m (told l (held_kind parent l h.1 h.2) h.2) (f h.4)) (g [] tt)
-stands_by Unwritten k parent l childless H inside rest m n run next e h f q a g = absurd h
+    child_stands l (element_for l (signs (pieces l.shown) none)) (flush l.shown empty) n rest run (element_stands l (signs (pieces l.shown) none) (flush l.shown empty) (told l i h.2) (character_stands l.shown u)) (g [])
+stands_by RoundChildren k parent l childless H inside rest m n run e h f g =
+    child_stands l (element_for l inside) m n rest run (element_stands l inside m (told l (held_kind parent l h.1 h.2) h.2) (f h.4)) (g [])
+stands_by Unwritten k parent l childless H inside rest m n run e h f g = absurd h
 
 mutual
-  pub item_stands : (t : Tree) (k : ℕ) (parent : Kind) (rest : Items) (n : Markups) (run : List ℕ) (next : Bool) → WrittenIn k parent t → EndsRun run (is_text t) → (is_text t && next) ≡ false
-      → ((r : List ℕ) → EndsRun r next → contents r rest ≡ flush r n) → contents run (item_before t rest) ≡ flush run (markup_before t n)
-  item_stands (tree l ts) k parent rest n run next h q a g =
-      stands_by (writing l.kind) k parent l (is_childless ts) (AllWrittenIn (suc k) l.kind ts) (items_of ts) rest (markups_of ts) n run next refl h
-      (λ i. items_stand ts (suc k) l.kind [] i tt) q a g
+  pub item_stands : (t : Tree) (k : ℕ) (parent : Kind) (rest : Items) (n : Markups) (run : List ℕ) → WrittenIn k parent t → ((r : List ℕ) → contents r rest ≡ text_before r n)
+      → contents run (item_before t rest) ≡ text_before run (markup_before t n)
+  item_stands (tree l ts) k parent rest n run h g =
+      stands_by (writing l.kind) k parent l (is_childless ts) (IsCutIn (texts_of_kind l.kind) ts × AllWrittenIn (suc k) l.kind ts) (items_of ts) rest (markups_of ts) n run refl h
+      (λ i. items_stand ts (suc k) l.kind [] i.1) g
 
-  pub items_stand : (ts : Trees) (k : ℕ) (parent : Kind) (run : List ℕ) → AllWrittenIn k parent ts → EndsRun run (begins_with_text ts) → contents run (items_of ts) ≡ flush run (markups_of ts)
-  items_stand no_trees k parent run h q = refl
-  items_stand (one_more t ts) k parent run h q =
-      item_stands t k parent (items_of ts) (markups_of ts) run (begins_with_text ts) h.0 q h.1 (λ r e. items_stand ts k parent r h.2 e)
+  pub items_stand : (ts : Trees) (k : ℕ) (parent : Kind) (run : List ℕ) → AllWrittenIn k parent ts → contents run (items_of ts) ≡ text_before run (markups_of ts)
+  items_stand no_trees k parent run h = text_empty run
+  items_stand (one_more t ts) k parent run h = item_stands t k parent (items_of ts) (markups_of ts) run h.0 (λ r. items_stand ts k parent r h.2)

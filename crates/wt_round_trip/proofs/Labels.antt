@@ -9,6 +9,7 @@ use Rattle.wt_tree.specs.declared.kind.AttrName.{AttrName}
 use Rattle.wt_tree.specs.declared.kind.AttrName.TheVariants as attr
 use Rattle.wt_tree.specs.declared.kind.Kind.{Kind}
 use Rattle.wt_tree.specs.declared.kind.Mark.{Mark}
+use Rattle.wt_span.specs.declared.origin.Origin.{Origin}
 use Rattle.wt_tree.specs.declared.kind.Ranges.{Ranges}
 use Rattle.wt_tree.specs.declared.node.DataMw.{DataMw}
 use Rattle.wt_tree.specs.declared.node.DataMw.TheVariants as mw
@@ -233,13 +234,13 @@ with_places : (P : Option Ranges → Type 0) → ((r : Ranges) → HasPlaces (So
 with_places P f None h = absurd h
 with_places P f (Some r) h = f r h
 
-abbrev parts_label : Kind → ℕ → Option Ranges → List ℕ → List ℕ → List ℕ → List ℕ → List (AttrName × List ℕ) → Mark → Option DataMw → Label
-parts_label k id r o c w s a m d = record { kind = k; id = id; ranges = r; opening = o; closing = c; own = w; shown = s; attrs = a; mark = m; mw = d }
+abbrev parts_label : Kind → ℕ → Option Ranges → List ℕ → List ℕ → List ℕ → List ℕ → List (AttrName × List ℕ) → Option Origin → Mark → Option DataMw → Label
+parts_label k id r o c w s a g m d = record { kind = k; id = id; ranges = r; opening = o; closing = c; own = w; shown = s; attrs = a; origin = g; mark = m; mw = d }
 
-same_label : (k : Kind) (d : Option DataMw) {i j : ℕ} {q r : Option Ranges} {o p c e w v s t : List ℕ} {a b : List (AttrName × List ℕ)} {m n : Mark}
-    → i ≡ j → q ≡ r → o ≡ p → c ≡ e → w ≡ v → s ≡ t → a ≡ b → m ≡ n
-    → parts_label k i q o c w s a m d ≡ parts_label k j r p e v t b n d
-same_label k d ei eq eo ec ew es ea em = rw (ei, eq, eo, ec, ew, es, ea, em)
+same_label : (k : Kind) (d : Option DataMw) {i j : ℕ} {q r : Option Ranges} {o p c e w v s t : List ℕ} {a b : List (AttrName × List ℕ)} {g h : Option Origin} {m n : Mark}
+    → i ≡ j → q ≡ r → o ≡ p → c ≡ e → w ≡ v → s ≡ t → a ≡ b → g ≡ h → m ≡ n
+    → parts_label k i q o c w s a g m d ≡ parts_label k j r p e v t b h n d
+same_label k d ei eq eo ec ew es ea eg em = rw (ei, eq, eo, ec, ew, es, ea, eg, em)
 
 row_is : (name : List ℕ) (xs : List (AttrName × List ℕ)) (ps : List Pair) (k : Kind) → value_of (attribute_name attr.Typeof) ps ≡ value_at 1 xs → value_of (attribute_name attr.Property) ps ≡ value_at 2 xs
     → value_of (attribute_name attr.Rel) ps ≡ value_at 3 xs → row_by name (value_at 1 xs) (value_at 2 xs) (value_at 3 xs) ≡ Some k → row name ps ≡ Some k
@@ -273,7 +274,7 @@ told_by l r s k h p e y q =
           ∙ ap₂ both (ap (sync_fits l.kind) v.source ∙ sync_fits_is l.kind s (sync_text s) (sync_read s places) y.kind)
           (ap₂ mw_fits (ap (is_extension_of l.kind) v.type) v.mw ∙ mw_fits_is (is_extension_label l) l.mw h.mw);
       label_is = λ bs f. same_label l.kind l.mw (id_is l.kind ps l.id h.number (ap id_of_value v.id ∙ number_said_is l.id small)) (ap Some y.places ∙ sym e ∙ sym (k.placed l.ranges)) y.opening y.closing y.own f
-          attrs (ap mark_of_value v.edit ∙ sym h.mark);
+          attrs (sym h.origin) (ap mark_of_value v.edit ∙ sym h.mark);
     }
 
 pub told : (l : Label) → IsElementKind l.kind l.attrs → IsElementLabel l → IsTold l

@@ -13,12 +13,12 @@ use Rattle.wt_tree.specs.declared.kind.TagName.{TagName}
 use Rattle.wt_tree.specs.declared.kind.TagName.TheVariants as tag
 use Rattle.wt_tree.specs.declared.kind.Ranges.{Ranges}
 use Rattle.wt_tree.specs.declared.row.Class.{Class}
-use Rattle.wt_tree.specs.declared.row.Class.TheVariants.{Nowhere, Anywhere}
+use Rattle.wt_tree.specs.declared.row.Class.TheVariants.{Nowhere}
 use Rattle.wt_tree.specs.declared.row.Holding.{Holding}
 use Rattle.wt_tree.specs.declared.row.Holding.TheVariants as holding
 use Rattle.wt_tree.specs.declared.row.Writing.{Writing}
 use Rattle.wt_tree.specs.declared.row.Writing.TheVariants.{AsVoid, RoundCharacter}
-use Rattle.wt_tree.specs.Kinds.{shape, writing, is_numbered, is_class, admits, may_hold, spelling, tag_name, element_name, fixed_attributes}
+use Rattle.wt_tree.specs.Kinds.{shape, writing, is_numbered, is_anywhere, admits, may_hold, spelling, tag_name, element_name, fixed_attributes}
 use Rattle.wt_tree.specs.Values.{placeholder, extension_prefix, is_island_type, no_include, no_include_end, only_include, only_include_end, include_only, is_include_type, switch_prefix, is_switch_name}
 use Rattle.wt_tree.specs.Tree.{Label}
 use Rattle.wt_html_grammar.specs.Signs.{is_void, IsName}
@@ -141,6 +141,66 @@ tag_kind tag.Code xs h =
     record { name = (refl, (refl, (refl, (refl, tt)))); whole = refl; placed = λ r. refl; shows = refl; rises = refl; characters = tt; row = λ n. plain_row (kind.Tag tag.Code) xs refl h refl }
 tag_kind tag.Span xs h =
     record { name = (refl, (refl, (refl, (refl, tt)))); whole = refl; placed = λ r. refl; shows = refl; rises = refl; characters = tt; row = λ n. plain_row (kind.Tag tag.Span) xs refl h refl }
+
+ul_kind : (xs : List (AttrName × List ℕ)) → HasAttributes kind.Ul xs → IsElementKind kind.Ul xs
+unfolding spelling placeholder extension_prefix no_include no_include_end only_include only_include_end include_only switch_prefix tag_name digits
+ul_kind xs h =
+    record { name = (refl, (refl, tt)); whole = refl; placed = λ r. refl; shows = refl; rises = refl; characters = tt; row = λ n. plain_row kind.Ul xs refl h refl }
+
+ol_kind : (xs : List (AttrName × List ℕ)) → HasAttributes kind.Ol xs → IsElementKind kind.Ol xs
+unfolding spelling placeholder extension_prefix no_include no_include_end only_include only_include_end include_only switch_prefix tag_name digits
+ol_kind xs h =
+    record { name = (refl, (refl, tt)); whole = refl; placed = λ r. refl; shows = refl; rises = refl; characters = tt; row = λ n. plain_row kind.Ol xs refl h refl }
+
+dl_kind : (xs : List (AttrName × List ℕ)) → HasAttributes kind.Dl xs → IsElementKind kind.Dl xs
+unfolding spelling placeholder extension_prefix no_include no_include_end only_include only_include_end include_only switch_prefix tag_name digits
+dl_kind xs h =
+    record { name = (refl, (refl, tt)); whole = refl; placed = λ r. refl; shows = refl; rises = refl; characters = tt; row = λ n. plain_row kind.Dl xs refl h refl }
+
+li_kind : (xs : List (AttrName × List ℕ)) → HasAttributes kind.Li xs → IsElementKind kind.Li xs
+unfolding spelling placeholder extension_prefix no_include no_include_end only_include only_include_end include_only switch_prefix tag_name digits
+li_kind xs h =
+    record { name = (refl, (refl, tt)); whole = refl; placed = λ r. refl; shows = refl; rises = refl; characters = tt; row = λ n. plain_row kind.Li xs refl h refl }
+
+dt_kind : (xs : List (AttrName × List ℕ)) → HasAttributes kind.Dt xs → IsElementKind kind.Dt xs
+unfolding spelling placeholder extension_prefix no_include no_include_end only_include only_include_end include_only switch_prefix tag_name digits
+dt_kind xs h =
+    record { name = (refl, (refl, tt)); whole = refl; placed = λ r. refl; shows = refl; rises = refl; characters = tt; row = λ n. plain_row kind.Dt xs refl h refl }
+
+dd_kind : (xs : List (AttrName × List ℕ)) → HasAttributes kind.Dd xs → IsElementKind kind.Dd xs
+unfolding spelling placeholder extension_prefix no_include no_include_end only_include only_include_end include_only switch_prefix tag_name digits
+dd_kind xs h =
+    record { name = (refl, (refl, tt)); whole = refl; placed = λ r. refl; shows = refl; rises = refl; characters = tt; row = λ n. plain_row kind.Dd xs refl h refl }
+
+table_kind : (xs : List (AttrName × List ℕ)) → HasAttributes kind.Table xs → IsElementKind kind.Table xs
+unfolding spelling placeholder extension_prefix no_include no_include_end only_include only_include_end include_only switch_prefix tag_name digits
+table_kind xs h =
+    record { name = (refl, (refl, (refl, (refl, (refl, tt))))); whole = refl; placed = λ r. refl; shows = refl; rises = refl; characters = tt; row = λ n. plain_row kind.Table xs refl h refl }
+
+tbody_kind : (xs : List (AttrName × List ℕ)) → HasAttributes kind.Tbody xs → IsElementKind kind.Tbody xs
+unfolding spelling placeholder extension_prefix no_include no_include_end only_include only_include_end include_only switch_prefix tag_name digits
+tbody_kind xs h =
+    record { name = (refl, (refl, (refl, (refl, (refl, tt))))); whole = refl; placed = λ r. refl; shows = refl; rises = refl; characters = tt; row = λ n. plain_row kind.Tbody xs refl h refl }
+
+tr_kind : (xs : List (AttrName × List ℕ)) → HasAttributes kind.Tr xs → IsElementKind kind.Tr xs
+unfolding spelling placeholder extension_prefix no_include no_include_end only_include only_include_end include_only switch_prefix tag_name digits
+tr_kind xs h =
+    record { name = (refl, (refl, tt)); whole = refl; placed = λ r. refl; shows = refl; rises = refl; characters = tt; row = λ n. plain_row kind.Tr xs refl h refl }
+
+caption_kind : (xs : List (AttrName × List ℕ)) → HasAttributes kind.Caption xs → IsElementKind kind.Caption xs
+unfolding spelling placeholder extension_prefix no_include no_include_end only_include only_include_end include_only switch_prefix tag_name digits
+caption_kind xs h =
+    record { name = (refl, (refl, (refl, (refl, (refl, (refl, (refl, tt))))))); whole = refl; placed = λ r. refl; shows = refl; rises = refl; characters = tt; row = λ n. plain_row kind.Caption xs refl h refl }
+
+td_kind : (xs : List (AttrName × List ℕ)) → HasAttributes kind.Td xs → IsElementKind kind.Td xs
+unfolding spelling placeholder extension_prefix no_include no_include_end only_include only_include_end include_only switch_prefix tag_name digits
+td_kind xs h =
+    record { name = (refl, (refl, tt)); whole = refl; placed = λ r. refl; shows = refl; rises = refl; characters = tt; row = λ n. plain_row kind.Td xs refl h refl }
+
+th_kind : (xs : List (AttrName × List ℕ)) → HasAttributes kind.Th xs → IsElementKind kind.Th xs
+unfolding spelling placeholder extension_prefix no_include no_include_end only_include only_include_end include_only switch_prefix tag_name digits
+th_kind xs h =
+    record { name = (refl, (refl, tt)); whole = refl; placed = λ r. refl; shows = refl; rises = refl; characters = tt; row = λ n. plain_row kind.Th xs refl h refl }
 
 level_cases : (P : ℕ → Type 0) → P 1 → P 2 → P 3 → P 4 → P 5 → P 6 → (n : ℕ) → (nat_le 1 n && nat_le n 6) ≡ true → P n
 level_cases P a b c d e f zero h = absurd cc
@@ -297,9 +357,13 @@ nowhere holding.Cells e = cc
 nowhere holding.InlinesThenLists e = cc
 nowhere holding.InlinesThenBlocks e = cc
 
-somewhere : (h : Holding) (c : Class) → (is_class c Anywhere || admits h c) ≡ true → is_somewhere c ≡ true
+somewhere : (h : Holding) (c : Class) → (is_anywhere c || admits h c) ≡ true → is_somewhere c ≡ true
 somewhere h Nowhere e = absurd (nowhere h e)
 somewhere h c e = refl
+
+level_of : (n : ℕ) → has_level (kind.Heading n) ≡ true → (nat_le 1 n && nat_le n 6) ≡ true
+unfolding spelling
+level_of n h = h
 
 element_kind : (k : Kind) (xs : List (AttrName × List ℕ)) → is_somewhere (shape k).class ≡ true → has_level k ≡ true → HasAttributes k xs → IsElementKind k xs
 element_kind kind.Para xs e l h = para_kind xs h
@@ -315,7 +379,7 @@ element_kind kind.Entity xs e l h = entity_kind xs h
 element_kind kind.Nowiki xs e l h = nowiki_kind xs h
 element_kind kind.Comment xs e l h = comment_kind xs h
 element_kind kind.Skip xs e l h = skip_kind xs h
-element_kind (kind.Heading n) xs e l h = heading_kind n xs l h
+element_kind (kind.Heading n) xs e l h = heading_kind n xs (level_of n l) h
 element_kind (kind.Tag t) xs e l h = tag_kind t xs h
 element_kind kind.Island xs e l h = island_kind xs h
 element_kind kind.Include xs e l h = include_kind xs h
@@ -325,18 +389,18 @@ element_kind kind.Sep xs e l h = absurd (not_true e)
 element_kind kind.Text xs e l h = absurd (not_true e)
 element_kind kind.Group xs e l h = absurd (not_true e)
 element_kind kind.Empty xs e l h = absurd (not_true e)
-element_kind kind.Ul xs e l h = absurd (not_true l)
-element_kind kind.Ol xs e l h = absurd (not_true l)
-element_kind kind.Dl xs e l h = absurd (not_true l)
-element_kind kind.Li xs e l h = absurd (not_true l)
-element_kind kind.Dt xs e l h = absurd (not_true l)
-element_kind kind.Dd xs e l h = absurd (not_true l)
-element_kind kind.Table xs e l h = absurd (not_true l)
-element_kind kind.Tbody xs e l h = absurd (not_true l)
-element_kind kind.Tr xs e l h = absurd (not_true l)
-element_kind kind.Caption xs e l h = absurd (not_true l)
-element_kind kind.Td xs e l h = absurd (not_true l)
-element_kind kind.Th xs e l h = absurd (not_true l)
+element_kind kind.Ul xs e l h = ul_kind xs h
+element_kind kind.Ol xs e l h = ol_kind xs h
+element_kind kind.Dl xs e l h = dl_kind xs h
+element_kind kind.Li xs e l h = li_kind xs h
+element_kind kind.Dt xs e l h = dt_kind xs h
+element_kind kind.Dd xs e l h = dd_kind xs h
+element_kind kind.Table xs e l h = table_kind xs h
+element_kind kind.Tbody xs e l h = tbody_kind xs h
+element_kind kind.Tr xs e l h = tr_kind xs h
+element_kind kind.Caption xs e l h = caption_kind xs h
+element_kind kind.Td xs e l h = td_kind xs h
+element_kind kind.Th xs e l h = th_kind xs h
 
 numbered : (k : Kind) → is_somewhere (shape k).class ≡ true → is_numbered k ≡ true
 numbered kind.Body e = absurd (not_true e)

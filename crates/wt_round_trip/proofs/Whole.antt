@@ -1,5 +1,5 @@
 -- The page round the body, and the law.
-use Rattle.std.proofs.Common.{◌≡◌, ℕ, Option, Some, None, List, [], ◌∷◌, ◌++◌, map, refl, sym, ap, ap₂, ◌∙◌, subst, append-nil, codes, arith}
+use Rattle.std.proofs.Common.{◌≡◌, ℕ, false, Option, Some, None, List, [], ◌∷◌, ◌++◌, map, refl, sym, ap, ap₂, ◌∙◌, subst, append-nil, codes, arith}
 use Rattle.std.specs.Prelude.{Ok, ◌&&◌, if◌then◌else◌}
 use Rattle.std.specs.Str.{bytes_eq}
 use lib.Utf8.{encode}
@@ -24,7 +24,7 @@ use Rattle.wt_round_trip.proofs.Rows.{is_as_void, IsElementKind, body_is_kind}
 use Rattle.wt_round_trip.proofs.Order.{pairs}
 use Rattle.wt_round_trip.proofs.Labels.{IsTold, told, small_id}
 use Rattle.wt_round_trip.proofs.Elements.{element_for, attributes_spelled, element_spelled, items_of, items_spelled, element_good, items_good, node_for, markups_of, element_stands, items_stand}
-use Rattle.wt_round_trip.proofs.Fits.{texts_fit, fit_whole, items_fit, items_sourced}
+use Rattle.wt_round_trip.proofs.Fits.{texts_fit, fit_whole, held_fit, items_sourced}
 
 -- ---- the document
 
@@ -88,8 +88,10 @@ body_fits l ts e w t h =
     let ps : List Pair = pairs (said_of l) in
     let m : Markups = markups_of ts in
     let s : [] ≡ l.shown = sym (subst (λ k. IsShown (shows_text k) l.shown) e w.shown) in
+    let f = held_fit ts 2 kind.Body refl tt h 5 in
     ap fit_body (body_found l m e)
-    ∙ fit_whole 4 kind.Body ps t.told m (unranged_all ts) (fit_nodes 5 kind.Body m) (ap (λ k. data_of k ps) (sym e) ∙ t.data_is) (texts_fit ts 2 kind.Body h) (items_fit ts 2 kind.Body 5 refl h)
+    ∙ fit_whole 4 kind.Body ps t.told m f.0 (fit_nodes 5 kind.Body false m) (ap (λ k. data_of k ps) (sym e) ∙ t.data_is) (texts_fit ts 2 kind.Body h) f.1
+    ∙ ap (λ us. Ok (tree (label_for kind.Body ps t.told (texts_in m)) us)) f.2
     ∙ ap (λ x. Ok (tree x (unranged_all ts)))
     (ap (λ k. label_for k ps t.told (texts_in m)) (sym e) ∙ t.label_is (texts_in m) (ap (λ k. if shows_text k then texts_in m else []) e ∙ s))
 
@@ -114,7 +116,7 @@ written_stands (tree l ts) h =
         document e,
         document_good e (element_good l 1 (items_of ts) (omega arith) k (ap (λ j. is_as_void (writing j)) h.0) t (items_good ts 2 kind.Body h.2)),
         ap (λ x. frame_start ++ (x ++ frame_end)) same ∙ document_spelled e,
-        document_stands e ∙ ap page_markup (element_stands l (items_of ts) (markups_of ts) t (items_stand ts 2 kind.Body [] h.2 tt)),
+        document_stands e ∙ ap page_markup (element_stands l (items_of ts) (markups_of ts) t (items_stand ts 2 kind.Body [] h.2)),
       ),
       body_fits l ts h.0 h.1 t h.2,
       body_sourced l ts h.0 t h.2,

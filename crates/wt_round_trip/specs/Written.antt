@@ -11,13 +11,14 @@ use Rattle.wt_tree.specs.declared.node.DataMw.TheVariants as mw
 use Rattle.wt_tree.specs.declared.row.Own.{Own}
 use Rattle.wt_tree.specs.declared.row.Texts.{Texts}
 use Rattle.wt_tree.specs.declared.row.Texts.TheVariants.{Separators, Page, Bordered, OwnCharacter}
-use Rattle.wt_tree.specs.Kinds.{writing, is_leaf, is_numbered, may_hold, order, spelling, fixed_attributes, texts_of_kind}
+use Rattle.wt_tree.specs.Kinds.{writing, is_leaf, is_numbered, may_hold, may_follow, is_block, order, spelling, fixed_attributes, texts_of_kind}
 use Rattle.wt_tree.specs.Values.{passes, is_needed}
 use Rattle.wt_tree.specs.Tree.{Label, Tree, tree, Trees, none, more, label}
 use Rattle.wt_tree.specs.declared.row.Writing.{Writing}
 use Rattle.wt_tree.specs.declared.row.Writing.TheVariants.{AsText, Unwritten}
 use Rattle.wt_fitting.specs.Data.{is_empty, is_extension_of}
-use Rattle.wt_fitting.specs.Fit.{is_blank}
+use Rattle.wt_tree.specs.Recut.{is_blank, is_text, recut}
+use Rattle.wt_tree.specs.Cutting.{begins_with_text}
 use Rattle.wt_fitting.specs.Rows.{holds_text, shows_text, read_as}
 
 -- ---- what is read again
@@ -37,6 +38,7 @@ label_read l = record {
   own = l.own;
   shown = l.shown;
   attrs = l.attrs;
+  origin = l.origin;
   mark = l.mark;
   mw = l.mw;
 }
@@ -64,17 +66,25 @@ leaf_kind parent = if holds_text parent then kind.Text else kind.Sep
 abbrev pub may_stand : Kind → List ℕ → Bool
 may_stand parent own = if holds_text parent then true else is_blank own
 
+-- in an item, a cell or a caption both may stand
+abbrev pub HasLeafKind : Texts → Kind → Kind → Type 0
+HasLeafKind Separators j k = k ≡ j
+HasLeafKind Page j k = k ≡ j
+HasLeafKind Bordered j k = (k ≡ kind.Text) ⊎ (k ≡ kind.Sep)
+HasLeafKind OwnCharacter j k = k ≡ j
+
 -- a text or a separator: its characters, and nothing else
 pub record IsTextIn (parent : Kind) (l : Label) : Type 0 where
-  pub kind : l.kind ≡ leaf_kind parent
+  pub kind : HasLeafKind (texts_of_kind parent) (leaf_kind parent) l.kind
   pub characters : IsUtf8 l.own
   pub some : is_empty l.own ≡ false
   pub stands : may_stand parent l.own ≡ true
-  pub shown : l.shown ≡ shown_of (leaf_kind parent) l.own
+  pub shown : l.shown ≡ shown_of l.kind l.own
   pub id : l.id ≡ 0
   pub opening : l.opening ≡ []
   pub closing : l.closing ≡ []
   pub attrs : l.attrs ≡ []
+  pub origin : l.origin ≡ None
   pub mark : l.mark ≡ mark.Nothing
   pub mw : l.mw ≡ None
 
@@ -90,18 +100,13 @@ abbrev pub IsNumber : Bool → ℕ → Type 0
 IsNumber true n = (0 < n) × (n < 2 ^ 32)
 IsNumber false n = n ≡ 0
 
--- lists, tables and what stands in them aren't written and read so far
-abbrev pub is_read_by : Texts → Bool
-is_read_by Separators = false
-is_read_by Page = true
-is_read_by Bordered = false
-is_read_by OwnCharacter = true
+-- where a kind has a level, it is one of the six
+abbrev pub is_level : Option ℕ → Bool
+is_level None = true
+is_level (Some n) = nat_le 1 n && nat_le n 6
 
--- a heading has one of the six levels
 abbrev pub has_level : Kind → Bool
-has_level kind.Body = true
-has_level (kind.Heading n) = nat_le 1 n && nat_le n 6
-has_level k = is_read_by (texts_of_kind k)
+has_level k = is_level (spelling k).level
 
 -- a leaf has its source and no delimiters; another element has delimiters and no source of its own
 pub record IsLeafSource (l : Label) : Type 0 where
@@ -165,21 +170,11 @@ pub record IsElementLabel (l : Label) : Type 0 where
   pub source : HasSource (is_leaf l.kind) l
   pub shown : IsShown (shows_text l.kind) l.shown
   pub attrs : HasAttributes l.kind l.attrs
+  pub origin : l.origin ≡ None
   pub mark : l.mark ≡ mark.Nothing
   pub mw : HasData (is_extension_label l) l.mw
 
 -- ---- trees
-
-abbrev pub is_as_text : Writing → Bool
-is_as_text AsText = true
-is_as_text w = false
-
-abbrev pub is_text : Tree → Bool
-is_text t = is_as_text (writing (label t).kind)
-
-abbrev pub begins_with_text : Trees → Bool
-begins_with_text none = false
-begins_with_text (more t ts) = is_text t
 
 abbrev pub is_childless : Trees → Bool
 is_childless none = true
@@ -192,14 +187,33 @@ NodeIsWritten AsText k parent l childless inside = IsTextIn parent l × (childle
 NodeIsWritten Unwritten k parent l childless inside = ⊥
 NodeIsWritten w k parent l childless inside = (k < 200) × (may_hold parent l.kind ≡ true) × IsElementLabel l × ((not (is_leaf l.kind) || childless) ≡ true) × inside
 
--- No two texts stand next to each other: they would be read as one.
+-- Two texts that stand next to each other would be read as one: that is well where they are cut again.
+abbrev pub joins : Texts → Bool → Bool
+joins Separators b = b
+joins Page b = b
+joins Bordered b = false
+joins OwnCharacter b = b
+
+-- no inline element stands behind a block
+abbrev pub are_ordered : Bool → Trees → Bool
+are_ordered behind none = true
+are_ordered behind (more t ts) = may_follow behind (label t).kind && are_ordered (behind || is_block (label t).kind) ts
+
+-- In an item, a cell or a caption texts and separators are cut at their border, and the inline elements
+-- come first. (The ranges of texts, which aren't read, are left out.)
+abbrev pub IsCutIn : Texts → Trees → Type 0
+IsCutIn Separators ts = Unit {0}
+IsCutIn Page ts = Unit {0}
+IsCutIn Bordered ts = (recut (unranged_all ts) ≡ unranged_all ts) × (are_ordered false ts ≡ true)
+IsCutIn OwnCharacter ts = Unit {0}
+
 abbrev mutual
   pub WrittenIn : ℕ → Kind → Tree → Type 0
-  WrittenIn k parent (tree l ts) = NodeIsWritten (writing l.kind) k parent l (is_childless ts) (AllWrittenIn (suc k) l.kind ts)
+  WrittenIn k parent (tree l ts) = NodeIsWritten (writing l.kind) k parent l (is_childless ts) (IsCutIn (texts_of_kind l.kind) ts × AllWrittenIn (suc k) l.kind ts)
 
   pub AllWrittenIn : ℕ → Kind → Trees → Type 0
   AllWrittenIn k parent none = Unit {0}
-  AllWrittenIn k parent (more t ts) = WrittenIn k parent t × ((is_text t && begins_with_text ts) ≡ false) × AllWrittenIn k parent ts
+  AllWrittenIn k parent (more t ts) = WrittenIn k parent t × (joins (texts_of_kind parent) (is_text t && begins_with_text ts) ≡ false) × AllWrittenIn k parent ts
 
 -- the tree of a page: a body, which stands within `html`
 abbrev pub IsWritten : Tree → Type 0

@@ -16,7 +16,8 @@ one : {Y : Type 0} (h : ℕ → Option Y) → (n : ℕ) (o : Option Y) → h n �
 one h n None e = rw e refl
 one h n (Some y) e = rw e refl
 
-pub filter_map-range_more : {Y : Type 0} (h : ℕ → Option Y) → (n : ℕ) (o : Option Y) → h n ≡ o → filter_map h (range_with_len 0 (n + 1)) ≡ filter_map h (range_with_len 0 n) ++ option_to_list o
+pub filter_map-range_more : {Y : Type 0} (h : ℕ → Option Y) → (n : ℕ) (o : Option Y) → h n ≡ o
+    → filter_map h (range_with_len 0 (n + 1)) ≡ filter_map h (range_with_len 0 n) ++ option_to_list o
 filter_map-range_more h n o e =
     let s : n + 1 ≡ suc n = omega arith in
     let z : 0 + n ≡ n = omega arith in

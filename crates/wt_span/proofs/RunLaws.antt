@@ -4,10 +4,12 @@ use Rattle.std.specs.List.{flat_map}
 use Rattle.wt_span.specs.Runs.{put, runs, IsRun, AreRuns}
 
 -- a case of a test
-put_joins : {A : Type 0} (joins : A → A → Bool) (x y : A) (ys : List A) (rs : List (List A)) → joins x y ≡ true → put joins x ((y ∷ ys) ∷ rs) ≡ (x ∷ y ∷ ys) ∷ rs
+put_joins : {A : Type 0} (joins : A → A → Bool) (x y : A) (ys : List A) (rs : List (List A)) → joins x y ≡ true
+    → put joins x ((y ∷ ys) ∷ rs) ≡ (x ∷ y ∷ ys) ∷ rs
 put_joins joins x y ys rs e = rw e refl
 
-put_parts : {A : Type 0} (joins : A → A → Bool) (x y : A) (ys : List A) (rs : List (List A)) → joins x y ≡ false → put joins x ((y ∷ ys) ∷ rs) ≡ (x ∷ []) ∷ (y ∷ ys) ∷ rs
+put_parts : {A : Type 0} (joins : A → A → Bool) (x y : A) (ys : List A) (rs : List (List A)) → joins x y ≡ false
+    → put joins x ((y ∷ ys) ∷ rs) ≡ (x ∷ []) ∷ (y ∷ ys) ∷ rs
 put_parts joins x y ys rs e = rw e refl
 
 apart_by : {A : Type 0} (joins : A → A → Bool) (x y z : A) (zs : List A) (rs : List (List A)) (v : Bool) → joins x y ≡ false
@@ -28,7 +30,8 @@ runs_cut joins (x ∷ []) (y ∷ others) h = put_apart joins x y (runs joins oth
 runs_cut joins (x ∷ y ∷ ys) others h = ap (put joins x) (runs_cut joins (y ∷ ys) others h.1) ∙ put_joins joins x y ys (runs joins others) h.0
 
 -- one more before a list
-put_by : {A : Type 0} (joins : A → A → Bool) (x y : A) (ys : List A) (rs : List (List A)) (others : List A) (v : Bool) → joins x y ≡ v → IsRun joins (y ∷ ys) others → AreRuns joins rs others
+put_by : {A : Type 0} (joins : A → A → Bool) (x y : A) (ys : List A) (rs : List (List A)) (others : List A) (v : Bool)
+    → joins x y ≡ v → IsRun joins (y ∷ ys) others → AreRuns joins rs others
     → AreRuns joins (cond v ((x ∷ y ∷ ys) ∷ rs) ((x ∷ []) ∷ (y ∷ ys) ∷ rs)) (x ∷ y ∷ ys ++ others)
 put_by joins x y ys rs others true e run rest = (others, refl, (e, run), rest)
 put_by joins x y ys rs others false e run rest = (y ∷ ys ++ others, refl, e, (others, refl, run, rest))
@@ -56,7 +59,8 @@ pub runs_joined : {A : Type 0} (joins : A → A → Bool) (xs : List A) → flat
 runs_joined joins xs = are_joined joins (runs joins xs) xs (runs_are joins xs)
 
 -- what joins with nothing is a run by itself
-run_before : {A : Type 0} (joins : A → A → Bool) (n : A) (r others ys : List A) → ((x : A) → joins x n ≡ false) → IsRun joins r others → IsRun joins r (others ++ n ∷ ys)
+run_before : {A : Type 0} (joins : A → A → Bool) (n : A) (r others ys : List A) → ((x : A) → joins x n ≡ false)
+    → IsRun joins r others → IsRun joins r (others ++ n ∷ ys)
 run_before joins n [] others ys h r = absurd r
 run_before joins n (x ∷ []) [] ys h r = h x
 run_before joins n (x ∷ []) (y ∷ others) ys h r = r
@@ -66,7 +70,8 @@ run_alone : {A : Type 0} (joins : A → A → Bool) (n : A) (ys : List A) → ((
 run_alone joins n [] h = tt
 run_alone joins n (y ∷ ys) h = h y
 
-are_alone : {A : Type 0} (joins : A → A → Bool) (n : A) (rs : List (List A)) (xs ys : List A) → ((x : A) → joins x n ≡ false) → ((y : A) → joins n y ≡ false) → AreRuns joins rs xs
+are_alone : {A : Type 0} (joins : A → A → Bool) (n : A) (rs : List (List A)) (xs ys : List A) → ((x : A) → joins x n ≡ false)
+    → ((y : A) → joins n y ≡ false) → AreRuns joins rs xs
     → AreRuns joins (rs ++ (n ∷ []) ∷ runs joins ys) (xs ++ n ∷ ys)
 are_alone joins n [] xs ys h g r = (ys, ap (λ zs. zs ++ n ∷ ys) r, run_alone joins n ys g, runs_are joins ys)
 are_alone joins n (s ∷ rs) xs ys h g r =
@@ -74,4 +79,5 @@ are_alone joins n (s ∷ rs) xs ys h g r =
 
 pub runs_alone : {A : Type 0} (joins : A → A → Bool) (n : A) (xs ys : List A) → ((x : A) → joins x n ≡ false) → ((y : A) → joins n y ≡ false)
     → runs joins (xs ++ n ∷ ys) ≡ runs joins xs ++ (n ∷ []) ∷ runs joins ys
-runs_alone joins n xs ys h g = sym (runs_only joins (runs joins xs ++ (n ∷ []) ∷ runs joins ys) (xs ++ n ∷ ys) (are_alone joins n (runs joins xs) xs ys h g (runs_are joins xs)))
+runs_alone joins n xs ys h g = sym (runs_only joins (runs joins xs ++ (n ∷ []) ∷ runs joins ys) (xs ++ n ∷ ys)
+    (are_alone joins n (runs joins xs) xs ys h g (runs_are joins xs)))

@@ -82,6 +82,17 @@ impl<T: Drop> List<T> {
     }
 }
 
+impl<T: Copy> List<T> {
+    /// Appends members; after want of memory the list is as it was.
+    pub fn extend_from_slice(&mut self, items: &[T]) -> Result<(), NoMemory>
+        ensures ok { OnOk result (self.new ≡ self.old ++ items.now) }
+        ensures err { OnErr result (self.new ≡ self.old) }
+    {
+        self.items.extend_from_slice(items)?;
+        Ok(())
+    }
+}
+
 impl<T: PartialEq> PartialEq for List<T> {
     ghost eq = { pointwise T.eq };
 

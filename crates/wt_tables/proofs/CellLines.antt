@@ -14,7 +14,8 @@ use Rattle.wt_tables.specs.Cells.{signs, lead_len, from_sign, begins_cell}
 use Rattle.wt_tables.specs.CutLaws.{has_cells}
 use Rattle.wt_tables.proofs.CellSteps.{and_left, or_true}
 
-past_by : (t : Bool) (test : ℕ → Bool) (s : ℕ) (ss : List ℕ) → past test ss ≡ drop (prefix_len test ss) ss → (if t then past test ss else s ∷ ss) ≡ drop (cond t (1 + prefix_len test ss) 0) (s ∷ ss)
+past_by : (t : Bool) (test : ℕ → Bool) (s : ℕ) (ss : List ℕ) → past test ss ≡ drop (prefix_len test ss) ss
+    → (if t then past test ss else s ∷ ss) ≡ drop (cond t (1 + prefix_len test ss) 0) (s ∷ ss)
 past_by true test s ss h = rw one-add h
 past_by false test s ss h = refl
 
@@ -37,7 +38,8 @@ last_true : (a b : Bool) → b ≡ true → (a || b) ≡ true
 last_true true b h = refl
 last_true false b h = h
 
-told_by : (p : LineKind → Bool) (b : Bool) (j : LineKind) (rows : List (Bool × LineKind)) (k : LineKind) → (if b then Some j else first_of rows) ≡ Some k → p k ≡ true → (first_of rows ≡ Some k → told p rows ≡ true)
+told_by : (p : LineKind → Bool) (b : Bool) (j : LineKind) (rows : List (Bool × LineKind)) (k : LineKind)
+    → (if b then Some j else first_of rows) ≡ Some k → p k ≡ true → (first_of rows ≡ Some k → told p rows ≡ true)
     → ((p j && b) || told p rows) ≡ true
 told_by p true j rows k e h go = let same : j ≡ k = cc in rw (ap p same ∙ h) refl
 told_by p false j rows k e h go = no_row (p j) (told p rows) (go e)
@@ -47,7 +49,8 @@ told_first p [] k e h = absurd cc
 told_first p ((b, j) ∷ rows) k e h = told_by p b j rows k e h (λ f. told_first p rows k f h)
 
 abbrev rows_of : Bool → Bool → Bool → Bool → List ℕ → List ℕ → List ℕ → List (Bool × LineKind)
-rows_of t blank opening few s f b = (blank, kind.Blank) ∷ (opening, if few then kind.TableOpen else kind.Text) ∷ ((if t then table_rows s else []) ++ text_rows f b)
+rows_of t blank opening few s f b = (blank, kind.Blank) ∷ (opening, if few then kind.TableOpen else kind.Text)
+    ∷ ((if t then table_rows s else []) ++ text_rows f b)
 
 or_none : (b : Bool) → (b || false) ≡ true → b ≡ true
 or_none true e = refl
@@ -57,7 +60,8 @@ bar_of : (s : List ℕ) → begins (codes "|+") s ≡ true → begins (codes "|"
 bar_of [] e = absurd cc
 bar_of (a ∷ s) e = ap (λ (t : Bool). t && true) (and_left (124 == a) _ e)
 
-cell_by : (t blank opening few : Bool) (s f b : List ℕ) → told has_cells (rows_of t blank opening few s f b) ≡ true → (begins (codes "|") s || begins (codes "!") s) ≡ true
+cell_by : (t blank opening few : Bool) (s f b : List ℕ) → told has_cells (rows_of t blank opening few s f b) ≡ true
+    → (begins (codes "|") s || begins (codes "!") s) ≡ true
 cell_by true blank opening true s f b e = elim (or_true (begins (codes "|+") s) _ e) [
   | inl a ↦ ap (λ (t : Bool). t || begins (codes "!") s) (bar_of s a)
   | inr h ↦ elim (or_true (begins (codes "|") s) _ h) [
@@ -121,5 +125,6 @@ caption_lines n xs h =
     let f = past is_mark_sign (map sign xs) in
     let b = past is_idle (reverse (map sign xs)) in
     let rows = rows_of (nat_lt 0 n) (length s == 0) (begins (codes "{|") s) (nat_lt n 16) s f b in
-    let t = caption_by (nat_lt 0 n) (length s == 0) (begins (codes "{|") s) (nat_lt n 16) s f b (told_first is_caption rows kind.Caption (caption_some (first_of rows) h) refl) in
+    let t = caption_by (nat_lt 0 n) (length s == 0) (begins (codes "{|") s) (nat_lt n 16) s f b
+    (told_first is_caption rows kind.Caption (caption_some (first_of rows) h) refl) in
     subst (λ (ss : List ℕ). begins (codes "|+") ss ≡ true) (from_sign_is xs) t

@@ -64,7 +64,8 @@ all_both [] ys = refl
 all_both (x ∷ xs) ys = and_by (is_text x) (list_all is_text xs) (list_all is_text ys) _ (all_both xs ys)
 
 pub texts_cons : (p : Piece) (ps : List Piece) → list_all is_text (items (p ∷ ps)) ≡ (is_text_form p.form && list_all is_text (items ps))
-texts_cons p ps = all_both (items_of p) (items ps) ∙ ap (λ (t : Bool). t && list_all is_text (items ps)) (texts_by p.form (call_of_origin p.origin) (bytes_of p.text))
+texts_cons p ps = all_both (items_of p) (items ps) ∙ ap (λ (t : Bool). t && list_all is_text (items ps))
+    (texts_by p.form (call_of_origin p.origin) (bytes_of p.text))
 
 -- ---- single bars
 
@@ -73,7 +74,8 @@ bar_there_by true s ss e = absurd cc
 bar_there_by false s ss e = sign_is 124 s (and_left (124 == s) true (and_left (124 == s && true) _ e))
 
 there_by : (t bar : Bool) (s : ℕ) (ss : List ℕ) → begins_single bar (s ∷ ss) ≡ t → (if t then 0 else suc (single_from (s == 124) ss)) < suc (length ss)
-    → (single_from (s == 124) ss < length ss → slice_index ss (single_from (s == 124) ss) ≡ 124) → slice_index (s ∷ ss) (if t then 0 else suc (single_from (s == 124) ss)) ≡ 124
+    → (single_from (s == 124) ss < length ss → slice_index ss (single_from (s == 124) ss) ≡ 124)
+    → slice_index (s ∷ ss) (if t then 0 else suc (single_from (s == 124) ss)) ≡ 124
 there_by true bar s ss e l h = bar_there_by bar s ss e
 there_by false bar s ss e l h = h (omega arith)
 
@@ -118,11 +120,14 @@ onto_is x p ps = refl
 
 first_by : (t : Bool) (by : Splits) (x : Item) (xs : List Item) → splits by (signs (x ∷ xs)) ≡ t
     → parts by zero xs ≡ take (first_len by zero (signs xs)) xs ∷ parts_left by (drop (first_len by zero (signs xs)) xs)
-    → (if t then [] ∷ onto x (parts by 1 xs) else onto x (parts by zero xs)) ≡ take (if t then 0 else suc (first_len by zero (signs xs))) (x ∷ xs) ∷ parts_left by (drop (if t then 0 else suc (first_len by zero (signs xs))) (x ∷ xs))
+    → (if t then [] ∷ onto x (parts by 1 xs) else onto x (parts by zero xs))
+    ≡ take (if t then 0 else suc (first_len by zero (signs xs))) (x ∷ xs)
+    ∷ parts_left by (drop (if t then 0 else suc (first_len by zero (signs xs))) (x ∷ xs))
 first_by true by x xs e h = refl
 first_by false by x xs e h = ap (onto x) h
 
-pub parts_first : (by : Splits) (n : ℕ) (xs : List Item) → parts by n xs ≡ take (first_len by n (signs xs)) xs ∷ parts_left by (drop (first_len by n (signs xs)) xs)
+pub parts_first : (by : Splits) (n : ℕ) (xs : List Item) → parts by n xs ≡ take (first_len by n (signs xs)) xs
+    ∷ parts_left by (drop (first_len by n (signs xs)) xs)
 parts_first by n [] = refl
 parts_first by (suc n) (x ∷ xs) = ap (onto x) (parts_first by n xs)
 parts_first by zero (x ∷ xs) = first_by (splits by (signs (x ∷ xs))) by x xs refl (parts_first by zero xs)
@@ -135,7 +140,8 @@ left_are : (header : Bool) (by : Splits) (xs : List Item) → map (cell_of heade
 left_are header by [] = refl
 left_are header by (x ∷ xs) = sym (all_two header (parts by 2 (x ∷ xs)))
 
-pub cells_first : (header : Bool) (by : Splits) (n k : ℕ) (ys : List Item) → 0 < length ys → k ≡ first_len by n (signs ys) → cells_left header by n ys ≡ cell_of header n (take k ys) ∷ cells_left header by 2 (drop k ys)
+pub cells_first : (header : Bool) (by : Splits) (n k : ℕ) (ys : List Item) → 0 < length ys → k ≡ first_len by n (signs ys)
+    → cells_left header by n ys ≡ cell_of header n (take k ys) ∷ cells_left header by 2 (drop k ys)
 cells_first header by n k [] l e = absurd (omega arith)
 cells_first header by n k (x ∷ xs) l e =
     let ys = x ∷ xs in
@@ -159,7 +165,8 @@ split_low split.Headers ss e = elim (or_true _ _ e) [ inl h ↦ word_of_two 124 
 split_low split.Nothing ss e = absurd cc
 
 stops_by : (t : Bool) (by : Splits) (s : ℕ) (ss : List ℕ) → splits by (s ∷ ss) ≡ t → (if t then 0 else suc (first_len by zero ss)) < suc (length ss)
-    → (first_len by zero ss < length ss → splits by (drop (first_len by zero ss) ss) ≡ true) → splits by (drop (if t then 0 else suc (first_len by zero ss)) (s ∷ ss)) ≡ true
+    → (first_len by zero ss < length ss → splits by (drop (first_len by zero ss) ss) ≡ true)
+    → splits by (drop (if t then 0 else suc (first_len by zero ss)) (s ∷ ss)) ≡ true
 stops_by true by s ss e l h = e
 stops_by false by s ss e l h = h (omega arith)
 
@@ -173,7 +180,8 @@ pub low_first : (by : Splits) (n k : ℕ) (ys : List Item) → k ≡ first_len b
 low_first by n k ys e some less =
     let l : first_len by n (signs ys) < length (signs ys) = omega (arith, e, length-map ys sign) in
     let low = (split_low by _ (first_splits by n (signs ys) l)).0 in
-    let at : slice_index (drop (first_len by n (signs ys)) (signs ys)) 0 ≡ slice_index (signs ys) (first_len by n (signs ys) + 0) = get_drop (signs ys) (first_len by n (signs ys)) 0 in
+    let at : slice_index (drop (first_len by n (signs ys)) (signs ys)) 0
+    ≡ slice_index (signs ys) (first_len by n (signs ys) + 0) = get_drop (signs ys) (first_len by n (signs ys)) 0 in
     let z : first_len by n (signs ys) + 0 ≡ k = omega (arith, e) in
     inr (subst (λ (b : ℕ). b < 128) (at ∙ ap (slice_index (signs ys)) z) low)
 

@@ -88,17 +88,20 @@ chars_signs o (b ∷ bs) = ap (λ (l : List ℕ). b ∷ l) (chars_signs o bs)
 items_are : (p : Piece) (n : ℕ) → 0 < n → n < item_count p → items_of p ≡ map (char (call_of_origin p.origin)) (bytes_of p.text)
 items_are p n s l = ap (λ (f : Form). items_by f (call_of_origin p.origin) (bytes_of p.text)) (chars_by p.form (bytes_of p.text) n s l)
 
-pub cut_low : (p : Piece) (n : ℕ) → 0 < n → n < item_count p → IsLowCut n (items_of p) → (slice_index (bytes_of p.text) (n - 1) < 128) ⊎ (slice_index (bytes_of p.text) n < 128)
+pub cut_low : (p : Piece) (n : ℕ) → 0 < n → n < item_count p → IsLowCut n (items_of p)
+    → (slice_index (bytes_of p.text) (n - 1) < 128) ⊎ (slice_index (bytes_of p.text) n < 128)
 cut_low p n s l h =
     let e : map sign (items_of p) ≡ bytes_of p.text = ap (map sign) (items_are p n s l) ∙ chars_signs (call_of_origin p.origin) (bytes_of p.text) in
     low_along _ _ _ _ (ap (λ (bs : List ℕ). slice_index bs (n - 1)) e) (ap (λ (bs : List ℕ). slice_index bs n) e) (h s (omega (arith, count_is p)))
 
-pub cut_front : (p : Piece) (n : ℕ) (bs : List ℕ) → 0 < n → n < item_count p → bs ≡ take n (bytes_of p.text) → map (char (call_of_origin p.origin)) bs ≡ take n (items_of p)
+pub cut_front : (p : Piece) (n : ℕ) (bs : List ℕ) → 0 < n → n < item_count p → bs ≡ take n (bytes_of p.text)
+    → map (char (call_of_origin p.origin)) bs ≡ take n (items_of p)
 cut_front p n bs s l e =
     let f = char (call_of_origin p.origin) in
     ap (map f) e ∙ sym (take-map f n (bytes_of p.text)) ∙ ap (take n) (sym (items_are p n s l))
 
-pub cut_back : (p : Piece) (n : ℕ) (bs : List ℕ) → 0 < n → n < item_count p → bs ≡ drop n (bytes_of p.text) → map (char (call_of_origin p.origin)) bs ≡ drop n (items_of p)
+pub cut_back : (p : Piece) (n : ℕ) (bs : List ℕ) → 0 < n → n < item_count p → bs ≡ drop n (bytes_of p.text)
+    → map (char (call_of_origin p.origin)) bs ≡ drop n (items_of p)
 cut_back p n bs s l e =
     let f = char (call_of_origin p.origin) in
     ap (map f) e ∙ sym (drop-map f n (bytes_of p.text)) ∙ ap (drop n) (sym (items_are p n s l))
@@ -113,9 +116,11 @@ low_border bs n u s l h = elim h [
 
 pub cut_joined : (xs ys front back all : List Item) (n : ℕ) → all ≡ xs ++ ys → front ≡ take n xs → back ≡ drop n xs → all ≡ front ++ (back ++ ys)
 cut_joined xs ys front back all n e f b =
-    e ∙ ap (λ zs. zs ++ ys) (sym (take-append-drop n xs)) ∙ ap (λ zs. (zs ++ drop n xs) ++ ys) (sym f) ∙ ap (λ zs. (front ++ zs) ++ ys) (sym b) ∙ append_assoc front back ys
+    e ∙ ap (λ zs. zs ++ ys) (sym (take-append-drop n xs)) ∙ ap (λ zs. (zs ++ drop n xs) ++ ys) (sym f)
+    ∙ ap (λ zs. (front ++ zs) ++ ys) (sym b) ∙ append_assoc front back ys
 
-pub taken_more : (old new xs ys here all : List Item) (n k : ℕ) → here ≡ xs ++ ys → k ≡ length xs → k ≤ n → new ≡ old ++ xs → old ++ take n here ≡ all → new ++ take (n - k) ys ≡ all
+pub taken_more : (old new xs ys here all : List Item) (n k : ℕ) → here ≡ xs ++ ys → k ≡ length xs → k ≤ n → new ≡ old ++ xs
+    → old ++ take n here ≡ all → new ++ take (n - k) ys ≡ all
 taken_more old new xs ys here all n k e c l f h =
     ap (λ zs. zs ++ take (n - k) ys) f ∙ append_assoc old xs (take (n - k) ys) ∙ ap (λ (m : ℕ). old ++ (xs ++ take (n - m) ys)) c
     ∙ ap (λ zs. old ++ zs) (sym (take_over xs ys n (subst (λ (m : ℕ). m ≤ n) c l)) ∙ ap (take n) (sym e)) ∙ h

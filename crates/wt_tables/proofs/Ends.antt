@@ -45,8 +45,10 @@ further : (e o : ℕ) (x : LineKind) (ks : List LineKind) (k : ℕ) → closes_f
 further e o x ks k =
     let a = count_by is_end (take (suc k) ks) in
     let b = count_by is_open (take (suc k) ks) in
-    let p : e + count_by is_end (take (suc (suc k)) (x ∷ ks)) ≡ (e + one (is_end x)) + a = omega (arith, sum_by-cons (λ y. cond (is_end y) 1 0) x (take (suc k) ks)) in
-    let q : o + count_by is_open (take (suc (suc k)) (x ∷ ks)) ≡ (o + one (is_open x)) + b = omega (arith, sum_by-cons (λ y. cond (is_open y) 1 0) x (take (suc k) ks)) in
+    let p : e + count_by is_end (take (suc (suc k)) (x ∷ ks)) ≡ (e + one (is_end x)) + a =
+    omega (arith, sum_by-cons (λ y. cond (is_end y) 1 0) x (take (suc k) ks)) in
+    let q : o + count_by is_open (take (suc (suc k)) (x ∷ ks)) ≡ (o + one (is_open x)) + b =
+    omega (arith, sum_by-cons (λ y. cond (is_open y) 1 0) x (take (suc k) ks)) in
     ap (λ (n : ℕ). n == suc (o + count_by is_open (take (suc (suc k)) (x ∷ ks)))) p ∙ ap (λ (n : ℕ). ((e + one (is_end x)) + a) == suc n) q
 
 at_once : (e o : ℕ) (x : LineKind) (ks : List LineKind) → closes_from e o (x ∷ ks) 0 ≡ ((e + one (is_end x)) == suc (o + one (is_open x)))
@@ -113,10 +115,14 @@ still kind.Pre e o h t = omega arith
 still kind.Text e o h t = omega arith
 
 pub counted_by : (t : Bool) (e o : ℕ) (k : LineKind) (ks : List LineKind) → e ≤ o → ((e + one (is_end k)) == suc (o + one (is_open k))) ≡ t
-    → ((e + one (is_end k) ≤ o + one (is_open k)) → found (closes_from (e + one (is_end k)) (o + one (is_open k)) ks) (length ks) ≡ depth_len ks ((o + one (is_open k)) - (e + one (is_end k))))
+    → ((e + one (is_end k) ≤ o + one (is_open k)) → found (closes_from (e + one (is_end k)) (o + one (is_open k)) ks) (length ks)
+    ≡ depth_len ks ((o + one (is_open k)) - (e + one (is_end k))))
     → found (closes_from e o (k ∷ ks)) (suc (length ks)) ≡ cond t 1 (suc (depth_len ks ((o + one (is_open k)) - (e + one (is_end k)))))
-counted_by true e o k ks h t go = found_by true (closes_from e o (k ∷ ks)) (closes_from (e + one (is_end k)) (o + one (is_open k)) ks) (length ks) _ (at_once e o k ks ∙ t) (further e o k ks) refl
-counted_by false e o k ks h t go = found_by false (closes_from e o (k ∷ ks)) (closes_from (e + one (is_end k)) (o + one (is_open k)) ks) (length ks) _ (at_once e o k ks ∙ t) (further e o k ks) (go (still k e o h t))
+counted_by true e o k ks h t go = found_by true (closes_from e o (k ∷ ks))
+    (closes_from (e + one (is_end k)) (o + one (is_open k)) ks) (length ks) _ (at_once e o k ks ∙ t) (further e o k ks) refl
+counted_by false e o k ks h t go = found_by false (closes_from e o (k ∷ ks))
+    (closes_from (e + one (is_end k)) (o + one (is_open k)) ks) (length ks) _ (at_once e o k ks ∙ t) (further e o k ks)
+    (go (still k e o h t))
 
 pub counted : (e o : ℕ) (ks : List LineKind) → e ≤ o → found (closes_from e o ks) (length ks) ≡ depth_len ks (o - e)
 counted e o [] h = omega arith
@@ -138,23 +144,27 @@ plain_test ks k =
 
 pub inner_is : (ks : List LineKind) → inner_len ks ≡ depth_len ks 0
 unfolding inner_len
-inner_is ks = ap (λ (m : ℕ). min (suc m) (length ks)) (same_test (closes ks) (closes_from 0 0 ks) (range_with_len 0 (length ks)) (plain_test ks)) ∙ counted 0 0 ks (omega arith)
+inner_is ks = ap (λ (m : ℕ). min (suc m) (length ks))
+    (same_test (closes ks) (closes_from 0 0 ks) (range_with_len 0 (length ks)) (plain_test ks)) ∙ counted 0 0 ks (omega arith)
 
 -- ---- from the back
 
 abbrev reached : ℕ → List LineKind → ℕ → Type 0
 reached at ks d = at + depth_len ks d ≡ end_at (drop d (closers at ks)) (at + length ks)
 
-other_reached : (at : ℕ) (ks : List LineKind) (d : ℕ) → reached (at + 1) ks d → at + suc (depth_len ks d) ≡ end_at (drop d (closers (at + 1) ks)) (at + suc (length ks))
+other_reached : (at : ℕ) (ks : List LineKind) (d : ℕ) → reached (at + 1) ks d
+    → at + suc (depth_len ks d) ≡ end_at (drop d (closers (at + 1) ks)) (at + suc (length ks))
 other_reached at ks d h =
     let len : at + 1 + length ks ≡ at + suc (length ks) = omega arith in
     let more : at + suc (depth_len ks d) ≡ at + 1 + depth_len ks d = omega arith in
     more ∙ h ∙ ap (end_at (drop d (closers (at + 1) ks))) len
 
-open_reached : (at : ℕ) (ks : List LineKind) (d : ℕ) → reached (at + 1) ks (suc d) → at + suc (depth_len ks (suc d)) ≡ end_at (drop d (drop 1 (closers (at + 1) ks))) (at + suc (length ks))
+open_reached : (at : ℕ) (ks : List LineKind) (d : ℕ) → reached (at + 1) ks (suc d)
+    → at + suc (depth_len ks (suc d)) ≡ end_at (drop d (drop 1 (closers (at + 1) ks))) (at + suc (length ks))
 open_reached at ks d h =
     let n : 1 + d ≡ suc d = omega arith in
-    let there : drop (suc d) (closers (at + 1) ks) ≡ drop d (drop 1 (closers (at + 1) ks)) = sym (drop-drop d 1 (closers (at + 1) ks) ∙ ap (λ (k : ℕ). drop k (closers (at + 1) ks)) n) in
+    let there : drop (suc d) (closers (at + 1) ks) ≡ drop d (drop 1 (closers (at + 1) ks)) =
+    sym (drop-drop d 1 (closers (at + 1) ks) ∙ ap (λ (k : ℕ). drop k (closers (at + 1) ks)) n) in
     other_reached at ks (suc d) h ∙ ap (λ (ps : List ℕ). end_at ps (at + suc (length ks))) there
 
 pub depth_end : (at : ℕ) (ks : List LineKind) (d : ℕ) → reached at ks d
@@ -219,7 +229,8 @@ rows_are a (k ∷ ks) =
     let len : a + 1 + length ks ≡ a + suc (length ks) = omega arith in
     let more = map_shift (row a (k ∷ ks)) 0 (length ks) ∙ map_same _ (row (a + 1) ks) (range_with_len 0 (length ks)) (next_row a k ks) ∙ rows_are (a + 1) ks
     ∙ ap (λ (n : ℕ). ends_from (a + 1) n ks) len in
-    ap (λ (o : Option ℕ). o ∷ map (row a (k ∷ ks)) (range_with_len 1 (length ks))) (first_row a k ks) ∙ ap (λ os. end_of k (closers (a + 1) ks) (a + suc (length ks)) ∷ os) more
+    ap (λ (o : Option ℕ). o ∷ map (row a (k ∷ ks)) (range_with_len 1 (length ks))) (first_row a k ks)
+    ∙ ap (λ os. end_of k (closers (a + 1) ks) (a + suc (length ks)) ∷ os) more
 
 zero_row : (ks : List LineKind) (i : ℕ) → end_by (slice_get ks i) (table_end ks i) ≡ row 0 ks i
 zero_row ks i =

@@ -32,7 +32,8 @@ deeper (kind.Text ∷ ks) d = omega (arith, deeper ks d)
 abbrev Nested : List LineKind → ℕ → ℕ → Type 0
 Nested ks m d = (depth_len ks d ≤ m) ⊎ (suc m + depth_len (drop (suc m) ks) 0 ≤ depth_len ks d)
 
-one_more : (ks : List LineKind) (m d : ℕ) → Nested ks m d → (suc (depth_len ks d) ≤ suc m) ⊎ (suc (suc m) + depth_len (drop (suc m) ks) 0 ≤ suc (depth_len ks d))
+one_more : (ks : List LineKind) (m d : ℕ) → Nested ks m d
+    → (suc (depth_len ks d) ≤ suc m) ⊎ (suc (suc m) + depth_len (drop (suc m) ks) 0 ≤ suc (depth_len ks d))
 one_more ks m d h = elim h [ inl a ↦ inl (omega arith) | inr b ↦ inr (omega arith) ]
 
 deep : (ks : List LineKind) (d : ℕ) → depth_len ks 0 ≤ depth_len ks d
@@ -81,7 +82,8 @@ tables_nest ks i j l a b =
     let next : suc i + suc m ≡ suc j = omega arith in
     let same : drop (suc m) xs ≡ drop (suc j) ks = drop-drop (suc m) (suc i) ks ∙ ap (λ (n : ℕ). drop n ks) next in
     let outer : inner_len xs ≡ depth_len xs 0 = inner_is xs in
-    let inner : inner_len (drop (suc j) ks) ≡ depth_len (drop (suc m) xs) 0 = inner_is (drop (suc j) ks) ∙ ap (λ (ys : List LineKind). depth_len ys 0) (sym same) in
+    let inner : inner_len (drop (suc j) ks) ≡ depth_len (drop (suc m) xs) 0 = inner_is (drop (suc j) ks)
+    ∙ ap (λ (ys : List LineKind). depth_len ys 0) (sym same) in
     elim (nested xs m 0 there) [ inl h ↦ inl (omega (arith, outer, at)) | inr h ↦ inr (omega (arith, outer, inner, at)) ]
 
 -- ---- kinds
@@ -115,5 +117,6 @@ kinds_counted n (m ∷ ls) (suc k) l e =
     let o : count_by is_open (take (suc k) (a ∷ ks)) ≡ one (is_open a) + count_by is_open (take k ks) = sum_by-cons (λ y. cond (is_open y) 1 0) a (take k ks) in
     let c : count_by is_end (take (suc k) (a ∷ ks)) ≡ one (is_end a) + count_by is_end (take k ks) = sum_by-cons (λ y. cond (is_end y) 1 0) a (take k ks) in
     let now = open_now n a (count_by is_open (take k ks)) (count_by is_end (take k ks)) (end_inside n m) in
-    kinds_counted (behind n a) ls k l e ∙ ap (λ (x : ℕ). Some (line_kind x l)) (now ∙ ap (λ (x : ℕ). (n + x) - (one (is_end a) + count_by is_end (take k ks))) (sym o)
+    kinds_counted (behind n a) ls k l e ∙ ap (λ (x : ℕ). Some (line_kind x l))
+    (now ∙ ap (λ (x : ℕ). (n + x) - (one (is_end a) + count_by is_end (take k ks))) (sym o)
     ∙ ap (λ (x : ℕ). (n + count_by is_open (take (suc k) (a ∷ ks))) - x) (sym c))

@@ -43,7 +43,8 @@ open_of None e h = absurd cc
 open_of (Some k) e h = let t : is_open k ≡ true = ap is_open e in cc
 
 few_by : (blank few opening : Bool) (n : ℕ) (o : Option LineKind) → nat_lt n 16 ≡ few → opens o ≡ false
-    → unwrap_or (if blank then Some kind.Blank else (if opening then Some (if few then kind.TableOpen else kind.Text) else o)) kind.Text ≡ kind.TableOpen → n < 16
+    → unwrap_or (if blank then Some kind.Blank else (if opening then Some (if few then kind.TableOpen else kind.Text) else o))
+    kind.Text ≡ kind.TableOpen → n < 16
 few_by true few opening n o f h e = absurd cc
 few_by false true true n o f h e = lt_of_test n 16 f
 few_by false false true n o f h e = absurd cc
@@ -78,7 +79,8 @@ end_of_none None e h = absurd cc
 end_of_none (Some k) e h = let t : is_end k ≡ true = ap is_end e in cc
 
 inside_by : (t blank opening few : Bool) (n : ℕ) (sign first last : List ℕ) → nat_lt 0 n ≡ t
-    → unwrap_or (first_of ((blank, kind.Blank) ∷ (opening, if few then kind.TableOpen else kind.Text) ∷ ((if t then table_rows sign else []) ++ text_rows first last))) kind.Text ≡ kind.TableEnd → 0 < n
+    → unwrap_or (first_of ((blank, kind.Blank) ∷ (opening, if few then kind.TableOpen else kind.Text)
+    ∷ ((if t then table_rows sign else []) ++ text_rows first last))) kind.Text ≡ kind.TableEnd → 0 < n
 inside_by true blank opening few n sign first last t e = lt_of_test 0 n t
 inside_by false blank opening true n sign first last t e =
     let rows = (blank, kind.Blank) ∷ (opening, kind.TableOpen) ∷ text_rows first last in absurd (end_of_none (first_of rows) e (none_ends rows refl))

@@ -34,17 +34,20 @@ unclosed : ends (kind.TableOpen ∷ kind.Cell ∷ kind.TableOpen ∷ kind.Cell �
 unfolding inner_len
 unclosed = refl
 
-nested : ends (kind.TableOpen ∷ kind.TableOpen ∷ kind.TableEnd ∷ kind.TableOpen ∷ kind.TableEnd ∷ kind.TableEnd ∷ kind.Text ∷ []) ≡ Some 6 ∷ Some 3 ∷ None ∷ Some 5 ∷ None ∷ None ∷ None ∷ []
+nested : ends (kind.TableOpen ∷ kind.TableOpen ∷ kind.TableEnd ∷ kind.TableOpen ∷ kind.TableEnd ∷ kind.TableEnd ∷ kind.Text ∷ [])
+    ≡ Some 6 ∷ Some 3 ∷ None ∷ Some 5 ∷ None ∷ None ∷ None ∷ []
 unfolding inner_len
 nested = refl
 
 -- outside a table no line ends one
-outside : kinds 0 (text (codes "|}") ∷ text (codes "{|") ∷ text (codes "|}") ∷ text (codes "|}") ∷ []) ≡ kind.Text ∷ kind.TableOpen ∷ kind.TableEnd ∷ kind.Text ∷ []
+outside : kinds 0 (text (codes "|}") ∷ text (codes "{|") ∷ text (codes "|}") ∷ text (codes "|}") ∷ []) ≡ kind.Text
+    ∷ kind.TableOpen ∷ kind.TableEnd ∷ kind.Text ∷ []
 unfolding kind_of_signs
 outside = refl
 
 -- the seventeenth of nested tables isn't opened, and then the first line that ends one ends the sixteenth
-seventeen : kinds 0 (replicate 17 (text (codes "{|")) ++ text (codes "|}") ∷ text (codes "{|") ∷ []) ≡ replicate 16 kind.TableOpen ++ (kind.Text ∷ kind.TableEnd ∷ kind.TableOpen ∷ [])
+seventeen : kinds 0 (replicate 17 (text (codes "{|")) ++ text (codes "|}") ∷ text (codes "{|") ∷ []) ≡ replicate 16 kind.TableOpen
+    ++ (kind.Text ∷ kind.TableEnd ∷ kind.TableOpen ∷ [])
 unfolding kind_of_signs
 seventeen = refl
 
@@ -93,7 +96,8 @@ unfolding cells cell_of bar_at single_at begins_any_case name_at quoted bare val
 later_caption = refl
 
 -- attributes end at the first single `|`, whatever stands before it but `[[`
-cell_attributes : map (λ bs. cells false (text bs)) (codes "| lang=de | a | b" ∷ codes "| x | b" ∷ codes "| [[a|b]]" ∷ codes "| a [[b || dir=rtl|[[c|d]]" ∷ []) ≡
+cell_attributes : map (λ bs. cells false (text bs))
+    (codes "| lang=de | a | b" ∷ codes "| x | b" ∷ codes "| [[a|b]]" ∷ codes "| a [[b || dir=rtl|[[c|d]]" ∷ []) ≡
     (cell false (codes "| lang=de | ") ((attr.Lang, codes "de") ∷ []) (codes "a | b") ∷ [])
     ∷ (cell false (codes "| x | ") [] (codes "b") ∷ [])
     ∷ (cell false (codes "| ") [] (codes "[[a|b]]") ∷ [])
@@ -109,7 +113,8 @@ remark = whole form.Comment None (codes "<!-- -->")
 abbrev island : Item
 island = whole form.Extension None (codes "<ref> class=x </ref>")
 
-parted : map (λ xs. map (λ c. c.opening ∷ c.rest ∷ []) (cells false xs)) ((text (codes "| a|") ++ remark ∷ text (codes "| b")) ∷ (text (codes "| a ") ++ island ∷ text (codes "| b")) ∷ []) ≡
+parted : map (λ xs. map (λ c. c.opening ∷ c.rest ∷ []) (cells false xs))
+    ((text (codes "| a|") ++ remark ∷ text (codes "| b")) ∷ (text (codes "| a ") ++ island ∷ text (codes "| b")) ∷ []) ≡
     ((text (codes "| a|") ∷ (remark ∷ text (codes "| b")) ∷ []) ∷ [])
     ∷ ((text (codes "| ") ∷ (text (codes "a ") ++ island ∷ text (codes "| b")) ∷ []) ∷ [])
     ∷ []
@@ -117,7 +122,8 @@ unfolding cells cell_of bar_at single_at begins_any_case name_at quoted bare val
 parted = refl
 
 -- of a table and of a row the attributes are those of the line; an atom gives none
-line_attributes : table_attributes (text (codes " {| class=\"t\"")) ∷ table_attributes (text (codes "{| ") ++ island ∷ []) ∷ row_attributes (text (codes "|--- dir=ltr")) ∷ [] ≡
+line_attributes : table_attributes (text (codes " {| class=\"t\"")) ∷ table_attributes (text (codes "{| ") ++ island ∷ [])
+    ∷ row_attributes (text (codes "|--- dir=ltr")) ∷ [] ≡
     ((attr.Class, codes "t") ∷ []) ∷ [] ∷ ((attr.Dir, codes "ltr") ∷ []) ∷ []
 unfolding table_attributes row_attributes begins_any_case name_at quoted bare value_at past_blanks assigned attribute_at attributes
 line_attributes = refl
@@ -145,11 +151,14 @@ implied_row = refl
 
 -- stray lines, a nested table among them, belong to the delimiter, blank ones behind them don't; a later caption is a cell
 stray : table_of kind_at (0, kind.TableOpen)
-    ((1, kind.Blank) ∷ (2, kind.TableOpen) ∷ (3, kind.Cell) ∷ (4, kind.TableEnd) ∷ (5, kind.Blank) ∷ (6, kind.Caption) ∷ (7, kind.Text) ∷ (8, kind.Caption) ∷ (9, kind.Row) ∷ (10, kind.Text) ∷ (11, kind.Blank) ∷ (12, kind.Caption) ∷ (13, kind.Cell) ∷ (14, kind.Text) ∷ []) ≡ record {
+    ((1, kind.Blank) ∷ (2, kind.TableOpen) ∷ (3, kind.Cell) ∷ (4, kind.TableEnd) ∷ (5, kind.Blank) ∷ (6, kind.Caption)
+    ∷ (7, kind.Text) ∷ (8, kind.Caption) ∷ (9, kind.Row) ∷ (10, kind.Text) ∷ (11, kind.Blank) ∷ (12, kind.Caption)
+    ∷ (13, kind.Cell) ∷ (14, kind.Text) ∷ []) ≡ record {
       opening = (0, kind.TableOpen) ∷ (1, kind.Blank) ∷ (2, kind.TableOpen) ∷ (3, kind.Cell) ∷ (4, kind.TableEnd) ∷ [];
       between = (5, kind.Blank) ∷ [];
       captions = ((6, kind.Caption) ∷ (7, kind.Text) ∷ []) ∷ ((8, kind.Caption) ∷ []) ∷ [];
-      rows = row ((9, kind.Row) ∷ (10, kind.Text) ∷ []) ((11, kind.Blank) ∷ []) (((12, kind.Caption) ∷ []) ∷ ((13, kind.Cell) ∷ (14, kind.Text) ∷ []) ∷ []) ∷ [];
+      rows = row ((9, kind.Row) ∷ (10, kind.Text) ∷ []) ((11, kind.Blank) ∷ [])
+          (((12, kind.Caption) ∷ []) ∷ ((13, kind.Cell) ∷ (14, kind.Text) ∷ []) ∷ []) ∷ [];
     }
 unfolding inner_len
 stray = refl
@@ -164,6 +173,7 @@ taken : table_of kind_at (0, kind.TableOpen) ((1, kind.Cell) ∷ (2, kind.TableO
 unfolding inner_len
 taken = refl
 
-bare_table : table_of kind_at (0, kind.TableOpen) ((1, kind.Text) ∷ (2, kind.Blank) ∷ []) ≡ record { opening = (0, kind.TableOpen) ∷ (1, kind.Text) ∷ []; between = (2, kind.Blank) ∷ []; captions = []; rows = [] }
+bare_table : table_of kind_at (0, kind.TableOpen) ((1, kind.Text) ∷ (2, kind.Blank) ∷ [])
+    ≡ record { opening = (0, kind.TableOpen) ∷ (1, kind.Text) ∷ []; between = (2, kind.Blank) ∷ []; captions = []; rows = [] }
 unfolding inner_len
 bare_table = refl

@@ -10,11 +10,9 @@ mod cursor;
 mod laws;
 mod scan;
 mod table;
-#[cfg(test)]
-mod tests;
 
 pub use cell::{CellAt, cells};
 pub use laws::{
     cells_join, kinds_by_counts, lines_of_cells, one_cut_of_cells, parts_join, tables_nest,
 };
-pub use table::{extent, extents, line_kinds};
+pub use table::{behind, extent, extents, line_kinds};

@@ -10,7 +10,7 @@ use wt_lines::{Line, LineKind, classify};
 use wt_span::{List, NoMemory, rest_of};
 
 /// How many tables are open behind a line of this kind, at which `tables` are.
-fn behind(tables: u32, kind: LineKind) -> u32
+pub fn behind(tables: u32, kind: LineKind) -> u32
     requires { tables ≤ 16 }
     ensures { result ≡ behind tables kind }
 {

@@ -145,7 +145,8 @@ inside : Option ℕ → Option (Option ℕ) → Option ℕ
 inside d None = d
 inside d (Some o) = o
 
-pub known_at : (gs : List Glyph) (table : List (Option ℕ)) (k m : ℕ) (r : Option ℕ) → AreKnown gs table → k < length gs → k + m ≡ length gs → slice_get table k ≡ Some r → r ≡ balances (drop m gs)
+pub known_at : (gs : List Glyph) (table : List (Option ℕ)) (k m : ℕ) (r : Option ℕ) → AreKnown gs table → k < length gs
+    → k + m ≡ length gs → slice_get table k ≡ Some r → r ≡ balances (drop m gs)
 unfolding inside
 known_at gs table k m r known below e is =
     let z : length gs - k ≡ m = omega arith in

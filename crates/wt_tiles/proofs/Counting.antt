@@ -11,15 +11,18 @@ AreInnerBy k d gs n = (m : ℕ) → m < n → tag_turn k (drop m gs) ≡ Down �
 
 abbrev Found : ℕ → ℕ → List Glyph → Option (List Glyph) → Type 0
 Found k d gs None = AreInnerBy k d gs (length gs)
-Found k d gs (Some ys) = (n : ℕ) × (n < length gs) × (ys ≡ drop n gs) × (tag_turn k (drop n gs) ≡ Down) × (closed k n gs ≡ opened k n gs + d) × AreInnerBy k d gs n
+Found k d gs (Some ys) = (n : ℕ) × (n < length gs) × (ys ≡ drop n gs) × (tag_turn k (drop n gs) ≡ Down)
+    × (closed k n gs ≡ opened k n gs + d) × AreInnerBy k d gs n
 
 -- one item more at the front: with the depth before it and behind it
-inner_more : (k d e : ℕ) (g : Glyph) (gs : List Glyph) (n : ℕ) → (tag_turn k (g ∷ gs) ≡ Down → 0 < d) → closed_by (tag_turn k (g ∷ gs)) + e ≡ opened_by (tag_turn k (g ∷ gs)) + d
+inner_more : (k d e : ℕ) (g : Glyph) (gs : List Glyph) (n : ℕ) → (tag_turn k (g ∷ gs) ≡ Down → 0 < d)
+    → closed_by (tag_turn k (g ∷ gs)) + e ≡ opened_by (tag_turn k (g ∷ gs)) + d
     → AreInnerBy k e gs n → AreInnerBy k d (g ∷ gs) (suc n)
 inner_more k d e g gs n first step inner zero below down = let h = first down in omega arith
 inner_more k d e g gs n first step inner (suc m) below down = let h = inner m (omega arith) down in omega arith
 
-found_more : (k d e : ℕ) (g : Glyph) (gs : List Glyph) (o : Option (List Glyph)) → (tag_turn k (g ∷ gs) ≡ Down → 0 < d) → closed_by (tag_turn k (g ∷ gs)) + e ≡ opened_by (tag_turn k (g ∷ gs)) + d
+found_more : (k d e : ℕ) (g : Glyph) (gs : List Glyph) (o : Option (List Glyph)) → (tag_turn k (g ∷ gs) ≡ Down → 0 < d)
+    → closed_by (tag_turn k (g ∷ gs)) + e ≡ opened_by (tag_turn k (g ∷ gs)) + d
     → Found k e gs o → Found k d (g ∷ gs) o
 found_more k d e g gs None first step f = inner_more k d e g gs (length gs) first step f
 found_more k d e g gs (Some ys) first step (n, below, is, turn, count, inner) =
@@ -36,7 +39,8 @@ level_down e = false_true (ap is_down e)
 up_down : {X : Type 0} → Up ≡ Down → X
 up_down e = false_true (ap is_down e)
 
-by_turn : (k : ℕ) (t : Turn) (d : ℕ) (g : Glyph) (gs : List Glyph) → tag_turn k (g ∷ gs) ≡ t → ((e : ℕ) → Found k e gs (partner k e gs)) → Found k d (g ∷ gs) (by_tag t d (g ∷ gs) (λ e. partner k e gs))
+by_turn : (k : ℕ) (t : Turn) (d : ℕ) (g : Glyph) (gs : List Glyph) → tag_turn k (g ∷ gs) ≡ t
+    → ((e : ℕ) → Found k e gs (partner k e gs)) → Found k d (g ∷ gs) (by_tag t d (g ∷ gs) (λ e. partner k e gs))
 by_turn k Up d g gs is all =
     let o = ap opened_by is in let c = ap closed_by is in
     found_more k d (suc d) g gs (partner k (suc d) gs) (λ down. up_down (sym is ∙ down)) (omega arith) (all (suc d))

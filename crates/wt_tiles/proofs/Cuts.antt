@@ -55,7 +55,8 @@ skipped cx after zero (g ∷ gs) = refl
 skipped cx after (suc n) [] = refl
 skipped cx after (suc n) (g ∷ gs) = skipped cx (is_in is_word g) n gs ∙ ap (λ (t : Bool). cuts cx t 0 (drop n gs)) (words g gs n)
 
-pub cuts_cons : (cx : Context) (after : Bool) (g : Glyph) (gs : List Glyph) (o : Option Shape) → tile_at cx after (g ∷ gs) ≡ o → cuts cx after 0 (g ∷ gs) ≡ cut_with o (λ n. cuts cx (is_in is_word g) n gs)
+pub cuts_cons : (cx : Context) (after : Bool) (g : Glyph) (gs : List Glyph) (o : Option Shape) → tile_at cx after (g ∷ gs) ≡ o
+    → cuts cx after 0 (g ∷ gs) ≡ cut_with o (λ n. cuts cx (is_in is_word g) n gs)
 cuts_cons cx after g gs o e = ap (λ o. cut_with o (λ n. cuts cx (is_in is_word g) n gs)) e
 
 -- what is left from a place on
@@ -68,19 +69,27 @@ char_step cx after [] h e = absurd (omega arith)
 char_step cx after (g ∷ gs) h e = cuts_cons cx after g gs None e
 
 form_step : (cx : Context) (after : Bool) (gs : List Glyph) (w : Shape) → 0 < size w → 0 < length gs → tile_at cx after gs ≡ Some w
-    → cuts cx after 0 gs ≡ (0, w ∷ closed (cuts cx (word_before after gs (size w)) 0 (drop (size w) gs)).0 (cuts cx (word_before after gs (size w)) 0 (drop (size w) gs)).1)
+    → cuts cx after 0 gs ≡ (
+      0,
+      w ∷ closed (cuts cx (word_before after gs (size w)) 0 (drop (size w) gs)).0
+          (cuts cx (word_before after gs (size w)) 0 (drop (size w) gs)).1,
+    )
 form_step cx after [] w pos h e = absurd (omega arith)
 form_step cx after (g ∷ gs) w pos h e =
     let z : suc (size w - 1) ≡ size w = omega arith in
     let F : Cut → Cut = λ c. (0, w ∷ closed c.0 c.1) in
     let G : ℕ → Cut = λ m. cuts cx (word_before after (g ∷ gs) m) 0 (drop m (g ∷ gs)) in
-    cuts_cons cx after g gs (Some w) e ∙ ap F (skipped cx (is_in is_word g) (size w - 1) gs ∙ ap (λ (t : Bool). cuts cx t 0 (drop (size w - 1) gs)) (words g gs (size w - 1)) ∙ ap G z)
+    cuts_cons cx after g gs (Some w) e ∙ ap F (skipped cx (is_in is_word g) (size w - 1) gs
+    ∙ ap (λ (t : Bool). cuts cx t 0 (drop (size w - 1) gs)) (words g gs (size w - 1)) ∙ ap G z)
 
-far : (cx : Context) (gs : List Glyph) (at n m : ℕ) → at + n ≡ m → cuts cx (word_before (word_before false gs at) (drop at gs) n) 0 (drop n (drop at gs)) ≡ left cx gs m
+far : (cx : Context) (gs : List Glyph) (at n m : ℕ) → at + n ≡ m → cuts cx (word_before (word_before false gs at) (drop at gs) n)
+    0 (drop n (drop at gs)) ≡ left cx gs m
 far cx gs at n m e =
-    ap (λ (t : Bool). cuts cx t 0 (drop n (drop at gs))) (word_far false at n gs) ∙ ap (λ (hs : List Glyph). cuts cx (word_before false gs (at + n)) 0 hs) (drop-drop n at gs) ∙ ap (left cx gs) e
+    ap (λ (t : Bool). cuts cx t 0 (drop n (drop at gs))) (word_far false at n gs)
+    ∙ ap (λ (hs : List Glyph). cuts cx (word_before false gs (at + n)) 0 hs) (drop-drop n at gs) ∙ ap (left cx gs) e
 
-pub left_char : (cx : Context) (gs : List Glyph) (at : ℕ) → at < length gs → tile_at cx (word_before false gs at) (drop at gs) ≡ None → left cx gs at ≡ (suc (left cx gs (at + 1)).0, (left cx gs (at + 1)).1)
+pub left_char : (cx : Context) (gs : List Glyph) (at : ℕ) → at < length gs → tile_at cx (word_before false gs at) (drop at gs)
+    ≡ None → left cx gs at ≡ (suc (left cx gs (at + 1)).0, (left cx gs (at + 1)).1)
 left_char cx gs at h e =
     let F : Cut → Cut = λ c. (suc c.0, c.1) in
     char_step cx (word_before false gs at) (drop at gs) (omega (arith, length-drop at gs)) e ∙ ap F (far cx gs at 1 (at + 1) refl)
@@ -97,14 +106,16 @@ abbrev pub IsDone : Context → List Glyph → List Shape → ℕ → ℕ → Ty
 IsDone cx gs done from at = done ++ closed ((at - from) + (left cx gs at).0) (left cx gs at).1 ≡ shapes cx gs
 
 -- one more character
-pub char_more : (cx : Context) (gs : List Glyph) (from at : ℕ) (done : List Shape) → at < length gs → from ≤ at → tile_at cx (word_before false gs at) (drop at gs) ≡ None → IsDone cx gs done from at → IsDone cx gs done from (at + 1)
+pub char_more : (cx : Context) (gs : List Glyph) (from at : ℕ) (done : List Shape) → at < length gs → from ≤ at
+    → tile_at cx (word_before false gs at) (drop at gs) ≡ None → IsDone cx gs done from at → IsDone cx gs done from (at + 1)
 char_more cx gs from at done h le e had =
     let c = left_char cx gs at h e in
     let s : (at - from) + (suc (left cx gs (at + 1)).0) ≡ (at + 1 - from) + (left cx gs (at + 1)).0 = omega arith in
     ap (λ (m : ℕ). done ++ closed m (left cx gs (at + 1)).1) (sym s) ∙ ap (λ (x : Cut). done ++ closed ((at - from) + x.0) x.1) (sym c) ∙ had
 
 -- one more form
-pub form_more : (cx : Context) (gs : List Glyph) (old mid new : List Shape) (from at : ℕ) (w : Shape) → at < length gs → 0 < size w → tile_at cx (word_before false gs at) (drop at gs) ≡ Some w
+pub form_more : (cx : Context) (gs : List Glyph) (old mid new : List Shape) (from at : ℕ) (w : Shape) → at < length gs
+    → 0 < size w → tile_at cx (word_before false gs at) (drop at gs) ≡ Some w
     → mid ≡ old ++ closed (at - from) [] → new ≡ mid ++ w ∷ [] → IsDone cx gs old from at → IsDone cx gs new (at + size w) (at + size w)
 form_more cx gs old mid new from at w h pos e mids news had =
     let c = left_form cx gs at w h pos e in
@@ -119,7 +130,8 @@ form_more cx gs old mid new from at w h pos e mids news had =
     ∙ ap (λ ws. old ++ ws) (sym back) ∙ had
 
 -- nothing is left
-pub none_left : (cx : Context) (gs : List Glyph) (from at : ℕ) (old new : List Shape) → length gs ≤ at → new ≡ old ++ closed (at - from) [] → IsDone cx gs old from at → new ≡ shapes cx gs
+pub none_left : (cx : Context) (gs : List Glyph) (from at : ℕ) (old new : List Shape) → length gs ≤ at
+    → new ≡ old ++ closed (at - from) [] → IsDone cx gs old from at → new ≡ shapes cx gs
 none_left cx gs from at old new h news had =
     let c : left cx gs at ≡ (0, []) = ap (cuts cx (word_before false gs at) 0) (drop_all at gs h) in
     let k : (at - from) + 0 ≡ at - from = omega arith in

@@ -37,7 +37,8 @@ partner_later : (n : ℕ) (g : Glyph) (gs : List Glyph) (o : Option (List Glyph)
 partner_later n g gs None f = tt
 partner_later n g gs (Some rest) (turn, k, e, below) = (turn, suc k, e, omega arith)
 
-partner_by : (n : ℕ) (t : Turn) (d : ℕ) (g : Glyph) (gs : List Glyph) → tag_turn n (g ∷ gs) ≡ t → ((e : ℕ) → OptPartner n gs (partner n e gs)) → OptPartner n (g ∷ gs) (by_tag t d (g ∷ gs) (λ e. partner n e gs))
+partner_by : (n : ℕ) (t : Turn) (d : ℕ) (g : Glyph) (gs : List Glyph) → tag_turn n (g ∷ gs) ≡ t
+    → ((e : ℕ) → OptPartner n gs (partner n e gs)) → OptPartner n (g ∷ gs) (by_tag t d (g ∷ gs) (λ e. partner n e gs))
 partner_by n Up d g gs e f = partner_later n g gs _ (f (suc d))
 partner_by n Level d g gs e f = partner_later n g gs _ (f d)
 partner_by n Down zero g gs e f = (e, 0, refl, omega arith)
@@ -53,7 +54,8 @@ is_down Level = false
 is_down Down = true
 
 -- a closing tag is a tag
-down_tag : (n : ℕ) (gs : List Glyph) (o : Option Tag) → turn_of_tag n o ≡ Down → OptTag gs o → (low_at gs 0 ≡ true) × (2 < len_of o) × (len_of o ≤ length gs) × (low_at gs (len_of o - 1) ≡ true)
+down_tag : (n : ℕ) (gs : List Glyph) (o : Option Tag) → turn_of_tag n o ≡ Down → OptTag gs o
+    → (low_at gs 0 ≡ true) × (2 < len_of o) × (len_of o ≤ length gs) × (low_at gs (len_of o - 1) ≡ true)
 unfolding is_down
 down_tag n gs None e f = false_true (ap is_down e)
 down_tag n gs (Some t) e f = (f.first, f.some, f.within, f.last)
@@ -66,7 +68,8 @@ pair_fits gs t m (Some rest) f (turn, k, e, below) =
     let R : List Glyph → Type 0 = λ hs. low_at hs 0 ≡ true in
     let inner : length (drop t.len gs) - length rest ≡ k = omega (arith, ap (λ (hs : List Glyph). length hs) e, length-drop k (drop t.len gs)) in
     let first : low_at gs (t.len + (k + 0)) ≡ true = sym (low_drop t.len (k + 0) gs) ∙ sym (low_drop k 0 (drop t.len gs)) ∙ ap (λ hs. low_at hs 0) e ∙ d.0 in
-    let last : low_at gs (t.len + (k + (c - 1))) ≡ true = sym (low_drop t.len (k + (c - 1)) gs) ∙ sym (low_drop k (c - 1) (drop t.len gs)) ∙ ap (λ hs. low_at hs (c - 1)) e ∙ d.3 in
+    let last : low_at gs (t.len + (k + (c - 1))) ≡ true = sym (low_drop t.len (k + (c - 1)) gs)
+    ∙ sym (low_drop k (c - 1) (drop t.len gs)) ∙ ap (λ hs. low_at hs (c - 1)) e ∙ d.3 in
     let size_of : length rest + k ≡ length (drop t.len gs) = omega (arith, ap (λ (hs : List Glyph). length hs) e, length-drop k (drop t.len gs)) in
     record {
       some = omega (arith, f.some);
@@ -124,7 +127,8 @@ OptSwitch gs (Some n) = (1 < n) × (n ≤ length gs) × (low_at gs (n - 1) ≡ t
 abbrev are_switches : List (List ℕ) → Bool
 are_switches words = list_all (λ word. nat_lt 1 (length word) && is_low_word word) words
 
-switch_step : (word : List ℕ) (gs : List Glyph) (t : Bool) (o : Option ℕ) → (nat_lt 1 (length word) && is_low_word word) ≡ true → (t ≡ true → begins word gs ≡ true) → OptSwitch gs o → OptSwitch gs (if t then Some (length word) else o)
+switch_step : (word : List ℕ) (gs : List Glyph) (t : Bool) (o : Option ℕ) → (nat_lt 1 (length word) && is_low_word word) ≡ true
+    → (t ≡ true → begins word gs ≡ true) → OptSwitch gs o → OptSwitch gs (if t then Some (length word) else o)
 switch_step word gs true o h b f =
     let long = lt_is 1 (length word) (and_left (nat_lt 1 (length word)) _ h) in
     (long, begins_len word gs (b refl), begins_low word gs (length word - 1) (and_right (nat_lt 1 (length word)) _ h) (b refl) (omega arith))
@@ -133,7 +137,8 @@ switch_step word gs false o h b f = f
 switch_len_fits : (words : List (List ℕ)) (gs : List Glyph) → are_switches words ≡ true → OptSwitch gs (switch_len words gs)
 switch_len_fits [] gs h = tt
 switch_len_fits (word ∷ words) gs h =
-    switch_step word gs (begins word gs) (switch_len words gs) (and_left (nat_lt 1 (length word) && is_low_word word) _ h) (λ e. e) (switch_len_fits words gs (and_right (nat_lt 1 (length word) && is_low_word word) _ h))
+    switch_step word gs (begins word gs) (switch_len words gs) (and_left (nat_lt 1 (length word) && is_low_word word) _ h)
+    (λ e. e) (switch_len_fits words gs (and_right (nat_lt 1 (length word) && is_low_word word) _ h))
 
 switches_are : are_switches switch_names ≡ true
 unfolding switch_names
@@ -148,7 +153,8 @@ switch_fits : (gs : List Glyph) → OptFits gs (switch_at gs)
 unfolding switch_at
 switch_fits gs =
     if_fits gs (begins (codes "__") gs) (option_map (λ n. leaf kind.Switch (2 + n)) (switch_len switch_names (drop 2 gs)))
-    (λ e. switched gs (switch_len switch_names (drop 2 gs)) (begins_low (codes "__") gs 0 refl e (omega arith)) (switch_len_fits switch_names (drop 2 gs) switches_are))
+    (λ e. switched gs (switch_len switch_names (drop 2 gs)) (begins_low (codes "__") gs 0 refl e (omega arith))
+    (switch_len_fits switch_names (drop 2 gs) switches_are))
 
 -- ---- any form
 

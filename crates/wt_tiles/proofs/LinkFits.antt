@@ -47,7 +47,15 @@ leaf_fits gs k n m form e within first last =
       some = omega arith;
       within = omega arith;
       form = form;
-      edges = record { start = first; opening = edge_after gs m n e last; inside = edge_after gs m (n + 0) (omega arith) last; closing = edge_after gs m (n + 0 + 0) (omega arith) last; trail = edge_after gs m (n + 0 + 0 + 0) (omega arith) last };
+      edges = record {
+        start = first;
+        opening = edge_after gs m n e last;
+        inside =
+            edge_after gs m (n + 0) (omega arith) last;
+        closing = edge_after gs m (n + 0 + 0) (omega arith) last;
+        trail =
+            edge_after gs m (n + 0 + 0 + 0) (omega arith) last;
+      };
     }
 
 -- ---- places
@@ -82,7 +90,8 @@ rest_later : (g : Glyph) (gs : List Glyph) (o : Option (List Glyph)) → OptRest
 rest_later g gs None f = tt
 rest_later g gs (Some rest) (turn, k, e, below) = (turn, suc k, e, omega arith)
 
-by_rest : (t : Turn) (d : ℕ) (g : Glyph) (gs : List Glyph) → bracket_turn (g ∷ gs) ≡ t → ((n e : ℕ) → OptRest gs (balanced n e gs)) → OptRest (g ∷ gs) (by_bracket t d (g ∷ gs) (λ n e. balanced n e gs))
+by_rest : (t : Turn) (d : ℕ) (g : Glyph) (gs : List Glyph) → bracket_turn (g ∷ gs) ≡ t
+    → ((n e : ℕ) → OptRest gs (balanced n e gs)) → OptRest (g ∷ gs) (by_bracket t d (g ∷ gs) (λ n e. balanced n e gs))
 by_rest Up d g gs e f = rest_later g gs _ (f 1 (suc d))
 by_rest Level d g gs e f = rest_later g gs _ (f 0 d)
 by_rest Down zero g gs e f = (e, 0, refl, omega arith)
@@ -129,7 +138,8 @@ behind Page n k le = le
 behind Category n k le = tt
 behind Media n k le = tt
 
-close_inner : (kd : LinkKind) (n : ℕ) (gs : List Glyph) (o : Option ℕ) → OptPlace (begins (codes "]]")) (drop n gs) o → OptInner kd n gs (option_map (λ k. n + k) o)
+close_inner : (kd : LinkKind) (n : ℕ) (gs : List Glyph) (o : Option ℕ) → OptPlace (begins (codes "]]")) (drop n gs) o
+    → OptInner kd n gs (option_map (λ k. n + k) o)
 close_inner kd n gs None f = tt
 close_inner kd n gs (Some k) (e, h) =
     let P : List Glyph → Type 0 = λ hs. begins (codes "]]") hs ≡ true in
@@ -188,7 +198,8 @@ no_head : (whole : List Glyph) (k : ℕ) → Opened whole k → HeadFits whole k
 no_head whole k o = (omega arith, edge_after whole 1 (2 + 0) (omega arith) (begins_low (codes "[[") whole 1 refl o.starts (omega arith)))
 
 head_fits : (whole : List Glyph) (colon : Bool) (n k : ℕ) → Opened whole k → n ≤ k → HeadFits whole k (head_len colon n (drop 2 whole))
-head_fits whole colon n k o le = by (has_pipe n (drop 2 whole)) (colon && first_is (class.Only 58) (drop 2 whole)) (pipe_head whole n k o le) (λ e. colon_head whole k o (and_right colon _ e))
+head_fits whole colon n k o le = by (has_pipe n (drop 2 whole)) (colon && first_is (class.Only 58) (drop 2 whole))
+    (pipe_head whole n k o le) (λ e. colon_head whole k o (and_right colon _ e))
   where
     by : (p c : Bool) → (p ≡ true → HeadFits whole k (n + 1)) → (c ≡ true → HeadFits whole k 1) → HeadFits whole k (if p then n + 1 else (if c then 1 else 0))
     by true c f g = f refl
@@ -207,8 +218,10 @@ page_fits whole head k o (le, edge) =
     let first : low_at whole 0 ≡ true = begins_low (codes "[[") whole 0 refl o.starts (omega arith) in
     let z : 2 + (k + 0) ≡ k + 2 = omega arith in
     let y : 2 + (k + 1) ≡ k + 3 = omega arith in
-    let close : low_at whole (k + 2) ≡ true = ap (low_at whole) (sym z) ∙ sym (low_drop 2 (k + 0) whole) ∙ sym (low_drop k 0 (drop 2 whole)) ∙ begins_low (codes "]]") (drop k (drop 2 whole)) 0 refl o.closes (omega arith) in
-    let last : low_at whole (k + 3) ≡ true = ap (low_at whole) (sym y) ∙ sym (low_drop 2 (k + 1) whole) ∙ sym (low_drop k 1 (drop 2 whole)) ∙ begins_low (codes "]]") (drop k (drop 2 whole)) 1 refl o.closes (omega arith) in
+    let close : low_at whole (k + 2) ≡ true = ap (low_at whole) (sym z) ∙ sym (low_drop 2 (k + 0) whole)
+    ∙ sym (low_drop k 0 (drop 2 whole)) ∙ begins_low (codes "]]") (drop k (drop 2 whole)) 0 refl o.closes (omega arith) in
+    let last : low_at whole (k + 3) ≡ true = ap (low_at whole) (sym y) ∙ sym (low_drop 2 (k + 1) whole)
+    ∙ sym (low_drop k 1 (drop 2 whole)) ∙ begins_low (codes "]]") (drop k (drop 2 whole)) 1 refl o.closes (omega arith) in
     let letters : (i : ℕ) → i < t → low_at whole (k + 4 + i) ≡ true = λ i below.
     let x : 2 + (k + 2 + i) ≡ k + 4 + i = omega arith in
     ap (low_at whole) (sym x) ∙ sym (low_drop 2 (k + 2 + i) whole) ∙ sym (low_drop (k + 2) i (drop 2 whole)) ∙ run_low class.Trail rest i tt below in
@@ -228,15 +241,19 @@ page_fits whole head k o (le, edge) =
 closed_leaf : (whole : List Glyph) (kd : TileKind) (k : ℕ) → IsForm kd → Opened whole k → Fits whole (leaf kd (k + 4))
 closed_leaf whole kd k form o =
     let y : 2 + (k + 1) ≡ k + 3 = omega arith in
-    let last : low_at whole (k + 3) ≡ true = ap (low_at whole) (sym y) ∙ sym (low_drop 2 (k + 1) whole) ∙ sym (low_drop k 1 (drop 2 whole)) ∙ begins_low (codes "]]") (drop k (drop 2 whole)) 1 refl o.closes (omega arith) in
-    leaf_fits whole kd (k + 4) (k + 3) form (omega arith) (omega (arith, length-drop 2 whole, o.within)) (begins_low (codes "[[") whole 0 refl o.starts (omega arith)) last
+    let last : low_at whole (k + 3) ≡ true = ap (low_at whole) (sym y) ∙ sym (low_drop 2 (k + 1) whole)
+    ∙ sym (low_drop k 1 (drop 2 whole)) ∙ begins_low (codes "]]") (drop k (drop 2 whole)) 1 refl o.closes (omega arith) in
+    leaf_fits whole kd (k + 4) (k + 3) form (omega arith) (omega (arith, length-drop 2 whole, o.within))
+    (begins_low (codes "[[") whole 0 refl o.starts (omega arith)) last
 
-shape_fits : (whole : List Glyph) (kd : LinkKind) (colon : Bool) (n k : ℕ) → Opened whole k → IsBehind kd n k → Fits whole (link_shape kd (head_len colon n (drop 2 whole)) k (drop 2 whole))
+shape_fits : (whole : List Glyph) (kd : LinkKind) (colon : Bool) (n k : ℕ) → Opened whole k → IsBehind kd n k
+    → Fits whole (link_shape kd (head_len colon n (drop 2 whole)) k (drop 2 whole))
 shape_fits whole Page colon n k o le = page_fits whole (head_len colon n (drop 2 whole)) k o (head_fits whole colon n k o le)
 shape_fits whole Category colon n k o le = closed_leaf whole kind.Category k tt o
 shape_fits whole Media colon n k o le = closed_leaf whole kind.Media k tt o
 
-with_fits : (whole : List Glyph) (t : Target) (n : ℕ) (o : Option ℕ) → begins (codes "[[") whole ≡ true → OptInner (kind_of t) n (drop 2 whole) o → OptFits whole (link_with t n o (drop 2 whole))
+with_fits : (whole : List Glyph) (t : Target) (n : ℕ) (o : Option ℕ) → begins (codes "[[") whole ≡ true
+    → OptInner (kind_of t) n (drop 2 whole) o → OptFits whole (link_with t n o (drop 2 whole))
 with_fits whole t n None starts f = tt
 with_fits whole t n (Some k) starts (there, within, le) = by (has_pipe n (drop 2 whole) && k == n + 1)
   where
@@ -270,11 +287,13 @@ head_is Page colon n k gs (there, within, le) =
 head_is Category colon n k gs f = tt
 head_is Media colon n k gs f = tt
 
-pub head_within : (kd : LinkKind) (colon : Bool) (n k : ℕ) (gs : List Glyph) (o : Option ℕ) → o ≡ inner_len kd n gs → o ≡ Some k → IsHead kd (head_len colon n gs) k
+pub head_within : (kd : LinkKind) (colon : Bool) (n k : ℕ) (gs : List Glyph) (o : Option ℕ) → o ≡ inner_len kd n gs → o ≡ Some k
+    → IsHead kd (head_len colon n gs) k
 head_within kd colon n k gs o e is = head_is kd colon n k gs (inner_is kd n k gs o e is)
 
 -- what is left after some items is an end too
-pub end_later : (whole gs : List Glyph) (m : ℕ) → gs ≡ drop (length whole - length gs) whole → length gs ≤ length whole → m ≤ length gs → drop m gs ≡ drop (length whole - length (drop m gs)) whole
+pub end_later : (whole gs : List Glyph) (m : ℕ) → gs ≡ drop (length whole - length gs) whole → length gs ≤ length whole
+    → m ≤ length gs → drop m gs ≡ drop (length whole - length (drop m gs)) whole
 end_later whole gs m e le within =
     let z : length whole - length gs + m ≡ length whole - length (drop m gs) = omega (arith, length-drop m gs) in
     ap (λ (hs : List Glyph). drop m hs) e ∙ drop-drop m (length whole - length gs) whole ∙ ap (λ i. drop i whole) z
@@ -298,7 +317,8 @@ place_step_at stop bar (g ∷ gs) (suc at) h e f =
     place_step_at stop bar gs at (omega arith) e f ∙ ap (λ m. option_map (λ n. suc n) (place stop bar (drop m (g ∷ gs)))) z
 
 -- one item more, at which the search goes on
-pub place_more : (stop bar : List Glyph → Bool) (gs : List Glyph) (at : ℕ) (whole : Option ℕ) → at < length gs → stop (drop at gs) ≡ false → bar (drop at gs) ≡ false
+pub place_more : (stop bar : List Glyph → Bool) (gs : List Glyph) (at : ℕ) (whole : Option ℕ) → at < length gs
+    → stop (drop at gs) ≡ false → bar (drop at gs) ≡ false
     → option_map (λ n. at + n) (place stop bar (drop at gs)) ≡ whole → option_map (λ n. at + 1 + n) (place stop bar (drop (at + 1) gs)) ≡ whole
 place_more stop bar gs at whole h e f had =
     map_suc at (place stop bar (drop (at + 1) gs)) ∙ ap (λ (o : Option ℕ). option_map (λ n. at + n) o) (sym (place_step_at stop bar gs at h e f)) ∙ had

@@ -110,7 +110,8 @@ up_by k gs table (Some ys) h known e =
     let own : own_partner ys ≡ nearest k (drop 1 ys) = own_is ys end.some ∙ own_by k (tag_at ys) (drop 1 ys) end.turn in
     sym (ap option_join (known (length ys) (omega (arith, end.within))) ∙ ap own_partner there ∙ own)
 
-pub up_nearest : (k : ℕ) (gs : List Glyph) (table : List (Option ℕ)) → 0 < length gs → AreKnown gs table → tag_turn k gs ≡ Up → nearest k gs ≡ entry table (nearest k (drop 1 gs))
+pub up_nearest : (k : ℕ) (gs : List Glyph) (table : List (Option ℕ)) → 0 < length gs → AreKnown gs table → tag_turn k gs ≡ Up
+    → nearest k gs ≡ entry table (nearest k (drop 1 gs))
 up_nearest k gs table h known e = ap left_of (up_is k gs h e) ∙ up_by k gs table (partner k 0 (drop 1 gs)) h known refl
 
 -- where the nearest one lies
@@ -147,7 +148,8 @@ own_next gs table t m h known e same = by t.shape (turn_here (number m) gs t (Pa
     by Closing q = sym (down_nearest (number m) gs h q)
 
 -- of another name nothing changes
-pub other_next : (k : ℕ) (gs : List Glyph) (t : Tag) (m : TagName) → 0 < length gs → tag_at gs ≡ Some t → t.name ≡ Paired m → number m ≢ k → nearest k gs ≡ nearest k (drop 1 gs)
+pub other_next : (k : ℕ) (gs : List Glyph) (t : Tag) (m : TagName) → 0 < length gs → tag_at gs ≡ Some t → t.name ≡ Paired m
+    → number m ≢ k → nearest k gs ≡ nearest k (drop 1 gs)
 other_next k gs t m h e same other = level_nearest k gs h (turn_here k gs t (Paired m) e same ∙ other_turn k m t.shape other)
 
 -- nor where no tag of a pair stands
@@ -167,7 +169,8 @@ pub own_none : (gs : List Glyph) → 0 < length gs → tag_at gs ≡ None → ow
 own_none gs h e = own_is gs h ∙ ap (λ (o : Option Tag). nearest_of o (drop 1 gs)) e
 
 -- all names at once
-pub all_next : (gs : List Glyph) (table : List (Option ℕ)) → AreNearest (drop 1 gs) table → ((k : ℕ) → nearest k gs ≡ nearest k (drop 1 gs)) → AreNearest gs table
+pub all_next : (gs : List Glyph) (table : List (Option ℕ)) → AreNearest (drop 1 gs) table
+    → ((k : ℕ) → nearest k gs ≡ nearest k (drop 1 gs)) → AreNearest gs table
 all_next gs table a same = record { size = a.size; known = λ k below. a.known k below ∙ ap (λ (o : Option ℕ). Some o) (sym (same k)) }
 
 -- ---- tables
@@ -189,7 +192,8 @@ set_len [] i v = refl
 set_len (x ∷ xs) zero v = refl
 set_len (x ∷ xs) (suc i) v = omega (arith, set_len xs i v)
 
-pub set_next : (gs : List Glyph) (old : List (Option ℕ)) (i : ℕ) (r : Option ℕ) → i < 7 → AreNearest (drop 1 gs) old → r ≡ nearest i gs → ((k : ℕ) → i ≢ k → nearest k gs ≡ nearest k (drop 1 gs)) → AreNearest gs (slice_set old i r)
+pub set_next : (gs : List Glyph) (old : List (Option ℕ)) (i : ℕ) (r : Option ℕ) → i < 7 → AreNearest (drop 1 gs) old
+    → r ≡ nearest i gs → ((k : ℕ) → i ≢ k → nearest k gs ≡ nearest k (drop 1 gs)) → AreNearest gs (slice_set old i r)
 set_next gs old i r within a is same = record {
   size = set_len old i r ∙ a.size;
   known = λ k below. by k below (i == k) refl;
@@ -218,7 +222,8 @@ get_before (y ∷ xs) x (suc k) h = get_before xs x k (omega arith)
 abbrev pub IsUpTo : List Glyph → List (Option ℕ) → ℕ → Type 0
 IsUpTo gs table left = (k : ℕ) → k ≤ left → slice_get table k ≡ Some (own_partner (drop (length gs - k) gs))
 
-pub push_next : (gs : List Glyph) (old new : List (Option ℕ)) (left : ℕ) (e : Option ℕ) → length old ≡ left + 1 → IsUpTo gs old left → new ≡ old ++ e ∷ [] → e ≡ own_partner (drop (length gs - (left + 1)) gs) → IsUpTo gs new (left + 1)
+pub push_next : (gs : List Glyph) (old new : List (Option ℕ)) (left : ℕ) (e : Option ℕ) → length old ≡ left + 1
+    → IsUpTo gs old left → new ≡ old ++ e ∷ [] → e ≡ own_partner (drop (length gs - (left + 1)) gs) → IsUpTo gs new (left + 1)
 push_next gs old new left e size known news is k below = ap (λ (t : List (Option ℕ)). slice_get t k) news ∙ by (cases_lt k (length old))
   where
     by : (k < length old) ⊎ (length old ≤ k) → slice_get (old ++ e ∷ []) k ≡ Some (own_partner (drop (length gs - k) gs))

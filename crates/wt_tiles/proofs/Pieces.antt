@@ -95,7 +95,8 @@ split_some o ps p e h =
     let a : All IsSoundPiece (p ∷ ps) = subst P e h in
     (a 0 p (omega arith), λ k d below. a (suc k) d (omega arith))
 
-pub split_none : (o : Option Piece) (ps qs : List Piece) (p : Piece) → o ≡ None → ps ≡ p ∷ qs → All IsSoundPiece (first_piece o ++ ps) → IsSoundPiece p × All IsSoundPiece qs
+pub split_none : (o : Option Piece) (ps qs : List Piece) (p : Piece) → o ≡ None → ps ≡ p ∷ qs
+    → All IsSoundPiece (first_piece o ++ ps) → IsSoundPiece p × All IsSoundPiece qs
 split_none o ps qs p e is h =
     let P : Option Piece → Type 0 = λ o. All IsSoundPiece (first_piece o ++ ps) in
     let Q : List Piece → Type 0 = λ l. All IsSoundPiece l in

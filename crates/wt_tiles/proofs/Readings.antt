@@ -36,7 +36,8 @@ chars_run cx after zero gs le free =
     let F : ℕ → Cut = λ m. (m, c.1) in ap F z
 chars_run cx after (suc n) [] le free = absurd (omega arith)
 chars_run cx after (suc n) (g ∷ gs) le free =
-    let more = chars_run cx (is_in is_word g) n gs (omega arith) (λ k below. ap (λ (t : Bool). tile_at cx t (drop k gs)) (words g gs k) ∙ free (suc k) (omega arith)) in
+    let more = chars_run cx (is_in is_word g) n gs (omega arith)
+    (λ k below. ap (λ (t : Bool). tile_at cx t (drop k gs)) (words g gs k) ∙ free (suc k) (omega arith)) in
     let F : Cut → Cut = λ c. (suc c.0, c.1) in
     let H : Bool → Cut = λ t. (suc (n + (cuts cx t 0 (drop n gs)).0), (cuts cx t 0 (drop n gs)).1) in
     let c = cuts cx (is_word_at (g ∷ gs) n) 0 (drop n gs) in
@@ -55,7 +56,8 @@ form_once cx after w (g ∷ gs) pos le e =
     ap R (cuts_cons cx after g gs (Some w) e) ∙ closed_zero _ ∙ ap (λ (d : Cut). w ∷ closed d.0 d.1) there
     ∙ ap (λ (m : ℕ). w ∷ read cx (is_word_at (g ∷ gs) (size w - 1)) (drop m (g ∷ gs))) z
 
-chars_once : (cx : Context) (after : Bool) (n : ℕ) (ws : List Shape) (gs : List Glyph) → 0 < n → n ≤ length gs → ((k : ℕ) → k < n → tile_at cx (word_before after gs k) (drop k gs) ≡ None)
+chars_once : (cx : Context) (after : Bool) (n : ℕ) (ws : List Shape) (gs : List Glyph) → 0 < n → n ≤ length gs
+    → ((k : ℕ) → k < n → tile_at cx (word_before after gs k) (drop k gs) ≡ None)
     → BeginsWithForm ws → ws ≡ read cx (is_word_at gs (n - 1)) (drop n gs) → read cx after gs ≡ chars n ∷ ws
 chars_once cx after zero ws gs pos le free apart ih = absurd (omega arith)
 chars_once cx after (suc n) ws gs pos le free apart ih =
@@ -66,17 +68,21 @@ chars_once cx after (suc n) ws gs pos le free apart ih =
     let zeroth : c.0 ≡ 0 = begins_zero c.0 c.1 (subst P is apart) in
     let tail : closed c.0 c.1 ≡ c.1 = ap (λ (m : ℕ). closed m c.1) zeroth ∙ closed_zero c.1 in
     let all : suc n + c.0 ≡ suc n = omega arith in
-    ap (λ (d : Cut). closed d.0 d.1) (chars_run cx after (suc n) gs le free) ∙ ap (λ (m : ℕ). closed m c.1) all ∙ closed_pos (suc n) c.1 pos ∙ ap (λ vs. chars (suc n) ∷ vs) (sym (is ∙ tail))
+    ap (λ (d : Cut). closed d.0 d.1) (chars_run cx after (suc n) gs le free) ∙ ap (λ (m : ℕ). closed m c.1) all
+    ∙ closed_pos (suc n) c.1 pos ∙ ap (λ vs. chars (suc n) ∷ vs) (sym (is ∙ tail))
 
 -- what stands first: a run, or a form
-stands_once : (k : TileKind) (cx : Context) (after : Bool) (w : Shape) (ws : List Shape) (gs : List Glyph) → 0 < size w → size w ≤ length gs → StandsBy k cx after w gs → Apart k ws
+stands_once : (k : TileKind) (cx : Context) (after : Bool) (w : Shape) (ws : List Shape) (gs : List Glyph) → 0 < size w
+    → size w ≤ length gs → StandsBy k cx after w gs → Apart k ws
     → ws ≡ read cx (is_word_at gs (size w - 1)) (drop (size w) gs) → read cx after gs ≡ w ∷ ws
-stands_once kind.Chars cx after w ws gs pos le (is, free) apart ih = chars_once cx after (size w) ws gs pos le free apart ih ∙ ap (λ (v : Shape). v ∷ ws) (sym is)
+stands_once kind.Chars cx after w ws gs pos le (is, free) apart ih = chars_once cx after (size w) ws gs pos le free apart ih
+    ∙ ap (λ (v : Shape). v ∷ ws) (sym is)
 stands_once k cx after w ws gs pos le form apart ih = form_once cx after w gs pos le form ∙ ap (λ vs. w ∷ vs) (sym ih)
 
 unique : (cx : Context) (after : Bool) (ws : List Shape) (gs : List Glyph) → AreTiles cx after ws gs → ws ≡ read cx after gs
 unique cx after [] gs h = sym (ap (read cx after) h ∙ closed_zero [])
-unique cx after (w ∷ ws) gs (pos, le, stands, apart, rest) = sym (stands_once w.kind cx after w ws gs pos le stands apart (unique cx (is_word_at gs (size w - 1)) ws (drop (size w) gs) rest))
+unique cx after (w ∷ ws) gs (pos, le, stands, apart, rest) =
+    sym (stands_once w.kind cx after w ws gs pos le stands apart (unique cx (is_word_at gs (size w - 1)) ws (drop (size w) gs) rest))
 
 pub shapes_only : (cx : Context) (ws : List Shape) (gs : List Glyph) → AreTiles cx false ws gs → ws ≡ shapes cx gs
 shapes_only cx ws gs h = unique cx false ws gs h ∙ sym (shapes_are_read cx gs)
@@ -109,10 +115,12 @@ sound_closed cx after (suc n, ws) gs s =
     let Q : ℕ → Type 0 = λ i. AreTiles cx (is_word_at gs i) ws (drop (suc n) gs) in
     let R : ℕ → Type 0 = λ i. AreTiles cx (is_word_at gs (m - 1)) ws (drop i gs) in
     let G : ℕ → Shape = λ i. chars i in
-    subst P (sym (closed_pos (suc n) ws (omega arith))) (omega arith, omega (arith, s.within), (ap G z, subst F z s.free), s.begins, subst R z (subst Q y s.rest))
+    subst P (sym (closed_pos (suc n) ws (omega arith)))
+    (omega arith, omega (arith, s.within), (ap G z, subst F z s.free), s.begins, subst R z (subst Q y s.rest))
 
 sound_form : (cx : Context) (after : Bool) (g : Glyph) (gs : List Glyph) (w : Shape) → tile_at cx after (g ∷ gs) ≡ Some w
-    → Sound cx (word_before (is_in is_word g) gs (size w - 1)) (cuts cx (is_in is_word g) (size w - 1) gs) (drop (size w - 1) gs) → Sound cx after (cuts cx after 0 (g ∷ gs)) (g ∷ gs)
+    → Sound cx (word_before (is_in is_word g) gs (size w - 1)) (cuts cx (is_in is_word g) (size w - 1) gs) (drop (size w - 1) gs)
+    → Sound cx after (cuts cx after 0 (g ∷ gs)) (g ∷ gs)
 sound_form cx after g gs w e s =
     let f = tile_fits cx after (g ∷ gs) w e in
     let c = cuts cx (is_in is_word g) (size w - 1) gs in
@@ -129,12 +137,14 @@ sound_form cx after g gs w e s =
       rest = (f.some, f.within, stands_form w.kind cx after w (g ∷ gs) f.form e, apart_form w.kind (closed c.0 c.1) f.form, rest);
     })
 
-free_more : (cx : Context) (after : Bool) (g : Glyph) (gs : List Glyph) (n : ℕ) → tile_at cx after (g ∷ gs) ≡ None → ((k : ℕ) → k < n → tile_at cx (word_before (is_in is_word g) gs k) (drop k gs) ≡ None)
+free_more : (cx : Context) (after : Bool) (g : Glyph) (gs : List Glyph) (n : ℕ) → tile_at cx after (g ∷ gs) ≡ None
+    → ((k : ℕ) → k < n → tile_at cx (word_before (is_in is_word g) gs k) (drop k gs) ≡ None)
     → (k : ℕ) → k < suc n → tile_at cx (word_before after (g ∷ gs) k) (drop k (g ∷ gs)) ≡ None
 free_more cx after g gs n e free zero below = e
 free_more cx after g gs n e free (suc k) below = ap (λ (t : Bool). tile_at cx t (drop k gs)) (sym (words g gs k)) ∙ free k (omega arith)
 
-sound_char : (cx : Context) (after : Bool) (g : Glyph) (gs : List Glyph) → tile_at cx after (g ∷ gs) ≡ None → Sound cx (is_in is_word g) (cuts cx (is_in is_word g) 0 gs) gs → Sound cx after (cuts cx after 0 (g ∷ gs)) (g ∷ gs)
+sound_char : (cx : Context) (after : Bool) (g : Glyph) (gs : List Glyph) → tile_at cx after (g ∷ gs) ≡ None
+    → Sound cx (is_in is_word g) (cuts cx (is_in is_word g) 0 gs) gs → Sound cx after (cuts cx after 0 (g ∷ gs)) (g ∷ gs)
 sound_char cx after g gs e s =
     let c = cuts cx (is_in is_word g) 0 gs in
     let A : Bool → Type 0 = λ t. AreTiles cx t c.1 (drop c.0 gs) in
@@ -143,9 +153,11 @@ sound_char cx after g gs e s =
     (record { within = omega (arith, s.within); free = free_more cx after g gs c.0 e s.free; begins = s.begins; rest = subst A (words g gs c.0) s.rest })
 
 sound_first : (cx : Context) (after : Bool) (g : Glyph) (gs : List Glyph) (o : Option Shape) → tile_at cx after (g ∷ gs) ≡ o
-    → ((n : ℕ) → n ≤ length gs → Sound cx (word_before (is_in is_word g) gs n) (cuts cx (is_in is_word g) n gs) (drop n gs)) → Sound cx after (cuts cx after 0 (g ∷ gs)) (g ∷ gs)
+    → ((n : ℕ) → n ≤ length gs → Sound cx (word_before (is_in is_word g) gs n) (cuts cx (is_in is_word g) n gs) (drop n gs))
+    → Sound cx after (cuts cx after 0 (g ∷ gs)) (g ∷ gs)
 sound_first cx after g gs None e all = sound_char cx after g gs e (all 0 (omega arith))
-sound_first cx after g gs (Some w) e all = let f = tile_fits cx after (g ∷ gs) w e in sound_form cx after g gs w e (all (size w - 1) (omega (arith, f.within, f.some)))
+sound_first cx after g gs (Some w) e all = let f = tile_fits cx after (g ∷ gs) w e in
+    sound_form cx after g gs w e (all (size w - 1) (omega (arith, f.within, f.some)))
 
 sound_from : (cx : Context) (after : Bool) (gs : List Glyph) (n : ℕ) → n ≤ length gs → Sound cx (word_before after gs n) (cuts cx after n gs) (drop n gs)
 sound_from cx after [] zero le = record { within = omega arith; free = λ k below. absurd (omega arith); begins = tt; rest = refl }

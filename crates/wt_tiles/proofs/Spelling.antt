@@ -30,7 +30,8 @@ begins_at (b ∷ word) [] i d h k = absurd (omega arith)
 begins_at (b ∷ word) (g ∷ gs) zero d h k = refl
 begins_at (b ∷ word) (g ∷ gs) (suc i) d h k =
     let z : suc (i + 1) ≡ suc i + 1 = omega arith in
-    begins_at word gs i d (omega arith) (omega arith) ∙ ap (λ m. is_in (λ c. c == get_or word i 0) (get_or gs i d) && begins (drop m (b ∷ word)) (drop m (g ∷ gs))) z
+    begins_at word gs i d (omega arith) (omega arith)
+    ∙ ap (λ m. is_in (λ c. c == get_or word i 0) (get_or gs i d) && begins (drop m (b ∷ word)) (drop m (g ∷ gs))) z
 
 pub begins_like_at : (word : List ℕ) (gs : List Glyph) (i : ℕ) (d : Glyph) → i < length word → i < length gs
     → begins_like (drop i word) (drop i gs) ≡ (like_byte (get_or word i 0) (get_or gs i d) && begins_like (drop (i + 1) word) (drop (i + 1) gs))
@@ -39,4 +40,5 @@ begins_like_at (b ∷ word) [] i d h k = absurd (omega arith)
 begins_like_at (b ∷ word) (g ∷ gs) zero d h k = refl
 begins_like_at (b ∷ word) (g ∷ gs) (suc i) d h k =
     let z : suc (i + 1) ≡ suc i + 1 = omega arith in
-    begins_like_at word gs i d (omega arith) (omega arith) ∙ ap (λ m. like_byte (get_or word i 0) (get_or gs i d) && begins_like (drop m (b ∷ word)) (drop m (g ∷ gs))) z
+    begins_like_at word gs i d (omega arith) (omega arith)
+    ∙ ap (λ m. like_byte (get_or word i 0) (get_or gs i d) && begins_like (drop m (b ∷ word)) (drop m (g ∷ gs))) z

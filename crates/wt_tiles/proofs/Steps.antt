@@ -18,7 +18,8 @@ at_cons [] at d h = absurd (omega arith)
 at_cons (g ∷ gs) zero d h = refl
 at_cons (g ∷ gs) (suc at) d h = let z : suc (at + 1) ≡ suc at + 1 = omega arith in at_cons gs at d (omega arith) ∙ ap (λ m. get_or gs at d ∷ drop m (g ∷ gs)) z
 
-pub none_at : (cx : Context) (after : Bool) (gs : List Glyph) (at : ℕ) (d : Glyph) (b : ℕ) → at < length gs → get_or gs at d ≡ glyph.Byte b → may_begin b ≡ false → tile_at cx after (drop at gs) ≡ None
+pub none_at : (cx : Context) (after : Bool) (gs : List Glyph) (at : ℕ) (d : Glyph) (b : ℕ) → at < length gs
+    → get_or gs at d ≡ glyph.Byte b → may_begin b ≡ false → tile_at cx after (drop at gs) ≡ None
 none_at cx after gs at d b h is e =
     ap (tile_at cx after) (at_cons gs at d h ∙ ap (λ (g : Glyph). g ∷ drop (at + 1) gs) is) ∙ no_form cx after b (drop (at + 1) gs) e
 

@@ -44,7 +44,8 @@ name_le gs = by (first_is class.Letter gs)
     by false = omega arith
 
 -- a tag of n items
-sized : (gs : List Glyph) (shape : TagShape) (n : ℕ) (o : Option Name) → 2 < n → n ≤ length gs → low_at gs 0 ≡ true → low_at gs (n - 1) ≡ true → OptTag gs (tag_of shape n o)
+sized : (gs : List Glyph) (shape : TagShape) (n : ℕ) (o : Option Name) → 2 < n → n ≤ length gs → low_at gs 0 ≡ true
+    → low_at gs (n - 1) ≡ true → OptTag gs (tag_of shape n o)
 sized gs shape n None some within first last = tt
 sized gs shape n (Some m) some within first last = record { some = some; within = within; first = first; last = last }
 
@@ -53,7 +54,8 @@ abbrev pub OptAfter : List Glyph → List Glyph → Option Tag → Type 0
 OptAfter name gs None = Unit {0}
 OptAfter name gs (Some t) = (k : ℕ) × (t.len ≡ 2 + length name + k) × (k < length gs) × (low_at gs k ≡ true)
 
-after_of : (name gs : List Glyph) (shape : TagShape) (n k : ℕ) (o : Option Name) → n ≡ 2 + length name + k → k < length gs → low_at gs k ≡ true → OptAfter name gs (tag_of shape n o)
+after_of : (name gs : List Glyph) (shape : TagShape) (n k : ℕ) (o : Option Name) → n ≡ 2 + length name + k → k < length gs
+    → low_at gs k ≡ true → OptAfter name gs (tag_of shape n o)
 after_of name gs shape n k None e there low = tt
 after_of name gs shape n k (Some m) e there low = (k, e, there, low)
 
@@ -72,9 +74,11 @@ after_fits name gs =
     let low : low_at gs (k + 0) ≡ true = sym (low_drop k 0 gs) ∙ first_low (class.Only 62) (drop k gs) (omega arith) last in
     let there = first_some (class.Only 62) (drop k gs) last in
     let z : k + 0 ≡ k = omega arith in
-    after_of name gs (shape_of inside) (2 + length name + length inside) k (name_of name) (omega (arith, length-take k gs, run_le class.Tag gs)) (omega (arith, length-drop k gs)) (ap (low_at gs) (sym z) ∙ low))
+    after_of name gs (shape_of inside) (2 + length name + length inside) k (name_of name)
+    (omega (arith, length-take k gs, run_le class.Tag gs)) (omega (arith, length-drop k gs)) (ap (low_at gs) (sym z) ∙ low))
 
-opened : (gs : List Glyph) (n : ℕ) (o : Option Tag) → low_at gs 0 ≡ true → 0 < n → n ≤ length (drop 1 gs) → OptAfter (take n (drop 1 gs)) (drop (1 + n) gs) o → OptTag gs o
+opened : (gs : List Glyph) (n : ℕ) (o : Option Tag) → low_at gs 0 ≡ true → 0 < n → n ≤ length (drop 1 gs)
+    → OptAfter (take n (drop 1 gs)) (drop (1 + n) gs) o → OptTag gs o
 opened gs n None first pos le a = tt
 opened gs n (Some t) first pos le (k, size, there, low) =
     let named : length (take n (drop 1 gs)) ≡ n = omega (arith, length-take n (drop 1 gs)) in
@@ -96,7 +100,8 @@ unfolding closing_tag
 closing_fits gs =
     let n = name_len (drop 2 gs) in
     let k = run_len class.Blank (drop (2 + n) gs) in
-    if_tag gs (begins (codes "</") gs && (nat_lt 0 n && first_is (class.Only 62) (drop (2 + n + k) gs))) (tag_of Closing (3 + n + k) (name_of (take n (drop 2 gs))))
+    if_tag gs (begins (codes "</") gs && (nat_lt 0 n && first_is (class.Only 62) (drop (2 + n + k) gs)))
+    (tag_of Closing (3 + n + k) (name_of (take n (drop 2 gs))))
     (λ e.
     let starts = and_left (begins (codes "</") gs) _ e in
     let more = and_right (begins (codes "</") gs) _ e in
@@ -105,7 +110,8 @@ closing_fits gs =
     let there = first_some (class.Only 62) (drop (2 + n + k) gs) last in
     let low = sym (low_drop (2 + n + k) 0 gs) ∙ first_low (class.Only 62) (drop (2 + n + k) gs) (omega arith) last in
     let end : 3 + n + k - 1 ≡ 2 + n + k + 0 = omega arith in
-    sized gs Closing (3 + n + k) (name_of (take n (drop 2 gs))) (omega arith) (omega (arith, length-drop (2 + n + k) gs)) (begins_low (codes "</") gs 0 refl starts (omega arith)) (ap (low_at gs) end ∙ low))
+    sized gs Closing (3 + n + k) (name_of (take n (drop 2 gs))) (omega arith) (omega (arith, length-drop (2 + n + k) gs))
+    (begins_low (codes "</") gs 0 refl starts (omega arith)) (ap (low_at gs) end ∙ low))
 
 pub tag_fits : (gs : List Glyph) → OptTag gs (tag_at gs)
 unfolding tag_at

@@ -97,7 +97,8 @@ abbrev OptInside : List Glyph → List Glyph → Option Tag → Type 0
 OptInside name gs None = Unit {0}
 OptInside name gs (Some t) = (t.len ≡ 2 + length name + run_len class.Tag gs) × (first_is (class.Only 62) (drop (run_len class.Tag gs) gs) ≡ true)
 
-inside_of : (name gs : List Glyph) (shape : TagShape) (n : ℕ) (o : Option Name) → n ≡ 2 + length name + run_len class.Tag gs → first_is (class.Only 62) (drop (run_len class.Tag gs) gs) ≡ true → OptInside name gs (tag_of shape n o)
+inside_of : (name gs : List Glyph) (shape : TagShape) (n : ℕ) (o : Option Name) → n ≡ 2 + length name + run_len class.Tag gs
+    → first_is (class.Only 62) (drop (run_len class.Tag gs) gs) ≡ true → OptInside name gs (tag_of shape n o)
 inside_of name gs shape n None e f = tt
 inside_of name gs shape n (Some m) e f = (e, f)
 
@@ -119,7 +120,8 @@ after_inside name gs =
     let k = run_len class.Tag gs in
     let inside = take k gs in
     if_inside name gs (first_is (class.Only 62) (drop k gs) && is_inside inside) (tag_of (shape_of inside) (2 + length name + length inside) (name_of name))
-    (λ e. inside_of name gs (shape_of inside) (2 + length name + length inside) (name_of name) (omega (arith, length-take k gs, run_le class.Tag gs)) (and_left (first_is (class.Only 62) (drop k gs)) _ e))
+    (λ e. inside_of name gs (shape_of inside) (2 + length name + length inside) (name_of name)
+    (omega (arith, length-take k gs, run_le class.Tag gs)) (and_left (first_is (class.Only 62) (drop k gs)) _ e))
 
 abbrev OptClear : List Glyph → Option Tag → Type 0
 OptClear gs None = Unit {0}
@@ -132,7 +134,8 @@ name_run gs i = by (first_is class.Letter gs)
     by true h = h
     by false h = absurd (omega arith)
 
-clear_by : (gs : List Glyph) (n : ℕ) (o : Option Tag) → n ≡ name_len (drop 1 gs) → n ≤ length (drop 1 gs) → OptInside (take n (drop 1 gs)) (drop (1 + n) gs) o → OptClear gs o
+clear_by : (gs : List Glyph) (n : ℕ) (o : Option Tag) → n ≡ name_len (drop 1 gs) → n ≤ length (drop 1 gs)
+    → OptInside (take n (drop 1 gs)) (drop (1 + n) gs) o → OptClear gs o
 clear_by gs n None e le f = tt
 clear_by gs n (Some t) e le (size, close) =
     let k = run_len class.Tag (drop (1 + n) gs) in
@@ -154,7 +157,8 @@ clear_by gs n (Some t) e le (size, close) =
     at_close i h =
         let P : List Glyph → Type 0 = λ hs. first_is (class.Only 60) hs ≡ false in
         let z : 1 + n + run_len class.Tag (drop (1 + n) gs) ≡ 1 + i = omega arith in
-        subst P (drop-drop (run_len class.Tag (drop (1 + n) gs)) (1 + n) gs ∙ ap (λ m. drop m gs) z) (close_no_less (drop (run_len class.Tag (drop (1 + n) gs)) (drop (1 + n) gs)) close)
+        subst P (drop-drop (run_len class.Tag (drop (1 + n) gs)) (1 + n) gs ∙ ap (λ m. drop m gs) z)
+        (close_no_less (drop (run_len class.Tag (drop (1 + n) gs)) (drop (1 + n) gs)) close)
 
 if_clear : (gs : List Glyph) (t : Bool) (o : Option Tag) → OptClear gs o → OptClear gs (if t then o else None)
 if_clear gs true o f = f
@@ -192,7 +196,8 @@ unfolding closing_tag
 closing_closes gs =
     let n = name_len (drop 2 gs) in
     let k = run_len class.Blank (drop (2 + n) gs) in
-    if_closing (begins (codes "</") gs && (nat_lt 0 n && first_is (class.Only 62) (drop (2 + n + k) gs))) (tag_of Closing (3 + n + k) (name_of (take n (drop 2 gs)))) (closing_of (3 + n + k) (name_of (take n (drop 2 gs))))
+    if_closing (begins (codes "</") gs && (nat_lt 0 n && first_is (class.Only 62) (drop (2 + n + k) gs)))
+    (tag_of Closing (3 + n + k) (name_of (take n (drop 2 gs)))) (closing_of (3 + n + k) (name_of (take n (drop 2 gs))))
 
 is_opening : TagShape → Bool
 is_opening Opening = true
@@ -235,7 +240,8 @@ partner_behind k gs t e h =
 abbrev paired : ℕ → ℕ → List Glyph → Shape
 paired n inside rest = record { kind = kind.Pair; opening = n; inside = inside; closing = len_of (tag_at rest); trail = 0 }
 
-pair_by : (k n : ℕ) (gs : List Glyph) (o : Option (List Glyph)) → partner k 0 (drop n gs) ≡ o → n ≤ length gs → pair_left n (left_of o) gs ≡ pair_or_island n o gs
+pair_by : (k n : ℕ) (gs : List Glyph) (o : Option (List Glyph)) → partner k 0 (drop n gs) ≡ o → n ≤ length gs
+    → pair_left n (left_of o) gs ≡ pair_or_island n o gs
 pair_by k n gs None e le = refl
 pair_by k n gs (Some ys) e le =
     let end = end_of k (drop n gs) ys (partner k 0 (drop n gs)) e (partner_fits k 0 (drop n gs)) in
@@ -244,10 +250,12 @@ pair_by k n gs (Some ys) e le =
     ap (λ (hs : List Glyph). paired n (length (drop n gs) - length ys) hs) there
 
 -- the partner of an opening tag, by the table's word
-pub closing_is : (gs : List Glyph) (t : Tag) (m : TagName) → 0 < length gs → tag_at gs ≡ Some t → t.name ≡ Paired m → t.shape ≡ Opening → own_partner gs ≡ left_of (partner (number m) 0 (drop t.len gs))
+pub closing_is : (gs : List Glyph) (t : Tag) (m : TagName) → 0 < length gs → tag_at gs ≡ Some t → t.name ≡ Paired m
+    → t.shape ≡ Opening → own_partner gs ≡ left_of (partner (number m) 0 (drop t.len gs))
 closing_is gs t m h e named opens = own_of gs t (Paired m) h e named ∙ ap left_of (partner_behind (number m) gs t e opens)
 
-pub pair_is : (pairs : ℕ) (gs : List Glyph) (t : Tag) (m : TagName) → nat_lt pairs 16 ≡ true → 0 < length gs → tag_at gs ≡ Some t → t.name ≡ Paired m → t.shape ≡ Opening → t.len ≤ length gs
+pub pair_is : (pairs : ℕ) (gs : List Glyph) (t : Tag) (m : TagName) → nat_lt pairs 16 ≡ true → 0 < length gs → tag_at gs ≡ Some t
+    → t.name ≡ Paired m → t.shape ≡ Opening → t.len ≤ length gs
     → pair_left t.len (own_partner gs) gs ≡ pair_or_island t.len (closing_for pairs m t.len gs) gs
 pair_is pairs gs t m few h e named opens le =
     ap (λ (o : Option ℕ). pair_left t.len o gs) (closing_is gs t m h e named opens)
@@ -262,12 +270,14 @@ within_by k n left gs (Some ys) e h =
     let end = end_of k (drop n gs) ys (partner k 0 (drop n gs)) e (partner_fits k 0 (drop n gs)) in
     omega (arith, end.within)
 
-pub closing_within : (gs : List Glyph) (t : Tag) (m : TagName) (left : ℕ) → 0 < length gs → tag_at gs ≡ Some t → t.name ≡ Paired m → t.shape ≡ Opening → t.len ≤ length gs → own_partner gs ≡ Some left → t.len + left ≤ length gs
+pub closing_within : (gs : List Glyph) (t : Tag) (m : TagName) (left : ℕ) → 0 < length gs → tag_at gs ≡ Some t → t.name ≡ Paired m
+    → t.shape ≡ Opening → t.len ≤ length gs → own_partner gs ≡ Some left → t.len + left ≤ length gs
 closing_within gs t m left h e named opens le is =
     let w = within_by (number m) t.len left gs (partner (number m) 0 (drop t.len gs)) refl (sym (closing_is gs t m h e named opens) ∙ is) in
     omega (arith, w, length-drop t.len gs)
 
-pub too_many : (pairs : ℕ) (gs : List Glyph) (n : ℕ) (m : TagName) → nat_lt pairs 16 ≡ false → leaf kind.TagIsland n ≡ pair_or_island n (closing_for pairs m n gs) gs
+pub too_many : (pairs : ℕ) (gs : List Glyph) (n : ℕ) (m : TagName) → nat_lt pairs 16 ≡ false
+    → leaf kind.TagIsland n ≡ pair_or_island n (closing_for pairs m n gs) gs
 too_many pairs gs n m many = ap (λ (b : Bool). pair_or_island n (if b then partner (number m) 0 (drop n gs) else None) gs) (sym many)
 
 -- ---- where no form begins
@@ -285,7 +295,8 @@ no_ext gs e = ap (λ (t : Bool). if t then ext_link_of (scheme_len (drop 1 gs)) 
 
 no_switch : (gs : List Glyph) → first_is (class.Only 95) gs ≡ false → switch_at gs ≡ None
 unfolding switch_at
-no_switch gs e = ap (λ (t : Bool). if t then option_map (λ n. leaf kind.Switch (2 + n)) (switch_len switch_names (drop 2 gs)) else None) (not_first 95 (95 ∷ []) gs e)
+no_switch gs e = ap (λ (t : Bool). if t then option_map (λ n. leaf kind.Switch (2 + n)) (switch_len switch_names (drop 2 gs)) else
+    None) (not_first 95 (95 ∷ []) gs e)
 
 not_like : (b : ℕ) (word : List ℕ) (g : Glyph) (gs : List Glyph) → like_byte b g ≡ false → begins_like (b ∷ word) (g ∷ gs) ≡ false
 not_like b word g gs e = ap (λ (t : Bool). t && begins_like word gs) e

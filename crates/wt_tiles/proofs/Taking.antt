@@ -47,13 +47,15 @@ pub front_edge : (rs qs : List Piece) (p : Piece) (n : ℕ) → rs ≡ p ∷ qs 
 front_edge rs qs p n e pos edge h =
     let P : List Piece → Type 0 = λ ps. IsEdgeIn (items ps) n in
     let Q : List Glyph → Type 0 = λ gs. IsEdge gs n in
-    edge_front (map glyph_of (items_of p)) (map glyph_of (items qs)) n pos (omega (arith, glyph_count p)) (subst Q (map-append glyph_of (items_of p) (items qs)) (subst P e edge))
+    edge_front (map glyph_of (items_of p)) (map glyph_of (items qs)) n pos (omega (arith, glyph_count p))
+    (subst Q (map-append glyph_of (items_of p) (items qs)) (subst P e edge))
 
 back_edge : (rs qs : List Piece) (p : Piece) (n m : ℕ) → rs ≡ p ∷ qs → 0 < m → n ≡ item_count p + m → IsEdgeIn (items rs) n → IsEdgeIn (items qs) m
 back_edge rs qs p n m e pos is edge =
     let P : List Piece → Type 0 = λ ps. IsEdgeIn (items ps) n in
     let Q : List Glyph → Type 0 = λ gs. IsEdge gs n in
-    edge_back (map glyph_of (items_of p)) (map glyph_of (items qs)) n m pos (omega (arith, glyph_count p)) (subst Q (map-append glyph_of (items_of p) (items qs)) (subst P e edge))
+    edge_back (map glyph_of (items_of p)) (map glyph_of (items qs)) n m pos (omega (arith, glyph_count p))
+    (subst Q (map-append glyph_of (items_of p) (items qs)) (subst P e edge))
 
 -- ---- one piece
 
@@ -61,27 +63,32 @@ back_edge rs qs p n m e pos is edge =
 whole_rest : (p : Piece) (qs rest : List Piece) (left : ℕ) → items rest ≡ drop left (items_of p) ++ items qs → item_count p ≤ left → items rest ≡ items qs
 whole_rest p qs rest left e h = e ∙ ap (λ xs. xs ++ items qs) (whole_back p left h)
 
-pub next_edge : (rs qs rest : List Piece) (p : Piece) (left k : ℕ) → rs ≡ p ∷ qs → k ≡ left - item_count p → items rest ≡ drop left (items_of p) ++ items qs → 0 < k → IsEdgeIn (items rs) left → IsEdgeIn (items rest) k
+pub next_edge : (rs qs rest : List Piece) (p : Piece) (left k : ℕ) → rs ≡ p ∷ qs → k ≡ left - item_count p
+    → items rest ≡ drop left (items_of p) ++ items qs → 0 < k → IsEdgeIn (items rs) left → IsEdgeIn (items rest) k
 next_edge rs qs rest p left k e is back pos edge =
     let P : List Item → Type 0 = λ xs. IsEdgeIn xs k in
     subst P (sym (whole_rest p qs rest left back (omega arith))) (back_edge rs qs p left k e pos (omega arith) edge)
 
-take_same : (p : Piece) (qs rest : List Piece) (left k : ℕ) → k ≡ left - item_count p → items rest ≡ drop left (items_of p) ++ items qs → take k (items rest) ≡ take k (items qs)
+take_same : (p : Piece) (qs rest : List Piece) (left k : ℕ) → k ≡ left - item_count p
+    → items rest ≡ drop left (items_of p) ++ items qs → take k (items rest) ≡ take k (items qs)
 take_same p qs rest left zero is back = refl
 take_same p qs rest left (suc k) is back = ap (take (suc k)) (whole_rest p qs rest left back (omega arith))
 
-pub next_front : (taken more rs qs rest : List Piece) (p : Piece) (left k : ℕ) (whole : List Item) → rs ≡ p ∷ qs → k ≡ left - item_count p → items rest ≡ drop left (items_of p) ++ items qs
+pub next_front : (taken more rs qs rest : List Piece) (p : Piece) (left k : ℕ) (whole : List Item) → rs ≡ p ∷ qs
+    → k ≡ left - item_count p → items rest ≡ drop left (items_of p) ++ items qs
     → items more ≡ items taken ++ take left (items_of p) → items taken ++ take left (items rs) ≡ whole → items more ++ take k (items rest) ≡ whole
 next_front taken more rs qs rest p left k whole e is back front had =
     ap (λ xs. items more ++ xs) (take_same p qs rest left k is back)
     ∙ front_next taken more (p ∷ qs) 0 left k p whole (omega arith) front is (ap (λ ps. items taken ++ take left (items ps)) (sym e) ∙ had)
 
-drop_same : (p : Piece) (qs rest : List Piece) (left k : ℕ) → k ≡ left - item_count p → items rest ≡ drop left (items_of p) ++ items qs → drop k (items rest) ≡ drop left (items_of p) ++ drop k (items qs)
+drop_same : (p : Piece) (qs rest : List Piece) (left k : ℕ) → k ≡ left - item_count p
+    → items rest ≡ drop left (items_of p) ++ items qs → drop k (items rest) ≡ drop left (items_of p) ++ drop k (items qs)
 drop_same p qs rest left zero is back = back
 drop_same p qs rest left (suc k) is back =
     ap (drop (suc k)) (whole_rest p qs rest left back (omega arith)) ∙ ap (λ xs. xs ++ drop (suc k) (items qs)) (sym (whole_back p left (omega arith)))
 
-pub next_back : (rs qs rest : List Piece) (p : Piece) (left k : ℕ) (whole : List Item) → rs ≡ p ∷ qs → k ≡ left - item_count p → items rest ≡ drop left (items_of p) ++ items qs → drop left (items rs) ≡ whole → drop k (items rest) ≡ whole
+pub next_back : (rs qs rest : List Piece) (p : Piece) (left k : ℕ) (whole : List Item) → rs ≡ p ∷ qs → k ≡ left - item_count p
+    → items rest ≡ drop left (items_of p) ++ items qs → drop left (items rs) ≡ whole → drop k (items rest) ≡ whole
 next_back rs qs rest p left k whole e is back had =
     drop_same p qs rest left k is back
     ∙ ap (λ m. drop left (items_of p) ++ drop m (items qs)) (is ∙ ap (λ c. left - c) (sym (count_of p)))

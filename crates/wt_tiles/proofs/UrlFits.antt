@@ -25,11 +25,17 @@ pub record SchemeFits (gs : List Glyph) (n : ℕ) : Type 0 where
 no_scheme : (gs : List Glyph) → SchemeFits gs 0
 no_scheme gs = record { within = omega arith; first = λ h. absurd (omega arith); last = λ h. absurd (omega arith) }
 
-scheme_by : (word : List ℕ) (gs : List Glyph) (n m : ℕ) → is_low_word word ≡ true → length word ≡ n → 0 < n → SchemeFits gs m → SchemeFits gs (if begins_like word gs then n else m)
+scheme_by : (word : List ℕ) (gs : List Glyph) (n m : ℕ) → is_low_word word ≡ true → length word ≡ n → 0 < n → SchemeFits gs m
+    → SchemeFits gs (if begins_like word gs then n else m)
 scheme_by word gs n m low e pos f = by (begins_like word gs) (λ h. h)
   where
     by : (t : Bool) → (t ≡ true → begins_like word gs ≡ true) → SchemeFits gs (if t then n else m)
-    by true h = record { within = omega (arith, begins_like_len word gs (h refl)); first = λ _. begins_like_low word gs 0 low (h refl) (omega arith); last = λ _. begins_like_low word gs (n - 1) low (h refl) (omega arith) }
+    by true h = record {
+      within = omega (arith, begins_like_len word gs (h refl));
+      first =
+          λ _. begins_like_low word gs 0 low (h refl) (omega arith);
+      last = λ _. begins_like_low word gs (n - 1) low (h refl) (omega arith);
+    }
     by false h = f
 
 pub scheme_fits : (gs : List Glyph) → SchemeFits gs (scheme_len gs)
@@ -54,7 +60,8 @@ no_url_low glyph.Mark e = refl
 abbrev pub RunEnds : List Glyph → ℕ → Type 0
 RunEnds gs n = (n ≡ length gs) ⊎ (low_at gs n ≡ true)
 
-run_by : (g : Glyph) (gs : List Glyph) (u q : Bool) → (u ≡ false → is_low g ≡ true) → (q ≡ true → is_low g ≡ true) → RunEnds gs (url_run gs) → RunEnds (g ∷ gs) (if u && not q then suc (url_run gs) else 0)
+run_by : (g : Glyph) (gs : List Glyph) (u q : Bool) → (u ≡ false → is_low g ≡ true) → (q ≡ true → is_low g ≡ true)
+    → RunEnds gs (url_run gs) → RunEnds (g ∷ gs) (if u && not q then suc (url_run gs) else 0)
 run_by g gs true true f h r = inr (h refl)
 run_by g gs true false f h (inl e) = inl (omega arith)
 run_by g gs true false f h (inr low) = inr low
@@ -62,7 +69,8 @@ run_by g gs false q f h r = inr (f refl)
 
 pub run_ends : (gs : List Glyph) → RunEnds gs (url_run gs)
 run_ends [] = inl refl
-run_ends (g ∷ gs) = run_by g gs (is_url_glyph g) (begins (codes "''") (g ∷ gs)) (no_url_low g) (λ e. begins_low (codes "''") (g ∷ gs) 0 refl e (omega arith)) (run_ends gs)
+run_ends (g ∷ gs) = run_by g gs (is_url_glyph g) (begins (codes "''") (g ∷ gs)) (no_url_low g)
+    (λ e. begins_low (codes "''") (g ∷ gs) 0 refl e (omega arith)) (run_ends gs)
 
 pub url_run_le : (gs : List Glyph) → url_run gs ≤ length gs
 url_run_le [] = omega arith
@@ -82,15 +90,25 @@ later_edge gs n m k le e (inr low) = edge_at gs (n + m) k e (sym (low_drop n m g
 
 -- ---- external links
 
-ext_text : (gs : List Glyph) (m : ℕ) (o : Option ℕ) → 0 < m → low_at gs 0 ≡ true → IsEdge gs m → OptPlace (first_is (class.Only 93)) (drop m gs) o → OptFits gs (option_map (ext_shape m) o)
+ext_text : (gs : List Glyph) (m : ℕ) (o : Option ℕ) → 0 < m → low_at gs 0 ≡ true → IsEdge gs m
+    → OptPlace (first_is (class.Only 93)) (drop m gs) o → OptFits gs (option_map (ext_shape m) o)
 ext_text gs m None pos first edge f = tt
 ext_text gs m (Some k) pos first edge (close, below) =
-    let low : low_at gs (m + (k + 0)) ≡ true = sym (low_drop m (k + 0) gs) ∙ sym (low_drop k 0 (drop m gs)) ∙ first_low (class.Only 93) (drop k (drop m gs)) (omega arith) close in
+    let low : low_at gs (m + (k + 0)) ≡ true = sym (low_drop m (k + 0) gs) ∙ sym (low_drop k 0 (drop m gs))
+    ∙ first_low (class.Only 93) (drop k (drop m gs)) (omega arith) close in
     record {
       some = omega arith;
       within = omega (arith, length-drop m gs);
       form = tt;
-      edges = record { start = first; opening = edge; inside = edge_at gs (m + (k + 0)) (m + k) (omega arith) low; closing = edge_after gs (m + (k + 0)) (m + k + 1) (omega arith) low; trail = edge_after gs (m + (k + 0)) (m + k + 1 + 0) (omega arith) low };
+      edges = record {
+        start = first;
+        opening = edge;
+        inside = edge_at gs (m + (k + 0)) (m + k) (omega arith) low;
+        closing =
+            edge_after gs (m + (k + 0)) (m + k + 1) (omega arith) low;
+        trail =
+            edge_after gs (m + (k + 0)) (m + k + 1 + 0) (omega arith) low;
+      };
     }
 
 blank_edge : (gs : List Glyph) (n b : ℕ) → IsEdge gs n → ((i : ℕ) → i < b → low_at gs (n + i) ≡ true) → IsEdge gs (n + b)
@@ -101,7 +119,8 @@ ext_after : (gs : List Glyph) (n : ℕ) → 0 < n → low_at gs 0 ≡ true → I
 ext_after gs n pos first edge =
     let b = run_len class.Blank (drop n gs) in
     let blanks : (i : ℕ) → i < b → low_at gs (n + i) ≡ true = λ i below. sym (low_drop n i gs) ∙ run_low class.Blank (drop n gs) i tt below in
-    ext_text gs (n + b) (text_len (drop (n + b) gs)) (omega arith) first (blank_edge gs n b edge blanks) (place_fits (first_is (class.Only 93)) (first_is (class.Only 91)) (drop (n + b) gs))
+    ext_text gs (n + b) (text_len (drop (n + b) gs)) (omega arith) first (blank_edge gs n b edge blanks)
+    (place_fits (first_is (class.Only 93)) (first_is (class.Only 91)) (drop (n + b) gs))
 
 ext_of : (gs : List Glyph) (s m : ℕ) → low_at gs 0 ≡ true → (0 < s → 0 < m → IsEdge gs (1 + s + m)) → OptFits gs (ext_link_of s m gs)
 ext_of gs s m first edge =
@@ -151,7 +170,8 @@ kept_by p us (suc k) low e =
     let passes = prefix_len_passes (is_in p) (reverse us) k glyph.Mark (omega arith) in
     let there : get_or (reverse us) k glyph.Mark ≡ get_or us (length us - 1 - k) glyph.Mark = get_or-reverse us k glyph.Mark (omega arith) in
     let z : length us - 1 - k ≡ length us - suc k = omega arith in
-    let at : is_in p (get_or us (length us - suc k) glyph.Mark) ≡ true = ap (λ m. is_in p (get_or us m glyph.Mark)) (sym z) ∙ ap (is_in p) (sym there) ∙ passes in
+    let at : is_in p (get_or us (length us - suc k) glyph.Mark) ≡ true = ap (λ m. is_in p (get_or us m glyph.Mark)) (sym z)
+    ∙ ap (is_in p) (sym there) ∙ passes in
     inr (low_get us (length us - suc k) glyph.Mark (omega arith) (in_low p _ low at))
 
 kept_ends : (us : List Glyph) → RunEnds us (kept_len us)
@@ -180,7 +200,15 @@ bare_of gs s k f within edge =
       some = omega arith;
       within = omega arith;
       form = tt;
-      edges = record { start = first; opening = edge_at gs 0 0 refl first; inside = edge_same gs (s + k) (0 + (s + k)) (omega arith) edge; closing = edge_same gs (s + k) (0 + (s + k) + 0) (omega arith) edge; trail = edge_same gs (s + k) (0 + (s + k) + 0 + 0) (omega arith) edge };
+      edges = record {
+        start = first;
+        opening = edge_at gs 0 0 refl first;
+        inside =
+            edge_same gs (s + k) (0 + (s + k)) (omega arith) edge;
+        closing = edge_same gs (s + k) (0 + (s + k) + 0)
+            (omega arith) edge;
+        trail = edge_same gs (s + k) (0 + (s + k) + 0 + 0) (omega arith) edge;
+      };
     })
 
 pub bare_fits : (after : Bool) (gs : List Glyph) → OptFits gs (bare_url_at after gs)
@@ -191,4 +219,5 @@ bare_fits false gs =
     let us = url_items gs in
     let f = scheme_fits gs in
     let ends = items_end (drop s gs) (kept_len us) (kept_ends us) in
-    bare_of gs s (kept_len us) f (omega (arith, kept_le us, url_items_len gs, url_run_le (drop s gs), length-drop s gs, f.within)) (later_edge gs s (kept_len us) (s + kept_len us) f.within refl ends)
+    bare_of gs s (kept_len us) f (omega (arith, kept_le us, url_items_len gs, url_run_le (drop s gs), length-drop s gs, f.within))
+    (later_edge gs s (kept_len us) (s + kept_len us) f.within refl ends)

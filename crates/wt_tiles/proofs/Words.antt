@@ -128,7 +128,8 @@ pub begins_like_low : (word : List ℕ) (gs : List Glyph) (k : ℕ) → is_low_w
 begins_like_low [] gs k h e below = absurd (omega arith)
 begins_like_low (b ∷ word) [] k h e below = false_true e
 begins_like_low (b ∷ word) (g ∷ gs) zero h e below =
-    in_low (λ c. to_ascii_lowercase c == b) g (like_low b (lt_is b 128 (and_left (is_low_byte b) _ h))) (and_left (is_in (λ c. to_ascii_lowercase c == b) g) _ e)
+    in_low (λ c. to_ascii_lowercase c == b) g (like_low b (lt_is b 128 (and_left (is_low_byte b) _ h)))
+    (and_left (is_in (λ c. to_ascii_lowercase c == b) g) _ e)
 begins_like_low (b ∷ word) (g ∷ gs) (suc k) h e below =
     begins_like_low word gs k (and_right (is_low_byte b) _ h) (and_right (is_in (λ c. to_ascii_lowercase c == b) g) _ e) (omega arith)
 

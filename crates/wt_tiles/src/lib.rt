@@ -15,8 +15,6 @@ mod shape;
 mod switch;
 mod tag;
 mod target;
-#[cfg(test)]
-mod tests;
 mod tile;
 mod url;
 

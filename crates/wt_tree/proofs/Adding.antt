@@ -24,7 +24,8 @@ adds_none a = record { text = sym (append-nil a.text.items); brackets = sym (app
 
 pub adds_more : (a b c : Shown) (s t : List Sign) → Adds a b s → Adds b c t → Adds a c (s ++ t)
 adds_more a b c s t h k = record {
-  text = k.text ∙ ap (λ xs. xs ++ bytes_in t) h.text ∙ append_assoc a.text.items (bytes_in s) (bytes_in t) ∙ ap (λ xs. a.text.items ++ xs) (sym (bytes_join s t));
+  text = k.text ∙ ap (λ xs. xs ++ bytes_in t) h.text ∙ append_assoc a.text.items (bytes_in s) (bytes_in t)
+      ∙ ap (λ xs. a.text.items ++ xs) (sym (bytes_join s t));
   brackets =
       let n : length b.text.items ≡ length a.text.items + length (bytes_in s) = ap length h.text ∙ length-append a.text.items (bytes_in s) in
       k.brackets ∙ ap (λ xs. xs ++ brackets_in (length b.text.items) t) h.brackets
@@ -37,14 +38,17 @@ pub adds_text : (a b : Shown) (bs : List ℕ) → b.text.items ≡ a.text.items 
 adds_text a b bs e f = record {
   text = e ∙ ap (λ xs. a.text.items ++ xs) (sym (bytes_of_text bs));
   brackets =
-      ap brackets_of f ∙ sym (append-nil (brackets_of a.brackets.items)) ∙ ap (λ xs. brackets_of a.brackets.items ++ xs) (sym (brackets_of_text (length a.text.items) bs));
+      ap brackets_of f ∙ sym (append-nil (brackets_of a.brackets.items)) ∙ ap (λ xs. brackets_of a.brackets.items ++ xs)
+      (sym (brackets_of_text (length a.text.items) bs));
 }
 
 -- a node by what its kind shows
 pub signs_shown : (n : Node) → signs (view n) ≡ signs_by (showing (out-Node n).kind) (label_of (out-Node n)) (signs_of_all (views (out-Node n).children))
 signs_shown n = rw (view_out n)
 
-pub signs_element : (n : Node) (a b c d : Shown) → showing (out-Node n).kind ≡ Element → Adds a b (bracket (opens (face (label_of (out-Node n)))) ∷ []) → Adds b c (signs_of_all (views (out-Node n).children)) → Adds c d (bracket closes ∷ [])
+pub signs_element : (n : Node) (a b c d : Shown) → showing (out-Node n).kind ≡ Element
+    → Adds a b (bracket (opens (face (label_of (out-Node n)))) ∷ []) → Adds b c (signs_of_all (views (out-Node n).children))
+    → Adds c d (bracket closes ∷ [])
     → Adds a d (signs (view n))
 signs_element n a b c d e h k l =
     let f : signs (view n) ≡ bracket (opens (face (label_of (out-Node n)))) ∷ (signs_of_all (views (out-Node n).children) ++ (bracket closes ∷ [])) =
@@ -57,12 +61,14 @@ signs_views [] = refl
 signs_views (n ∷ ns) = ap (λ s. signs (view n) ++ s) (signs_views ns)
 
 -- one turn of the loop over the children
-pub adds_turn : (a b c : Shown) (xs : List Node) (i : ℕ) (x : Node) → i < length xs → x ≡ get_or xs i x → Adds a b (flat_map (λ n. signs (view n)) (take i xs)) → Adds b c (signs (view x))
+pub adds_turn : (a b c : Shown) (xs : List Node) (i : ℕ) (x : Node) → i < length xs → x ≡ get_or xs i x
+    → Adds a b (flat_map (λ n. signs (view n)) (take i xs)) → Adds b c (signs (view x))
     → Adds a c (flat_map (λ n. signs (view n)) (take (i + 1) xs))
 adds_turn a b c xs i x lt is h k =
     let f : Node → List Sign = λ n. signs (view n) in
     let e : flat_map f (take (i + 1) xs) ≡ flat_map f (take i xs) ++ signs (view x) =
-    ap (flat_map f) (take_more xs i x lt ∙ ap (λ y. take i xs ++ y ∷ []) (sym is)) ∙ flat_map-append f (take i xs) (x ∷ []) ∙ ap (λ s. flat_map f (take i xs) ++ s) (append-nil (signs (view x))) in
+    ap (flat_map f) (take_more xs i x lt ∙ ap (λ y. take i xs ++ y ∷ []) (sym is)) ∙ flat_map-append f (take i xs) (x ∷ [])
+    ∙ ap (λ s. flat_map f (take i xs) ++ s) (append-nil (signs (view x))) in
     rw e (adds_more a b c (flat_map f (take i xs)) (signs (view x)) h k)
 
 -- two lists of brackets, from a place on
@@ -79,7 +85,9 @@ same_from xs ys i x y m n a b =
     )
 
 -- two plain views are the same where their characters and brackets are
-pub plain_decides : (t u : Tree) (a b : Shown) (same : Bool) → IsShownOf t a → IsShownOf u b → Decides same ((brackets_of a.brackets.items ≡ brackets_of b.brackets.items) × (a.text.items ≡ b.text.items)) → Decides same (plain t ≡ plain u)
+pub plain_decides : (t u : Tree) (a b : Shown) (same : Bool) → IsShownOf t a → IsShownOf u b
+    → Decides same ((brackets_of a.brackets.items ≡ brackets_of b.brackets.items) × (a.text.items ≡ b.text.items))
+    → Decides same (plain t ≡ plain u)
 plain_decides t u a b same h k d = (
   λ e. let p = d.0 e in same_plain t u (one_stream 0 (signs t) (signs u) (sym h.text ∙ p.1 ∙ k.text) (sym h.brackets ∙ p.0 ∙ k.brackets)),
   λ e. let s = same_signs t u e in d.1 (h.brackets ∙ ap (brackets_in 0) s ∙ sym k.brackets, h.text ∙ ap bytes_in s ∙ sym k.text),
@@ -98,10 +106,12 @@ attrs_one (x ∷ xs) (y ∷ ys) e =
     cc (w, attrs_one xs ys t)
 
 -- the parts of a face
-pub face_parts : (m n : Node) → face (label_of (out-Node m)) ≡ face (label_of (out-Node n)) → ((out-Node m).kind ≡ (out-Node n).kind) × ((out-Node m).attrs ≡ (out-Node n).attrs) × ((out-Node m).mw ≡ (out-Node n).mw)
+pub face_parts : (m n : Node) → face (label_of (out-Node m)) ≡ face (label_of (out-Node n))
+    → ((out-Node m).kind ≡ (out-Node n).kind) × ((out-Node m).attrs ≡ (out-Node n).attrs) × ((out-Node m).mw ≡ (out-Node n).mw)
 face_parts m n e = (ap (λ (f : Face). f.kind) e, attrs_one (out-Node m).attrs (out-Node n).attrs (ap (λ (f : Face). f.attrs) e), ap (λ (f : Face). f.mw) e)
 
-pub face_whole : (m n : Node) → (out-Node m).kind ≡ (out-Node n).kind → (out-Node m).attrs ≡ (out-Node n).attrs → (out-Node m).mw ≡ (out-Node n).mw → face (label_of (out-Node m)) ≡ face (label_of (out-Node n))
+pub face_whole : (m n : Node) → (out-Node m).kind ≡ (out-Node n).kind → (out-Node m).attrs ≡ (out-Node n).attrs
+    → (out-Node m).mw ≡ (out-Node n).mw → face (label_of (out-Node m)) ≡ face (label_of (out-Node n))
 face_whole m n k a w = λ i. record { kind = k i; attrs = attrs_of (a i); mw = w i }
 
 -- what decides the rest decides both, where the first is known

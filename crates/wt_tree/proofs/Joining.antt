@@ -27,9 +27,12 @@ mutual
 
   joined_before_again : (p : Plain) (ps : Plains) → joined (joined ps) ≡ joined ps → joined (joined_before p (joined ps)) ≡ joined_before p (joined ps)
   joined_before_again (text bs) ps e = joined_text bs (joined ps) ∙ ap (text_before bs) e
-  joined_before_again (element f qs) ps e = ap (λ xs. along (element f xs) (joined (joined ps))) (joined_again qs) ∙ ap (λ ys. along (element f (joined qs)) ys) e
+  joined_before_again (element f qs) ps e = ap (λ xs. along (element f xs) (joined (joined ps))) (joined_again qs)
+      ∙ ap (λ ys. along (element f (joined qs)) ys) e
 
-by_showing : (s : Showing) (l : Label) (held : Plains → Plains) (rest : Plains) → ((ps : Plains) → joined ps ≡ ps → joined (held ps) ≡ held ps) → joined rest ≡ rest → joined (shown_before s l held rest) ≡ shown_before s l held rest
+by_showing : (s : Showing) (l : Label) (held : Plains → Plains) (rest : Plains)
+    → ((ps : Plains) → joined ps ≡ ps → joined (held ps) ≡ held ps) → joined rest ≡ rest
+    → joined (shown_before s l held rest) ≡ shown_before s l held rest
 by_showing Characters l held rest h e = joined_text l.shown rest ∙ ap (text_before l.shown) e
 by_showing Inside l held rest h e = h rest e
 by_showing Nothing l held rest h e = e
@@ -46,7 +49,8 @@ mutual
 pub plain_joined : (t : Tree) → joined (plain t) ≡ plain t
 plain_joined t = joined_plain t ended refl
 
-like_by : (s : Showing) (l m : Label) (held : Plains → Plains) (rest : Plains) → l.shown ≡ m.shown → face l ≡ face m → shown_before s l held rest ≡ shown_before s m held rest
+like_by : (s : Showing) (l m : Label) (held : Plains → Plains) (rest : Plains) → l.shown ≡ m.shown → face l ≡ face m
+    → shown_before s l held rest ≡ shown_before s m held rest
 like_by Characters l m held rest e f = ap (λ bs. text_before bs rest) e
 like_by Inside l m held rest e f = refl
 like_by Nothing l m held rest e f = refl

@@ -29,7 +29,8 @@ pub found_below : (n : Node) (id : ℕ) → ((out-Node n).id == id) ≡ false �
 found_below n id e = rw (view_out n, e)
 
 -- one turn of the loop over the children
-pub found_turn : (id i : ℕ) (xs : List Node) (child : Node) → i < length xs → child ≡ get_or xs i child → found_in_all id (drop i xs) ≡ option_or (found_in id (view child)) (found_in_all id (drop (i + 1) xs))
+pub found_turn : (id i : ℕ) (xs : List Node) (child : Node) → i < length xs → child ≡ get_or xs i child
+    → found_in_all id (drop i xs) ≡ option_or (found_in id (view child)) (found_in_all id (drop (i + 1) xs))
 found_turn id i xs child lt is =
     at_drop_more (found_in_all id) xs i child lt
     ∙ ap (λ c. found_in_all id (c ∷ drop (i + 1) xs)) (sym is)

@@ -72,14 +72,189 @@ tag_decides x y =
     (λ e. ap (λ (n : TagName). (n, tt)) (same_true the_type tt x.0 y.0 e), λ e. true_same the_type x.0 y.0 (ap (λ (p : TagName × Unit {0}). p.0) e))
 
 abbrev tests : Each Bool the_parts
-tests = (unit_test, (unit_test, (level_test, (unit_test, (unit_test, (unit_test, (unit_test, (unit_test, (unit_test, (unit_test, (unit_test, (unit_test, (unit_test, (unit_test, (unit_test, (unit_test, (unit_test, (unit_test, (unit_test, (unit_test, (unit_test, (unit_test, (tag_test, (unit_test, (unit_test, (unit_test, (unit_test, (unit_test, (unit_test, (unit_test, (unit_test, (unit_test, (unit_test, (unit_test, (unit_test, tt)))))))))))))))))))))))))))))))))))
+tests = (
+  unit_test,
+  (
+    unit_test,
+    (
+      level_test,
+      (
+        unit_test,
+        (
+          unit_test,
+          (
+            unit_test,
+            (
+              unit_test,
+              (
+                unit_test,
+                (
+                  unit_test,
+                  (
+                    unit_test,
+                    (
+                      unit_test,
+                      (
+                        unit_test,
+                        (
+                          unit_test,
+                          (
+                            unit_test,
+                            (
+                              unit_test,
+                              (
+                                unit_test,
+                                (
+                                  unit_test,
+                                  (
+                                    unit_test,
+                                    (
+                                      unit_test,
+                                      (
+                                        unit_test,
+                                        (
+                                          unit_test,
+                                          (
+                                            unit_test,
+                                            (
+                                              tag_test,
+                                              (
+                                                unit_test,
+                                                (
+                                                  unit_test,
+                                                  (
+                                                    unit_test,
+                                                    (
+                                                      unit_test,
+                                                      (
+                                                        unit_test,
+                                                        (unit_test, (unit_test, (unit_test, (unit_test, (unit_test, (unit_test, (unit_test, tt))))))),
+                                                      ),
+                                                    ),
+                                                  ),
+                                                ),
+                                              ),
+                                            ),
+                                          ),
+                                        ),
+                                      ),
+                                    ),
+                                  ),
+                                ),
+                              ),
+                            ),
+                          ),
+                        ),
+                      ),
+                    ),
+                  ),
+                ),
+              ),
+            ),
+          ),
+        ),
+      ),
+    ),
+  ),
+)
 
 each_decides : EachDecides the_parts tests
-each_decides = (unit_decides, (unit_decides, (level_decides, (unit_decides, (unit_decides, (unit_decides, (unit_decides, (unit_decides, (unit_decides, (unit_decides, (unit_decides, (unit_decides, (unit_decides, (unit_decides, (unit_decides, (unit_decides, (unit_decides, (unit_decides, (unit_decides, (unit_decides, (unit_decides, (unit_decides, (tag_decides, (unit_decides, (unit_decides, (unit_decides, (unit_decides, (unit_decides, (unit_decides, (unit_decides, (unit_decides, (unit_decides, (unit_decides, (unit_decides, (unit_decides, tt)))))))))))))))))))))))))))))))))))
+each_decides = (
+  unit_decides,
+  (
+    unit_decides,
+    (
+      level_decides,
+      (
+        unit_decides,
+        (
+          unit_decides,
+          (
+            unit_decides,
+            (
+              unit_decides,
+              (
+                unit_decides,
+                (
+                  unit_decides,
+                  (
+                    unit_decides,
+                    (
+                      unit_decides,
+                      (
+                        unit_decides,
+                        (
+                          unit_decides,
+                          (
+                            unit_decides,
+                            (
+                              unit_decides,
+                              (
+                                unit_decides,
+                                (
+                                  unit_decides,
+                                  (
+                                    unit_decides,
+                                    (
+                                      unit_decides,
+                                      (
+                                        unit_decides,
+                                        (
+                                          unit_decides,
+                                          (
+                                            unit_decides,
+                                            (
+                                              tag_decides,
+                                              (
+                                                unit_decides,
+                                                (
+                                                  unit_decides,
+                                                  (
+                                                    unit_decides,
+                                                    (
+                                                      unit_decides,
+                                                      (
+                                                        unit_decides,
+                                                        (
+                                                          unit_decides,
+                                                          (
+                                                            unit_decides,
+                                                            (unit_decides, (unit_decides, (unit_decides, (unit_decides, (unit_decides, tt))))),
+                                                          ),
+                                                        ),
+                                                      ),
+                                                    ),
+                                                  ),
+                                                ),
+                                              ),
+                                            ),
+                                          ),
+                                        ),
+                                      ),
+                                    ),
+                                  ),
+                                ),
+                              ),
+                            ),
+                          ),
+                        ),
+                      ),
+                    ),
+                  ),
+                ),
+              ),
+            ),
+          ),
+        ),
+      ),
+    ),
+  ),
+)
 
 pub kind_decides : (a b : Kind) → Decides (eq-value.it a b) (a ≡ b)
 kind_decides a b =
-    Decides-like (eq-value.it a b) (λ e. sym (the_eta a) ∙ ap the_make e ∙ the_eta b) (λ e. ap as_values e) (by_decides the_parts tests each_decides (as_values a) (as_values b))
+    Decides-like (eq-value.it a b) (λ e. sym (the_eta a) ∙ ap the_make e ∙ the_eta b) (λ e. ap as_values e)
+    (by_decides the_parts tests each_decides (as_values a) (as_values b))
 
 -- derived tests of the other types
 pub option_decides : {A : Type 0} (E : A → A → Bool) → ((x y : A) → Decides (E x y) (x ≡ y)) → (a b : Option A) → Decides (option_eq E a b) (a ≡ b)

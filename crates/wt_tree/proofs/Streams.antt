@@ -84,10 +84,12 @@ text_signs : (bs : List ℕ) (ps : Plains) → plain_signs (text_before bs ps) �
 text_signs [] ps = refl
 text_signs (b ∷ bs) ended = refl
 text_signs (b ∷ bs) (along (text cs) ps) =
-    ap (λ (ss : List Sign). byte b ∷ (ss ++ plain_signs ps)) (map-append byte bs cs) ∙ ap (λ (ss : List Sign). byte b ∷ ss) (append_assoc (map byte bs) (map byte cs) (plain_signs ps))
+    ap (λ (ss : List Sign). byte b ∷ (ss ++ plain_signs ps)) (map-append byte bs cs)
+    ∙ ap (λ (ss : List Sign). byte b ∷ ss) (append_assoc (map byte bs) (map byte cs) (plain_signs ps))
 text_signs (b ∷ bs) (along (element f qs) ps) = refl
 
-signs_before_by : (s : Showing) (l : Label) (held : Plains → Plains) (inner : List Sign) (rest : Plains) → ((ps : Plains) → plain_signs (held ps) ≡ inner ++ plain_signs ps)
+signs_before_by : (s : Showing) (l : Label) (held : Plains → Plains) (inner : List Sign) (rest : Plains)
+    → ((ps : Plains) → plain_signs (held ps) ≡ inner ++ plain_signs ps)
     → plain_signs (shown_before s l held rest) ≡ signs_by s l inner ++ plain_signs rest
 signs_before_by Characters l held inner rest h = text_signs l.shown rest
 signs_before_by Inside l held inner rest h = h rest
@@ -103,7 +105,8 @@ mutual
   pub all_signs_before : (ts : Trees) (rest : Plains) → plain_signs (plains_before ts rest) ≡ signs_of_all ts ++ plain_signs rest
   all_signs_before none rest = refl
   all_signs_before (more t ts) rest =
-      signs_before t (plains_before ts rest) ∙ ap (λ r. signs t ++ r) (all_signs_before ts rest) ∙ sym (append_assoc (signs t) (signs_of_all ts) (plain_signs rest))
+      signs_before t (plains_before ts rest) ∙ ap (λ r. signs t ++ r) (all_signs_before ts rest)
+      ∙ sym (append_assoc (signs t) (signs_of_all ts) (plain_signs rest))
 
 -- no text is empty, and none stands beside another
 abbrev begins_text : Plains → Bool
@@ -126,7 +129,8 @@ normal_text (b ∷ bs) ended h = ((omega arith, refl), tt)
 normal_text (b ∷ bs) (along (text cs) ps) h = ((omega arith, h.0.1), h.1)
 normal_text (b ∷ bs) (along (element f qs) ps) h = ((omega arith, refl), h)
 
-normal_by : (s : Showing) (l : Label) (held : Plains → Plains) (rest : Plains) → ((ps : Plains) → Normal ps → Normal (held ps)) → Normal rest → Normal (shown_before s l held rest)
+normal_by : (s : Showing) (l : Label) (held : Plains → Plains) (rest : Plains) → ((ps : Plains) → Normal ps → Normal (held ps))
+    → Normal rest → Normal (shown_before s l held rest)
 normal_by Characters l held rest h n = normal_text l.shown rest n
 normal_by Inside l held rest h n = h rest n
 normal_by Nothing l held rest h n = n
@@ -169,12 +173,15 @@ one_text (b ∷ bs) (c ∷ cs) s t m n e =
     let r = one_text bs cs s t m n y in
     (cc (x, r.0), r.1)
 
-regroup : (f g : Face) (rs ws ps qs s t : List Sign) → ((bracket (opens f) ∷ (rs ++ (bracket closes ∷ []))) ++ ps) ++ s ≡ ((bracket (opens g) ∷ (ws ++ (bracket closes ∷ []))) ++ qs) ++ t
+regroup : (f g : Face) (rs ws ps qs s t : List Sign) → ((bracket (opens f) ∷ (rs ++ (bracket closes ∷ []))) ++ ps) ++ s
+    ≡ ((bracket (opens g) ∷ (ws ++ (bracket closes ∷ []))) ++ qs) ++ t
     → (f ≡ g) × (rs ++ (bracket closes ∷ (ps ++ s)) ≡ ws ++ (bracket closes ∷ (qs ++ t)))
 regroup f g rs ws ps qs s t e =
-    let one : (x : Face) (xs ys zs : List Sign) → ((bracket (opens x) ∷ (xs ++ (bracket closes ∷ []))) ++ ys) ++ zs ≡ bracket (opens x) ∷ (xs ++ (bracket closes ∷ (ys ++ zs))) =
+    let one : (x : Face) (xs ys zs : List Sign) → ((bracket (opens x) ∷ (xs ++ (bracket closes ∷ []))) ++ ys) ++ zs
+    ≡ bracket (opens x) ∷ (xs ++ (bracket closes ∷ (ys ++ zs))) =
     λ x xs ys zs. simp append_assoc in
-    let h : bracket (opens f) ∷ (rs ++ (bracket closes ∷ (ps ++ s))) ≡ bracket (opens g) ∷ (ws ++ (bracket closes ∷ (qs ++ t))) = sym (one f rs ps s) ∙ e ∙ one g ws qs t in
+    let h : bracket (opens f) ∷ (rs ++ (bracket closes ∷ (ps ++ s))) ≡ bracket (opens g) ∷ (ws ++ (bracket closes ∷ (qs ++ t))) =
+    sym (one f rs ps s) ∙ e ∙ one g ws qs t in
     (cc h, cc h)
 
 after_close : (s t : List Sign) → bracket closes ∷ s ≡ bracket closes ∷ t → s ≡ t
@@ -193,7 +200,8 @@ one_plain (along (text []) ps) ended s t m n p q e = absurd (omega (arith, m.0.0
 one_plain (along (text (b ∷ bs)) ps) ended s t m n p q e = absurd (let P : List Sign → Type 0 = Stops in subst P (sym e) q)
 one_plain (along (element f rs) ps) ended s t m n p q e = absurd (let P : List Sign → Type 0 = Stops in subst P (sym e) q)
 one_plain (along (text bs) ps) (along (text cs) qs) s t m n p q e =
-    let e1 : map byte bs ++ (plain_signs ps ++ s) ≡ map byte cs ++ (plain_signs qs ++ t) = sym (append_assoc (map byte bs) (plain_signs ps) s) ∙ e ∙ append_assoc (map byte cs) (plain_signs qs) t in
+    let e1 : map byte bs ++ (plain_signs ps ++ s) ≡ map byte cs ++ (plain_signs qs ++ t) =
+    sym (append_assoc (map byte bs) (plain_signs ps) s) ∙ e ∙ append_assoc (map byte cs) (plain_signs qs) t in
     let r = one_text bs cs (plain_signs ps ++ s) (plain_signs qs ++ t) (no_byte ps s m.0.1 p) (no_byte qs t n.0.1 q) e1 in
     let k = one_plain ps qs s t m.1 n.1 p q r.1 in
     (cc (r.0, k.0), k.1)
@@ -210,7 +218,8 @@ one_plain (along (element f rs) ps) (along (element g ws) qs) s t m n p q e =
 pub same_plain : (t u : Tree) → signs t ≡ signs u → plain t ≡ plain u
 same_plain t u e =
     let f : plain_signs (plain t) ++ [] ≡ plain_signs (plain u) ++ [] =
-    append-nil (plain_signs (plain t)) ∙ signs_before t ended ∙ append-nil (signs t) ∙ e ∙ sym (append-nil (signs u)) ∙ sym (signs_before u ended) ∙ sym (append-nil (plain_signs (plain u))) in
+    append-nil (plain_signs (plain t)) ∙ signs_before t ended ∙ append-nil (signs t) ∙ e ∙ sym (append-nil (signs u))
+    ∙ sym (signs_before u ended) ∙ sym (append-nil (plain_signs (plain u))) in
     (one_plain (plain t) (plain u) [] [] (normal_before t ended tt) (normal_before u ended tt) tt tt f).0
 
 pub same_signs : (t u : Tree) → plain t ≡ plain u → signs t ≡ signs u

@@ -14,7 +14,8 @@ view_out n = fold_out-Node Tree view_step n
 pub flat_leaf : (n : Node) → is_leaf (out-Node n).kind ≡ true → flat (view n) ≡ texts_of (out-Node n).own
 flat_leaf n e = rw (view_out n, e)
 
-pub flat_inner : (n : Node) → is_leaf (out-Node n).kind ≡ false → flat (view n) ≡ texts_of (out-Node n).opening ++ flat_of_all (views (out-Node n).children) ++ texts_of (out-Node n).closing
+pub flat_inner : (n : Node) → is_leaf (out-Node n).kind ≡ false → flat (view n) ≡ texts_of (out-Node n).opening
+    ++ flat_of_all (views (out-Node n).children) ++ texts_of (out-Node n).closing
 flat_inner n e = rw (view_out n, e)
 
 -- the sources of several nodes are joined

@@ -4,7 +4,7 @@ use Rattle.wt_tree.specs.declared.kind.Showing.TheVariants.{Nothing}
 use Rattle.wt_tree.specs.Kinds.{showing}
 use Rattle.wt_tree.specs.Tree.{Label, Tree, label}
 
--- labels that may differ in number, ranges, delimiters, source and mark alone
+-- labels that may differ in number, ranges, delimiters, source, origin and mark alone
 pub record LikeLabels (l m : Label) : Type 0 where
   pub kind : l.kind ≡ m.kind
   pub shown : l.shown ≡ m.shown

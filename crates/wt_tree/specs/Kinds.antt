@@ -1,6 +1,6 @@
 -- The table of kinds: what a node of each kind is, where it may stand, and how it is spelled. A row
 -- of each for each kind; all that writes, lists, reads or compares nodes goes by these.
-use Rattle.std.specs.Prelude.{ℕ, List, [], ◌∷◌, ◌++◌, Bool, true, false, ◌==◌, ◌||◌, Option, Some, None, codes, decimal}
+use Rattle.std.specs.Prelude.{ℕ, List, [], ◌∷◌, ◌++◌, Bool, true, false, not, ◌==◌, ◌&&◌, ◌||◌, Option, Some, None, codes, decimal}
 use Rattle.wt_tree.specs.declared.kind.Kind.{Kind}
 use Rattle.wt_tree.specs.declared.kind.Kind.TheVariants as kind
 use Rattle.wt_tree.specs.declared.kind.TagName.{TagName}
@@ -12,7 +12,7 @@ use Rattle.wt_tree.specs.declared.row.Writing.TheVariants.{AsText, AsVoid, Round
 use Rattle.wt_tree.specs.declared.kind.Showing.{Showing}
 use Rattle.wt_tree.specs.declared.kind.Showing.TheVariants.{Characters, Inside, Nothing, Element}
 use Rattle.wt_tree.specs.declared.row.Class.{Class}
-use Rattle.wt_tree.specs.declared.row.Class.TheVariants.{Nowhere, Anywhere, Block, List as ListClass, Item, Term, TablePart, TableRow, Cell, Inline, Character}
+use Rattle.wt_tree.specs.declared.row.Class.TheVariants.{Nowhere, Anywhere, Mark, Block, List as ListClass, Item, Term, TablePart, TableRow, Cell, Inline, Character}
 use Rattle.wt_tree.specs.declared.row.Holding.{Holding}
 use Rattle.wt_tree.specs.declared.row.Holding.TheVariants.{NoElements, Blocks, Inlines, Entities, Items, Terms, TableParts, TableRows, Cells, InlinesThenLists, InlinesThenBlocks}
 use Rattle.wt_tree.specs.declared.row.Texts.{Texts}
@@ -62,8 +62,8 @@ shape kind.Entity = row RoundCharacter true true Characters Character NoElements
 shape kind.Nowiki = row RoundChildren false true Inside Inline Entities Page NoData
 shape kind.Island = row RoundChildren true true Element Inline NoElements Page ExtensionTag
 shape kind.Switch = row AsVoid true true Element Anywhere NoElements Page NoData
-shape kind.Comment = row AsVoid true true Nothing Anywhere NoElements Page NoData
-shape kind.Include = row AsVoid true true Nothing Anywhere NoElements Page NoData
+shape kind.Comment = row AsVoid true true Nothing Mark NoElements Page NoData
+shape kind.Include = row AsVoid true true Nothing Mark NoElements Page NoData
 shape kind.Skip = row AsVoid true true Nothing Anywhere NoElements Page NoData
 shape kind.Sep = row AsText true false Nothing Nowhere NoElements Separators NoData
 shape kind.Text = row AsText true false Characters Nowhere NoElements Page NoData
@@ -108,6 +108,7 @@ number_of_class TableRow = 7
 number_of_class Cell = 8
 number_of_class Inline = 9
 number_of_class Character = 10
+number_of_class Mark = 11
 
 abbrev pub is_class : Class → Class → Bool
 is_class c d = number_of_class c == number_of_class d
@@ -125,9 +126,28 @@ admits Cells c = is_class c Cell
 admits InlinesThenLists c = is_class c Inline || (is_class c Character || is_class c ListClass)
 admits InlinesThenBlocks c = is_class c Inline || (is_class c Character || (is_class c Block || is_class c ListClass))
 
+-- marks stand anywhere, too
+abbrev pub is_anywhere : Class → Bool
+is_anywhere c = is_class c Anywhere || is_class c Mark
+
 -- an element of this kind may stand directly in that one
 abbrev pub may_hold : Kind → Kind → Bool
-may_hold parent k = is_class (shape k).class Anywhere || admits (shape parent).holding (shape k).class
+may_hold parent k = is_anywhere (shape k).class || admits (shape parent).holding (shape k).class
+
+-- a comment or an include tag
+abbrev pub is_mark : Kind → Bool
+is_mark k = is_class (shape k).class Mark
+
+-- a block or a list
+abbrev pub is_block : Kind → Bool
+is_block k = is_class (shape k).class Block || is_class (shape k).class ListClass
+
+abbrev pub is_inline : Kind → Bool
+is_inline k = is_class (shape k).class Inline || is_class (shape k).class Character
+
+-- The order of children: behind a block or a list no inline element stands.
+abbrev pub may_follow : Bool → Kind → Bool
+may_follow behind k = not (behind && is_inline k)
 
 -- ---- how it is spelled
 

@@ -1,7 +1,10 @@
+pub mod Cutting
 pub mod Forgets
 pub mod Kinds
 pub mod Look
 pub mod Plain
+pub mod Recut
+pub mod Recutting
 pub mod Shown
 pub mod Source
 pub mod Stream

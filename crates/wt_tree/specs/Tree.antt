@@ -1,14 +1,14 @@
 -- A tree of a page as plain data, which all definitions above speak of: a label and children.
 use Rattle.std.specs.Prelude.{ℕ, List, [], ◌∷◌, ◌++◌}
 use Rattle.std.specs.declared.option.Option.{Option}
+use Rattle.wt_span.specs.declared.origin.Origin.{Origin}
 use Rattle.wt_tree.specs.declared.kind.Kind.{Kind}
 use Rattle.wt_tree.specs.declared.kind.Ranges.{Ranges}
 use Rattle.wt_tree.specs.declared.kind.AttrName.{AttrName}
 use Rattle.wt_tree.specs.declared.kind.Mark.{Mark}
 use Rattle.wt_tree.specs.declared.node.DataMw.{DataMw}
 
--- What a node has beside its children: the fields of a node, its texts by their bytes. Where a
--- leaf's items come from is no part of it, since no reading of a tree asks for that.
+-- What a node has beside its children: the fields of a node, its texts by their bytes.
 pub record Label : Type 0 where
   pub kind : Kind
   pub id : ℕ
@@ -18,6 +18,7 @@ pub record Label : Type 0 where
   pub own : List ℕ
   pub shown : List ℕ
   pub attrs : List (AttrName × List ℕ)
+  pub origin : Option Origin
   pub mark : Mark
   pub mw : Option DataMw
 

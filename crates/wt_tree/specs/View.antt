@@ -27,6 +27,7 @@ label_of n = record {
   own = texts_of n.own;
   shown = n.shown;
   attrs = attrs_of n.attrs;
+  origin = n.origin;
   mark = n.mark;
   mw = n.mw;
 }

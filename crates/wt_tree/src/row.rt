@@ -12,12 +12,14 @@ pub enum Writing {
     Unwritten,
 }
 
-/// Where an element may stand. `Anywhere` is anywhere below the body. `Nowhere` is what stands in no
-/// other element by a row of its own: the body, texts, separators and groups.
+/// Where an element may stand. `Anywhere` is anywhere below the body, and so are comments and include
+/// tags (`Mark`). `Nowhere` is what stands in no other element by a row of its own: the body, texts,
+/// separators and groups.
 #[derive(Clone, Copy, Debug)]
 pub enum Class {
     Nowhere,
     Anywhere,
+    Mark,
     Block,
     List,
     Item,

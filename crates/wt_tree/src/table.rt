@@ -8,7 +8,12 @@ ghost use Rattle.wt_tree.specs.Kinds.{
   showing,
   writing,
   admits,
+  is_anywhere,
   may_hold,
+  is_mark,
+  is_block,
+  is_inline,
+  may_follow,
   spelled,
   tag_name,
   own,
@@ -29,7 +34,7 @@ ghost use Rattle.wt_tree.specs.Kinds.{
 use crate::kind::Showing::{Characters, Element, Inside, Nothing};
 use crate::kind::{AttrName, Kind, Showing, TagName};
 use crate::row::Class::{
-    Anywhere, Block, Cell, Character, Inline, Item, List, Nowhere, TablePart, TableRow, Term,
+    Anywhere, Block, Cell, Character, Inline, Item, List, Mark, Nowhere, TablePart, TableRow, Term,
 };
 use crate::row::Holding::{
     Blocks, Cells, Entities, Inlines, InlinesThenBlocks, InlinesThenLists, Items, NoElements,
@@ -444,12 +449,8 @@ impl Kind {
             Kind::Switch => row(
                 AsVoid, true, true, Element, Anywhere, NoElements, Page, NoData,
             ),
-            Kind::Comment => row(
-                AsVoid, true, true, Nothing, Anywhere, NoElements, Page, NoData,
-            ),
-            Kind::Include => row(
-                AsVoid, true, true, Nothing, Anywhere, NoElements, Page, NoData,
-            ),
+            Kind::Comment => row(AsVoid, true, true, Nothing, Mark, NoElements, Page, NoData),
+            Kind::Include => row(AsVoid, true, true, Nothing, Mark, NoElements, Page, NoData),
             Kind::Skip => row(
                 AsVoid, true, true, Nothing, Anywhere, NoElements, Page, NoData,
             ),
@@ -622,7 +623,43 @@ impl Kind {
         ensures { result ≡ may_hold self inner }
     {
         let class = inner.shape().class;
-        matches!(class, Class::Anywhere) || self.shape().holding.admits(class)
+        class.is_anywhere() || self.shape().holding.admits(class)
+    }
+
+    /// Whether it is a comment or an include tag.
+    pub fn is_mark(self) -> bool
+        ensures { result ≡ is_mark self }
+    {
+        matches!(self.shape().class, Class::Mark)
+    }
+
+    /// Whether it is a block or a list.
+    pub fn is_block(self) -> bool
+        ensures { result ≡ is_block self }
+    {
+        matches!(self.shape().class, Block | List)
+    }
+
+    fn is_inline(self) -> bool
+        ensures { result ≡ is_inline self }
+    {
+        matches!(self.shape().class, Inline | Character)
+    }
+
+    /// Whether an element of this kind may stand where a block or a list stands before it in its
+    /// parent (`behind`), or doesn't: no inline element stands behind a block.
+    pub fn may_follow(self, behind: bool) -> bool
+        ensures { result ≡ may_follow behind self }
+    {
+        !(behind && self.is_inline())
+    }
+}
+
+impl Class {
+    fn is_anywhere(self) -> bool
+        ensures { result ≡ is_anywhere self }
+    {
+        matches!(self, Class::Anywhere | Class::Mark)
     }
 }
 

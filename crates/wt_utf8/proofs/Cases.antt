@@ -15,13 +15,15 @@ cut_short : map begun_len ((195 ∷ []) ∷ (226 ∷ 130 ∷ []) ∷ (240 ∷ 15
 cut_short = refl
 
 -- a surrogate, a number past the last one, overlong forms, and a letter inside a character
-broken_off : map begun_len ((237 ∷ 160 ∷ 128 ∷ []) ∷ (244 ∷ 144 ∷ 128 ∷ 128 ∷ []) ∷ (224 ∷ 159 ∷ 128 ∷ []) ∷ (240 ∷ 143 ∷ 128 ∷ 128 ∷ []) ∷ (195 ∷ 97 ∷ []) ∷ (226 ∷ 130 ∷ 97 ∷ []) ∷ [])
+broken_off : map begun_len ((237 ∷ 160 ∷ 128 ∷ []) ∷ (244 ∷ 144 ∷ 128 ∷ 128 ∷ []) ∷ (224 ∷ 159 ∷ 128 ∷ [])
+    ∷ (240 ∷ 143 ∷ 128 ∷ 128 ∷ []) ∷ (195 ∷ 97 ∷ []) ∷ (226 ∷ 130 ∷ 97 ∷ []) ∷ [])
     ≡ 1 ∷ 1 ∷ 1 ∷ 1 ∷ 1 ∷ 2 ∷ []
 broken_off = refl
 
 -- the whole place, of texts that end badly: FF, the end inside a character, a surrogate, a number past the last one, an
 -- overlong form, a letter inside a character
-places : map not_utf8_place ((97 ∷ 255 ∷ []) ∷ (97 ∷ 195 ∷ []) ∷ (226 ∷ 130 ∷ []) ∷ (237 ∷ 160 ∷ 128 ∷ []) ∷ (244 ∷ 144 ∷ 128 ∷ 128 ∷ []) ∷ (192 ∷ 128 ∷ []) ∷ (97 ∷ 195 ∷ 97 ∷ []) ∷ (111 ∷ 107 ∷ 32 ∷ 240 ∷ 159 ∷ 152 ∷ []) ∷ [])
+places : map not_utf8_place ((97 ∷ 255 ∷ []) ∷ (97 ∷ 195 ∷ []) ∷ (226 ∷ 130 ∷ []) ∷ (237 ∷ 160 ∷ 128 ∷ [])
+    ∷ (244 ∷ 144 ∷ 128 ∷ 128 ∷ []) ∷ (192 ∷ 128 ∷ []) ∷ (97 ∷ 195 ∷ 97 ∷ []) ∷ (111 ∷ 107 ∷ 32 ∷ 240 ∷ 159 ∷ 152 ∷ []) ∷ [])
     ≡ Some 1 ∷ Some 2 ∷ Some 2 ∷ Some 1 ∷ Some 1 ∷ Some 0 ∷ Some 2 ∷ Some 6 ∷ []
 unfolding not_utf8_place utf8_valid_len is_utf8 chars encode
 places = refl

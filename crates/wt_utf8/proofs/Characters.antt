@@ -38,7 +38,8 @@ completed low high (suc n) (b ∷ bs) h = more_by low high n b bs (between low h
 
 -- ---- what follows to its end is whole
 
-whole_last : (low high b : ℕ) (bs : List ℕ) (t : Bool) → between low high b ≡ t → (if t then suc zero else zero) ≡ suc zero → IsFollow low high 0 (take 1 (b ∷ bs))
+whole_last : (low high b : ℕ) (bs : List ℕ) (t : Bool) → between low high b ≡ t → (if t then suc zero else zero) ≡ suc zero
+    → IsFollow low high 0 (take 1 (b ∷ bs))
 whole_last low high b bs true e h = (e, refl)
 whole_last low high b bs false e h = absurd (omega arith)
 
@@ -54,7 +55,8 @@ whole low high (suc n) (b ∷ bs) h = whole_more low high n b bs (between low hi
 
 -- ---- no character goes on past what may follow
 
-pub blocked : (low high n : ℕ) (bs es w more : List ℕ) (k : ℕ) → IsFollow low high n es → es ++ w ≡ take k bs ++ more → following_len low high n bs < k → k ≤ length bs
+pub blocked : (low high n : ℕ) (bs es w more : List ℕ) (k : ℕ) → IsFollow low high n es → es ++ w ≡ take k bs ++ more
+    → following_len low high n bs < k → k ≤ length bs
     → (following_len low high n bs ≡ suc n → ⊥) → ⊥
 blocked low high n [] es w more k f e lt le half = absurd (omega arith)
 blocked low high n (b ∷ bs) es w more zero f e lt le half = absurd (omega arith)
@@ -66,7 +68,8 @@ blocked low high zero (b ∷ bs) (x ∷ es) w more (suc k) f e lt le half =
 blocked low high (suc n) (b ∷ bs) (x ∷ es) w more (suc k) f e lt le half =
     let same : x ≡ b = cc in
     let others : es ++ w ≡ take k bs ++ more = cc in
-    let one : following_len low high (suc n) (b ∷ bs) ≡ suc (following_len 128 191 n bs) = if_true (between low high b) (suc (following_len 128 191 n bs)) zero (sym (ap (between low high) same) ∙ f.0) in
+    let one : following_len low high (suc n) (b ∷ bs) ≡ suc (following_len 128 191 n bs) =
+    if_true (between low high b) (suc (following_len 128 191 n bs)) zero (sym (ap (between low high) same) ∙ f.0) in
     blocked 128 191 n bs es w more k f.1 others (omega arith) (omega arith) (λ h. half (one ∙ ap suc h))
 
 -- ---- the table

@@ -83,7 +83,8 @@ ill_by bytes v valid u =
 front_by : (bytes : List ℕ) (v n : ℕ) (more : List ℕ) → IsValidUpTo bytes v → IsUtf8 (take n (drop v bytes) ++ more) → BeginsText (take (v + n) bytes)
 front_by bytes v n more valid u =
     let P : List ℕ → Type 0 = IsUtf8 in
-    let same : take v bytes ++ (take n (drop v bytes) ++ more) ≡ take (v + n) bytes ++ more = sym (append_assoc (take v bytes) (take n (drop v bytes)) more) ∙ ap (λ q. q ++ more) (sym (take-add v n bytes)) in
+    let same : take v bytes ++ (take n (drop v bytes) ++ more) ≡ take (v + n) bytes ++ more =
+    sym (append_assoc (take v bytes) (take n (drop v bytes)) more) ∙ ap (λ q. q ++ more) (sym (take-add v n bytes)) in
     (more, subst P same (IsUtf8-append _ _ valid.front u))
 
 -- what begins no text there
@@ -95,8 +96,10 @@ longest_by bytes v n valid stops k lt le h =
     let P : List ℕ → Type 0 = IsUtf8 in
     let j : v + (k - v) ≡ k = omega arith in
     let cut : take k bytes ≡ take v bytes ++ take (k - v) (drop v bytes) = ap (λ m. take m bytes) (sym j) ∙ take-add v (k - v) bytes in
-    let same : take k bytes ++ h.0 ≡ take v bytes ++ (take (k - v) (drop v bytes) ++ h.0) = ap (λ q. q ++ h.0) cut ∙ append_assoc (take v bytes) (take (k - v) (drop v bytes)) h.0 in
-    stops (k - v) h.0 (omega arith) (omega (arith, length-drop v bytes)) (text_behind (take v bytes) (take (k - v) (drop v bytes) ++ h.0) valid.front (subst P same h.1))
+    let same : take k bytes ++ h.0 ≡ take v bytes ++ (take (k - v) (drop v bytes) ++ h.0) = ap (λ q. q ++ h.0) cut
+    ∙ append_assoc (take v bytes) (take (k - v) (drop v bytes)) h.0 in
+    stops (k - v) h.0 (omega arith) (omega (arith, length-drop v bytes))
+    (text_behind (take v bytes) (take (k - v) (drop v bytes) ++ h.0) valid.front (subst P same h.1))
 
 -- ---- how much of a character stands there
 
@@ -117,12 +120,14 @@ unfolding Behind
 stops_none b bs e big zero more lt le u = absurd (omega arith)
 stops_none b bs e big (suc i) more lt le u = ⊎_elim big (λ r. none_follows b r.0 e r.2) (behind b (take i bs ++ more) u)
 
-stops_some : (b : ℕ) (bs : List ℕ) (f : Follow) → follow b ≡ Some f → (b < 128 → ⊥) → (following_len f.low f.high f.more bs ≡ suc f.more → ⊥) → Stops (b ∷ bs) (suc (following_len f.low f.high f.more bs))
+stops_some : (b : ℕ) (bs : List ℕ) (f : Follow) → follow b ≡ Some f → (b < 128 → ⊥)
+    → (following_len f.low f.high f.more bs ≡ suc f.more → ⊥) → Stops (b ∷ bs) (suc (following_len f.low f.high f.more bs))
 unfolding Behind
 stops_some b bs f e big half zero more lt le u = absurd (omega arith)
 stops_some b bs f e big half (suc i) more lt le u =
     ⊎_elim big
-    (λ r. let P : Option Follow → Type 0 = λ o. Follows o r.0 in blocked f.low f.high f.more bs r.0 r.1 more i (subst P e r.2) r.3 (omega arith) (omega arith) half)
+    (λ r. let P : Option Follow → Type 0 = λ o. Follows o r.0 in blocked f.low f.high f.more bs r.0 r.1 more i (subst P e r.2) r.3
+    (omega arith) (omega arith) half)
     (behind b (take i bs ++ more) u)
 
 -- so much of a character stands at the front of these bytes
@@ -135,7 +140,8 @@ pub record IsBegun (rest : List ℕ) (n : ℕ) : Type 0 where
 ascii_text : (b : ℕ) → b < 128 → IsUtf8 (b ∷ [])
 ascii_text b lt = let P : List ℕ → Type 0 = IsUtf8 in subst P (encode_ascii b lt) (IsUtf8-encode b (low_scalar b (omega arith)))
 
-whole_text_of : (b : ℕ) (bs : List ℕ) (f : Follow) → follow b ≡ Some f → following_len f.low f.high f.more bs ≡ suc f.more → IsUtf8 (take (suc (suc f.more)) (b ∷ bs))
+whole_text_of : (b : ℕ) (bs : List ℕ) (f : Follow) → follow b ≡ Some f → following_len f.low f.high f.more bs ≡ suc f.more
+    → IsUtf8 (take (suc (suc f.more)) (b ∷ bs))
 whole_text_of b bs f e h =
     let P : Option Follow → Type 0 = λ o. Follows o (take (suc f.more) bs) in
     char_text (b ∷ take (suc f.more) bs) (of_bytes b (take (suc f.more) bs) (subst P (sym e) (whole f.low f.high f.more bs h)))
@@ -156,7 +162,8 @@ begun b bs (Some f) e none_whole =
       within = omega (arith, within_by f.low f.high f.more bs);
       more = r.0;
       whole_text = char_text (b ∷ rest) (of_bytes b rest (subst Q (sym e) r.1));
-      stops = stops_some b bs f e (λ lt. none_whole 1 (omega arith) (ascii_text b lt)) (λ h. none_whole (suc (suc f.more)) (omega arith) (whole_text_of b bs f e h));
+      stops = stops_some b bs f e (λ lt. none_whole 1 (omega arith) (ascii_text b lt))
+          (λ h. none_whole (suc (suc f.more)) (omega arith) (whole_text_of b bs f e h));
     }
 
 -- ---- the place
@@ -197,7 +204,8 @@ same_place bytes m n p q =
 abbrev Cut : List ℕ → ℕ → Bool
 Cut bs n = is_utf8 (take n bs)
 
-front_by_test : (bs : List ℕ) (n : ℕ) (t : Bool) → Cut bs (suc n) ≡ t → Cut bs (valid_len_up_to bs n) ≡ true → Cut bs (if t then suc n else valid_len_up_to bs n) ≡ true
+front_by_test : (bs : List ℕ) (n : ℕ) (t : Bool) → Cut bs (suc n) ≡ t → Cut bs (valid_len_up_to bs n) ≡ true
+    → Cut bs (if t then suc n else valid_len_up_to bs n) ≡ true
 front_by_test bs n true e h = e
 front_by_test bs n false e h = h
 
@@ -240,9 +248,11 @@ valid_up_to_there bs ill =
       longest = λ m lt u. (let z : true ≡ false = sym (is_utf8-from_IsUtf8 (take m bs) u) ∙ no_longer bs m (nat_lt m (length bs)) refl ill lt in cc);
     }
 
-exact_by : (bs : List ℕ) (t : Bool) → is_utf8 bs ≡ t → MatchOption (if t then None else Some (utf8_valid_len bs + begun_len (drop (utf8_valid_len bs) bs))) (IsUtf8 bs) (λ n. IsPlace bs n)
+exact_by : (bs : List ℕ) (t : Bool) → is_utf8 bs ≡ t
+    → MatchOption (if t then None else Some (utf8_valid_len bs + begun_len (drop (utf8_valid_len bs) bs))) (IsUtf8 bs) (λ n. IsPlace bs n)
 exact_by bs true e = IsUtf8-from_is_utf8 bs e
-exact_by bs false e = place_of bs (drop (utf8_valid_len bs) bs) (utf8_valid_len bs) (utf8_valid_len bs) (begun_len (drop (utf8_valid_len bs) bs)) (valid_up_to_there bs e) refl refl refl
+exact_by bs false e = place_of bs (drop (utf8_valid_len bs) bs) (utf8_valid_len bs) (utf8_valid_len bs)
+    (begun_len (drop (utf8_valid_len bs) bs)) (valid_up_to_there bs e) refl refl refl
 
 pub exact : (bs : List ℕ) → MatchOption (not_utf8_place bs) (IsUtf8 bs) (λ n. IsPlace bs n)
 unfolding not_utf8_place
@@ -256,7 +266,8 @@ ill_test : (bs : List ℕ) (t : Bool) → is_utf8 bs ≡ t → (IsUtf8 bs → �
 ill_test bs true e ill = absurd (ill (IsUtf8-from_is_utf8 bs e))
 ill_test bs false e ill = e
 
-pub some_place : (bs rest : List ℕ) (u v n : ℕ) → (IsUtf8 bs → ⊥) → v ≡ u → u ≡ utf8_valid_len bs → rest ≡ drop v bs → n ≡ begun_len rest → not_utf8_place bs ≡ Some (v + n)
+pub some_place : (bs rest : List ℕ) (u v n : ℕ) → (IsUtf8 bs → ⊥) → v ≡ u → u ≡ utf8_valid_len bs → rest ≡ drop v bs
+    → n ≡ begun_len rest → not_utf8_place bs ≡ Some (v + n)
 unfolding not_utf8_place
 some_place bs rest u v n ill same valid e h =
     let there : v ≡ utf8_valid_len bs = same ∙ valid in

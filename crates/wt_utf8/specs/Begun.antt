@@ -1,10 +1,6 @@
 -- How much of a character stands at the front of bytes.
 use Rattle.std.specs.Prelude.{ℕ, zero, suc, Option, Some, None, List, [], ◌∷◌, if◌then◌else◌}
 use Rattle.wt_html_grammar.specs.Signs.{Follow, follow, between}
-use Rattle.wt_utf8.specs.declared.character.Following.{Following}
-
-abbrev pub follow_of : Following → Follow
-follow_of f = record { low = f.low; high = f.high; more = f.more }
 
 -- how many bytes may stand behind the first byte of a character: the next lies between two bounds, `more` come after it
 abbrev pub following_len : ℕ → ℕ → ℕ → List ℕ → ℕ

@@ -8,7 +8,8 @@ use Rattle.wt_annotate.proofs.pass.+annotating.Given as goal
 
 abbrev pub invariant-annotated_all-loop-tree : goal.invariant-annotated_all-loop-tree
 invariant-annotated_all-loop-tree l =
-    MadeSoFar (map view l.nodes) l.behind.place l.behind.next (item_trees (into_iter_items l.tree-iterator)) l.fn.at.place l.fn.at.next (item_trees (into_iter_items l.initial.tree-iterator))
+    MadeSoFar (map view l.nodes) l.behind.place l.behind.next (item_trees (into_iter_items l.tree-iterator)) l.fn.at.place
+    l.fn.at.next (item_trees (into_iter_items l.initial.tree-iterator))
 
 abbrev pub decreases-annotated_node : goal.decreases-annotated_node
 decreases-annotated_node l = nodes_in (item_tree l.tree)

@@ -8,14 +8,16 @@ use Rattle.wt_blocks.proofs.nest.+nesting.Goals as goal
 
 pub items_at-overflow_cast-inside_line : goal.items_at-overflow_cast-inside_line
 items_at-overflow_cast-inside_line t c =
-    let w = within_by c.args.prefixes.now c.rest_of-rest.result.now c.loop-at.at c.item_len.result c.loop-at.invariant.within c.rest_of-rest.ensures c.item_len.ensures.within in
+    let w = within_by c.args.prefixes.now c.rest_of-rest.result.now c.loop-at.at c.item_len.result c.loop-at.invariant.within
+    c.rest_of-rest.ensures c.item_len.ensures.within in
     let l = taken c.rest_of-rest.result.now c.front_of-item.result.now c.item_len.result c.front_of-item.ensures c.item_len.ensures.within in
     let n = c.requires.numbers in
     omega (arith, w, l, n)
 
 pub items_at-overflow_add-inside_line : goal.items_at-overflow_add-inside_line
 items_at-overflow_add-inside_line t c =
-    let w = within_by c.args.prefixes.now c.rest_of-rest.result.now c.loop-at.at c.item_len.result c.loop-at.invariant.within c.rest_of-rest.ensures c.item_len.ensures.within in
+    let w = within_by c.args.prefixes.now c.rest_of-rest.result.now c.loop-at.at c.item_len.result c.loop-at.invariant.within
+    c.rest_of-rest.ensures c.item_len.ensures.within in
     let l = taken c.rest_of-rest.result.now c.front_of-item.result.now c.item_len.result c.front_of-item.ensures c.item_len.ensures.within in
     let n = c.requires.numbers in
     omega (arith, w, l, n)
@@ -35,11 +37,15 @@ lists_at-loop-at-preserved t c =
     let one : 32 - (depth + 1) ≡ 32 - depth - 1 = omega arith in
     let lines = lines_from (c.args.first + at) depth run in
     let is = c.node_at.ensures ∙ ap (node_of false lines) (c.in_ok-children.ensures ∙ ap (λ k. items_by (lists k) lines) one) in
-    let added = list_done (32 - depth) c.args.first depth at m ps rest run (list_trees c.loop-at.found) (lists (32 - depth) (lines_from c.args.first depth ps)) (list_tree c.node_at.result) n c.rest_of-rest.ensures c.front_of-list.ensures c.list_len.ensures.within c.list_len.ensures.front is c.loop-at.invariant.rest in
+    let added = list_done (32 - depth) c.args.first depth at m ps rest run (list_trees c.loop-at.found)
+    (lists (32 - depth) (lines_from c.args.first depth ps)) (list_tree c.node_at.result) n c.rest_of-rest.ensures
+    c.front_of-list.ensures c.list_len.ensures.within c.list_len.ensures.front is c.loop-at.invariant.rest in
     record {
       within = omega (arith, w, l);
-      rest = ap (λ ts. ts ++ lists (32 - depth) (lines_from (c.args.first + (at + length run)) depth (drop (at + length run) ps))) (pushed c.loop-at.found c.push.new.self c.node_at.result c.in_ok-push.ensures.ok)
-          ∙ ap (λ k. (list_trees c.loop-at.found ++ list_tree c.node_at.result ∷ []) ++ lists (32 - depth) (lines_from (c.args.first + (at + k)) depth (drop (at + k) ps))) l
+      rest = ap (λ ts. ts ++ lists (32 - depth) (lines_from (c.args.first + (at + length run)) depth (drop (at + length run) ps)))
+          (pushed c.loop-at.found c.push.new.self c.node_at.result c.in_ok-push.ensures.ok)
+          ∙ ap (λ k. (list_trees c.loop-at.found ++ list_tree c.node_at.result ∷ [])
+          ++ lists (32 - depth) (lines_from (c.args.first + (at + k)) depth (drop (at + k) ps))) l
           ∙ added;
     }
 
@@ -55,15 +61,22 @@ items_at-loop-at-preserved t c =
     let l = taken rest run m c.front_of-item.ensures c.item_len.ensures.within in
     let w = within_by ps rest at m c.loop-at.invariant.within c.rest_of-rest.ensures c.item_len.ensures.within in
     let lines = lines_from (c.args.first + at) depth run in
-    let is = c.node_at.ensures ∙ ap (node_of true lines) (c.in_ok-children.ensures ∙ ap lists_in (sym (c.inside_item-inside.ensures.lines (c.args.first + at)))) in
-    let added = item_done lists_in c.args.first depth at m ps rest run (list_trees c.loop-at.found) (items_by lists_in (lines_from c.args.first depth ps)) (list_tree c.node_at.result) c.rest_of-rest.ensures c.front_of-item.ensures c.item_len.ensures.within c.item_len.ensures.front is c.loop-at.invariant.rest in
+    let is = c.node_at.ensures ∙ ap (node_of true lines)
+    (c.in_ok-children.ensures ∙ ap lists_in (sym (c.inside_item-inside.ensures.lines (c.args.first + at)))) in
+    let added = item_done lists_in c.args.first depth at m ps rest run (list_trees c.loop-at.found)
+    (items_by lists_in (lines_from c.args.first depth ps)) (list_tree c.node_at.result) c.rest_of-rest.ensures
+    c.front_of-item.ensures c.item_len.ensures.within c.item_len.ensures.front is c.loop-at.invariant.rest in
     record {
       within = omega (arith, w, l);
-      rest = ap (λ ts. ts ++ items_by lists_in (lines_from (c.args.first + (at + length run)) depth (drop (at + length run) ps))) (pushed c.loop-at.found c.push.new.self c.node_at.result c.in_ok-push.ensures.ok)
-          ∙ ap (λ k. (list_trees c.loop-at.found ++ list_tree c.node_at.result ∷ []) ++ items_by lists_in (lines_from (c.args.first + (at + k)) depth (drop (at + k) ps))) l
+      rest = ap (λ ts. ts ++ items_by lists_in (lines_from (c.args.first + (at + length run)) depth (drop (at + length run) ps)))
+          (pushed c.loop-at.found c.push.new.self c.node_at.result c.in_ok-push.ensures.ok)
+          ∙ ap (λ k. (list_trees c.loop-at.found ++ list_tree c.node_at.result ∷ [])
+          ++ items_by lists_in (lines_from (c.args.first + (at + k)) depth (drop (at + k) ps))) l
           ∙ added;
     }
 
 pub lists_at-returns : goal.lists_at-returns
 lists_at-returns t c =
-    lists_end (32 - c.args.depth) (c.args.first + c.loop-at.at) c.args.depth (drop c.loop-at.at c.args.prefixes.now) (list_trees c.loop-at.found) (lists (32 - c.args.depth) (lines_from c.args.first c.args.depth c.args.prefixes.now)) (drop_all c.loop-at.at c.args.prefixes.now (omega arith)) c.loop-at.invariant.rest
+    lists_end (32 - c.args.depth) (c.args.first + c.loop-at.at) c.args.depth (drop c.loop-at.at c.args.prefixes.now)
+    (list_trees c.loop-at.found) (lists (32 - c.args.depth) (lines_from c.args.first c.args.depth c.args.prefixes.now))
+    (drop_all c.loop-at.at c.args.prefixes.now (omega arith)) c.loop-at.invariant.rest

@@ -13,7 +13,8 @@ decreases-lists_at l = (32 - l.depth) * 2 + 1
 abbrev pub invariant-items_at-loop-at : goal.invariant-items_at-loop-at
 invariant-items_at-loop-at l = record {
   within : l.at ≤ length l.prefixes;
-  rest : list_trees l.found ++ items_by (lists (32 - (l.depth + 1))) (lines_from (l.first + l.at) l.depth (drop l.at l.prefixes)) ≡ items_by (lists (32 - (l.depth + 1))) (lines_from l.first l.depth l.prefixes);
+  rest : list_trees l.found ++ items_by (lists (32 - (l.depth + 1))) (lines_from (l.first + l.at) l.depth (drop l.at l.prefixes))
+      ≡ items_by (lists (32 - (l.depth + 1))) (lines_from l.first l.depth l.prefixes);
 }
 
 abbrev pub decreases-items_at-loop-at : goal.decreases-items_at-loop-at
@@ -22,7 +23,8 @@ decreases-items_at-loop-at l = length l.prefixes - l.at
 abbrev pub invariant-lists_at-loop-at : goal.invariant-lists_at-loop-at
 invariant-lists_at-loop-at l = record {
   within : l.at ≤ length l.prefixes;
-  rest : list_trees l.found ++ lists (32 - l.depth) (lines_from (l.first + l.at) l.depth (drop l.at l.prefixes)) ≡ lists (32 - l.depth) (lines_from l.first l.depth l.prefixes);
+  rest : list_trees l.found ++ lists (32 - l.depth) (lines_from (l.first + l.at) l.depth (drop l.at l.prefixes))
+      ≡ lists (32 - l.depth) (lines_from l.first l.depth l.prefixes);
 }
 
 abbrev pub decreases-lists_at-loop-at : goal.decreases-lists_at-loop-at

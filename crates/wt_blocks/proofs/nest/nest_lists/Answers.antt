@@ -7,4 +7,6 @@ use Rattle.wt_blocks.proofs.nest.nest_lists.Goals as goal
 
 pub returns : goal.returns
 unfolding nested
-returns c = IfOk-weaker c.lists_at.result _ _ (λ l e. e ∙ ap (λ ps. lists 32 (lines_from 0 0 ps)) c.as_slice.ensures ∙ ap (lists 32) (from_the_first 0 c.args.prefixes.now)) c.lists_at.ensures
+returns c = IfOk-weaker c.lists_at.result _ _
+    (λ l e. e ∙ ap (λ ps. lists 32 (lines_from 0 0 ps)) c.as_slice.ensures ∙ ap (lists 32) (from_the_first 0 c.args.prefixes.now))
+    c.lists_at.ensures

@@ -7,7 +7,8 @@ use Rattle.wt_blocks.proofs.paragraph.paragraphs.Goals as goal
 pub loop-at-preserved : goal.loop-at-preserved
 loop-at-preserved c =
     let ks = c.as_slice-kinds.result.now in
-    c.in_ok-push_paragraph.ensures ∙ ap (λ rs. rs ++ paragraph_at ks c.loop-at.at) c.loop-at.invariant ∙ sym (flat_map-range_more (paragraph_at ks) c.loop-at.at)
+    c.in_ok-push_paragraph.ensures ∙ ap (λ rs. rs ++ paragraph_at ks c.loop-at.at) c.loop-at.invariant
+    ∙ sym (flat_map-range_more (paragraph_at ks) c.loop-at.at)
 
 pub returns : goal.returns
 returns c =

@@ -10,4 +10,5 @@ loop-lexeme-init c = reads_first c.args.lexemes.now c.new-matching.result c.requ
 
 pub read-requires : goal.read-requires
 read-requires c =
-    is_read (first_place c.args.lexemes.now) (reduced_onto [] (map word_of c.args.lexemes.now)) c.loop-lexeme.matching c.args.lexemes.now c.loop-lexeme.lexeme-index c.lexeme-item.result c.loop-lexeme-test.true c.lexeme-item.is c.loop-lexeme.invariant
+    is_read (first_place c.args.lexemes.now) (reduced_onto [] (map word_of c.args.lexemes.now)) c.loop-lexeme.matching
+    c.args.lexemes.now c.loop-lexeme.lexeme-index c.lexeme-item.result c.loop-lexeme-test.true c.lexeme-item.is c.loop-lexeme.invariant

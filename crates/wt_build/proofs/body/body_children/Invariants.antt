@@ -1,15 +1,14 @@
-use Rattle.std.proofs.Common.{◌≡◌, ◌++◌, ◌≤◌, ◌-◌, List, length, drop}
-use Rattle.wt_span.specs.Items.{items}
-use Rattle.wt_inline.specs.Parts.{Part, children}
-use Rattle.wt_inline.specs.Grown.{grown, made}
-use Rattle.wt_build.specs.Rows.{rows}
-use Rattle.wt_build.specs.Meaning.{body_parts}
+use Rattle.std.proofs.Common.{◌≤◌, ◌-◌, length, drop}
+use Rattle.wt_inline.specs.Grown.{grown}
+use Rattle.wt_build.specs.Cuts.{parts_from}
+use Rattle.wt_build.proofs.Growing.{IsLeft}
 use Rattle.wt_build.proofs.body.body_children.Given as goal
 
 abbrev pub invariant-loop-at : goal.invariant-loop-at
 invariant-loop-at l = record {
   within : l.at ≤ length l.pieces;
-  rest : (ps : List Part) → made (grown l.children) (body_parts (rows (items (drop l.at l.pieces))) ++ ps) ≡ children (body_parts (rows (items l.pieces)) ++ ps);
+  few : l.tables ≤ 16;
+  rest : IsLeft (parts_from 0 l.pieces) (parts_from l.tables (drop l.at l.pieces)) (grown l.children);
 }
 
 abbrev pub decreases-loop-at : goal.decreases-loop-at

@@ -9,6 +9,8 @@ pub returns : goal.returns
 returns c =
     let cut = c.cut_block-cut.result in
     IfOk-weaker c.with_pieces-2.result _ _
-    (λ h e. grows_around c.args.kind (items c.args.lines.now) (items cut.before.now) (items cut.inside.now) (items cut.after.now) (item_tree c.in_ok-tree.tree) (grown c.args.children) (grown c.in_ok-children.children) (grown c.in_ok-children-2.children) (grown h)
+    (λ h e. grows_around c.args.kind (items c.args.lines.now) (items cut.before.now) (items cut.inside.now) (items cut.after.now)
+    (item_tree c.in_ok-tree.tree) (grown c.args.children) (grown c.in_ok-children.children)
+    (grown c.in_ok-children-2.children) (grown h)
     c.cut_block-cut.ensures.cut c.in_ok-tree.ensures c.in_ok-children.ensures c.in_ok-children-2.ensures e)
     c.with_pieces-2.ensures

@@ -1,19 +1,23 @@
-use Rattle.std.proofs.Common.{ap, ◌∙◌, map, ◌≡◌}
+use Rattle.std.proofs.Common.{◌∙◌}
 use Rattle.std.proofs.lemmas.Result.{IfOk-weaker}
-use Rattle.wt_span.specs.Items.{sign, items}
-use Rattle.wt_build.specs.Headings.{heading_parts}
-use Rattle.wt_build.proofs.HeadingCuts.{open_cut, inside_cut}
-use Rattle.wt_build.proofs.Around.{heading_is}
+use Rattle.wt_span.specs.Items.{items}
+use Rattle.wt_build.proofs.HeadingCuts.{open_cut, inside_cut, heading_is}
 use Rattle.wt_build.proofs.tree.heading.Goals as goal
 
 pub heading_by-requires : goal.heading_by-requires
 heading_by-requires c =
     let xs = items c.args.line.now in
-    let e : c.heading_parts-parts.result ≡ heading_parts (map sign xs) = c.heading_parts-parts.ensures ∙ ap heading_parts (c.as_slice.ensures ∙ c.in_ok-signs.ensures) in
-    record { sound = c.requires.sound; opening = open_cut xs c.heading_parts-parts.result e; inside = inside_cut xs c.heading_parts-parts.result e }
+    let cuts = c.heading_cuts.result in
+    record {
+      ready = c.requires;
+      opening = open_cut xs cuts.open_len c.heading_cuts.ensures.open_len;
+      inside =
+          inside_cut xs cuts.open_len cuts.inside_len c.heading_cuts.ensures.open_len c.heading_cuts.ensures.inside_len;
+    }
 
 pub returns : goal.returns
 returns c =
     let xs = items c.args.line.now in
-    let e : c.heading_parts-parts.result ≡ heading_parts (map sign xs) = c.heading_parts-parts.ensures ∙ ap heading_parts (c.as_slice.ensures ∙ c.in_ok-signs.ensures) in
-    IfOk-weaker c.heading_by.result _ _ (λ t f. f ∙ heading_is xs c.heading_parts-parts.result e) c.heading_by.ensures
+    let cuts = c.heading_cuts.result in
+    IfOk-weaker c.heading_by.result _ _ (λ t f. f ∙ heading_is xs cuts.level cuts.open_len cuts.inside_len
+    c.heading_cuts.ensures.level c.heading_cuts.ensures.open_len c.heading_cuts.ensures.inside_len) c.heading_by.ensures

@@ -13,5 +13,6 @@ loop-value-init c =
       finite = tt;
       left =
           values_pass is_source c.args.map.now.entries
-          ∙ ap (λ (vs : List Value). list_all (λ v. is_source (view v)) vs) (sym (c.into_iter-value-iterator.ensures.into_iter_gives ∙ c.values-value-items.ensures.rest));
+          ∙ ap (λ (vs : List Value). list_all (λ v. is_source (view v)) vs)
+          (sym (c.into_iter-value-iterator.ensures.into_iter_gives ∙ c.values-value-items.ensures.rest));
     }

@@ -12,5 +12,6 @@ loop-key-init c =
       finite = tt;
       left =
           keys_pass p c.args.members.now.entries
-          ∙ ap (λ (ks : List (String Global)). list_all (λ k. p (string_bytes k)) ks) (sym (c.into_iter-key-iterator.ensures.into_iter_gives ∙ c.keys-key-items.ensures.rest));
+          ∙ ap (λ (ks : List (String Global)). list_all (λ k. p (string_bytes k)) ks)
+          (sym (c.into_iter-key-iterator.ensures.into_iter_gives ∙ c.keys-key-items.ensures.rest));
     }

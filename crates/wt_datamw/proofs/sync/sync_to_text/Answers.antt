@@ -17,5 +17,6 @@ returns c =
       text = c.from_string.ensures ∙ c.in_ok-text.ensures.text (ap has_float v ∙ sync_free c.args.s.now) ∙ ap compact_text v;
       back =
           let d : depth (view c.in_ok-value.value) ≤ max_depth = omega (arith, ap depth v ∙ sync_depth c.args.s.now) in
-          ap (λ t. sync_of_json (read t)) c.from_string.ensures ∙ ap sync_of_json (c.in_ok-text.ensures.reads_back d) ∙ ap sync_of_data v ∙ reads_small c.args.s.now c.places_of-dsr.ensures;
+          ap (λ t. sync_of_json (read t)) c.from_string.ensures ∙ ap sync_of_json (c.in_ok-text.ensures.reads_back d)
+          ∙ ap sync_of_data v ∙ reads_small c.args.s.now c.places_of-dsr.ensures;
     }

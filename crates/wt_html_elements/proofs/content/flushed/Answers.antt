@@ -4,7 +4,9 @@ use Rattle.wt_html_elements.proofs.Contents.{flushed_some, flushed_none, no_leng
 use Rattle.wt_html_elements.proofs.content.flushed.Goals as goal
 
 pub returns-then-is_empty : goal.returns-then-is_empty
-returns-then-is_empty c = flushed_none c.args.contents.items c.args.run.items (no_length c.args.run.items (ap (λ (xs : List ℕ). length xs == 0) (sym c.as_slice.ensures.value) ∙ sym c.is_empty.ensures ∙ c.if-is_empty.true))
+returns-then-is_empty c = flushed_none c.args.contents.items c.args.run.items
+    (no_length c.args.run.items (ap (λ (xs : List ℕ). length xs == 0) (sym c.as_slice.ensures.value) ∙ sym c.is_empty.ensures
+    ∙ c.if-is_empty.true))
 
 pub returns-in_ok-push : goal.returns-in_ok-push
 returns-in_ok-push c =

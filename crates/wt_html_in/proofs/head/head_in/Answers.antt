@@ -4,7 +4,7 @@ use Rattle.wt_html_elements.specs.Built.{pairs, views}
 use Rattle.wt_html_in.proofs.Labels.{row_good}
 use Rattle.wt_html_in.proofs.head.head_in.Goals as goal
 
-pub returns-then-may_hold : goal.returns-then-may_hold
-returns-then-may_hold c =
-    row_good c.args.number c.in-Some.kind c.args.outer (row c.args.name.now (pairs c.args.attributes.now)) (pairs c.args.attributes.now) (views c.args.contents.now) c.may_hold.result c.head_as.result
-    (sym c.row.ensures ∙ c.in-Some.is) c.may_hold.ensures c.if-may_hold.true c.head_as.ensures
+pub returns-then-has_place : goal.returns-then-has_place
+returns-then-has_place c =
+    row_good c.args.number c.in-Some.kind c.args.outer c.args.behind (row c.args.name.now (pairs c.args.attributes.now)) (pairs c.args.attributes.now) (views c.args.contents.now) c.has_place.result c.head_as.result
+    (sym c.row.ensures ∙ c.in-Some.is) c.has_place.ensures c.if-has_place.true c.head_as.ensures

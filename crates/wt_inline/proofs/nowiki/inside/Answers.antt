@@ -12,9 +12,15 @@ use Rattle.wt_inline.proofs.nowiki.inside.Goals as goal
 pub loop-rest-preserved : goal.loop-rest-preserved
 loop-rest-preserved c =
     let o = call_of_origin c.args.origin in
-    inside_step (grown c.loop-rest.children) (grown c.in_ok-children.children) (items_of c.split_inside.result.0) (inside_items o 0 (bytes_of c.split_inside.result.1)) (inside_items o 0 (bytes_of c.loop-rest.rest)) (map inside_part (inside_items o 0 (bytes_of c.args.text))) c.in_ok-children.ensures c.split_inside.ensures.items c.loop-rest.invariant
+    inside_step (grown c.loop-rest.children) (grown c.in_ok-children.children) (items_of c.split_inside.result.0)
+    (inside_items o 0 (bytes_of c.split_inside.result.1)) (inside_items o 0 (bytes_of c.loop-rest.rest))
+    (map inside_part (inside_items o 0 (bytes_of c.args.text))) c.in_ok-children.ensures c.split_inside.ensures.items
+    c.loop-rest.invariant
 
 pub returns : goal.returns
 returns c =
     let o = call_of_origin c.args.origin in
-    IfOk-weaker c.finish.result _ _ (λ l e. inside_done (grown c.loop-rest.children) o (bytes_of c.loop-rest.rest) (map inside_part (inside_items o 0 (bytes_of c.args.text))) (item_trees l) (no_bytes (bytes_of c.loop-rest.rest) c.as_str.result.now c.is_empty.result c.as_str.ensures c.is_empty.ensures c.loop-rest-test.false) c.loop-rest.invariant e) c.finish.ensures
+    IfOk-weaker c.finish.result _ _ (λ l e. inside_done (grown c.loop-rest.children) o (bytes_of c.loop-rest.rest)
+    (map inside_part (inside_items o 0 (bytes_of c.args.text))) (item_trees l)
+    (no_bytes (bytes_of c.loop-rest.rest) c.as_str.result.now c.is_empty.result c.as_str.ensures c.is_empty.ensures
+    c.loop-rest-test.false) c.loop-rest.invariant e) c.finish.ensures

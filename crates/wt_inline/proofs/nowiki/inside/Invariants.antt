@@ -8,7 +8,8 @@ use Rattle.wt_inline.proofs.nowiki.inside.Given as goal
 
 abbrev pub invariant-loop-rest : goal.invariant-loop-rest
 invariant-loop-rest l =
-    (ps : List Part) → made (grown l.children) (map inside_part (inside_items (call_of_origin l.origin) 0 (bytes_of l.rest)) ++ ps) ≡ children (map inside_part (inside_items (call_of_origin l.origin) 0 (bytes_of l.text)) ++ ps)
+    (ps : List Part) → made (grown l.children) (map inside_part (inside_items (call_of_origin l.origin) 0 (bytes_of l.rest))
+    ++ ps) ≡ children (map inside_part (inside_items (call_of_origin l.origin) 0 (bytes_of l.text)) ++ ps)
 
 abbrev pub decreases-loop-rest : goal.decreases-loop-rest
 decreases-loop-rest l = length (bytes_of l.rest)

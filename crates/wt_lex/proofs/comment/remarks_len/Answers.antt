@@ -12,5 +12,10 @@ returns-then-n-eq0-clause-value c =
 pub loop-at-preserved : goal.loop-at-preserved
 loop-at-preserved c =
     let is = sym (ap remark_len c.rest_of.ensures) ∙ sym c.remark_len-n.ensures.value in
-    let within : c.loop-at.at + c.remark_len-n.result < length c.args.bytes.now + 1 = omega (arith, ap length c.rest_of.ensures, length-drop c.loop-at.at c.args.bytes.now) in
-    record { within = omega arith; rest = remarks_more c.args.bytes.now c.loop-at.at c.remark_len-n.result (omega arith) (omega arith) (omega arith) is ∙ c.loop-at.invariant.rest }
+    let within : c.loop-at.at + c.remark_len-n.result < length c.args.bytes.now + 1 =
+    omega (arith, ap length c.rest_of.ensures, length-drop c.loop-at.at c.args.bytes.now) in
+    record {
+      within = omega arith;
+      rest = remarks_more c.args.bytes.now c.loop-at.at c.remark_len-n.result (omega arith)
+          (omega arith) (omega arith) is ∙ c.loop-at.invariant.rest;
+    }

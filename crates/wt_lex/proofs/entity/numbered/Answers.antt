@@ -13,6 +13,7 @@ number-requires-clause-digits c =
 
 pub number-requires-clause-fits : goal.number-requires-clause-fits
 number-requires-clause-fits c =
-    let short : length c.front_of.result.now ≤ c.args.most = omega (arith, ap length c.front_of.ensures, length-take c.run_len-n.result c.rest_of-rest.result.now) in
+    let short : length c.front_of.result.now ≤ c.args.most =
+    omega (arith, ap length c.front_of.ensures, length-take c.run_len-n.result c.rest_of-rest.result.now) in
     let low = pow-le-pow_right c.requires.base short in
     omega arith

@@ -26,7 +26,9 @@ loop-at-init c =
       border = IsCharBoundary-start text c.utf8.text;
       borders = subst P (sym c.new-lexemes.ensures) (All-nil (AtBorders text));
       follow = rw c.new-lexemes.ensures refl;
-      done = passed c.args.mode text c.as_bytes-bytes.result.now (map word_of c.new-lexemes.result) 0 0 c.next_place-at.result c.as_bytes-bytes.ensures.value (omega arith) c.next_place-at.ensures.order c.next_place-at.ensures.within c.next_place-at.ensures.none
+      done = passed c.args.mode text c.as_bytes-bytes.result.now (map word_of c.new-lexemes.result) 0 0 c.next_place-at.result
+          c.as_bytes-bytes.ensures.value (omega arith) c.next_place-at.ensures.order c.next_place-at.ensures.within
+          c.next_place-at.ensures.none
           (ap (λ ws. ws ++ closed (0 + rest.0) rest.1) none ∙ all_left c.args.mode text);
     }
 
@@ -46,8 +48,12 @@ loop-at-preserved c =
       border = end;
       borders = c.in_ok-push_form.ensures.borders text start end (c.in_ok-push_chars.ensures.borders text before.border start before.borders);
       follow = c.in_ok-push_form.ensures.follow (c.in_ok-push_chars.ensures.follow before.follow);
-      done = passed c.args.mode text c.as_bytes-bytes.result.now (map word_of c.push_form.new.lexemes) (c.loop-at.at + c.in-Some.len) (c.loop-at.at + c.in-Some.len) c.next_place-at-in-loop-at.result c.as_bytes-bytes.ensures.value (omega arith) c.next_place-at-in-loop-at.ensures.order c.next_place-at-in-loop-at.ensures.within c.next_place-at-in-loop-at.ensures.none
-          (form_more c.args.mode text (map word_of c.loop-at.lexemes) (map word_of c.push_chars.new.lexemes) (map word_of c.push_form.new.lexemes) c.loop-at.from c.loop-at.at
+      done = passed c.args.mode text c.as_bytes-bytes.result.now (map word_of c.push_form.new.lexemes)
+          (c.loop-at.at + c.in-Some.len) (c.loop-at.at + c.in-Some.len) c.next_place-at-in-loop-at.result
+          c.as_bytes-bytes.ensures.value (omega arith) c.next_place-at-in-loop-at.ensures.order
+          c.next_place-at-in-loop-at.ensures.within c.next_place-at-in-loop-at.ensures.none
+          (form_more c.args.mode text (map word_of c.loop-at.lexemes) (map word_of c.push_chars.new.lexemes)
+          (map word_of c.push_form.new.lexemes) c.loop-at.from c.loop-at.at
           (c.in-Some.kind, c.in-Some.len) (omega arith) f.some is c.in_ok-push_chars.ensures.words c.in_ok-push_form.ensures.words before.done);
     }
 
@@ -65,7 +71,9 @@ loop-at-preserved-in_default c =
       border = before.border;
       borders = before.borders;
       follow = before.follow;
-      done = passed c.args.mode text c.as_bytes-bytes.result.now (map word_of c.loop-at.lexemes) c.loop-at.from (c.loop-at.at + 1) next.result c.as_bytes-bytes.ensures.value (omega arith) next.ensures.order next.ensures.within next.ensures.none
+      done = passed c.args.mode text c.as_bytes-bytes.result.now (map word_of c.loop-at.lexemes) c.loop-at.from
+          (c.loop-at.at + 1) next.result c.as_bytes-bytes.ensures.value (omega arith) next.ensures.order next.ensures.within
+          next.ensures.none
           (char_more c.args.mode text c.loop-at.from c.loop-at.at (map word_of c.loop-at.lexemes) (omega arith) before.order is before.done);
     }
 

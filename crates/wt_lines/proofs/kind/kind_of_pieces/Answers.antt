@@ -10,19 +10,24 @@ pub returns-then-is_empty : goal.returns-then-is_empty
 returns-then-is_empty c =
     let ss = map sign (items c.args.pieces.now) in
     let all : left c.of-all.result ≡ ss = c.of-all.ensures in
-    sym (kind_blank c.args.tables ss (left c.past_idle-sign.result) (c.past_idle-sign.ensures ∙ ap (past is_idle) all) (sym c.is_empty.ensures ∙ c.if-is_empty.true))
+    sym (kind_blank c.args.tables ss (left c.past_idle-sign.result) (c.past_idle-sign.ensures ∙ ap (past is_idle) all)
+    (sym c.is_empty.ensures ∙ c.if-is_empty.true))
 
 pub returns-then-begins : goal.returns-then-begins
 returns-then-begins c =
     let ss = map sign (items c.args.pieces.now) in
     let all : left c.of-all.result ≡ ss = c.of-all.ensures in
-    c.open_kind.ensures ∙ sym (kind_open c.args.tables ss (left c.past_idle-sign.result) (c.past_idle-sign.ensures ∙ ap (past is_idle) all) (sym c.is_empty.ensures ∙ c.if-is_empty.false) (sym c.begins.ensures ∙ c.if-begins.true))
+    c.open_kind.ensures ∙ sym (kind_open c.args.tables ss (left c.past_idle-sign.result)
+    (c.past_idle-sign.ensures ∙ ap (past is_idle) all) (sym c.is_empty.ensures ∙ c.if-is_empty.false)
+    (sym c.begins.ensures ∙ c.if-begins.true))
 
 pub returns-in-Some : goal.returns-in-Some
 returns-in-Some c =
     let ss = map sign (items c.args.pieces.now) in
     let all : left c.of-all.result ≡ ss = c.of-all.ensures in
-    sym (kind_in_table c.args.tables ss (left c.past_idle-sign.result) c.in-Some.kind (c.past_idle-sign.ensures ∙ ap (past is_idle) all) (sym c.is_empty.ensures ∙ c.if-is_empty.false) (sym c.begins.ensures ∙ c.if-begins.false) (sym c.table_kind.ensures ∙ c.in-Some.is))
+    sym (kind_in_table c.args.tables ss (left c.past_idle-sign.result) c.in-Some.kind
+    (c.past_idle-sign.ensures ∙ ap (past is_idle) all) (sym c.is_empty.ensures ∙ c.if-is_empty.false)
+    (sym c.begins.ensures ∙ c.if-begins.false) (sym c.table_kind.ensures ∙ c.in-Some.is))
 
 pub returns-in-None : goal.returns-in-None
 returns-in-None c =
@@ -30,5 +35,7 @@ returns-in-None c =
     let all : left c.of-all.result ≡ ss = c.of-all.ensures in
     let back : right c.of.result ≡ reverse ss = c.of.ensures in
     c.text_kind.ensures
-    ∙ sym (kind_of_text c.args.tables ss (left c.past_idle-sign.result) (left c.past_marks.result) (past is_idle (right c.of.result)) (c.past_idle-sign.ensures ∙ ap (past is_idle) all) (sym c.is_empty.ensures ∙ c.if-is_empty.false) (sym c.begins.ensures ∙ c.if-begins.false) (sym c.table_kind.ensures ∙ c.in-None.is)
+    ∙ sym (kind_of_text c.args.tables ss (left c.past_idle-sign.result) (left c.past_marks.result)
+    (past is_idle (right c.of.result)) (c.past_idle-sign.ensures ∙ ap (past is_idle) all)
+    (sym c.is_empty.ensures ∙ c.if-is_empty.false) (sym c.begins.ensures ∙ c.if-begins.false) (sym c.table_kind.ensures ∙ c.in-None.is)
     (c.past_marks.ensures ∙ ap (past is_mark_sign) all) (ap (past is_idle) back))

@@ -11,7 +11,9 @@ IsSoundLine l = All IsSoundPiece l.pieces
 
 pub returns-in_ok-push-clause-further : goal.returns-in_ok-push-clause-further
 returns-in_ok-push-clause-further c =
-    further_break c.args.finished.now c.args.line.now c.args.piece c.push.new.self c.replace-pieces.new.dest (record { pieces = c.replace-pieces.result }) c.requires.parted (sym c.is_break.ensures ∙ c.if-is_break.true) c.in_ok-push.ensures.ok c.replace-pieces.ensures.value (c.replace-pieces.ensures.after ∙ c.new.ensures)
+    further_break c.args.finished.now c.args.line.now c.args.piece c.push.new.self c.replace-pieces.new.dest
+    (record { pieces = c.replace-pieces.result }) c.requires.parted (sym c.is_break.ensures ∙ c.if-is_break.true)
+    c.in_ok-push.ensures.ok c.replace-pieces.ensures.value (c.replace-pieces.ensures.after ∙ c.new.ensures)
 
 pub returns-in_ok-push-clause-sound_after : goal.returns-in_ok-push-clause-sound_after
 returns-in_ok-push-clause-sound_after c =
@@ -21,4 +23,5 @@ returns-in_ok-push-clause-sound_after c =
 
 pub returns-in_ok-push-2-clause-further : goal.returns-in_ok-push-2-clause-further
 returns-in_ok-push-2-clause-further c =
-    further_line c.args.finished.now c.args.line.now c.args.piece c.push-else-is_break.new.self c.requires.parted (sym c.is_break.ensures ∙ c.if-is_break.false) c.in_ok-push-2.ensures.ok
+    further_line c.args.finished.now c.args.line.now c.args.piece c.push-else-is_break.new.self c.requires.parted
+    (sym c.is_break.ensures ∙ c.if-is_break.false) c.in_ok-push-2.ensures.ok

@@ -10,7 +10,8 @@ abbrev pub invariant-loop-rest : goal.invariant-loop-rest
 invariant-loop-rest l = record {
   parted : AllParted l.out;
   sound : All IsSoundPiece l.out;
-  items_are : items l.out ++ map (char (call_of_origin l.origin)) (bytes_of l.rest) ≡ items l.initial.out ++ map (char (call_of_origin l.origin)) (bytes_of l.text);
+  items_are : items l.out ++ map (char (call_of_origin l.origin)) (bytes_of l.rest) ≡ items l.initial.out
+      ++ map (char (call_of_origin l.origin)) (bytes_of l.text);
 }
 
 abbrev pub decreases-loop-rest : goal.decreases-loop-rest

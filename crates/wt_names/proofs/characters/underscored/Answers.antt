@@ -4,4 +4,5 @@ use Rattle.wt_names.proofs.Ascii.{replaced_is}
 use Rattle.wt_names.proofs.characters.underscored.Goals as goal
 
 pub returns : goal.returns
-returns c = IfOk-weaker c.replace.result _ _ (λ s found. replaced_is 32 95 found.0 32 c.args.text.now (string_bytes s) (lit< tt) refl found.1) c.replace.ensures.ok
+returns c = IfOk-weaker c.replace.result _ _ (λ s found. replaced_is 32 95 found.0 32 c.args.text.now (string_bytes s)
+    (lit< tt) refl found.1) c.replace.ensures.ok

@@ -14,7 +14,8 @@ loop-c-preserved c =
           let made = ap string_bytes w.out-is ∙ w.in_ok-push.ensures.bytes in
           elim w.then-c-ne32.branch [
             | then-c-ne32-via-then-c-ne32 w' ↦ wrote_other c.loop-c.after_space c.in-Some.c out _ _ _ whole w'.if-c-ne32.true step made c.loop-c.invariant
-            | then-c-ne32-via-else-c-ne32+then-not-after_space w' ↦ wrote_space c.loop-c.after_space c.in-Some.c out _ _ _ whole w'.if-c-ne32.false w'.if-not-after_space.true step made c.loop-c.invariant
+            | then-c-ne32-via-else-c-ne32+then-not-after_space w' ↦ wrote_space c.loop-c.after_space c.in-Some.c out _ _ _ whole
+                w'.if-c-ne32.false w'.if-not-after_space.true step made c.loop-c.invariant
           ]
       | else-c-ne32+else-not-after_space w ↦
           ap (λ o. string_bytes o ++ squeezed (left_after (nat_eq c.in-Some.c 32) c.next.new.self.rest.now)) w.out-is

@@ -2,4 +2,5 @@ use Rattle.wt_names.proofs.Cuts.{trimmed_is}
 use Rattle.wt_names.proofs.reading.trimmed.Goals as goal
 
 pub returns : goal.returns
-returns c = trimmed_is c.args.text.now c.trim_start_matches.result.now c.trim_end_matches.result.now c.trim_start_matches.ensures.matches c.trim_end_matches.ensures.matches
+returns c = trimmed_is c.args.text.now c.trim_start_matches.result.now c.trim_end_matches.result.now
+    c.trim_start_matches.ensures.matches c.trim_end_matches.ensures.matches

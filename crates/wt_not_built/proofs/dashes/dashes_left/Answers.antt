@@ -3,7 +3,9 @@ use Rattle.wt_not_built.proofs.DashLaws.{dash_turn, dash_stop}
 use Rattle.wt_not_built.proofs.dashes.dashes_left.Goals as goal
 
 pub returns-then-byte-ne45 : goal.returns-then-byte-ne45
-returns-then-byte-ne45 c = λ o xs. c.loop-byte.invariant o xs ∙ dash_stop c.loop-byte.left c.loop-byte.byte-index o c.args.bytes.now xs c.loop-byte-test.true (omega arith) (λ e. absurd (omega arith))
+returns-then-byte-ne45 c = λ o xs. c.loop-byte.invariant o xs ∙ dash_stop c.loop-byte.left c.loop-byte.byte-index o
+    c.args.bytes.now xs c.loop-byte-test.true (omega arith) (λ e. absurd (omega arith))
 
 pub loop-byte-preserved : goal.loop-byte-preserved
-loop-byte-preserved c = λ o xs. c.loop-byte.invariant o xs ∙ dash_turn c.loop-byte.left c.loop-byte.byte-index o c.args.bytes.now xs c.loop-byte-test.true (omega arith) (omega arith)
+loop-byte-preserved c = λ o xs. c.loop-byte.invariant o xs ∙ dash_turn c.loop-byte.left c.loop-byte.byte-index o c.args.bytes.now
+    xs c.loop-byte-test.true (omega arith) (omega arith)

@@ -14,5 +14,7 @@ pub returns : goal.returns
 returns c =
     let chunks = c.args.chunks.now in
     let total = bytes_of chunks in
-    subst (λ (us : List Style). All (IsWhole total) us × AllPairs IsBehindOrInside us) (sym (styles_read chunks))
-    (whole total 0 false false false (steps_of chunks (toggles_of chunks)) (are_steps chunks), pairs_of total 0 false false false (steps_of chunks (toggles_of chunks)) (are_steps chunks))
+    subst (λ (us : List Style). All (IsWhole total) us × AllPairs IsBehindOrInside us) (sym (styles_read chunks)) (
+      whole total 0 false false false (steps_of chunks (toggles_of chunks)) (are_steps chunks),
+      pairs_of total 0 false false false (steps_of chunks (toggles_of chunks)) (are_steps chunks),
+    )

@@ -10,13 +10,20 @@ place_at chunks places k e h = ap (λ ps. get_or ps k 0) e ∙ get_or-map-range_
 
 pub bounds-places-toggle : goal.bounds-places-toggle
 bounds-places-toggle c =
-    let e : length c.args.places.now ≡ length c.args.chunks.now = ap length c.requires.places ∙ length-map-range_with_len (place_of c.args.chunks.now) 0 (length c.args.chunks.now) in
+    let e : length c.args.places.now ≡ length c.args.chunks.now = ap length c.requires.places
+    ∙ length-map-range_with_len (place_of c.args.chunks.now) 0 (length c.args.chunks.now) in
     omega (arith, c.requires.run.0)
 
 pub overflow_add-result : goal.overflow_add-result
 overflow_add-result c =
     let at = place_at c.args.chunks.now c.args.places.now c.args.toggle.now.chunk c.requires.places c.requires.run.0 in
-    omega (arith, c.requires.run.1, c.requires.bytes, run_within c.args.chunks.now c.args.toggle.now.chunk c.requires.run.0, place_le c.args.chunks.now (c.args.toggle.now.chunk + 1))
+    omega (
+      arith,
+      c.requires.run.1,
+      c.requires.bytes,
+      run_within c.args.chunks.now c.args.toggle.now.chunk c.requires.run.0,
+      place_le c.args.chunks.now (c.args.toggle.now.chunk + 1),
+    )
 
 pub returns : goal.returns
 returns c = ap (λ n. n + c.args.toggle.now.plain) (place_at c.args.chunks.now c.args.places.now c.args.toggle.now.chunk c.requires.places c.requires.run.0)

@@ -11,7 +11,13 @@ use Rattle.wt_quotes.proofs.Since.{since_more, since_none, flipped_within, withi
 use Rattle.wt_quotes.proofs.turn.turns.Goals as goal
 
 pub loop-at-init : goal.loop-at-init
-loop-at-init c = record { bold = since_none true c.args.toggles.now; italic = since_none false c.args.toggles.now; within = tt; turns = c.new-turns.ensures.items }
+loop-at-init c = record {
+  bold = since_none true c.args.toggles.now;
+  italic = since_none false c.args.toggles.now;
+  within =
+      tt;
+  turns = c.new-turns.ensures.items;
+}
 
 pub turn_of-requires-clause-within : goal.turn_of-requires-clause-within
 turn_of-requires-clause-within c = within_more c.loop-at.at (length c.args.toggles.now) c.loop-at.opened.bold c.loop-at-test.true c.loop-at.invariant.within

@@ -19,7 +19,8 @@ pub skip-cursor-requires-clause-low : goal.skip-cursor-requires-clause-low
 skip-cursor-requires-clause-low c =
     let xs = items c.args.line.pieces in
     let sg = c.as_slice-2.ensures ∙ c.in_ok-signs.ensures ∙ ap (map sign) (ap items c.as_slice.ensures) in
-    low_lead c.args.caption xs (waiting c.of.result) c.idle_len-lead.result (c.of.ensures.items ∙ ap items c.as_slice-4.ensures) (c.idle_len-lead.ensures.value ∙ ap (prefix_len is_idle) sg) c.requires.sign
+    low_lead c.args.caption xs (waiting c.of.result) c.idle_len-lead.result (c.of.ensures.items ∙ ap items c.as_slice-4.ensures)
+    (c.idle_len-lead.ensures.value ∙ ap (prefix_len is_idle) sg) c.requires.sign
 
 pub read_cells-requires-clause-signs_are : goal.read_cells-requires-clause-signs_are
 read_cells-requires-clause-signs_are c =
@@ -28,7 +29,8 @@ read_cells-requires-clause-signs_are c =
     let lead = c.idle_len-lead.ensures.value ∙ ap (prefix_len is_idle) sg in
     let all = c.as_slice-3.ensures ∙ c.in_ok-signs.ensures ∙ ap (map sign) (ap items c.as_slice.ensures) in
     left_is xs c.idle_len-lead.result c.as_slice-3.result.now c.rest_of-rest.result.now lead all c.rest_of-rest.ensures
-    ∙ ap (map sign) (sym (items_left xs (waiting c.of.result) (waiting c.skip-cursor.result) c.idle_len-lead.result lead (c.of.ensures.items ∙ ap items c.as_slice-4.ensures) c.skip-cursor.ensures.back))
+    ∙ ap (map sign) (sym (items_left xs (waiting c.of.result) (waiting c.skip-cursor.result) c.idle_len-lead.result lead
+    (c.of.ensures.items ∙ ap items c.as_slice-4.ensures) c.skip-cursor.ensures.back))
 
 pub read_cells-requires-clause-sign : goal.read_cells-requires-clause-sign
 read_cells-requires-clause-sign c =
@@ -37,7 +39,8 @@ read_cells-requires-clause-sign c =
     let lead = c.idle_len-lead.ensures.value ∙ ap (prefix_len is_idle) sg in
     let all = c.as_slice-3.ensures ∙ c.in_ok-signs.ensures ∙ ap (map sign) (ap items c.as_slice.ensures) in
     let rest = left_is xs c.idle_len-lead.result c.as_slice-3.result.now c.rest_of-rest.result.now lead all c.rest_of-rest.ensures in
-    subst (λ (n : ℕ). HasSign n c.rest_of-rest.result.now) (sym c.mode-by.ensures.len) (subst (HasSign _) (sym rest) (first_sign c.args.caption xs c.requires.sign))
+    subst (λ (n : ℕ). HasSign n c.rest_of-rest.result.now) (sym c.mode-by.ensures.len)
+    (subst (HasSign _) (sym rest) (first_sign c.args.caption xs c.requires.sign))
 
 pub returns-clause-value : goal.returns-clause-value
 returns-clause-value c =
@@ -46,8 +49,10 @@ returns-clause-value c =
     let lead = c.idle_len-lead.ensures.value ∙ ap (prefix_len is_idle) sg in
     let all = c.as_slice-3.ensures ∙ c.in_ok-signs.ensures ∙ ap (map sign) (ap items c.as_slice.ensures) in
     let rest = left_is xs c.idle_len-lead.result c.as_slice-3.result.now c.rest_of-rest.result.now lead all c.rest_of-rest.ensures in
-    let now = items_left xs (waiting c.of.result) (waiting c.skip-cursor.result) c.idle_len-lead.result lead (c.of.ensures.items ∙ ap items c.as_slice-4.ensures) c.skip-cursor.ensures.back in
-    cells_are c.args.caption xs (waiting c.skip-cursor.result) c.mode-by.result.0 c.mode-by.result.1 c.mode-by.result.2 c.rest_of-rest.result.now _ rest c.mode-by.ensures.by c.mode-by.ensures.header c.mode-by.ensures.len now c.in_ok-cells.ensures.value
+    let now = items_left xs (waiting c.of.result) (waiting c.skip-cursor.result) c.idle_len-lead.result lead
+    (c.of.ensures.items ∙ ap items c.as_slice-4.ensures) c.skip-cursor.ensures.back in
+    cells_are c.args.caption xs (waiting c.skip-cursor.result) c.mode-by.result.0 c.mode-by.result.1 c.mode-by.result.2
+    c.rest_of-rest.result.now _ rest c.mode-by.ensures.by c.mode-by.ensures.header c.mode-by.ensures.len now c.in_ok-cells.ensures.value
 
 pub returns-clause-joined : goal.returns-clause-joined
 returns-clause-joined c =
@@ -56,6 +61,9 @@ returns-clause-joined c =
     let lead = c.idle_len-lead.ensures.value ∙ ap (prefix_len is_idle) sg in
     let all = c.as_slice-3.ensures ∙ c.in_ok-signs.ensures ∙ ap (map sign) (ap items c.as_slice.ensures) in
     let rest = left_is xs c.idle_len-lead.result c.as_slice-3.result.now c.rest_of-rest.result.now lead all c.rest_of-rest.ensures in
-    let now = items_left xs (waiting c.of.result) (waiting c.skip-cursor.result) c.idle_len-lead.result lead (c.of.ensures.items ∙ ap items c.as_slice-4.ensures) c.skip-cursor.ensures.back in
-    let value = cells_are c.args.caption xs (waiting c.skip-cursor.result) c.mode-by.result.0 c.mode-by.result.1 c.mode-by.result.2 c.rest_of-rest.result.now _ rest c.mode-by.ensures.by c.mode-by.ensures.header c.mode-by.ensures.len now c.in_ok-cells.ensures.value in
+    let now = items_left xs (waiting c.of.result) (waiting c.skip-cursor.result) c.idle_len-lead.result lead
+    (c.of.ensures.items ∙ ap items c.as_slice-4.ensures) c.skip-cursor.ensures.back in
+    let value = cells_are c.args.caption xs (waiting c.skip-cursor.result) c.mode-by.result.0 c.mode-by.result.1
+    c.mode-by.result.2 c.rest_of-rest.result.now _ rest c.mode-by.ensures.by c.mode-by.ensures.header c.mode-by.ensures.len
+    now c.in_ok-cells.ensures.value in
     views_joined c.in_ok-cells.cells ∙ ap (flat_map whole) value ∙ cells_joined c.args.caption xs

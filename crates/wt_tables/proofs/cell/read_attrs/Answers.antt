@@ -29,13 +29,15 @@ returns-then-len-body-clause-attrs c =
 
 pub behind_sign-requires-clause-low : goal.behind_sign-requires-clause-low
 behind_sign-requires-clause-low c =
-    low_bar c.args.n (items c.args.part.now) c.args.signs.now c.rest_of-body.result.now c.single_at-len.result c.requires.signs_are c.rest_of-body.ensures c.single_at-len.ensures.value
+    low_bar c.args.n (items c.args.part.now) c.args.signs.now c.rest_of-body.result.now c.single_at-len.result
+    c.requires.signs_are c.rest_of-body.ensures c.single_at-len.ensures.value
 
 pub is_plain-requires : goal.is_plain-requires
 is_plain-requires c =
     let xs = drop c.args.n (items c.args.part.now) in
     let b = body_is c.args.n (items c.args.part.now) c.args.signs.now c.rest_of-body.result.now c.requires.signs_are c.rest_of-body.ensures in
-    c.front_of.ensures ∙ ap (take c.single_at-len.result) b ∙ take-map sign c.single_at-len.result xs ∙ ap (map sign) (sym (ap items c.as_slice.ensures ∙ c.in_ok-front.ensures.items))
+    c.front_of.ensures ∙ ap (take c.single_at-len.result) b ∙ take-map sign c.single_at-len.result xs
+    ∙ ap (map sign) (sym (ap items c.as_slice.ensures ∙ c.in_ok-front.ensures.items))
 
 pub returns-then-not-is_plain-clause-len : goal.returns-then-not-is_plain-clause-len
 returns-then-not-is_plain-clause-len c =
@@ -64,9 +66,11 @@ returns-clause-len c =
     let front = ap items c.as_slice.ensures ∙ c.in_ok-front.ensures.items in
     let l : c.single_at-len.result < length xs = omega (arith, c.if-len-body.false, c.single_at-len.ensures.within, ap length b, length-map xs sign) in
     let e = some_bar xs c.single_at-len.result k l (ap is_plain (sym front) ∙ sym c.is_plain.ensures ∙ c.if-not-is_plain.false) in
-    let size : length c.rest_of-body.result.now ≡ length c.args.signs.now - c.args.n = ap length c.rest_of-body.ensures ∙ length-drop c.args.n c.args.signs.now in
+    let size : length c.rest_of-body.result.now ≡ length c.args.signs.now - c.args.n = ap length c.rest_of-body.ensures
+    ∙ length-drop c.args.n c.args.signs.now in
     let same : length c.rest_of-body.result.now ≡ length xs = ap length b ∙ length-map xs sign in
-    let z : length c.args.signs.now - (length c.rest_of-body.result.now - c.single_at-len.result - 1) ≡ c.args.n + (c.single_at-len.result + 1) = omega (arith, size, same, l, c.requires.sign.within) in
+    let z : length c.args.signs.now - (length c.rest_of-body.result.now - c.single_at-len.result - 1) ≡ c.args.n
+    + (c.single_at-len.result + 1) = omega (arith, size, same, l, c.requires.sign.within) in
     z ∙ ap (λ o. c.args.n + past_bar o) (sym e)
 
 pub returns-clause-attrs : goal.returns-clause-attrs

@@ -11,4 +11,12 @@ inner_len-requires-clause-few c = omega (arith, opens_few c.args.tables _ c.requ
 
 pub overflow_add-result-2 : goal.overflow_add-result-2
 overflow_add-result-2 c =
-    omega (arith, c.inner_len.ensures.within, ap length c.rest_of-inner.ensures, length-drop (c.args.at + 1) c.as_slice.result.now, ap length c.as_slice.ensures, opens_within c.args.tables c.args.at c.args.lines.now c.requires.opens, c.requires.few)
+    omega (
+      arith,
+      c.inner_len.ensures.within,
+      ap length c.rest_of-inner.ensures,
+      length-drop (c.args.at + 1) c.as_slice.result.now,
+      ap length c.as_slice.ensures,
+      opens_within c.args.tables c.args.at c.args.lines.now c.requires.opens,
+      c.requires.few,
+    )

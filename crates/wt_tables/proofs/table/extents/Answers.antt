@@ -10,4 +10,5 @@ returns c =
     let ks = c.args.kinds.now in
     let zero_at : c.loop-at.at ≡ 0 = omega (arith, c.loop-at-test.false) in
     let all = ap (λ n. reverse (ends_from n (length ks) (drop n ks))) zero_at in
-    c.from_vec.ensures ∙ c.reverse.ensures.items ∙ ap reverse (c.loop-at.invariant.ends_are ∙ all) ∙ reverse-reverse (ends_from 0 (length ks) ks) ∙ sym (ends_are ks)
+    c.from_vec.ensures ∙ c.reverse.ensures.items ∙ ap reverse (c.loop-at.invariant.ends_are ∙ all)
+    ∙ reverse-reverse (ends_from 0 (length ks) ks) ∙ sym (ends_are ks)

@@ -10,7 +10,8 @@ use Rattle.wt_tiles.specs.Tables.{nearest, nearest_by, AreNearest}
 use Rattle.wt_tiles.proofs.Pairs.{nearest_within, own_next, other_next, set_next}
 use Rattle.wt_tiles.proofs.partner.pass.Goals as goal
 
-known_is : (gs : List Glyph) (old : List (Option ℕ)) (i : ℕ) (m : TagName) → i ≡ number m → i < 7 → AreNearest (drop 1 gs) old → slice_index_or old i None ≡ nearest (number m) (drop 1 gs)
+known_is : (gs : List Glyph) (old : List (Option ℕ)) (i : ℕ) (m : TagName) → i ≡ number m → i < 7 → AreNearest (drop 1 gs) old
+    → slice_index_or old i None ≡ nearest (number m) (drop 1 gs)
 known_is gs old i m e within a = get_or_from_slice_get old i (nearest i (drop 1 gs)) None (a.known i within) ∙ ap (λ k. nearest k (drop 1 gs)) e
 
 pub nearest_by-requires : goal.nearest_by-requires

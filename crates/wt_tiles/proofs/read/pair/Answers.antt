@@ -20,7 +20,8 @@ pair_left-requires c =
     let gs = c.args.rest.now in
     let f = fits gs c.args.tag c.requires.tag in
     let own = c.in_ok-closing.ensures.value ∙ ap own_partner (sym c.requires.end) in
-    if_some c.in_ok-closing.closing _ (λ left is. closing_within gs c.args.tag c.args.name left (omega (arith, f.within, f.some)) c.requires.tag c.requires.name c.requires.shape f.within (sym own ∙ is))
+    if_some c.in_ok-closing.closing _ (λ left is. closing_within gs c.args.tag c.args.name left
+    (omega (arith, f.within, f.some)) c.requires.tag c.requires.name c.requires.shape f.within (sym own ∙ is))
 
 pub returns-clause-value : goal.returns-clause-value
 returns-clause-value c =
@@ -28,4 +29,5 @@ returns-clause-value c =
     let f = fits gs c.args.tag c.requires.tag in
     let own = c.in_ok-closing.ensures.value ∙ ap own_partner (sym c.requires.end) in
     c.pair_left.ensures ∙ ap (λ (o : Option ℕ). pair_left c.args.tag.len o gs) own
-    ∙ pair_is c.args.pairs gs c.args.tag c.args.name (few c.args.pairs c.if-pairs-ge-MOST_PAIRS.false) (omega (arith, f.within, f.some)) c.requires.tag c.requires.name c.requires.shape f.within
+    ∙ pair_is c.args.pairs gs c.args.tag c.args.name (few c.args.pairs c.if-pairs-ge-MOST_PAIRS.false)
+    (omega (arith, f.within, f.some)) c.requires.tag c.requires.name c.requires.shape f.within

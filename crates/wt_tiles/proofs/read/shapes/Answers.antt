@@ -21,7 +21,8 @@ loop-at-preserved-in_default c =
       order = omega (arith, before.order);
       within = omega (arith, c.loop-at-test.true);
       known = c.in_ok-shape.ensures.kept ∙ before.known;
-      done = char_more c.args.context c.args.glyphs.now c.loop-at.from c.loop-at.at c.loop-at.out c.loop-at-test.true before.order (sym c.in_ok-shape.ensures.value ∙ c.in_default.is) before.done;
+      done = char_more c.args.context c.args.glyphs.now c.loop-at.from c.loop-at.at c.loop-at.out c.loop-at-test.true before.order
+          (sym c.in_ok-shape.ensures.value ∙ c.in_default.is) before.done;
     }
 
 pub len-at-requires : goal.len-at-requires
@@ -37,7 +38,8 @@ overflow_add-at-in-loop-at c =
 pub loop-at-smaller : goal.loop-at-smaller
 loop-at-smaller c =
     let f = fits_at c.args.context _ c.args.glyphs.now c.loop-at.at c.in-Some.shape c.loop-at-test.true (sym c.in_ok-shape.ensures.value ∙ c.in-Some.is) in
-    let less : length c.args.glyphs.now - (c.loop-at.at + c.len-at.result) < length c.args.glyphs.now - c.loop-at.at = omega (arith, f.within, f.some, c.len-at.ensures) in
+    let less : length c.args.glyphs.now - (c.loop-at.at + c.len-at.result) < length c.args.glyphs.now - c.loop-at.at =
+    omega (arith, f.within, f.some, c.len-at.ensures) in
     less
 
 pub loop-at-preserved : goal.loop-at-preserved
@@ -51,5 +53,7 @@ loop-at-preserved c =
       order = omega arith;
       within = omega (arith, f.within, c.len-at.ensures);
       known = c.in_ok-shape.ensures.kept ∙ before.known;
-      done = subst P (sym c.len-at.ensures) (form_more c.args.context gs c.loop-at.out c.push_chars.new.out c.push.new.self c.loop-at.from c.loop-at.at c.in-Some.shape c.loop-at-test.true f.some is c.in_ok-push_chars.ensures c.in_ok-push.ensures.ok before.done);
+      done = subst P (sym c.len-at.ensures) (form_more c.args.context gs c.loop-at.out c.push_chars.new.out c.push.new.self
+          c.loop-at.from c.loop-at.at c.in-Some.shape c.loop-at-test.true f.some is c.in_ok-push_chars.ensures
+          c.in_ok-push.ensures.ok before.done);
     }

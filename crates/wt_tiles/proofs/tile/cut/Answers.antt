@@ -21,8 +21,11 @@ loop-shape-preserved c =
     let S : Tile → Type 0 = λ t. All IsSoundPiece t.pieces in
     let T : List Tile → Type 0 = λ ts. All S ts in
     record {
-      value = parts_next c.args.shapes.now i _ c.loop-shape.out c.push.new.self c.of.result rest after (items c.in_ok-taken.taken) _ c.loop-shape-test.true c.in_ok-push.ensures.ok c.of.ensures.value front back before.value;
+      value = parts_next c.args.shapes.now i _ c.loop-shape.out c.push.new.self c.of.result rest after
+          (items c.in_ok-taken.taken) _ c.loop-shape-test.true c.in_ok-push.ensures.ok c.of.ensures.value front back before.value;
       cuts = cuts_next c.args.shapes.now i _ rest after c.loop-shape-test.true back before.cuts;
       sound = c.in_ok-taken.ensures.sound_back;
-      sound_tiles = subst T (sym c.in_ok-push.ensures.ok) (All-push S c.loop-shape.out c.of.result before.sound_tiles (subst P (sym c.of.ensures.pieces_are) c.in_ok-taken.ensures.sound_front));
+      sound_tiles = subst T (sym c.in_ok-push.ensures.ok)
+          (All-push S c.loop-shape.out c.of.result before.sound_tiles
+          (subst P (sym c.of.ensures.pieces_are) c.in_ok-taken.ensures.sound_front));
     }

@@ -4,7 +4,8 @@ use Rattle.wt_tiles.proofs.tile.take_items.Goals as goal
 
 pub take_piece-requires-clause-edge : goal.take_piece-requires-clause-edge
 take_piece-requires-clause-edge c =
-    front_edge (rest_pieces c.loop-left.rest) c.in-Some.after.now c.in-Some.piece c.loop-left.left c.in-Some.ensures.value c.loop-left-test.true (c.loop-left.invariant.edge c.loop-left-test.true)
+    front_edge (rest_pieces c.loop-left.rest) c.in-Some.after.now c.in-Some.piece c.loop-left.left c.in-Some.ensures.value
+    c.loop-left-test.true (c.loop-left.invariant.edge c.loop-left-test.true)
 
 pub loop-left-preserved : goal.loop-left-preserved
 loop-left-preserved c =

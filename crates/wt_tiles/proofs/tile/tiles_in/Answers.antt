@@ -33,4 +33,5 @@ pub returns-clause-joined : goal.returns-clause-joined
 returns-clause-joined c =
     let xs = items c.args.pieces.now in
     let is = c.as_slice-2.ensures ∙ c.in_ok-shapes.ensures ∙ ap (shapes c.args.context) (c.as_slice.ensures ∙ c.in_ok-glyphs.ensures) in
-    IfOk-weaker c.cut.result _ _ (λ ts e. items_are c.args.context xs ts (e ∙ ap (λ ws. parts ws xs) is ∙ sym (tiles_are c.args.context xs))) c.cut.ensures.value
+    IfOk-weaker c.cut.result _ _ (λ ts e. items_are c.args.context xs ts
+    (e ∙ ap (λ ws. parts ws xs) is ∙ sym (tiles_are c.args.context xs))) c.cut.ensures.value

@@ -8,7 +8,8 @@ use Rattle.wt_tiles.proofs.url.kept_len.Given as goal
 abbrev pub invariant-loop-end : goal.invariant-loop-end
 invariant-loop-end l = record {
   within : l.end ≤ length l.items;
-  rest : l.end - prefix_len (is_in (is_dropped l.paren)) (reverse (take l.end l.items)) ≡ length l.items - prefix_len (is_in (is_dropped l.paren)) (reverse l.items);
+  rest : l.end - prefix_len (is_in (is_dropped l.paren)) (reverse (take l.end l.items))
+      ≡ length l.items - prefix_len (is_in (is_dropped l.paren)) (reverse l.items);
 }
 
 abbrev pub decreases-loop-end : goal.decreases-loop-end

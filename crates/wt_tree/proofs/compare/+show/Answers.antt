@@ -5,7 +5,8 @@ use Rattle.wt_tree.proofs.compare.+show.Goals as goal
 
 pub show-returns-in_ok-close-in-Element : goal.show-returns-in_ok-close-in-Element
 show-returns-in_ok-close-in-Element t c =
-    signs_element c.args.node.now _ _ _ _ (sym c.showing.ensures ∙ c.in-Element.is) c.in_ok-open-in-Element.ensures (rw c.as_slice-in-Element.ensures at c.in_ok-show_all-in-Element.ensures) c.in_ok-close-in-Element.ensures
+    signs_element c.args.node.now _ _ _ _ (sym c.showing.ensures ∙ c.in-Element.is) c.in_ok-open-in-Element.ensures
+    (rw c.as_slice-in-Element.ensures at c.in_ok-show_all-in-Element.ensures) c.in_ok-close-in-Element.ensures
 
 pub show_all-loop-node-preserved : goal.show_all-loop-node-preserved
 show_all-loop-node-preserved t c =

@@ -11,5 +11,12 @@ returns-in-Ok-put-clause-fed c =
 
 pub returns-in-Err-clause-fed : goal.returns-in-Err-clause-fed
 returns-in-Err-clause-fed c =
-    byte_err c.args.self.now (record { machine = c.take.new.self; builder = c.args.self.now.builder; taken = c.args.self.now.taken; failed = Some c.refusal_of-refusal.result })
-    c.args.byte (out (view c.args.self.now.machine) c.args.byte) c.in-Err.fault (view c.take.new.self) c.requires.going (ap Some c.refusal_of-refusal.ensures) c.in-Err.ensures
+    byte_err c.args.self.now (record {
+      machine = c.take.new.self;
+      builder = c.args.self.now.builder;
+      taken =
+          c.args.self.now.taken;
+      failed = Some c.refusal_of-refusal.result;
+    })
+    c.args.byte (out (view c.args.self.now.machine) c.args.byte) c.in-Err.fault (view c.take.new.self) c.requires.going
+    (ap Some c.refusal_of-refusal.ensures) c.in-Err.ensures

@@ -13,5 +13,8 @@ returns-in_ok-push c =
     let p = c.args.piece in
     let us_are = pushed c.args.trees c.push.new.self c.in_ok-leaf.leaf c.in_ok-push.ensures.ok in
     IfOk-weaker c.begun.result _ _
-    (λ g e. grows_past (item_trees c.args.trees) (item_trees c.push.new.self) (item_tree c.in_ok-leaf.leaf) (open_run run) c.args.loose (call_of_origin p.origin) (items_of p) (grown g) (one_run (open_run run) run.some run.one_origin) (sym c.if-takes.ensures) (of_chars p.form (call_of_origin p.origin) p.text.of.now c.requires.chars) c.requires.some c.in_ok-leaf.ensures us_are e)
+    (λ g e. grows_past (item_trees c.args.trees) (item_trees c.push.new.self) (item_tree c.in_ok-leaf.leaf)
+    (open_run run) c.args.loose (call_of_origin p.origin) (items_of p) (grown g)
+    (one_run (open_run run) run.some run.one_origin) (sym c.if-takes.ensures)
+    (of_chars p.form (call_of_origin p.origin) p.text.of.now c.requires.chars) c.requires.some c.in_ok-leaf.ensures us_are e)
     c.begun.ensures

@@ -10,5 +10,6 @@ use Rattle.wt_inline.proofs.children.Children.with_piece.Goals as goal
 pub returns-in_ok-tree : goal.returns-in_ok-tree
 returns-in_ok-tree c =
     let p = c.args.piece in
-    let e = ap (λ t. node t ∷ []) c.in_ok-tree.ensures ∙ sym (whole_parts c.args.loose p.form (call_of_origin p.origin) (bytes_of p.text) (sym c.if-is_chars.ensures)) in
+    let e = ap (λ t. node t ∷ []) c.in_ok-tree.ensures
+    ∙ sym (whole_parts c.args.loose p.form (call_of_origin p.origin) (bytes_of p.text) (sym c.if-is_chars.ensures)) in
     IfOk-weaker c.with_tree.result _ _ (λ h g. subst (λ (ps : List Part). Grows (grown c.args.self) ps (grown h)) e g) c.with_tree.ensures

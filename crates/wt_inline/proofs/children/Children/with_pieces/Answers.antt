@@ -3,4 +3,6 @@ use Rattle.wt_inline.proofs.Trees.{pieces_step}
 use Rattle.wt_inline.proofs.children.Children.with_pieces.Goals as goal
 
 pub loop-piece-preserved : goal.loop-piece-preserved
-loop-piece-preserved c = pieces_step (grown c.args.self) (grown c.loop-piece.children) (grown c.in_ok-children.children) c.args.loose c.args.pieces.now c.loop-piece.piece-index c.piece-item.result c.loop-piece-test.true c.piece-item.is c.loop-piece.invariant c.in_ok-children.ensures
+loop-piece-preserved c = pieces_step (grown c.args.self) (grown c.loop-piece.children)
+    (grown c.in_ok-children.children) c.args.loose c.args.pieces.now c.loop-piece.piece-index c.piece-item.result
+    c.loop-piece-test.true c.piece-item.is c.loop-piece.invariant c.in_ok-children.ensures

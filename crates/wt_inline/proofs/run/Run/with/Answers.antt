@@ -13,5 +13,6 @@ invariant_of-result c =
     let is : items c.push.new.self ≡ items self.pieces ++ items_of p = items_more self.pieces c.push.new.self p c.in_ok-push.ensures.ok in
     record {
       some = omega (arith, ap length is, length-append (items self.pieces) (items_of p), self.some);
-      one_origin = ap (are_of (call_of_origin self.origin)) is ∙ more_are (call_of_origin self.origin) (call_of_origin p.origin) p.form p.text.of.now (items self.pieces) self.one_origin c.requires.chars c.requires.same;
+      one_origin = ap (are_of (call_of_origin self.origin)) is ∙ more_are (call_of_origin self.origin)
+          (call_of_origin p.origin) p.form p.text.of.now (items self.pieces) self.one_origin c.requires.chars c.requires.same;
     }

@@ -12,5 +12,6 @@ loop-at-preserved c =
     record {
       within = omega arith;
       behind = omega (arith, l.invariant.behind);
-      rest = first_goes c.args.self l.at c.args.signs.now _ c.loop-at-test.true (ap (splits c.args.self) (sym c.rest_of.ensures) ∙ sym c.begin.ensures ∙ c.if-begin.false) l.invariant.rest;
+      rest = first_goes c.args.self l.at c.args.signs.now _ c.loop-at-test.true
+          (ap (splits c.args.self) (sym c.rest_of.ensures) ∙ sym c.begin.ensures ∙ c.if-begin.false) l.invariant.rest;
     }

@@ -7,4 +7,5 @@ pub loop-at-preserved : goal.loop-at-preserved
 loop-at-preserved c =
     let s = c.args.self in
     place_more (stops s) (bars s) c.args.glyphs.now c.loop-at.at _ c.loop-at-test.true
-    (ap (stops s) (sym c.rest_of-rest.ensures) ∙ sym c.if-stops.ensures) (ap (bars s) (sym c.rest_of-rest.ensures) ∙ sym c.if-is_barred.ensures) c.loop-at.invariant
+    (ap (stops s) (sym c.rest_of-rest.ensures) ∙ sym c.if-stops.ensures)
+    (ap (bars s) (sym c.rest_of-rest.ensures) ∙ sym c.if-is_barred.ensures) c.loop-at.invariant

@@ -1,0 +1,17 @@
+pub mod Alikes
+pub mod AsItWas
+pub mod Cases
+pub mod Comparisons
+pub mod Elements
+pub mod Entries
+pub mod Firsts
+pub mod InOrder
+pub mod Known
+pub mod Lookups
+pub mod Moved
+pub mod Repeated
+pub mod Shows
+pub mod Signs
+pub mod Spans
+pub mod Visits
+pub mod WhatIsKept

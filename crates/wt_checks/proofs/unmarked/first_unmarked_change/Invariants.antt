@@ -1,0 +1,9 @@
+use Rattle.std.proofs.Common.{◌≡◌, take, drop}
+use Rattle.wt_checks.specs.Unmarked.{is_unmarked_change}
+use Rattle.wt_checks.specs.Places.{first, first_after}
+use Rattle.wt_checks.specs.View.{all_seen, indexed}
+use Rattle.wt_checks.proofs.unmarked.first_unmarked_change.Given as goal
+
+abbrev pub invariant-loop-visit : goal.invariant-loop-visit
+invariant-loop-visit l =
+    first (is_unmarked_change (indexed l.index)) (all_seen l.edited) ≡ first_after (is_unmarked_change (indexed l.index)) (all_seen (take l.visit-index l.edited)) (all_seen (drop l.visit-index l.edited))

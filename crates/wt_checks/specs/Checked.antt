@@ -1,0 +1,28 @@
+-- What the checks of an edit answer: the first refusal by number, then the first place in preorder.
+use Rattle.std.specs.Prelude.{ℕ, Bool, Option, Some, None, List}
+use Rattle.wt_tree.specs.Tree.{Tree}
+use Rattle.wt_checks.specs.declared.refusal.Check.{Check}
+use Rattle.wt_checks.specs.declared.refusal.Check.TheVariants.{UnknownId, RepeatedId, Moved, InTemplate, NotEditable, UnmarkedChange}
+use Rattle.wt_checks.specs.Places.{Place, places, Page, page_of, first}
+use Rattle.wt_checks.specs.Ids.{is_unknown, is_repeated, is_moved}
+use Rattle.wt_checks.specs.Groups.{is_in_template}
+use Rattle.wt_checks.specs.Marks.{is_wrongly_marked}
+use Rattle.wt_checks.specs.Unmarked.{is_unmarked_change}
+
+-- this refusal at a place, or else what comes after
+abbrev pub or_else : Option ℕ → (ℕ → Check) → Option Check → Option Check
+or_else None refusal rest = rest
+or_else (Some n) refusal rest = Some (refusal n)
+
+-- for what the page has, and the places of the edited tree
+abbrev pub refused : Bool → Page → List Place → Option Check
+refused values page edited =
+    or_else (first (is_unknown page) edited) UnknownId
+    (or_else (first is_repeated edited) RepeatedId
+    (or_else (first (is_moved page) edited) Moved
+    (or_else (first (is_in_template values page) edited) InTemplate
+    (or_else (first (is_wrongly_marked page) edited) NotEditable
+    (or_else (first (is_unmarked_change page) edited) UnmarkedChange None)))))
+
+unfoldable pub checked : Bool → Tree → Tree → Option Check
+checked values page edited = refused values (page_of page) (places edited)

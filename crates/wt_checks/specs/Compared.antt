@@ -1,0 +1,12 @@
+-- What the code says of the nodes that are compared.
+use Rattle.std.specs.Prelude.{◌≡◌, ℕ, ◌+◌, ◌≤◌, ◌<◌, List, ◌∷◌, length, drop, slice_index_or}
+use Rattle.wt_tree.specs.View.{views, label_of}
+use Rattle.wt_tree.specs.declared.node.Node.{Node, out-Node}
+use Rattle.wt_checks.specs.Unmarked.{entry, entries}
+
+-- From one place on and from the other the same is compared, and a node that stands there is.
+pub record ComparedFrom (nodes : List Node) (from at : ℕ) : Type 0 where
+  pub later : from ≤ at
+  pub within : at ≤ length nodes
+  pub same : entries (views (drop from nodes)) ≡ entries (views (drop at nodes))
+  pub first : (n : Node) → at < length nodes → n ≡ slice_index_or nodes at n → entries (views (drop at nodes)) ≡ entry (label_of (out-Node n)) ∷ entries (views (drop (at + 1) nodes))

@@ -1,0 +1,73 @@
+-- What is kept, in other words than the tests of a place: as sublists of numbers, and as equations.
+use Rattle.std.specs.Prelude.{◌≡◌, ◌⊎◌, ℕ, ◌==◌, ◌&&◌, ◌||◌, Bool, true, false, None, MatchOption, List, [], ◌∷◌, if◌then◌else◌}
+use Rattle.std.specs.List.{AllByRecursion}
+use Rattle.wt_tree.specs.Kinds.{writing}
+use Rattle.wt_tree.specs.Tiling.{is_group}
+use Rattle.wt_tree.specs.Tree.{Tree, tree, Trees, label}
+use Rattle.wt_checks.specs.Elements.{written_for, all_read, signs_in}
+use Rattle.wt_checks.specs.Groups.{is_marked, has_mark}
+use Rattle.wt_checks.specs.Marks.{editing, allows}
+use Rattle.wt_checks.specs.Places.{Place, number, kind_at, is_kept, is_body, places, Page, page_of}
+use Rattle.wt_checks.specs.Unmarked.{own_character, entries}
+
+-- ---- kept nodes in their order
+
+-- the first list is what is left of the second one where some members are left out
+abbrev pub IsSublist : List ℕ → List ℕ → Type 0
+IsSublist [] ys = Unit {0}
+IsSublist (x ∷ xs) [] = ⊥
+IsSublist (x ∷ xs) (y ∷ ys) = ((x ≡ y) × IsSublist xs ys) ⊎ IsSublist (x ∷ xs) ys
+
+-- the numbers of the kept nodes with this kept parent
+abbrev pub kept_under : ℕ → List Place → List ℕ
+kept_under n [] = []
+kept_under n (p ∷ ps) = if is_kept p && p.parent == n then number p ∷ kept_under n ps else kept_under n ps
+
+-- Under each kept parent the kept nodes are some of the page's, in their order.
+abbrev pub InOrder : List Place → List Place → Type 0
+InOrder page edited = (n : ℕ) → IsSublist (kept_under n edited) (kept_under n page)
+
+-- ---- nodes as they were
+
+abbrev pub children : Tree → Trees
+children (tree l ts) = ts
+
+-- a group of the page and what stands for it
+pub record GroupAsItWas (values : Bool) (t u : Tree) : Type 0 where
+  pub unmarked : has_mark u ≡ false
+  pub group : is_group (label u).kind ≡ true
+  pub attrs : (label t).attrs ≡ (label u).attrs
+  pub elements : signs_in (written_for (children t)) ≡ signs_in (all_read (children u))
+  pub mw : (values ≡ true) ⊎ ((label t).mw ≡ (label u).mw)
+
+-- the same texts and children, and the same character
+pub record HoldsTheSame (t u : Tree) : Type 0 where
+  pub character : own_character (writing (label t).kind) (label t).shown ≡ own_character (writing (label u).kind) (label u).shown
+  pub held : entries (children t) ≡ entries (children u)
+
+-- another node of the page and what stands for it
+pub record NodeAsItWas (t u : Tree) : Type 0 where
+  pub kind : (label t).kind ≡ (label u).kind
+  pub attrs : (label t).attrs ≡ (label u).attrs
+  pub mw : ((label t).mw ≡ None) ⊎ ((label t).mw ≡ (label u).mw)
+  pub holds : (is_marked (label u).mark ≡ true) ⊎ HoldsTheSame t u
+
+-- it has a number, or is the body
+abbrev pub is_of_page : Place → Bool
+is_of_page p = is_kept p || is_body (kind_at p)
+
+-- a mark that may stand there
+pub record WellMarked (page : Page) (p : Place) : Type 0 where
+  pub outside : p.in_content ≡ false
+  pub old : is_of_page p ≡ true
+  pub allowed : allows (editing (kind_at p)) (label p.node).mark (page (number p)) ≡ true
+
+-- Everything that isn't marked is kept: kept nodes in their order, groups as they were, each other node
+-- of the page outside marked content as it was, and marks where they may stand.
+pub record Kept (values : Bool) (page edited : Tree) : Type 0 where
+  pub order : InOrder (places page) (places edited)
+  pub groups :
+      AllByRecursion (λ p. is_kept p ≡ true → MatchOption (page_of page (number p)) (Unit {0}) (λ q. is_group (kind_at q) ≡ true → GroupAsItWas values q.node p.node)) (places edited)
+  pub nodes :
+      AllByRecursion (λ p. is_of_page p ≡ true → p.in_content ≡ false → MatchOption (page_of page (number p)) (Unit {0}) (λ q. is_group (kind_at q) ≡ false → NodeAsItWas q.node p.node)) (places edited)
+  pub marks : AllByRecursion (λ p. is_marked (label p.node).mark ≡ true → WellMarked (page_of page) p) (places edited)

@@ -1,0 +1,12 @@
+pub mod Places
+pub mod View
+pub mod Ids
+pub mod Alike
+pub mod Elements
+pub mod Groups
+pub mod Marks
+pub mod Unmarked
+pub mod Compared
+pub mod Tokens
+pub mod Kept
+pub mod Checked

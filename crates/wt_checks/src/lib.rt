@@ -1,0 +1,22 @@
+//! The checks of an edit that compare two trees alone, the page's and the edited one: unknown,
+//! repeated and moved numbers, changed groups, marks where none may stand, and changes without a mark.
+#![tactic(auto)]
+
+mod alike;
+mod checking;
+mod editing;
+mod groups;
+mod ids;
+mod index;
+mod laws;
+mod marks;
+mod read;
+mod refusal;
+mod unmarked;
+mod visit;
+mod written;
+
+pub use checking::check;
+pub use editing::Editing;
+pub use laws::what_is_kept;
+pub use refusal::Check;

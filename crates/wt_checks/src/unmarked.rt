@@ -1,0 +1,164 @@
+ghost use Rattle.std.specs.Prelude.{◌≡◌, ◌≤◌, ◌<◌, ◌&&◌, ◌||◌, [], not, option_map, length, drop};
+ghost use Rattle.std.specs.Str.{bytes_eq};
+ghost use Rattle.wt_tree.specs.Kinds.{showing, writing};
+ghost use Rattle.wt_tree.specs.View.{view, views, label_of};
+ghost use Rattle.wt_tree.specs.declared.node.Node.{out-Node};
+ghost use Rattle.wt_checks.specs.Places.{first};
+ghost use Rattle.wt_checks.specs.Unmarked.{is_compared, entry, entries, own_character, holds_same, same_entry, same_entries, keeps_data, keeps_face, keeps_children, is_other, is_unmarked_change};
+ghost use Rattle.wt_checks.specs.View.{seen, all_seen, indexed};
+ghost use Rattle.wt_checks.specs.Compared.{ComparedFrom};
+
+use crate::alike::{same_attrs, same_data, same_kind};
+use crate::index::original;
+use crate::marks::{is_body, is_group, is_marked};
+use crate::visit::Visit;
+use wt_tree::{DataMw, Node, Showing, Writing};
+
+fn is_compared(node: &Node<'_>) -> bool
+    ensures { result ≡ is_compared (showing (out-Node node.now).kind) }
+{
+    match node.kind.showing() {
+        Showing::Nothing => false,
+        Showing::Characters | Showing::Inside | Showing::Element => true,
+    }
+}
+
+fn same_text(a: &Node<'_>, b: &Node<'_>) -> bool
+    ensures { result ≡ bytes_eq (out-Node a.now).shown (out-Node b.now).shown }
+{
+    a.shown.as_str() == b.shown.as_str()
+}
+
+fn same_entry(a: &Node<'_>, b: &Node<'_>) -> bool
+    ensures { result ≡ same_entry (entry (label_of (out-Node a.now))) (entry (label_of (out-Node b.now))) }
+{
+    match a.kind.writing() {
+        Writing::AsText => match b.kind.writing() {
+            Writing::AsText => same_text(a, b),
+            _ => false,
+        },
+        _ => match b.kind.writing() {
+            Writing::AsText => false,
+            _ => a.id == b.id,
+        },
+    }
+}
+
+/// The place of the first node from `from` on that is compared, or the end.
+fn compared_from(nodes: &[Node<'_>], from: usize) -> usize
+    requires { from ≤ length nodes.now }
+    ensures { ComparedFrom nodes.now from result }
+{
+    for at in from..nodes.len() {
+        if is_compared(&nodes[at]) {
+            return at;
+        }
+    }
+    nodes.len()
+}
+
+fn same_children(left: &[Node<'_>], right: &[Node<'_>]) -> bool
+    ensures { result ≡ same_entries (entries (views left.now)) (entries (views right.now)) }
+{
+    let mut at = compared_from(left, 0);
+    let mut to = compared_from(right, 0);
+    while at < left.len() && to < right.len() {
+        if !same_entry(&left[at], &right[to]) {
+            return false;
+        }
+        at = compared_from(left, at + 1);
+        to = compared_from(right, to + 1);
+    }
+    at == left.len() && to == right.len()
+}
+
+fn own_character<'n>(node: &'n Node<'_>) -> &'n str
+    ensures { result.now ≡ own_character (writing (out-Node node.now).kind) (out-Node node.now).shown }
+{
+    match node.kind.writing() {
+        Writing::RoundCharacter => node.shown.as_str(),
+        Writing::AsText | Writing::AsVoid | Writing::RoundChildren | Writing::Unwritten => "",
+    }
+}
+
+fn same_character(a: &Node<'_>, b: &Node<'_>) -> bool
+    ensures { result ≡ bytes_eq (own_character (writing (out-Node a.now).kind) (out-Node a.now).shown) (own_character (writing (out-Node b.now).kind) (out-Node b.now).shown) }
+{
+    own_character(a) == own_character(b)
+}
+
+fn holds_same(original: &Node<'_>, node: &Node<'_>) -> bool
+    ensures { result ≡ holds_same (view original.now) (view node.now) }
+{
+    same_character(original, node)
+        && same_children(original.children.as_slice(), node.children.as_slice())
+}
+
+fn keeps_data(original: &Option<DataMw>, node: &Option<DataMw>) -> bool
+    ensures { result ≡ keeps_data original.now node.now }
+{
+    match original {
+        Some(_) => same_data(original, node),
+        None => true,
+    }
+}
+
+fn keeps_face(original: &Node<'_>, node: &Node<'_>) -> bool
+    ensures { result ≡ keeps_face (label_of (out-Node original.now)) (label_of (out-Node node.now)) }
+{
+    if !same_kind(original.kind, node.kind) {
+        return false;
+    }
+    if !same_attrs(original.attrs.as_slice(), node.attrs.as_slice()) {
+        return false;
+    }
+    keeps_data(&original.mw, &node.mw)
+}
+
+fn keeps_children(original: &Node<'_>, node: &Node<'_>) -> bool
+    ensures { result ≡ keeps_children (view original.now) (view node.now) }
+{
+    is_marked(node.mark) || holds_same(original, node)
+}
+
+fn is_other(original: Option<Visit<'_, '_>>, node: &Node<'_>) -> bool
+    ensures { result ≡ is_other (option_map seen original.entry) (view node.now) }
+{
+    match original {
+        Some(visit) => {
+            if is_group(visit.node.kind) {
+                return false;
+            }
+            if !keeps_face(visit.node, node) {
+                return true;
+            }
+            !keeps_children(visit.node, node)
+        }
+        None => false,
+    }
+}
+
+fn is_unmarked_change(index: &[Visit<'_, '_>], visit: Visit<'_, '_>) -> bool
+    ensures { result ≡ is_unmarked_change (indexed index.now) [] (seen visit.entry) [] }
+{
+    let node = visit.node;
+    if node.id == 0 && !is_body(node.kind) {
+        return false;
+    }
+    if visit.in_content {
+        return false;
+    }
+    is_other(original(index, node.id), node)
+}
+
+/// The first node of the page that isn't as it was, though neither it nor a node round it is marked.
+pub fn first_unmarked_change(index: &[Visit<'_, '_>], edited: &[Visit<'_, '_>]) -> Option<u32>
+    ensures { result ≡ first (is_unmarked_change (indexed index.now)) (all_seen edited.now) }
+{
+    for visit in edited {
+        if is_unmarked_change(index, *visit) {
+            return Some(visit.node.id);
+        }
+    }
+    None
+}
