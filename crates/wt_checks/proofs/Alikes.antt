@@ -19,8 +19,10 @@ pairs_long [] [] h = absurd (h refl)
 pairs_long [] (y ∷ ys) h = refl
 pairs_long (x ∷ xs) [] h = refl
 pairs_long (x ∷ xs) (y ∷ ys) h =
-    ap (λ (b : Bool). (order x.0 == order y.0) && (bytes_eq x.1 y.1 && b)) (pairs_long xs ys (λ e. h (ap suc e))) ∙ and_false (order x.0 == order y.0) (bytes_eq x.1 y.1)
+    ap (λ (b : Bool). (order x.0 == order y.0) && (bytes_eq x.1 y.1 && b)) (pairs_long xs ys (λ e. h (ap suc e)))
+    ∙ and_false (order x.0 == order y.0) (bytes_eq x.1 y.1)
 
 pub attrs_long : (xs ys : List Attr) → (length xs ≡ length ys → ⊥) → false ≡ same_attrs (attrs_of xs) (attrs_of ys)
 attrs_long xs ys h =
-    sym (pairs_long (attrs_of xs) (attrs_of ys) (λ e. h (sym (length-map xs (λ (a : Attr). (a.name, a.value))) ∙ e ∙ length-map ys (λ (a : Attr). (a.name, a.value)))))
+    sym (pairs_long (attrs_of xs) (attrs_of ys) (λ e. h
+    (sym (length-map xs (λ (a : Attr). (a.name, a.value))) ∙ e ∙ length-map ys (λ (a : Attr). (a.name, a.value)))))

@@ -20,11 +20,15 @@ use Rattle.wt_checks.proofs.InOrder.{Nowhere}
 
 -- ---- a condition of a place alone
 
-pub each_place : (C : Condition) (P : Place → Type 0) → ((before : List Place) (p : Place) (after : List Place) → C before p after ≡ false → P p) → (before ps : List Place) → Nowhere C before ps → AllByRecursion P ps
+pub each_place : (C : Condition) (P : Place → Type 0)
+    → ((before : List Place) (p : Place) (after : List Place) → C before p after ≡ false → P p) → (before ps : List Place)
+    → Nowhere C before ps → AllByRecursion P ps
 each_place C P f before [] h = tt
 each_place C P f before (p ∷ ps) h = (f before p ps h.0, each_place C P f (before ++ p ∷ []) ps h.1)
 
-pub no_place : (C : Condition) (P : Place → Type 0) → ((before : List Place) (p : Place) (after : List Place) → P p → C before p after ≡ false) → (before ps : List Place) → AllByRecursion P ps → Nowhere C before ps
+pub no_place : (C : Condition) (P : Place → Type 0)
+    → ((before : List Place) (p : Place) (after : List Place) → P p → C before p after ≡ false) → (before ps : List Place)
+    → AllByRecursion P ps → Nowhere C before ps
 no_place C P f before [] h = tt
 no_place C P f before (p ∷ ps) h = (f before p ps h.0, no_place C P f (before ++ p ∷ []) ps h.1)
 
@@ -88,7 +92,8 @@ of_neither false b e f = f
 group_is : (values : Bool) (t u : Tree) → (has_mark u || not (shows_same t u && carries_same values t u)) ≡ false → GroupAsItWas values t u
 group_is values (tree l ts) (tree m us) e =
     let n = neither (has_mark (tree m us)) (not (shows_same (tree l ts) (tree m us) && carries_same values (tree l ts) (tree m us))) e in
-    let b = both (shows_same (tree l ts) (tree m us)) (carries_same values (tree l ts) (tree m us)) (is_true (shows_same (tree l ts) (tree m us) && carries_same values (tree l ts) (tree m us)) n.1) in
+    let b = both (shows_same (tree l ts) (tree m us)) (carries_same values (tree l ts) (tree m us))
+    (is_true (shows_same (tree l ts) (tree m us) && carries_same values (tree l ts) (tree m us)) n.1) in
     let c = both (is_group m.kind) (same_attrs l.attrs m.attrs && same_signs (signs_in (written_for ts)) (signs_in (all_read us))) b.0 in
     let d = both (same_attrs l.attrs m.attrs) (same_signs (signs_in (written_for ts)) (signs_in (all_read us))) c.1 in
     record {
@@ -104,25 +109,34 @@ is_group_test values (tree l ts) (tree m us) g =
     of_neither (has_mark (tree m us)) (not (shows_same (tree l ts) (tree m us) && carries_same values (tree l ts) (tree m us))) g.unmarked
     (ap not (of_both (shows_same (tree l ts) (tree m us)) (carries_same values (tree l ts) (tree m us))
     (of_both (is_group m.kind) (same_attrs l.attrs m.attrs && same_signs (signs_in (written_for ts)) (signs_in (all_read us))) g.group
-    (of_both (same_attrs l.attrs m.attrs) (same_signs (signs_in (written_for ts)) (signs_in (all_read us))) ((attrs_decide l.attrs m.attrs).1 g.attrs) ((signs_decide (signs_in (written_for ts)) (signs_in (all_read us))).1 g.elements)))
+    (of_both (same_attrs l.attrs m.attrs) (same_signs (signs_in (written_for ts)) (signs_in (all_read us)))
+    ((attrs_decide l.attrs m.attrs).1 g.attrs) ((signs_decide (signs_in (written_for ts)) (signs_in (all_read us))).1 g.elements)))
     (of_either values (same_data l.mw m.mw) (elim g.mw [ inl v ↦ inl v | inr s ↦ inr ((data_decide l.mw m.mw).1 s) ]))))
 
 abbrev pub GroupKept : Bool → Page → Place → Type 0
 GroupKept values page p = is_kept p ≡ true → MatchOption (page (number p)) (Unit {0}) (λ q. is_group (kind_at q) ≡ true → GroupAsItWas values q.node p.node)
 
-group_of : (values : Bool) (o : Option Place) (u : Tree) → is_changed_group values o u ≡ false → MatchOption o (Unit {0}) (λ q. is_group (kind_at q) ≡ true → GroupAsItWas values q.node u)
+group_of : (values : Bool) (o : Option Place) (u : Tree) → is_changed_group values o u ≡ false
+    → MatchOption o (Unit {0}) (λ q. is_group (kind_at q) ≡ true → GroupAsItWas values q.node u)
 group_of values None u e = tt
-group_of values (Some q) u e = λ g. group_is values q.node u (test_and (is_group (kind_at q)) (has_mark u || not (shows_same q.node u && carries_same values q.node u)) e g)
+group_of values (Some q) u e = λ g. group_is values q.node u
+    (test_and (is_group (kind_at q)) (has_mark u || not (shows_same q.node u && carries_same values q.node u)) e g)
 
-of_group : (values : Bool) (o : Option Place) (u : Tree) → MatchOption o (Unit {0}) (λ q. is_group (kind_at q) ≡ true → GroupAsItWas values q.node u) → is_changed_group values o u ≡ false
+of_group : (values : Bool) (o : Option Place) (u : Tree)
+    → MatchOption o (Unit {0}) (λ q. is_group (kind_at q) ≡ true → GroupAsItWas values q.node u) → is_changed_group values o u ≡ false
 of_group values None u h = refl
-of_group values (Some q) u h = and_test (is_group (kind_at q)) (has_mark u || not (shows_same q.node u && carries_same values q.node u)) (λ g. is_group_test values q.node u (h g))
+of_group values (Some q) u h = and_test (is_group (kind_at q))
+    (has_mark u || not (shows_same q.node u && carries_same values q.node u)) (λ g. is_group_test values q.node u (h g))
 
-pub group_kept : (values : Bool) (page : Page) (before : List Place) (p : Place) (after : List Place) → is_in_template values page before p after ≡ false → GroupKept values page p
-group_kept values page before p after e = λ k. group_of values (page (number p)) p.node (test_and (is_kept p) (is_changed_group values (page (number p)) p.node) e k)
+pub group_kept : (values : Bool) (page : Page) (before : List Place) (p : Place) (after : List Place)
+    → is_in_template values page before p after ≡ false → GroupKept values page p
+group_kept values page before p after e = λ k. group_of values (page (number p)) p.node
+    (test_and (is_kept p) (is_changed_group values (page (number p)) p.node) e k)
 
-pub kept_group : (values : Bool) (page : Page) (before : List Place) (p : Place) (after : List Place) → GroupKept values page p → is_in_template values page before p after ≡ false
-kept_group values page before p after h = and_test (is_kept p) (is_changed_group values (page (number p)) p.node) (λ k. of_group values (page (number p)) p.node (h k))
+pub kept_group : (values : Bool) (page : Page) (before : List Place) (p : Place) (after : List Place) → GroupKept values page p
+    → is_in_template values page before p after ≡ false
+kept_group values page before p after h = and_test (is_kept p) (is_changed_group values (page (number p)) p.node)
+    (λ k. of_group values (page (number p)) p.node (h k))
 
 -- ---- other nodes
 
@@ -146,7 +160,8 @@ holds_is (tree l ts) (tree m us) e =
 is_holding : (t u : Tree) → HoldsTheSame t u → holds_same t u ≡ true
 is_holding (tree l ts) (tree m us) h =
     of_both (bytes_eq (own_character (writing l.kind) l.shown) (own_character (writing m.kind) m.shown)) (same_entries (entries ts) (entries us))
-    ((bytes_eq-Decides (own_character (writing l.kind) l.shown) (own_character (writing m.kind) m.shown)).1 h.character) ((entries_decide (entries ts) (entries us)).1 h.held)
+    ((bytes_eq-Decides (own_character (writing l.kind) l.shown) (own_character (writing m.kind) m.shown)).1 h.character)
+    ((entries_decide (entries ts) (entries us)).1 h.held)
 
 node_is : (t u : Tree) → not (keeps_face (label t) (label u) && keeps_children t u) ≡ false → NodeAsItWas t u
 node_is t u e =
@@ -172,19 +187,23 @@ is_node t u h =
     (of_either (is_marked m.mark) (holds_same t u) (elim h.holds [ inl v ↦ inl v | inr s ↦ inr (is_holding t u s) ])))
 
 abbrev pub NodeKept : Page → Place → Type 0
-NodeKept page p = is_of_page p ≡ true → p.in_content ≡ false → MatchOption (page (number p)) (Unit {0}) (λ q. is_group (kind_at q) ≡ false → NodeAsItWas q.node p.node)
+NodeKept page p = is_of_page p ≡ true → p.in_content ≡ false
+    → MatchOption (page (number p)) (Unit {0}) (λ q. is_group (kind_at q) ≡ false → NodeAsItWas q.node p.node)
 
 node_of : (o : Option Place) (u : Tree) → is_other o u ≡ false → MatchOption o (Unit {0}) (λ q. is_group (kind_at q) ≡ false → NodeAsItWas q.node u)
 node_of None u e = tt
-node_of (Some q) u e = λ g. node_is q.node u (test_and (not (is_group (kind_at q))) (not (keeps_face (label q.node) (label u) && keeps_children q.node u)) e (ap not g))
+node_of (Some q) u e = λ g. node_is q.node u (test_and (not (is_group (kind_at q)))
+    (not (keeps_face (label q.node) (label u) && keeps_children q.node u)) e (ap not g))
 
 of_node : (o : Option Place) (u : Tree) → MatchOption o (Unit {0}) (λ q. is_group (kind_at q) ≡ false → NodeAsItWas q.node u) → is_other o u ≡ false
 of_node None u h = refl
-of_node (Some q) u h = and_test (not (is_group (kind_at q))) (not (keeps_face (label q.node) (label u) && keeps_children q.node u)) (λ g. is_node q.node u (h (is_false (is_group (kind_at q)) g)))
+of_node (Some q) u h = and_test (not (is_group (kind_at q)))
+    (not (keeps_face (label q.node) (label u) && keeps_children q.node u)) (λ g. is_node q.node u (h (is_false (is_group (kind_at q)) g)))
 
 pub node_kept : (page : Page) (before : List Place) (p : Place) (after : List Place) → is_unmarked_change page before p after ≡ false → NodeKept page p
 node_kept page before p after e =
-    λ k c. node_of (page (number p)) p.node (test_and (not p.in_content) (is_other (page (number p)) p.node) (test_and (is_of_page p) (not p.in_content && is_other (page (number p)) p.node) e k) (ap not c))
+    λ k c. node_of (page (number p)) p.node (test_and (not p.in_content) (is_other (page (number p)) p.node)
+    (test_and (is_of_page p) (not p.in_content && is_other (page (number p)) p.node) e k) (ap not c))
 
 pub kept_node : (page : Page) (before : List Place) (p : Place) (after : List Place) → NodeKept page p → is_unmarked_change page before p after ≡ false
 kept_node page before p after h =
@@ -201,7 +220,8 @@ allowed page p = allows (editing (kind_at p)) (label p.node).mark (page (number 
 
 pub mark_kept : (page : Page) (before : List Place) (p : Place) (after : List Place) → is_wrongly_marked page before p after ≡ false → MarkKept page p
 mark_kept page before p after e =
-    λ k. let n = neither p.in_content (not (is_of_page p) || not (allowed page p)) (test_and (is_marked (label p.node).mark) (p.in_content || (not (is_of_page p) || not (allowed page p))) e k) in
+    λ k. let n = neither p.in_content (not (is_of_page p) || not (allowed page p))
+    (test_and (is_marked (label p.node).mark) (p.in_content || (not (is_of_page p) || not (allowed page p))) e k) in
     let m = neither (not (is_of_page p)) (not (allowed page p)) n.1 in
     record { outside = n.0; old = is_true (is_of_page p) m.0; allowed = is_true (allowed page p) m.1 }
 
@@ -209,4 +229,5 @@ pub kept_mark : (page : Page) (before : List Place) (p : Place) (after : List Pl
 kept_mark page before p after h =
     and_test (is_marked (label p.node).mark) (p.in_content || (not (is_of_page p) || not (allowed page p)))
     (λ k. let w = h k in
-    of_neither p.in_content (not (is_of_page p) || not (allowed page p)) w.outside (of_neither (not (is_of_page p)) (not (allowed page p)) (ap not w.old) (ap not w.allowed)))
+    of_neither p.in_content (not (is_of_page p) || not (allowed page p)) w.outside
+    (of_neither (not (is_of_page p)) (not (allowed page p)) (ap not w.old) (ap not w.allowed)))

@@ -61,12 +61,14 @@ unfolding checked same_kind same_data
 same_tree = refl
 
 -- separators aren't compared, and marked content may be anything
-content_changed : checked false two_lines (body (marked content kind.Para 1 (words (codes "x") ∷ node kind.Bold 0 [] ∷ []) ∷ node kind.Para 2 (words (codes "b") ∷ []) ∷ [])) ≡ None
+content_changed : checked false two_lines (body
+    (marked content kind.Para 1 (words (codes "x") ∷ node kind.Bold 0 [] ∷ []) ∷ node kind.Para 2 (words (codes "b") ∷ []) ∷ [])) ≡ None
 unfolding checked same_kind same_data
 content_changed = refl
 
 -- a new paragraph, and a missing one, in a body marked `children`
-children_changed : checked false two_lines (marked children kind.Body 0 (node kind.Para 0 (words (codes "x") ∷ []) ∷ node kind.Para 2 (words (codes "b") ∷ []) ∷ [])) ≡ None
+children_changed : checked false two_lines (marked children kind.Body 0
+    (node kind.Para 0 (words (codes "x") ∷ []) ∷ node kind.Para 2 (words (codes "b") ∷ []) ∷ [])) ≡ None
 unfolding checked same_kind same_data
 children_changed = refl
 
@@ -76,12 +78,14 @@ unknown_number : checked false one_letter (body (node kind.Para 9 (words (codes 
 unfolding checked same_kind same_data
 unknown_number = refl
 
-number_twice : checked false one_letter (body (node kind.Para 1 (words (codes "a") ∷ []) ∷ node kind.Para 1 (words (codes "a") ∷ []) ∷ [])) ≡ Some (RepeatedId 1)
+number_twice : checked false one_letter (body
+    (node kind.Para 1 (words (codes "a") ∷ []) ∷ node kind.Para 1 (words (codes "a") ∷ []) ∷ [])) ≡ Some (RepeatedId 1)
 unfolding checked same_kind same_data
 number_twice = refl
 
 -- of several the first element whose number stands twice, not the first second one
-first_repeated : checked false two_lines (body (node kind.Para 1 [] ∷ node kind.Para 2 [] ∷ node kind.Para 2 [] ∷ node kind.Para 1 [] ∷ [])) ≡ Some (RepeatedId 1)
+first_repeated : checked false two_lines (body
+    (node kind.Para 1 [] ∷ node kind.Para 2 [] ∷ node kind.Para 2 [] ∷ node kind.Para 1 [] ∷ [])) ≡ Some (RepeatedId 1)
 unfolding checked same_kind same_data
 first_repeated = refl
 
@@ -98,7 +102,8 @@ exchanged = refl
 
 abbrev styles : Tree
 styles =
-    body (node kind.Para 1 (words (codes "a") ∷ node kind.Bold 2 (node kind.Italic 3 (words (codes "b") ∷ []) ∷ []) ∷ words (codes "c") ∷ node kind.Comment 4 [] ∷ words (codes "d") ∷ []) ∷ [])
+    body (node kind.Para 1 (words (codes "a") ∷ node kind.Bold 2 (node kind.Italic 3 (words (codes "b") ∷ []) ∷ [])
+    ∷ words (codes "c") ∷ node kind.Comment 4 [] ∷ words (codes "d") ∷ []) ∷ [])
 
 -- out of its parent, in marked content too
 lifted : checked false styles (body (marked content kind.Para 1 (node kind.Italic 3 (words (codes "b") ∷ []) ∷ []) ∷ [])) ≡ Some (Moved 3)
@@ -111,7 +116,9 @@ unfolding checked same_kind same_data
 wrapped = refl
 
 -- a comment is missing between two texts of an unmarked node: the lists of texts differ where one text stands for two
-comment_missing : checked false styles (body (node kind.Para 1 (words (codes "a") ∷ node kind.Bold 2 (node kind.Italic 3 (words (codes "b") ∷ []) ∷ []) ∷ words (codes "cd") ∷ []) ∷ [])) ≡ Some (UnmarkedChange 1)
+comment_missing : checked false styles (body (node kind.Para 1
+    (words (codes "a") ∷ node kind.Bold 2 (node kind.Italic 3 (words (codes "b") ∷ []) ∷ []) ∷ words (codes "cd") ∷ []) ∷ []))
+    ≡ Some (UnmarkedChange 1)
 unfolding checked same_kind same_data
 comment_missing = refl
 
@@ -121,12 +128,14 @@ unfolding checked same_kind same_data
 comment_new = refl
 
 -- a comment at the end of a paragraph is missing
-last_comment_missing : checked false (body (node kind.Para 1 (words (codes "a") ∷ node kind.Comment 2 [] ∷ []) ∷ [])) (body (node kind.Para 1 (words (codes "a") ∷ []) ∷ [])) ≡ None
+last_comment_missing : checked false (body (node kind.Para 1 (words (codes "a") ∷ node kind.Comment 2 [] ∷ []) ∷ []))
+    (body (node kind.Para 1 (words (codes "a") ∷ []) ∷ [])) ≡ None
 unfolding checked same_kind same_data
 last_comment_missing = refl
 
 -- a comment of a body marked `children` is missing
-child_comment_missing : checked false (body (node kind.Para 1 [] ∷ node kind.Comment 2 [] ∷ node kind.Para 3 [] ∷ [])) (marked children kind.Body 0 (node kind.Para 1 [] ∷ node kind.Para 3 [] ∷ [])) ≡ None
+child_comment_missing : checked false (body (node kind.Para 1 [] ∷ node kind.Comment 2 [] ∷ node kind.Para 3 [] ∷ []))
+    (marked children kind.Body 0 (node kind.Para 1 [] ∷ node kind.Para 3 [] ∷ [])) ≡ None
 unfolding checked same_kind same_data
 child_comment_missing = refl
 
@@ -140,7 +149,8 @@ kind_changed : checked false one_letter (body (marked content (kind.Heading 2) 1
 unfolding checked same_kind same_data
 kind_changed = refl
 
-new_child_of_body : checked false one_letter (body (node kind.Para 1 (words (codes "a") ∷ []) ∷ node kind.Para 0 (words (codes "b") ∷ []) ∷ [])) ≡ Some (UnmarkedChange 0)
+new_child_of_body : checked false one_letter (body
+    (node kind.Para 1 (words (codes "a") ∷ []) ∷ node kind.Para 0 (words (codes "b") ∷ []) ∷ [])) ≡ Some (UnmarkedChange 0)
 unfolding checked same_kind same_data
 new_child_of_body = refl
 
@@ -155,11 +165,13 @@ unfolding checked same_kind same_data
 attribute_changed = refl
 
 -- a text inside an island or an entity is a change
-text_in_island : checked false (body (node kind.Para 1 (node kind.Island 2 [] ∷ []) ∷ [])) (body (node kind.Para 1 (node kind.Island 2 (words (codes "x") ∷ []) ∷ []) ∷ [])) ≡ Some (UnmarkedChange 2)
+text_in_island : checked false (body (node kind.Para 1 (node kind.Island 2 [] ∷ []) ∷ []))
+    (body (node kind.Para 1 (node kind.Island 2 (words (codes "x") ∷ []) ∷ []) ∷ [])) ≡ Some (UnmarkedChange 2)
 unfolding checked same_kind same_data
 text_in_island = refl
 
-text_in_entity : checked false (body (node kind.Para 1 (entity 2 (codes "&") ∷ []) ∷ [])) (body (node kind.Para 1 (entity 2 (codes "&x") ∷ []) ∷ [])) ≡ Some (UnmarkedChange 2)
+text_in_entity : checked false (body (node kind.Para 1 (entity 2 (codes "&") ∷ []) ∷ []))
+    (body (node kind.Para 1 (entity 2 (codes "&x") ∷ []) ∷ [])) ≡ Some (UnmarkedChange 2)
 unfolding checked same_kind same_data
 text_in_entity = refl
 
@@ -167,7 +179,8 @@ text_in_entity = refl
 abbrev extension : List ℕ → Tree
 extension inside = tree (record (blank kind.Island 2) { mw = Some (data_mw.Extension (codes "ref") (Some inside)) }) none
 
-data_changed : checked false (body (node kind.Para 1 (extension (codes "a") ∷ []) ∷ [])) (body (node kind.Para 1 (extension (codes "b") ∷ []) ∷ [])) ≡ Some (UnmarkedChange 2)
+data_changed : checked false (body (node kind.Para 1 (extension (codes "a") ∷ []) ∷ []))
+    (body (node kind.Para 1 (extension (codes "b") ∷ []) ∷ [])) ≡ Some (UnmarkedChange 2)
 unfolding checked same_kind same_data
 data_changed = refl
 
@@ -196,29 +209,39 @@ other_mark = refl
 
 -- an item that holds a list has no inline children only, nor one with a group that shows a block
 abbrev group : ℕ → List Tree → Tree
-group id ts = tree (record (blank kind.Group id) { attrs = (attr.Typeof, codes "mw:Transclusion") ∷ []; mw = Some (data_mw.Parts (part.Param (codes "{{{1}}}") ∷ [])) }) (trees ts)
+group id ts = tree (record (blank kind.Group id) {
+  attrs = (attr.Typeof, codes "mw:Transclusion") ∷ [];
+  mw =
+      Some (data_mw.Parts (part.Param (codes "{{{1}}}") ∷ []));
+}) (trees ts)
 
-item_with_text : checked false (body (node kind.Ul 1 (node kind.Li 2 (words (codes "a") ∷ []) ∷ []) ∷ [])) (body (node kind.Ul 1 (marked content kind.Li 2 (words (codes "b") ∷ []) ∷ []) ∷ [])) ≡ None
+item_with_text : checked false (body (node kind.Ul 1 (node kind.Li 2 (words (codes "a") ∷ []) ∷ []) ∷ []))
+    (body (node kind.Ul 1 (marked content kind.Li 2 (words (codes "b") ∷ []) ∷ []) ∷ [])) ≡ None
 unfolding checked same_kind same_data
 item_with_text = refl
 
-item_with_list : checked false (body (node kind.Ul 1 (node kind.Li 2 (node kind.Ul 3 [] ∷ []) ∷ []) ∷ [])) (body (node kind.Ul 1 (marked content kind.Li 2 (node kind.Ul 3 [] ∷ []) ∷ []) ∷ [])) ≡ Some (NotEditable 2)
+item_with_list : checked false (body (node kind.Ul 1 (node kind.Li 2 (node kind.Ul 3 [] ∷ []) ∷ []) ∷ []))
+    (body (node kind.Ul 1 (marked content kind.Li 2 (node kind.Ul 3 [] ∷ []) ∷ []) ∷ [])) ≡ Some (NotEditable 2)
 unfolding checked same_kind same_data
 item_with_list = refl
 
-item_with_shown_list : checked false (body (node kind.Ul 1 (node kind.Li 2 (group 3 (node kind.Ul 0 [] ∷ []) ∷ []) ∷ []) ∷ [])) (body (node kind.Ul 1 (marked content kind.Li 2 [] ∷ []) ∷ [])) ≡ Some (NotEditable 2)
+item_with_shown_list : checked false (body (node kind.Ul 1 (node kind.Li 2 (group 3 (node kind.Ul 0 [] ∷ []) ∷ []) ∷ []) ∷ []))
+    (body (node kind.Ul 1 (marked content kind.Li 2 [] ∷ []) ∷ [])) ≡ Some (NotEditable 2)
 unfolding checked same_kind same_data
 item_with_shown_list = refl
 
 -- a list inside an item isn't a child of the body
-inner_list : checked false (body (node kind.Ul 1 (node kind.Li 2 (node kind.Ul 3 [] ∷ []) ∷ []) ∷ [])) (body (marked children kind.Ul 1 (node kind.Li 2 (marked children kind.Ul 3 [] ∷ []) ∷ []) ∷ [])) ≡ Some (NotEditable 3)
+inner_list : checked false (body (node kind.Ul 1 (node kind.Li 2 (node kind.Ul 3 [] ∷ []) ∷ []) ∷ []))
+    (body (marked children kind.Ul 1 (node kind.Li 2 (marked children kind.Ul 3 [] ∷ []) ∷ []) ∷ [])) ≡ Some (NotEditable 3)
 unfolding checked same_kind same_data
 inner_list = refl
 
 -- ---- groups: the paragraph 1 holds the group 2, which shows a text, a comment and bold
 
 abbrev shows : Tree
-shows = body (node kind.Para 1 (words (codes "a ") ∷ group 2 (words (codes "b") ∷ entity 0 (codes "&") ∷ node kind.Comment 0 [] ∷ node kind.Bold 0 (words (codes "c") ∷ []) ∷ []) ∷ []) ∷ [])
+shows = body (node kind.Para 1 (words (codes "a ")
+    ∷ group 2 (words (codes "b") ∷ entity 0 (codes "&") ∷ node kind.Comment 0 [] ∷ node kind.Bold 0 (words (codes "c") ∷ []) ∷ [])
+    ∷ []) ∷ [])
 
 -- its texts and entities in one `span`, without the comment
 abbrev read_as : List Tree → Tree
@@ -255,12 +278,14 @@ group_no_more : checked false shows (body (node kind.Para 1 (words (codes "a ") 
 unfolding checked same_kind same_data
 group_no_more = refl
 
-group_instead : checked false styles (body (node kind.Para 1 (words (codes "a") ∷ group 2 (text_span (codes "b") ∷ []) ∷ words (codes "c") ∷ words (codes "d") ∷ []) ∷ [])) ≡ Some (UnmarkedChange 2)
+group_instead : checked false styles (body (node kind.Para 1
+    (words (codes "a") ∷ group 2 (text_span (codes "b") ∷ []) ∷ words (codes "c") ∷ words (codes "d") ∷ []) ∷ [])) ≡ Some (UnmarkedChange 2)
 unfolding checked same_kind same_data
 group_instead = refl
 
 -- a mark in a group without a number
-group_new_marked : checked false one_letter (body (node kind.Para 1 (words (codes "a") ∷ group 0 (marked content kind.Bold 0 [] ∷ []) ∷ []) ∷ [])) ≡ Some (NotEditable 0)
+group_new_marked : checked false one_letter (body
+    (node kind.Para 1 (words (codes "a") ∷ group 0 (marked content kind.Bold 0 [] ∷ []) ∷ []) ∷ [])) ≡ Some (NotEditable 0)
 unfolding checked same_kind same_data
 group_new_marked = refl
 
@@ -271,7 +296,11 @@ empty_group = refl
 
 -- other data of a group, and the same where values are edited
 abbrev other_data : Tree
-other_data = body (tree (record (blank kind.Group 1) { attrs = (attr.Typeof, codes "mw:Transclusion") ∷ []; mw = Some (data_mw.Parts (part.Literal (codes "x") ∷ [])) }) (trees (node (kind.Tag tag.Span) 0 [] ∷ [])) ∷ [])
+other_data = body (tree (record (blank kind.Group 1) {
+  attrs = (attr.Typeof, codes "mw:Transclusion") ∷ [];
+  mw =
+      Some (data_mw.Parts (part.Literal (codes "x") ∷ []));
+}) (trees (node (kind.Tag tag.Span) 0 [] ∷ [])) ∷ [])
 
 group_data : checked false (body (group 1 [] ∷ [])) other_data ≡ Some (InTemplate 1)
 unfolding checked same_kind same_data

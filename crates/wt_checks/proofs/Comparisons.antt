@@ -64,7 +64,8 @@ names_decide a b = let d = Decides-eqb (order a) (order b) in (λ e. sym (name_o
 
 attr_decides : (a b : AttrName × List ℕ) → Decides ((order a.0 == order b.0) && bytes_eq a.1 b.1) (a ≡ b)
 attr_decides a b =
-    Decides-like ((order a.0 == order b.0) && bytes_eq a.1 b.1) (λ h i. (h.0 i, h.1 i)) (λ e. (ap (λ (p : AttrName × List ℕ). p.0) e, ap (λ (p : AttrName × List ℕ). p.1) e))
+    Decides-like ((order a.0 == order b.0) && bytes_eq a.1 b.1) (λ h i. (h.0 i, h.1 i))
+    (λ e. (ap (λ (p : AttrName × List ℕ). p.0) e, ap (λ (p : AttrName × List ℕ). p.1) e))
     (Decides-and (order a.0 == order b.0) (bytes_eq a.1 b.1) (names_decide a.0 b.0) (bytes_eq-Decides a.1 b.1))
 
 and_assoc : (a b c : Bool) → ((a && b) && c) ≡ (a && (b && c))
@@ -79,7 +80,8 @@ attrs_decide [] [] = (λ e. refl, λ e. refl)
 attrs_decide [] (y ∷ ys) = (λ e. cc, λ e. cc)
 attrs_decide (x ∷ xs) [] = (λ e. cc, λ e. cc)
 attrs_decide (x ∷ xs) (y ∷ ys) =
-    rw (← and_assoc (order x.0 == order y.0) (bytes_eq x.1 y.1) (same_attrs xs ys)) (cons_decides ((order x.0 == order y.0) && bytes_eq x.1 y.1) (same_attrs xs ys) x y xs ys (attr_decides x y) (attrs_decide xs ys))
+    rw (← and_assoc (order x.0 == order y.0) (bytes_eq x.1 y.1) (same_attrs xs ys))
+    (cons_decides ((order x.0 == order y.0) && bytes_eq x.1 y.1) (same_attrs xs ys) x y xs ys (attr_decides x y) (attrs_decide xs ys))
 
 entry_decides : (a b : Entry) → Decides (same_entry a b) (a ≡ b)
 entry_decides (text xs) (text ys) = Decides-like (bytes_eq xs ys) (λ e. ap text e) (λ e. cc) (bytes_eq-Decides xs ys)

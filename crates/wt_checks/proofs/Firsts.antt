@@ -19,24 +19,32 @@ if_false b x y e = rw e
 
 -- the list before and from place i on
 pub split_turn : (C : Condition) (vs : List Visit) (i : ℕ) (v : Visit) → i < length vs → v ≡ get_or vs i v
-    → first_after C (all_seen (take i vs)) (all_seen (drop i vs)) ≡ (if C (all_seen (take i vs)) (seen v) (all_seen (drop (i + 1) vs)) then Some (number (seen v)) else first_after C (all_seen (take (i + 1) vs)) (all_seen (drop (i + 1) vs)))
+    → first_after C (all_seen (take i vs)) (all_seen (drop i vs))
+    ≡ (if C (all_seen (take i vs)) (seen v) (all_seen (drop (i + 1) vs)) then Some (number (seen v)) else
+    first_after C (all_seen (take (i + 1) vs)) (all_seen (drop (i + 1) vs)))
 split_turn C vs i v lt is =
     let d : all_seen (drop i vs) ≡ seen v ∷ all_seen (drop (i + 1) vs) = ap all_seen (drop_more vs i v lt ∙ ap (λ (x : Visit). x ∷ drop (i + 1) vs) (sym is)) in
-    let t : all_seen (take (i + 1) vs) ≡ all_seen (take i vs) ++ seen v ∷ [] = ap all_seen (take_more vs i v lt ∙ ap (λ (x : Visit). take i vs ++ x ∷ []) (sym is)) ∙ map-append seen (take i vs) (v ∷ []) in
+    let t : all_seen (take (i + 1) vs) ≡ all_seen (take i vs) ++ seen v ∷ [] =
+    ap all_seen (take_more vs i v lt ∙ ap (λ (x : Visit). take i vs ++ x ∷ []) (sym is)) ∙ map-append seen (take i vs) (v ∷ []) in
     ap (λ (ps : List Place). first_after C (all_seen (take i vs)) ps) d
-    ∙ ap (λ (ps : List Place). if C (all_seen (take i vs)) (seen v) (all_seen (drop (i + 1) vs)) then Some (number (seen v)) else first_after C ps (all_seen (drop (i + 1) vs))) (sym t)
+    ∙ ap (λ (ps : List Place). if C (all_seen (take i vs)) (seen v) (all_seen (drop (i + 1) vs)) then Some (number (seen v)) else
+    first_after C ps (all_seen (drop (i + 1) vs))) (sym t)
 
 -- it holds there
-pub first_here : (C : Condition) (vs : List Visit) (i : ℕ) (v : Visit) → i < length vs → v ≡ get_or vs i v → C (all_seen (take i vs)) (seen v) (all_seen (drop (i + 1) vs)) ≡ true
+pub first_here : (C : Condition) (vs : List Visit) (i : ℕ) (v : Visit) → i < length vs → v ≡ get_or vs i v
+    → C (all_seen (take i vs)) (seen v) (all_seen (drop (i + 1) vs)) ≡ true
     → first_after C (all_seen (take i vs)) (all_seen (drop i vs)) ≡ Some (out-Node v.node.now).id
 first_here C vs i v lt is e =
-    split_turn C vs i v lt is ∙ if_true (C (all_seen (take i vs)) (seen v) (all_seen (drop (i + 1) vs))) (Some (number (seen v))) (first_after C (all_seen (take (i + 1) vs)) (all_seen (drop (i + 1) vs))) e ∙ ap Some (number_seen v)
+    split_turn C vs i v lt is ∙ if_true (C (all_seen (take i vs)) (seen v) (all_seen (drop (i + 1) vs))) (Some (number (seen v)))
+    (first_after C (all_seen (take (i + 1) vs)) (all_seen (drop (i + 1) vs))) e ∙ ap Some (number_seen v)
 
 -- it doesn't
-pub first_later : (C : Condition) (vs : List Visit) (i : ℕ) (v : Visit) → i < length vs → v ≡ get_or vs i v → C (all_seen (take i vs)) (seen v) (all_seen (drop (i + 1) vs)) ≡ false
+pub first_later : (C : Condition) (vs : List Visit) (i : ℕ) (v : Visit) → i < length vs → v ≡ get_or vs i v
+    → C (all_seen (take i vs)) (seen v) (all_seen (drop (i + 1) vs)) ≡ false
     → first_after C (all_seen (take i vs)) (all_seen (drop i vs)) ≡ first_after C (all_seen (take (i + 1) vs)) (all_seen (drop (i + 1) vs))
 first_later C vs i v lt is e =
-    split_turn C vs i v lt is ∙ if_false (C (all_seen (take i vs)) (seen v) (all_seen (drop (i + 1) vs))) (Some (number (seen v))) (first_after C (all_seen (take (i + 1) vs)) (all_seen (drop (i + 1) vs))) e
+    split_turn C vs i v lt is ∙ if_false (C (all_seen (take i vs)) (seen v) (all_seen (drop (i + 1) vs))) (Some (number (seen v)))
+    (first_after C (all_seen (take (i + 1) vs)) (all_seen (drop (i + 1) vs))) e
 
 -- and nowhere
 pub first_nowhere : (C : Condition) (vs : List Visit) (i : ℕ) → length vs ≤ i → first_after C (all_seen (take i vs)) (all_seen (drop i vs)) ≡ None

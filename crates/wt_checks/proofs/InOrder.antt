@@ -28,7 +28,8 @@ nowhere C before (p ∷ after) e =
 
 pub none_first : (C : Condition) (before ps : List Place) → Nowhere C before ps → first_after C before ps ≡ None
 none_first C before [] h = refl
-none_first C before (p ∷ after) h = ap (λ b. if b then Some (number p) else first_after C (before ++ p ∷ []) after) h.0 ∙ none_first C (before ++ p ∷ []) after h.1
+none_first C before (p ∷ after) h = ap (λ b. if b then Some (number p) else first_after C (before ++ p ∷ []) after) h.0
+    ∙ none_first C (before ++ p ∷ []) after h.1
 
 -- ---- increasing lists of numbers
 
@@ -111,16 +112,20 @@ under_above : (m n : ℕ) (ps : List Place) → Above m (kept_numbers ps) → Ab
 under_above m n [] h = tt
 under_above m n (p ∷ ps) h = under_by (is_kept p) (p.parent == n) m p (filter is_kept ps) (kept_under n ps) (under_above m n ps) h
   where
-    under_by : (k b : Bool) (m : ℕ) (p : Place) (qs : List Place) (ns : List ℕ) → (Above m (map number qs) → Above m ns) → Above m (map number (if k then p ∷ qs else qs)) → Above m (if k && b then number p ∷ ns else ns)
+    under_by : (k b : Bool) (m : ℕ) (p : Place) (qs : List Place) (ns : List ℕ) → (Above m (map number qs) → Above m ns)
+        → Above m (map number (if k then p ∷ qs else qs)) → Above m (if k && b then number p ∷ ns else ns)
     under_by true true m p qs ns f h = (h.0, f h.1)
     under_by true false m p qs ns f h = f h.1
     under_by false b m p qs ns f h = f h
 
 pub under_increasing : (n : ℕ) (ps : List Place) → Increasing (kept_numbers ps) → Increasing (kept_under n ps)
 under_increasing n [] h = tt
-under_increasing n (p ∷ ps) h = increasing_by (is_kept p) (p.parent == n) p (filter is_kept ps) (kept_under n ps) (under_above (number p) n ps) (under_increasing n ps) h
+under_increasing n (p ∷ ps) h = increasing_by (is_kept p) (p.parent == n) p (filter is_kept ps) (kept_under n ps)
+    (under_above (number p) n ps) (under_increasing n ps) h
   where
-    increasing_by : (k b : Bool) (p : Place) (qs : List Place) (ns : List ℕ) → (Above (number p) (map number qs) → Above (number p) ns) → (Increasing (map number qs) → Increasing ns) → Increasing (map number (if k then p ∷ qs else qs))
+    increasing_by : (k b : Bool) (p : Place) (qs : List Place) (ns : List ℕ)
+        → (Above (number p) (map number qs) → Above (number p) ns) → (Increasing (map number qs) → Increasing ns)
+        → Increasing (map number (if k then p ∷ qs else qs))
         → Increasing (if k && b then number p ∷ ns else ns)
     increasing_by true true p qs ns f g h = (f h.0, g h.1)
     increasing_by true false p qs ns f g h = g h.1
@@ -134,7 +139,8 @@ Passed n m before = (k : ℕ) → greater_stands n k before ≡ false → stands
 
 passed_more : (n m : ℕ) (before : List Place) (q : Place) → Passed n m before → Passed n m (before ++ q ∷ [])
 passed_more n m before q h k g s =
-    h k ((or_false (greater_stands n k before) (is_kept q && (q.parent == n && nat_lt k (number q))) (sym (any_push (λ r. is_kept r && (r.parent == n && nat_lt k (number r))) before q) ∙ g)).0)
+    h k ((or_false (greater_stands n k before) (is_kept q && (q.parent == n && nat_lt k (number q)))
+    (sym (any_push (λ r. is_kept r && (r.parent == n && nat_lt k (number r))) before q) ∙ g)).0)
     ((or_false (stands k before) (number q == k) (sym (any_push (λ r. number r == k) before q) ∙ s)).0)
 
 less_by : (m k : ℕ) → (true && (true && nat_lt k m)) ≡ false → (m == k) ≡ false → m < k
@@ -142,7 +148,8 @@ less_by m k g s = grind (arith, nat_tests)
 
 passed_last : (n : ℕ) (before : List Place) (p : Place) → is_kept p ≡ true → (p.parent == n) ≡ true → Passed n (number p) (before ++ p ∷ [])
 passed_last n before p e f k g s =
-    let a = (or_false (greater_stands n k before) (is_kept p && (p.parent == n && nat_lt k (number p))) (sym (any_push (λ r. is_kept r && (r.parent == n && nat_lt k (number r))) before p) ∙ g)).1 in
+    let a = (or_false (greater_stands n k before) (is_kept p && (p.parent == n && nat_lt k (number p)))
+    (sym (any_push (λ r. is_kept r && (r.parent == n && nat_lt k (number r))) before p) ∙ g)).1 in
     let b = (or_false (stands k before) (number p == k) (sym (any_push (λ r. number r == k) before p) ∙ s)).1 in
     less_by (number p) k (ap (λ t. t && (true && nat_lt k (number p))) (sym e) ∙ ap (λ t. is_kept p && (t && nat_lt k (number p))) (sym f) ∙ a) b
 
@@ -154,10 +161,12 @@ not_false true e = refl
 not_false false e = absurd (cc)
 
 -- the tests of a kept node that is neither moved nor repeated
-fine : (page : Page) (before : List Place) (p : Place) (after : List Place) → is_kept p ≡ true → is_moved page before p after ≡ false → is_repeated before p after ≡ false
+fine : (page : Page) (before : List Place) (p : Place) (after : List Place) → is_kept p ≡ true
+    → is_moved page before p after ≡ false → is_repeated before p after ≡ false
     → (has_parent p.parent (page (number p)) ≡ true) × (greater_stands p.parent (number p) before ≡ false) × (stands (number p) before ≡ false)
 fine page before p after k m r =
-    let a = or_false (not (has_parent p.parent (page (number p)))) (greater_stands p.parent (number p) before) (and_not (is_kept p) (not (has_parent p.parent (page (number p))) || greater_stands p.parent (number p) before) m k) in
+    let a = or_false (not (has_parent p.parent (page (number p)))) (greater_stands p.parent (number p) before)
+    (and_not (is_kept p) (not (has_parent p.parent (page (number p))) || greater_stands p.parent (number p) before) m k) in
     let b = or_false (stands (number p) before) (stands (number p) after) (and_not (is_kept p) (stands (number p) before || stands (number p) after) r k) in
     (not_false (has_parent p.parent (page (number p))) a.0, a.1, b.0)
 
@@ -166,7 +175,8 @@ above_step true true m p ns f a = (f refl refl, a)
 above_step true false m p ns f a = a
 above_step false t m p ns f a = a
 
-above_under : (page : Page) (n m : ℕ) (before ps : List Place) → Passed n m before → Nowhere (is_moved page) before ps → Nowhere is_repeated before ps → Above m (kept_under n ps)
+above_under : (page : Page) (n m : ℕ) (before ps : List Place) → Passed n m before → Nowhere (is_moved page) before ps
+    → Nowhere is_repeated before ps → Above m (kept_under n ps)
 above_under page n m before [] h a b = tt
 above_under page n m before (p ∷ ps) h a b =
     above_step (is_kept p) (p.parent == n) m p (kept_under n ps)
@@ -174,15 +184,19 @@ above_under page n m before (p ∷ ps) h a b =
     h (number p) (subst (λ (i : ℕ). greater_stands i (number p) before ≡ false) (same_by p.parent n t) f.1) f.2)
     (above_under page n m (before ++ p ∷ []) ps (passed_more n m before p h) a.1 b.1)
 
-increasing_step : (k t : Bool) (p : Place) (ns : List ℕ) → (k ≡ true → t ≡ true → Above (number p) ns) → Increasing ns → Increasing (if k && t then number p ∷ ns else ns)
+increasing_step : (k t : Bool) (p : Place) (ns : List ℕ) → (k ≡ true → t ≡ true → Above (number p) ns) → Increasing ns
+    → Increasing (if k && t then number p ∷ ns else ns)
 increasing_step true true p ns f a = (f refl refl, a)
 increasing_step true false p ns f a = a
 increasing_step false t p ns f a = a
 
-increasing_under : (page : Page) (n : ℕ) (before ps : List Place) → Nowhere (is_moved page) before ps → Nowhere is_repeated before ps → Increasing (kept_under n ps)
+increasing_under : (page : Page) (n : ℕ) (before ps : List Place) → Nowhere (is_moved page) before ps
+    → Nowhere is_repeated before ps → Increasing (kept_under n ps)
 increasing_under page n before [] a b = tt
 increasing_under page n before (p ∷ ps) a b =
-    increasing_step (is_kept p) (p.parent == n) p (kept_under n ps) (λ k t. above_under page n (number p) (before ++ p ∷ []) ps (passed_last n before p k t) a.1 b.1) (increasing_under page n (before ++ p ∷ []) ps a.1 b.1)
+    increasing_step (is_kept p) (p.parent == n) p (kept_under n ps)
+    (λ k t. above_under page n (number p) (before ++ p ∷ []) ps (passed_last n before p k t) a.1 b.1)
+    (increasing_under page n (before ++ p ∷ []) ps a.1 b.1)
 
 -- ---- what the page has, and the kept nodes under a parent
 
@@ -205,31 +219,40 @@ found_member : (k n : ℕ) (ps : List Place) → k ≢ 0 → has_parent n (numbe
 found_member k n [] z h = absurd (cc)
 found_member k n (p ∷ ps) z h = member_by (number p == k) refl (λ g. found_member k n ps z g) h
   where
-    member_by : (b : Bool) → (number p == k) ≡ b → (has_parent n (numbered k ps) ≡ true → Member k (kept_under n ps)) → has_parent n (if b then Some p else numbered k ps) ≡ true → Member k (kept_under n (p ∷ ps))
+    member_by : (b : Bool) → (number p == k) ≡ b → (has_parent n (numbered k ps) ≡ true → Member k (kept_under n ps))
+        → has_parent n (if b then Some p else numbered k ps) ≡ true → Member k (kept_under n (p ∷ ps))
     member_by true e f g =
         let s : number p ≡ k = same_by (number p) k e in
         member_first (is_kept p) (p.parent == n) (number p) k (kept_under n ps) (not_zero_kept (number p) (λ y. z (sym s ∙ y))) g s
     member_by false e f g = member_more (is_kept p && p.parent == n) k (number p) (kept_under n ps) (f g)
 
-parent_right : (page : Page) (before : List Place) (p : Place) (after : List Place) → is_kept p ≡ true → is_moved page before p after ≡ false → has_parent p.parent (page (number p)) ≡ true
+parent_right : (page : Page) (before : List Place) (p : Place) (after : List Place) → is_kept p ≡ true
+    → is_moved page before p after ≡ false → has_parent p.parent (page (number p)) ≡ true
 parent_right page before p after k m =
-    not_false (has_parent p.parent (page (number p))) ((or_false (not (has_parent p.parent (page (number p)))) (greater_stands p.parent (number p) before) (and_not (is_kept p) (not (has_parent p.parent (page (number p))) || greater_stands p.parent (number p) before) m k)).0)
+    not_false (has_parent p.parent (page (number p)))
+    ((or_false (not (has_parent p.parent (page (number p)))) (greater_stands p.parent (number p) before)
+    (and_not (is_kept p) (not (has_parent p.parent (page (number p))) || greater_stands p.parent (number p) before) m k)).0)
 
-members_step : (k t : Bool) (p : Place) (xs ys : List ℕ) → (k ≡ true → t ≡ true → Member (number p) ys) → Members xs ys → Members (if k && t then number p ∷ xs else xs) ys
+members_step : (k t : Bool) (p : Place) (xs ys : List ℕ) → (k ≡ true → t ≡ true → Member (number p) ys) → Members xs ys
+    → Members (if k && t then number p ∷ xs else xs) ys
 members_step true true p xs ys f h = (f refl refl, h)
 members_step true false p xs ys f h = h
 members_step false t p xs ys f h = h
 
-members_under : (page : List Place) (n : ℕ) (before ps : List Place) → Nowhere (is_moved (λ k. numbered k page)) before ps → Members (kept_under n ps) (kept_under n page)
+members_under : (page : List Place) (n : ℕ) (before ps : List Place) → Nowhere (is_moved (λ k. numbered k page)) before ps
+    → Members (kept_under n ps) (kept_under n page)
 members_under page n before [] a = tt
 members_under page n before (p ∷ ps) a =
     members_step (is_kept p) (p.parent == n) p (kept_under n ps) (kept_under n page)
-    (λ k t. subst (λ (i : ℕ). Member (number p) (kept_under i page)) (same_by p.parent n t) (found_member (number p) p.parent page (kept_not_zero (number p) k) (parent_right (λ i. numbered i page) before p ps k a.0)))
+    (λ k t. subst (λ (i : ℕ). Member (number p) (kept_under i page)) (same_by p.parent n t)
+    (found_member (number p) p.parent page (kept_not_zero (number p) k) (parent_right (λ i. numbered i page) before p ps k a.0)))
     (members_under page n (before ++ p ∷ []) ps a.1)
 
-pub in_order : (page edited : List Place) → Increasing (kept_numbers page) → Nowhere (is_moved (λ k. numbered k page)) [] edited → Nowhere is_repeated [] edited → InOrder page edited
+pub in_order : (page edited : List Place) → Increasing (kept_numbers page) → Nowhere (is_moved (λ k. numbered k page)) [] edited
+    → Nowhere is_repeated [] edited → InOrder page edited
 in_order page edited inc a b =
-    λ n. sublist_of_members (kept_under n edited) (kept_under n page) (increasing_under (λ k. numbered k page) n [] edited a b) (under_increasing n page inc) (members_under page n [] edited a)
+    λ n. sublist_of_members (kept_under n edited) (kept_under n page) (increasing_under (λ k. numbered k page) n [] edited a b)
+    (under_increasing n page inc) (members_under page n [] edited a)
 
 -- ---- and back: the page has the node under its parent
 
@@ -257,11 +280,13 @@ member_parent k n (p ∷ ps) z inc m =
     here_by : (c t : Bool) → is_kept p ≡ c → c ≡ true → number p ≡ k → Member k (if c && t then number p ∷ kept_under n ps else kept_under n ps) → t ≡ true
     here_by true true e f s m = refl
     here_by true false e f s m =
-        let lt : number p < k = above_member (number p) k (kept_under n ps) (under_above (number p) n ps (above_rest (is_kept p) p (filter is_kept ps) e inc)) m in
+        let lt : number p < k = above_member (number p) k (kept_under n ps)
+        (under_above (number p) n ps (above_rest (is_kept p) p (filter is_kept ps) e inc)) m in
         absurd (omega (arith, lt, s))
     here_by false t e f s m = absurd (cc)
 
-    parent_by : (b : Bool) → (number p == k) ≡ b → (Member k (kept_under n ps) → has_parent n (numbered k ps) ≡ true) → has_parent n (if b then Some p else numbered k ps) ≡ true
+    parent_by : (b : Bool) → (number p == k) ≡ b → (Member k (kept_under n ps) → has_parent n (numbered k ps) ≡ true)
+        → has_parent n (if b then Some p else numbered k ps) ≡ true
     parent_by true e f =
         let s : number p ≡ k = same_by (number p) k e in
         here_by (is_kept p) (p.parent == n) refl (not_zero_kept (number p) (λ y. z (sym s ∙ y))) s m
@@ -279,11 +304,14 @@ member_later b k i ns m = member_more b k i ns m
 test_equal : (a b : ℕ) → a ≡ b → (a == b) ≡ true
 test_equal a b e = grind (arith, nat_tests)
 
-all_right : (page : List Place) (all ps : List Place) → Increasing (kept_numbers page) → InOrder page all → ((n k : ℕ) → Member k (kept_under n ps) → Member k (kept_under n all)) → AllByRecursion (Right (λ k. numbered k page)) ps
+all_right : (page : List Place) (all ps : List Place) → Increasing (kept_numbers page) → InOrder page all
+    → ((n k : ℕ) → Member k (kept_under n ps) → Member k (kept_under n all)) → AllByRecursion (Right (λ k. numbered k page)) ps
 all_right page all [] inc o h = tt
 all_right page all (p ∷ ps) inc o h = (
   λ e. member_parent (number p) p.parent page (kept_not_zero (number p) e) inc
-      (sublist_member (kept_under p.parent all) (kept_under p.parent page) (number p) (o p.parent) (h p.parent (number p) (member_first (is_kept p) (p.parent == p.parent) (number p) (number p) (kept_under p.parent ps) e (test_equal p.parent p.parent refl) refl))),
+      (sublist_member (kept_under p.parent all) (kept_under p.parent page) (number p) (o p.parent)
+      (h p.parent (number p) (member_first (is_kept p) (p.parent == p.parent) (number p) (number p) (kept_under p.parent ps) e
+      (test_equal p.parent p.parent refl) refl))),
   all_right page all ps inc o (λ n k m. h n k (member_more (is_kept p && p.parent == n) k (number p) (kept_under n ps) m)),
 )
 
@@ -305,11 +333,13 @@ above_there : (b : Bool) (m i : ℕ) (ns : List ℕ) → Above m (if b then i �
 above_there true m i ns a = a.1
 above_there false m i ns a = a
 
-behind_all : (page : Page) (p : Place) (ps : List Place) → is_kept p ≡ true → Right page p → Above (number p) (kept_under p.parent ps) → AllByRecursion (Right page) ps → AllByRecursion (λ q. is_kept q ≡ true → Behind p q) ps
+behind_all : (page : Page) (p : Place) (ps : List Place) → is_kept p ≡ true → Right page p
+    → Above (number p) (kept_under p.parent ps) → AllByRecursion (Right page) ps → AllByRecursion (λ q. is_kept q ≡ true → Behind p q) ps
 behind_all page p [] k r a h = tt
 behind_all page p (q ∷ ps) k r a h = (
   λ e. elim (cases_eq q.parent p.parent) [
-    | inl s ↦ let lt : number p < number q = above_here (is_kept q) (q.parent == p.parent) (number p) (number q) (kept_under p.parent ps) e (test_equal q.parent p.parent s) a in
+    | inl s ↦ let lt : number p < number q = above_here (is_kept q) (q.parent == p.parent) (number p) (number q)
+        (kept_under p.parent ps) e (test_equal q.parent p.parent s) a in
         record { other = λ i. omega (arith, lt, i); later = λ i. lt }
     | inr d ↦ record {
       other = λ i. d (parent_one q.parent p.parent (page (number p)) (ap (λ m. has_parent q.parent (page m)) i ∙ h.0 e) (r k));
@@ -346,7 +376,8 @@ free_push before p q b h k =
     let f = h k in (
       any_push (λ r. is_kept r && (r.parent == q.parent && nat_lt (number q) (number r))) before p
           ∙ or_both (greater_stands q.parent (number q) before) (is_kept p && (p.parent == q.parent && nat_lt (number q) (number p))) f.0
-          (greater_test (is_kept p) (p.parent == q.parent) (nat_lt (number q) (number p)) (λ e t. test_greater (number p) (number q) ((b e k).later (same_by p.parent q.parent t)))),
+          (greater_test (is_kept p) (p.parent == q.parent) (nat_lt (number q) (number p))
+          (λ e t. test_greater (number p) (number q) ((b e k).later (same_by p.parent q.parent t)))),
       any_push (λ r. number r == number q) before p ∙ or_both (stands (number q) before) (number p == number q) f.1 (different (is_kept p) refl),
     )
   where
@@ -354,7 +385,9 @@ free_push before p q b h k =
     different true e = test_other (number p) (number q) ((b e k).other)
     different false e = test_other (number p) (number q) (λ i. kept_not_zero (number q) k (sym i ∙ zero_of (number p) e))
 
-free_all : (before : List Place) (p : Place) (ps : List Place) → (is_kept p ≡ true → AllByRecursion (λ q. is_kept q ≡ true → Behind p q) ps) → AllByRecursion (Free before) ps → AllByRecursion (Free (before ++ p ∷ [])) ps
+free_all : (before : List Place) (p : Place) (ps : List Place)
+    → (is_kept p ≡ true → AllByRecursion (λ q. is_kept q ≡ true → Behind p q) ps) → AllByRecursion (Free before) ps
+    → AllByRecursion (Free (before ++ p ∷ [])) ps
 free_all before p [] b h = tt
 free_all before p (q ∷ ps) b h = (free_push before p q (λ e k. (b e).0 k) h.0, free_all before p ps (λ e. (b e).1) h.1)
 
@@ -395,15 +428,25 @@ above_tail p ps k h = tail_by (is_kept p) (p.parent == p.parent) (number p) (kep
     tail_by true false i ns e f h = absurd (cc)
     tail_by false t i ns e f h = absurd (cc)
 
-none_from : (page : Page) (before ps : List Place) → AllByRecursion (Right page) ps → ((n : ℕ) → Increasing (kept_under n ps)) → AllByRecursion (Free before) ps → NoneOfThem page before ps
+none_from : (page : Page) (before ps : List Place) → AllByRecursion (Right page) ps → ((n : ℕ) → Increasing (kept_under n ps))
+    → AllByRecursion (Free before) ps → NoneOfThem page before ps
 none_from page before [] r inc f = record { unknown = tt; repeated = tt; moved = tt }
 none_from page before (p ∷ ps) r inc f =
     let later = λ (k : is_kept p ≡ true). behind_all page p ps k r.0 (above_tail p ps k (inc p.parent)) r.1 in
     let rest = none_from page (before ++ p ∷ []) ps r.1 (λ n. increasing_tail n p ps (inc n)) (free_all before p ps later f.1) in
     record {
       unknown = (test_by (is_kept p) (not (is_there (page (number p)))) (λ k. ap not (there_of_parent p.parent (page (number p)) (r.0 k))), rest.unknown);
-      repeated = (test_by (is_kept p) (stands (number p) before || stands (number p) ps) (λ k. or_both (stands (number p) before) (stands (number p) ps) (f.0 k).1 (none_stands p ps k (later k))), rest.repeated);
-      moved = (test_by (is_kept p) (not (has_parent p.parent (page (number p))) || greater_stands p.parent (number p) before) (λ k. or_both (not (has_parent p.parent (page (number p)))) (greater_stands p.parent (number p) before) (ap not (r.0 k)) (f.0 k).0), rest.moved);
+      repeated = (
+        test_by (is_kept p) (stands (number p) before || stands (number p) ps)
+            (λ k. or_both (stands (number p) before) (stands (number p) ps) (f.0 k).1 (none_stands p ps k (later k))),
+        rest.repeated,
+      );
+      moved = (
+        test_by (is_kept p) (not (has_parent p.parent (page (number p))) || greater_stands p.parent (number p) before)
+            (λ k. or_both (not (has_parent p.parent (page (number p)))) (greater_stands p.parent (number p) before) (ap not (r.0 k))
+            (f.0 k).0),
+        rest.moved,
+      );
     }
 
 free_first : (ps : List Place) → AllByRecursion (Free []) ps
@@ -412,4 +455,5 @@ free_first (p ∷ ps) = (λ k. (refl, refl), free_first ps)
 
 pub none_of_them : (page edited : List Place) → Increasing (kept_numbers page) → InOrder page edited → NoneOfThem (λ k. numbered k page) [] edited
 none_of_them page edited inc o =
-    none_from (λ k. numbered k page) [] edited (all_right page edited edited inc o (λ n k m. m)) (λ n. sublist_increasing (kept_under n edited) (kept_under n page) (o n) (under_increasing n page inc)) (free_first edited)
+    none_from (λ k. numbered k page) [] edited (all_right page edited edited inc o (λ n k m. m))
+    (λ n. sublist_increasing (kept_under n edited) (kept_under n page) (o n) (under_increasing n page inc)) (free_first edited)

@@ -31,13 +31,16 @@ known_by index n some e =
 abbrev pub Numbers : ℕ → List Visit → Type 0
 Numbers n vs = AllByRecursion (λ (v : Visit). (out-Node v.node.now).id < n) vs
 
-known : (index : List Visit) (before : List Place) (vs : List Visit) → 0 < length index → first_after (is_unknown (indexed index)) before (all_seen vs) ≡ None → Numbers (length index) vs
+known : (index : List Visit) (before : List Place) (vs : List Visit) → 0 < length index
+    → first_after (is_unknown (indexed index)) before (all_seen vs) ≡ None → Numbers (length index) vs
 known index before [] some e = tt
 known index before (v ∷ vs) some e =
-    let h = none_split (is_unknown (indexed index) before (seen v) (all_seen vs)) (number (seen v)) (first_after (is_unknown (indexed index)) (before ++ seen v ∷ []) (all_seen vs)) e in
+    let h = none_split (is_unknown (indexed index) before (seen v) (all_seen vs)) (number (seen v))
+    (first_after (is_unknown (indexed index)) (before ++ seen v ∷ []) (all_seen vs)) e in
     (subst (λ (n : ℕ). n < length index) (number_seen v) (known_by index (number (seen v)) some h.0), known index (before ++ seen v ∷ []) vs some h.1)
 
-pub all_known : (index vs : List Visit) → 0 < length index → None ≡ first (is_unknown (indexed index)) (all_seen vs) → All (λ (v : Visit). (out-Node v.node.now).id < length index) vs
+pub all_known : (index vs : List Visit) → 0 < length index → None ≡ first (is_unknown (indexed index)) (all_seen vs)
+    → All (λ (v : Visit). (out-Node v.node.now).id < length index) vs
 all_known index vs some e = All-from_recursion (λ (v : Visit). (out-Node v.node.now).id < length index) vs (known index [] vs some (sym e))
 
 -- ---- parents
@@ -50,14 +53,18 @@ below_by n parent id p i = by_test (id == 0)
     by_test false = i
 
 mutual
-  parents_below : (n parent : ℕ) (within : Bool) (t : Tree) → parent < n → AllByRecursion (λ (p : Place). number p < n) (placed parent within t) → AllByRecursion (λ (p : Place). p.parent < n) (placed parent within t)
-  parents_below n parent within (tree l ts) p h = (p, all_parents_below n (parent_below parent l.id) (within || is_content l.mark) ts (below_by n parent l.id p h.0) h.1)
+  parents_below : (n parent : ℕ) (within : Bool) (t : Tree) → parent < n → AllByRecursion (λ (p : Place). number p < n)
+      (placed parent within t) → AllByRecursion (λ (p : Place). p.parent < n) (placed parent within t)
+  parents_below n parent within (tree l ts) p h =
+      (p, all_parents_below n (parent_below parent l.id) (within || is_content l.mark) ts (below_by n parent l.id p h.0) h.1)
 
-  all_parents_below : (n parent : ℕ) (within : Bool) (ts : Trees) → parent < n → AllByRecursion (λ (p : Place). number p < n) (all_placed parent within ts) → AllByRecursion (λ (p : Place). p.parent < n) (all_placed parent within ts)
+  all_parents_below : (n parent : ℕ) (within : Bool) (ts : Trees) → parent < n → AllByRecursion (λ (p : Place). number p < n)
+      (all_placed parent within ts) → AllByRecursion (λ (p : Place). p.parent < n) (all_placed parent within ts)
   all_parents_below n parent within none p h = tt
   all_parents_below n parent within (more t ts) p h =
       let s = each_split (λ (q : Place). number q < n) (placed parent within t) (all_placed parent within ts) h in
-      each_join (λ (q : Place). q.parent < n) (placed parent within t) (all_placed parent within ts) (parents_below n parent within t p s.0) (all_parents_below n parent within ts p s.1)
+      each_join (λ (q : Place). q.parent < n) (placed parent within t) (all_placed parent within ts)
+      (parents_below n parent within t p s.0) (all_parents_below n parent within ts p s.1)
 
 numbers_seen : (n : ℕ) (vs : List Visit) → Numbers n vs → AllByRecursion (λ (p : Place). number p < n) (all_seen vs)
 numbers_seen n [] h = tt
@@ -67,7 +74,12 @@ parents_seen : (n : ℕ) (vs : List Visit) → AllByRecursion (λ (p : Place). p
 parents_seen n [] h = tt
 parents_seen n (v ∷ vs) h = (h.0, parents_seen n vs h.1)
 
-pub parents_known : (n : ℕ) (t : Tree) (vs : List Visit) → 0 < n → all_seen vs ≡ places t → All (λ (v : Visit). (out-Node v.node.now).id < n) vs → All (λ (v : Visit). v.parent < n) vs
+pub parents_known : (n : ℕ) (t : Tree) (vs : List Visit) → 0 < n → all_seen vs ≡ places t
+    → All (λ (v : Visit). (out-Node v.node.now).id < n) vs → All (λ (v : Visit). v.parent < n) vs
 parents_known n t vs some e h =
-    let numbers : AllByRecursion (λ (p : Place). number p < n) (places t) = subst (λ (ps : List Place). AllByRecursion (λ (p : Place). number p < n) ps) e (numbers_seen n vs (recursion_from_All (λ (v : Visit). (out-Node v.node.now).id < n) vs h)) in
-    All-from_recursion (λ (v : Visit). v.parent < n) vs (parents_seen n vs (subst (λ (ps : List Place). AllByRecursion (λ (p : Place). p.parent < n) ps) (sym e) (parents_below n 0 false t some numbers)))
+    let numbers : AllByRecursion (λ (p : Place). number p < n) (places t) =
+    subst (λ (ps : List Place). AllByRecursion (λ (p : Place). number p < n) ps) e
+    (numbers_seen n vs (recursion_from_All (λ (v : Visit). (out-Node v.node.now).id < n) vs h)) in
+    All-from_recursion (λ (v : Visit). v.parent < n) vs
+    (parents_seen n vs (subst (λ (ps : List Place). AllByRecursion (λ (p : Place). p.parent < n) ps) (sym e)
+    (parents_below n 0 false t some numbers)))

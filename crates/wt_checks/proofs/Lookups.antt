@@ -66,7 +66,8 @@ range_no_zero (suc k) a h = ((λ e. omega (arith, e, h)), range_no_zero k (a + 1
 
 -- ---- all numbers of a tree that aren't 0 are those of its numbered nodes
 
-ids_by : (n g : Bool) (id : ℕ) (all nums oths : List ℕ) → AllZero ((if n then [] else id ∷ []) ++ (if g then all else oths)) → NoZero ((if n then id ∷ [] else []) ++ (if g then [] else nums)) → (AllZero oths → NoZero nums → kept_ids all ≡ nums)
+ids_by : (n g : Bool) (id : ℕ) (all nums oths : List ℕ) → AllZero ((if n then [] else id ∷ []) ++ (if g then all else oths))
+    → NoZero ((if n then id ∷ [] else []) ++ (if g then [] else nums)) → (AllZero oths → NoZero nums → kept_ids all ≡ nums)
     → kept_ids (id ∷ all) ≡ (if n then id ∷ [] else []) ++ (if g then [] else nums)
 ids_by true true id all nums oths z o h = kept_other id all o.0 ∙ ap (λ ks. id ∷ ks) (kept_none all z)
 ids_by true false id all nums oths z o h = kept_other id all o.0 ∙ ap (λ ks. id ∷ ks) (h z o.1)
@@ -75,7 +76,8 @@ ids_by false false id all nums oths z o h = kept_zero id all z.0 ∙ h z.1 o
 
 mutual
   ids_are : (t : Tree) → AllZero (others t) → NoZero (numbers t) → kept_ids (ids t) ≡ numbers t
-  ids_are (tree l ts) z o = ids_by (is_numbered l.kind) (is_group l.kind) l.id (ids_of_all ts) (numbers_of_all ts) (others_of_all ts) z o (λ y p. all_ids_are ts y p)
+  ids_are (tree l ts) z o = ids_by (is_numbered l.kind) (is_group l.kind) l.id (ids_of_all ts) (numbers_of_all ts)
+      (others_of_all ts) z o (λ y p. all_ids_are ts y p)
 
   all_ids_are : (ts : Trees) → AllZero (others_of_all ts) → NoZero (numbers_of_all ts) → kept_ids (ids_of_all ts) ≡ numbers_of_all ts
   all_ids_are none z o = refl
@@ -93,9 +95,12 @@ mutual
   all_placed_ids : (parent : ℕ) (within : Bool) (ts : Trees) → map number (all_placed parent within ts) ≡ ids_of_all ts
   all_placed_ids parent within none = refl
   all_placed_ids parent within (more t ts) =
-      map-append number (placed parent within t) (all_placed parent within ts) ∙ ap (λ ns. ns ++ map number (all_placed parent within ts)) (placed_ids parent within t) ∙ ap (λ ns. ids t ++ ns) (all_placed_ids parent within ts)
+      map-append number (placed parent within t) (all_placed parent within ts)
+      ∙ ap (λ ns. ns ++ map number (all_placed parent within ts)) (placed_ids parent within t)
+      ∙ ap (λ ns. ids t ++ ns) (all_placed_ids parent within ts)
 
-filter_by : (b : Bool) (p : Place) (qs : List Place) (ns : List ℕ) → map number qs ≡ ns → map number (if b then p ∷ qs else qs) ≡ (if b then number p ∷ ns else ns)
+filter_by : (b : Bool) (p : Place) (qs : List Place) (ns : List ℕ) → map number qs ≡ ns
+    → map number (if b then p ∷ qs else qs) ≡ (if b then number p ∷ ns else ns)
 filter_by true p qs ns e = ap (λ ks. number p ∷ ks) e
 filter_by false p qs ns e = e
 
@@ -110,7 +115,8 @@ zero_is : (n : ℕ) → (n == 0) ≡ true → n ≡ 0
 zero_is n e = grind (arith, nat_tests)
 
 -- places without a number aren't found by one
-found_by : (b : Bool) (n : ℕ) (p : Place) (ps qs : List Place) → (number p == 0) ≡ b → numbered (suc n) ps ≡ numbered (suc n) qs → numbered (suc n) (p ∷ ps) ≡ numbered (suc n) (if not b then p ∷ qs else qs)
+found_by : (b : Bool) (n : ℕ) (p : Place) (ps qs : List Place) → (number p == 0) ≡ b → numbered (suc n) ps ≡ numbered (suc n) qs
+    → numbered (suc n) (p ∷ ps) ≡ numbered (suc n) (if not b then p ∷ qs else qs)
 found_by true n p ps qs e h = ap (λ t. if t then Some p else numbered (suc n) ps) (tests_other (number p) n (zero_is (number p) e)) ∙ h
 found_by false n p ps qs e h = ap (λ o. if number p == suc n then Some p else o) h
 
@@ -166,7 +172,8 @@ ordered t b h =
 root_place : (t : Tree) → (p : Place) × (ps : List Place) × (places t ≡ p ∷ ps) × (number p ≡ (label t).id)
 root_place (tree l ts) = (record { node = tree l ts; parent = 0; in_content = false }, all_placed (parent_below 0 l.id) (is_content l.mark) ts, refl, refl)
 
-at_index : (p : Place) (ps : List Place) (n k : ℕ) → number p ≡ 0 → map number (filter is_kept (p ∷ ps)) ≡ range_with_len 1 k → slice_get (p ∷ filter is_kept (p ∷ ps)) n ≡ numbered n (p ∷ ps)
+at_index : (p : Place) (ps : List Place) (n k : ℕ) → number p ≡ 0 → map number (filter is_kept (p ∷ ps)) ≡ range_with_len 1 k
+    → slice_get (p ∷ filter is_kept (p ∷ ps)) n ≡ numbered n (p ∷ ps)
 at_index p ps zero k e h = sym (ap (λ b. if b then Some p else numbered 0 ps) (is_zero (number p) e))
 at_index p ps (suc n) k e h =
     let m : suc n ≡ 1 + n = omega arith in
@@ -175,9 +182,11 @@ at_index p ps (suc n) k e h =
 -- the same of visits
 filter_seen : (vs : List Visit) → all_seen (filter has_number vs) ≡ filter is_kept (all_seen vs)
 filter_seen [] = refl
-filter_seen (v ∷ vs) = seen_by (has_number v) v (filter has_number vs) (filter is_kept (all_seen vs)) (filter_seen vs) ∙ ap (λ n. if not (n == 0) then seen v ∷ filter is_kept (all_seen vs) else filter is_kept (all_seen vs)) (sym (number_seen v))
+filter_seen (v ∷ vs) = seen_by (has_number v) v (filter has_number vs) (filter is_kept (all_seen vs)) (filter_seen vs)
+    ∙ ap (λ n. if not (n == 0) then seen v ∷ filter is_kept (all_seen vs) else filter is_kept (all_seen vs)) (sym (number_seen v))
   where
-    seen_by : (b : Bool) (v : Visit) (us : List Visit) (ps : List Place) → all_seen us ≡ ps → all_seen (if b then v ∷ us else us) ≡ (if b then seen v ∷ ps else ps)
+    seen_by : (b : Bool) (v : Visit) (us : List Visit) (ps : List Place) → all_seen us ≡ ps
+        → all_seen (if b then v ∷ us else us) ≡ (if b then seen v ∷ ps else ps)
     seen_by true v us ps e = ap (λ qs. seen v ∷ qs) e
     seen_by false v us ps e = e
 
@@ -193,7 +202,8 @@ index_at t vs n b h e =
     let r = root_place t in
     let s : all_seen vs ≡ r.0 ∷ r.1 = e ∙ r.2 in
     let k : map number (filter is_kept (r.0 ∷ r.1)) ≡ range_with_len 1 (length (numbers t)) = ap (λ ps. map number (filter is_kept ps)) (sym r.2) ∙ o.kept in
-    sym (slice_get-map seen (index_list vs) n) ∙ ap (λ ps. slice_get ps n) (index_seen vs r.0 r.1 s) ∙ at_index r.0 r.1 n (length (numbers t)) (r.3 ∙ o.root) k ∙ ap (numbered n) (sym r.2)
+    sym (slice_get-map seen (index_list vs) n) ∙ ap (λ ps. slice_get ps n) (index_seen vs r.0 r.1 s)
+    ∙ at_index r.0 r.1 n (length (numbers t)) (r.3 ∙ o.root) k ∙ ap (numbered n) (sym r.2)
 
 pub index_is : (t : Tree) (vs : List Visit) → (label t).kind ≡ kind.Body → InPreorder t → all_seen vs ≡ places t → indexed (index_list vs) ≡ page_of t
 index_is t vs b h e = λ i n. index_at t vs n b h e i

@@ -43,7 +43,8 @@ not_before p (q ∷ before) after k c =
     let r = not_before p before after k h.1 in
     not_before_by p q before after (number q == number p) refl k h.0 r
   where
-    not_before_by : (p q : Place) (before after : List Place) (b : Bool) → (number q == number p) ≡ b → is_kept p ≡ true → (is_kept q && stands (number q) (p ∷ after)) ≡ false → stands (number p) before ≡ false
+    not_before_by : (p q : Place) (before after : List Place) (b : Bool) → (number q == number p) ≡ b → is_kept p ≡ true
+        → (is_kept q && stands (number q) (p ∷ after)) ≡ false → stands (number p) before ≡ false
         → ((number q == number p) || stands (number p) before) ≡ false
     not_before_by p q before after true e k c r =
         let s : number q ≡ number p = same_number p q e in
@@ -88,15 +89,18 @@ if_either : {A : Type 0} (b : Bool) (z x y : A) → (b ≡ false → x ≡ y) �
 if_either true z x y h = refl
 if_either false z x y h = h refl
 
-clash_push : (before : List Place) (p : Place) (after : List Place) → clash before (p ∷ after) ≡ false → (is_kept p && stands (number p) after) ≡ false → clash (before ++ p ∷ []) after ≡ false
+clash_push : (before : List Place) (p : Place) (after : List Place) → clash before (p ∷ after) ≡ false
+    → (is_kept p && stands (number p) after) ≡ false → clash (before ++ p ∷ []) after ≡ false
 clash_push before p after c e = any_push (λ q. is_kept q && stands (number q) after) before p ∙ rw (clash_fewer before p after c, e)
 
 again_from : (before ps : List Place) → clash before ps ≡ false → first_after is_repeated before ps ≡ first_again ps
 again_from before [] c = refl
 again_from before (p ∷ after) c =
-    let t : is_repeated before p after ≡ (is_kept p && stands (number p) after) = test_same (is_kept p) (stands (number p) before) (stands (number p) after) (λ k. not_before p before after k c) in
+    let t : is_repeated before p after ≡ (is_kept p && stands (number p) after) = test_same (is_kept p) (stands (number p) before)
+    (stands (number p) after) (λ k. not_before p before after k c) in
     ap (λ b. if b then Some (number p) else first_after is_repeated (before ++ p ∷ []) after) t
-    ∙ if_either (is_kept p && stands (number p) after) (Some (number p)) (first_after is_repeated (before ++ p ∷ []) after) (first_again after) (λ e. again_from (before ++ p ∷ []) after (clash_push before p after c e))
+    ∙ if_either (is_kept p && stands (number p) after) (Some (number p)) (first_after is_repeated (before ++ p ∷ []) after)
+    (first_again after) (λ e. again_from (before ++ p ∷ []) after (clash_push before p after c e))
 
 pub again_is_first : (ps : List Place) → first_again ps ≡ first is_repeated ps
 again_is_first ps = sym (again_from [] ps refl)

@@ -29,7 +29,8 @@ held_signs ts = signs_plain (plains_before ts ended) ∙ all_signs_before ts end
 mutual
   bare_signs : (ps : Plains) → signs_in (all_bare ps) ≡ all_bare_signs (signs_in ps)
   bare_signs ended = refl
-  bare_signs (along p ps) = ap (λ ss. ss ++ signs_in (all_bare ps)) (bare_sign_of p) ∙ ap (λ ss. all_bare_signs (signs_of p) ++ ss) (bare_signs ps) ∙ sym (map-append bare_sign (signs_of p) (signs_in ps))
+  bare_signs (along p ps) = ap (λ ss. ss ++ signs_in (all_bare ps)) (bare_sign_of p)
+      ∙ ap (λ ss. all_bare_signs (signs_of p) ++ ss) (bare_signs ps) ∙ sym (map-append bare_sign (signs_of p) (signs_in ps))
 
   bare_sign_of : (p : Plain) → signs_of (bare p) ≡ all_bare_signs (signs_of p)
   bare_sign_of (text bs) = sym (bare_text bs)
@@ -79,25 +80,31 @@ element_comes true f hs rest = refl
 element_comes false f hs rest = refl
 
 -- the signs of an element without its data
-element_signs : (l : Label) (ts : Trees) → all_bare_signs (signs_by Element l (signs_of_all ts)) ≡ signs_of (element (without_data (face l)) (all_bare (plains_before ts ended)))
+element_signs : (l : Label) (ts : Trees) → all_bare_signs (signs_by Element l (signs_of_all ts))
+    ≡ signs_of (element (without_data (face l)) (all_bare (plains_before ts ended)))
 element_signs l ts =
     ap (λ (ss : List Sign). bracket (opens (without_data (face l))) ∷ ss)
-    (map-append bare_sign (signs_of_all ts) (bracket closes ∷ []) ∙ ap (λ (ss : List Sign). ss ++ (bracket closes ∷ [])) (ap all_bare_signs (sym (held_signs ts)) ∙ sym (bare_signs (plains_before ts ended))))
+    (map-append bare_sign (signs_of_all ts) (bracket closes ∷ []) ∙ ap (λ (ss : List Sign). ss ++ (bracket closes ∷ []))
+    (ap all_bare_signs (sym (held_signs ts)) ∙ sym (bare_signs (plains_before ts ended))))
 
-tops_by : (s : Showing) (o : Bool) (l : Label) (ts : Trees) (rest : Plains) → all_top_signs o ts ++ coming (all_top_open o ts) (all_bare rest) ≡ coming o (all_bare (plains_before ts rest))
-    → top_by s o l (signs_of_all ts) (all_top_signs o ts) ++ coming (open_by s o l (all_top_open o ts)) (all_bare rest) ≡ coming o (all_bare (shown_before s l (λ ps. plains_before ts ps) rest))
+tops_by : (s : Showing) (o : Bool) (l : Label) (ts : Trees) (rest : Plains) → all_top_signs o ts
+    ++ coming (all_top_open o ts) (all_bare rest) ≡ coming o (all_bare (plains_before ts rest))
+    → top_by s o l (signs_of_all ts) (all_top_signs o ts) ++ coming (open_by s o l (all_top_open o ts)) (all_bare rest)
+    ≡ coming o (all_bare (shown_before s l (λ ps. plains_before ts ps) rest))
 tops_by Characters o l ts rest h = text_comes o l.shown (all_bare rest) ∙ ap (coming o) (sym (bare_before l.shown rest))
 tops_by Inside o l ts rest h = h
 tops_by Nothing o l ts rest h = refl
 tops_by Element o l ts rest h =
     append_assoc (close_span o) (all_bare_signs (signs_by Element l (signs_of_all ts))) (coming false (all_bare rest))
-    ∙ ap (λ ss. close_span o ++ (ss ++ coming false (all_bare rest))) (element_signs l ts) ∙ element_comes o (without_data (face l)) (all_bare (plains_before ts ended)) (all_bare rest)
+    ∙ ap (λ ss. close_span o ++ (ss ++ coming false (all_bare rest))) (element_signs l ts)
+    ∙ element_comes o (without_data (face l)) (all_bare (plains_before ts ended)) (all_bare rest)
 
 mutual
   tops : (o : Bool) (t : Tree) (rest : Plains) → top_signs o t ++ coming (top_open o t) (all_bare rest) ≡ coming o (all_bare (plain_before t rest))
   tops o (tree l ts) rest = tops_by (showing l.kind) o l ts rest (all_tops o ts rest)
 
-  all_tops : (o : Bool) (ts : Trees) (rest : Plains) → all_top_signs o ts ++ coming (all_top_open o ts) (all_bare rest) ≡ coming o (all_bare (plains_before ts rest))
+  all_tops : (o : Bool) (ts : Trees) (rest : Plains) → all_top_signs o ts ++ coming (all_top_open o ts) (all_bare rest)
+      ≡ coming o (all_bare (plains_before ts rest))
   all_tops o none rest = refl
   all_tops o (more t ts) rest =
       append_assoc (top_signs o t) (all_top_signs (top_open o t) ts) (coming (all_top_open (top_open o t) ts) (all_bare rest))
@@ -114,4 +121,5 @@ none_is (along (element f qs) ps) = refl
 
 pub spans_are : (ts : Trees) → span_if_none (all_top_signs false ts ++ close_span (all_top_open false ts)) ≡ signs_in (written_for ts)
 spans_are ts =
-    ap span_if_none (ap (λ ss. all_top_signs false ts ++ ss) (sym (end_closes (all_top_open false ts))) ∙ all_tops false ts ended) ∙ none_is (all_bare (plains_before ts ended))
+    ap span_if_none (ap (λ ss. all_top_signs false ts ++ ss) (sym (end_closes (all_top_open false ts))) ∙ all_tops false ts ended)
+    ∙ none_is (all_bare (plains_before ts ended))

@@ -11,5 +11,7 @@ placed_views parent within [] = refl
 placed_views parent within (n ∷ ns) = ap (λ s. placed parent within (view n) ++ s) (placed_views parent within ns)
 
 pub placed_out : (parent : ℕ) (within : Bool) (n : Node)
-    → placed parent within (view n) ≡ record { node = view n; parent = parent; in_content = within } ∷ flat_map (λ m. placed (parent_below parent (out-Node n).id) (within || is_content (out-Node n).mark) (view m)) (out-Node n).children
+    → placed parent within (view n) ≡ record { node = view n; parent = parent; in_content = within }
+    ∷ flat_map (λ m. placed (parent_below parent (out-Node n).id) (within || is_content (out-Node n).mark) (view m))
+    (out-Node n).children
 placed_out parent within n = rw (view_out n, placed_views (parent_below parent (out-Node n).id) (within || is_content (out-Node n).mark) (out-Node n).children)

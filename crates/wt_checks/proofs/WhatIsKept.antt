@@ -51,7 +51,8 @@ kept values page edited b h e =
       marks = each_place (is_wrongly_marked p) (MarkKept p) (mark_kept p) [] es (nowhere (is_wrongly_marked p) [] es w.0);
     }
 
-pub unrefused : (values : Bool) (page edited : Tree) → (label page).kind ≡ kind.Body → InPreorder page → Kept values page edited → checked values page edited ≡ None
+pub unrefused : (values : Bool) (page edited : Tree) → (label page).kind ≡ kind.Body → InPreorder page → Kept values page edited
+    → checked values page edited ≡ None
 unfolding checked
 unrefused values page edited b h k =
     let p : Page = page_of page in
@@ -65,6 +66,10 @@ unrefused values page edited b h k =
     none_or (first (is_unknown p) es) UnknownId two (none_first (is_unknown p) [] es n.unknown)
     (none_or (first is_repeated es) RepeatedId three (none_first is_repeated [] es n.repeated)
     (none_or (first (is_moved p) es) Moved four (none_first (is_moved p) [] es n.moved)
-    (none_or (first (is_in_template values p) es) InTemplate five (none_first (is_in_template values p) [] es (no_place (is_in_template values p) (GroupKept values p) (kept_group values p) [] es k.groups))
-    (none_or (first (is_wrongly_marked p) es) NotEditable six (none_first (is_wrongly_marked p) [] es (no_place (is_wrongly_marked p) (MarkKept p) (kept_mark p) [] es k.marks))
-    (none_or (first (is_unmarked_change p) es) UnmarkedChange None (none_first (is_unmarked_change p) [] es (no_place (is_unmarked_change p) (NodeKept p) (kept_node p) [] es k.nodes)) refl)))))
+    (none_or (first (is_in_template values p) es) InTemplate five
+    (none_first (is_in_template values p) [] es
+    (no_place (is_in_template values p) (GroupKept values p) (kept_group values p) [] es k.groups))
+    (none_or (first (is_wrongly_marked p) es) NotEditable six
+    (none_first (is_wrongly_marked p) [] es (no_place (is_wrongly_marked p) (MarkKept p) (kept_mark p) [] es k.marks))
+    (none_or (first (is_unmarked_change p) es) UnmarkedChange None
+    (none_first (is_unmarked_change p) [] es (no_place (is_unmarked_change p) (NodeKept p) (kept_node p) [] es k.nodes)) refl)))))

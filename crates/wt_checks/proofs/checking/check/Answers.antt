@@ -10,10 +10,12 @@ pub check_visits-requires-clause-parents : goal.check_visits-requires-clause-par
 check_visits-requires-clause-parents c =
     let same : length c.as_slice.result.now ≡ length c.in_ok-index.index.items = ap length c.as_slice.ensures.value in
     let some : 0 < length c.as_slice.result.now = omega (arith, same, c.in_ok-index.ensures.some) in
-    parents_known (length c.as_slice.result.now) (view c.args.edited.now) c.as_slice-2.result.now some (ap all_seen c.as_slice-2.ensures.value ∙ c.in_ok-edited.ensures)
+    parents_known (length c.as_slice.result.now) (view c.args.edited.now) c.as_slice-2.result.now some
+    (ap all_seen c.as_slice-2.ensures.value ∙ c.in_ok-edited.ensures)
 
 pub returns : goal.returns
 unfolding checked
 returns c =
-    c.in_ok-refusal.ensures ∙ ap (λ (page : Page). refused c.args.values page (all_seen c.as_slice-2.result.now)) (ap indexed c.as_slice.ensures.value ∙ c.in_ok-index.ensures.same)
+    c.in_ok-refusal.ensures ∙ ap (λ (page : Page). refused c.args.values page (all_seen c.as_slice-2.result.now))
+    (ap indexed c.as_slice.ensures.value ∙ c.in_ok-index.ensures.same)
     ∙ ap (λ (ps : List Place). refused c.args.values (page_of (view c.args.page.now)) ps) (ap all_seen c.as_slice-2.ensures.value ∙ c.in_ok-edited.ensures)

@@ -6,4 +6,5 @@ use Rattle.wt_checks.proofs.checking.page_index.Goals as goal
 
 pub returns-clause-same : goal.returns-clause-same
 returns-clause-same c =
-    ap indexed (c.in_ok-index.ensures ∙ ap index_list c.as_slice.ensures.value) ∙ index_is (view c.args.page.now) c.in_ok-all.all.items c.requires.body c.requires.numbered c.in_ok-all.ensures
+    ap indexed (c.in_ok-index.ensures ∙ ap index_list c.as_slice.ensures.value)
+    ∙ index_is (view c.args.page.now) c.in_ok-all.all.items c.requires.body c.requires.numbered c.in_ok-all.ensures

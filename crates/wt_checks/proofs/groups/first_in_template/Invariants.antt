@@ -6,4 +6,6 @@ use Rattle.wt_checks.proofs.groups.first_in_template.Given as goal
 
 abbrev pub invariant-loop-visit : goal.invariant-loop-visit
 invariant-loop-visit l =
-    first (is_in_template l.values (indexed l.index)) (all_seen l.edited) ≡ first_after (is_in_template l.values (indexed l.index)) (all_seen (take l.visit-index l.edited)) (all_seen (drop l.visit-index l.edited))
+    first (is_in_template l.values (indexed l.index)) (all_seen l.edited)
+    ≡ first_after (is_in_template l.values (indexed l.index)) (all_seen (take l.visit-index l.edited))
+    (all_seen (drop l.visit-index l.edited))

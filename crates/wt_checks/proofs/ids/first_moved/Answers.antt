@@ -20,6 +20,9 @@ loop-visit-preserved c =
     let after : c.pass.new.greatest.items ≡ passed greatest v = c.pass.ensures in
     record {
       long = ap length after ∙ passed_long greatest v ∙ c.loop-visit.invariant.long;
-      greatest = subst (λ (g : List ℕ). Greatest g (all_seen (take (i + 1) edited))) (sym after) (greatest_turn index greatest edited i v c.loop-visit-test.true c.visit-item.is within e c.loop-visit.invariant.greatest);
-      left = c.loop-visit.invariant.left ∙ first_later (is_moved (indexed index)) edited i v c.loop-visit-test.true c.visit-item.is (test_is index greatest (all_seen (take i edited)) (all_seen (drop (i + 1) edited)) v within c.loop-visit.invariant.greatest ∙ e);
+      greatest = subst (λ (g : List ℕ). Greatest g (all_seen (take (i + 1) edited))) (sym after)
+          (greatest_turn index greatest edited i v c.loop-visit-test.true c.visit-item.is within e c.loop-visit.invariant.greatest);
+      left = c.loop-visit.invariant.left ∙ first_later (is_moved (indexed index)) edited i v c.loop-visit-test.true
+          c.visit-item.is (test_is index greatest (all_seen (take i edited))
+          (all_seen (drop (i + 1) edited)) v within c.loop-visit.invariant.greatest ∙ e);
     }

@@ -9,5 +9,6 @@ abbrev pub invariant-loop-visit : goal.invariant-loop-visit
 invariant-loop-visit l = record {
   long : length l.greatest.items ≡ length l.index;
   greatest : Greatest l.greatest.items (all_seen (take l.visit-index l.edited));
-  left : first (is_moved (indexed l.index)) (all_seen l.edited) ≡ first_after (is_moved (indexed l.index)) (all_seen (take l.visit-index l.edited)) (all_seen (drop l.visit-index l.edited));
+  left : first (is_moved (indexed l.index)) (all_seen l.edited)
+      ≡ first_after (is_moved (indexed l.index)) (all_seen (take l.visit-index l.edited)) (all_seen (drop l.visit-index l.edited));
 }

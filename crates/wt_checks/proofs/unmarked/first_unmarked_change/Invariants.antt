@@ -6,4 +6,5 @@ use Rattle.wt_checks.proofs.unmarked.first_unmarked_change.Given as goal
 
 abbrev pub invariant-loop-visit : goal.invariant-loop-visit
 invariant-loop-visit l =
-    first (is_unmarked_change (indexed l.index)) (all_seen l.edited) ≡ first_after (is_unmarked_change (indexed l.index)) (all_seen (take l.visit-index l.edited)) (all_seen (drop l.visit-index l.edited))
+    first (is_unmarked_change (indexed l.index)) (all_seen l.edited) ≡ first_after (is_unmarked_change (indexed l.index))
+    (all_seen (take l.visit-index l.edited)) (all_seen (drop l.visit-index l.edited))

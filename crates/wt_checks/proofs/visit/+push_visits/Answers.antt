@@ -5,4 +5,9 @@ use Rattle.wt_checks.proofs.visit.+push_visits.Goals as goal
 
 pub returns : goal.returns
 returns t c =
-    rw (placed_out c.args.parent c.args.in_content c.args.node.now, sym c.parent_below-below.ensures, sym c.is_inside-inside.ensures, sym c.as_slice-child-items.ensures) (grind (arith, common_steps))
+    rw (
+      placed_out c.args.parent c.args.in_content c.args.node.now,
+      sym c.parent_below-below.ensures,
+      sym c.is_inside-inside.ensures,
+      sym c.as_slice-child-items.ensures,
+    ) (grind (arith, common_steps))
