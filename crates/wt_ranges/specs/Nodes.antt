@@ -1,5 +1,5 @@
 -- Nodes by their heads and texts.
-use Rattle.std.specs.Prelude.{ℕ, Option, List}
+use Rattle.std.specs.Prelude.{ℕ, Option, None, List}
 use Rattle.wt_tree.specs.declared.kind.Ranges.{Ranges}
 use Rattle.wt_tree.specs.declared.kind.Mark.TheVariants as marks
 use Rattle.wt_tree.specs.Tree.{Label}
@@ -16,6 +16,7 @@ node_label h r opening closing own = record {
   own = own;
   shown = h.shown;
   attrs = h.attrs;
+  origin = None;
   mark = marks.Nothing;
   mw = h.mw;
 }
