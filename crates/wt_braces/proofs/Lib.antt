@@ -20,3 +20,4 @@ pub mod FrontTags
 pub mod SliceWords
 pub mod Replays
 pub mod AloneLaws
+pub mod Rejoins

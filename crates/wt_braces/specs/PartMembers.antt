@@ -1,6 +1,6 @@
 -- The members of the parts of a call: those of each part's name and those of its value.
 use Rattle.std.specs.Prelude.{ℕ, ◌+◌, Bool, true, false, Option, Some, None, List, [], ◌∷◌, ◌++◌, if◌then◌else◌}
-use Rattle.wt_span.specs.declared.form.LexKind.TheVariants.{Equals}
+use Rattle.wt_span.specs.declared.form.LexKind.TheVariants.{Equals, Pipe}
 use Rattle.wt_span.specs.Braces.{Member, Members, lexeme, members, listed, width, width_of_all, Sign, pipe, equals, sign_of, in_link, PartAt}
 
 -- the members of a name with the width of the `=` that ends it, where the part has one; the members of the value; and the
@@ -67,3 +67,11 @@ name_end at (Some (xs, n)) = Some (at + width_of xs)
 abbrev pub placed : ℕ → List PartMembers → List PartAt
 placed at [] = []
 placed at (p ∷ ps) = record { from = at; to = at + (name_width p.name + width_of p.value); equals_at = name_end at p.name } ∷ placed (at + (name_width p.name + width_of p.value) + p.bar) ps
+
+-- ---- together
+
+-- the members of parts, with the bars between them
+abbrev pub rejoined : List PartMembers → List Member
+rejoined [] = []
+rejoined (p ∷ []) = joined p.name p.value
+rejoined (p ∷ q ∷ ps) = joined p.name p.value ++ lexeme (Pipe, p.bar) ∷ rejoined (q ∷ ps)

@@ -1,13 +1,13 @@
 ghost use Rattle.std.specs.Prelude.{◌≡◌, ℕ, List, map};
 ghost use Rattle.wt_span.specs.declared.form.Mode.{Mode as TextMode};
 ghost use Rattle.wt_span.specs.Lexemes.{Word, words};
-ghost use Rattle.wt_span.specs.Braces.{Members, members, parts_of, reduced, width_of_all, calls, nesting, IsCall};
+ghost use Rattle.wt_span.specs.Braces.{Members, members, parts_of, reduced, width_of_all, calls, nesting, IsCall, listed};
 ghost use Rattle.wt_lex.specs.declared.lexeme.Lexeme.{Lexeme as LexemeAt};
 ghost use Rattle.wt_lex.specs.Places.{Follow};
 ghost use Rattle.wt_braces.specs.Alone.{AreAlone, IsOneCall};
 ghost use Rattle.wt_braces.specs.Depth.{depths_of_all};
 ghost use Rattle.wt_braces.specs.Found.{AreAdjacent};
-ghost use Rattle.wt_braces.specs.PartMembers.{part_members, placed};
+ghost use Rattle.wt_braces.specs.PartMembers.{part_members, placed, rejoined};
 ghost use Rattle.wt_braces.specs.Rewriting.{as_members, HaveBraces, IsOnlyEnd};
 ghost use Rattle.wt_braces.specs.Words.{total_width};
 
@@ -35,8 +35,10 @@ pub fn widths_stay()
 
 /// The widths of the members of a call's parts, of each name and each value, are the parts'
 /// places.
+/// And these members, with the bars between the parts, are all members of the call.
 pub fn members_have_places()
-    ensures { (from : ℕ) (ms : Members) → parts_of from ms ≡ placed from (part_members from ms) }
+    ensures places { (from : ℕ) (ms : Members) → parts_of from ms ≡ placed from (part_members from ms) }
+    ensures joined { (from : ℕ) (ms : Members) → rejoined (part_members from ms) ≡ listed ms }
 {}
 
 /// The bytes of each call of a text, read by themselves, are this very call and nothing else: what
