@@ -69,7 +69,7 @@ read_refused bytes place w (Ok s) e h = by_test (is_accepted s) refl
     by_test false f = read_cut bytes s e f ∙ ill_same bytes (length bytes) place html_why.End w (cut_off bytes s e f) h
 
 -- the same in words
-in_words : (bytes : List ℕ) (place : ℕ) (w : HtmlWhy) → Refused bytes place w → IsRead bytes (ill place w)
+pub in_words : (bytes : List ℕ) (place : ℕ) (w : HtmlWhy) → Refused bytes place w → IsRead bytes (ill place w)
 in_words bytes place w h = (h.0, holds bytes place w h, λ v. first_reason bytes place v w h)
 
 pub one_read : (bytes : List ℕ) (r : Read) → IsRead bytes r → read bytes ≡ r
