@@ -1,3 +1,4 @@
 pub mod OneReading
 pub mod Cases
 pub mod FirstMisfits
+pub mod FirstUnsourced

@@ -13,6 +13,7 @@ use Rattle.wt_html_grammar.proofs.Places.{refused, cut_off, well_of}
 use Rattle.wt_html_grammar.proofs.Reading.{well_read}
 use Rattle.wt_html_grammar.proofs.Spaces.{one_place}
 use Rattle.wt_html_grammar.proofs.Telling.{stands_told}
+use Rattle.wt_html_reasons.proofs.First.{holds, first_reason, only}
 use Rattle.wt_fitting.specs.declared.why.FitWhy.{FitWhy}
 use Rattle.wt_fitting.specs.Fit.{Misfit, fit}
 use Rattle.wt_fitting.specs.Unsourced.{unsourced}
@@ -67,13 +68,17 @@ read_refused bytes place w (Ok s) e h = by_test (is_accepted s) refl
     by_test true f = absurd (h.0.ill (well_of bytes s e f))
     by_test false f = read_cut bytes s e f ∙ ill_same bytes (length bytes) place html_why.End w (cut_off bytes s e f) h
 
+-- the same in words
+pub in_words : (bytes : List ℕ) (place : ℕ) (w : HtmlWhy) → Refused bytes place w → IsRead bytes (ill place w)
+in_words bytes place w h = (h.0, holds bytes place w h, λ v. first_reason bytes place v w h)
+
 pub one_read : (bytes : List ℕ) (r : Read) → IsRead bytes r → read bytes ≡ r
 one_read bytes (page t u) h = read_stands bytes h.0 h.1 ∙ tree_page h.0 t u h.2 h.3
-one_read bytes (ill place w) h = read_refused bytes place w (run start bytes) refl h
+one_read bytes (ill place w) h = read_refused bytes place w (run start bytes) refl (only bytes place w h.0 h.1 h.2)
 one_read bytes (misfit n w) h = read_stands bytes h.0 h.1 ∙ tree_misfit h.0 n w h.2
 
 reads_by : (bytes : List ℕ) (o : Result State HtmlWhy) → run start bytes ≡ o → IsRead bytes (read bytes)
-reads_by bytes (Err w) e = let P : Read → Type 0 = IsRead bytes in subst P (sym (read_err bytes w e)) (refused bytes w e)
+reads_by bytes (Err w) e = let P : Read → Type 0 = IsRead bytes in subst P (sym (read_err bytes w e)) (in_words bytes (taken start bytes) w (refused bytes w e))
 reads_by bytes (Ok s) e = by_test (is_accepted s) refl
   where
     by_test : (b : Bool) → is_accepted s ≡ b → IsRead bytes (read bytes)
@@ -83,7 +88,7 @@ reads_by bytes (Ok s) e = by_test (is_accepted s) refl
         let h : Stands bytes m = (well.0, well.1, well.2, refl) in
         let P : Read → Type 0 = IsRead bytes in
         subst P (sym (read_stands bytes m h)) (tree_is_read bytes m h)
-    by_test false f = let P : Read → Type 0 = IsRead bytes in subst P (sym (read_cut bytes s e f)) (cut_off bytes s e f)
+    by_test false f = let P : Read → Type 0 = IsRead bytes in subst P (sym (read_cut bytes s e f)) (in_words bytes (length bytes) html_why.End (cut_off bytes s e f))
 
 pub reads : (bytes : List ℕ) → IsRead bytes (read bytes)
 reads bytes = reads_by bytes (run start bytes) refl

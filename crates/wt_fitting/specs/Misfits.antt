@@ -1,8 +1,9 @@
 -- The first element that doesn't fit, without going over the tree: all elements in document order,
 -- each with its number, its parent's kind and whether a block stands before it there, and what is
 -- wrong with each by itself.
-use Rattle.std.specs.Prelude.{◌≡◌, ℕ, suc, ◌+◌, ◌++◌, ◌||◌, Bool, true, false, not, is_some, Option, Some, None, List, [], ◌∷◌}
+use Rattle.std.specs.Prelude.{◌≡◌, ℕ, suc, ◌+◌, ◌++◌, ◌||◌, Bool, true, false, not, is_some, Option, Some, None, List, [], ◌∷◌, map, find}
 use Rattle.std.specs.List.{AllByRecursion}
+use Rattle.std.specs.Option.{option_map}
 use Rattle.wt_tree.specs.declared.kind.Kind.{Kind}
 use Rattle.wt_tree.specs.declared.kind.Kind.TheVariants as kind
 use Rattle.wt_html_grammar.specs.Markup.{Pair, Markup, Markups, text, node, empty, more}
@@ -10,6 +11,7 @@ use Rattle.wt_fitting.specs.declared.why.FitWhy.{FitWhy}
 use Rattle.wt_fitting.specs.declared.why.FitWhy.TheVariants as why
 use Rattle.wt_fitting.specs.Rows.{row}
 use Rattle.wt_fitting.specs.Data.{data_of}
+use Rattle.wt_fitting.specs.Unsourced.{is_marked, is_unsourced}
 use Rattle.wt_fitting.specs.Fit.{Found, elements, is_block_element, has_place, text_fits}
 
 -- an element with its number, its parent's kind and its own; the body's parent has none, and neither
@@ -37,6 +39,20 @@ abbrev mutual
 -- the body, and all below it
 abbrev pub places_of_body : Found → List Place
 places_of_body f = place f.number None false (Some kind.Body) f.attributes f.contents ∷ places_of_all (suc f.number) (Some kind.Body) false f.contents
+
+-- ---- which elements have no source
+
+-- an element's number, and whether it has no source or has the mark of an edit
+abbrev pub source_at : Place → ℕ × Bool
+source_at x = (x.number, is_unsourced x.attributes)
+
+-- the body, which needs no source, and all below it
+abbrev pub sources_of_body : Found → List (ℕ × Bool)
+sources_of_body f = (f.number, is_marked f.attributes) ∷ map source_at (places_of_all (suc f.number) (Some kind.Body) false f.contents)
+
+-- the number of the first of them that has none
+abbrev pub first_unsourced : List (ℕ × Bool) → Option ℕ
+first_unsourced xs = option_map (λ (x : ℕ × Bool). x.0) (find (λ (x : ℕ × Bool). x.1) xs)
 
 -- ---- what is wrong with an element
 

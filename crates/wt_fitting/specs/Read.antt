@@ -1,11 +1,12 @@
 -- What an input of HTML is: a page with its first element without a source, or where and why it is
 -- no HTML, or the first element that doesn't fit.
-use Rattle.std.specs.Prelude.{◌≡◌, ℕ, Option, Result, Ok, Err, List, length, if◌then◌else◌}
+use Rattle.std.specs.Prelude.{◌≡◌, ℕ, true, Option, Result, Ok, Err, List, length, if◌then◌else◌}
 use Rattle.wt_tree.specs.Tree.{Tree}
 use Rattle.wt_html_grammar.specs.declared.why.HtmlWhy.{HtmlWhy}
 use Rattle.wt_html_grammar.specs.declared.why.HtmlWhy.TheVariants as html_why
 use Rattle.wt_html_grammar.specs.Machine.{State, start, run}
-use Rattle.wt_html_grammar.specs.Places.{Refused, taken, is_accepted}
+use Rattle.wt_html_grammar.specs.Places.{IsPlace, taken, is_accepted}
+use Rattle.wt_html_reasons.specs.Reasons.{Holds, comes_before}
 use Rattle.wt_html_grammar.specs.Markup.{Markup, Markups, empty, more, Stands}
 use Rattle.wt_html_grammar.specs.Events.{built}
 use Rattle.wt_fitting.specs.declared.why.FitWhy.{FitWhy}
@@ -38,8 +39,13 @@ read_run bytes (Ok s) = if is_accepted s then read_root bytes (built bytes).root
 unfoldable pub read : List ℕ → Read
 read bytes = read_run bytes (run start bytes)
 
+-- refused at the end of the longest piece that begins a well-formed input, for the first reason that
+-- holds there
+abbrev pub IsRefusedFor : List ℕ → ℕ → HtmlWhy → Type 0
+IsRefusedFor bytes place w = IsPlace bytes place × Holds w bytes place × ((v : HtmlWhy) → comes_before v w ≡ true → Holds v bytes place → ⊥)
+
 -- the same in the grammar's words: the bytes stand for a tree of elements, which is this page
 abbrev pub IsRead : List ℕ → Read → Type 0
 IsRead bytes (page t u) = (m : Markup) × Stands bytes m × (fit m ≡ Ok t) × (unsourced m ≡ u)
-IsRead bytes (ill place w) = Refused bytes place w
+IsRead bytes (ill place w) = IsRefusedFor bytes place w
 IsRead bytes (misfit n w) = (m : Markup) × Stands bytes m × (fit m ≡ Err (n, w))

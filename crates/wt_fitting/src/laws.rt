@@ -5,12 +5,13 @@ ghost use Rattle.wt_html_grammar.specs.Markup.{Markup};
 ghost use Rattle.wt_fitting.specs.declared.why.FitWhy.{FitWhy};
 ghost use Rattle.wt_fitting.specs.declared.why.FitWhy.TheVariants as why;
 ghost use Rattle.wt_fitting.specs.Fit.{Found, body_of, fit};
-ghost use Rattle.wt_fitting.specs.Misfits.{places_of_body, FitsAlone, FirstMisfit};
+ghost use Rattle.wt_fitting.specs.Misfits.{places_of_body, FitsAlone, FirstMisfit, sources_of_body, first_unsourced};
+ghost use Rattle.wt_fitting.specs.Unsourced.{unsourced};
 ghost use Rattle.wt_fitting.specs.Read.{Read, read, IsRead};
 
 /// What is read by the machine is what the grammar says: an input is the page of the tree of elements
 /// for which it stands, or that tree's first misfit, or it is refused at the place and for the reason
-/// that the grammar gives; and it is one of these only.
+/// that the grammar gives, the first that holds there; and it is one of these only.
 pub fn one_reading()
     ensures is_read { (bytes : List ℕ) → IsRead bytes (read bytes) }
     ensures only { (bytes : List ℕ) (r : Read) → IsRead bytes r → read bytes ≡ r }
@@ -25,4 +26,12 @@ pub fn first_misfit()
     ensures only { (m : Markup) (f : Found) (n : ℕ) (w : FitWhy) → body_of m ≡ Some f → FirstMisfit (places_of_body f) n w → fit m ≡ Err (n, w) }
     ensures all { (m : Markup) (f : Found) (t : Tree) → body_of m ≡ Some f → fit m ≡ Ok t → AllByRecursion FitsAlone (places_of_body f) }
     ensures root { (m : Markup) → body_of m ≡ None → fit m ≡ Err (1, why.Root) }
+{}
+
+/// The element without a source that is told is the first: in the list of the body and all elements
+/// below it, in document order, each with its number and whether it has no source or has the mark of
+/// an edit; of the body the mark alone counts.
+pub fn first_without_source()
+    ensures first { (m : Markup) (f : Found) → body_of m ≡ Some f → unsourced m ≡ first_unsourced (sources_of_body f) }
+    ensures root { (m : Markup) → body_of m ≡ None → unsourced m ≡ None }
 {}

@@ -6,5 +6,5 @@
 mod laws;
 mod why;
 
-pub use laws::{first_misfit, one_reading};
+pub use laws::{first_misfit, first_without_source, one_reading};
 pub use why::FitWhy;

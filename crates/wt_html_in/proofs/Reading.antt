@@ -13,7 +13,7 @@ use Rattle.wt_html_elements.specs.Answer.{IsFed as IsFedElements, FedAs, Refused
 use Rattle.wt_fitting.specs.declared.why.FitWhy.{FitWhy}
 use Rattle.wt_fitting.specs.Fit.{elements, body_of}
 use Rattle.wt_fitting.specs.Read.{page, ill, misfit, read}
-use Rattle.wt_fitting.proofs.OneReading.{one_read}
+use Rattle.wt_fitting.proofs.OneReading.{in_words, one_read}
 use Rattle.wt_html_in.specs.Texts.{is_utf8_markup}
 use Rattle.wt_html_in.specs.declared.edited.Edited.{Edited}
 use Rattle.wt_html_in.specs.declared.refusal.FitFault.TheVariants as faults
@@ -30,7 +30,7 @@ pub misfit_answer : (m : Markup) (n : ℕ) (w : FitWhy) → FitsBody (body_of m)
 misfit_answer m n w h bytes s = one_read bytes (misfit n w) (m, s, h)
 
 pub ill_answer : (bytes : List ℕ) (e : ElementsRefusal) → ElementsRefusedFor bytes e → RefusedFor bytes (refusal_told e)
-ill_answer bytes (elements_refusals.Html place w) h = one_read bytes (ill place w) h
+ill_answer bytes (elements_refusals.Html place w) h = one_read bytes (ill place w) (in_words bytes place w h)
 ill_answer bytes elements_refusals.NoMemory h = tt
 
 fed_count : (r : ElementsReader) (bytes : List ℕ) → r.failed ≡ None → IsFedElements r bytes → r.taken ≡ length bytes

@@ -113,3 +113,18 @@ one_text = body 2 (more (tree (blank kind.Para 1 0 2) (more (text_leaf 0 2 (code
 two_as_one : read (html_text two_texts) ≡ page (unranged one_text) None
 unfolding read read_tree sync_told sync_of_data is_sync_shape html_text frame_start frame_end start_tag end_tag attributes_of id_attribute mw_attribute sync_of sync_start sync_value sync_attribute spelling attribute_name placeholder sync_text sync_members escape escape_single serde_json_on_literals digits tag_name
 two_as_one = refl
+
+-- an item with a list in it: a text, the separator at the border, and the list
+abbrev sep_leaf : ℕ → ℕ → List ℕ → Tree
+sep_leaf start end bs = tree (record (blank kind.Sep 0 start end) { own = bs }) none
+
+abbrev item : Trees → Tree
+item inside = tree (record (wide kind.Li 2 0 7 1 0) { opening = codes "*" }) inside
+
+abbrev list_page : Tree
+list_page =
+    body 7 (more (tree (blank kind.Ul 1 0 7) (more (item (more (text_leaf 1 3 (codes " a")) (more (sep_leaf 3 4 (codes "\n")) (more (tree (blank kind.Ol 3 4 7) none) none)))) none)) none)
+
+one_item : read (html_text list_page) ≡ page (unranged list_page) None
+unfolding read read_tree sync_told sync_of_data is_sync_shape html_text frame_start frame_end start_tag end_tag attributes_of id_attribute mw_attribute sync_of sync_start sync_value sync_attribute spelling attribute_name placeholder sync_text sync_members escape escape_single serde_json_on_literals digits tag_name
+one_item = refl

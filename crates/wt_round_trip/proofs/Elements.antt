@@ -1,7 +1,6 @@
 -- The elements of a tree as the grammar has them: how they are spelled, that they are good, and what
 -- they stand for.
 use Rattle.std.proofs.Common.{◌≡◌, ℕ, suc, ◌<◌, ◌^◌, Bool, true, false, List, [], ◌∷◌, ◌++◌, map, flat_map, IsUtf8, chars, refl, sym, ap, ap₂, ◌∙◌, subst, append_assoc, append-nil, codes}
-use Rattle.std.specs.Prelude.{◌&&◌}
 use Rattle.wt_tree.specs.declared.kind.Kind.{Kind}
 use Rattle.wt_tree.specs.Tree.{Label, Tree, tree, Trees, none as no_trees, more as one_more}
 use Rattle.wt_tree.specs.declared.row.Writing.{Writing}
@@ -14,7 +13,6 @@ use Rattle.wt_html_grammar.specs.Grammar.{Piece, spell_piece, spell_pieces, AreP
 use Rattle.wt_html_grammar.specs.Markup.{Pair, Markup, Markups, text, node, empty, more, unit_of, flush, meaning, contents}
 use Rattle.wt_tree.specs.Kinds.{may_hold}
 use Rattle.wt_fitting.specs.Rows.{shows_text}
-use Rattle.wt_fitting.specs.Data.{is_empty}
 use Rattle.wt_round_trip.specs.Written.{IsShown, IsElementLabel, IsCutIn, is_childless, NodeIsWritten, WrittenIn, AllWrittenIn}
 use Rattle.wt_round_trip.proofs.Pieces.{text_piece, spells_text, pieces_spelled, pieces_stand, pieces_good}
 use Rattle.wt_round_trip.proofs.Said.{said_of, said_is, attributes_for, said_spelled, said_pairs, said_good}

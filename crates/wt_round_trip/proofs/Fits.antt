@@ -27,6 +27,7 @@ use Rattle.std.proofs.lemmas.List.Folds.{list_all-append}
 use Rattle.wt_fitting.specs.Fit.{Misfit, elements, leaf_in, label_for, texts_in, are_blank, onto_told, held_as, children_in, with_children, one_tree, is_block_row, is_block_element, has_place, text_fits, fit_told, fit_as, fit_row, fit_node, fit_nodes}
 use Rattle.wt_fitting.specs.Unsourced.{is_unsourced, unsourced_nodes}
 use Rattle.wt_round_trip.specs.Written.{ranges_read, label_read, unranged, unranged_all, shown_of, leaf_kind, HasLeafKind, IsTextIn, joins, are_ordered, IsCutIn, IsShown, IsElementLabel, is_childless, NodeIsWritten, WrittenIn, AllWrittenIn}
+use Rattle.wt_round_trip.proofs.Bare.{recut_same}
 use Rattle.wt_round_trip.proofs.Said.{said_of}
 use Rattle.wt_round_trip.proofs.Rows.{is_as_void, is_round_character, IsElementKind, held_kind, held_numbered}
 use Rattle.wt_round_trip.proofs.Order.{pairs}
@@ -207,8 +208,8 @@ all_unranged : (ts : Trees) → AllUnranged (unranged_all ts)
 all_unranged no_trees = tt
 all_unranged (one_more t ts) = (one_unranged t, all_unranged ts)
 
-bordered_read : (parent : Kind) (ts : Trees) → recut (unranged_all ts) ≡ unranged_all ts → recut (merged parent (unranged_all ts)) ≡ unranged_all ts
-bordered_read parent ts h = ap (cut_from false) (merged_joins parent (unranged_all ts) (all_unranged ts)).0 ∙ h
+bordered_read : (parent : Kind) (ts : Trees) → recut ts ≡ ts → recut (merged parent (unranged_all ts)) ≡ unranged_all ts
+bordered_read parent ts h = ap (cut_from false) (merged_joins parent (unranged_all ts) (all_unranged ts)).0 ∙ sym (recut_same ts) ∙ ap unranged_all h
 
 -- what an element holds, by the texts of its kind
 held_read : (x : Texts) (k : ℕ) (parent : Kind) (ts : Trees) → texts_of_kind parent ≡ x → IsCutIn x ts → AllWrittenIn k parent ts → held_as x (merged parent (unranged_all ts)) ≡ unranged_all ts

@@ -9,6 +9,7 @@ pub mod Numbers
 pub mod Rows
 pub mod Labels
 pub mod Elements
+pub mod Bare
 pub mod Fits
 pub mod Whole
 pub mod Again

@@ -200,11 +200,11 @@ are_ordered behind none = true
 are_ordered behind (more t ts) = may_follow behind (label t).kind && are_ordered (behind || is_block (label t).kind) ts
 
 -- In an item, a cell or a caption texts and separators are cut at their border, and the inline elements
--- come first. (The ranges of texts, which aren't read, are left out.)
+-- come first.
 abbrev pub IsCutIn : Texts → Trees → Type 0
 IsCutIn Separators ts = Unit {0}
 IsCutIn Page ts = Unit {0}
-IsCutIn Bordered ts = (recut (unranged_all ts) ≡ unranged_all ts) × (are_ordered false ts ≡ true)
+IsCutIn Bordered ts = (recut ts ≡ ts) × (are_ordered false ts ≡ true)
 IsCutIn OwnCharacter ts = Unit {0}
 
 abbrev mutual
