@@ -26,7 +26,8 @@ bare k id ts = tree (label_with k id mark.Nothing) ts
 
 -- an escape, a separator and a head; no paragraph has a source
 escaped : read (codes "<html>\n<head><meta/></head><body>\n<p>a &lt; b</p></body></html>")
-    ≡ page (bare kind.Body 0 (one_more (sep_leaf None (codes "\n")) (one_more (bare kind.Para 0 (one_more (text_leaf None (codes "a < b")) no_trees)) no_trees))) (Some 5)
+    ≡ page (bare kind.Body 0 (one_more (sep_leaf None (codes "\n"))
+    (one_more (bare kind.Para 0 (one_more (text_leaf None (codes "a < b")) no_trees)) no_trees))) (Some 5)
 unfolding read read_tree spelling tag_name attribute_name digits placeholder switch_prefix is_switch lib.Utf8.encode
 escaped = refl
 
@@ -69,9 +70,18 @@ unfolding read
 cut = refl
 
 -- an entity by its character, nowiki round a text, a comment and an include tag
-few_rows : read (codes "<html><body><p><span typeof='mw:Entity'>&lt;</span><span typeof='mw:Nowiki'>''</span><meta typeof='mw:Comment'/></p><meta typeof='mw:Includes/NoInclude'/></body></html>")
-    ≡ page (bare kind.Body 0 (one_more (bare kind.Para 0 (one_more (tree (record (label_with kind.Entity 0 mark.Nothing) { shown = codes "<" }) no_trees) (one_more (bare kind.Nowiki 0 (one_more (text_leaf None (codes "''")) no_trees)) (one_more (bare kind.Comment 0 no_trees) no_trees)))) (one_more (tree (record (label_with kind.Include 0 mark.Nothing) { attrs = (attr.Typeof, codes "mw:Includes/NoInclude") ∷ [] }) no_trees) no_trees))) (Some 3)
-unfolding read read_tree spelling tag_name attribute_name digits placeholder switch_prefix is_switch lib.Utf8.encode extension_prefix no_include no_include_end only_include only_include_end include_only
+few_rows : read (codes
+    "<html><body><p><span typeof='mw:Entity'>&lt;</span><span typeof='mw:Nowiki'>''</span><meta typeof='mw:Comment'/></p><meta typeof='mw:Includes/NoInclude'/></body></html>")
+    ≡ page (bare kind.Body 0 (one_more (bare kind.Para 0
+    (one_more (tree (record (label_with kind.Entity 0 mark.Nothing) { shown = codes "<" }) no_trees)
+    (one_more (bare kind.Nowiki 0 (one_more (text_leaf None (codes "''")) no_trees))
+    (one_more (bare kind.Comment 0 no_trees) no_trees))))
+    (one_more (tree (record (label_with kind.Include 0 mark.Nothing) {
+      attrs = (attr.Typeof, codes "mw:Includes/NoInclude")
+          ∷ [];
+    }) no_trees) no_trees))) (Some 3)
+unfolding read read_tree spelling tag_name attribute_name digits placeholder switch_prefix is_switch lib.Utf8.encode
+    extension_prefix no_include no_include_end only_include only_include_end include_only
 few_rows = refl
 
 -- an island of an extension needs the data of one
@@ -90,7 +100,11 @@ no_nowiki = refl
 
 -- links by `rel`; the link of a page is read as the link to its title, another as it stands
 links : read (codes "<html><body><p><a rel='mw:WikiLink' href='./a b'>x</a><a rel='mw:ExtLink' href='./a b'></a></p></body></html>")
-    ≡ page (bare kind.Body 0 (one_more (bare kind.Para 0 (one_more (tree (record (label_with kind.WikiLink 0 mark.Nothing) { attrs = (attr.Href, link_read (codes "./a b")) ∷ [] }) (one_more (text_leaf None (codes "x")) no_trees)) (one_more (tree (record (label_with kind.ExtLink 0 mark.Nothing) { attrs = (attr.Href, codes "./a b") ∷ [] }) no_trees) no_trees))) no_trees)) (Some 3)
+    ≡ page (bare kind.Body 0 (one_more (bare kind.Para 0
+    (one_more (tree (record (label_with kind.WikiLink 0 mark.Nothing) { attrs = (attr.Href, link_read (codes "./a b")) ∷ [] })
+    (one_more (text_leaf None (codes "x")) no_trees))
+    (one_more (tree (record (label_with kind.ExtLink 0 mark.Nothing) { attrs = (attr.Href, codes "./a b") ∷ [] }) no_trees)
+    no_trees))) no_trees)) (Some 3)
 unfolding read read_tree spelling tag_name attribute_name digits placeholder switch_prefix is_switch
 links = refl
 
@@ -105,13 +119,23 @@ bare_link = refl
 
 -- a `span` without `typeof` is a tag, with the attributes of one in their order
 span_tag : read (codes "<html><body><p><span dir='rtl' id='x' class='c'><br/></span></p></body></html>")
-    ≡ page (bare kind.Body 0 (one_more (bare kind.Para 0 (one_more (tree (record (label_with (kind.Tag tag.Span) 0 mark.Nothing) { attrs = (attr.Class, codes "c") ∷ (attr.Dir, codes "rtl") ∷ [] }) (one_more (bare kind.Br 0 no_trees) no_trees)) no_trees)) no_trees)) (Some 3)
+    ≡ page (bare kind.Body 0 (one_more (bare kind.Para 0
+    (one_more (tree (record (label_with (kind.Tag tag.Span) 0 mark.Nothing) {
+      attrs =
+          (attr.Class, codes "c") ∷ (attr.Dir, codes "rtl") ∷ [];
+    }) (one_more (bare kind.Br 0 no_trees) no_trees)) no_trees))
+    no_trees)) (Some 3)
 unfolding read read_tree spelling tag_name attribute_name digits placeholder switch_prefix is_switch
 span_tag = refl
 
 -- a switch by its name, and an island without data
 switch_and_island : read (codes "<html><body><p><meta property='mw:PageProp/toc'/><span typeof='mw:Placeholder'></span></p></body></html>")
-    ≡ page (bare kind.Body 0 (one_more (bare kind.Para 0 (one_more (tree (record (label_with kind.Switch 0 mark.Nothing) { attrs = (attr.Property, codes "mw:PageProp/toc") ∷ [] }) no_trees) (one_more (tree (record (label_with kind.Island 0 mark.Nothing) { attrs = (attr.Typeof, codes "mw:Placeholder") ∷ [] }) no_trees) no_trees))) no_trees)) (Some 3)
+    ≡ page (bare kind.Body 0 (one_more (bare kind.Para 0
+    (one_more (tree (record (label_with kind.Switch 0 mark.Nothing) { attrs = (attr.Property, codes "mw:PageProp/toc") ∷ [] })
+    no_trees) (one_more (tree (record (label_with kind.Island 0 mark.Nothing) {
+      attrs =
+          (attr.Typeof, codes "mw:Placeholder") ∷ [];
+    }) no_trees) no_trees))) no_trees)) (Some 3)
 unfolding read read_tree spelling tag_name attribute_name digits placeholder switch_prefix is_switch extension_prefix
 switch_and_island = refl
 
@@ -122,7 +146,10 @@ other_switch = refl
 -- ---- lists and tables
 
 item_with_list : read (codes "<html><body><ul><li> a\n<ul></ul> </li>\n</ul></body></html>")
-    ≡ page (bare kind.Body 0 (one_more (bare kind.Ul 0 (one_more (bare kind.Li 0 (one_more (text_leaf None (codes " a")) (one_more (sep_leaf None (codes "\n")) (one_more (bare kind.Ul 0 no_trees) (one_more (sep_leaf None (codes " ")) no_trees))))) (one_more (sep_leaf None (codes "\n")) no_trees))) no_trees)) (Some 3)
+    ≡ page (bare kind.Body 0 (one_more (bare kind.Ul 0
+    (one_more (bare kind.Li 0 (one_more (text_leaf None (codes " a"))
+    (one_more (sep_leaf None (codes "\n")) (one_more (bare kind.Ul 0 no_trees)
+    (one_more (sep_leaf None (codes " ")) no_trees))))) (one_more (sep_leaf None (codes "\n")) no_trees))) no_trees)) (Some 3)
 unfolding read read_tree spelling tag_name attribute_name digits placeholder switch_prefix is_switch lib.Utf8.encode
 item_with_list = refl
 
@@ -141,6 +168,11 @@ unfolding read read_tree spelling tag_name attribute_name digits placeholder swi
 block_in_item = refl
 
 block_in_cell : read (codes "<html><body><table class='c'><caption></caption><tbody><tr><td colspan='2' id='x'><p></p></td></tr></tbody></table></body></html>")
-    ≡ page (bare kind.Body 0 (one_more (tree (record (label_with kind.Table 0 mark.Nothing) { attrs = (attr.Class, codes "c") ∷ [] }) (one_more (bare kind.Caption 0 no_trees) (one_more (bare kind.Tbody 0 (one_more (bare kind.Tr 0 (one_more (tree (record (label_with kind.Td 0 mark.Nothing) { attrs = (attr.Colspan, codes "2") ∷ [] }) (one_more (bare kind.Para 0 no_trees) no_trees)) no_trees)) no_trees)) no_trees))) no_trees)) (Some 3)
+    ≡ page (bare kind.Body 0 (one_more (tree (record
+    (label_with kind.Table 0 mark.Nothing) { attrs = (attr.Class, codes "c") ∷ [] })
+    (one_more (bare kind.Caption 0 no_trees) (one_more
+    (bare kind.Tbody 0 (one_more (bare kind.Tr 0
+    (one_more (tree (record (label_with kind.Td 0 mark.Nothing) { attrs = (attr.Colspan, codes "2") ∷ [] })
+    (one_more (bare kind.Para 0 no_trees) no_trees)) no_trees)) no_trees)) no_trees))) no_trees)) (Some 3)
 unfolding read read_tree spelling tag_name attribute_name digits placeholder switch_prefix is_switch
 block_in_cell = refl

@@ -57,7 +57,8 @@ onto_agrees t (Err e) o p h k = ap₂ option_or h k
 none_agrees : (s : Result Trees Misfit) (o p : Option Misfit) → o ≡ None → Agrees s p → Agrees s (option_or o p)
 none_agrees s o p h k = agrees_at s (option_or o p) p (ap (λ x. option_or x p) h) k
 
-told_agrees : (r : Result (Option Tree) Misfit) (s : Result Trees Misfit) (o p : Option Misfit) → Agrees r o → Agrees s p → Agrees (onto_told r s) (option_or o p)
+told_agrees : (r : Result (Option Tree) Misfit) (s : Result Trees Misfit) (o p : Option Misfit) → Agrees r o → Agrees s p
+    → Agrees (onto_told r s) (option_or o p)
 told_agrees (Ok None) s o p h k = none_agrees s o p h k
 told_agrees (Ok (Some t)) s o p h k = onto_agrees t s o p h k
 told_agrees (Err e) s o p h k = ap (λ x. option_or x p) h
@@ -82,11 +83,13 @@ one_agrees (Ok t) o h = h
 one_agrees (Err e) o h = h
 
 place_agrees : (b : Bool) (n : ℕ) (k : Kind) (ps : List Pair) (c : Markups) (r : Result Trees Misfit) (o : Option Misfit) → Agrees r o
-    → Agrees (if b then one_tree (fit_as n k ps c r) else Err (n, why.Place)) (option_or (misfit_at n (chain false (not b) (not (is_some (data_of k ps))) (not (text_fits k c)))) o)
+    → Agrees (if b then one_tree (fit_as n k ps c r) else Err (n, why.Place))
+    (option_or (misfit_at n (chain false (not b) (not (is_some (data_of k ps))) (not (text_fits k c)))) o)
 place_agrees true n k ps c r o h = one_agrees (fit_as n k ps c r) _ (data_agrees (data_of k ps) n k ps c r o h)
 place_agrees false n k ps c r o h = refl
 
-row_agrees : (j : Option Kind) (n : ℕ) (parent : Kind) (behind : Bool) (ps : List Pair) (c : Markups) (inside : Kind → Result Trees Misfit) (below : Option Kind → Option Misfit) → ((k : Kind) → Agrees (inside k) (below (Some k)))
+row_agrees : (j : Option Kind) (n : ℕ) (parent : Kind) (behind : Bool) (ps : List Pair) (c : Markups)
+    (inside : Kind → Result Trees Misfit) (below : Option Kind → Option Misfit) → ((k : Kind) → Agrees (inside k) (below (Some k)))
     → Agrees (fit_row n parent behind j ps c inside) (option_or (misfit_at n (wrong_of (place n (Some parent) behind j ps c))) (below j))
 row_agrees None n parent behind ps c inside below h = refl
 row_agrees (Some k) n parent behind ps c inside below h = place_agrees (has_place parent behind k) n k ps c (inside k) (below (Some k)) (h k)
@@ -95,19 +98,23 @@ mutual
   node_agrees : (t : Markup) (n : ℕ) (parent : Kind) (behind : Bool) → Agrees (fit_node n parent behind t) (first_wrong (places n (Some parent) behind t))
   node_agrees (text bs) n parent behind = refl
   node_agrees (node name ps c) n parent behind =
-      row_agrees (row name ps) n parent behind ps c (λ k. fit_nodes (suc n) k false c) (λ j. first_wrong (places_of_all (suc n) j false c)) (λ k. nodes_agree c (suc n) k false)
+      row_agrees (row name ps) n parent behind ps c (λ k. fit_nodes (suc n) k false c)
+      (λ j. first_wrong (places_of_all (suc n) j false c)) (λ k. nodes_agree c (suc n) k false)
 
-  nodes_agree : (ts : Markups) (n : ℕ) (parent : Kind) (behind : Bool) → Agrees (fit_nodes n parent behind ts) (first_wrong (places_of_all n (Some parent) behind ts))
+  nodes_agree : (ts : Markups) (n : ℕ) (parent : Kind) (behind : Bool)
+      → Agrees (fit_nodes n parent behind ts) (first_wrong (places_of_all n (Some parent) behind ts))
   nodes_agree empty n parent behind = refl
   nodes_agree (more t ts) n parent behind =
       let m = n + elements t in
       let b = behind || is_block_element t in
-      agrees_at (onto_told (fit_node n parent behind t) (fit_nodes m parent b ts)) _ _ (first_append (places n (Some parent) behind t) (places_of_all m (Some parent) b ts))
+      agrees_at (onto_told (fit_node n parent behind t) (fit_nodes m parent b ts)) _ _
+      (first_append (places n (Some parent) behind t) (places_of_all m (Some parent) b ts))
       (told_agrees (fit_node n parent behind t) (fit_nodes m parent b ts) _ _ (node_agrees t n parent behind) (nodes_agree ts m parent b))
 
 body_agrees : (f : Found) → Agrees (fit_body (Some f)) (first_wrong (places_of_body f))
 body_agrees f =
-    data_agrees (data_of kind.Body f.attributes) f.number kind.Body f.attributes f.contents (fit_nodes (suc f.number) kind.Body false f.contents) _ (nodes_agree f.contents (suc f.number) kind.Body false)
+    data_agrees (data_of kind.Body f.attributes) f.number kind.Body f.attributes f.contents
+    (fit_nodes (suc f.number) kind.Body false f.contents) _ (nodes_agree f.contents (suc f.number) kind.Body false)
 
 -- ---- what the first is
 
@@ -162,24 +169,45 @@ wrong_at x why.Text h = first_chain _ _ _ _ why.Text h
 abbrev misfit : ℕ → FitWhy → Misfit
 misfit n w = (n, w)
 
-here_first : (x : Place) (xs : List Place) (v w : FitWhy) (n : ℕ) → wrong_of x ≡ Some v → Path (Option Misfit) (Some (x.number, v)) (Some (n, w)) → FirstMisfit (x ∷ xs) n w
+here_first : (x : Place) (xs : List Place) (v w : FitWhy) (n : ℕ) → wrong_of x ≡ Some v
+    → Path (Option Misfit) (Some (x.number, v)) (Some (n, w)) → FirstMisfit (x ∷ xs) n w
 here_first x xs v w n e h =
     let p : Path Misfit (x.number, v) (n, w) = cc in
-    record { before = []; here = x; behind = xs; parts = refl; fit = tt; number = ap (λ (m : Misfit). m.0) p; reason = reason_at x w (e ∙ ap (λ (m : Misfit). Some m.1) p) }
+    record {
+      before = [];
+      here = x;
+      behind = xs;
+      parts = refl;
+      fit = tt;
+      number = ap (λ (m : Misfit). m.0) p;
+      reason =
+          reason_at x w (e ∙ ap (λ (m : Misfit). Some m.1) p);
+    }
 
 later_first : (x : Place) (xs : List Place) (w : FitWhy) (n : ℕ) → wrong_of x ≡ None → FirstMisfit xs n w → FirstMisfit (x ∷ xs) n w
 later_first x xs w n e f =
-    record { before = x ∷ f.before; here = f.here; behind = f.behind; parts = ap (λ ys. x ∷ ys) f.parts; fit = (chain_none _ _ _ _ e, f.fit); number = f.number; reason = f.reason }
+    record {
+      before = x ∷ f.before;
+      here = f.here;
+      behind = f.behind;
+      parts = ap (λ ys. x ∷ ys) f.parts;
+      fit =
+          (chain_none _ _ _ _ e, f.fit);
+      number = f.number;
+      reason = f.reason;
+    }
 
 to_first : (xs : List Place) (n : ℕ) (w : FitWhy) → first_wrong xs ≡ Some (n, w) → FirstMisfit xs n w
 to_first [] n w h = cc
 to_first (x ∷ xs) n w h = by_wrong (wrong_of x) refl h (λ g. to_first xs n w g)
   where
-    by_wrong : (o : Option FitWhy) → wrong_of x ≡ o → option_or (misfit_at x.number o) (first_wrong xs) ≡ Some (n, w) → (first_wrong xs ≡ Some (n, w) → FirstMisfit xs n w) → FirstMisfit (x ∷ xs) n w
+    by_wrong : (o : Option FitWhy) → wrong_of x ≡ o → option_or (misfit_at x.number o) (first_wrong xs) ≡ Some (n, w)
+        → (first_wrong xs ≡ Some (n, w) → FirstMisfit xs n w) → FirstMisfit (x ∷ xs) n w
     by_wrong None e h f = later_first x xs w n e (f h)
     by_wrong (Some v) e h f = here_first x xs v w n e h
 
-from_parts : (before : List Place) (here : Place) (behind : List Place) (w : FitWhy) → AllByRecursion FitsAlone before → IsReason w here → first_wrong (before ++ here ∷ behind) ≡ Some (here.number, w)
+from_parts : (before : List Place) (here : Place) (behind : List Place) (w : FitWhy) → AllByRecursion FitsAlone before
+    → IsReason w here → first_wrong (before ++ here ∷ behind) ≡ Some (here.number, w)
 from_parts [] here behind w f r = ap (λ o. option_or (misfit_at here.number o) (first_wrong behind)) (wrong_at here w r)
 from_parts (x ∷ xs) here behind w f r =
     ap (λ o. option_or (misfit_at x.number o) (first_wrong (xs ++ here ∷ behind))) (none_chain _ _ _ _ f.0) ∙ from_parts xs here behind w f.1 r
@@ -191,7 +219,8 @@ all_fit : (xs : List Place) → first_wrong xs ≡ None → AllByRecursion FitsA
 all_fit [] h = tt
 all_fit (x ∷ xs) h = by_wrong (wrong_of x) refl h (λ g. all_fit xs g)
   where
-    by_wrong : (o : Option FitWhy) → wrong_of x ≡ o → option_or (misfit_at x.number o) (first_wrong xs) ≡ None → (first_wrong xs ≡ None → AllByRecursion FitsAlone xs) → AllByRecursion FitsAlone (x ∷ xs)
+    by_wrong : (o : Option FitWhy) → wrong_of x ≡ o → option_or (misfit_at x.number o) (first_wrong xs) ≡ None
+        → (first_wrong xs ≡ None → AllByRecursion FitsAlone xs) → AllByRecursion FitsAlone (x ∷ xs)
     by_wrong None e h f = (chain_none _ _ _ _ e, f h)
     by_wrong (Some v) e h f = cc
 

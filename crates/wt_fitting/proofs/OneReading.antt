@@ -28,7 +28,8 @@ read_cut : (bytes : List ℕ) (s : State) → run start bytes ≡ Ok s → is_ac
 unfolding read
 read_cut bytes s e a = ap (read_run bytes) e ∙ if_false (is_accepted s) (read_root bytes (built bytes).root) (ill (length bytes) html_why.End) a
 
-read_whole : (bytes : List ℕ) (s : State) (m : Markup) → run start bytes ≡ Ok s → is_accepted s ≡ true → (built bytes).root ≡ more m empty → read bytes ≡ read_tree m
+read_whole : (bytes : List ℕ) (s : State) (m : Markup) → run start bytes ≡ Ok s → is_accepted s ≡ true
+    → (built bytes).root ≡ more m empty → read bytes ≡ read_tree m
 unfolding read
 read_whole bytes s m e a h =
     ap (read_run bytes) e ∙ if_true (is_accepted s) (read_root bytes (built bytes).root) (ill (length bytes) html_why.End) a ∙ ap (read_root bytes) h
@@ -88,7 +89,8 @@ reads_by bytes (Ok s) e = by_test (is_accepted s) refl
         let h : Stands bytes m = (well.0, well.1, well.2, refl) in
         let P : Read → Type 0 = IsRead bytes in
         subst P (sym (read_stands bytes m h)) (tree_is_read bytes m h)
-    by_test false f = let P : Read → Type 0 = IsRead bytes in subst P (sym (read_cut bytes s e f)) (in_words bytes (length bytes) html_why.End (cut_off bytes s e f))
+    by_test false f = let P : Read → Type 0 = IsRead bytes in
+        subst P (sym (read_cut bytes s e f)) (in_words bytes (length bytes) html_why.End (cut_off bytes s e f))
 
 pub reads : (bytes : List ℕ) → IsRead bytes (read bytes)
 reads bytes = reads_by bytes (run start bytes) refl

@@ -34,7 +34,8 @@ children_made : (b : Bool) (k : Kind) (l : Label) (r : Result Trees Misfit) → 
 children_made b k l (Ok ts) e = e
 children_made b k l (Err m) e = tt
 
-told_made : (n : ℕ) (k : Kind) (ps : List Pair) (d : Option Data) (c : Markups) (inside : Result Trees Misfit) → Makes (is_block k) (one_tree (fit_told n k ps d c inside))
+told_made : (n : ℕ) (k : Kind) (ps : List Pair) (d : Option Data) (c : Markups) (inside : Result Trees Misfit)
+    → Makes (is_block k) (one_tree (fit_told n k ps d c inside))
 told_made n k ps None c inside = tt
 told_made n k ps (Some d) c inside = by_test (text_fits k c)
   where
@@ -42,7 +43,8 @@ told_made n k ps (Some d) c inside = by_test (text_fits k c)
     by_test true = children_made (is_block k) k (label_for k ps d (texts_in c)) inside (ap is_block (sym (kind_with _ d.sync)))
     by_test false = tt
 
-row_made : (n : ℕ) (parent : Kind) (behind : Bool) (o : Option Kind) (ps : List Pair) (c : Markups) (inside : Kind → Result Trees Misfit) → Makes (is_block_row o) (fit_row n parent behind o ps c inside)
+row_made : (n : ℕ) (parent : Kind) (behind : Bool) (o : Option Kind) (ps : List Pair) (c : Markups)
+    (inside : Kind → Result Trees Misfit) → Makes (is_block_row o) (fit_row n parent behind o ps c inside)
 row_made n parent behind None ps c inside = tt
 row_made n parent behind (Some k) ps c inside = by_test (has_place parent behind k)
   where

@@ -47,7 +47,8 @@ text_behind false n bs = refl
 two_bodies : (h m : Markup) → body_in (more h (more m empty)) ≡ body_as m (number_behind_one h)
 two_bodies (text bs) m = refl
 two_bodies (node head hs hc) (text bs) = text_behind (bytes_eq head (codes "head")) (3 + elements_of_all hc) bs
-two_bodies (node head hs hc) (node name ps c) = head_and (bytes_eq head (codes "head")) true (3 + elements_of_all hc) (found_of (3 + elements_of_all hc) ps c) name ps c refl
+two_bodies (node head hs hc) (node name ps c) = head_and (bytes_eq head (codes "head")) true (3 + elements_of_all hc)
+    (found_of (3 + elements_of_all hc) ps c) name ps c refl
 
 many_bodies : (a b c : Markup) (ts : Markups) → body_in (more a (more b (more c ts))) ≡ None
 many_bodies (text bs) b c ts = refl
@@ -86,12 +87,18 @@ pub record Sound (m : ℕ) (f : FoundBody) : Type 0 where
   pub utf8_values : are_utf8_values f.attributes ≡ true
   pub utf8 : are_utf8_markups f.contents ≡ true
 
-body_sound : (t : Bool) (n m : ℕ) (ps : List Pair) (c : Markups) (f : FoundBody) → (if t then Some (found_of n ps c) else None) ≡ Some f → n + elements_of_all c ≤ m
+body_sound : (t : Bool) (n m : ℕ) (ps : List Pair) (c : Markups) (f : FoundBody) → (if t then Some (found_of n ps c) else None)
+    ≡ Some f → n + elements_of_all c ≤ m
     → (are_utf8_values ps && are_utf8_markups c) ≡ true → Sound m f
 body_sound true n m ps c f e l u =
     let same : found_of n ps c ≡ f = cc in
     let P : FoundBody → Type 0 = Sound m in
-    subst P same (record { few = l; utf8_values = and_left (are_utf8_values ps) (are_utf8_markups c) u; utf8 = and_right (are_utf8_values ps) (are_utf8_markups c) u })
+    subst P same (record {
+      few = l;
+      utf8_values = and_left (are_utf8_values ps) (are_utf8_markups c) u;
+      utf8 =
+          and_right (are_utf8_values ps) (are_utf8_markups c) u;
+    })
 body_sound false n m ps c f e l u = absurd cc
 
 in_sound : (ts : Markups) (f : FoundBody) → body_in ts ≡ Some f → are_utf8_markups ts ≡ true → Sound (suc (elements_of_all ts)) f
@@ -107,7 +114,8 @@ in_sound (more (node head hs hc) (more (node name ps c) empty)) f e u =
     (and_left (is_utf8_markup (node name ps c)) true (and_right (is_utf8_markup (node head hs hc)) (are_utf8_markups (more (node name ps c) empty)) u))
 in_sound (more (node head hs hc) (more (node name ps c) (more t ts))) f e u = absurd cc
 
-root_sound : (t : Bool) (c : Markups) (f : FoundBody) → (if t then body_in (elements_in c) else None) ≡ Some f → are_utf8_markups c ≡ true → Sound (suc (elements_of_all c)) f
+root_sound : (t : Bool) (c : Markups) (f : FoundBody) → (if t then body_in (elements_in c) else None) ≡ Some f
+    → are_utf8_markups c ≡ true → Sound (suc (elements_of_all c)) f
 root_sound true c f e u =
     let P : ℕ → Type 0 = λ n. Sound (suc n) f in
     subst P (count_elements c) (in_sound (elements_in c) f e (utf8_elements c u))
@@ -122,12 +130,14 @@ found_sound (node name ps c) f e u = root_sound (is_root name ps) c f e (and_rig
 abbrev pub Bodied : ℕ → List Pair → Markups → Result Head FitFault → Type 0
 Bodied n ps c r = HeadFits (λ inside. fit_as n kind.Body ps c (inside kind.Body)) r
 
-pub bodied_at : (n : ℕ) (ps qs : List Pair) (xs ys : List Content) (r : Result Head FitFault) → ps ≡ qs → xs ≡ ys → Bodied n ps (markups xs) r → Bodied n qs (markups ys) r
+pub bodied_at : (n : ℕ) (ps qs : List Pair) (xs ys : List Content) (r : Result Head FitFault) → ps ≡ qs → xs ≡ ys
+    → Bodied n ps (markups xs) r → Bodied n qs (markups ys) r
 bodied_at n ps qs xs ys r d e h = rw (sym d, sym e) h
 
 pub body_made : (n : ℕ) (ps : List Pair) (c : Markups) (h : Head) (w v : Walk) (ns : List Node) (b : Node) (e : Edited)
     → Bodied n ps c (Ok h) → w.next ≡ n + 1 → w.unsourced ≡ marked_here n ps → FitsNodes w kind.Body c v (Ok ns)
-    → view b ≡ tree (label_of_head h) (children_in h.kind (views ns)) → body_told e ≡ view b → unsourced_of e ≡ v.unsourced → FitsBody (Some (found_of n ps c)) (Ok e)
+    → view b ≡ tree (label_of_head h) (children_in h.kind (views ns)) → body_told e ≡ view b → unsourced_of e ≡ v.unsourced
+    → FitsBody (Some (found_of n ps c)) (Ok e)
 body_made n ps c h w v ns b e f x y g i j k =
     let s : w.next ≡ suc n = omega (arith, x) in (
       f (λ z. fit_nodes (suc n) kind.Body false c)
@@ -147,7 +157,8 @@ pub body_inside : (n : ℕ) (ps : List Pair) (c : Markups) (h : Head) (w v : Wal
     → FitsNodes w kind.Body c v (Err e) → FitsBody (Some (found_of n ps c)) (Err e)
 body_inside n ps c h w v (faults.Unfit m y) f x g =
     let s : suc n ≡ w.next = omega (arith, x) in
-    f (λ z. fit_nodes (suc n) kind.Body false c) ∙ ap (λ z. with_children h.kind (label_of_head h) (fit_nodes z kind.Body false c)) s ∙ ap (with_children h.kind (label_of_head h)) g
+    f (λ z. fit_nodes (suc n) kind.Body false c) ∙ ap
+    (λ z. with_children h.kind (label_of_head h) (fit_nodes z kind.Body false c)) s ∙ ap (with_children h.kind (label_of_head h)) g
 body_inside n ps c h w v faults.NoMemory f x g = tt
 
 pub fits_at : (f g : Option FoundBody) (r s : Result Edited FitFault) → f ≡ g → r ≡ s → FitsBody g s → FitsBody f r
@@ -163,8 +174,10 @@ many_behind [] h = absurd (omega (arith, h))
 many_behind (x ∷ []) h = absurd (omega (arith, h))
 many_behind (x ∷ y ∷ xs) h = refl
 
-pub few_before : (all es xs : List Content) (b : Content) → all ≡ es ++ b ∷ [] → xs ≡ es → elements_of_all (markups all) + 2 < 2 ^ 32 → elements_of_all (markups xs) + 2 < 2 ^ 32
-few_before all es xs b d e l = let c = ap (λ zs. elements_of_all (markups zs)) d ∙ count_last es b in let f = ap (λ zs. elements_of_all (markups zs)) e in omega (arith, c, f, l)
+pub few_before : (all es xs : List Content) (b : Content) → all ≡ es ++ b ∷ [] → xs ≡ es
+    → elements_of_all (markups all) + 2 < 2 ^ 32 → elements_of_all (markups xs) + 2 < 2 ^ 32
+few_before all es xs b d e l = let c = ap (λ zs. elements_of_all (markups zs)) d ∙ count_last es b in
+    let f = ap (λ zs. elements_of_all (markups zs)) e in omega (arith, c, f, l)
 
 pub body_by : (all es xs : List Content) (b : Content) (o : Option ℕ) → all ≡ es ++ b ∷ [] → xs ≡ es → o ≡ number_behind (markups xs)
     → body_as (view_content b) o ≡ body_in (markups all)
@@ -179,7 +192,8 @@ append_push : (es : List Content) (c : Content) (ts : Markups) → append (marku
 append_push [] c ts = refl
 append_push (e ∷ es) c ts = ap (more (view_content e)) (append_push es c ts)
 
-pub element_on : (es fs : List Content) (c : Content) (xs ys : List Content) (t : Bool) (all : Markups) → fs ≡ es ++ c ∷ [] → xs ≡ c ∷ ys → t ≡ is_element (view_content c) → t ≡ true
+pub element_on : (es fs : List Content) (c : Content) (xs ys : List Content) (t : Bool) (all : Markups) → fs ≡ es ++ c ∷ []
+    → xs ≡ c ∷ ys → t ≡ is_element (view_content c) → t ≡ true
     → append (markups es) (elements_in (markups xs)) ≡ all → append (markups fs) (elements_in (markups ys)) ≡ all
 element_on es fs c xs ys t all d e f g h =
     ap (λ zs. append (markups zs) (elements_in (markups ys))) d ∙ append_push es c (elements_in (markups ys))
@@ -192,7 +206,8 @@ append_empty (more t ts) = ap (more t) (append_empty ts)
 pub elements_end : (es xs : List Content) (all : Markups) → xs ≡ [] → append (markups es) (elements_in (markups xs)) ≡ all → markups es ≡ all
 elements_end es xs all e h = sym (append_empty (markups es)) ∙ ap (λ zs. append (markups es) (elements_in (markups zs))) (sym e) ∙ h
 
-pub few_in_root : (m : Markup) (name : List ℕ) (ps : List Pair) (c ts : Markups) → m ≡ node name ps c → ts ≡ elements_in c → elements m + 1 < 2 ^ 32 → elements_of_all ts + 2 < 2 ^ 32
+pub few_in_root : (m : Markup) (name : List ℕ) (ps : List Pair) (c ts : Markups) → m ≡ node name ps c → ts ≡ elements_in c
+    → elements m + 1 < 2 ^ 32 → elements_of_all ts + 2 < 2 ^ 32
 few_in_root m name ps c ts d e l = let f = ap elements d in let g = ap elements_of_all e ∙ count_elements c in omega (arith, f, g, l)
 
 pub sound_by : (m : Markup) (o : Option Found) (f : Found) → found_if_any o ≡ body_of m → o ≡ Some f → is_utf8_markup m ≡ true

@@ -20,7 +20,8 @@ sourced_is h None = refl
 sourced_is h (Some s) = refl
 
 -- good data and texts
-pub head_good : (n : ℕ) (k : Kind) (ps : List Pair) (c : Markups) (d : Data) (t : Bool) (r : Result Head FitFault) → Some d ≡ data_of k ps → t ≡ text_fits k c → t ≡ true
+pub head_good : (n : ℕ) (k : Kind) (ps : List Pair) (c : Markups) (d : Data) (t : Bool) (r : Result Head FitFault)
+    → Some d ≡ data_of k ps → t ≡ text_fits k c → t ≡ true
     → IfOk r (IsHeadOf k ps d (texts_in c)) → IfErr r (λ e. e ≡ faults.NoMemory) → HeadFits (λ inside. fit_as n k ps c (inside k)) r
 head_good n k ps c d t (Ok h) e f g o x = λ inside.
     ap (λ z. fit_told n k ps z c (inside k)) (sym e)
@@ -31,12 +32,15 @@ head_good n k ps c d t (Err faults.NoMemory) e f g o x = tt
 head_good n k ps c d t (Err (faults.Unfit m w)) e f g o x = absurd cc
 
 -- a row of the table that may stand there
-row_told : (n : ℕ) (k outer : Kind) (behind : Bool) (o : Option Kind) (ps : List Pair) (c : Markups) (b : Bool) (inside : Kind → Result Trees Misfit) → o ≡ Some k → b ≡ has_place outer behind k → b ≡ true
+row_told : (n : ℕ) (k outer : Kind) (behind : Bool) (o : Option Kind) (ps : List Pair) (c : Markups) (b : Bool)
+    (inside : Kind → Result Trees Misfit) → o ≡ Some k → b ≡ has_place outer behind k → b ≡ true
     → fit_row n outer behind o ps c inside ≡ one_tree (fit_as n k ps c (inside k))
 row_told n k outer behind o ps c b inside e f g =
-    ap (λ z. fit_row n outer behind z ps c inside) e ∙ if_true (has_place outer behind k) (one_tree (fit_as n k ps c (inside k))) (Err (n, why.Place)) (sym f ∙ g)
+    ap (λ z. fit_row n outer behind z ps c inside) e ∙ if_true (has_place outer behind k) (one_tree (fit_as n k ps c (inside k)))
+    (Err (n, why.Place)) (sym f ∙ g)
 
-pub row_good : (n : ℕ) (k outer : Kind) (behind : Bool) (o : Option Kind) (ps : List Pair) (c : Markups) (b : Bool) (r : Result Head FitFault) → o ≡ Some k → b ≡ has_place outer behind k → b ≡ true
+pub row_good : (n : ℕ) (k outer : Kind) (behind : Bool) (o : Option Kind) (ps : List Pair) (c : Markups) (b : Bool)
+    (r : Result Head FitFault) → o ≡ Some k → b ≡ has_place outer behind k → b ≡ true
     → HeadFits (λ inside. fit_as n k ps c (inside k)) r → RowFits (λ inside. fit_row n outer behind o ps c inside) r
 row_good n k outer behind o ps c b (Ok h) e f g x = λ inside. row_told n k outer behind o ps c b inside e f g ∙ ap one_tree (x inside)
 row_good n k outer behind o ps c b (Err (faults.Unfit m w)) e f g x = λ inside. row_told n k outer behind o ps c b inside e f g ∙ ap one_tree (x inside)

@@ -26,7 +26,8 @@ use Rattle.wt_html_in.proofs.Standing.{stands_few, stands_utf8}
 pub page_answer : (m : Markup) (e : Edited) → FitsBody (body_of m) (Ok e) → (bytes : List ℕ) → Stands bytes m → read bytes ≡ page (body_told e) (unsourced_of e)
 page_answer m e h bytes s = one_read bytes (page (body_told e) (unsourced_of e)) (m, s, h.0, h.1)
 
-pub misfit_answer : (m : Markup) (n : ℕ) (w : FitWhy) → FitsBody (body_of m) (Err (faults.Unfit n w)) → (bytes : List ℕ) → Stands bytes m → read bytes ≡ misfit n w
+pub misfit_answer : (m : Markup) (n : ℕ) (w : FitWhy) → FitsBody (body_of m) (Err (faults.Unfit n w)) → (bytes : List ℕ)
+    → Stands bytes m → read bytes ≡ misfit n w
 misfit_answer m n w h bytes s = one_read bytes (misfit n w) (m, s, h)
 
 pub ill_answer : (bytes : List ℕ) (e : ElementsRefusal) → ElementsRefusedFor bytes e → RefusedFor bytes (refusal_told e)
@@ -36,7 +37,8 @@ ill_answer bytes elements_refusals.NoMemory h = tt
 fed_count : (r : ElementsReader) (bytes : List ℕ) → r.failed ≡ None → IsFedElements r bytes → r.taken ≡ length bytes
 fed_count r bytes e h = let P : Option ElementsRefusal → Type 0 = λ o. FedAs o r bytes in let q : FedAs None r bytes = subst P e h in q.1
 
-pub root_few : (r : ElementsReader) (root : Content) → ∥ ((bytes : List ℕ) × IsFedElements r bytes) ∥₁ → ((bytes : List ℕ) → IsFedElements r bytes → Stands bytes (view_content root))
+pub root_few : (r : ElementsReader) (root : Content) → ∥ ((bytes : List ℕ) × IsFedElements r bytes) ∥₁
+    → ((bytes : List ℕ) → IsFedElements r bytes → Stands bytes (view_content root))
     → r.failed ≡ None → r.taken < 2 ^ 32 → elements (view_content root) + 1 < 2 ^ 32
 root_few r root h f e l =
     ∥∥₁_elim h le_prop (λ (bytes, g). few bytes g)
@@ -44,7 +46,8 @@ root_few r root h f e l =
     few : (bytes : List ℕ) → IsFedElements r bytes → elements (view_content root) + 1 < 2 ^ 32
     few bytes g = omega (arith, stands_few bytes (view_content root) (f bytes g), fed_count r bytes e g, l)
 
-pub root_utf8 : (r : ElementsReader) (root : Content) → ∥ ((bytes : List ℕ) × IsFedElements r bytes) ∥₁ → ((bytes : List ℕ) → IsFedElements r bytes → Stands bytes (view_content root))
+pub root_utf8 : (r : ElementsReader) (root : Content) → ∥ ((bytes : List ℕ) × IsFedElements r bytes) ∥₁
+    → ((bytes : List ℕ) → IsFedElements r bytes → Stands bytes (view_content root))
     → is_utf8_markup (view_content root) ≡ true
 root_utf8 r root h f = ∥∥₁_elim h (Prim.hlevel props) (λ (bytes, g). stands_utf8 bytes (view_content root) (f bytes g))
 

@@ -39,12 +39,14 @@ mutual
       (tail_le (spell_attributes ps) (gap ++ inner) (suc (length (spell_items items))) (tail_le gap inner (suc (length (spell_items items))) a)) in
       omega (arith, i, b)
   few_elements (void name ps gap end) =
-      let b = tail_le name (spell_attributes ps ++ (gap ++ spell_slash end)) 1 (tail_le (spell_attributes ps) (gap ++ spell_slash end) 1 (tail_le gap (spell_slash end) 1 (slash_one end))) in
+      let b = tail_le name (spell_attributes ps ++ (gap ++ spell_slash end)) 1
+      (tail_le (spell_attributes ps) (gap ++ spell_slash end) 1 (tail_le gap (spell_slash end) 1 (slash_one end))) in
       omega (arith, b)
 
   few_items : (run : List ℕ) (items : Items) → elements_of_all (contents run items) ≤ length (spell_items items)
   few_items run none = omega (arith, flush_count run empty)
-  few_items run (sign p items) = tail_le (spell_piece p) (spell_items items) (elements_of_all (contents (run ++ unit_of p) items)) (few_items (run ++ unit_of p) items)
+  few_items run (sign p items) = tail_le (spell_piece p) (spell_items items) (elements_of_all (contents (run ++ unit_of p) items))
+      (few_items (run ++ unit_of p) items)
   few_items run (child e items) =
       omega (arith, flush_count run (more (meaning e) (contents [] items)), few_elements e, few_items [] items, length-append (spell e) (spell_items items))
 

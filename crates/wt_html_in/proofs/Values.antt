@@ -35,9 +35,12 @@ value_utf8 name (p ∷ ps) v h e =
 
 -- the data of an element that stands in no group
 pub data_told : (k : Kind) (ps : List Pair) (a x : Bool) (s : Option (Option Sync)) (m : Option (Option DataMw)) (v w : Option (List ℕ))
-    → a ≡ has (codes "about") ps → a ≡ false → s ≡ sync_fits k v → v ≡ value_of (codes "data-parsoid") ps → x ≡ is_extension_of k (value_of (attribute_name attr.Typeof) ps) → m ≡ mw_fits x w → w ≡ value_of (codes "data-mw") ps
+    → a ≡ has (codes "about") ps → a ≡ false → s ≡ sync_fits k v → v ≡ value_of (codes "data-parsoid") ps
+    → x ≡ is_extension_of k (value_of (attribute_name attr.Typeof) ps) → m ≡ mw_fits x w → w ≡ value_of (codes "data-mw") ps
     → both s m ≡ data_of k ps
 data_told k ps a x s m v w ha fa hs hv hx hm hw =
     ap (λ x. both x m) (hs ∙ ap (sync_fits k) hv)
     ∙ ap (both (sync_fits k (value_of (codes "data-parsoid") ps))) (hm ∙ ap (mw_fits x) hw ∙ ap (λ y. mw_fits y (value_of (codes "data-mw") ps)) hx)
-    ∙ sym (if_false (has (codes "about") ps) None (both (sync_fits k (value_of (codes "data-parsoid") ps)) (mw_fits (is_extension_of k (value_of (attribute_name attr.Typeof) ps)) (value_of (codes "data-mw") ps))) (sym ha ∙ fa))
+    ∙ sym (if_false (has (codes "about") ps) None
+    (both (sync_fits k (value_of (codes "data-parsoid") ps))
+    (mw_fits (is_extension_of k (value_of (attribute_name attr.Typeof) ps)) (value_of (codes "data-mw") ps))) (sym ha ∙ fa))

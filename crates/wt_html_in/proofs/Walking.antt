@@ -42,7 +42,8 @@ append_none : (ns : List Node) → ns ++ [] ≡ ns
 append_none [] = refl
 append_none (n ∷ ns) = ap (λ xs. n ∷ xs) (append_none ns)
 
-ontos_add : (ns : List Node) (o : Option Node) (r : Result Trees Misfit) → ontos (views (ns ++ listed o)) r ≡ ontos (views ns) (onto_told (Ok (option_map view o)) r)
+ontos_add : (ns : List Node) (o : Option Node) (r : Result Trees Misfit) → ontos (views (ns ++ listed o)) r
+    ≡ ontos (views ns) (onto_told (Ok (option_map view o)) r)
 ontos_add ns None r = ap (λ xs. ontos (views xs) r) (append_none ns)
 ontos_add ns (Some n) r = ontos_push ns n r
 
@@ -68,7 +69,8 @@ pub record Going (w : Walk) (k : Kind) (all : Markups) (done : Trees) (v : Walk)
   pub utf8 : are_utf8_markups rest ≡ true
 
 pub going_on : (w : Walk) (k : Kind) (all : Markups) (ns : List Node) (v u : Walk) (b d : Bool) (t : Markup) (ts : Markups) (o : Option Node)
-    → Going w k all (views ns) v b (more t ts) → FitsNode v k b t u (Ok o) → d ≡ (b || is_block_node (option_map view o)) → Going w k all (views (ns ++ listed o)) u d ts
+    → Going w k all (views ns) v b (more t ts) → FitsNode v k b t u (Ok o) → d ≡ (b || is_block_node (option_map view o))
+    → Going w k all (views (ns ++ listed o)) u d ts
 going_on w k all ns v u b d t ts o g f e =
     let next : d ≡ (b || is_block_element t) = e ∙ ap (λ x. b || x) (sym (block_made v.next k b t (option_map view o) f.0)) in
     record {
@@ -104,10 +106,13 @@ Headed w k b name ps c r = RowFits (λ inside. fit_row w.next k b (row name ps) 
 inside_is : (w v : Walk) (k : Kind) (b : Bool) (name : List ℕ) (ps : List Pair) (c : Markups) (h : Head) → Headed w k b name ps c (Ok h) → v.next ≡ w.next + 1
     → fit_node w.next k b (node name ps c) ≡ one_tree (with_children h.kind (label_of_head h) (fit_nodes v.next h.kind false c))
 inside_is w v k b name ps c h f e =
-    f (λ j. fit_nodes (suc w.next) j false c) ∙ ap (λ x. one_tree (with_children h.kind (label_of_head h) (fit_nodes x h.kind false c))) (let s : suc w.next ≡ v.next = omega (arith, e) in s)
+    f (λ j. fit_nodes (suc w.next) j false c) ∙ ap
+    (λ x. one_tree (with_children h.kind (label_of_head h) (fit_nodes x h.kind false c)))
+    (let s : suc w.next ≡ v.next = omega (arith, e) in s)
 
 pub element_ok : (w v u : Walk) (k : Kind) (b : Bool) (name : List ℕ) (ps : List Pair) (c : Markups) (h : Head) (ns : List Node) (n : Node)
-    → Headed w k b name ps c (Ok h) → Passed w v 1 (unsourced_here w.next ps) → FitsNodes v h.kind c u (Ok ns) → view n ≡ tree (label_of_head h) (children_in h.kind (views ns))
+    → Headed w k b name ps c (Ok h) → Passed w v 1 (unsourced_here w.next ps) → FitsNodes v h.kind c u (Ok ns)
+    → view n ≡ tree (label_of_head h) (children_in h.kind (views ns))
     → FitsNode w k b (node name ps c) u (Ok (Some n))
 element_ok w v u k b name ps c h ns n f p g e = (
   inside_is w v k b name ps c h f p.next ∙ ap (λ r. one_tree (with_children h.kind (label_of_head h) r)) g.0 ∙ ap (λ t. Ok (Some t)) (sym e),
@@ -117,17 +122,20 @@ element_ok w v u k b name ps c h ns n f p g e = (
         ∙ ap (λ x. option_or x (unsourced_nodes v.next c)) p.unsourced
         ∙ or_assoc w.unsourced (unsourced_here w.next ps) (unsourced_nodes v.next c)
         ∙ ap (option_or w.unsourced) (here_or (is_unsourced ps) w.next (unsourced_nodes v.next c))
-        ∙ ap (λ x. option_or w.unsourced (if is_unsourced ps then Some w.next else unsourced_nodes x c)) (let s : v.next ≡ suc w.next = omega (arith, p.next) in s);
+        ∙ ap (λ x. option_or w.unsourced (if is_unsourced ps then Some w.next else unsourced_nodes x c))
+        (let s : v.next ≡ suc w.next = omega (arith, p.next) in s);
   },
 )
 
-pub element_misfit : (w x : Walk) (k : Kind) (b : Bool) (name : List ℕ) (ps : List Pair) (c : Markups) (e : FitFault) → Headed w k b name ps c (Err e) → FitsNode w k b (node name ps c) x (Err e)
+pub element_misfit : (w x : Walk) (k : Kind) (b : Bool) (name : List ℕ) (ps : List Pair) (c : Markups) (e : FitFault)
+    → Headed w k b name ps c (Err e) → FitsNode w k b (node name ps c) x (Err e)
 element_misfit w x k b name ps c (faults.Unfit n y) f = f (λ j. fit_nodes (suc w.next) j false c)
 element_misfit w x k b name ps c faults.NoMemory f = tt
 
 pub element_inside : (w v u x : Walk) (k : Kind) (b : Bool) (name : List ℕ) (ps : List Pair) (c : Markups) (h : Head) (e : FitFault)
     → Headed w k b name ps c (Ok h) → Passed w v 1 (unsourced_here w.next ps) → FitsNodes v h.kind c u (Err e) → FitsNode w k b (node name ps c) x (Err e)
-element_inside w v u x k b name ps c h (faults.Unfit n y) f p g = inside_is w v k b name ps c h f p.next ∙ ap (λ r. one_tree (with_children h.kind (label_of_head h) r)) g
+element_inside w v u x k b name ps c h (faults.Unfit n y) f p g = inside_is w v k b name ps c h f p.next
+    ∙ ap (λ r. one_tree (with_children h.kind (label_of_head h) r)) g
 element_inside w v u x k b name ps c h faults.NoMemory f p g = tt
 
 -- no memory
@@ -142,7 +150,8 @@ pub headed_at : (w : Walk) (k : Kind) (b : Bool) (name : List ℕ) (ps : List Pa
     → Headed w k b name ps (markups xs) r → Headed w k b name ps (markups ys) r
 headed_at w k b name ps xs ys r e h = let P : List Content → Type 0 = λ zs. Headed w k b name ps (markups zs) r in subst P e h
 
-pub node_at : (w v : Walk) (k : Kind) (b : Bool) (m n : Markup) (r s : Result (Option Node) FitFault) → m ≡ n → r ≡ s → FitsNode w k b n v s → FitsNode w k b m v r
+pub node_at : (w v : Walk) (k : Kind) (b : Bool) (m n : Markup) (r s : Result (Option Node) FitFault) → m ≡ n → r ≡ s
+    → FitsNode w k b n v s → FitsNode w k b m v r
 node_at w v k b m n r s e f h = rw (e, f) h
 
 pub nodes_at : (w v : Walk) (k : Kind) (ms : Markups) (r s : Result (List Node) FitFault) → r ≡ s → FitsNodes w k ms v s → FitsNodes w k ms v r

@@ -40,7 +40,21 @@ unfolding no_head
 within_none = (tt, (no_head, (tt, tt, tt), refl))
 
 in_value : Holds why.Escape (codes "<i a=\"&x") 7
-in_value = (codes "<i a=\"", [], inr ([], codes "<i", a, ([], [], codes "i", within_none, lit< tt, (refl, tt), tt, refl), ((refl, tt), (refl, tt), tt, refl, tt, tt), refl, refl), refl, tt)
+in_value = (
+  codes "<i a=\"",
+  [],
+  inr (
+    [],
+    codes "<i",
+    a,
+    ([], [], codes "i", within_none, lit< tt, (refl, tt), tt, refl),
+    ((refl, tt), (refl, tt), tt, refl, tt, tt),
+    refl,
+    refl,
+  ),
+  refl,
+  tt,
+)
   where
     a : Attribute
     a = record { gap = codes " "; name = codes "a"; left = []; right = []; quote = 34; value = [] }

@@ -145,7 +145,8 @@ none_left (p_escaping p e) t = absurd t
 ended_goes : (bytes : List ℕ) (p : Partial) → TakesPiece p → IsUtf8 bytes → Goes bytes (Ok (seen p))
 ended_goes bytes p t u = let P : Option Follow → Type 0 = λ o. InCharacter o bytes in subst P (sym (none_left p t)) u
 
-digits_goes : (bytes : List ℕ) (p : Partial) (e : Escape) (r : Radix) (k n b : ℕ) → TakesPiece p → IsUtf8 bytes → Goes (bytes ++ b ∷ []) (turned (seen p) e (in_digits r k n b))
+digits_goes : (bytes : List ℕ) (p : Partial) (e : Escape) (r : Radix) (k n b : ℕ) → TakesPiece p → IsUtf8 bytes
+    → Goes (bytes ++ b ∷ []) (turned (seen p) e (in_digits r k n b))
 digits_goes bytes p x r k n b t u =
     let P : Turn → Type 0 = λ o. Goes (bytes ++ b ∷ []) (turned (seen p) x o) in
     if_case P (is_digit_of r b) _ _
@@ -194,7 +195,8 @@ done_char done begin got b u f =
     let one : IsUtf8 (begin ∷ (got ++ b ∷ [])) = subst IsUtf8 r.2 (IsUtf8-encode r.0 r.1) in
     subst IsUtf8 (sym (append_assoc done (begin ∷ got) (b ∷ []))) (IsUtf8-append done (begin ∷ (got ++ b ∷ [])) u one)
 
-first_of_rest : (low high n b : ℕ) (tail rest y : List ℕ) → IsFollow low high (suc n) y → b ∷ tail ≡ y ++ rest → (z : List ℕ) × IsFollow 128 191 n z × (tail ≡ z ++ rest)
+first_of_rest : (low high n b : ℕ) (tail rest y : List ℕ) → IsFollow low high (suc n) y → b ∷ tail ≡ y ++ rest
+    → (z : List ℕ) × IsFollow 128 191 n z × (tail ≡ z ++ rest)
 first_of_rest low high n b tail rest [] h e = absurd h
 first_of_rest low high n b tail rest (c ∷ z) h e = (z, h.1, others_eq b c tail (z ++ rest) e)
 
@@ -222,7 +224,8 @@ wide_goes p low high (suc n) b bytes t h =
     ))
     (λ _. tt)
 
-escape_goes : (p : Partial) (e : Begun) (b : ℕ) (bytes : List ℕ) → TakesPiece p → IsBegunEscape e → InCharacter (left_of (escaping (seen p) (escape_of e))) bytes
+escape_goes : (p : Partial) (e : Begun) (b : ℕ) (bytes : List ℕ) → TakesPiece p → IsBegunEscape e
+    → InCharacter (left_of (escaping (seen p) (escape_of e))) bytes
     → Goes (bytes ++ b ∷ []) (turned (seen p) (escape_of e) (in_escape (escape_of e) b))
 escape_goes p b_ampersand b bytes t h u =
     let P : Turn → Type 0 = λ o. Goes (bytes ++ b ∷ []) (turned (seen p) ampersand o) in
@@ -312,7 +315,8 @@ ahead_goes (a_first l) b bytes h u =
     if_case P (is_lower b) _ _ (λ e. low bytes b u (lower_low b e)) (λ _. if_case P (b == 33) _ _ (λ e. low bytes b u (like b 33 e (omega arith))) (λ _. tt))
 ahead_goes (a_word l got (c ∷ cs)) b bytes h u =
     let P : Result State HtmlWhy → Type 0 = Goes (bytes ++ b ∷ []) in
-    let small : low_byte c ≡ true = byte_behind low_byte (map to_ascii_lowercase got) c cs (let Q : List ℕ → Type 0 = Each low_byte in subst Q (sym h.1.0) doctype_low) in
+    let small : low_byte c ≡ true = byte_behind low_byte (map to_ascii_lowercase got) c cs
+    (let Q : List ℕ → Type 0 = Each low_byte in subst Q (sym h.1.0) doctype_low) in
     if_case P (to_ascii_lowercase b == c) _ _ (λ e. low bytes b u (small_low b c (eqb-true (to_ascii_lowercase b) c e) (is_low c small))) (λ _. tt)
 ahead_goes (a_word l got []) b bytes h u = prolog_goes b bytes u
 ahead_goes (a_gap l d g) b bytes h u = prolog_goes b bytes u
@@ -331,7 +335,8 @@ mended_goes : (bytes : List ℕ) (b : ℕ) (o : Result State HtmlWhy) → Goes b
 mended_goes bytes b (Ok s) h = h
 mended_goes bytes b (Err w) h = if_case (Goes bytes) (begins_character b) (Err w) _ (λ _. tt) (λ _. tt)
 
-more_goes : (w : List ℕ) (b : ℕ) (bs : List ℕ) → ((t : State) → run start (w ++ b ∷ []) ≡ Ok t → InCharacter (left_of t) (w ++ b ∷ []) → Goes ((w ++ b ∷ []) ++ bs) (run t bs))
+more_goes : (w : List ℕ) (b : ℕ) (bs : List ℕ)
+    → ((t : State) → run start (w ++ b ∷ []) ≡ Ok t → InCharacter (left_of t) (w ++ b ∷ []) → Goes ((w ++ b ∷ []) ++ bs) (run t bs))
     → (o : Result State HtmlWhy) → run start (w ++ b ∷ []) ≡ o → Goes (w ++ b ∷ []) o → Goes (w ++ b ∷ bs) (onward (λ t. run t bs) o)
 more_goes w b bs h (Err v) e u = tt
 more_goes w b bs h (Ok t) e u = let P : List ℕ → Type 0 = λ x. Goes x (run t bs) in subst P (append_assoc w (b ∷ []) bs) (h t e u)
@@ -339,7 +344,8 @@ more_goes w b bs h (Ok t) e u = let P : List ℕ → Type 0 = λ x. Goes x (run 
 all_goes : (bs w : List ℕ) (s : State) → run start w ≡ Ok s → InCharacter (left_of s) w → Goes (w ++ bs) (run s bs)
 all_goes [] w s e u = let P : List ℕ → Type 0 = λ x. Goes x (Ok s) in subst P (sym (append-nil w)) u
 all_goes (b ∷ bs) w s e u =
-    more_goes w b bs (all_goes bs (w ++ b ∷ [])) (mended b (step s b)) (run_push w b start s e) (mended_goes (w ++ b ∷ []) b (step s b) (one_goes w w s b (reached w (Ok s) e) u))
+    more_goes w b bs (all_goes bs (w ++ b ∷ [])) (mended b (step s b)) (run_push w b start s e)
+    (mended_goes (w ++ b ∷ []) b (step s b) (one_goes w w s b (reached w (Ok s) e) u))
 
 -- what is read is in UTF-8
 pub characters_read : (bytes : List ℕ) (s : State) → run start bytes ≡ Ok s → InCharacter (left_of s) bytes

@@ -88,7 +88,8 @@ tag_told : (before : List ℕ) (b : ℕ) (s : State) (ns : List (List ℕ)) → 
 tag_told before b s [] = λ _. tt
 tag_told before b s (n ∷ ns) = tt
 
-less_told : (h : Head) (ls : List Level) (b : ℕ) → IsHead h → AreLevels ls → Told (spell_head h ++ (levels ls ++ 60 ∷ [])) b (less (names ls)) (step (less (names ls)) b)
+less_told : (h : Head) (ls : List Level) (b : ℕ) → IsHead h → AreLevels ls → Told (spell_head h ++ (levels ls ++ 60 ∷ [])) b
+    (less (names ls)) (step (less (names ls)) b)
 less_told h ls b i a =
     let before : List ℕ = spell_head h ++ (levels ls ++ 60 ∷ []) in
     let P : Result State HtmlWhy → Type 0 = Told before b (less (names ls)) in
@@ -97,7 +98,8 @@ less_told h ls b i a =
 
 -- in the name of an end tag
 closing_told : (h : Head) (l : Level) (ls : List Level) (got left : List ℕ) (b : ℕ) → IsHead h → Sound (p_closing l ls got left)
-    → ((behind : List ℕ) → left ≡ [] → is_name_byte b ≡ true) → Told (spell_head h ++ written (p_closing l ls got left)) b (closing left (names ls)) (Err why.EndTag)
+    → ((behind : List ℕ) → left ≡ [] → is_name_byte b ≡ true) → Told (spell_head h ++ written (p_closing l ls got left)) b
+    (closing left (names ls)) (Err why.EndTag)
 closing_told h l ls got left b i s next = λ behind. (
   level_of l,
   levels_of ls,
@@ -111,7 +113,8 @@ closing_told h l ls got left b i s next = λ behind. (
 )
 
 -- behind the name of an attribute that came before
-repeated_told : (h : Head) (o : Opening) (g a : List ℕ) (b : ℕ) → IsHead h → Sound (p_attribute o g a) → is_attribute_byte b ≡ false → is_among a (names_of o.attributes) ≡ true
+repeated_told : (h : Head) (o : Opening) (g a : List ℕ) (b : ℕ) → IsHead h → Sound (p_attribute o g a)
+    → is_attribute_byte b ≡ false → is_among a (names_of o.attributes) ≡ true
     → Told (spell_head h ++ written (p_attribute o g a)) b (attribute (tag o) a) (Err why.Repeated)
 repeated_told h o g a b i s e f = λ behind. (
   o.attributes,
@@ -167,7 +170,8 @@ where_escaped h (p_closed l ls g) i s t = absurd t
 where_escaped h (p_done e g) i s t = absurd t
 where_escaped h (p_escaping p e) i s t = absurd t
 
-in_escape_of : (h : Head) (p : Partial) (got : List ℕ) → IsHead h → Sound p → TakesPiece p → Each is_inner got → InEscape (spell_head h ++ (written p ++ (38 ∷ got)))
+in_escape_of : (h : Head) (p : Partial) (got : List ℕ) → IsHead h → Sound p → TakesPiece p → Each is_inner got
+    → InEscape (spell_head h ++ (written p ++ (38 ∷ got)))
 in_escape_of h p got i s t e = (spell_head h ++ written p, got, where_escaped h p i s t, sym (append_assoc (spell_head h) (written p) (38 ∷ got)), e)
 
 turn_told : (before : List ℕ) (b : ℕ) (s t : State) (e : Escape) (u : Turn) → Explains (why_of e) before b s → Told before b s (turned t e u)
@@ -175,10 +179,12 @@ turn_told before b s t e stop h = h
 turn_told before b s t e (on f) h = tt
 turn_told before b s t e ended h = tt
 
-stop_told : (h : Head) (p : Partial) (e : Begun) (b : ℕ) → IsHead h → Sound (p_escaping p e) → Explains (why_of (escape_of e)) (spell_head h ++ written (p_escaping p e)) b (seen (p_escaping p e))
+stop_told : (h : Head) (p : Partial) (e : Begun) (b : ℕ) → IsHead h → Sound (p_escaping p e)
+    → Explains (why_of (escape_of e)) (spell_head h ++ written (p_escaping p e)) b (seen (p_escaping p e))
 stop_told h p b_ampersand b i s = λ _. in_escape_of h p [] i s.0 s.1 tt
 stop_told h p b_apart b i s = λ _. in_escape_of h p (97 ∷ []) i s.0 s.1 (refl, tt)
-stop_told h p (b_letters n got left) b i s = λ _. in_escape_of h p got i s.0 s.1 (each_left is_inner got left (let P : List ℕ → Type 0 = Each is_inner in subst P (sym s.2) (letters_inner n)))
+stop_told h p (b_letters n got left) b i s = λ _. in_escape_of h p got i s.0 s.1
+    (each_left is_inner got left (let P : List ℕ → Type 0 = Each is_inner in subst P (sym s.2) (letters_inner n)))
 stop_told h p b_sharp b i s = λ _. in_escape_of h p (35 ∷ []) i s.0 s.1 (refl, tt)
 stop_told h p (b_digits Decimal ds) b i s = λ _. in_escape_of h p (35 ∷ ds) i s.0 s.1 (refl, digits_inner Decimal ds s.2.0)
 stop_told h p (b_digits Hexadecimal ds) b i s = λ _. in_escape_of h p (35 ∷ 120 ∷ ds) i s.0 s.1 (refl, (refl, digits_inner Hexadecimal ds s.2.0))
@@ -203,7 +209,8 @@ partial_told h (p_attribute o g a) b i s =
     let before : List ℕ = spell_head h ++ written (p_attribute o g a) in
     let P : Result State HtmlWhy → Type 0 = Told before b (attribute (tag o) a) in
     if_case P (is_attribute_byte b) _ _ (λ _. tt)
-    (λ e. if_case P (is_among a (names_of o.attributes)) _ _ (λ f. repeated_told h o g a b i s e f) (λ _. name_told before b (attribute (tag o) a) (with_seen (tag o) a)))
+    (λ e. if_case P (is_among a (names_of o.attributes)) _ _ (λ f. repeated_told h o g a b i s e f)
+    (λ _. name_told before b (attribute (tag o) a) (with_seen (tag o) a)))
 partial_told h (p_named o g a lg) b i s = name_told (spell_head h ++ written (p_named o g a lg)) b (named_so (with_seen (tag o) a)) (with_seen (tag o) a)
 partial_told h (p_equals o g a lg rg) b i s =
     let P : Result State HtmlWhy → Type 0 = Told (spell_head h ++ written (p_equals o g a lg rg)) b (equals (with_seen (tag o) a)) in

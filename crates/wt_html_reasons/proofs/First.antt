@@ -44,7 +44,8 @@ alive : (before : List ℕ) → Front before → (o : Result State HtmlWhy) → 
 alive before f (Ok s) e = (s, e)
 alive before f (Err v) e = absurd (no_front before v e f)
 
-stop_byte : (bytes : List ℕ) (place : ℕ) (w : HtmlWhy) (s : State) (b : ℕ) (others : List ℕ) → Refused bytes place w → run start (take place bytes) ≡ Ok s → drop place bytes ≡ b ∷ others
+stop_byte : (bytes : List ℕ) (place : ℕ) (w : HtmlWhy) (s : State) (b : ℕ) (others : List ℕ) → Refused bytes place w
+    → run start (take place bytes) ≡ Ok s → drop place bytes ≡ b ∷ others
     → (o : Result State HtmlWhy) → mended b (step s b) ≡ o → mended b (step s b) ≡ Err w
 stop_byte bytes place w s b others r e q (Ok t) m =
     let p : IsPlace bytes place = r.0 in
@@ -52,11 +53,13 @@ stop_byte bytes place w s b others r e q (Ok t) m =
     absurd (p.longest (suc place) (omega arith) (cut_within bytes place b others q) (front_of (take (suc place) bytes) t k))
 stop_byte bytes place w s b others r e q (Err v) m =
     let before : List ℕ = take place bytes in
-    let whole : bytes ≡ (before ++ b ∷ []) ++ others = sym (take-append-drop place bytes) ∙ ap (λ x. before ++ x) q ∙ sym (append_assoc before (b ∷ []) others) in
+    let whole : bytes ≡ (before ++ b ∷ []) ++ others = sym (take-append-drop place bytes) ∙ ap (λ x. before ++ x) q
+    ∙ sym (append_assoc before (b ∷ []) others) in
     let k : run start bytes ≡ Err v = ap (run start) whole ∙ run_err (before ++ b ∷ []) others start v (run_push before b start s e ∙ m) in
     m ∙ ap Err (sym (r.1 ∙ ap why_in k))
 
-stop_at : (bytes : List ℕ) (place : ℕ) (w : HtmlWhy) (s : State) (behind : List ℕ) → Refused bytes place w → run start (take place bytes) ≡ Ok s → drop place bytes ≡ behind
+stop_at : (bytes : List ℕ) (place : ℕ) (w : HtmlWhy) (s : State) (behind : List ℕ) → Refused bytes place w
+    → run start (take place bytes) ≡ Ok s → drop place bytes ≡ behind
     → Stop (take place bytes) behind w
 stop_at bytes place w s [] r e q =
     let whole : bytes ≡ take place bytes = sym (take-append-drop place bytes) ∙ ap (λ x. take place bytes ++ x) q ∙ append-nil (take place bytes) in
@@ -78,12 +81,14 @@ wide_stop t low high (suc n) b v =
     let P : Turn → Type 0 = λ u. turned t (wide low high (suc n)) u ≡ Err v → between low high b ≡ false in
     if_case P (between low high b) _ _ (λ _ e. absurd cc) (λ f _. f)
 
-no_text : (s : State) (before : List ℕ) (b : ℕ) (v : HtmlWhy) → InCharacter (left_of s) before → step s b ≡ Err v → (left_of s ≡ None → begins_character b ≡ false)
+no_text : (s : State) (before : List ℕ) (b : ℕ) (v : HtmlWhy) → InCharacter (left_of s) before → step s b ≡ Err v
+    → (left_of s ≡ None → begins_character b ≡ false)
     → (more : List ℕ) → IsUtf8 (before ++ b ∷ more) → ⊥
 no_text (escaping t (wide low high n)) before b v h e k = no_follow before (record { low = low; high = high; more = n }) b h (wide_stop t low high n b v e)
 no_text s before b v h e k = no_character before b h (k refl)
 
-explained_holds : (v : HtmlWhy) (before : List ℕ) (b : ℕ) (others : List ℕ) (s : State) → run start before ≡ Ok s → step s b ≡ Err v → Explains v before b s → HoldsBetween v before (b ∷ others)
+explained_holds : (v : HtmlWhy) (before : List ℕ) (b : ℕ) (others : List ℕ) (s : State) → run start before ≡ Ok s
+    → step s b ≡ Err v → Explains v before b s → HoldsBetween v before (b ∷ others)
 explained_holds why.NotUtf8 before b others s e q h = no_text s before b why.NotUtf8 (characters_read before s e) q h
 explained_holds why.End before b others s e q h = absurd h
 explained_holds why.TooDeep before b others s e q h = h others
@@ -98,7 +103,8 @@ ok_err t w o e f = cc
 same_fault : (u w : HtmlWhy) (o : Result State HtmlWhy) → o ≡ Err u → o ≡ Err w → u ≡ w
 same_fault u w o e f = cc
 
-holds_byte : (before : List ℕ) (b : ℕ) (others : List ℕ) (s : State) (w : HtmlWhy) → run start before ≡ Ok s → (o : Result State HtmlWhy) → step s b ≡ o → Told before b s o → mended b o ≡ Err w
+holds_byte : (before : List ℕ) (b : ℕ) (others : List ℕ) (s : State) (w : HtmlWhy) → run start before ≡ Ok s
+    → (o : Result State HtmlWhy) → step s b ≡ o → Told before b s o → mended b o ≡ Err w
     → HoldsBetween w before (b ∷ others)
 holds_byte before b others s w e (Ok t) q h m = absurd (ok_err t w (Ok t) refl m)
 holds_byte before b others s w e (Err v) q h m =
@@ -140,7 +146,8 @@ gives b (Err u) v w h m =
 ok_ok : (s t : State) (o : Result State HtmlWhy) → o ≡ Ok s → o ≡ Ok t → s ≡ t
 ok_ok s t o e f = cc
 
-by_state : (before behind : List ℕ) (v w : HtmlWhy) (t : State) → Stop before behind w → run start before ≡ Ok t → ((b : ℕ) (others : List ℕ) → behind ≡ b ∷ others → Gives v (step t b)) → Among v w
+by_state : (before behind : List ℕ) (v w : HtmlWhy) (t : State) → Stop before behind w → run start before ≡ Ok t
+    → ((b : ℕ) (others : List ℕ) → behind ≡ b ∷ others → Gives v (step t b)) → Among v w
 by_state before behind v w t k e h = by_case k.2
   where
     by_case : StopsSo k.0 behind w → Among v w
@@ -192,7 +199,8 @@ repeated_first before behind w k h =
     by_state before behind why.Repeated w (attribute r.0 h.3) k (ap (run start) h.8 ∙ r.2)
     (λ b others q.
     let P : Result State HtmlWhy → Type 0 = Gives why.Repeated in
-    if_case P (is_attribute_byte b) _ _ (λ _. tt) (λ _. if_case P (is_among h.3 r.0.seen) _ _ (λ _. refl) (λ f. absurd (both_ways (is_among h.3 r.0.seen) f again))))
+    if_case P (is_attribute_byte b) _ _ (λ _. tt)
+    (λ _. if_case P (is_among h.3 r.0.seen) _ _ (λ _. refl) (λ f. absurd (both_ways (is_among h.3 r.0.seen) f again))))
 
 end_first : (before behind : List ℕ) (w : HtmlWhy) → Stop before behind w → behind ≡ [] → w ≡ why.End
 end_first before behind w k e = by_case k.2
@@ -213,9 +221,11 @@ no_begin b (Err u) w f m =
     (λ _ q. sym (same_fault why.NotUtf8 w (Err why.NotUtf8) refl q))
     m
 
-not_utf8 : (s : State) (before : List ℕ) (b : ℕ) (w : HtmlWhy) → InCharacter (left_of s) before → ((more : List ℕ) → IsUtf8 (before ++ b ∷ more) → ⊥) → mended b (step s b) ≡ Err w → w ≡ why.NotUtf8
+not_utf8 : (s : State) (before : List ℕ) (b : ℕ) (w : HtmlWhy) → InCharacter (left_of s) before
+    → ((more : List ℕ) → IsUtf8 (before ++ b ∷ more) → ⊥) → mended b (step s b) ≡ Err w → w ≡ why.NotUtf8
 not_utf8 (escaping t (wide low high n)) before b w h k m =
-    same_either why.NotUtf8 w (gives b (step (escaping t (wide low high n)) b) why.NotUtf8 w (turn_gives t (wide low high n) why.NotUtf8 (in_escape (wide low high n) b) refl) m)
+    same_either why.NotUtf8 w (gives b (step (escaping t (wide low high n)) b) why.NotUtf8 w
+    (turn_gives t (wide low high n) why.NotUtf8 (in_escape (wide low high n) b) refl) m)
 not_utf8 s before b w h k m = by_test (begins_character b) refl
   where
     by_test : (t : Bool) → begins_character b ≡ t → w ≡ why.NotUtf8
@@ -233,7 +243,8 @@ utf8_first before behind w k h = by_case k.2
 not_before : (v w u : HtmlWhy) → comes_before v u ≡ false → comes_before v w ≡ true → w ≡ u → ⊥
 not_before v w u f e q = both_ways (comes_before v w) (ap (comes_before v) q ∙ f) e
 
-not_among : (v w : HtmlWhy) → comes_before v why.End ≡ false → comes_before v why.NotUtf8 ≡ false → comes_before v v ≡ false → comes_before v w ≡ true → Among v w → ⊥
+not_among : (v w : HtmlWhy) → comes_before v why.End ≡ false → comes_before v why.NotUtf8 ≡ false → comes_before v v ≡ false
+    → comes_before v w ≡ true → Among v w → ⊥
 not_among v w f g h e (inl q) = not_before v w why.End f e q
 not_among v w f g h e (inr (inl q)) = not_before v w why.NotUtf8 g e q
 not_among v w f g h e (inr (inr q)) = not_before v w v h e q
@@ -281,7 +292,8 @@ equal m n e f = grind (arith, nat_tests)
 same_reason : (v w : HtmlWhy) → comes_before v w ≡ false → comes_before w v ≡ false → v ≡ w
 same_reason v w e f = sym (of_own v) ∙ ap of_rank (equal (rank v) (rank w) e f) ∙ of_own w
 
-pub only : (bytes : List ℕ) (place : ℕ) (w : HtmlWhy) → IsPlace bytes place → Holds w bytes place → ((v : HtmlWhy) → comes_before v w ≡ true → Holds v bytes place → ⊥) → Refused bytes place w
+pub only : (bytes : List ℕ) (place : ℕ) (w : HtmlWhy) → IsPlace bytes place → Holds w bytes place
+    → ((v : HtmlWhy) → comes_before v w ≡ true → Holds v bytes place → ⊥) → Refused bytes place w
 only bytes place w p h n = by_tests (comes_before w u) (comes_before u w) refl refl
   where
     u : HtmlWhy

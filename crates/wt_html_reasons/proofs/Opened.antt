@@ -27,7 +27,8 @@ are_levels (l ∷ ls) h = (let P : ℕ → Type 0 = λ k. IsLevel k (level_of l)
 pub within : (h : Head) (ls : List PartLevel) → IsHead h → ArePartLevels ls → Within (levels_of ls) (spell_head h ++ levels ls)
 within h ls i a = (are_levels ls a, (h, i, ap (λ x. spell_head h ++ x) (sym (spelled ls))))
 
-pub in_contents : (h : Head) (l : PartLevel) (ls : List PartLevel) → IsHead h → IsPartLevel (length ls) l → ArePartLevels ls → InContents (spell_head h ++ (levels ls ++ opened l))
+pub in_contents : (h : Head) (l : PartLevel) (ls : List PartLevel) → IsHead h → IsPartLevel (length ls) l → ArePartLevels ls
+    → InContents (spell_head h ++ (levels ls ++ opened l))
 in_contents h l ls i il ils = (level_of l, levels_of ls, within h (l ∷ ls) i (il, ils))
 
 -- behind a start tag's attributes
@@ -53,7 +54,8 @@ pub names_same : (xs : List Attribute) → part_names xs ≡ names_of xs
 names_same [] = refl
 names_same (x ∷ xs) = ap (λ ns. x.name ∷ ns) (names_same xs)
 
-pub in_value : (h : Head) (o : Opening) (g a lg rg : List ℕ) (q : ℕ) (ps : List Piece) → IsHead h → Sound (p_value o g a lg rg q ps) → InValue (spell_head h ++ written (p_value o g a lg rg q ps))
+pub in_value : (h : Head) (o : Opening) (g a lg rg : List ℕ) (q : ℕ) (ps : List Piece) → IsHead h
+    → Sound (p_value o g a lg rg q ps) → InValue (spell_head h ++ written (p_value o g a lg rg q ps))
 in_value h o g a lg rg q ps i s =
     let x : Attribute = record { gap = g; name = a; left = lg; right = rg; quote = q; value = ps } in (
       o.attributes,

@@ -33,7 +33,8 @@ inside_from : (h : Head) (l : Level) (ls : List Level) → IsLevel (length ls) l
 inside_from h l ls i begun rest =
     let after : List ℕ = spell_items l.contents ++ rest in
     let tail : List ℕ = l.gap ++ (62 ∷ after) in
-    let same : (spell_head h ++ spell_levels (l ∷ ls)) ++ rest ≡ (spell_head h ++ spell_levels ls) ++ (60 ∷ (l.name ++ (spell_attributes l.attributes ++ tail))) = simp append_assoc in
+    let same : (spell_head h ++ spell_levels (l ∷ ls)) ++ rest ≡ (spell_head h ++ spell_levels ls)
+    ++ (60 ∷ (l.name ++ (spell_attributes l.attributes ++ tail))) = simp append_assoc in
     let b = begun (l.name ++ (spell_attributes l.attributes ++ tail)) in
     let t : Tag = record { outer = names ls; name = l.name; seen = [] } in
     let P : ℕ → Type 0 = λ k. AreItems (suc k) l.contents in
@@ -42,7 +43,8 @@ inside_from h l ls i begun rest =
     ∙ ap (run (naming (names ls) l.name)) (attributes_is l.attributes tail)
     ∙ attributes_run l.attributes t (naming (names ls) l.name) (opens_naming (names ls) l.name) tail i.2 (run (inside (l.name ∷ names ls)) after)
     (λ u r o e f. open_run l.gap u r o after i.3
-    ∙ ap (λ m. run (inside m) after) (if_false (is_void u.name) u.outer (u.name ∷ u.outer) (ap is_void e ∙ i.5) ∙ ap (λ m. m ∷ u.outer) e ∙ ap (λ m. l.name ∷ m) f))
+    ∙ ap (λ m. run (inside m) after) (if_false (is_void u.name) u.outer (u.name ∷ u.outer) (ap is_void e ∙ i.5)
+    ∙ ap (λ m. m ∷ u.outer) e ∙ ap (λ m. l.name ∷ m) f))
     ∙ ap (run (inside (l.name ∷ names ls))) (items_is l.contents rest)
     ∙ items_run l.contents l.name (names ls) rest (subst P (sym (as_many_names ls)) i.4)
 
@@ -57,7 +59,8 @@ begins h (l ∷ ls) i a lt rest = (
 )
 
 -- in the contents of an element
-pub contents_run : (l : Level) (ls : List Level) (bytes : List ℕ) → Within (l ∷ ls) bytes → (rest : List ℕ) → run start (bytes ++ rest) ≡ run (inside (l.name ∷ names ls)) rest
+pub contents_run : (l : Level) (ls : List Level) (bytes : List ℕ) → Within (l ∷ ls) bytes → (rest : List ℕ)
+    → run start (bytes ++ rest) ≡ run (inside (l.name ∷ names ls)) rest
 contents_run l ls bytes w rest =
     let k : length ls < 200 = w.0.0.0 in
     ap (λ x. run start (x ++ rest)) w.1.2 ∙ inside_from w.1.0 l ls w.0.0 (begins w.1.0 ls w.1.1 w.0.1 k) rest
@@ -72,7 +75,8 @@ closing_part (c ∷ cs) left ns rest =
     run_step (closing (c ∷ (cs ++ left)) ns) (closing (cs ++ left) ns) c (cs ++ rest) (if_true (c == c) _ _ (eq_self c)) ∙ closing_part cs left ns rest
 
 -- in the name of an end tag
-pub closing_at : (l : Level) (ls : List Level) (outside got left : List ℕ) → Within (l ∷ ls) outside → got ++ left ≡ l.name → run start (outside ++ (60 ∷ 47 ∷ got)) ≡ Ok (closing left (names ls))
+pub closing_at : (l : Level) (ls : List Level) (outside got left : List ℕ) → Within (l ∷ ls) outside → got ++ left ≡ l.name
+    → run start (outside ++ (60 ∷ 47 ∷ got)) ≡ Ok (closing left (names ls))
 closing_at l ls outside got left w e =
     contents_run l ls outside w (60 ∷ 47 ∷ got)
     ∙ ap (λ n. run (closing n (names ls)) got) (sym e)
@@ -159,7 +163,8 @@ takes_at bytes (inr h) =
     let u : Tag = with_seen t a.name in (
       value u a.quote,
       (takes_value u a.quote h.4.3).1,
-      λ rest. (let same : (h.1 ++ spell_unended a) ++ rest ≡ h.1 ++ (a.gap ++ (a.name ++ (a.left ++ (61 ∷ (a.right ++ (a.quote ∷ (spell_pieces a.value ++ rest))))))) = simp append_assoc in
+      λ rest. (let same : (h.1 ++ spell_unended a) ++ rest ≡ h.1
+          ++ (a.gap ++ (a.name ++ (a.left ++ (61 ∷ (a.right ++ (a.quote ∷ (spell_pieces a.value ++ rest))))))) = simp append_assoc in
           ap (λ x. run start (x ++ rest)) h.6
           ∙ ap (run start) same
           ∙ b.2 _
@@ -205,7 +210,8 @@ Ends bs t o = onward (λ u. run u bs) o ≡ Ok t → Escaped t
 ends_not : (bs : List ℕ) (b : ℕ) (t : State) (w : HtmlWhy) → Ends bs t (mended b (Err w))
 ends_not bs b t w = if_case (Ends bs t) (begins_character b) _ _ (λ _ e. absurd cc) (λ _ e. absurd cc)
 
-turn_ends : (bs : List ℕ) (b : ℕ) (s t : State) (e : Escape) (o : Turn) → ((f : Escape) → IsEscape f → run (escaping s f) bs ≡ Ok t → Escaped t) → Stays o → Ends bs t (mended b (turned s e o))
+turn_ends : (bs : List ℕ) (b : ℕ) (s t : State) (e : Escape) (o : Turn)
+    → ((f : Escape) → IsEscape f → run (escaping s f) bs ≡ Ok t → Escaped t) → Stays o → Ends bs t (mended b (turned s e o))
 turn_ends bs b s t e stop k h = ends_not bs b t (why_of e)
 turn_ends bs b s t e (on f) k h = k f h
 turn_ends bs b s t e ended k h = absurd h

@@ -17,7 +17,8 @@ use Rattle.wt_html_reasons.proofs.Characters.{InCharacter, characters_read}
 -- what stands behind whole characters of a text is a text
 behind_chars : (cs rest : List ℕ) → IsUtf8 (encodes cs ++ rest) → IsUtf8 rest
 behind_chars [] rest u = u
-behind_chars (c ∷ cs) rest u = behind_chars cs rest (IsUtf8-past_char ((encode c ++ encodes cs) ++ rest) (encodes cs ++ rest) c u (append_assoc (encode c) (encodes cs) rest))
+behind_chars (c ∷ cs) rest u = behind_chars cs rest
+    (IsUtf8-past_char ((encode c ++ encodes cs) ++ rest) (encodes cs ++ rest) c u (append_assoc (encode c) (encodes cs) rest))
 
 text_behind : (before rest : List ℕ) → IsUtf8 before → IsUtf8 (before ++ rest) → IsUtf8 rest
 text_behind before rest h u = behind_chars h.0 rest (let P : List ℕ → Type 0 = λ x. IsUtf8 (x ++ rest) in subst P (sym h.1.1) u)
@@ -34,7 +35,8 @@ first_of c b others more s e false l =
     let P : ℕ → Type 0 = λ d. Follows (follow d) r.1 in
     inr (r.1, others, subst P (first_eq r.0 b (r.1 ++ others) more q) r.3, sym (others_eq r.0 b (r.1 ++ others) more q))
 
-first_char : (b : ℕ) (more cs : List ℕ) → scalars cs ≡ true → encodes cs ≡ b ∷ more → (nat_lt b 128 ≡ true) ⊎ ((x rest : List ℕ) × Follows (follow b) x × (more ≡ x ++ rest))
+first_char : (b : ℕ) (more cs : List ℕ) → scalars cs ≡ true → encodes cs ≡ b ∷ more
+    → (nat_lt b 128 ≡ true) ⊎ ((x rest : List ℕ) × Follows (follow b) x × (more ≡ x ++ rest))
 first_char b more [] s e = absurd cc
 first_char b more (c ∷ cs) s e = first_of c b (encodes cs) more (and_parts (scalar c) (scalars cs) s).0 e (nat_lt c 128) refl
 
@@ -66,7 +68,8 @@ next_between low high zero b more (c ∷ y) rest h e = ap (between low high) (fi
 next_between low high (suc n) b more (c ∷ y) rest h e = ap (between low high) (first_eq b c more (y ++ rest) e) ∙ h.0
 
 -- in a character of several bytes, a byte that doesn't go on with it
-pub no_follow : (before : List ℕ) (f : Follow) (b : ℕ) → InCharacter (Some f) before → between f.low f.high b ≡ false → (more : List ℕ) → IsUtf8 (before ++ b ∷ more) → ⊥
+pub no_follow : (before : List ℕ) (f : Follow) (b : ℕ) → InCharacter (Some f) before → between f.low f.high b ≡ false
+    → (more : List ℕ) → IsUtf8 (before ++ b ∷ more) → ⊥
 no_follow before f b h e more u = by_case (first_char h.1 (h.2 ++ b ∷ more) t.0 t.1.0 t.1.1)
   where
     t : IsUtf8 (h.1 ∷ (h.2 ++ b ∷ more))
@@ -92,7 +95,11 @@ goes_on before b h e = by_test (nat_lt b 128) (follow b) refl refl
     begins_none false t e f = e
 
     by_test : (t : Bool) (o : Option Follow) → nat_lt b 128 ≡ t → follow b ≡ o → (more : List ℕ) × IsUtf8 (before ++ b ∷ more)
-    by_test true o l q = ([], IsUtf8-append before (b ∷ []) h (subst IsUtf8 (encode_ascii b (low_lt b l)) (IsUtf8-encode b (low_scalar b (omega (arith, low_lt b l))))))
+    by_test true o l q = (
+      [],
+      IsUtf8-append before (b ∷ []) h
+          (subst IsUtf8 (encode_ascii b (low_lt b l)) (IsUtf8-encode b (low_scalar b (omega (arith, low_lt b l))))),
+    )
     by_test false None l q =
         let n : false ≡ true = sym (ap is_there q) ∙ begins_none (nat_lt b 128) (is_there (follow b)) e l in absurd cc
     by_test false (Some f) l q =

@@ -62,16 +62,20 @@ none_between k e j = ap (λ i. one_block i j) e
 none_heading : (k : BlockKind) → k ≡ Heading → (j : BlockKind) → one_block k j ≡ false
 none_heading k e j = ap (λ i. one_block i j) e
 
-by_block : (k : BlockKind) (r : Row) (rs others : List Row) → r.block ≡ k → IsRun same_block (r ∷ rs) others → AllByRecursion IsGoodRow (r ∷ rs) → AllByRecursion IsBodyPart (parts_by k (row_items (r ∷ rs)))
+by_block : (k : BlockKind) (r : Row) (rs others : List Row) → r.block ≡ k → IsRun same_block (r ∷ rs) others
+    → AllByRecursion IsGoodRow (r ∷ rs) → AllByRecursion IsBodyPart (parts_by k (row_items (r ∷ rs)))
 by_block Between r rs others e h g =
     let a : rs ≡ [] = alone r rs others h (none_between r.block e) in
-    subst (λ (ss : List Row). AllByRecursion IsBodyPart (parts Sep (joined (row_items (r ∷ ss))))) (sym a) (between_good g.0.tables r.items g.0.line (block_blank _ (sym g.0.kind ∙ e)))
+    subst (λ (ss : List Row). AllByRecursion IsBodyPart (parts Sep (joined (row_items (r ∷ ss))))) (sym a)
+    (between_good g.0.tables r.items g.0.line (block_blank _ (sym g.0.kind ∙ e)))
 by_block Heading r rs others e h g =
     let a : rs ≡ [] = alone r rs others h (none_heading r.block e) in
-    subst (λ (ss : List Row). AllByRecursion IsBodyPart (around Heading (row_items (r ∷ ss)))) (sym a) (heading_good g.0.tables r.items g.0.line (block_heading _ (sym g.0.kind ∙ e)))
+    subst (λ (ss : List Row). AllByRecursion IsBodyPart (around Heading (row_items (r ∷ ss)))) (sym a)
+    (heading_good g.0.tables r.items g.0.line (block_heading _ (sym g.0.kind ∙ e)))
 by_block Para r rs others e h g = para_good (row_items (r ∷ rs)) (joined_line (row_items (r ∷ rs)) (lines_good (r ∷ rs) g))
 
-run_good : (r : Row) (rs others : List Row) → IsRun same_block (r ∷ rs) others → AllByRecursion IsGoodRow (r ∷ rs) → AllByRecursion IsBodyPart (run_parts (r ∷ rs))
+run_good : (r : Row) (rs others : List Row) → IsRun same_block (r ∷ rs) others → AllByRecursion IsGoodRow (r ∷ rs)
+    → AllByRecursion IsBodyPart (run_parts (r ∷ rs))
 unfolding run_parts
 run_good r rs others h g = by_block r.block r rs others refl h g
 
@@ -80,7 +84,8 @@ runs_good [] rs h g = tt
 runs_good ([] ∷ ss) rs h g = absurd h.2
 runs_good ((r ∷ s) ∷ ss) rs h g =
     let v : AllByRecursion IsGoodRow ((r ∷ s) ++ h.0) = subst (λ (ts : List Row). AllByRecursion IsGoodRow ts) h.1 g in
-    all_both IsBodyPart (run_parts (r ∷ s)) (flat_map run_parts ss) (run_good r s h.0 h.2 (all_left IsGoodRow (r ∷ s) h.0 v)) (runs_good ss h.0 h.3 (all_right IsGoodRow (r ∷ s) h.0 v))
+    all_both IsBodyPart (run_parts (r ∷ s)) (flat_map run_parts ss) (run_good r s h.0 h.2 (all_left IsGoodRow (r ∷ s) h.0 v))
+    (runs_good ss h.0 h.3 (all_right IsGoodRow (r ∷ s) h.0 v))
 
 pub body_rows : (xs : List Item) → AreTexts [] xs → AreOfPage xs → AllByRecursion IsGoodRow (rows xs)
 body_rows xs t p = rows_good 0 (full_lines xs) (page_lines (full_lines xs) xs (runs_are goes_on xs) t p)

@@ -38,7 +38,8 @@ line_is l = sym (map-append (part Text) (content l) (ending l)) ∙ ap (parts Te
 
 pub lines_are : (ls : List (List Item)) → flat_map line_parts ls ≡ parts Text (joined ls)
 lines_are [] = refl
-lines_are (l ∷ ls) = ap (λ ps. ps ++ flat_map line_parts ls) (line_is l) ∙ ap (λ ps. parts Text l ++ ps) (lines_are ls) ∙ sym (map-append (part Text) l (joined ls))
+lines_are (l ∷ ls) = ap (λ ps. ps ++ flat_map line_parts ls) (line_is l) ∙ ap (λ ps. parts Text l ++ ps) (lines_are ls)
+    ∙ sym (map-append (part Text) l (joined ls))
 
 inline_held : (b c : Bool) → c ≡ true → (b || c) ≡ true
 inline_held true c e = refl
@@ -55,7 +56,8 @@ unfolding para label_at spelling
 para_node ls h =
     let ps : List Part = flat_map line_parts ls in
     let ts : ItemTrees = forest (children ps) in
-    let w : AreWrittenParts 3 kind.Para [] ps = subst (AreWrittenParts 3 kind.Para []) (sym (lines_are ls)) (text_parts 3 kind.Para (omega arith) para_parent [] (joined ls) h.texts h.page) in
+    let w : AreWrittenParts 3 kind.Para [] ps = subst (AreWrittenParts 3 kind.Para []) (sym (lines_are ls))
+    (text_parts 3 kind.Para (omega arith) para_parent [] (joined ls) h.texts h.page) in
     let a : width (held_by_all ts ++ []) ≡ width (held_by_all ts) + 0 = wide_append (held_by_all ts) [] in
     record {
       element = λ at next. refl;
@@ -95,7 +97,8 @@ form_utf8 form.EmptyCall bs h = absurd h
 texts_utf8 : (run : List ℕ) (xs : List Item) → AreTexts run xs → AreOfPage xs → IsUtf8 (run ++ sources xs)
 texts_utf8 run [] t p = subst IsUtf8 (sym (append-nil run)) t
 texts_utf8 run (char o b ∷ xs) t p = subst IsUtf8 (append_assoc run (b ∷ []) (sources xs)) (texts_utf8 (run ++ b ∷ []) xs t p.1)
-texts_utf8 run (whole f o bs ∷ xs) t p = IsUtf8-append run (bs ++ sources xs) t.0 (IsUtf8-append bs (sources xs) (form_utf8 f bs p.0.1) (texts_utf8 [] xs t.1 p.1))
+texts_utf8 run (whole f o bs ∷ xs) t p = IsUtf8-append run (bs ++ sources xs) t.0
+    (IsUtf8-append bs (sources xs) (form_utf8 f bs p.0.1) (texts_utf8 [] xs t.1 p.1))
 
 -- where the delimiters of a heading end, and its level
 pub record IsHeadingLine (xs : List Item) : Type 0 where
@@ -129,7 +132,12 @@ heading_node xs l c =
           level = c.level;
           number = (some, omega arith);
           places = (omega arith, room, omega arith, omega arith);
-          source = record { own = refl; opening = texts_utf8 [] os q.0 (all_left IsPageItem os (is ++ cs) p); closing = texts_utf8 [] cs r.1 (all_right IsPageItem is cs v) };
+          source = record {
+            own = refl;
+            opening = texts_utf8 [] os q.0 (all_left IsPageItem os (is ++ cs) p);
+            closing =
+                texts_utf8 [] cs r.1 (all_right IsPageItem is cs v);
+          };
           shown = refl;
           attrs = refl;
           origin = refl;
@@ -161,8 +169,12 @@ white_low b e = grind (arith, nat_tests)
 
 body_written : (run : List ℕ) (ps : List Part) → is_white run ≡ true → IsUtf8 run → AllByRecursion IsBodyPart ps → AreWrittenParts 2 kind.Body run ps
 body_written run [] w u h = (u, w)
-body_written run (loose j o b ∷ ps) w u h =
-    (ap loose_kind h.0.0, h.0.1, body_written (run ++ b ∷ []) ps (white_on run b w h.0.2) (IsUtf8-append run (b ∷ []) u (ascii_then b [] (white_low b h.0.2) IsUtf8-nil)) h.1)
+body_written run (loose j o b ∷ ps) w u h = (
+  ap loose_kind h.0.0,
+  h.0.1,
+  body_written (run ++ b ∷ []) ps (white_on run b w h.0.2)
+      (IsUtf8-append run (b ∷ []) u (ascii_then b [] (white_low b h.0.2) IsUtf8-nil)) h.1,
+)
 body_written run (node t ∷ ps) w u h = ((u, w), h.0, body_written [] ps refl IsUtf8-nil h.1)
 
 pub body_parts_written : (ps : List Part) → AllByRecursion IsBodyPart ps → AreWrittenParts 2 kind.Body [] ps
@@ -172,12 +184,15 @@ pub between_parts : (xs : List Item) → AreOfPage xs → AllByRecursion IsBetwe
 between_parts [] p h = tt
 between_parts (char o b ∷ xs) p h = ((refl, p.0, h.0), between_parts xs p.1 h.1)
 between_parts (whole f o bs ∷ xs) p h =
-    let n : IsWrittenNode 2 kind.Body (whole_tree f o bs) = subst (λ x. IsWrittenNode 2 kind.Body (whole_tree f x bs)) (sym p.0.0) (mark_node 2 kind.Body f bs (omega arith) h.0 p.0.1) in
+    let n : IsWrittenNode 2 kind.Body (whole_tree f o bs) = subst (λ x. IsWrittenNode 2 kind.Body (whole_tree f x bs)) (sym p.0.0)
+    (mark_node 2 kind.Body f bs (omega arith) h.0 p.0.1) in
     (n, between_parts xs p.1 h.1)
 
 -- a block with what stands before and behind it
-pub around_parts : (k : BlockKind) (ls : List (List Item)) → AreBlockParts ls → IsWrittenNode 2 kind.Body (block k (without_ending (without_lead ls))) → AllByRecursion IsBodyPart (around k ls)
+pub around_parts : (k : BlockKind) (ls : List (List Item)) → AreBlockParts ls
+    → IsWrittenNode 2 kind.Body (block k (without_ending (without_lead ls))) → AllByRecursion IsBodyPart (around k ls)
 around_parts k ls h n =
     let rest : List (List Item) = without_lead ls in
-    all_both IsBodyPart (parts Sep (lead ls)) (node (block k (without_ending rest)) ∷ parts Sep (last_ending rest)) (between_parts (lead ls) h.before_page h.before)
+    all_both IsBodyPart (parts Sep (lead ls)) (node (block k (without_ending rest)) ∷ parts Sep (last_ending rest))
+    (between_parts (lead ls) h.before_page h.before)
     (n, between_parts (last_ending rest) h.behind_page (last_between rest))

@@ -27,11 +27,21 @@ use Rattle.wt_page_round_trip.specs.PageTree.{page_tree}
 -- an include tag in a heading
 include_tag : html_text (page_tree (codes "== </onlyinclude> ==\n\n"))
     ≡ codes "<!DOCTYPE html><html><head><meta charset=\"utf-8\"/></head><body data-parsoid='{\"dsr\":[0,22,0,0]}'><h2 id=\"mw1\" data-parsoid='{\"c\":\" ==\",\"dsr\":[0,20,3,3],\"o\":\"== \"}'><meta typeof=\"mw:Includes/OnlyInclude/End\" id=\"mw2\" data-parsoid='{\"dsr\":[3,17,14,0],\"src\":\"&lt;/onlyinclude&gt;\"}'/></h2>\n\n</body></html>"
-unfolding page_items words closed form_at comment_len comment_line_len raw_len opening_tag tag_after closing_tag with_inside is_extension include_at entity_at named_entity decimal_entity hex_entity entity_names sign_word annotated label_at meaning run_parts line_rows kind_of_signs children para heading block level opening inside closing inline_trees nowiki extension_typeof noinclude_typeof onlyinclude_typeof includeonly_typeof extension_data html_text frame_start frame_end start_tag void_tag end_tag attributes_of attribute attribute_name id_attribute mw_attribute sync_of sync_start sync_value sync_attribute spelling sync_text sync_members mw_text escape escape_double escape_single serde_json_on_literals digits lib.Utf8.encode
+unfolding page_items words closed form_at comment_len comment_line_len raw_len opening_tag tag_after closing_tag with_inside
+    is_extension include_at entity_at named_entity decimal_entity hex_entity entity_names sign_word annotated label_at meaning
+    run_parts line_rows kind_of_signs children para heading block level opening inside closing inline_trees nowiki
+    extension_typeof noinclude_typeof onlyinclude_typeof includeonly_typeof extension_data html_text frame_start frame_end
+    start_tag void_tag end_tag attributes_of attribute attribute_name id_attribute mw_attribute sync_of sync_start sync_value
+    sync_attribute spelling sync_text sync_members mw_text escape escape_double escape_single serde_json_on_literals digits lib.Utf8.encode
 include_tag = refl
 
 -- an extension, its name in capitals
 extension : html_text (page_tree (codes "<REF>y</Ref>a\n"))
     ≡ codes "<!DOCTYPE html><html><head><meta charset=\"utf-8\"/></head><body data-parsoid='{\"dsr\":[0,14,0,0]}'><p id=\"mw1\" data-parsoid='{\"dsr\":[0,13,0,0]}'><span typeof=\"mw:Extension/ref\" id=\"mw2\" data-mw='{\"body\":{\"extsrc\":\"y\"},\"name\":\"ref\"}' data-parsoid='{\"dsr\":[0,12,12,0],\"src\":\"&lt;REF&gt;y&lt;/Ref&gt;\"}'></span>a</p>\n</body></html>"
-unfolding page_items words closed form_at comment_len comment_line_len raw_len opening_tag tag_after closing_tag with_inside is_extension include_at entity_at named_entity decimal_entity hex_entity entity_names sign_word annotated label_at meaning run_parts line_rows kind_of_signs children para heading block level opening inside closing inline_trees nowiki extension_typeof noinclude_typeof onlyinclude_typeof includeonly_typeof extension_data html_text frame_start frame_end start_tag void_tag end_tag attributes_of attribute attribute_name id_attribute mw_attribute sync_of sync_start sync_value sync_attribute spelling sync_text sync_members mw_text escape escape_double escape_single serde_json_on_literals digits lib.Utf8.encode
+unfolding page_items words closed form_at comment_len comment_line_len raw_len opening_tag tag_after closing_tag with_inside
+    is_extension include_at entity_at named_entity decimal_entity hex_entity entity_names sign_word annotated label_at meaning
+    run_parts line_rows kind_of_signs children para heading block level opening inside closing inline_trees nowiki
+    extension_typeof noinclude_typeof onlyinclude_typeof includeonly_typeof extension_data html_text frame_start frame_end
+    start_tag void_tag end_tag attributes_of attribute attribute_name id_attribute mw_attribute sync_of sync_start sync_value
+    sync_attribute spelling sync_text sync_members mw_text escape escape_double escape_single serde_json_on_literals digits lib.Utf8.encode
 extension = refl

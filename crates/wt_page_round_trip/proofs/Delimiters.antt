@@ -59,7 +59,8 @@ pub record IsLevel (c : List ℕ) (l : ℕ) : Type 0 where
   pub apart : l + blank_len (drop l c) + l ≤ length c
 
 -- the blanks behind the open delimiter don't reach into the close delimiter
-stand_apart : (c : List ℕ) (l : ℕ) → l + l ≤ length c → ((i : ℕ) → length c - l ≤ i → i < length c → get_or c i 0 ≡ 61) → l + blank_len (drop l c) + l ≤ length c
+stand_apart : (c : List ℕ) (l : ℕ) → l + l ≤ length c → ((i : ℕ) → length c - l ≤ i → i < length c → get_or c i 0 ≡ 61)
+    → l + blank_len (drop l c) + l ≤ length c
 stand_apart c l two back = elim (cases_lt (length c) (l + blank_len (drop l c) + l)) [ inl h ↦ reaches h | inr h ↦ h ]
   where
     reaches : length c < l + blank_len (drop l c) + l → l + blank_len (drop l c) + l ≤ length c
@@ -105,7 +106,8 @@ mixed_level c s t lt =
       | inr h ↦ h
     ]
 
-pub level_is : (c : List ℕ) → 0 < length c → get_or c 0 0 ≡ 61 → get_or c (length c - 1) 0 ≡ 61 → (((i : ℕ) → i < length c → get_or c i 0 ≡ 61) → 3 ≤ length c) → IsLevel c (level_of c)
+pub level_is : (c : List ℕ) → 0 < length c → get_or c 0 0 ≡ 61 → get_or c (length c - 1) 0 ≡ 61
+    → (((i : ℕ) → i < length c → get_or c i 0 ≡ 61) → 3 ≤ length c) → IsLevel c (level_of c)
 level_is c some first last three = by_test (equals c == length c) refl
   where
     less : (m n : ℕ) → m ≤ n → (m == n) ≡ false → m < n
@@ -140,7 +142,8 @@ middle_len c h =
     let apart : level_of c + blank_len (drop (level_of c) c) + level_of c ≤ length c = h.apart in
     omega (arith, apart, length-take (length c - level_of c - open_len c) (drop (open_len c) c), length-drop (open_len c) c)
 
-pub close_sign : (c : List ℕ) → IsLevel c (level_of c) → (open_len c + trimmed_len (middle c) < length c) × (get_or c (open_len c + trimmed_len (middle c)) 0 < 128)
+pub close_sign : (c : List ℕ) → IsLevel c (level_of c) → (open_len c + trimmed_len (middle c) < length c)
+    × (get_or c (open_len c + trimmed_len (middle c)) 0 < 128)
 close_sign c h =
     let l : ℕ = level_of c in
     let some : 1 ≤ l = h.some in
@@ -171,5 +174,6 @@ close_sign c h =
         let z : length (middle c) - 1 - i ≡ trimmed_len (middle c) = omega arith in
         let t : get_or (middle c) (trimmed_len (middle c)) 0 ≡ get_or (drop (open_len c) c) (trimmed_len (middle c)) 0 =
         get_or-take (length c - level_of c - open_len c) (drop (open_len c) c) (trimmed_len (middle c)) 0 (omega arith) in
-        let d : get_or (drop (open_len c) c) (trimmed_len (middle c)) 0 ≡ get_or c (open_len c + trimmed_len (middle c)) 0 = get_or-drop (open_len c) c (trimmed_len (middle c)) 0 in
+        let d : get_or (drop (open_len c) c) (trimmed_len (middle c)) 0 ≡ get_or c (open_len c + trimmed_len (middle c)) 0 =
+        get_or-drop (open_len c) c (trimmed_len (middle c)) 0 in
         blank_low (get_or c (open_len c + trimmed_len (middle c)) 0) (ap is_blank (sym (q ∙ ap (λ j. get_or (middle c) j 0) z ∙ t ∙ d)) ∙ p)

@@ -81,13 +81,16 @@ entity_scalar : (bs : List ℕ) → OptScalar (entity_at bs)
 unfolding entity_at named_entity decimal_entity hex_entity
 entity_scalar bs =
     or_scalar (named_in entity_names bs) _ (named_scalar entity_names bs names_scalar)
-    (or_scalar (if begins (codes "&#") bs then numbered_entity 2 7 10 is_ascii_digit bs else None) (if begins (codes "&#x") bs || begins (codes "&#X") bs then numbered_entity 3 6 16 is_ascii_hexdigit bs else None)
-    (if_scalar (begins (codes "&#") bs) _ (numbered_scalar 2 7 10 is_ascii_digit bs)) (if_scalar (begins (codes "&#x") bs || begins (codes "&#X") bs) _ (numbered_scalar 3 6 16 is_ascii_hexdigit bs)))
+    (or_scalar (if begins (codes "&#") bs then numbered_entity 2 7 10 is_ascii_digit bs else None)
+    (if begins (codes "&#x") bs || begins (codes "&#X") bs then numbered_entity 3 6 16 is_ascii_hexdigit bs else None)
+    (if_scalar (begins (codes "&#") bs) _ (numbered_scalar 2 7 10 is_ascii_digit bs))
+    (if_scalar (begins (codes "&#x") bs || begins (codes "&#X") bs) _ (numbered_scalar 3 6 16 is_ascii_hexdigit bs)))
 
 entity_utf8 : (c : ℕ) (bs : List ℕ) → IsWhole (form.Entity c) bs → IsUtf8 (encode_utf8 c)
 entity_utf8 c bs h = let s : scalar c ≡ true = subst OptScalar h (entity_scalar bs) in IsUtf8-encode c s
 
-pub entity_node : (k : ℕ) (parent : Kind) (c : ℕ) (bs : List ℕ) → k < 200 → may_hold parent kind.Entity ≡ true → IsPageForm (form.Entity c) bs → IsWrittenNode k parent (form_leaf (form.Entity c) None bs)
+pub entity_node : (k : ℕ) (parent : Kind) (c : ℕ) (bs : List ℕ) → k < 200 → may_hold parent kind.Entity ≡ true
+    → IsPageForm (form.Entity c) bs → IsWrittenNode k parent (form_leaf (form.Entity c) None bs)
 unfolding label_at spelling
 entity_node k parent c bs small e h = record {
   element = λ at next. refl;
@@ -166,7 +169,15 @@ include_node k parent bs small h = record {
       places = (omega arith, room, omega arith, omega arith);
       source = record { own = subst IsUtf8 (sym (append-nil bs)) h; opening = refl; closing = refl };
       shown = refl;
-      attrs = inl (include_typeof (opening_tag bs) (closing_tag bs), [], refl, include_passes (opening_tag bs) (closing_tag bs), refl, include_utf8 (include_typeof (opening_tag bs) (closing_tag bs)) (include_passes (opening_tag bs) (closing_tag bs)), refl);
+      attrs = inl (
+        include_typeof (opening_tag bs) (closing_tag bs),
+        [],
+        refl,
+        include_passes (opening_tag bs) (closing_tag bs),
+        refl,
+        include_utf8 (include_typeof (opening_tag bs) (closing_tag bs)) (include_passes (opening_tag bs) (closing_tag bs)),
+        refl,
+      );
       origin = refl;
       mark = refl;
       mw = refl;
@@ -204,7 +215,8 @@ hidden_node k parent bs small h = record {
 }
 
 -- a mark may stand in any node
-pub mark_node : (k : ℕ) (parent : Kind) (f : Form) (bs : List ℕ) → k < 200 → is_mark_form f ≡ true → IsPageForm f bs → IsWrittenNode k parent (whole_tree f None bs)
+pub mark_node : (k : ℕ) (parent : Kind) (f : Form) (bs : List ℕ) → k < 200 → is_mark_form f ≡ true → IsPageForm f bs
+    → IsWrittenNode k parent (whole_tree f None bs)
 mark_node k parent form.Chars bs small m h = absurd h
 mark_node k parent (form.Entity c) bs small m h = absurd cc
 mark_node k parent form.Nowiki bs small m h = absurd cc
@@ -242,13 +254,16 @@ before_sign : (name bs : List ℕ) → before_closing name bs < length bs → ge
 before_sign name [] h = absurd (omega arith)
 before_sign name (b ∷ bs) h = by_test (is_some (len_if_named name (closing_tag (b ∷ bs)))) refl (before_sign name bs) h
   where
-    by_test : (t : Bool) → is_some (len_if_named name (closing_tag (b ∷ bs))) ≡ t → (before_closing name bs < length bs → get_or bs (before_closing name bs) 0 ≡ 60)
+    by_test : (t : Bool) → is_some (len_if_named name (closing_tag (b ∷ bs))) ≡ t
+        → (before_closing name bs < length bs → get_or bs (before_closing name bs) 0 ≡ 60)
         → (if t then 0 else 1 + before_closing name bs) < suc (length bs) → get_or (b ∷ bs) (if t then 0 else 1 + before_closing name bs) 0 ≡ 60
     by_test true e more h = closing_sign name (b ∷ bs) e
-    by_test false e more h = let z : 1 + before_closing name bs ≡ suc (before_closing name bs) = omega arith in ap (λ n. get_or (b ∷ bs) n 0) z ∙ more (omega arith)
+    by_test false e more h = let z : 1 + before_closing name bs ≡ suc (before_closing name bs) = omega arith in
+        ap (λ n. get_or (b ∷ bs) n 0) z ∙ more (omega arith)
 
 inside_place : (bs : List ℕ) → IsCharBoundary (behind bs) (inside_len bs)
-inside_place bs = sign_border (behind bs) (inside_len bs) (before_le (name_of (opening_tag bs)) (behind bs)) (before_sign (name_of (opening_tag bs)) (behind bs))
+inside_place bs = sign_border (behind bs) (inside_len bs) (before_le (name_of (opening_tag bs)) (behind bs))
+    (before_sign (name_of (opening_tag bs)) (behind bs))
 
 pub inside_utf8 : (bs : List ℕ) → IsUtf8 bs → IsUtf8 (inside_of bs)
 inside_utf8 bs u = IsUtf8-take (behind bs) (inside_len bs) (behind_utf8 bs u) (inside_place bs)
@@ -278,9 +293,13 @@ body_utf8 false bs u = u
 
 extension_has : (bs : List ℕ) → is_extension (name_of (opening_tag bs)) ≡ true → IsUtf8 bs → IsExtension (Some (extension_data bs))
 unfolding extension_data
-extension_has bs h u = (IsUtf8-are_ascii (name_of (opening_tag bs)) (extension_ascii (name_of (opening_tag bs)) h), body_utf8 (is_alone (opening_tag bs)) (inside_of bs) (inside_utf8 bs u))
+extension_has bs h u = (
+  IsUtf8-are_ascii (name_of (opening_tag bs)) (extension_ascii (name_of (opening_tag bs)) h),
+  body_utf8 (is_alone (opening_tag bs)) (inside_of bs) (inside_utf8 bs u),
+)
 
-pub extension_node : (k : ℕ) (parent : Kind) (bs : List ℕ) → k < 200 → may_hold parent kind.Island ≡ true → IsPageForm form.Extension bs → IsWrittenNode k parent (form_leaf form.Extension None bs)
+pub extension_node : (k : ℕ) (parent : Kind) (bs : List ℕ) → k < 200 → may_hold parent kind.Island ≡ true
+    → IsPageForm form.Extension bs → IsWrittenNode k parent (form_leaf form.Extension None bs)
 unfolding label_at spelling
 extension_node k parent bs small e h =
     let n : is_extension (name_of (opening_tag bs)) ≡ true = named_tag is_extension bs h.0 in
@@ -295,7 +314,15 @@ extension_node k parent bs small e h =
           places = (omega arith, room, omega arith, omega arith);
           source = record { own = subst IsUtf8 (sym (append-nil bs)) h.1; opening = refl; closing = refl };
           shown = refl;
-          attrs = inl (extension_typeof (name_of (opening_tag bs)), [], refl, island_passes (extension_typeof (name_of (opening_tag bs))) (extension_passes (name_of (opening_tag bs)) n), refl, extension_utf8 (extension_typeof (name_of (opening_tag bs))) (extension_passes (name_of (opening_tag bs)) n), refl);
+          attrs = inl (
+            extension_typeof (name_of (opening_tag bs)),
+            [],
+            refl,
+            island_passes (extension_typeof (name_of (opening_tag bs))) (extension_passes (name_of (opening_tag bs)) n),
+            refl,
+            extension_utf8 (extension_typeof (name_of (opening_tag bs))) (extension_passes (name_of (opening_tag bs)) n),
+            refl,
+          );
           origin = refl;
           mark = refl;
           mw = subst (λ (b : Bool). HasData b (Some (extension_data bs))) (sym (extension_passes (name_of (opening_tag bs)) n)) (extension_has bs n h.1);

@@ -54,7 +54,8 @@ signs_len (x ∷ xs) = ap suc (signs_len xs)
 
 -- ---- the kind of the line
 
-heading_test : (b c d e : Bool) → unwrap_or (first_of ((b, line.Heading) ∷ (c, line.Rule) ∷ (d, line.List) ∷ (e, line.Pre) ∷ [])) line.Text ≡ line.Heading → b ≡ true
+heading_test : (b c d e : Bool) → unwrap_or (first_of ((b, line.Heading) ∷ (c, line.Rule) ∷ (d, line.List) ∷ (e, line.Pre) ∷ []))
+    line.Text ≡ line.Heading → b ≡ true
 heading_test true c d e h = refl
 heading_test false true d e h = absurd cc
 heading_test false false true e h = absurd cc
@@ -74,12 +75,14 @@ heading_signs tables ss h = by_test (length (past is_idle ss) == 0) (begins (cod
     last : List ℕ
     last = past is_idle (reverse ss)
 
-    by_test : (t o : Bool) → unwrap_or (first_of ((t, line.Blank) ∷ (o, open_kind tables) ∷ ((if nat_lt 0 tables then table_rows s else []) ++ text_rows first last))) line.Text ≡ line.Heading → is_heading first last ≡ true
+    by_test : (t o : Bool) → unwrap_or (first_of ((t, line.Blank) ∷ (o, open_kind tables)
+        ∷ ((if nat_lt 0 tables then table_rows s else []) ++ text_rows first last))) line.Text ≡ line.Heading → is_heading first last ≡ true
     by_test true o e = absurd cc
     by_test false true e = absurd (opens line.Heading (nat_lt tables 16) (λ x. cc) (λ x. cc) e)
     by_test false false e =
         heading_test (is_heading first last) (begins (codes "----") first) (is_list first) (begins (codes " ") first)
-        (past_table line.Heading (nat_lt 0 tables) (begins (codes "|}") s) (begins (codes "|+") s) (begins (codes "|-") s) (begins (codes "|") s) (begins (codes "!") s) (text_rows first last) (λ x. cc) (λ x. cc) (λ x. cc) (λ x. cc) (λ x. cc) e)
+        (past_table line.Heading (nat_lt 0 tables) (begins (codes "|}") s) (begins (codes "|+") s) (begins (codes "|-") s)
+        (begins (codes "|") s) (begins (codes "!") s) (text_rows first last) (λ x. cc) (λ x. cc) (λ x. cc) (λ x. cc) (λ x. cc) e)
 
 -- ---- the marks before the first visible item
 
@@ -98,14 +101,16 @@ mark_is_none : (x : Item) → is_mark x ≡ true → is_break_item x ≡ false
 mark_is_none (char o b) e = absurd cc
 mark_is_none (whole f o bs) e = refl
 
-past_front : (x : Item) (ss : List ℕ) (b : Bool) → IsSmallItem x → is_mark x ≡ b → past is_mark_sign (sign x ∷ ss) ≡ (if b then past is_mark_sign ss else sign x ∷ ss)
+past_front : (x : Item) (ss : List ℕ) (b : Bool) → IsSmallItem x → is_mark x ≡ b
+    → past is_mark_sign (sign x ∷ ss) ≡ (if b then past is_mark_sign ss else sign x ∷ ss)
 past_front x ss b h e = ap (λ t. if t then past is_mark_sign ss else sign x ∷ ss) (small_sign x h ∙ e)
 
 past_lead : (l : List Item) → AllByRecursion IsSmallItem l → past is_mark_sign (map sign (content l)) ≡ map sign (content (drop (lead_len l) l))
 past_lead [] h = refl
 past_lead (x ∷ []) h = by_test (is_mark x) refl
   where
-    by_mark : (t : Bool) → is_break_item x ≡ t → is_mark x ≡ false → past is_mark_sign (map sign (if t then [] else x ∷ [])) ≡ map sign (if t then [] else x ∷ [])
+    by_mark : (t : Bool) → is_break_item x ≡ t → is_mark x ≡ false → past is_mark_sign (map sign (if t then [] else x ∷ []))
+        ≡ map sign (if t then [] else x ∷ [])
     by_mark true f e = refl
     by_mark false f e = past_front x [] false h.0 e
 
@@ -157,15 +162,18 @@ not_either false true h = absurd cc
 not_either false false h = (refl, refl)
 
 -- signs before the line, which are marks, don't change its end
-last_sign : (ss ms : List ℕ) → begins (codes "=") (past is_idle (reverse ss ++ ms)) ≡ true → prefix_len is_idle (reverse ss) < length ss → get_or (reverse ss) (prefix_len is_idle (reverse ss)) 0 ≡ 61
+last_sign : (ss ms : List ℕ) → begins (codes "=") (past is_idle (reverse ss ++ ms)) ≡ true
+    → prefix_len is_idle (reverse ss) < length ss → get_or (reverse ss) (prefix_len is_idle (reverse ss)) 0 ≡ 61
 last_sign ss ms h l =
     let rs : List ℕ = reverse ss in
     let j : ℕ = prefix_len is_idle rs in
     let n : length rs ≡ length ss = length-reverse ss in
     let p : prefix_len is_idle (rs ++ ms) ≡ j = prefix_len-append is_idle rs ms ∙ if_false (j == length rs) _ _ (differ j (length rs) (omega (arith, n))) in
-    let q : begins (codes "=") (drop j (rs ++ ms)) ≡ true = ap (λ k. begins (codes "=") (drop k (rs ++ ms))) (sym p) ∙ ap (begins (codes "=")) (sym (past_drop is_idle (rs ++ ms))) ∙ h in
+    let q : begins (codes "=") (drop j (rs ++ ms)) ≡ true = ap (λ k. begins (codes "=") (drop k (rs ++ ms))) (sym p)
+    ∙ ap (begins (codes "=")) (sym (past_drop is_idle (rs ++ ms))) ∙ h in
     let z : j + 0 ≡ j = omega arith in
-    sym (get_or_append_left rs ms 0 j (omega (arith, n))) ∙ ap (λ k. get_or (rs ++ ms) k 0) (sym z) ∙ sym (get_or-drop j (rs ++ ms) 0 0) ∙ begins_get (codes "=") (drop j (rs ++ ms)) q 0 (omega arith)
+    sym (get_or_append_left rs ms 0 j (omega (arith, n))) ∙ ap (λ k. get_or (rs ++ ms) k 0) (sym z)
+    ∙ sym (get_or-drop j (rs ++ ms) 0 0) ∙ begins_get (codes "=") (drop j (rs ++ ms)) q 0 (omega arith)
   where
     differ : (m n : ℕ) → m < n → (m == n) ≡ false
     differ m n h = grind (arith, nat_tests)
@@ -231,7 +239,9 @@ signs_level ss h =
     let a : get_or (reverse ss) i 0 ≡ get_or ss (length ss - 1 - i) 0 = get_or-reverse ss i 0 l in
     let last : get_or c (length c - 1) 0 ≡ 61 = core_at ss (length c - 1) (omega arith) ∙ ap (λ k. get_or ss k 0) (sym z) ∙ sym a ∙ h.last l in
     let idle : is_idle_all (drop (length c) ss) ≡ true = idle_behind ss (length c) n in
-    level_is c (omega arith) (core_at ss 0 (omega arith) ∙ e) last (λ all. at_least_three (length c) (omega arith) (one idle) (λ f. two idle f (sym (core_at ss 1 (omega (arith, f))) ∙ all 1 (omega (arith, f)))))
+    level_is c (omega arith) (core_at ss 0 (omega arith) ∙ e) last
+    (λ all. at_least_three (length c) (omega arith) (one idle)
+    (λ f. two idle f (sym (core_at ss 1 (omega (arith, f))) ∙ all 1 (omega (arith, f)))))
   where
     one : is_idle_all (drop (length (core ss)) ss) ≡ true → length (core ss) ≡ 1 → ⊥
     one idle f = true≢false (sym (ap₂ (λ x y. x && y) h.first (ap (λ n. is_idle_all (drop n ss)) (sym f) ∙ idle)) ∙ h.one)

@@ -33,7 +33,8 @@ encode_small c h =
     let m : c < 1114112 = scalar_small c h in
     if_case AreSmall (nat_lt c 128) _ _ (λ e. let l : c < 128 = ltb-true c 128 e in (omega arith, tt)) (λ _.
     if_case AreSmall (nat_lt c 2048) _ _ (λ e. let l : c < 2048 = ltb-true c 2048 e in (omega arith, (omega arith, tt))) (λ _.
-    if_case AreSmall (nat_lt c 65536) _ _ (λ e. let l : c < 65536 = ltb-true c 65536 e in (omega arith, (omega arith, (omega arith, tt)))) (λ _. (omega arith, (omega arith, (omega arith, (omega arith, tt)))))))
+    if_case AreSmall (nat_lt c 65536) _ _ (λ e. let l : c < 65536 = ltb-true c 65536 e in
+    (omega arith, (omega arith, (omega arith, tt)))) (λ _. (omega arith, (omega arith, (omega arith, (omega arith, tt)))))))
 
 all_small : (cs : List ℕ) → scalars cs ≡ true → AreSmall (encodes cs)
 all_small [] h = tt
@@ -73,7 +74,8 @@ abbrev pub in_table : (v a b c d e : Bool) → List (Bool × LineKind)
 in_table v a b c d e = if v then (a, line.TableEnd) ∷ (b, line.Caption) ∷ (c, line.Row) ∷ (d, line.Cell) ∷ (e, line.Header) ∷ [] else []
 
 -- a kind that is none of these is given by no row of a table's line
-pub past_table : (k : LineKind) (v a b c d e : Bool) (rs : List (Bool × LineKind)) → (k ≡ line.TableEnd → ⊥) → (k ≡ line.Caption → ⊥) → (k ≡ line.Row → ⊥) → (k ≡ line.Cell → ⊥) → (k ≡ line.Header → ⊥)
+pub past_table : (k : LineKind) (v a b c d e : Bool) (rs : List (Bool × LineKind)) → (k ≡ line.TableEnd → ⊥)
+    → (k ≡ line.Caption → ⊥) → (k ≡ line.Row → ⊥) → (k ≡ line.Cell → ⊥) → (k ≡ line.Header → ⊥)
     → unwrap_or (first_of (in_table v a b c d e ++ rs)) line.Text ≡ k → unwrap_or (first_of rs) line.Text ≡ k
 past_table k false a b c d e rs f g h i j is = is
 past_table k true true b c d e rs f g h i j is = absurd (f (sym is))
@@ -105,11 +107,13 @@ blank_signs tables ss h = by_test (length (past is_idle ss) == 0) (begins (codes
     rest : List (Bool × LineKind)
     rest = text_rows (past is_mark_sign ss) (past is_idle (reverse ss))
 
-    by_test : (t o : Bool) → unwrap_or (first_of ((t, line.Blank) ∷ (o, open_kind tables) ∷ ((if nat_lt 0 tables then table_rows s else []) ++ rest))) line.Text ≡ line.Blank → t ≡ true
+    by_test : (t o : Bool) → unwrap_or (first_of ((t, line.Blank) ∷ (o, open_kind tables)
+        ∷ ((if nat_lt 0 tables then table_rows s else []) ++ rest))) line.Text ≡ line.Blank → t ≡ true
     by_test true o e = refl
     by_test false true e = absurd (opens line.Blank (nat_lt tables 16) (λ x. cc) (λ x. cc) e)
     by_test false false e =
-        absurd (not_blank _ _ _ _ (past_table line.Blank (nat_lt 0 tables) (begins (codes "|}") s) (begins (codes "|+") s) (begins (codes "|-") s) (begins (codes "|") s) (begins (codes "!") s) rest (λ x. cc) (λ x. cc) (λ x. cc) (λ x. cc) (λ x. cc) e))
+        absurd (not_blank _ _ _ _ (past_table line.Blank (nat_lt 0 tables) (begins (codes "|}") s) (begins (codes "|+") s)
+        (begins (codes "|-") s) (begins (codes "|") s) (begins (codes "!") s) rest (λ x. cc) (λ x. cc) (λ x. cc) (λ x. cc) (λ x. cc) e))
 
 idle_char : (b : ℕ) → b < 256 → is_idle b ≡ true → is_white_byte b ≡ true
 idle_char b l e = grind (arith, nat_tests)
@@ -132,7 +136,11 @@ idle_items (x ∷ xs) l e = by_test (is_idle (sign x)) refl e (λ f. idle_items 
     by_test false f g more = absurd (let z : suc (length (map sign xs)) ≡ 0 = eqb-true (suc (length (map sign xs))) 0 g in omega (arith, z))
 
 -- a line that makes no block
-pub blank_line : (tables : ℕ) (l : List Item) → AllByRecursion IsSmallItem l → kind_of_signs tables (map sign (content l)) ≡ line.Blank → AllByRecursion IsBetween l
+pub blank_line : (tables : ℕ) (l : List Item) → AllByRecursion IsSmallItem l → kind_of_signs tables (map sign (content l))
+    ≡ line.Blank → AllByRecursion IsBetween l
 blank_line tables l s e =
-    let small : AllByRecursion IsSmallItem (content l) = all_left IsSmallItem (content l) (ending l) (subst (λ xs. AllByRecursion IsSmallItem xs) (sym (content_ending l)) s) in
-    subst (λ xs. AllByRecursion IsBetween xs) (content_ending l) (all_both IsBetween (content l) (ending l) (idle_items (content l) small (blank_signs tables (map sign (content l)) e)) (ending_between l))
+    let small : AllByRecursion IsSmallItem (content l) =
+    all_left IsSmallItem (content l) (ending l) (subst (λ xs. AllByRecursion IsSmallItem xs) (sym (content_ending l)) s) in
+    subst (λ xs. AllByRecursion IsBetween xs) (content_ending l)
+    (all_both IsBetween (content l) (ending l) (idle_items (content l) small (blank_signs tables (map sign (content l)) e))
+    (ending_between l))

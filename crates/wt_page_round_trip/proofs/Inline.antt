@@ -67,13 +67,15 @@ inside_first k small (Some (c, suc m)) run b bs e u more =
       more m [] (IsUtf8-drop (b ∷ bs) (suc m) q.1 (entity_border (b ∷ bs) c (suc m) q.1 e)),
     )
 
-inside_parts : (k : ℕ) → k < 200 → (n : ℕ) (run bs : List ℕ) → IsUtf8 (run ++ drop n bs) → AreWrittenParts k kind.Nowiki run (map inside_part (inside_items None n bs))
+inside_parts : (k : ℕ) → k < 200 → (n : ℕ) (run bs : List ℕ) → IsUtf8 (run ++ drop n bs)
+    → AreWrittenParts k kind.Nowiki run (map inside_part (inside_items None n bs))
 inside_parts k small zero run [] u = text_run kind.Nowiki run refl (subst IsUtf8 (append-nil run) u)
 inside_parts k small (suc n) run [] u = text_run kind.Nowiki run refl (subst IsUtf8 (append-nil run) u)
 inside_parts k small (suc n) run (b ∷ bs) u = inside_parts k small n run bs u
 inside_parts k small zero run (b ∷ bs) u = inside_first k small (entity_at (b ∷ bs)) run b bs refl u (λ n r v. inside_parts k small n r bs v)
 
-nowiki_node : (k : ℕ) (parent : Kind) (bs : List ℕ) → k < 100 → may_hold parent kind.Nowiki ≡ true → IsPageForm form.Nowiki bs → IsWrittenNode k parent (nowiki None bs)
+nowiki_node : (k : ℕ) (parent : Kind) (bs : List ℕ) → k < 100 → may_hold parent kind.Nowiki ≡ true → IsPageForm form.Nowiki bs
+    → IsWrittenNode k parent (nowiki None bs)
 unfolding label_at nowiki spelling
 nowiki_node k parent bs small e h =
     let ps : List Part = map inside_part (inside_items None 0 (inside_of bs)) in
@@ -82,7 +84,8 @@ nowiki_node k parent bs small e h =
     let ys : List Item = map (char None) (closing_of bs) in
     let a : width (xs ++ (held_by_all ts ++ ys)) ≡ width xs + width (held_by_all ts ++ ys) = wide_append xs (held_by_all ts ++ ys) in
     let c : width (held_by_all ts ++ ys) ≡ width (held_by_all ts) + width ys = wide_append (held_by_all ts) ys in
-    let w : AreWrittenParts (suc k) kind.Nowiki [] ps = inside_parts (suc k) (omega arith) 0 [] (inside_of bs) (subst IsUtf8 (sym (drop_none (inside_of bs))) (inside_utf8 bs h.1)) in
+    let w : AreWrittenParts (suc k) kind.Nowiki [] ps = inside_parts (suc k) (omega arith) 0 [] (inside_of bs)
+    (subst IsUtf8 (sym (drop_none (inside_of bs))) (inside_utf8 bs h.1)) in
     record {
       element = λ at next. refl;
       written = λ at next room some few. (
@@ -115,7 +118,8 @@ pub record IsInlineParent (parent : Kind) : Type 0 where
   pub text : holds_text parent ≡ true
   pub elements : (k : Kind) → admits Inlines (shape k).class ≡ true → may_hold parent k ≡ true
 
-pub form_node : (k : ℕ) (parent : Kind) (f : Form) (bs : List ℕ) → k < 100 → IsInlineParent parent → IsPageForm f bs → IsWrittenNode k parent (whole_tree f None bs)
+pub form_node : (k : ℕ) (parent : Kind) (f : Form) (bs : List ℕ) → k < 100 → IsInlineParent parent → IsPageForm f bs
+    → IsWrittenNode k parent (whole_tree f None bs)
 form_node k parent form.Chars bs small p h = absurd h
 form_node k parent (form.Entity c) bs small p h = entity_node k parent c bs (omega arith) (p.elements kind.Entity refl) h
 form_node k parent form.Nowiki bs small p h = nowiki_node k parent bs small (p.elements kind.Nowiki refl) h
@@ -126,9 +130,11 @@ form_node k parent form.Include bs small p h = mark_node k parent form.Include b
 form_node k parent form.Hidden bs small p h = mark_node k parent form.Hidden bs (omega arith) refl h
 form_node k parent form.EmptyCall bs small p h = absurd h
 
-pub text_parts : (k : ℕ) (parent : Kind) → k < 100 → IsInlineParent parent → (run : List ℕ) (xs : List Item) → AreTexts run xs → AreOfPage xs → AreWrittenParts k parent run (parts Text xs)
+pub text_parts : (k : ℕ) (parent : Kind) → k < 100 → IsInlineParent parent → (run : List ℕ) (xs : List Item) → AreTexts run xs
+    → AreOfPage xs → AreWrittenParts k parent run (parts Text xs)
 text_parts k parent small p run [] t h = text_run parent run p.text t
 text_parts k parent small p run (char o b ∷ xs) t h = (text_kind parent p.text, h.0, text_parts k parent small p (run ++ b ∷ []) xs t h.1)
 text_parts k parent small p run (whole f o bs ∷ xs) t h =
-    let n : IsWrittenNode k parent (whole_tree f o bs) = subst (λ x. IsWrittenNode k parent (whole_tree f x bs)) (sym h.0.0) (form_node k parent f bs small p h.0.1) in
+    let n : IsWrittenNode k parent (whole_tree f o bs) = subst (λ x. IsWrittenNode k parent (whole_tree f x bs)) (sym h.0.0)
+    (form_node k parent f bs small p h.0.1) in
     (text_run parent run p.text t.0, n, text_parts k parent small p [] xs t.1 h.1)

@@ -49,7 +49,8 @@ chars_of_page : (bs : List ℕ) (ys : List Item) → AreOfPage ys → AreOfPage 
 chars_of_page [] ys h = h
 chars_of_page (b ∷ bs) ys h = (refl, chars_of_page bs ys h)
 
-texts_by : (f : Form) (run bs : List ℕ) (ys : List Item) → (is_chars f ≡ true → AreTexts (run ++ bs) ys) → (is_chars f ≡ false → IsUtf8 run × AreTexts [] ys) → AreTexts run (items_by f None bs ++ ys)
+texts_by : (f : Form) (run bs : List ℕ) (ys : List Item) → (is_chars f ≡ true → AreTexts (run ++ bs) ys)
+    → (is_chars f ≡ false → IsUtf8 run × AreTexts [] ys) → AreTexts run (items_by f None bs ++ ys)
 texts_by form.Chars run bs ys g h = texts_chars None run bs ys (g refl)
 texts_by (form.Entity c) run bs ys g h = h refl
 texts_by form.Nowiki run bs ys g h = h refl
@@ -96,7 +97,8 @@ page_form lex.Equals bs e w u = absurd cc
 
 -- ---- a word
 
-word_fits : (after : Bool) (kind : LexKind) (n : ℕ) (bs own : List ℕ) → is_chars (form_of kind own) ≡ false → Stands Page after kind n bs → FormFits after bs (kind, n)
+word_fits : (after : Bool) (kind : LexKind) (n : ℕ) (bs own : List ℕ) → is_chars (form_of kind own) ≡ false
+    → Stands Page after kind n bs → FormFits after bs (kind, n)
 word_fits after lex.Chars n bs own e s = absurd cc
 word_fits after lex.CommentLine n bs own e s = form_fits Page after bs _ s
 word_fits after lex.Comment n bs own e s = form_fits Page after bs _ s

@@ -114,8 +114,10 @@ taken_marks : (l : List Item) → AllByRecursion IsMark (take (prefix_len is_mar
 taken_marks [] = tt
 taken_marks (x ∷ xs) = by_test (is_mark x) refl (taken_marks xs)
   where
-    by_test : (b : Bool) → is_mark x ≡ b → AllByRecursion IsMark (take (prefix_len is_mark xs) xs) → AllByRecursion IsMark (take (if b then 1 + prefix_len is_mark xs else 0) (x ∷ xs))
-    by_test true e h = let z : 1 + prefix_len is_mark xs ≡ suc (prefix_len is_mark xs) = omega arith in subst (λ n. AllByRecursion IsMark (take n (x ∷ xs))) (sym z) (e, h)
+    by_test : (b : Bool) → is_mark x ≡ b → AllByRecursion IsMark (take (prefix_len is_mark xs) xs)
+        → AllByRecursion IsMark (take (if b then 1 + prefix_len is_mark xs else 0) (x ∷ xs))
+    by_test true e h = let z : 1 + prefix_len is_mark xs ≡ suc (prefix_len is_mark xs) = omega arith in
+        subst (λ n. AllByRecursion IsMark (take n (x ∷ xs))) (sym z) (e, h)
     by_test false e h = tt
 
 lead_marks : (ls : List (List Item)) → AllByRecursion IsMark (lead ls)
@@ -190,8 +192,10 @@ block_parts ls h =
     let rest : List (List Item) = without_lead ls in
     let a : AreTexts [] (lead ls ++ joined rest) = subst (AreTexts []) (sym (lead_joined ls)) h.texts in
     let p : AreOfPage (lead ls ++ joined rest) = subst AreOfPage (sym (lead_joined ls)) h.page in
-    let b : AreTexts [] (joined (without_ending rest) ++ last_ending rest) = subst (AreTexts []) (sym (end_joined rest)) (cut_after (lead ls) (joined rest) (marks_low (lead ls) (lead_marks ls)) a).1 in
-    let q : AreOfPage (joined (without_ending rest) ++ last_ending rest) = subst AreOfPage (sym (end_joined rest)) (all_right IsPageItem (lead ls) (joined rest) p) in
+    let b : AreTexts [] (joined (without_ending rest) ++ last_ending rest) =
+    subst (AreTexts []) (sym (end_joined rest)) (cut_after (lead ls) (joined rest) (marks_low (lead ls) (lead_marks ls)) a).1 in
+    let q : AreOfPage (joined (without_ending rest) ++ last_ending rest) =
+    subst AreOfPage (sym (end_joined rest)) (all_right IsPageItem (lead ls) (joined rest) p) in
     record {
       before = marks_between (lead ls) (lead_marks ls);
       before_page = all_left IsPageItem (lead ls) (joined rest) p;

@@ -61,10 +61,12 @@ written_at page u room =
 pub page_written : (page : List ℕ) → IsUtf8 page → length page < 2 ^ 31 → IsWritten (annotated (meaning (page_items page)))
 page_written page u room = subst IsWritten (sym (annotated_is (meaning (page_items page)))) (written_at page u room)
 
-pub page_is_read : (page : List ℕ) → IsUtf8 page → length page < 2 ^ 31 → read (html_text (annotated (meaning (page_items page)))) ≡ read_page (unranged (annotated (meaning (page_items page)))) None
+pub page_is_read : (page : List ℕ) → IsUtf8 page → length page < 2 ^ 31 → read (html_text (annotated (meaning (page_items page))))
+    ≡ read_page (unranged (annotated (meaning (page_items page)))) None
 page_is_read page u room = written_read (annotated (meaning (page_items page))) (page_written page u room)
 
 -- ---- its source
 
 pub same_page : (page : List ℕ) → flat (unranged (annotated (meaning (page_items page)))) ≡ page
-same_page page = same_source (annotated (meaning (page_items page))) ∙ flat_annotated (meaning (page_items page)) ∙ sources_meaning (page_items page) ∙ page_sources page
+same_page page = same_source (annotated (meaning (page_items page))) ∙ flat_annotated (meaning (page_items page))
+    ∙ sources_meaning (page_items page) ∙ page_sources page

@@ -128,7 +128,8 @@ same_kind Sep Text q e f = cc
 same_kind Sep Sep q e f = refl
 
 -- two neighbours of one node are one leaf
-one_kind : (parent : Kind) (j i : Loose) (o p : Option ℕ) (b c : ℕ) → loose_kind j ≡ leaf_kind parent → loose_kind i ≡ leaf_kind parent → o ≡ None → p ≡ None → one_leaf (loose j o b) (loose i p c) ≡ true
+one_kind : (parent : Kind) (j i : Loose) (o p : Option ℕ) (b c : ℕ) → loose_kind j ≡ leaf_kind parent
+    → loose_kind i ≡ leaf_kind parent → o ≡ None → p ≡ None → one_leaf (loose j o b) (loose i p c) ≡ true
 one_kind parent j i o p b c e f u v = ap₂ (λ x y. x && y) (same_kind j i (leaf_kind parent) e f) (ap₂ same_origin u v)
 
 leaf_run : (k : ℕ) (parent : Kind) (run : List ℕ) (j : Loose) (o : Option ℕ) (b : ℕ) (r others : List Part) → IsRun one_leaf (loose j o b ∷ r) others
@@ -157,7 +158,8 @@ leaf_run k parent run j o b (loose i p c ∷ r) others h w =
 
 -- ---- all children
 
-no_text_first : (k : ℕ) (parent : Kind) (rs : List (List Part)) (ps : List Part) (at next : ℕ) → AreRuns one_leaf rs ps → AreWrittenParts k parent [] ps → begins_loose ps ≡ false
+no_text_first : (k : ℕ) (parent : Kind) (rs : List (List Part)) (ps : List Part) (at next : ℕ) → AreRuns one_leaf rs ps
+    → AreWrittenParts k parent [] ps → begins_loose ps ≡ false
     → begins_with_text (all_annotated_at at next (forest (map child rs))) ≡ false
 no_text_first k parent [] ps at next h w e = refl
 no_text_first k parent ([] ∷ rs) ps at next h w e = absurd h.2
@@ -175,16 +177,19 @@ runs_written k parent ([] ∷ rs) ps at next h w room some few = absurd h.2
 runs_written k parent ((node t ∷ p ∷ r) ∷ rs) ps at next h w room some few = absurd (let e = h.2.0 in cc)
 runs_written k parent ((node t ∷ []) ∷ rs) ps at next h w room some few =
     let v : AreWrittenParts k parent [] (node t ∷ h.0) = subst (AreWrittenParts k parent []) h.1 w in
-    let a : width (held t ++ held_by_all (forest (map child rs))) ≡ width (held t) + width (held_by_all (forest (map child rs))) = wide_append (held t) (held_by_all (forest (map child rs))) in (
+    let a : width (held t ++ held_by_all (forest (map child rs))) ≡ width (held t) + width (held_by_all (forest (map child rs))) =
+    wide_append (held t) (held_by_all (forest (map child rs))) in (
       v.1.written at next (omega arith) some (omega arith),
-      none_joins (texts_of_kind parent) _ (ap (λ x. x && begins_with_text (all_annotated_at (at + width (held t)) (next + numbered t) (forest (map child rs)))) (v.1.element at next)),
+      none_joins (texts_of_kind parent) _ (ap (λ x. x
+          && begins_with_text (all_annotated_at (at + width (held t)) (next + numbered t) (forest (map child rs)))) (v.1.element at next)),
       runs_written k parent rs h.0 (at + width (held t)) (next + numbered t) h.3 v.2 (omega arith) (omega arith) (omega arith),
     )
 runs_written k parent ((loose j o b ∷ r) ∷ rs) ps at next h w room some few =
     let v : AreWrittenParts k parent [] ((loose j o b ∷ r) ++ h.0) = subst (AreWrittenParts k parent []) h.1 w in
     let q : IsLeafRun k parent [] (loose j o b ∷ r) h.0 = leaf_run k parent [] j o b r h.0 h.2 v in
     let t : ItemTree = child (loose j o b ∷ r) in
-    let a : width (held t ++ held_by_all (forest (map child rs))) ≡ width (held t) + width (held_by_all (forest (map child rs))) = wide_append (held t) (held_by_all (forest (map child rs))) in
+    let a : width (held t ++ held_by_all (forest (map child rs))) ≡ width (held t) + width (held_by_all (forest (map child rs))) =
+    wide_append (held t) (held_by_all (forest (map child rs))) in
     let n : begins_with_text (all_annotated_at (at + width (held t)) (next + numbered t) (forest (map child rs))) ≡ false =
     no_text_first k parent rs h.0 (at + width (held t)) (next + numbered t) h.3 q.rest q.stops in (
       subst (λ xs. WrittenIn k parent (annotated_at at next (loose_leaf j xs))) (sym q.items) (leaf_written k parent at next j q.first q.more v.0 q.good),

@@ -18,7 +18,10 @@ abbrev pub CanCut : List ℕ → List ℕ → Type 0
 CanCut r s = (t : List ℕ) → IsUtf8 (r ++ (s ++ t)) → IsUtf8 r × IsUtf8 (s ++ t)
 
 pub cut_at : (r s : List ℕ) → IsUtf8 (r ++ s) → IsCharBoundary (r ++ s) (length r) → IsUtf8 r × IsUtf8 s
-cut_at r s u b = (subst IsUtf8 (take-append_seam r s) (IsUtf8-take (r ++ s) (length r) u b), subst IsUtf8 (drop-append_seam r s) (IsUtf8-drop (r ++ s) (length r) u b))
+cut_at r s u b = (
+  subst IsUtf8 (take-append_seam r s) (IsUtf8-take (r ++ s) (length r) u b),
+  subst IsUtf8 (drop-append_seam r s) (IsUtf8-drop (r ++ s) (length r) u b),
+)
 
 pub before_low : (r : List ℕ) (b : ℕ) → b < 128 → CanCut r (b ∷ [])
 before_low r b low t u =
@@ -29,7 +32,8 @@ pub after_low : (r : List ℕ) (b : ℕ) → b < 128 → CanCut (r ++ b ∷ []) 
 after_low r b low t u =
     let v : IsUtf8 (r ++ b ∷ t) = subst IsUtf8 (append_assoc r (b ∷ []) t) u in
     let e : get_or (r ++ b ∷ t) (length r) 0 ≡ b = get_or-append_seam r b t 0 in
-    let c : IsCharBoundary (r ++ b ∷ t) (length r + 1) = IsCharBoundary-after_ascii (r ++ b ∷ t) (length r) v (omega (arith, length-append r (b ∷ t))) (omega arith) in
+    let c : IsCharBoundary (r ++ b ∷ t) (length r + 1) = IsCharBoundary-after_ascii (r ++ b ∷ t) (length r) v
+    (omega (arith, length-append r (b ∷ t))) (omega arith) in
     let n : length r + 1 ≡ length (r ++ b ∷ []) = omega (arith, length-append r (b ∷ [])) in
     cut_at (r ++ b ∷ []) t u (subst (λ x. IsCharBoundary x (length (r ++ b ∷ []))) (sym (append_assoc r (b ∷ []) t)) (subst (IsCharBoundary (r ++ b ∷ t)) n c))
 
@@ -79,7 +83,8 @@ EndsLow (whole f o bs ∷ []) = Unit {0}
 EndsLow (x ∷ y ∷ xs) = EndsLow (y ∷ xs)
 
 cut_items_after : (run : List ℕ) (x : Item) (xs ys : List Item) → EndsLow (x ∷ xs) → AreTexts run ((x ∷ xs) ++ ys) → AreTexts run (x ∷ xs) × AreTexts [] ys
-cut_items_after run (char o b) [] ys h t = let q = shift (run ++ b ∷ []) [] ys (after_low run b h) (subst (λ z. AreTexts z ys) (sym (append-nil (run ++ b ∷ []))) t) in q
+cut_items_after run (char o b) [] ys h t = let q = shift (run ++ b ∷ []) [] ys (after_low run b h)
+    (subst (λ z. AreTexts z ys) (sym (append-nil (run ++ b ∷ []))) t) in q
 cut_items_after run (whole f o bs) [] ys h t = ((t.0, IsUtf8-nil), t.1)
 cut_items_after run (char o b) (x ∷ xs) ys h t = cut_items_after (run ++ b ∷ []) x xs ys h t
 cut_items_after run (whole f o bs) (x ∷ xs) ys h t = let q = cut_items_after [] x xs ys h t.1 in ((t.0, q.0), q.1)

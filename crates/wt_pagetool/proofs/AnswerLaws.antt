@@ -16,7 +16,8 @@ unfolding wikitext_answer
 input_long input h = grind (arith, nat_tests)
 
 -- what an input gave is too long, and so is the input
-pub too_long_given : (old new : Option (List ℕ)) (bytes : List ℕ) → Consumes old new bytes → HTML_BYTES < length bytes → IfSome old (λ all. wikitext_answer all ≡ refused InputTooLong)
+pub too_long_given : (old new : Option (List ℕ)) (bytes : List ℕ) → Consumes old new bytes → HTML_BYTES < length bytes
+    → IfSome old (λ all. wikitext_answer all ≡ refused InputTooLong)
 too_long_given None new bytes given h = tt
 too_long_given (Some all) None bytes given h = absurd given
 too_long_given (Some all) (Some rest) bytes given h =
@@ -28,7 +29,8 @@ unfolding wikitext_answer
 wikitext_within input h = grind (arith, nat_tests)
 
 -- where the input tells what it has left, all of it was read
-pub answered_by : (told : Option (List ℕ)) (bytes : List ℕ) (result : Result Output Refusal) → IfSome told (λ all. all ≡ bytes) → length bytes ≤ HTML_BYTES → Answered (source_answer (read bytes)) result
+pub answered_by : (told : Option (List ℕ)) (bytes : List ℕ) (result : Result Output Refusal) → IfSome told (λ all. all ≡ bytes)
+    → length bytes ≤ HTML_BYTES → Answered (source_answer (read bytes)) result
     → IfSome told (λ all. Answered (wikitext_answer all) result)
 answered_by None bytes result whole within answered = tt
 answered_by (Some all) bytes result whole within answered =

@@ -17,11 +17,13 @@ use Rattle.wt_pagetool.specs.Refusals.{html_why, fit_why, text_of, line_of}
 
 -- the words
 html_main : command_of (codes "html" ∷ codes "main page" ∷ []) ≡ Some (Page pages.Html (codes "Main page"))
-unfolding command_of page_name read_text is_allowed is_forbidden title_in whole_in cut_namespace is_good full_name_of prefix_of has_signature is_step begins_with_step holds_step ends_with_step
+unfolding command_of page_name read_text is_allowed is_forbidden title_in whole_in cut_namespace is_good full_name_of prefix_of
+    has_signature is_step begins_with_step holds_step ends_with_step
 html_main = refl
 
 ranges_main : command_of (codes "ranges" ∷ codes "main page" ∷ []) ≡ Some (Page pages.Ranges (codes "Main page"))
-unfolding command_of page_name read_text is_allowed is_forbidden title_in whole_in cut_namespace is_good full_name_of prefix_of has_signature is_step begins_with_step holds_step ends_with_step
+unfolding command_of page_name read_text is_allowed is_forbidden title_in whole_in cut_namespace is_good full_name_of prefix_of
+    has_signature is_step begins_with_step holds_step ends_with_step
 ranges_main = refl
 
 ranges_alone : command_of (codes "ranges" ∷ []) ≡ None
@@ -37,7 +39,8 @@ unfolding command_of page_name read_text is_allowed is_forbidden
 html_bracket = refl
 
 html_fragment : command_of (codes "html" ∷ codes "A#b" ∷ []) ≡ None
-unfolding command_of page_name read_text is_allowed is_forbidden title_in whole_in cut_namespace is_good full_name_of prefix_of has_signature is_step begins_with_step holds_step ends_with_step
+unfolding command_of page_name read_text is_allowed is_forbidden title_in whole_in cut_namespace is_good full_name_of prefix_of
+    has_signature is_step begins_with_step holds_step ends_with_step
 html_fragment = refl
 
 wikitext_alone : command_of (codes "wikitext" ∷ []) ≡ Some Wikitext

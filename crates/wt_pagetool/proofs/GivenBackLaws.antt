@@ -66,22 +66,27 @@ all_given_back page =
 
 -- ---- the clause
 
-gave_step : (page : List ℕ) (found : Result Output Refusal) (s : Status) (ended : ℕ) (o e : SinkUse) → ended ≡ code s → Answered (done page) found → Reported found s o e → GaveBack page ended o.taken_before o.taken_after
+gave_step : (page : List ℕ) (found : Result Output Refusal) (s : Status) (ended : ℕ) (o e : SinkUse) → ended ≡ code s
+    → Answered (done page) found → Reported found s o e → GaveBack page ended o.taken_before o.taken_after
 gave_step page (Ok output) s ended o e is a (inl r) =
     let same : page ≡ output_bytes output = cc in
     inl (is ∙ ap code r.0, subst (Appends o.taken_before o.taken_after) (sym same) r.1.taken)
 gave_step page (Ok output) s ended o e is a (inr r) = inr (unanswered s ended is (subst IsUnansweredBy (sym r.0) tt))
-gave_step page (Err refusal) s ended o e is a (u, inl (inl t)) = inr (unanswered s ended is (subst IsUnansweredBy (sym t.0) (no_refusal page refusal (status_of refusal) a)))
+gave_step page (Err refusal) s ended o e is a (u, inl (inl t)) =
+    inr (unanswered s ended is (subst IsUnansweredBy (sym t.0) (no_refusal page refusal (status_of refusal) a)))
 gave_step page (Err refusal) s ended o e is a (u, inl (inr t)) = inr (unanswered s ended is (subst IsUnansweredBy (sym t.0) tt))
 gave_step page (Err refusal) s ended o e is a (u, inr (inl t)) = inr (unanswered s ended is (subst IsUnansweredBy (sym t.0) tt))
 gave_step page (Err refusal) s ended o e is a (u, inr (inr t)) = inr (unanswered s ended is (subst IsUnansweredBy (sym t.0) tt))
 
-gave_told : (input : Option (List ℕ)) (found : Result Output Refusal) (s : Status) (ended : ℕ) (o e : SinkUse) → ended ≡ code s → IfSome (option_map wikitext_answer input) (λ a. Answered a found) → Reported found s o e
+gave_told : (input : Option (List ℕ)) (found : Result Output Refusal) (s : Status) (ended : ℕ) (o e : SinkUse) → ended ≡ code s
+    → IfSome (option_map wikitext_answer input) (λ a. Answered a found) → Reported found s o e
     → IfSome input (λ bytes. (page : List ℕ) → html_answer (Some page) ≡ done bytes → GaveBack page ended o.taken_before o.taken_after)
 gave_told None found s ended o e is a r = tt
-gave_told (Some bytes) found s ended o e is a r = λ page h. gave_step page found s ended o e is (subst (λ x. Answered x found) (all_given_back page bytes h) a) r
+gave_told (Some bytes) found s ended o e is a r = λ page h. gave_step page found s ended o e is
+    (subst (λ x. Answered x found) (all_given_back page bytes h) a) r
 
-pub run_gives_back : (pages : Option Pages) (input : Option (List ℕ)) (words : List (List ℕ)) (found : Result Output Refusal) (s : Status) (ended : ℕ) (o e : SinkUse) → ended ≡ code s → command_of words ≡ Some Wikitext
+pub run_gives_back : (pages : Option Pages) (input : Option (List ℕ)) (words : List (List ℕ)) (found : Result Output Refusal)
+    (s : Status) (ended : ℕ) (o e : SinkUse) → ended ≡ code s → command_of words ≡ Some Wikitext
     → IfSome (answer_told pages input words) (λ a. Answered a found) → Reported found s o e
     → IfSome input (λ bytes. (page : List ℕ) → html_answer (Some page) ≡ done bytes → GaveBack page ended o.taken_before o.taken_after)
 run_gives_back pages input words found s ended o e is w a r =

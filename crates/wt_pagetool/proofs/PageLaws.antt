@@ -48,11 +48,13 @@ pub page_not_utf8 : (page : List ℕ) (place : ℕ) → length page ≤ 2097152 
 unfolding page_answer
 page_not_utf8 page place h e made = rw (short page h, e) refl
 
-page_not_built : (page : List ℕ) (place : ℕ) → length page ≤ 2097152 → not_utf8_place page ≡ None → first_unbuilt page ≡ Some place → RefusesPage (Some page) (NotBuilt place)
+page_not_built : (page : List ℕ) (place : ℕ) → length page ≤ 2097152 → not_utf8_place page ≡ None
+    → first_unbuilt page ≡ Some place → RefusesPage (Some page) (NotBuilt place)
 unfolding page_answer
 page_not_built page place h e f made = rw (short page h, e, f) refl
 
-pub page_unbuilt : (page : List ℕ) (reason : Refusal) → length page ≤ 2097152 → not_utf8_place page ≡ None → IsUnbuilt (first_unbuilt page) reason → RefusesPage (Some page) reason
+pub page_unbuilt : (page : List ℕ) (reason : Refusal) → length page ≤ 2097152 → not_utf8_place page ≡ None
+    → IsUnbuilt (first_unbuilt page) reason → RefusesPage (Some page) reason
 page_unbuilt page Usage h e u = absurd u
 page_unbuilt page Absent h e u = absurd u
 page_unbuilt page TooLong h e u = absurd u
@@ -72,11 +74,13 @@ pub page_answered : (page : List ℕ) → length page ≤ 2097152 → not_utf8_p
 unfolding page_answer
 page_answered page h e f made = rw (short page h, e, f) refl
 
-pub tree_answered : (page text : List ℕ) (result : Result Annotated Refusal) → text ≡ page → length page ≤ 2097152 → not_utf8_place page ≡ None → IfOk result (λ t. first_unbuilt text ≡ None) → IfOk result (λ t. IsAnswered page)
+pub tree_answered : (page text : List ℕ) (result : Result Annotated Refusal) → text ≡ page → length page ≤ 2097152
+    → not_utf8_place page ≡ None → IfOk result (λ t. first_unbuilt text ≡ None) → IfOk result (λ t. IsAnswered page)
 tree_answered page text (Ok t) same h e f = page_answered page h e (sym (ap first_unbuilt same) ∙ f)
 tree_answered page text (Err reason) same h e f = tt
 
-pub tree_refused : (page text : List ℕ) (result : Result Annotated Refusal) → text ≡ page → length page ≤ 2097152 → not_utf8_place page ≡ None → IfErr result (IsUnbuilt (first_unbuilt text)) → IfErr result (RefusesPage (Some page))
+pub tree_refused : (page text : List ℕ) (result : Result Annotated Refusal) → text ≡ page → length page ≤ 2097152
+    → not_utf8_place page ≡ None → IfErr result (IsUnbuilt (first_unbuilt text)) → IfErr result (RefusesPage (Some page))
 tree_refused page text (Ok t) same h e u = tt
 tree_refused page text (Err reason) same h e u = page_unbuilt page reason h e (subst (λ bs. IsUnbuilt (first_unbuilt bs) reason) same u)
 
@@ -88,15 +92,18 @@ pub record IsMade (page : List ℕ) (made : List ℕ → Answer) (bytes : List �
   pub built : first_unbuilt page ≡ None
   pub is : made page ≡ done bytes
 
-built_made : (page bytes : List ℕ) (made : List ℕ → Answer) (o : Option ℕ) → length page ≤ 2097152 → not_utf8_place page ≡ None → first_unbuilt page ≡ o → built_answer page made o ≡ done bytes → IsMade page made bytes
+built_made : (page bytes : List ℕ) (made : List ℕ → Answer) (o : Option ℕ) → length page ≤ 2097152 → not_utf8_place page ≡ None
+    → first_unbuilt page ≡ o → built_answer page made o ≡ done bytes → IsMade page made bytes
 built_made page bytes made (Some place) within text is e = cc
 built_made page bytes made None within text is e = record { within = within; text = text; built = is; is = e }
 
-text_made : (page bytes : List ℕ) (made : List ℕ → Answer) (o : Option ℕ) → length page ≤ 2097152 → not_utf8_place page ≡ o → text_answer page made o ≡ done bytes → IsMade page made bytes
+text_made : (page bytes : List ℕ) (made : List ℕ → Answer) (o : Option ℕ) → length page ≤ 2097152 → not_utf8_place page ≡ o
+    → text_answer page made o ≡ done bytes → IsMade page made bytes
 text_made page bytes made (Some place) within is e = cc
 text_made page bytes made None within is e = built_made page bytes made (first_unbuilt page) within is refl e
 
-long_made : (page bytes : List ℕ) (made : List ℕ → Answer) (v : Bool) → nat_lt 2097152 (length page) ≡ v → cond v (refused TooLong) (text_answer page made (not_utf8_place page)) ≡ done bytes → IsMade page made bytes
+long_made : (page bytes : List ℕ) (made : List ℕ → Answer) (v : Bool) → nat_lt 2097152 (length page) ≡ v
+    → cond v (refused TooLong) (text_answer page made (not_utf8_place page)) ≡ done bytes → IsMade page made bytes
 long_made page bytes made true is e = cc
 long_made page bytes made false is e = text_made page bytes made (not_utf8_place page) (grind (arith, nat_tests)) refl e
 
@@ -118,7 +125,8 @@ stands_made (Some page) made bytes e = (page, refl, (page_made page bytes made e
 long_is : (page : List ℕ) (made : List ℕ → Answer) → 2097152 < length page → page_answer (Some page) made ≡ refused TooLong
 long_is page made h = page_too_long page h made
 
-cut_step : (page : List ℕ) (made : List ℕ → Answer) → (length page ≤ 2097153) ⊎ (2097153 < length page) → page_answer (Some page) made ≡ page_answer (Some (take 2097153 page)) made
+cut_step : (page : List ℕ) (made : List ℕ → Answer) → (length page ≤ 2097153) ⊎ (2097153 < length page)
+    → page_answer (Some page) made ≡ page_answer (Some (take 2097153 page)) made
 cut_step page made (inl le) = ap (λ bs. page_answer (Some bs) made) (sym (take_all 2097153 page le))
 cut_step page made (inr lt) =
     let len : length (take 2097153 page) ≡ 2097153 = length-take-le 2097153 page (omega arith) in
@@ -140,29 +148,34 @@ absent_step : (stands : Option (List ℕ)) → None ≡ option_map (take 2097153
 absent_step None e = none_absent
 absent_step (Some whole) e = absurd cc
 
-pub found_is : (told : Option Pages) (title page : List ℕ) (answer : Fetched) → answer ≡ fetched.Found page → Gives told title 2097153 answer → IfSome told (λ pages. IsFetched (pages title) (Ok page))
+pub found_is : (told : Option Pages) (title page : List ℕ) (answer : Fetched) → answer ≡ fetched.Found page
+    → Gives told title 2097153 answer → IfSome told (λ pages. IsFetched (pages title) (Ok page))
 found_is None title page answer is gives = tt
 found_is (Some pages) title page answer is gives = found_step (pages title) page (sym (ap page_of is) ∙ gives)
 
-pub absent_is : (told : Option Pages) (title : List ℕ) (answer : Fetched) → answer ≡ fetched.Absent → Gives told title 2097153 answer → IfSome told (λ pages. IsFetched (pages title) (Err Absent))
+pub absent_is : (told : Option Pages) (title : List ℕ) (answer : Fetched) → answer ≡ fetched.Absent
+    → Gives told title 2097153 answer → IfSome told (λ pages. IsFetched (pages title) (Err Absent))
 absent_is None title answer is gives = tt
 absent_is (Some pages) title answer is gives = absent_step (pages title) (sym (ap page_of is) ∙ gives)
 
 -- ---- from the tree of a page to the answer
 
-pub made_answered : (command : PageCommand) (page : List ℕ) (t : Tree) (result : Result Output Refusal) → IsAnswered page → t ≡ page_tree page → Answered (made_of_tree command t) result → Answered (page_answer (Some page) (made_by command)) result
+pub made_answered : (command : PageCommand) (page : List ℕ) (t : Tree) (result : Result Output Refusal) → IsAnswered page
+    → t ≡ page_tree page → Answered (made_of_tree command t) result → Answered (page_answer (Some page) (made_by command)) result
 made_answered command page t result answered is a = subst (λ x. Answered x result) (ap (made_of_tree command) is ∙ sym (answered (made_by command))) a
 
 abbrev refused_by : Refusal → Result Output Refusal
 refused_by reason = Err reason
 
 -- from what was fetched to what stands under the title
-pub title_answered : (told : Option Pages) (title page : List ℕ) (made : List ℕ → Answer) (result : Result Output Refusal) → IfSome told (λ pages. IsFetched (pages title) (Ok page)) → Answered (page_answer (Some page) made) result
+pub title_answered : (told : Option Pages) (title page : List ℕ) (made : List ℕ → Answer) (result : Result Output Refusal)
+    → IfSome told (λ pages. IsFetched (pages title) (Ok page)) → Answered (page_answer (Some page) made) result
     → IfSome told (λ pages. Answered (page_answer (pages title) made) result)
 title_answered None title page made result f a = tt
 title_answered (Some pages) title page made result f a = subst (λ x. Answered x result) (sym (f made)) a
 
-pub title_refused : (told : Option Pages) (title : List ℕ) (made : List ℕ → Answer) (reason : Refusal) → IfSome told (λ pages. IsFetched (pages title) (Err reason))
+pub title_refused : (told : Option Pages) (title : List ℕ) (made : List ℕ → Answer) (reason : Refusal)
+    → IfSome told (λ pages. IsFetched (pages title) (Err reason))
     → IfSome told (λ pages. Answered (page_answer (pages title) made) (refused_by reason))
 title_refused None title made reason f = tt
 title_refused (Some pages) title made reason f = f made

@@ -41,7 +41,8 @@ made_is : (command : PageCommand) (page bytes : List ℕ) → made command page 
 made_is Html page bytes e = within_done (html_text (page_tree page)) bytes (nat_lt HTML_BYTES (length (html_text (page_tree page)))) e
 made_is Ranges page bytes e = cc
 
-wrote_page : (command : PageCommand) (stands : Option (List ℕ)) (bytes : List ℕ) (old new : Option (List ℕ)) → page_answer stands (made command) ≡ done bytes → Appends old new bytes → WrotePage command stands old new
+wrote_page : (command : PageCommand) (stands : Option (List ℕ)) (bytes : List ℕ) (old new : Option (List ℕ))
+    → page_answer stands (made command) ≡ done bytes → Appends old new bytes → WrotePage command stands old new
 wrote_page command stands bytes old new e wrote =
     let h = stands_made stands (made command) bytes e in
     record {
@@ -69,7 +70,8 @@ source_done (misfit n why) bytes e = cc
 abbrev IsSourceOf : List ℕ → List ℕ → Type 0
 IsSourceOf input bytes = (length input ≤ HTML_BYTES) × IsSource (read input) bytes
 
-wikitext_step : (input bytes : List ℕ) (v : Bool) → nat_lt HTML_BYTES (length input) ≡ v → cond v (refused InputTooLong) (source_answer (read input)) ≡ done bytes → IsSourceOf input bytes
+wikitext_step : (input bytes : List ℕ) (v : Bool) → nat_lt HTML_BYTES (length input) ≡ v
+    → cond v (refused InputTooLong) (source_answer (read input)) ≡ done bytes → IsSourceOf input bytes
 wikitext_step input bytes true is e = cc
 wikitext_step input bytes false is e = (grind (arith, nat_tests), source_done (read input) bytes e)
 
@@ -77,7 +79,8 @@ wikitext_done : (input bytes : List ℕ) → wikitext_answer input ≡ done byte
 unfolding wikitext_answer
 wikitext_done input bytes e = wikitext_step input bytes (nat_lt HTML_BYTES (length input)) refl e
 
-wrote_source : (input bytes : List ℕ) (left old new : Option (List ℕ)) → wikitext_answer input ≡ done bytes → IsAtEnd left → Appends old new bytes → WroteSource input left old new
+wrote_source : (input bytes : List ℕ) (left old new : Option (List ℕ)) → wikitext_answer input ≡ done bytes → IsAtEnd left
+    → Appends old new bytes → WroteSource input left old new
 wrote_source input bytes left old new e ended wrote =
     let h = wikitext_done input bytes e in
     record {
@@ -91,10 +94,12 @@ wrote_source input bytes left old new e ended wrote =
 -- ---- what was found, by how the call ended
 
 -- a refusal that is due doesn't end a call as one that is done, nor as a sink's fault
-due_not_done : (s : Status) (words : List (List ℕ)) (input : SourceUse) (folder : FolderUse) (r : Refusal) → s ≡ status.Done → IsDueAs s words input folder r → ⊥
+due_not_done : (s : Status) (words : List (List ℕ)) (input : SourceUse) (folder : FolderUse) (r : Refusal) → s ≡ status.Done
+    → IsDueAs s words input folder r → ⊥
 due_not_done s words input folder r e due = subst (λ v. IsDueAs v words input folder r) e due
 
-due_not_fault : (s : Status) (words : List (List ℕ)) (input : SourceUse) (folder : FolderUse) (r : Refusal) → s ≡ status.WriteFault → IsDueAs s words input folder r → ⊥
+due_not_fault : (s : Status) (words : List (List ℕ)) (input : SourceUse) (folder : FolderUse) (r : Refusal)
+    → s ≡ status.WriteFault → IsDueAs s words input folder r → ⊥
 due_not_fault s words input folder r e due = subst (λ v. IsDueAs v words input folder r) e due
 
 -- a call that is done found an answer, and `out` took it
@@ -108,13 +113,15 @@ found_done : (words : List (List ℕ)) (input : SourceUse) (folder : FolderUse) 
     → IfErr found (IsDue words input folder) → Reported found s out err → s ≡ status.Done → FoundDone found out err
 found_done words input folder out err (Ok output) s due (inl r) e = record { output = output; is = refl; wrote = r.1; silent = r.2 }
 found_done words input folder out err (Ok output) s due (inr r) e = absurd (let h : status.WriteFault ≡ status.Done = sym r.0 ∙ e in cc)
-found_done words input folder out err (Err refusal) s due (u, inl (inl t)) e = absurd (due_not_done (status_of refusal) words input folder refusal (sym t.0 ∙ e) due)
+found_done words input folder out err (Err refusal) s due (u, inl (inl t)) e =
+    absurd (due_not_done (status_of refusal) words input folder refusal (sym t.0 ∙ e) due)
 found_done words input folder out err (Err refusal) s due (u, inl (inr t)) e = absurd (let h : status.WriteFault ≡ status.Done = sym t.0 ∙ e in cc)
 found_done words input folder out err (Err refusal) s due (u, inr (inl t)) e = absurd (let h : status.NoMemory ≡ status.Done = sym t.0 ∙ e in cc)
 found_done words input folder out err (Err refusal) s due (u, inr (inr t)) e = absurd (let h : status.WriteFault ≡ status.Done = sym t.0 ∙ e in cc)
 
 done_of : (words : List (List ℕ)) (input : SourceUse) (folder : FolderUse) (out err : SinkUse) (found : Result Output Refusal)
-    → IfSome (answer_told folder.pages_before input.left_before words) (λ a. Answered a found) → FoundDone found out err → WasDone (call words input folder out err)
+    → IfSome (answer_told folder.pages_before input.left_before words) (λ a. Answered a found) → FoundDone found out err
+    → WasDone (call words input folder out err)
 done_of words input folder out err found answered f = record {
   bytes = output_bytes f.output;
   answer = subst (λ x. IfSome (answer_told folder.pages_before input.left_before words) (λ a. Answered a x)) f.is answered;
@@ -122,44 +129,58 @@ done_of words input folder out err found answered f = record {
   silent = f.silent;
 }
 
-pub run_done : (words : List (List ℕ)) (input : SourceUse) (folder : FolderUse) (out err : SinkUse) (found : Result Output Refusal) (s : Status) (ended : ℕ) → ended ≡ code s
-    → IfSome (answer_told folder.pages_before input.left_before words) (λ a. Answered a found) → IfErr found (IsDue words input folder) → Reported found s out err
+pub run_done : (words : List (List ℕ)) (input : SourceUse) (folder : FolderUse) (out err : SinkUse)
+    (found : Result Output Refusal) (s : Status) (ended : ℕ) → ended ≡ code s
+    → IfSome (answer_told folder.pages_before input.left_before words) (λ a. Answered a found)
+    → IfErr found (IsDue words input folder) → Reported found s out err
     → ended ≡ code status.Done → WasDone (call words input folder out err)
 run_done words input folder out err found s ended is answered due r e =
     done_of words input folder out err found answered (found_done words input folder out err found s due r (is_done s (sym is ∙ e)))
 
 -- ---- refusals
 
-refused_by : (words : List (List ℕ)) (input : SourceUse) (folder : FolderUse) (out err : SinkUse) (found : Result Output Refusal) (s : Status) (ended : ℕ) → ended ≡ code s
-    → IfErr found (IsDue words input folder) → Reported found s out err → s ≢ status.Done → s ≢ status.WriteFault → WasRefused (call words input folder out err) ended
+refused_by : (words : List (List ℕ)) (input : SourceUse) (folder : FolderUse) (out err : SinkUse) (found : Result Output Refusal)
+    (s : Status) (ended : ℕ) → ended ≡ code s
+    → IfErr found (IsDue words input folder) → Reported found s out err → s ≢ status.Done → s ≢ status.WriteFault
+    → WasRefused (call words input folder out err) ended
 refused_by words input folder out err (Ok output) s ended is due (inl r) d w = absurd (d r.0)
 refused_by words input folder out err (Ok output) s ended is due (inr r) d w = absurd (w r.0)
-refused_by words input folder out err (Err refusal) s ended is due (u, inl (inl t)) d w = record { refusal = refusal; due = due; named = is ∙ ap code t.0; nothing = u; line = t.1 }
+refused_by words input folder out err (Err refusal) s ended is due (u, inl (inl t)) d w =
+    record { refusal = refusal; due = due; named = is ∙ ap code t.0; nothing = u; line = t.1 }
 refused_by words input folder out err (Err refusal) s ended is due (u, inl (inr t)) d w = absurd (w t.0)
-refused_by words input folder out err (Err refusal) s ended is due (u, inr (inl t)) d w = record { refusal = NoMemory; due = tt; named = is ∙ ap code t.0; nothing = u; line = t.1 }
+refused_by words input folder out err (Err refusal) s ended is due (u, inr (inl t)) d w =
+    record { refusal = NoMemory; due = tt; named = is ∙ ap code t.0; nothing = u; line = t.1 }
 refused_by words input folder out err (Err refusal) s ended is due (u, inr (inr t)) d w = absurd (w t.0)
 
-pub run_refused : (words : List (List ℕ)) (input : SourceUse) (folder : FolderUse) (out err : SinkUse) (found : Result Output Refusal) (s : Status) (ended : ℕ) → ended ≡ code s
-    → IfErr found (IsDue words input folder) → Reported found s out err → ended ≢ code status.Done → ended ≢ code status.WriteFault → WasRefused (call words input folder out err) ended
+pub run_refused : (words : List (List ℕ)) (input : SourceUse) (folder : FolderUse) (out err : SinkUse)
+    (found : Result Output Refusal) (s : Status) (ended : ℕ) → ended ≡ code s
+    → IfErr found (IsDue words input folder) → Reported found s out err → ended ≢ code status.Done
+    → ended ≢ code status.WriteFault → WasRefused (call words input folder out err) ended
 run_refused words input folder out err found s ended is due r d w =
     refused_by words input folder out err found s ended is due r (λ e. d (is ∙ ap code e)) (λ e. w (is ∙ ap code e))
 
 -- ---- faults of sinks
 
 fault_by : (words : List (List ℕ)) (input : SourceUse) (folder : FolderUse) (out err : SinkUse) (found : Result Output Refusal) (s : Status)
-    → IfSome (answer_told folder.pages_before input.left_before words) (λ a. Answered a found) → IfErr found (IsDue words input folder) → Reported found s out err → s ≡ status.WriteFault
+    → IfSome (answer_told folder.pages_before input.left_before words) (λ a. Answered a found)
+    → IfErr found (IsDue words input folder) → Reported found s out err → s ≡ status.WriteFault
     → OutFailed (call words input folder out err) ⊎ ErrFailed (call words input folder out err)
 fault_by words input folder out err (Ok output) s answered due (inl r) e = absurd (let h : status.Done ≡ status.WriteFault = sym r.0 ∙ e in cc)
-fault_by words input folder out err (Ok output) s answered due (inr r) e = inl (record { bytes = output_bytes output; answer = answered; front = r.1; line = r.2 })
-fault_by words input folder out err (Err refusal) s answered due (u, inl (inl t)) e = absurd (due_not_fault (status_of refusal) words input folder refusal (sym t.0 ∙ e) due)
+fault_by words input folder out err (Ok output) s answered due (inr r) e =
+    inl (record { bytes = output_bytes output; answer = answered; front = r.1; line = r.2 })
+fault_by words input folder out err (Err refusal) s answered due (u, inl (inl t)) e =
+    absurd (due_not_fault (status_of refusal) words input folder refusal (sym t.0 ∙ e) due)
 fault_by words input folder out err (Err refusal) s answered due (u, inl (inr t)) e = inr (record { refusal = refusal; due = due; nothing = u; front = t.1 })
 fault_by words input folder out err (Err refusal) s answered due (u, inr (inl t)) e = absurd (let h : status.NoMemory ≡ status.WriteFault = sym t.0 ∙ e in cc)
 fault_by words input folder out err (Err refusal) s answered due (u, inr (inr t)) e = inr (record { refusal = NoMemory; due = tt; nothing = u; front = t.1 })
 
-pub run_fault : (words : List (List ℕ)) (input : SourceUse) (folder : FolderUse) (out err : SinkUse) (found : Result Output Refusal) (s : Status) (ended : ℕ) → ended ≡ code s
-    → IfSome (answer_told folder.pages_before input.left_before words) (λ a. Answered a found) → IfErr found (IsDue words input folder) → Reported found s out err → ended ≡ code status.WriteFault
+pub run_fault : (words : List (List ℕ)) (input : SourceUse) (folder : FolderUse) (out err : SinkUse)
+    (found : Result Output Refusal) (s : Status) (ended : ℕ) → ended ≡ code s
+    → IfSome (answer_told folder.pages_before input.left_before words) (λ a. Answered a found)
+    → IfErr found (IsDue words input folder) → Reported found s out err → ended ≡ code status.WriteFault
     → OutFailed (call words input folder out err) ⊎ ErrFailed (call words input folder out err)
-run_fault words input folder out err found s ended is answered due r e = fault_by words input folder out err found s answered due r (is_write_fault s (sym is ∙ e))
+run_fault words input folder out err found s ended is answered due r e = fault_by words input folder out err found s answered due
+    r (is_write_fault s (sym is ∙ e))
 
 -- ---- the answer, where it is told
 
@@ -175,7 +196,8 @@ refusal_exact a r status.FolderFault e h = inr tt
 refusal_exact a r status.WriteFault e h = inr tt
 refusal_exact a r status.NoMemory e h = inr tt
 
-exact_step : (a : Answer) (found : Result Output Refusal) (s : Status) (out err : SinkUse) → Answered a found → Reported found s out err → (s ≡ status_of_answer a) ⊎ IsUnansweredBy s
+exact_step : (a : Answer) (found : Result Output Refusal) (s : Status) (out err : SinkUse) → Answered a found
+    → Reported found s out err → (s ≡ status_of_answer a) ⊎ IsUnansweredBy s
 exact_step a (Ok output) s out err h (inl r) = inl (r.0 ∙ ap status_of_answer (sym h))
 exact_step a (Ok output) s out err h (inr r) = inr (subst IsUnansweredBy (sym r.0) tt)
 exact_step a (Err refusal) s out err h (u, inl (inl t)) = refusal_exact a refusal s t.0 (subst (λ v. RefusesAs v refusal a) (sym t.0) h)
@@ -183,11 +205,13 @@ exact_step a (Err refusal) s out err h (u, inl (inr t)) = inr (subst IsUnanswere
 exact_step a (Err refusal) s out err h (u, inr (inl t)) = inr (subst IsUnansweredBy (sym t.0) tt)
 exact_step a (Err refusal) s out err h (u, inr (inr t)) = inr (subst IsUnansweredBy (sym t.0) tt)
 
-exact_number : (a : Answer) (s : Status) (ended : ℕ) → ended ≡ code s → (s ≡ status_of_answer a) ⊎ IsUnansweredBy s → (ended ≡ code (status_of_answer a)) ⊎ IsUnanswered ended
+exact_number : (a : Answer) (s : Status) (ended : ℕ) → ended ≡ code s → (s ≡ status_of_answer a) ⊎ IsUnansweredBy s
+    → (ended ≡ code (status_of_answer a)) ⊎ IsUnanswered ended
 exact_number a s ended is (inl e) = inl (is ∙ ap code e)
 exact_number a s ended is (inr h) = inr (unanswered s ended is h)
 
-pub run_exact : (told : Option Answer) (found : Result Output Refusal) (s : Status) (ended : ℕ) (out err : SinkUse) → ended ≡ code s → IfSome told (λ a. Answered a found) → Reported found s out err
+pub run_exact : (told : Option Answer) (found : Result Output Refusal) (s : Status) (ended : ℕ) (out err : SinkUse)
+    → ended ≡ code s → IfSome told (λ a. Answered a found) → Reported found s out err
     → IfSome told (λ a. (ended ≡ code (status_of_answer a)) ⊎ IsUnanswered ended)
 run_exact None found s ended out err is h r = tt
 run_exact (Some a) found s ended out err is h r = exact_number a s ended is (exact_step a found s out err h r)
@@ -195,7 +219,8 @@ run_exact (Some a) found s ended out err is h r = exact_number a s ended is (exa
 -- ---- completeness
 
 -- where nothing refuses and neither the input nor the folder failed, no refusal but want of memory is due
-due_is_memory : (s : Status) (words : List (List ℕ)) (input : SourceUse) (folder : FolderUse) (r : Refusal) (a : Answer) → IsDone a → (SourceFailed input → ⊥) → (FolderFailed folder → ⊥)
+due_is_memory : (s : Status) (words : List (List ℕ)) (input : SourceUse) (folder : FolderUse) (r : Refusal) (a : Answer)
+    → IsDone a → (SourceFailed input → ⊥) → (FolderFailed folder → ⊥)
     → RefusesAs s r a → IsDueAs s words input folder r → s ≡ status.NoMemory
 due_is_memory status.Done words input folder r a d i f h due = absurd due
 due_is_memory status.Usage words input folder r a d i f h due = absurd (subst IsDone h d)
@@ -208,23 +233,28 @@ due_is_memory status.WriteFault words input folder r a d i f h due = absurd due
 due_is_memory status.NoMemory words input folder r a d i f h due = refl
 
 complete_step : (words : List (List ℕ)) (input : SourceUse) (folder : FolderUse) (out err : SinkUse) (found : Result Output Refusal) (s : Status) (a : Answer)
-    → Answered a found → IfErr found (IsDue words input folder) → Reported found s out err → IsDone a → NothingFailed (call words input folder out err) → (s ≡ status.Done) ⊎ (s ≡ status.NoMemory)
+    → Answered a found → IfErr found (IsDue words input folder) → Reported found s out err → IsDone a
+    → NothingFailed (call words input folder out err) → (s ≡ status.Done) ⊎ (s ≡ status.NoMemory)
 complete_step words input folder out err (Ok output) s a h due (inl r) d n = inl r.0
 complete_step words input folder out err (Ok output) s a h due (inr r) d n = absurd (n.out r.1.count)
-complete_step words input folder out err (Err refusal) s a h due (u, inl (inl t)) d n = inr (t.0 ∙ due_is_memory (status_of refusal) words input folder refusal a d n.input n.folder h due)
+complete_step words input folder out err (Err refusal) s a h due (u, inl (inl t)) d n =
+    inr (t.0 ∙ due_is_memory (status_of refusal) words input folder refusal a d n.input n.folder h due)
 complete_step words input folder out err (Err refusal) s a h due (u, inl (inr t)) d n = absurd (n.err t.1.count)
 complete_step words input folder out err (Err refusal) s a h due (u, inr (inl t)) d n = inr t.0
 complete_step words input folder out err (Err refusal) s a h due (u, inr (inr t)) d n = absurd (n.err t.1.count)
 
-complete_number : (s : Status) (ended : ℕ) → ended ≡ code s → (s ≡ status.Done) ⊎ (s ≡ status.NoMemory) → (ended ≡ code status.Done) ⊎ (ended ≡ code status.NoMemory)
+complete_number : (s : Status) (ended : ℕ) → ended ≡ code s → (s ≡ status.Done) ⊎ (s ≡ status.NoMemory)
+    → (ended ≡ code status.Done) ⊎ (ended ≡ code status.NoMemory)
 complete_number s ended is (inl e) = inl (is ∙ ap code e)
 complete_number s ended is (inr e) = inr (is ∙ ap code e)
 
-pub run_complete : (words : List (List ℕ)) (input : SourceUse) (folder : FolderUse) (out err : SinkUse) (found : Result Output Refusal) (s : Status) (ended : ℕ) (t : Option Answer) → ended ≡ code s
+pub run_complete : (words : List (List ℕ)) (input : SourceUse) (folder : FolderUse) (out err : SinkUse)
+    (found : Result Output Refusal) (s : Status) (ended : ℕ) (t : Option Answer) → ended ≡ code s
     → IfSome t (λ a. Answered a found) → IfErr found (IsDue words input folder) → Reported found s out err
     → IfSome t (λ a. IsDone a → NothingFailed (call words input folder out err) → (ended ≡ code status.Done) ⊎ (ended ≡ code status.NoMemory))
 run_complete words input folder out err found s ended None is h due r = tt
-run_complete words input folder out err found s ended (Some a) is h due r = λ d n. complete_number s ended is (complete_step words input folder out err found s a h due r d n)
+run_complete words input folder out err found s ended (Some a) is h due r =
+    λ d n. complete_number s ended is (complete_step words input folder out err found s a h due r d n)
 
 -- ---- counts
 
@@ -242,10 +272,12 @@ found_answer (Err refusal) s o e (u, inl (inr t)) h = absurd (subst IsAnswer t.0
 found_answer (Err refusal) s o e (u, inr (inl t)) h = absurd (subst IsAnswer t.0 h)
 found_answer (Err refusal) s o e (u, inr (inr t)) h = absurd (subst IsAnswer t.0 h)
 
-pub run_found : (found : Result Output Refusal) (s : Status) (ended : ℕ) (o e : SinkUse) → ended ≡ code s → Reported found s o e → IsAnswered ended → FoundAnswer found o e
+pub run_found : (found : Result Output Refusal) (s : Status) (ended : ℕ) (o e : SinkUse) → ended ≡ code s → Reported found s o e
+    → IsAnswered ended → FoundAnswer found o e
 run_found found s ended o e is r h = found_answer found s o e r (is_answer s (subst IsAnswered is h))
 
-pub run_kept : (words : List (List ℕ)) (input : SourceUse) (folder : FolderUse) (out err : SinkUse) (found : Result Output Refusal) (s : Status) (ended : ℕ) → ended ≡ code s
+pub run_kept : (words : List (List ℕ)) (input : SourceUse) (folder : FolderUse) (out err : SinkUse)
+    (found : Result Output Refusal) (s : Status) (ended : ℕ) → ended ≡ code s
     → IsKept found input.faults_before input.faults_after → IsKept found folder.faults_before folder.faults_after → Reported found s out err → IsAnswered ended
     → KeptCounts (call words input folder out err)
 run_kept words input folder out err found s ended is i f r h =
@@ -254,29 +286,36 @@ run_kept words input folder out err found s ended is i f r h =
 
 -- ---- the clauses of the commands
 
-told_page : (pages : Option Pages) (input : Option (List ℕ)) (words : List (List ℕ)) (command : PageCommand) (title : List ℕ) → command_of words ≡ Some (Page command title)
+told_page : (pages : Option Pages) (input : Option (List ℕ)) (words : List (List ℕ)) (command : PageCommand) (title : List ℕ)
+    → command_of words ≡ Some (Page command title)
     → answer_told pages input words ≡ option_map (λ ps. page_answer (ps title) (made command)) pages
 unfolding answer_told
 told_page pages input words command title e = rw e refl
 
-pub told_wikitext : (pages : Option Pages) (input : Option (List ℕ)) (words : List (List ℕ)) → command_of words ≡ Some Wikitext → answer_told pages input words ≡ option_map wikitext_answer input
+pub told_wikitext : (pages : Option Pages) (input : Option (List ℕ)) (words : List (List ℕ)) → command_of words ≡ Some Wikitext
+    → answer_told pages input words ≡ option_map wikitext_answer input
 unfolding answer_told
 told_wikitext pages input words e = rw e refl
 
-page_found : (told : Option Pages) (command : PageCommand) (title : List ℕ) (found : Result Output Refusal) (out err : SinkUse) → IfSome (option_map (λ ps. page_answer (ps title) (made command)) told) (λ a. Answered a found) → FoundDone found out err
+page_found : (told : Option Pages) (command : PageCommand) (title : List ℕ) (found : Result Output Refusal) (out err : SinkUse)
+    → IfSome (option_map (λ ps. page_answer (ps title) (made command)) told) (λ a. Answered a found) → FoundDone found out err
     → IfSome told (λ pages. WrotePage command (pages title) out.taken_before out.taken_after)
 page_found None command title found out err a f = tt
 page_found (Some pages) command title found out err a f =
-    wrote_page command (pages title) (output_bytes f.output) out.taken_before out.taken_after (subst (Answered (page_answer (pages title) (made command))) f.is a) f.wrote.taken
+    wrote_page command (pages title) (output_bytes f.output) out.taken_before out.taken_after
+    (subst (Answered (page_answer (pages title) (made command))) f.is a) f.wrote.taken
 
-wikitext_found : (left new : Option (List ℕ)) (found : Result Output Refusal) (out err : SinkUse) → IfSome (option_map wikitext_answer left) (λ a. Answered a found) → IsAtEnd new → FoundDone found out err
+wikitext_found : (left new : Option (List ℕ)) (found : Result Output Refusal) (out err : SinkUse)
+    → IfSome (option_map wikitext_answer left) (λ a. Answered a found) → IsAtEnd new → FoundDone found out err
     → IfSome left (λ bytes. WroteSource bytes new out.taken_before out.taken_after)
 wikitext_found None new found out err a ended f = tt
 wikitext_found (Some bytes) new found out err a ended f =
     wrote_source bytes (output_bytes f.output) new out.taken_before out.taken_after (subst (Answered (wikitext_answer bytes)) f.is a) ended f.wrote.taken
 
-pub run_page : (words : List (List ℕ)) (input : SourceUse) (folder : FolderUse) (out err : SinkUse) (found : Result Output Refusal) (s : Status) (ended : ℕ) → ended ≡ code s
-    → IfSome (answer_told folder.pages_before input.left_before words) (λ a. Answered a found) → IfErr found (IsDue words input folder) → Reported found s out err
+pub run_page : (words : List (List ℕ)) (input : SourceUse) (folder : FolderUse) (out err : SinkUse)
+    (found : Result Output Refusal) (s : Status) (ended : ℕ) → ended ≡ code s
+    → IfSome (answer_told folder.pages_before input.left_before words) (λ a. Answered a found)
+    → IfErr found (IsDue words input folder) → Reported found s out err
     → (command : PageCommand) (title : List ℕ) → command_of words ≡ Some (Page command title) → ended ≡ code status.Done
     → IfSome folder.pages_before (λ pages. WrotePage command (pages title) out.taken_before out.taken_after)
 run_page words input folder out err found s ended is a due r command title w e =
@@ -287,8 +326,11 @@ run_page words input folder out err found s ended is a due r command title w e =
 ended_of : (found : Result Output Refusal) (left : Option (List ℕ)) (out err : SinkUse) → OnOk found (IsAtEnd left) → FoundDone found out err → IsAtEnd left
 ended_of found left out err h f = subst (λ x. OnOk x (IsAtEnd left)) f.is h
 
-pub run_wikitext : (words : List (List ℕ)) (input : SourceUse) (folder : FolderUse) (out err : SinkUse) (found : Result Output Refusal) (s : Status) (ended : ℕ) → ended ≡ code s
-    → IfSome (answer_told folder.pages_before input.left_before words) (λ a. Answered a found) → IfErr found (IsDue words input folder) → (Reads (command_of words) → OnOk found (IsAtEnd input.left_after)) → Reported found s out err
+pub run_wikitext : (words : List (List ℕ)) (input : SourceUse) (folder : FolderUse) (out err : SinkUse)
+    (found : Result Output Refusal) (s : Status) (ended : ℕ) → ended ≡ code s
+    → IfSome (answer_told folder.pages_before input.left_before words) (λ a. Answered a found)
+    → IfErr found (IsDue words input folder) → (Reads (command_of words) → OnOk found (IsAtEnd input.left_after))
+    → Reported found s out err
     → command_of words ≡ Some Wikitext → ended ≡ code status.Done
     → IfSome input.left_before (λ bytes. WroteSource bytes input.left_after out.taken_before out.taken_after)
 run_wikitext words input folder out err found s ended is a due ends r w e =

@@ -24,7 +24,8 @@ use Rattle.wt_pagetool.proofs.AnswerLaws.{too_long_given, answered_by}
 -- ---- reading
 
 -- a piece that would pass the limit
-pub past_most : (old mid new : Option (List ℕ)) (bytes piece : List ℕ) → Consumes old mid bytes → Consumes mid new piece → length bytes ≤ HTML_BYTES → HTML_BYTES - length bytes < length piece
+pub past_most : (old mid new : Option (List ℕ)) (bytes piece : List ℕ) → Consumes old mid bytes → Consumes mid new piece
+    → length bytes ≤ HTML_BYTES → HTML_BYTES - length bytes < length piece
     → IfSome old (λ all. wikitext_answer all ≡ refused InputTooLong)
 past_most old mid new bytes piece first second within past =
     too_long_given old new (bytes ++ piece) (Consumes-trans old mid new bytes piece first second) (simp length-append (omega arith))
@@ -39,7 +40,8 @@ pub source_sourced : (t : Tree) (o : Option ℕ) (text : List ℕ) → o ≡ Non
 unfolding source_answer
 source_sourced t o text none is = rw (none, is) refl
 
-pub answered_read : (edited : Edited) (bytes : List ℕ) (result : Result Output Refusal) → Answers (Ok edited) bytes → Answered (source_answer (as_page (body_of edited) (unsourced_of edited))) result
+pub answered_read : (edited : Edited) (bytes : List ℕ) (result : Result Output Refusal) → Answers (Ok edited) bytes
+    → Answered (source_answer (as_page (body_of edited) (unsourced_of edited))) result
     → Answered (source_answer (read bytes)) result
 answered_read edited bytes result reads answered = subst (λ r. Answered (source_answer r) result) (sym reads) answered
 
@@ -49,11 +51,13 @@ refused_read (refusals.Html place why) bytes reads = rw reads refl
 refused_read (refusals.Unfit n why) bytes reads = rw reads refl
 refused_read refusals.NoMemory bytes reads = tt
 
-pub refused_from : (refusal : HtmlRefusal) (bytes : List ℕ) (result : Result Output Refusal) → Answers (Err refusal) bytes → IsErrAnd result (λ r. r ≡ refusal_of refusal) → Answered (source_answer (read bytes)) result
+pub refused_from : (refusal : HtmlRefusal) (bytes : List ℕ) (result : Result Output Refusal) → Answers (Err refusal) bytes
+    → IsErrAnd result (λ r. r ≡ refusal_of refusal) → Answered (source_answer (read bytes)) result
 refused_from refusal bytes (Ok output) reads is = absurd is
 refused_from refusal bytes (Err r) reads is = subst (λ x. Refuses x (source_answer (read bytes))) (sym is) (refused_read refusal bytes reads)
 
 -- all of the input was fed, so what was fed decides the answer
-pub answered_whole : (reader : Reader) (old new : Option (List ℕ)) (result : Result Output Refusal) → FedWhole reader old new → ((bytes : List ℕ) → IsFed reader bytes → Answered (source_answer (read bytes)) result)
+pub answered_whole : (reader : Reader) (old new : Option (List ℕ)) (result : Result Output Refusal) → FedWhole reader old new
+    → ((bytes : List ℕ) → IsFed reader bytes → Answered (source_answer (read bytes)) result)
     → IfSome old (λ all. Answered (wikitext_answer all) result)
 answered_whole reader old new result whole answered = answered_by old whole.bytes result whole.whole whole.within (answered whole.bytes whole.fed)

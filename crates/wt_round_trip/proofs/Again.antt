@@ -42,7 +42,8 @@ pub written_again : (t : Tree) → html_text (unranged t) ≡ html_text t
 unfolding html_text
 written_again t = ap (λ x. frame_start ++ (x ++ frame_end)) (same_html t)
 
-same_shown : (s : Showing) (l m : Label) (f g : Plains → Plains) (rest : Plains) → l.shown ≡ m.shown → face l ≡ face m → ((ps : Plains) → f ps ≡ g ps) → shown_before s l f rest ≡ shown_before s m g rest
+same_shown : (s : Showing) (l m : Label) (f g : Plains → Plains) (rest : Plains) → l.shown ≡ m.shown → face l ≡ face m
+    → ((ps : Plains) → f ps ≡ g ps) → shown_before s l f rest ≡ shown_before s m g rest
 same_shown Characters l m f g rest e d h = ap (λ bs. text_before bs rest) e
 same_shown Inside l m f g rest e d h = h rest
 same_shown Nothing l m f g rest e d h = refl
@@ -50,7 +51,8 @@ same_shown Element l m f g rest e d h = ap₂ (λ x ps. along (element x ps) res
 
 mutual
   same_before : (t : Tree) (rest : Plains) → plain_before (unranged t) rest ≡ plain_before t rest
-  same_before (tree l ts) rest = same_shown (showing l.kind) (label_read l) l (λ ps. plains_before (unranged_all ts) ps) (λ ps. plains_before ts ps) rest refl refl (λ ps. same_all_before ts ps)
+  same_before (tree l ts) rest = same_shown (showing l.kind) (label_read l) l (λ ps. plains_before (unranged_all ts) ps)
+      (λ ps. plains_before ts ps) rest refl refl (λ ps. same_all_before ts ps)
 
   same_all_before : (ts : Trees) (rest : Plains) → plains_before (unranged_all ts) rest ≡ plains_before ts rest
   same_all_before no_trees rest = refl

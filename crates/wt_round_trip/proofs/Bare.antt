@@ -45,7 +45,8 @@ text_same r (b ∷ bs) (more (tree l us) ts) = by_test (is_as_text (writing l.ki
   where
     by_test : (x : Bool)
         → unranged_all (if x then more (sep_leaf (joined_ranges r l.ranges) ((b ∷ bs) ++ l.own)) ts else more (sep_leaf r (b ∷ bs)) (more (tree l us) ts))
-        ≡ (if x then more (sep_leaf (joined_ranges None (ranges_read (writing l.kind) l.ranges)) ((b ∷ bs) ++ l.own)) (unranged_all ts) else more (sep_leaf None (b ∷ bs)) (unranged_all (more (tree l us) ts)))
+        ≡ (if x then more (sep_leaf (joined_ranges None (ranges_read (writing l.kind) l.ranges)) ((b ∷ bs) ++ l.own))
+        (unranged_all ts) else more (sep_leaf None (b ∷ bs)) (unranged_all (more (tree l us) ts)))
     by_test true = refl
     by_test false = refl
 
@@ -62,11 +63,13 @@ joined_same : (ts : Trees) → unranged_all (joined_texts ts) ≡ joined_texts (
 joined_same none = refl
 joined_same (more t ts) = onto_same t (joined_texts ts) ∙ ap (onto (unranged t)) (joined_same ts)
 
-parts_same : (r : Option Ranges) (front rest : List ℕ) (ts : Trees) → unranged_all (parts_before r front rest ts) ≡ parts_before None front rest (unranged_all ts)
+parts_same : (r : Option Ranges) (front rest : List ℕ) (ts : Trees) → unranged_all (parts_before r front rest ts)
+    ≡ parts_before None front rest (unranged_all ts)
 parts_same r front [] ts = refl
 parts_same r [] (b ∷ bs) ts = by_test (is_blank (b ∷ bs))
   where
-    by_test : (x : Bool) → unranged_all (more (if x then sep_leaf r (b ∷ bs) else text_leaf r (b ∷ bs)) ts) ≡ more (if x then sep_leaf None (b ∷ bs) else text_leaf None (b ∷ bs)) (unranged_all ts)
+    by_test : (x : Bool) → unranged_all (more (if x then sep_leaf r (b ∷ bs) else text_leaf r (b ∷ bs)) ts)
+        ≡ more (if x then sep_leaf None (b ∷ bs) else text_leaf None (b ∷ bs)) (unranged_all ts)
     by_test true = refl
     by_test false = refl
 parts_same r (c ∷ cs) (b ∷ bs) ts = by_test (is_blank (b ∷ bs))
@@ -75,8 +78,10 @@ parts_same r (c ∷ cs) (b ∷ bs) ts = by_test (is_blank (b ∷ bs))
     n = length (c ∷ cs)
 
     by_test : (x : Bool)
-        → unranged_all (if x then more (text_leaf (front_ranges n r) (c ∷ cs)) (more (sep_leaf (rest_ranges n r) (b ∷ bs)) ts) else more (text_leaf r ((c ∷ cs) ++ (b ∷ bs))) ts)
-        ≡ (if x then more (text_leaf None (c ∷ cs)) (more (sep_leaf None (b ∷ bs)) (unranged_all ts)) else more (text_leaf None ((c ∷ cs) ++ (b ∷ bs))) (unranged_all ts))
+        → unranged_all (if x then more (text_leaf (front_ranges n r) (c ∷ cs)) (more (sep_leaf (rest_ranges n r) (b ∷ bs)) ts)
+        else more (text_leaf r ((c ∷ cs) ++ (b ∷ bs))) ts)
+        ≡ (if x then more (text_leaf None (c ∷ cs)) (more (sep_leaf None (b ∷ bs)) (unranged_all ts)) else
+        more (text_leaf None ((c ∷ cs) ++ (b ∷ bs))) (unranged_all ts))
     by_test true = refl
     by_test false = refl
 
@@ -89,7 +94,8 @@ cut_same behind leads (tree l us) ts = by_test (is_as_text (writing l.kind)) ref
     by_test : (x : Bool) → is_as_text (writing l.kind) ≡ x
         → unranged_all (if x then text_before all l.ranges l.own ts else more (tree l us) ts)
         ≡ (if x then text_before all (ranges_read (writing l.kind) l.ranges) l.own (unranged_all ts) else more (unranged (tree l us)) (unranged_all ts))
-    by_test true e = parts_same l.ranges (front_of all l.own) (rest_of all l.own) ts ∙ ap (λ r. text_before all r l.own (unranged_all ts)) (sym (text_ranges l e))
+    by_test true e = parts_same l.ranges (front_of all l.own) (rest_of all l.own) ts
+        ∙ ap (λ r. text_before all r l.own (unranged_all ts)) (sym (text_ranges l e))
     by_test false e = refl
 
 cut_from_same : (behind : Bool) (ts : Trees) → unranged_all (cut_from behind ts) ≡ cut_from behind (unranged_all ts)

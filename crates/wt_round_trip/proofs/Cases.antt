@@ -47,7 +47,9 @@ text_leaf start end bs = tree (record (blank kind.Text 0 start end) { own = bs; 
 
 -- the empty page
 empty_page : read (html_text (body 0 none)) ≡ page (body 0 none) None
-unfolding read read_tree sync_told sync_of_data is_sync_shape html_text frame_start frame_end start_tag end_tag attributes_of id_attribute mw_attribute sync_of sync_start sync_value sync_attribute spelling attribute_name placeholder sync_text sync_members escape escape_single serde_json_on_literals digits tag_name
+unfolding read read_tree sync_told sync_of_data is_sync_shape html_text frame_start frame_end start_tag end_tag attributes_of
+    id_attribute mw_attribute sync_of sync_start sync_value sync_attribute spelling attribute_name placeholder sync_text
+    sync_members escape escape_single serde_json_on_literals digits tag_name
 empty_page = refl
 
 -- the page `a`
@@ -55,39 +57,64 @@ abbrev letter_page : Tree
 letter_page = body 1 (more (tree (blank kind.Para 1 0 1) (more (text_leaf 0 1 (codes "a")) none)) none)
 
 one_letter : read (html_text letter_page) ≡ page (unranged letter_page) None
-unfolding read read_tree sync_told sync_of_data is_sync_shape html_text frame_start frame_end start_tag end_tag attributes_of id_attribute mw_attribute sync_of sync_start sync_value sync_attribute spelling attribute_name placeholder sync_text sync_members escape escape_single serde_json_on_literals digits tag_name
+unfolding read read_tree sync_told sync_of_data is_sync_shape html_text frame_start frame_end start_tag end_tag attributes_of
+    id_attribute mw_attribute sync_of sync_start sync_value sync_attribute spelling attribute_name placeholder sync_text
+    sync_members escape escape_single serde_json_on_literals digits tag_name
 one_letter = refl
 
 -- `&lt;` in a paragraph
 entity_page : Tree
-entity_page = body 4 (more (tree (blank kind.Para 1 0 4) (more (tree (record (wide kind.Entity 2 0 4 4 0) { own = codes "&lt;"; shown = codes "<" }) none) none)) none)
+entity_page = body 4 (more (tree (blank kind.Para 1 0 4)
+    (more (tree (record (wide kind.Entity 2 0 4 4 0) { own = codes "&lt;"; shown = codes "<" }) none) none)) none)
 
 one_entity : read (html_text entity_page) ≡ page (unranged entity_page) None
-unfolding entity_page read read_tree sync_told sync_of_data is_sync_shape html_text frame_start frame_end start_tag void_tag end_tag attributes_of attribute attribute_name id_attribute mw_attribute sync_of sync_start sync_value sync_attribute spelling placeholder sync_text sync_members escape escape_double escape_single serde_json_on_literals digits lib.Utf8.encode tag_name
+unfolding entity_page read read_tree sync_told sync_of_data is_sync_shape html_text frame_start frame_end start_tag void_tag
+    end_tag attributes_of attribute attribute_name id_attribute mw_attribute sync_of sync_start sync_value sync_attribute spelling
+    placeholder sync_text sync_members escape escape_double escape_single serde_json_on_literals digits lib.Utf8.encode tag_name
 one_entity = refl
 
 -- an apostrophe as nowiki
 nowiki_page : Tree
-nowiki_page = body 18 (more (tree (blank kind.Para 1 0 18) (more (tree (record (wide kind.Nowiki 2 0 18 8 9) { opening = codes "<nowiki>"; closing = codes "</nowiki>" }) (more (text_leaf 8 9 (codes "'")) none)) none)) none)
+nowiki_page = body 18 (more (tree (blank kind.Para 1 0 18)
+    (more (tree (record (wide kind.Nowiki 2 0 18 8 9) { opening = codes "<nowiki>"; closing = codes "</nowiki>" })
+    (more (text_leaf 8 9 (codes "'")) none)) none)) none)
 
 one_nowiki : read (html_text nowiki_page) ≡ page (unranged nowiki_page) None
-unfolding nowiki_page read read_tree sync_told sync_of_data is_sync_shape html_text frame_start frame_end start_tag void_tag end_tag attributes_of attribute attribute_name id_attribute mw_attribute sync_of sync_start sync_value sync_attribute spelling placeholder sync_text sync_members escape escape_double escape_single serde_json_on_literals digits lib.Utf8.encode tag_name
+unfolding nowiki_page read read_tree sync_told sync_of_data is_sync_shape html_text frame_start frame_end start_tag void_tag
+    end_tag attributes_of attribute attribute_name id_attribute mw_attribute sync_of sync_start sync_value sync_attribute spelling
+    placeholder sync_text sync_members escape escape_double escape_single serde_json_on_literals digits lib.Utf8.encode tag_name
 one_nowiki = refl
 
 -- an extension tag that closes itself
 island_page : Tree
-island_page = body 6 (more (tree (blank kind.Para 1 0 6) (more (tree (record (wide kind.Island 2 0 6 6 0) { own = codes "<ref/>"; attrs = (attr.Typeof, codes "mw:Extension/ref") ∷ []; mw = Some (mw.Extension (codes "ref") None) }) none) none)) none)
+island_page = body 6 (more (tree (blank kind.Para 1 0 6)
+    (more (tree (record (wide kind.Island 2 0 6 6 0) {
+      own = codes "<ref/>";
+      attrs = (attr.Typeof, codes "mw:Extension/ref") ∷ [];
+      mw = Some (mw.Extension (codes "ref") None);
+    }) none) none)) none)
 
 one_island : read (html_text island_page) ≡ page (unranged island_page) None
-unfolding island_page read read_tree sync_told sync_of_data is_sync_shape html_text frame_start frame_end start_tag void_tag end_tag attributes_of attribute attribute_name id_attribute mw_attribute sync_of sync_start sync_value sync_attribute spelling placeholder sync_text sync_members escape escape_double escape_single serde_json_on_literals digits lib.Utf8.encode mw_text mw_told mw_of_data is_mw_shape has_small_numbers extension_prefix is_extension tag_name
+unfolding island_page read read_tree sync_told sync_of_data is_sync_shape html_text frame_start frame_end start_tag void_tag
+    end_tag attributes_of attribute attribute_name id_attribute mw_attribute sync_of sync_start sync_value sync_attribute spelling
+    placeholder sync_text sync_members escape escape_double escape_single serde_json_on_literals digits lib.Utf8.encode mw_text
+    mw_told mw_of_data is_mw_shape has_small_numbers extension_prefix is_extension tag_name
 one_island = refl
 
 -- a comment and an include tag, directly in the body
 marks_page : Tree
-marks_page = body 19 (more (tree (record (wide kind.Comment 1 0 8 8 0) { own = codes "<!--a-->" }) none) (more (tree (record (wide kind.Include 2 8 19 11 0) { own = codes "<noinclude>"; attrs = (attr.Typeof, codes "mw:Includes/NoInclude") ∷ [] }) none) none))
+marks_page = body 19 (more (tree (record (wide kind.Comment 1 0 8 8 0) { own = codes "<!--a-->" }) none)
+    (more (tree (record (wide kind.Include 2 8 19 11 0) {
+      own = codes "<noinclude>";
+      attrs =
+          (attr.Typeof, codes "mw:Includes/NoInclude") ∷ [];
+    }) none) none))
 
 two_marks : read (html_text marks_page) ≡ page (unranged marks_page) None
-unfolding marks_page read read_tree sync_told sync_of_data is_sync_shape html_text frame_start frame_end start_tag void_tag end_tag attributes_of attribute attribute_name id_attribute mw_attribute sync_of sync_start sync_value sync_attribute spelling placeholder sync_text sync_members escape escape_double escape_single serde_json_on_literals digits lib.Utf8.encode no_include no_include_end only_include only_include_end include_only tag_name
+unfolding marks_page read read_tree sync_told sync_of_data is_sync_shape html_text frame_start frame_end start_tag void_tag
+    end_tag attributes_of attribute attribute_name id_attribute mw_attribute sync_of sync_start sync_value sync_attribute spelling
+    placeholder sync_text sync_members escape escape_double escape_single serde_json_on_literals digits lib.Utf8.encode no_include
+    no_include_end only_include only_include_end include_only tag_name
 two_marks = refl
 
 -- a heading with its delimiters, a quote among them; characters that are escaped, one of two bytes
@@ -95,12 +122,15 @@ two_marks = refl
 abbrev heading_page : Tree
 heading_page =
     body 17
-    (more (tree (record (blank (kind.Heading 2) 1 0 13) { opening = codes "== "; closing = codes " =='" }) (more (text_leaf 3 9 (codes "<&>" ++ (195 ∷ 169 ∷ 1 ∷ []))) none))
+    (more (tree (record (blank (kind.Heading 2) 1 0 13) { opening = codes "== "; closing = codes " =='" })
+    (more (text_leaf 3 9 (codes "<&>" ++ (195 ∷ 169 ∷ 1 ∷ []))) none))
     (more (tree (record (blank kind.Sep 0 13 15) { own = codes "\n\t" }) none)
     (more (tree (blank kind.Para 2 15 17) (more (text_leaf 15 17 (codes "\"'")) none)) none)))
 
 heading : read (html_text heading_page) ≡ page (unranged heading_page) None
-unfolding read read_tree sync_told sync_of_data is_sync_shape html_text frame_start frame_end start_tag end_tag attributes_of id_attribute mw_attribute sync_of sync_start sync_value sync_attribute spelling attribute_name placeholder sync_text sync_members escape escape_single serde_json_on_literals digits tag_name
+unfolding read read_tree sync_told sync_of_data is_sync_shape html_text frame_start frame_end start_tag end_tag attributes_of
+    id_attribute mw_attribute sync_of sync_start sync_value sync_attribute spelling attribute_name placeholder sync_text
+    sync_members escape escape_single serde_json_on_literals digits tag_name
 heading = refl
 
 -- two texts next to each other are read as one
@@ -111,7 +141,9 @@ abbrev one_text : Tree
 one_text = body 2 (more (tree (blank kind.Para 1 0 2) (more (text_leaf 0 2 (codes "ab")) none)) none)
 
 two_as_one : read (html_text two_texts) ≡ page (unranged one_text) None
-unfolding read read_tree sync_told sync_of_data is_sync_shape html_text frame_start frame_end start_tag end_tag attributes_of id_attribute mw_attribute sync_of sync_start sync_value sync_attribute spelling attribute_name placeholder sync_text sync_members escape escape_single serde_json_on_literals digits tag_name
+unfolding read read_tree sync_told sync_of_data is_sync_shape html_text frame_start frame_end start_tag end_tag attributes_of
+    id_attribute mw_attribute sync_of sync_start sync_value sync_attribute spelling attribute_name placeholder sync_text
+    sync_members escape escape_single serde_json_on_literals digits tag_name
 two_as_one = refl
 
 -- an item with a list in it: a text, the separator at the border, and the list
@@ -123,8 +155,12 @@ item inside = tree (record (wide kind.Li 2 0 7 1 0) { opening = codes "*" }) ins
 
 abbrev list_page : Tree
 list_page =
-    body 7 (more (tree (blank kind.Ul 1 0 7) (more (item (more (text_leaf 1 3 (codes " a")) (more (sep_leaf 3 4 (codes "\n")) (more (tree (blank kind.Ol 3 4 7) none) none)))) none)) none)
+    body 7 (more (tree (blank kind.Ul 1 0 7) (more
+    (item (more (text_leaf 1 3 (codes " a")) (more (sep_leaf 3 4 (codes "\n"))
+    (more (tree (blank kind.Ol 3 4 7) none) none)))) none)) none)
 
 one_item : read (html_text list_page) ≡ page (unranged list_page) None
-unfolding read read_tree sync_told sync_of_data is_sync_shape html_text frame_start frame_end start_tag end_tag attributes_of id_attribute mw_attribute sync_of sync_start sync_value sync_attribute spelling attribute_name placeholder sync_text sync_members escape escape_single serde_json_on_literals digits tag_name
+unfolding read read_tree sync_told sync_of_data is_sync_shape html_text frame_start frame_end start_tag end_tag attributes_of
+    id_attribute mw_attribute sync_of sync_start sync_value sync_attribute spelling attribute_name placeholder sync_text
+    sync_members escape escape_single serde_json_on_literals digits tag_name
 one_item = refl

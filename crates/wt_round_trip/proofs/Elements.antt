@@ -58,7 +58,8 @@ signs_spelled (p ∷ ps) items = ap (λ x. spell_piece p ++ x) (signs_spelled ps
 pub attributes_spelled : (l : Label) → IsTold l → l.id < 2 ^ 64 → spell_attributes (attributes_for (said_of l)) ≡ attributes_of l
 attributes_spelled l t h = said_spelled [] (said_of l) t.good ∙ said_is l h
 
-pub element_spelled : (l : Label) (inside : Items) (bytes : List ℕ) → spell_attributes (attributes_for (said_of l)) ≡ attributes_of l → spell_items inside ≡ bytes
+pub element_spelled : (l : Label) (inside : Items) (bytes : List ℕ) → spell_attributes (attributes_for (said_of l))
+    ≡ attributes_of l → spell_items inside ≡ bytes
     → spell (element_for l inside) ≡ start_tag l ++ (bytes ++ end_tag l)
 unfolding start_tag end_tag
 element_spelled l inside bytes e f =
@@ -80,21 +81,26 @@ shown_utf8 l k h e = let f : shows_text l.kind ≡ true = k.shows ∙ ap is_roun
 held_spelled : (parent : Kind) (l : Label) → may_hold parent l.kind ≡ true → IsElementLabel l → spell_attributes (attributes_for (said_of l)) ≡ attributes_of l
 held_spelled parent l m h = attributes_spelled l (told l (held_kind parent l m h) h) (small_id l h)
 
-spelled_by : (w : Writing) (k : ℕ) (parent : Kind) (l : Label) (childless : Bool) (H : Type 0) (inside : Items) (bytes : List ℕ) (rest : Items) → writing l.kind ≡ w
+spelled_by : (w : Writing) (k : ℕ) (parent : Kind) (l : Label) (childless : Bool) (H : Type 0) (inside : Items) (bytes : List ℕ)
+    (rest : Items) → writing l.kind ≡ w
     → NodeIsWritten w k parent l childless H → (H → spell_items inside ≡ bytes) → spell_items (placed w l inside rest) ≡ written w l bytes ++ spell_items rest
 spelled_by AsText k parent l childless H inside bytes rest e h f =
     signs_spelled (pieces l.own) rest ∙ ap (λ x. x ++ spell_items rest) (pieces_spelled _ _ _ spells_text l.own h.0.characters)
 spelled_by AsVoid k parent l childless H inside bytes rest e h f = ap (λ x. x ++ spell_items rest) (void_spelled l (held_spelled parent l h.1 h.2))
 spelled_by RoundCharacter k parent l childless H inside bytes rest e h f =
     let u : IsUtf8 l.shown = shown_utf8 l (held_kind parent l h.1 h.2) h.2 e in
-    ap (λ x. x ++ spell_items rest) (element_spelled l (signs (pieces l.shown) none) (escaped l.shown) (held_spelled parent l h.1 h.2) (character_spelled l.shown u))
-spelled_by RoundChildren k parent l childless H inside bytes rest e h f = ap (λ x. x ++ spell_items rest) (element_spelled l inside bytes (held_spelled parent l h.1 h.2) (f h.4))
+    ap (λ x. x ++ spell_items rest) (element_spelled l (signs (pieces l.shown) none) (escaped l.shown)
+    (held_spelled parent l h.1 h.2) (character_spelled l.shown u))
+spelled_by RoundChildren k parent l childless H inside bytes rest e h f =
+    ap (λ x. x ++ spell_items rest) (element_spelled l inside bytes (held_spelled parent l h.1 h.2) (f h.4))
 spelled_by Unwritten k parent l childless H inside bytes rest e h f = absurd h
 
 mutual
   pub item_spelled : (t : Tree) (k : ℕ) (parent : Kind) (rest : Items) → WrittenIn k parent t → spell_items (item_before t rest) ≡ html t ++ spell_items rest
   item_spelled (tree l ts) k parent rest h =
-      spelled_by (writing l.kind) k parent l (is_childless ts) (IsCutIn (texts_of_kind l.kind) ts × AllWrittenIn (suc k) l.kind ts) (items_of ts) (html_of_all ts) rest refl h (λ i. items_spelled ts (suc k) l.kind i.1)
+      spelled_by (writing l.kind) k parent l (is_childless ts)
+      (IsCutIn (texts_of_kind l.kind) ts × AllWrittenIn (suc k) l.kind ts) (items_of ts) (html_of_all ts) rest refl h
+      (λ i. items_spelled ts (suc k) l.kind i.1)
 
   pub items_spelled : (ts : Trees) (k : ℕ) (parent : Kind) → AllWrittenIn k parent ts → spell_items (items_of ts) ≡ html_of_all ts
   items_spelled no_trees k parent h = refl
@@ -106,7 +112,8 @@ signs_good : (ps : List Piece) (k : ℕ) (items : Items) → ArePieces in_text p
 signs_good [] k items h i = i
 signs_good (p ∷ ps) k items h i = (h.0, signs_good ps k items h.1 i)
 
-pub element_good : (l : Label) (k : ℕ) (inside : Items) → k < 200 → IsElementKind l.kind l.attrs → is_as_void (writing l.kind) ≡ false → IsTold l → AreItems (suc k) inside → IsElement k (element_for l inside)
+pub element_good : (l : Label) (k : ℕ) (inside : Items) → k < 200 → IsElementKind l.kind l.attrs
+    → is_as_void (writing l.kind) ≡ false → IsTold l → AreItems (suc k) inside → IsElement k (element_for l inside)
 element_good l k inside h e w t i = (h, e.name, said_good [] (said_of l) t.good, tt, i, tt, e.whole ∙ w)
 
 void_good : (l : Label) (k : ℕ) → k < 200 → IsElementKind l.kind l.attrs → is_as_void (writing l.kind) ≡ true → IsTold l → IsElement k (void_for l)
@@ -130,7 +137,8 @@ good_by Unwritten k parent l childless H inside rest e h f g = absurd h
 mutual
   pub item_good : (t : Tree) (k : ℕ) (parent : Kind) (rest : Items) → WrittenIn k parent t → AreItems k rest → AreItems k (item_before t rest)
   item_good (tree l ts) k parent rest h g =
-      good_by (writing l.kind) k parent l (is_childless ts) (IsCutIn (texts_of_kind l.kind) ts × AllWrittenIn (suc k) l.kind ts) (items_of ts) rest refl h (λ i. items_good ts (suc k) l.kind i.1) g
+      good_by (writing l.kind) k parent l (is_childless ts) (IsCutIn (texts_of_kind l.kind) ts × AllWrittenIn (suc k) l.kind ts)
+      (items_of ts) rest refl h (λ i. items_good ts (suc k) l.kind i.1) g
 
   pub items_good : (ts : Trees) (k : ℕ) (parent : Kind) → AllWrittenIn k parent ts → AreItems k (items_of ts)
   items_good no_trees k parent h = tt
@@ -193,31 +201,38 @@ character_stands : (bs : List ℕ) → IsUtf8 bs → contents [] (signs (pieces 
 character_stands bs u = signs_stand (pieces bs) [] none ∙ ap (λ r. flush r empty) (pieces_stand _ _ _ spells_text bs u)
 
 -- an element after a run of characters, before others
-child_stands : (l : Label) (e : Element) (m n : Markups) (rest : Items) (run : List ℕ) → meaning e ≡ node_for l m → contents [] rest ≡ n → contents run (child e rest) ≡ text_before run (more (node_for l m) n)
+child_stands : (l : Label) (e : Element) (m n : Markups) (rest : Items) (run : List ℕ) → meaning e ≡ node_for l m
+    → contents [] rest ≡ n → contents run (child e rest) ≡ text_before run (more (node_for l m) n)
 child_stands l e m n rest run f g = ap₂ (λ x y. flush run (more x y)) f g ∙ text_node run (element_name l.kind) (pairs (said_of l)) m n
 
-stands_by : (w : Writing) (k : ℕ) (parent : Kind) (l : Label) (childless : Bool) (H : Type 0) (inside rest : Items) (m n : Markups) (run : List ℕ) → writing l.kind ≡ w
+stands_by : (w : Writing) (k : ℕ) (parent : Kind) (l : Label) (childless : Bool) (H : Type 0) (inside rest : Items)
+    (m n : Markups) (run : List ℕ) → writing l.kind ≡ w
     → NodeIsWritten w k parent l childless H → (H → contents [] inside ≡ m) → ((r : List ℕ) → contents r rest ≡ text_before r n)
     → contents run (placed w l inside rest) ≡ text_before run (marked_up w l m n)
 stands_by AsText k parent l childless H inside rest m n run e h f g =
-    signs_stand (pieces l.own) run rest ∙ ap (λ r. contents (run ++ r) rest) (pieces_stand _ _ _ spells_text l.own h.0.characters) ∙ g (run ++ l.own) ∙ sym (text_twice run l.own n)
+    signs_stand (pieces l.own) run rest ∙ ap (λ r. contents (run ++ r) rest) (pieces_stand _ _ _ spells_text l.own h.0.characters)
+    ∙ g (run ++ l.own) ∙ sym (text_twice run l.own n)
 stands_by AsVoid k parent l childless H inside rest m n run e h f g =
     child_stands l (void_for l) empty n rest run (void_stands l (told l (held_kind parent l h.1 h.2) h.2)) (g [])
 stands_by RoundCharacter k parent l childless H inside rest m n run e h f g =
     let i : IsElementKind l.kind l.attrs = held_kind parent l h.1 h.2 in
     let u : IsUtf8 l.shown = shown_utf8 l i h.2 e in
-    child_stands l (element_for l (signs (pieces l.shown) none)) (flush l.shown empty) n rest run (element_stands l (signs (pieces l.shown) none) (flush l.shown empty) (told l i h.2) (character_stands l.shown u)) (g [])
+    child_stands l (element_for l (signs (pieces l.shown) none)) (flush l.shown empty) n rest run
+    (element_stands l (signs (pieces l.shown) none) (flush l.shown empty) (told l i h.2) (character_stands l.shown u)) (g [])
 stands_by RoundChildren k parent l childless H inside rest m n run e h f g =
     child_stands l (element_for l inside) m n rest run (element_stands l inside m (told l (held_kind parent l h.1 h.2) h.2) (f h.4)) (g [])
 stands_by Unwritten k parent l childless H inside rest m n run e h f g = absurd h
 
 mutual
-  pub item_stands : (t : Tree) (k : ℕ) (parent : Kind) (rest : Items) (n : Markups) (run : List ℕ) → WrittenIn k parent t → ((r : List ℕ) → contents r rest ≡ text_before r n)
+  pub item_stands : (t : Tree) (k : ℕ) (parent : Kind) (rest : Items) (n : Markups) (run : List ℕ) → WrittenIn k parent t
+      → ((r : List ℕ) → contents r rest ≡ text_before r n)
       → contents run (item_before t rest) ≡ text_before run (markup_before t n)
   item_stands (tree l ts) k parent rest n run h g =
-      stands_by (writing l.kind) k parent l (is_childless ts) (IsCutIn (texts_of_kind l.kind) ts × AllWrittenIn (suc k) l.kind ts) (items_of ts) rest (markups_of ts) n run refl h
+      stands_by (writing l.kind) k parent l (is_childless ts) (IsCutIn (texts_of_kind l.kind) ts × AllWrittenIn (suc k) l.kind ts)
+      (items_of ts) rest (markups_of ts) n run refl h
       (λ i. items_stand ts (suc k) l.kind [] i.1) g
 
-  pub items_stand : (ts : Trees) (k : ℕ) (parent : Kind) (run : List ℕ) → AllWrittenIn k parent ts → contents run (items_of ts) ≡ text_before run (markups_of ts)
+  pub items_stand : (ts : Trees) (k : ℕ) (parent : Kind) (run : List ℕ) → AllWrittenIn k parent ts
+      → contents run (items_of ts) ≡ text_before run (markups_of ts)
   items_stand no_trees k parent run h = text_empty run
   items_stand (one_more t ts) k parent run h = item_stands t k parent (items_of ts) (markups_of ts) run h.0 (λ r. items_stand ts k parent r h.2)

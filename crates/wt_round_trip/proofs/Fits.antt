@@ -55,14 +55,17 @@ leaf_is : (parent : Kind) (own : List ℕ) → shows_text parent ≡ false → l
 leaf_is parent own e = if_false (shows_text parent) _ _ e ∙ by_test (holds_text parent)
   where
     by_test : (b : Bool)
-        → (if b then Some (text_leaf None own) else Some (sep_leaf None own)) ≡ Some (tree (leaf_label (if b then kind.Text else kind.Sep) None own (shown_of (if b then kind.Text else kind.Sep) own)) no_trees)
+        → (if b then Some (text_leaf None own) else Some (sep_leaf None own))
+        ≡ Some (tree (leaf_label (if b then kind.Text else kind.Sep) None own
+        (shown_of (if b then kind.Text else kind.Sep) own)) no_trees)
     by_test true = refl
     by_test false = refl
 
 -- a text before others, which is read as one with a text that follows
 abbrev merged_text : Kind → List ℕ → Trees → Trees
 merged_text parent own no_trees = one_more (leaf_of parent own) no_trees
-merged_text parent own (one_more t ts) = if is_text t then one_more (leaf_of parent (own ++ (label t).own)) ts else one_more (leaf_of parent own) (one_more t ts)
+merged_text parent own (one_more t ts) = if is_text t then one_more (leaf_of parent (own ++ (label t).own)) ts else
+    one_more (leaf_of parent own) (one_more t ts)
 
 abbrev pub merged : Kind → Trees → Trees
 merged parent no_trees = no_trees
@@ -76,7 +79,8 @@ merged_twice parent bs cs (one_more t ts) = by_test (is_text t)
         → merged_text parent bs (if x then one_more (leaf_of parent (cs ++ (label t).own)) ts else one_more (leaf_of parent cs) (one_more t ts))
         ≡ (if x then one_more (leaf_of parent ((bs ++ cs) ++ (label t).own)) ts else one_more (leaf_of parent (bs ++ cs)) (one_more t ts))
     by_test true =
-        if_true (is_text (leaf_of parent (cs ++ (label t).own))) _ _ (leaf_text parent (cs ++ (label t).own)) ∙ ap (λ x. one_more (leaf_of parent x) ts) (sym (append_assoc bs cs (label t).own))
+        if_true (is_text (leaf_of parent (cs ++ (label t).own))) _ _ (leaf_text parent (cs ++ (label t).own))
+        ∙ ap (λ x. one_more (leaf_of parent x) ts) (sym (append_assoc bs cs (label t).own))
     by_test false = if_true (is_text (leaf_of parent cs)) _ _ (leaf_text parent cs)
 
 unranged_text : (t : Tree) → is_text (unranged t) ≡ is_text t
@@ -98,7 +102,8 @@ is_bordered Bordered = true
 is_bordered OwnCharacter = false
 
 -- where a text and a separator don't stand beside each other, each is read as it is
-text_label : (parent : Kind) (l : Label) → l.kind ≡ leaf_kind parent → IsTextIn parent l → leaf_label (leaf_kind parent) None l.own (shown_of (leaf_kind parent) l.own) ≡ label_read l
+text_label : (parent : Kind) (l : Label) → l.kind ≡ leaf_kind parent → IsTextIn parent l
+    → leaf_label (leaf_kind parent) None l.own (shown_of (leaf_kind parent) l.own) ≡ label_read l
 text_label parent l e h =
     let w : writing l.kind ≡ AsText = ap writing e ∙ leaf_as_text parent in
     rw (w, h.shown, e, h.id, h.opening, h.closing, h.attrs, h.origin, h.mark, h.mw)
@@ -115,30 +120,38 @@ plain_joins Page b e = refl
 plain_joins Bordered b e = absurd (cc e)
 plain_joins OwnCharacter b e = refl
 
-merged_alone : (parent : Kind) (own : List ℕ) (ts : Trees) → begins_with_text ts ≡ false → merged_text parent own (unranged_all ts) ≡ one_more (leaf_of parent own) (unranged_all ts)
+merged_alone : (parent : Kind) (own : List ℕ) (ts : Trees) → begins_with_text ts ≡ false
+    → merged_text parent own (unranged_all ts) ≡ one_more (leaf_of parent own) (unranged_all ts)
 merged_alone parent own no_trees e = refl
 merged_alone parent own (one_more t ts) e = if_false (is_text (unranged t)) _ _ (unranged_text t ∙ e)
 
-alone_by : (w : Writing) (k : ℕ) (parent : Kind) (l : Label) (us ts : Trees) (H : Type 0) → writing l.kind ≡ w → is_bordered (texts_of_kind parent) ≡ false → NodeIsWritten w k parent l (is_childless us) H
+alone_by : (w : Writing) (k : ℕ) (parent : Kind) (l : Label) (us ts : Trees) (H : Type 0) → writing l.kind ≡ w
+    → is_bordered (texts_of_kind parent) ≡ false → NodeIsWritten w k parent l (is_childless us) H
     → (is_as_text w && begins_with_text ts) ≡ false
-    → (if is_as_text w then merged_text parent l.own (unranged_all ts) else one_more (tree (label_read l) (unranged_all us)) (unranged_all ts)) ≡ one_more (tree (label_read l) (unranged_all us)) (unranged_all ts)
+    → (if is_as_text w then merged_text parent l.own (unranged_all ts) else one_more (tree (label_read l) (unranged_all us))
+    (unranged_all ts)) ≡ one_more (tree (label_read l) (unranged_all us)) (unranged_all ts)
 alone_by AsText k parent l us ts H e b h a =
     merged_alone parent l.own ts a
-    ∙ ap₂ (λ x y. one_more (tree x y) (unranged_all ts)) (text_label parent l (plain_kind (texts_of_kind parent) (leaf_kind parent) l.kind b h.0.kind) h.0) (sym (no_children us h.1))
+    ∙ ap₂ (λ x y. one_more (tree x y) (unranged_all ts))
+    (text_label parent l (plain_kind (texts_of_kind parent) (leaf_kind parent) l.kind b h.0.kind) h.0) (sym (no_children us h.1))
 alone_by AsVoid k parent l us ts H e b h a = refl
 alone_by RoundCharacter k parent l us ts H e b h a = refl
 alone_by RoundChildren k parent l us ts H e b h a = refl
 alone_by Unwritten k parent l us ts H e b h a = absurd h
 
-alone_read : (k : ℕ) (parent : Kind) (t : Tree) (ts : Trees) → is_bordered (texts_of_kind parent) ≡ false → WrittenIn k parent t → (is_text t && begins_with_text ts) ≡ false
-    → (if is_text t then merged_text parent (label (unranged t)).own (unranged_all ts) else one_more (unranged t) (unranged_all ts)) ≡ one_more (unranged t) (unranged_all ts)
+alone_read : (k : ℕ) (parent : Kind) (t : Tree) (ts : Trees) → is_bordered (texts_of_kind parent) ≡ false → WrittenIn k parent t
+    → (is_text t && begins_with_text ts) ≡ false
+    → (if is_text t then merged_text parent (label (unranged t)).own (unranged_all ts) else
+    one_more (unranged t) (unranged_all ts)) ≡ one_more (unranged t) (unranged_all ts)
 alone_read k parent (tree l us) ts b h a =
     alone_by (writing l.kind) k parent l us ts (IsCutIn (texts_of_kind l.kind) us × AllWrittenIn (suc k) l.kind us) refl b h a
 
-plain_read : (ts : Trees) (k : ℕ) (parent : Kind) → is_bordered (texts_of_kind parent) ≡ false → AllWrittenIn k parent ts → merged parent (unranged_all ts) ≡ unranged_all ts
+plain_read : (ts : Trees) (k : ℕ) (parent : Kind) → is_bordered (texts_of_kind parent) ≡ false → AllWrittenIn k parent ts
+    → merged parent (unranged_all ts) ≡ unranged_all ts
 plain_read no_trees k parent b h = refl
 plain_read (one_more t ts) k parent b h =
-    ap (λ x. if x then merged_text parent (label (unranged t)).own (merged parent (unranged_all ts)) else one_more (unranged t) (merged parent (unranged_all ts))) (unranged_text t)
+    ap (λ x. if x then merged_text parent (label (unranged t)).own (merged parent (unranged_all ts)) else
+    one_more (unranged t) (merged parent (unranged_all ts))) (unranged_text t)
     ∙ ap (λ us. if is_text t then merged_text parent (label (unranged t)).own us else one_more (unranged t) us) (plain_read ts k parent b h.2)
     ∙ alone_read k parent t ts b h.0 (sym (plain_joins (texts_of_kind parent) (is_text t && begins_with_text ts) b) ∙ h.1)
 
@@ -183,7 +196,8 @@ merged_onto parent own no_trees h = if_true (is_text (leaf_of parent own)) _ _ (
 merged_onto parent own (one_more t ts) h = by_test (is_text t) refl
   where
     by_test : (x : Bool) → is_text t ≡ x
-        → joined_texts (if x then one_more (leaf_of parent (own ++ (label t).own)) ts else one_more (leaf_of parent own) (one_more t ts)) ≡ text_onto None own (onto t (joined_texts ts))
+        → joined_texts (if x then one_more (leaf_of parent (own ++ (label t).own)) ts else
+        one_more (leaf_of parent own) (one_more t ts)) ≡ text_onto None own (onto t (joined_texts ts))
     by_test true e =
         if_true (is_text (leaf_of parent (own ++ (label t).own))) _ _ (leaf_text parent (own ++ (label t).own))
         ∙ sym (onto_twice own (label t).own (joined_texts ts))
@@ -212,7 +226,8 @@ bordered_read : (parent : Kind) (ts : Trees) → recut ts ≡ ts → recut (merg
 bordered_read parent ts h = ap (cut_from false) (merged_joins parent (unranged_all ts) (all_unranged ts)).0 ∙ sym (recut_same ts) ∙ ap unranged_all h
 
 -- what an element holds, by the texts of its kind
-held_read : (x : Texts) (k : ℕ) (parent : Kind) (ts : Trees) → texts_of_kind parent ≡ x → IsCutIn x ts → AllWrittenIn k parent ts → held_as x (merged parent (unranged_all ts)) ≡ unranged_all ts
+held_read : (x : Texts) (k : ℕ) (parent : Kind) (ts : Trees) → texts_of_kind parent ≡ x → IsCutIn x ts → AllWrittenIn k parent ts
+    → held_as x (merged parent (unranged_all ts)) ≡ unranged_all ts
 held_read Separators k parent ts e c h = plain_read ts k parent (ap is_bordered e) h
 held_read Page k parent ts e c h = plain_read ts k parent (ap is_bordered e) h
 held_read Bordered k parent ts e c h = bordered_read parent ts c.0
@@ -243,7 +258,8 @@ blank_by RoundCharacter k parent l childless H inside rest e h f = f
 blank_by RoundChildren k parent l childless H inside rest e h f = f
 blank_by Unwritten k parent l childless H inside rest e h f = absurd h
 
-blank_before : (t : Tree) (k : ℕ) (parent : Kind) (rest : Markups) → holds_text parent ≡ false → WrittenIn k parent t → are_blank rest ≡ true → are_blank (markup_before t rest) ≡ true
+blank_before : (t : Tree) (k : ℕ) (parent : Kind) (rest : Markups) → holds_text parent ≡ false → WrittenIn k parent t
+    → are_blank rest ≡ true → are_blank (markup_before t rest) ≡ true
 blank_before (tree l ts) k parent rest e h f =
     blank_by (writing l.kind) k parent l (is_childless ts) (IsCutIn (texts_of_kind l.kind) ts × AllWrittenIn (suc k) l.kind ts) (markups_of ts) rest e h f
 
@@ -318,14 +334,19 @@ unmixed kind.Td e = absurd cc
 unmixed kind.Th e = absurd cc
 unmixed k e = inr refl
 
-no_inline_by : (w : Writing) (k : ℕ) (parent : Kind) (l : Label) (childless : Bool) (H : Type 0) → writing l.kind ≡ w → (shape parent).holding ≡ holding.Blocks → NodeIsWritten w k parent l childless H → is_inline l.kind ≡ false
+no_inline_by : (w : Writing) (k : ℕ) (parent : Kind) (l : Label) (childless : Bool) (H : Type 0) → writing l.kind ≡ w
+    → (shape parent).holding ≡ holding.Blocks → NodeIsWritten w k parent l childless H → is_inline l.kind ≡ false
 no_inline_by AsText k parent l childless H e b h = (text_class l.kind (ap is_as_text e)).0
-no_inline_by AsVoid k parent l childless H e b h = blocks_alone (shape l.kind).class (ap (λ x. is_anywhere (shape l.kind).class || admits x (shape l.kind).class) (sym b) ∙ h.1)
-no_inline_by RoundCharacter k parent l childless H e b h = blocks_alone (shape l.kind).class (ap (λ x. is_anywhere (shape l.kind).class || admits x (shape l.kind).class) (sym b) ∙ h.1)
-no_inline_by RoundChildren k parent l childless H e b h = blocks_alone (shape l.kind).class (ap (λ x. is_anywhere (shape l.kind).class || admits x (shape l.kind).class) (sym b) ∙ h.1)
+no_inline_by AsVoid k parent l childless H e b h =
+    blocks_alone (shape l.kind).class (ap (λ x. is_anywhere (shape l.kind).class || admits x (shape l.kind).class) (sym b) ∙ h.1)
+no_inline_by RoundCharacter k parent l childless H e b h =
+    blocks_alone (shape l.kind).class (ap (λ x. is_anywhere (shape l.kind).class || admits x (shape l.kind).class) (sym b) ∙ h.1)
+no_inline_by RoundChildren k parent l childless H e b h =
+    blocks_alone (shape l.kind).class (ap (λ x. is_anywhere (shape l.kind).class || admits x (shape l.kind).class) (sym b) ∙ h.1)
 no_inline_by Unwritten k parent l childless H e b h = absurd h
 
-no_block_by : (w : Writing) (k : ℕ) (parent : Kind) (l : Label) (childless : Bool) (H : Type 0) → writing l.kind ≡ w → holds_blocks (shape parent).holding ≡ false → NodeIsWritten w k parent l childless H → is_block l.kind ≡ false
+no_block_by : (w : Writing) (k : ℕ) (parent : Kind) (l : Label) (childless : Bool) (H : Type 0) → writing l.kind ≡ w
+    → holds_blocks (shape parent).holding ≡ false → NodeIsWritten w k parent l childless H → is_block l.kind ≡ false
 no_block_by AsText k parent l childless H e b h = (text_class l.kind (ap is_as_text e)).1
 no_block_by AsVoid k parent l childless H e b h = no_block (shape parent).holding (shape l.kind).class b h.1
 no_block_by RoundCharacter k parent l childless H e b h = no_block (shape parent).holding (shape l.kind).class b h.1
@@ -337,12 +358,15 @@ not_and true c e = ap not e
 not_and false c e = refl
 
 no_inline : (t : Tree) (k : ℕ) (parent : Kind) → (shape parent).holding ≡ holding.Blocks → WrittenIn k parent t → is_inline (label t).kind ≡ false
-no_inline (tree l ts) k parent b h = no_inline_by (writing l.kind) k parent l (is_childless ts) (IsCutIn (texts_of_kind l.kind) ts × AllWrittenIn (suc k) l.kind ts) refl b h
+no_inline (tree l ts) k parent b h = no_inline_by (writing l.kind) k parent l (is_childless ts)
+    (IsCutIn (texts_of_kind l.kind) ts × AllWrittenIn (suc k) l.kind ts) refl b h
 
 none_block : (t : Tree) (k : ℕ) (parent : Kind) → holds_blocks (shape parent).holding ≡ false → WrittenIn k parent t → is_block (label t).kind ≡ false
-none_block (tree l ts) k parent b h = no_block_by (writing l.kind) k parent l (is_childless ts) (IsCutIn (texts_of_kind l.kind) ts × AllWrittenIn (suc k) l.kind ts) refl b h
+none_block (tree l ts) k parent b h = no_block_by (writing l.kind) k parent l (is_childless ts)
+    (IsCutIn (texts_of_kind l.kind) ts × AllWrittenIn (suc k) l.kind ts) refl b h
 
-blocks_ordered : (ts : Trees) (k : ℕ) (parent : Kind) (behind : Bool) → (shape parent).holding ≡ holding.Blocks → AllWrittenIn k parent ts → are_ordered behind ts ≡ true
+blocks_ordered : (ts : Trees) (k : ℕ) (parent : Kind) (behind : Bool) → (shape parent).holding ≡ holding.Blocks
+    → AllWrittenIn k parent ts → are_ordered behind ts ≡ true
 blocks_ordered no_trees k parent behind b h = refl
 blocks_ordered (one_more t ts) k parent behind b h =
     and_true _ _ (not_and behind (is_inline (label t).kind) (no_inline t k parent b h.0)) (blocks_ordered ts k parent (behind || is_block (label t).kind) b h.2)
@@ -358,7 +382,8 @@ plain_ordered ts k parent e h = by_holding (unmixed parent e)
     by_holding (inl b) = blocks_ordered ts k parent false b h
     by_holding (inr b) = others_ordered ts k parent b h
 
-pub ordered_in : (x : Texts) (k : ℕ) (parent : Kind) (ts : Trees) → texts_of_kind parent ≡ x → IsCutIn x ts → AllWrittenIn k parent ts → are_ordered false ts ≡ true
+pub ordered_in : (x : Texts) (k : ℕ) (parent : Kind) (ts : Trees) → texts_of_kind parent ≡ x → IsCutIn x ts
+    → AllWrittenIn k parent ts → are_ordered false ts ≡ true
 ordered_in Separators k parent ts e c h = plain_ordered ts k parent (ap is_bordered e) h
 ordered_in Page k parent ts e c h = plain_ordered ts k parent (ap is_bordered e) h
 ordered_in Bordered k parent ts e c h = c.1
@@ -367,12 +392,14 @@ ordered_in OwnCharacter k parent ts e c h = plain_ordered ts k parent (ap is_bor
 -- ---- elements
 
 -- an element with its data and its inside
-pub fit_whole : (n : ℕ) (k : Kind) (ps : List Pair) (d : Data) (m : Markups) (us : Trees) (inside : Result Trees Misfit) → data_of k ps ≡ Some d → text_fits k m ≡ true → inside ≡ Ok us
+pub fit_whole : (n : ℕ) (k : Kind) (ps : List Pair) (d : Data) (m : Markups) (us : Trees) (inside : Result Trees Misfit)
+    → data_of k ps ≡ Some d → text_fits k m ≡ true → inside ≡ Ok us
     → fit_as n k ps m inside ≡ Ok (tree (label_for k ps d (texts_in m)) (children_in k us))
 fit_whole n k ps d m us inside e f i =
     ap (λ o. fit_told n k ps o m inside) e ∙ if_true (text_fits k m) _ _ f ∙ ap (with_children k (label_for k ps d (texts_in m))) i
 
-element_fit : (n : ℕ) (parent : Kind) (b : Bool) (l : Label) (m : Markups) (us : Trees) → IsTold l → may_hold parent l.kind ≡ true → may_follow b l.kind ≡ true → (if shows_text l.kind then texts_in m else []) ≡ l.shown → text_fits l.kind m ≡ true
+element_fit : (n : ℕ) (parent : Kind) (b : Bool) (l : Label) (m : Markups) (us : Trees) → IsTold l → may_hold parent l.kind ≡ true
+    → may_follow b l.kind ≡ true → (if shows_text l.kind then texts_in m else []) ≡ l.shown → text_fits l.kind m ≡ true
     → fit_nodes (suc n) l.kind false m ≡ Ok us → fit_node n parent b (node_for l m) ≡ Ok (Some (tree (label_read l) (children_in l.kind us)))
 element_fit n parent b l m us t h q s f i =
     let ps : List Pair = pairs (said_of l) in
@@ -447,7 +474,8 @@ next_block : (l : Label) (m : Markups) → IsTold l → is_numbered l.kind ≡ t
 next_block l m t e = ap is_block_row (t.row e)
 
 -- an element before others
-child_fit : (n : ℕ) (parent : Kind) (b : Bool) (l : Label) (m rest : Markups) (us vs : Trees) → IsTold l → may_hold parent l.kind ≡ true → may_follow b l.kind ≡ true
+child_fit : (n : ℕ) (parent : Kind) (b : Bool) (l : Label) (m rest : Markups) (us vs : Trees) → IsTold l
+    → may_hold parent l.kind ≡ true → may_follow b l.kind ≡ true
     → (if shows_text l.kind then texts_in m else []) ≡ l.shown → text_fits l.kind m ≡ true → fit_nodes (suc n) l.kind false m ≡ Ok us
     → ((n : ℕ) → fit_nodes n parent (b || is_block l.kind) rest ≡ Ok vs)
     → fit_nodes n parent b (more (node_for l m) rest) ≡ Ok (one_more (tree (label_read l) (children_in l.kind us)) vs)
@@ -456,7 +484,8 @@ child_fit n parent b l m rest us vs t h q s f i g =
     (ap (λ x. fit_nodes (n + elements (node_for l m)) parent (b || x) rest) (next_block l m t (held_numbered parent l h)) ∙ g (n + elements (node_for l m)))
 
 -- an element by how it is written
-fit_by : (w : Writing) (k : ℕ) (parent : Kind) (b : Bool) (l : Label) (ts : Trees) (H : Type 0) (m rest : Markups) (vs : Trees) (n : ℕ) → writing l.kind ≡ w → is_as_text w ≡ false
+fit_by : (w : Writing) (k : ℕ) (parent : Kind) (b : Bool) (l : Label) (ts : Trees) (H : Type 0) (m rest : Markups) (vs : Trees)
+    (n : ℕ) → writing l.kind ≡ w → is_as_text w ≡ false
     → NodeIsWritten w k parent l (is_childless ts) H → may_follow b l.kind ≡ true → (H → text_fits l.kind m ≡ true)
     → (H → shows_text l.kind ≡ false → (n : ℕ) → (us : Trees) × (fit_nodes n l.kind false m ≡ Ok us) × (children_in l.kind us ≡ unranged_all ts))
     → ((n : ℕ) → fit_nodes n parent (b || is_block l.kind) rest ≡ Ok vs)
@@ -488,7 +517,8 @@ and_follow true b e = (refl, e)
 and_follow false b e = absurd (cc e)
 
 -- a text alone, before what begins with none
-text_alone : (n : ℕ) (parent : Kind) (b : Bool) (own : List ℕ) (ms : Markups) (vs : Trees) → shows_text parent ≡ false → ((n : ℕ) → fit_nodes n parent b ms ≡ Ok vs)
+text_alone : (n : ℕ) (parent : Kind) (b : Bool) (own : List ℕ) (ms : Markups) (vs : Trees) → shows_text parent ≡ false
+    → ((n : ℕ) → fit_nodes n parent b ms ≡ Ok vs)
     → fit_nodes n parent b (more (text own) ms) ≡ Ok (one_more (leaf_of parent own) vs)
 text_alone n parent b own ms vs p g = ap₂ onto_told (ap Ok (leaf_is parent own p)) (ap (λ x. fit_nodes (n + 0) parent x ms) (or_false b) ∙ g (n + 0))
   where
@@ -500,7 +530,8 @@ before_none : (own : List ℕ) → is_empty own ≡ false → text_before own em
 before_none [] e = absurd (cc e)
 before_none (b ∷ bs) e = refl
 
-before_child : (own : List ℕ) (l : Label) (m ms : Markups) → is_empty own ≡ false → text_before own (more (node_for l m) ms) ≡ more (text own) (more (node_for l m) ms)
+before_child : (own : List ℕ) (l : Label) (m ms : Markups) → is_empty own ≡ false
+    → text_before own (more (node_for l m) ms) ≡ more (text own) (more (node_for l m) ms)
 before_child [] l m ms e = absurd (cc e)
 before_child (b ∷ bs) l m ms e = refl
 
@@ -516,7 +547,8 @@ is_written RoundChildren = true
 is_written Unwritten = false
 
 -- what is written of an element begins with no text
-before_other : (w : Writing) (own : List ℕ) (l : Label) (m ms : Markups) → is_as_text w ≡ false → is_written w ≡ true → is_empty own ≡ false → text_before own (marked_up w l m ms) ≡ more (text own) (marked_up w l m ms)
+before_other : (w : Writing) (own : List ℕ) (l : Label) (m ms : Markups) → is_as_text w ≡ false → is_written w ≡ true
+    → is_empty own ≡ false → text_before own (marked_up w l m ms) ≡ more (text own) (marked_up w l m ms)
 before_other AsText own l m ms a i e = absurd (cc a)
 before_other AsVoid own l m ms a i e = before_child own l empty ms e
 before_other RoundCharacter own l m ms a i e = before_child own l (flush l.shown empty) ms e
@@ -530,7 +562,8 @@ written_by RoundCharacter k parent l childless H h = refl
 written_by RoundChildren k parent l childless H h = refl
 written_by Unwritten k parent l childless H h = absurd h
 
-text_facts : (w : Writing) (k : ℕ) (parent : Kind) (l : Label) (childless : Bool) (H : Type 0) → is_as_text w ≡ true → NodeIsWritten w k parent l childless H → is_empty l.own ≡ false
+text_facts : (w : Writing) (k : ℕ) (parent : Kind) (l : Label) (childless : Bool) (H : Type 0) → is_as_text w ≡ true
+    → NodeIsWritten w k parent l childless H → is_empty l.own ≡ false
 text_facts AsText k parent l childless H a h = h.0.some
 text_facts AsVoid k parent l childless H a h = absurd (cc a)
 text_facts RoundCharacter k parent l childless H a h = absurd (cc a)
@@ -552,14 +585,19 @@ text_order false k e = (text_class k e).1
 -- the one or the other
 either_fit : (x : Bool) (n : ℕ) (parent : Kind) (b : Bool) (l : Label) (us ts vs : Trees) → is_as_text (writing l.kind) ≡ x
     → (is_as_text (writing l.kind) ≡ true → fit_nodes n parent b (text_before l.own (markups_of ts)) ≡ Ok (merged_text parent l.own vs))
-    → (is_as_text (writing l.kind) ≡ false → fit_nodes n parent b (marked_up (writing l.kind) l (markups_of us) (markups_of ts)) ≡ Ok (one_more (tree (label_read l) (unranged_all us)) vs))
-    → fit_nodes n parent b (marked_up (writing l.kind) l (markups_of us) (markups_of ts)) ≡ Ok (if x then merged_text parent l.own vs else one_more (tree (label_read l) (unranged_all us)) vs)
+    → (is_as_text (writing l.kind) ≡ false → fit_nodes n parent b (marked_up (writing l.kind) l (markups_of us) (markups_of ts))
+    ≡ Ok (one_more (tree (label_read l) (unranged_all us)) vs))
+    → fit_nodes n parent b (marked_up (writing l.kind) l (markups_of us) (markups_of ts))
+    ≡ Ok (if x then merged_text parent l.own vs else one_more (tree (label_read l) (unranged_all us)) vs)
 either_fit true n parent b l us ts vs e f g = ap (fit_nodes n parent b) (text_markup (writing l.kind) l (markups_of us) (markups_of ts) e) ∙ f e
 either_fit false n parent b l us ts vs e f g = g e
 
-either_run : (x : Bool) (n : ℕ) (parent : Kind) (b : Bool) (own : List ℕ) (l : Label) (us ts vs : Trees) → is_as_text (writing l.kind) ≡ x → is_empty own ≡ false → is_written (writing l.kind) ≡ true → shows_text parent ≡ false
+either_run : (x : Bool) (n : ℕ) (parent : Kind) (b : Bool) (own : List ℕ) (l : Label) (us ts vs : Trees)
+    → is_as_text (writing l.kind) ≡ x → is_empty own ≡ false → is_written (writing l.kind) ≡ true → shows_text parent ≡ false
     → (is_as_text (writing l.kind) ≡ true → fit_nodes n parent b (text_before (own ++ l.own) (markups_of ts)) ≡ Ok (merged_text parent (own ++ l.own) vs))
-    → (is_as_text (writing l.kind) ≡ false → (m : ℕ) → fit_nodes m parent b (marked_up (writing l.kind) l (markups_of us) (markups_of ts)) ≡ Ok (one_more (tree (label_read l) (unranged_all us)) vs))
+    → (is_as_text (writing l.kind) ≡ false → (m : ℕ)
+    → fit_nodes m parent b (marked_up (writing l.kind) l (markups_of us) (markups_of ts))
+    ≡ Ok (one_more (tree (label_read l) (unranged_all us)) vs))
     → fit_nodes n parent b (text_before own (marked_up (writing l.kind) l (markups_of us) (markups_of ts)))
     ≡ Ok (merged_text parent own (if x then merged_text parent l.own vs else one_more (tree (label_read l) (unranged_all us)) vs))
 either_run true n parent b own l us ts vs e some w p f g =
@@ -574,13 +612,19 @@ abbrev Inside : ℕ → Kind → Trees → Type 0
 Inside k j us = IsCutIn (texts_of_kind j) us × AllWrittenIn (suc k) j us
 
 -- an element, by what stands in it and what follows it
-other_fit : (k : ℕ) (parent : Kind) (b : Bool) (l : Label) (us ts vs : Trees) → is_as_text (writing l.kind) ≡ false → WrittenIn k parent (tree l us) → may_follow b l.kind ≡ true
-    → (shows_text l.kind ≡ false → AllWrittenIn (suc k) l.kind us → are_ordered false us ≡ true → (m : ℕ) → fit_nodes m l.kind false (markups_of us) ≡ Ok (merged l.kind (unranged_all us)))
+other_fit : (k : ℕ) (parent : Kind) (b : Bool) (l : Label) (us ts vs : Trees) → is_as_text (writing l.kind) ≡ false
+    → WrittenIn k parent (tree l us) → may_follow b l.kind ≡ true
+    → (shows_text l.kind ≡ false → AllWrittenIn (suc k) l.kind us → are_ordered false us ≡ true → (m : ℕ)
+    → fit_nodes m l.kind false (markups_of us) ≡ Ok (merged l.kind (unranged_all us)))
     → ((m : ℕ) → fit_nodes m parent (b || is_block l.kind) (markups_of ts) ≡ Ok vs)
     → (n : ℕ) → fit_nodes n parent b (marked_up (writing l.kind) l (markups_of us) (markups_of ts)) ≡ Ok (one_more (tree (label_read l) (unranged_all us)) vs)
 other_fit k parent b l us ts vs a h q f g n =
     fit_by (writing l.kind) k parent b l us (Inside k l.kind us) (markups_of us) (markups_of ts) vs n refl a h q (λ i. texts_fit us (suc k) l.kind i.1)
-    (λ i s m. (merged l.kind (unranged_all us), f s i.1 (ordered_in (texts_of_kind l.kind) (suc k) l.kind us refl i.0 i.1) m, held_read (texts_of_kind l.kind) (suc k) l.kind us refl i.0 i.1))
+    (λ i s m. (
+      merged l.kind (unranged_all us),
+      f s i.1 (ordered_in (texts_of_kind l.kind) (suc k) l.kind us refl i.0 i.1) m,
+      held_read (texts_of_kind l.kind) (suc k) l.kind us refl i.0 i.1,
+    ))
     g
 
 text_ordered : (b : Bool) (k : Kind) (ts : Trees) → is_as_text (writing k) ≡ true → are_ordered (b || is_block k) ts ≡ true → are_ordered b ts ≡ true
@@ -594,24 +638,32 @@ mutual
   items_fit (one_more (tree l us) ts) k parent b p h o n =
       let q = and_follow (may_follow b l.kind) (are_ordered (b || is_block l.kind) ts) o in
       either_fit (is_as_text (writing l.kind)) n parent b l us ts (merged parent (unranged_all ts)) refl
-      (λ a. run_fit ts l.own k parent b p (text_facts (writing l.kind) k parent l (is_childless us) (Inside k l.kind us) a h.0) h.2 (text_ordered b l.kind ts a q.1) n)
-      (λ a. other_fit k parent b l us ts (merged parent (unranged_all ts)) a h.0 q.0 (λ s i c m. items_fit us (suc k) l.kind false s i c m) (λ m. items_fit ts k parent (b || is_block l.kind) p h.2 q.1 m) n)
+      (λ a. run_fit ts l.own k parent b p (text_facts (writing l.kind) k parent l (is_childless us) (Inside k l.kind us) a h.0)
+      h.2 (text_ordered b l.kind ts a q.1) n)
+      (λ a. other_fit k parent b l us ts (merged parent (unranged_all ts)) a h.0 q.0
+      (λ s i c m. items_fit us (suc k) l.kind false s i c m) (λ m. items_fit ts k parent (b || is_block l.kind) p h.2 q.1 m) n)
 
   -- the same behind a text
-  run_fit : (ts : Trees) (own : List ℕ) (k : ℕ) (parent : Kind) (b : Bool) → shows_text parent ≡ false → is_empty own ≡ false → AllWrittenIn k parent ts → are_ordered b ts ≡ true → (n : ℕ)
+  run_fit : (ts : Trees) (own : List ℕ) (k : ℕ) (parent : Kind) (b : Bool) → shows_text parent ≡ false → is_empty own ≡ false
+      → AllWrittenIn k parent ts → are_ordered b ts ≡ true → (n : ℕ)
       → fit_nodes n parent b (text_before own (markups_of ts)) ≡ Ok (merged_text parent own (merged parent (unranged_all ts)))
   run_fit no_trees own k parent b p e h o n = ap (fit_nodes n parent b) (before_none own e) ∙ text_alone n parent b own empty no_trees p (λ m. refl)
   run_fit (one_more (tree l us) ts) own k parent b p e h o n =
       let q = and_follow (may_follow b l.kind) (are_ordered (b || is_block l.kind) ts) o in
-      either_run (is_as_text (writing l.kind)) n parent b own l us ts (merged parent (unranged_all ts)) refl e (written_by (writing l.kind) k parent l (is_childless us) (Inside k l.kind us) h.0) p
+      either_run (is_as_text (writing l.kind)) n parent b own l us ts (merged parent (unranged_all ts)) refl e
+      (written_by (writing l.kind) k parent l (is_childless us) (Inside k l.kind us) h.0) p
       (λ a. run_fit ts (own ++ l.own) k parent b p (some_append own l.own e) h.2 (text_ordered b l.kind ts a q.1) n)
-      (λ a m. other_fit k parent b l us ts (merged parent (unranged_all ts)) a h.0 q.0 (λ s i c m. items_fit us (suc k) l.kind false s i c m) (λ m. items_fit ts k parent (b || is_block l.kind) p h.2 q.1 m) m)
+      (λ a m. other_fit k parent b l us ts (merged parent (unranged_all ts)) a h.0 q.0
+      (λ s i c m. items_fit us (suc k) l.kind false s i c m) (λ m. items_fit ts k parent (b || is_block l.kind) p h.2 q.1 m) m)
 
 -- all that a kind holds
 pub held_fit : (ts : Trees) (k : ℕ) (parent : Kind) → shows_text parent ≡ false → IsCutIn (texts_of_kind parent) ts → AllWrittenIn k parent ts → (n : ℕ)
     → (us : Trees) × (fit_nodes n parent false (markups_of ts) ≡ Ok us) × (children_in parent us ≡ unranged_all ts)
-held_fit ts k parent p c h n =
-    (merged parent (unranged_all ts), items_fit ts k parent false p h (ordered_in (texts_of_kind parent) k parent ts refl c h) n, held_read (texts_of_kind parent) k parent ts refl c h)
+held_fit ts k parent p c h n = (
+  merged parent (unranged_all ts),
+  items_fit ts k parent false p h (ordered_in (texts_of_kind parent) k parent ts refl c h) n,
+  held_read (texts_of_kind parent) k parent ts refl c h,
+)
 
 -- ---- sources
 
@@ -620,7 +672,8 @@ texts_sourced : (n : ℕ) (bs : List ℕ) → unsourced_nodes n (flush bs empty)
 texts_sourced n [] = refl
 texts_sourced n (b ∷ bs) = refl
 
-element_sourced : (parent : Kind) (l : Label) (m rest : Markups) (n : ℕ) → may_hold parent l.kind ≡ true → IsElementLabel l → unsourced_nodes (suc n) m ≡ None → ((n : ℕ) → unsourced_nodes n rest ≡ None)
+element_sourced : (parent : Kind) (l : Label) (m rest : Markups) (n : ℕ) → may_hold parent l.kind ≡ true → IsElementLabel l
+    → unsourced_nodes (suc n) m ≡ None → ((n : ℕ) → unsourced_nodes n rest ≡ None)
     → unsourced_nodes n (more (node_for l m) rest) ≡ None
 element_sourced parent l m rest n h e i g =
     let t : IsTold l = told l (held_kind parent l h e) e in
@@ -637,14 +690,18 @@ sourced_by : (w : Writing) (k : ℕ) (parent : Kind) (l : Label) (childless : Bo
     → unsourced_nodes n (marked_up w l m rest) ≡ None
 sourced_by AsText k parent l childless H m rest n h i g = text_sourced n l.own rest g
 sourced_by AsVoid k parent l childless H m rest n h i g = element_sourced parent l empty rest n h.1 h.2 refl g
-sourced_by RoundCharacter k parent l childless H m rest n h i g = element_sourced parent l (flush l.shown empty) rest n h.1 h.2 (texts_sourced (suc n) l.shown) g
+sourced_by RoundCharacter k parent l childless H m rest n h i g = element_sourced parent l (flush l.shown empty) rest n h.1 h.2
+    (texts_sourced (suc n) l.shown) g
 sourced_by RoundChildren k parent l childless H m rest n h i g = element_sourced parent l m rest n h.1 h.2 (i h.4 (suc n)) g
 sourced_by Unwritten k parent l childless H m rest n h i g = absurd h
 
 mutual
-  pub item_sourced : (t : Tree) (k : ℕ) (parent : Kind) (rest : Markups) (n : ℕ) → WrittenIn k parent t → ((n : ℕ) → unsourced_nodes n rest ≡ None) → unsourced_nodes n (markup_before t rest) ≡ None
+  pub item_sourced : (t : Tree) (k : ℕ) (parent : Kind) (rest : Markups) (n : ℕ) → WrittenIn k parent t
+      → ((n : ℕ) → unsourced_nodes n rest ≡ None) → unsourced_nodes n (markup_before t rest) ≡ None
   item_sourced (tree l ts) k parent rest n h g =
-      sourced_by (writing l.kind) k parent l (is_childless ts) (IsCutIn (texts_of_kind l.kind) ts × AllWrittenIn (suc k) l.kind ts) (markups_of ts) rest n h (λ i n. items_sourced ts (suc k) l.kind n i.1) g
+      sourced_by (writing l.kind) k parent l (is_childless ts)
+      (IsCutIn (texts_of_kind l.kind) ts × AllWrittenIn (suc k) l.kind ts) (markups_of ts) rest n h
+      (λ i n. items_sourced ts (suc k) l.kind n i.1) g
 
   pub items_sourced : (ts : Trees) (k : ℕ) (parent : Kind) (n : ℕ) → AllWrittenIn k parent ts → unsourced_nodes n (markups_of ts) ≡ None
   items_sourced no_trees k parent n h = refl

@@ -94,7 +94,8 @@ whole o = option_and_then of_json (option_and_then (λ p. json.if_last p.0 p.1) 
 json_read : (d : Data) → tree.HasNumbers (outline d) → tree.depth (outline d) ≤ max_depth → of_json (outline d) ≡ Some d → read (compact_text d) ≡ Some d
 json_read d numbers shallow same =
     let j : json.Json = outline d in
-    let text : tokens (compact_text d) ≡ tree.json_tokens j = ap tokens (sym (print-outline d)) ∙ tokens-print (tree.json_tokens j) (ArePrintable-json_tokens j numbers) in
+    let text : tokens (compact_text d) ≡ tree.json_tokens j = ap tokens (sym (print-outline d))
+    ∙ tokens-print (tree.json_tokens j) (ArePrintable-json_tokens j numbers) in
     ap whole (ap (json.value max_depth) (text ∙ sym (append-nil _)) ∙ value-json_tokens j max_depth [] shallow) ∙ same
 
 -- the parts of `data-parsoid`
@@ -116,7 +117,8 @@ parts_utf8 r (d ∷ ds) (b ∷ bs) None n o c s kc kd ko ks = (kc, c, (kd, (n.0,
 parts_utf8 r (d ∷ ds) (b ∷ bs) (Some t) n o c s kc kd ko ks = (kc, c, (kd, (n.0, (n.1, (n.2, (n.3, tt)))), (ko, o, (ks, s, tt))))
 
 abbrev AreNumbers : Ranges → Type 0
-AreNumbers r = tree.HasNumbers (json.number (decimal r.start)) × tree.HasNumbers (json.number (decimal r.end)) × tree.HasNumbers (json.number (decimal r.open_w)) × tree.HasNumbers (json.number (decimal r.close_w))
+AreNumbers r = tree.HasNumbers (json.number (decimal r.start)) × tree.HasNumbers (json.number (decimal r.end))
+    × tree.HasNumbers (json.number (decimal r.open_w)) × tree.HasNumbers (json.number (decimal r.close_w))
 
 parts_numbers : (r : Ranges) (o c : List ℕ) (src : Option (List ℕ)) → AreNumbers r → tree.HasNumbers (outline (parts r o c src))
 parts_numbers r [] [] None n = ((n.0, (n.1, (n.2, (n.3, tt)))), tt)
@@ -161,7 +163,8 @@ pub sync_utf8 : (s : Sync) → IsSmall s → IsUtf8 s.opening → IsUtf8 s.closi
 unfolding sync_text sync_members
 sync_utf8 s h o c src =
     data_utf8 (sync_data s)
-    (parts_utf8 s.dsr s.opening s.closing s.src (are_small s h) o c src (IsUtf8-are_ascii (codes "c") refl) (IsUtf8-are_ascii (codes "dsr") refl) (IsUtf8-are_ascii (codes "o") refl)
+    (parts_utf8 s.dsr s.opening s.closing s.src (are_small s h) o c src (IsUtf8-are_ascii (codes "c") refl)
+    (IsUtf8-are_ascii (codes "dsr") refl) (IsUtf8-are_ascii (codes "o") refl)
     (IsUtf8-are_ascii (codes "src") refl))
 
 pub sync_read : (s : Sync) → IsSmall s → sync_told (sync_text s) ≡ Ok s
@@ -178,7 +181,8 @@ sync_read s h =
 
 -- ---- the data of an extension
 
-extension_has_utf8 : (name : List ℕ) (body : Option (List ℕ)) → IsUtf8 name → IsUtf8IfAny body → IsUtf8 (codes "body") → IsUtf8 (codes "extsrc") → IsUtf8 (codes "name") → HasUtf8 (mw_data (mw.Extension name body))
+extension_has_utf8 : (name : List ℕ) (body : Option (List ℕ)) → IsUtf8 name → IsUtf8IfAny body → IsUtf8 (codes "body")
+    → IsUtf8 (codes "extsrc") → IsUtf8 (codes "name") → HasUtf8 (mw_data (mw.Extension name body))
 extension_has_utf8 name None n b kb ke kn = (kn, n, tt)
 extension_has_utf8 name (Some text) n b kb ke kn = (kb, (ke, b, tt), (kn, n, tt))
 
@@ -210,4 +214,5 @@ unfolding mw_text mw_told
 extension_read name body =
     let d : DataMw = mw.Extension name body in
     let l : tree.depth (outline (mw_data d)) ≤ 2 = extension_depth name body in
-    ap mw_of_json (json_read (mw_data d) (extension_numbers name body) (omega arith) (extension_same name body)) ∙ reads_ordered d (extension_small name body) tt
+    ap mw_of_json (json_read (mw_data d) (extension_numbers name body) (omega arith) (extension_same name body))
+    ∙ reads_ordered d (extension_small name body) tt

@@ -61,7 +61,8 @@ said_full l r e = ap₂ (λ (x y : List Said). map own_said (whole l) ++ (x ++ y
 id_utf8 : (id : ℕ) → id < 2 ^ 64 → IsUtf8 (109 ∷ 119 ∷ decimal id)
 id_utf8 id h = ascii_then 109 _ (omega arith) (ascii_then 119 _ (omega arith) (IsUtf8-from_ascii (decimal id) (IsAscii-decimal id h)))
 
-tail_rise : (b : Bool) (id : ℕ) (d : Option DataMw) (t : List ℕ) → IsUtf8 (109 ∷ 119 ∷ decimal id) → IsUtf8IfAny (option_map mw_text d) → IsUtf8 t → Rise 11 (tail b id d t)
+tail_rise : (b : Bool) (id : ℕ) (d : Option DataMw) (t : List ℕ) → IsUtf8 (109 ∷ 119 ∷ decimal id)
+    → IsUtf8IfAny (option_map mw_text d) → IsUtf8 t → Rise 11 (tail b id d t)
 tail_rise true id None t i d u = (omega arith, u, tt)
 tail_rise true id (Some x) t i d u = (omega arith, d, (omega arith, u, tt))
 tail_rise false id None t i d u = (omega arith, i, (omega arith, u, tt))
@@ -112,7 +113,8 @@ record IsSaid (xs : List (AttrName × List ℕ)) (b : Bool) (n : ℕ) (d : Optio
   pub about : value_of (codes "about") ps ≡ None
   pub edit : value_of (codes "data-wt-edit") ps ≡ None
 
-full_said : (xs : List (AttrName × List ℕ)) (b : Bool) (n : ℕ) (d : Option DataMw) (t : List ℕ) → Rising 1 xs → Rise 11 (tail b n d t) → IsSaid xs b n d t (pairs (map own_said xs ++ tail b n d t))
+full_said : (xs : List (AttrName × List ℕ)) (b : Bool) (n : ℕ) (d : Option DataMw) (t : List ℕ) → Rising 1 xs
+    → Rise 11 (tail b n d t) → IsSaid xs b n d t (pairs (map own_said xs ++ tail b n d t))
 full_said xs b n d t h r =
     let ts : List Said = tail b n d t in
     let ss : List Said = map own_said xs ++ ts in
@@ -235,14 +237,29 @@ with_places P f None h = absurd h
 with_places P f (Some r) h = f r h
 
 abbrev parts_label : Kind → ℕ → Option Ranges → List ℕ → List ℕ → List ℕ → List ℕ → List (AttrName × List ℕ) → Option Origin → Mark → Option DataMw → Label
-parts_label k id r o c w s a g m d = record { kind = k; id = id; ranges = r; opening = o; closing = c; own = w; shown = s; attrs = a; origin = g; mark = m; mw = d }
+parts_label k id r o c w s a g m d = record {
+  kind = k;
+  id = id;
+  ranges = r;
+  opening = o;
+  closing = c;
+  own = w;
+  shown = s;
+  attrs =
+      a;
+  origin = g;
+  mark = m;
+  mw = d;
+}
 
-same_label : (k : Kind) (d : Option DataMw) {i j : ℕ} {q r : Option Ranges} {o p c e w v s t : List ℕ} {a b : List (AttrName × List ℕ)} {g h : Option Origin} {m n : Mark}
+same_label : (k : Kind) (d : Option DataMw) {i j : ℕ} {q r : Option Ranges} {o p c e w v s t : List ℕ} {a b : List
+    (AttrName × List ℕ)} {g h : Option Origin} {m n : Mark}
     → i ≡ j → q ≡ r → o ≡ p → c ≡ e → w ≡ v → s ≡ t → a ≡ b → g ≡ h → m ≡ n
     → parts_label k i q o c w s a g m d ≡ parts_label k j r p e v t b h n d
 same_label k d ei eq eo ec ew es ea eg em = rw (ei, eq, eo, ec, ew, es, ea, eg, em)
 
-row_is : (name : List ℕ) (xs : List (AttrName × List ℕ)) (ps : List Pair) (k : Kind) → value_of (attribute_name attr.Typeof) ps ≡ value_at 1 xs → value_of (attribute_name attr.Property) ps ≡ value_at 2 xs
+row_is : (name : List ℕ) (xs : List (AttrName × List ℕ)) (ps : List Pair) (k : Kind)
+    → value_of (attribute_name attr.Typeof) ps ≡ value_at 1 xs → value_of (attribute_name attr.Property) ps ≡ value_at 2 xs
     → value_of (attribute_name attr.Rel) ps ≡ value_at 3 xs → row_by name (value_at 1 xs) (value_at 2 xs) (value_at 3 xs) ≡ Some k → row name ps ≡ Some k
 row_is name xs ps k t p r f =
     ap (λ o. row_by name o (value_of (attribute_name attr.Property) ps) (value_of (attribute_name attr.Rel) ps)) t
@@ -258,10 +275,12 @@ told_by l r s k h p e y q =
     let small : l.id < 2 ^ 32 = small_number _ l.id h.number in
     let places : HasPlaces (Some s.dsr) = subst (λ x. HasPlaces (Some x)) (sym y.places) p in
     let rise : Rise 11 ts =
-    tail_rise (l.id == 0) l.id l.mw (sync_text s) (id_utf8 l.id (omega arith)) (mw_utf8 _ l.mw h.mw) (sync_utf8 s places y.opening_utf8 y.closing_utf8 y.own_utf8) in
+    tail_rise (l.id == 0) l.id l.mw (sync_text s) (id_utf8 l.id (omega arith)) (mw_utf8 _ l.mw h.mw)
+    (sync_utf8 s places y.opening_utf8 y.closing_utf8 y.own_utf8) in
     let rising : Rising 1 (whole l) = whole_rising (fixed_attributes l.kind) (spelling l.kind).own l.attrs 1 k.rises k.characters h.attrs in
     let v : IsSaid (whole l) (l.id == 0) l.id l.mw (sync_text s) ps =
-    subst (λ ss. IsSaid (whole l) (l.id == 0) l.id l.mw (sync_text s) (pairs ss)) (sym q) (full_said (whole l) (l.id == 0) l.id l.mw (sync_text s) rising rise) in
+    subst (λ ss. IsSaid (whole l) (l.id == 0) l.id l.mw (sync_text s) (pairs ss)) (sym q)
+    (full_said (whole l) (l.id == 0) l.id l.mw (sync_text s) rising rise) in
     let attrs : attrs_for l.kind ps ≡ l.attrs =
     ap (λ ss. own_of (spelling l.kind).own (pairs ss)) q ∙ own_read (fixed_attributes l.kind) (spelling l.kind).own l.attrs 1 ts k.rises h.attrs rise in
     record {
@@ -273,9 +292,11 @@ told_by l r s k h p e y q =
       data_is = if_false (has (codes "about") ps) _ _ (ap is_some v.about)
           ∙ ap₂ both (ap (sync_fits l.kind) v.source ∙ sync_fits_is l.kind s (sync_text s) (sync_read s places) y.kind)
           (ap₂ mw_fits (ap (is_extension_of l.kind) v.type) v.mw ∙ mw_fits_is (is_extension_label l) l.mw h.mw);
-      label_is = λ bs f. same_label l.kind l.mw (id_is l.kind ps l.id h.number (ap id_of_value v.id ∙ number_said_is l.id small)) (ap Some y.places ∙ sym e ∙ sym (k.placed l.ranges)) y.opening y.closing y.own f
+      label_is = λ bs f. same_label l.kind l.mw (id_is l.kind ps l.id h.number (ap id_of_value v.id ∙ number_said_is l.id small))
+          (ap Some y.places ∙ sym e ∙ sym (k.placed l.ranges)) y.opening y.closing y.own f
           attrs (sym h.origin) (ap mark_of_value v.edit ∙ sym h.mark);
     }
 
 pub told : (l : Label) → IsElementKind l.kind l.attrs → IsElementLabel l → IsTold l
-told l k h = with_places (λ o. l.ranges ≡ o → IsTold l) (λ r p e. told_by l r (sync_of l r) k h p e (sync_is l r h.source) (said_full l r e)) l.ranges h.places refl
+told l k h = with_places (λ o. l.ranges ≡ o → IsTold l)
+    (λ r p e. told_by l r (sync_of l r) k h p e (sync_is l r h.source) (said_full l r e)) l.ranges h.places refl

@@ -102,7 +102,8 @@ no_edit (single m v ∷ ss) = ap₂ (λ (b : Bool) (o : Option (List ℕ)). if b
 -- nothing before the first
 pub look_before : (k b : ℕ) (ss : List Said) → k < b → Rise b ss → look k ss ≡ None
 look_before k b [] l r = refl
-look_before k b (s ∷ ss) l r = if_false (place s == k) _ _ (differ_up (place s) k (omega (arith, l, r.0))) ∙ look_before k (suc (place s)) ss (omega (arith, l, r.0)) r.2
+look_before k b (s ∷ ss) l r = if_false (place s == k) _ _ (differ_up (place s) k (omega (arith, l, r.0)))
+    ∙ look_before k (suc (place s)) ss (omega (arith, l, r.0)) r.2
 
 -- among the node's attributes, and behind them
 pub look_of : (k : ℕ) (xs : List (AttrName × List ℕ)) (ss : List Said) → look k ss ≡ None → look k (map own_said xs ++ ss) ≡ value_at k xs
@@ -113,7 +114,9 @@ pub look_past : (k : ℕ) (xs : List (AttrName × List ℕ)) (ss : List Said) �
 look_past k [] ss e = refl
 look_past k (x ∷ xs) ss e = by_test (order x.0 == k) e (λ f. look_past k xs ss f)
   where
-    by_test : (b : Bool) → (if b then Some x.1 else value_at k xs) ≡ None → (value_at k xs ≡ None → look k (map own_said xs ++ ss) ≡ look k ss) → (if b then Some x.1 else look k (map own_said xs ++ ss)) ≡ look k ss
+    by_test : (b : Bool) → (if b then Some x.1 else value_at k xs) ≡ None
+        → (value_at k xs ≡ None → look k (map own_said xs ++ ss) ≡ look k ss)
+        → (if b then Some x.1 else look k (map own_said xs ++ ss)) ≡ look k ss
     by_test true e f = cc
     by_test false e f = f e
 
@@ -167,7 +170,8 @@ abbrev pub AllUtf8 : List (AttrName × List ℕ) → Type 0
 AllUtf8 [] = Unit {0}
 AllUtf8 (x ∷ xs) = IsUtf8 x.1 × AllUtf8 xs
 
-pub whole_rising : (fs : List (AttrName × List ℕ)) (os : List Own) (xs : List (AttrName × List ℕ)) (b : ℕ) → rises b (names_in fs ++ names_of os) ≡ true → AllUtf8 fs → AreOwn os xs → Rising b (fs ++ xs)
+pub whole_rising : (fs : List (AttrName × List ℕ)) (os : List Own) (xs : List (AttrName × List ℕ)) (b : ℕ)
+    → rises b (names_in fs ++ names_of os) ≡ true → AllUtf8 fs → AreOwn os xs → Rising b (fs ++ xs)
 whole_rising [] os xs b q u h = own_rising os xs b q h
 whole_rising (f ∷ fs) os xs b q u h =
     let r = rises_by b f.0 (names_in fs ++ names_of os) q in
@@ -180,7 +184,8 @@ rising_said (x ∷ xs) b ss h l r = (h.0, h.2, rising_said xs (suc (order x.0)) 
 -- nothing stands before the first, and nothing from the number's place on
 pub value_before : (xs : List (AttrName × List ℕ)) (b k : ℕ) → k < b → Rising b xs → value_at k xs ≡ None
 value_before [] b k l h = refl
-value_before (x ∷ xs) b k l h = if_false (order x.0 == k) _ _ (differ_up (order x.0) k (omega (arith, l, h.0))) ∙ value_before xs (suc (order x.0)) k (omega (arith, l, h.0)) h.3
+value_before (x ∷ xs) b k l h = if_false (order x.0 == k) _ _ (differ_up (order x.0) k (omega (arith, l, h.0)))
+    ∙ value_before xs (suc (order x.0)) k (omega (arith, l, h.0)) h.3
 
 pub value_behind : (xs : List (AttrName × List ℕ)) (b k : ℕ) → 11 ≤ k → Rising b xs → value_at k xs ≡ None
 value_behind [] b k l h = refl
@@ -202,10 +207,12 @@ own_skip : (os : List Own) (b : ℕ) (s : Said) (ss : List Said) → rises b (na
 own_skip [] b s ss q l = refl
 own_skip (o ∷ os) b s ss q l =
     let r = rises_by b o.name (names_of os) q in
-    ap₂ (λ (x y : List (AttrName × List ℕ)). x ++ y) (ap (own_told o) (if_false (place s == order o.name) _ _ (differ (place s) (order o.name) (omega (arith, l, r.least)))))
+    ap₂ (λ (x y : List (AttrName × List ℕ)). x ++ y)
+    (ap (own_told o) (if_false (place s == order o.name) _ _ (differ (place s) (order o.name) (omega (arith, l, r.least)))))
     (own_skip os (suc (order o.name)) s ss r.rest (omega (arith, l, r.least)))
 
-own_back : (os : List Own) (xs : List (AttrName × List ℕ)) (b : ℕ) (ss : List Said) → rises b (names_of os) ≡ true → AreOwn os xs → Rise 11 ss → own_look os (map own_said xs ++ ss) ≡ xs
+own_back : (os : List Own) (xs : List (AttrName × List ℕ)) (b : ℕ) (ss : List Said) → rises b (names_of os) ≡ true → AreOwn os xs
+    → Rise 11 ss → own_look os (map own_said xs ++ ss) ≡ xs
 own_back [] xs b ss q h s = sym h
 own_back (o ∷ os) xs b ss q (inl h) s =
     let r = rises_by b o.name (names_of os) q in
@@ -213,7 +220,8 @@ own_back (o ∷ os) xs b ss q (inl h) s =
     let t : List Said = double o.name h.0 ∷ (map own_said ys ++ ss) in
     let here : own_told o (look (order o.name) t) ≡ (o.name, h.0) ∷ [] =
     ap (own_told o) (if_true (order o.name == order o.name) _ _ (same_number (order o.name))) ∙ ap (λ (w : List ℕ). (o.name, w) ∷ []) h.4 in
-    let there : own_look os t ≡ ys = own_skip os (suc (order o.name)) (double o.name h.0) (map own_said ys ++ ss) r.rest (omega arith) ∙ own_back os ys (suc (order o.name)) ss r.rest h.6 s in
+    let there : own_look os t ≡ ys = own_skip os (suc (order o.name)) (double o.name h.0) (map own_said ys ++ ss) r.rest
+    (omega arith) ∙ own_back os ys (suc (order o.name)) ss r.rest h.6 s in
     subst (λ zs. own_look (o ∷ os) (map own_said zs ++ ss) ≡ zs) (sym h.2) (ap₂ (λ (x y : List (AttrName × List ℕ)). x ++ y) here there)
 own_back (o ∷ os) xs b ss q (inr h) s =
     let r = rises_by b o.name (names_of os) q in
@@ -236,7 +244,8 @@ rises_behind b (m ∷ ms) ns q =
     let r = rises_by b m (ms ++ ns) q in
     rises_weaken (suc (order m)) b ns (omega (arith, r.least)) (rises_behind (suc (order m)) ms ns r.rest)
 
-whole_back : (fs : List (AttrName × List ℕ)) (os : List Own) (xs : List (AttrName × List ℕ)) (b : ℕ) (ss : List Said) → rises b (names_in fs ++ names_of os) ≡ true → AreOwn os xs → Rise 11 ss
+whole_back : (fs : List (AttrName × List ℕ)) (os : List Own) (xs : List (AttrName × List ℕ)) (b : ℕ) (ss : List Said)
+    → rises b (names_in fs ++ names_of os) ≡ true → AreOwn os xs → Rise 11 ss
     → own_look os (map own_said (fs ++ xs) ++ ss) ≡ xs
 whole_back [] os xs b ss q h s = own_back os xs b ss q h s
 whole_back (f ∷ fs) os xs b ss q h s =
@@ -244,6 +253,7 @@ whole_back (f ∷ fs) os xs b ss q h s =
     own_skip os (suc (order f.0)) (own_said f) (map own_said (fs ++ xs) ++ ss) (rises_behind (suc (order f.0)) (names_in fs) (names_of os) r.rest) (omega arith)
     ∙ whole_back fs os xs (suc (order f.0)) ss r.rest h s
 
-pub own_read : (fs : List (AttrName × List ℕ)) (os : List Own) (xs : List (AttrName × List ℕ)) (b : ℕ) (ss : List Said) → rises b (names_in fs ++ names_of os) ≡ true → AreOwn os xs → Rise 11 ss
+pub own_read : (fs : List (AttrName × List ℕ)) (os : List Own) (xs : List (AttrName × List ℕ)) (b : ℕ) (ss : List Said)
+    → rises b (names_in fs ++ names_of os) ≡ true → AreOwn os xs → Rise 11 ss
     → own_of os (pairs (map own_said (fs ++ xs) ++ ss)) ≡ xs
 own_read fs os xs b ss q h s = own_values os (map own_said (fs ++ xs) ++ ss) ∙ whole_back fs os xs b ss q h s

@@ -98,7 +98,8 @@ text_low c h = by_tests (c == 38) (c == 60) (c == 62) (is_control c)
   where
     by_tests : (r s t u : Bool)
         → spell_piece (if r then named Amp else (if s then named Lt else (if t then named Gt else (if u then number Decimal (decimal c) else plain c))))
-        ≡ (if r then codes "&amp;" else (if s then codes "&lt;" else (if t then codes "&gt;" else (if u then codes "&#" ++ (decimal c ++ codes ";") else c ∷ []))))
+        ≡ (if r then codes "&amp;" else (if s then codes "&lt;" else
+        (if t then codes "&gt;" else (if u then codes "&#" ++ (decimal c ++ codes ";") else c ∷ []))))
     by_tests true s t u = refl
     by_tests false true t u = refl
     by_tests false false true u = refl
@@ -228,7 +229,8 @@ high_bytes c h =
     let P : List ℕ → Type 0 = λ bs. AreHigh bs in
     if_case P (nat_lt c 128) _ _ (λ e. absurd (omega (arith, ltb-true c 128 e))) (λ _.
     if_case P (nat_lt c 2048) _ _ (λ _. (omega arith, (omega arith, tt))) (λ _.
-    if_case P (nat_lt c 65536) _ _ (λ _. (omega arith, (omega arith, (omega arith, tt)))) (λ _. (omega arith, (omega arith, (omega arith, (omega arith, tt)))))))
+    if_case P (nat_lt c 65536) _ _ (λ _. (omega arith, (omega arith, (omega arith, tt))))
+    (λ _. (omega arith, (omega arith, (omega arith, (omega arith, tt)))))))
 
 module _ (p : ℕ → Piece) (esc : ℕ → List ℕ) (test : ℕ → Bool) (s : Spells p esc test) where
   high_escape : (bs : List ℕ) → AreHigh bs → flat_map esc bs ≡ bs

@@ -51,7 +51,8 @@ pub record IsElementKind (k : Kind) (xs : List (AttrName × List ℕ)) : Type 0 
   pub row : is_numbered k ≡ true → row_of k (fixed_attributes k ++ xs) ≡ Some k
 
 -- none of the node's own tells the kind
-plain_row : (k : Kind) (xs : List (AttrName × List ℕ)) → rises 4 (names_of (spelling k).own) ≡ true → HasAttributes k xs → row_of k (fixed_attributes k) ≡ Some k → row_of k (fixed_attributes k ++ xs) ≡ Some k
+plain_row : (k : Kind) (xs : List (AttrName × List ℕ)) → rises 4 (names_of (spelling k).own) ≡ true → HasAttributes k xs
+    → row_of k (fixed_attributes k) ≡ Some k → row_of k (fixed_attributes k ++ xs) ≡ Some k
 plain_row k xs q h e =
     let fs : List (AttrName × List ℕ) = fixed_attributes k in
     let f : (n : ℕ) → n < 4 → value_at n (fs ++ xs) ≡ value_at n fs = λ n l. value_front n fs xs (own_before (spelling k).own xs 4 n l q h) in
@@ -68,12 +69,30 @@ para_kind xs h =
 rule_kind : (xs : List (AttrName × List ℕ)) → HasAttributes kind.Rule xs → IsElementKind kind.Rule xs
 unfolding spelling placeholder extension_prefix no_include no_include_end only_include only_include_end include_only switch_prefix tag_name digits
 rule_kind xs h =
-    record { name = (refl, (refl, tt)); whole = refl; placed = λ r. refl; shows = refl; rises = refl; characters = tt; row = λ n. plain_row kind.Rule xs refl h refl }
+    record {
+      name = (refl, (refl, tt));
+      whole = refl;
+      placed = λ r. refl;
+      shows = refl;
+      rises = refl;
+      characters = tt;
+      row =
+          λ n. plain_row kind.Rule xs refl h refl;
+    }
 
 pre_kind : (xs : List (AttrName × List ℕ)) → HasAttributes kind.Pre xs → IsElementKind kind.Pre xs
 unfolding spelling placeholder extension_prefix no_include no_include_end only_include only_include_end include_only switch_prefix tag_name digits
 pre_kind xs h =
-    record { name = (refl, (refl, (refl, tt))); whole = refl; placed = λ r. refl; shows = refl; rises = refl; characters = tt; row = λ n. plain_row kind.Pre xs refl h refl }
+    record {
+      name = (refl, (refl, (refl, tt)));
+      whole = refl;
+      placed = λ r. refl;
+      shows = refl;
+      rises = refl;
+      characters =
+          tt;
+      row = λ n. plain_row kind.Pre xs refl h refl;
+    }
 
 bold_kind : (xs : List (AttrName × List ℕ)) → HasAttributes kind.Bold xs → IsElementKind kind.Bold xs
 unfolding spelling placeholder extension_prefix no_include no_include_end only_include only_include_end include_only switch_prefix tag_name digits
@@ -88,119 +107,362 @@ italic_kind xs h =
 wikilink_kind : (xs : List (AttrName × List ℕ)) → HasAttributes kind.WikiLink xs → IsElementKind kind.WikiLink xs
 unfolding spelling placeholder extension_prefix no_include no_include_end only_include only_include_end include_only switch_prefix tag_name digits
 wikilink_kind xs h =
-    record { name = (refl, tt); whole = refl; placed = λ r. refl; shows = refl; rises = refl; characters = (IsUtf8-are_ascii (codes "mw:WikiLink") refl, tt); row = λ n. plain_row kind.WikiLink xs refl h refl }
+    record {
+      name = (refl, tt);
+      whole = refl;
+      placed = λ r. refl;
+      shows = refl;
+      rises = refl;
+      characters =
+          (IsUtf8-are_ascii (codes "mw:WikiLink") refl, tt);
+      row = λ n. plain_row kind.WikiLink xs refl h refl;
+    }
 
 extlink_kind : (xs : List (AttrName × List ℕ)) → HasAttributes kind.ExtLink xs → IsElementKind kind.ExtLink xs
 unfolding spelling placeholder extension_prefix no_include no_include_end only_include only_include_end include_only switch_prefix tag_name digits
 extlink_kind xs h =
-    record { name = (refl, tt); whole = refl; placed = λ r. refl; shows = refl; rises = refl; characters = (IsUtf8-are_ascii (codes "mw:ExtLink") refl, tt); row = λ n. plain_row kind.ExtLink xs refl h refl }
+    record {
+      name = (refl, tt);
+      whole = refl;
+      placed = λ r. refl;
+      shows = refl;
+      rises = refl;
+      characters =
+          (IsUtf8-are_ascii (codes "mw:ExtLink") refl, tt);
+      row = λ n. plain_row kind.ExtLink xs refl h refl;
+    }
 
 category_kind : (xs : List (AttrName × List ℕ)) → HasAttributes kind.Category xs → IsElementKind kind.Category xs
 unfolding spelling placeholder extension_prefix no_include no_include_end only_include only_include_end include_only switch_prefix tag_name digits
 category_kind xs h =
-    record { name = (refl, (refl, (refl, (refl, tt)))); whole = refl; placed = λ r. refl; shows = refl; rises = refl; characters = (IsUtf8-are_ascii (codes "mw:PageProp/Category") refl, tt); row = λ n. plain_row kind.Category xs refl h refl }
+    record {
+      name = (refl, (refl, (refl, (refl, tt))));
+      whole = refl;
+      placed = λ r. refl;
+      shows = refl;
+      rises = refl;
+      characters =
+          (IsUtf8-are_ascii (codes "mw:PageProp/Category") refl, tt);
+      row = λ n. plain_row kind.Category xs refl h refl;
+    }
 
 br_kind : (xs : List (AttrName × List ℕ)) → HasAttributes kind.Br xs → IsElementKind kind.Br xs
 unfolding spelling placeholder extension_prefix no_include no_include_end only_include only_include_end include_only switch_prefix tag_name digits
 br_kind xs h =
-    record { name = (refl, (refl, tt)); whole = refl; placed = λ r. refl; shows = refl; rises = refl; characters = tt; row = λ n. plain_row kind.Br xs refl h refl }
+    record {
+      name = (refl, (refl, tt));
+      whole = refl;
+      placed = λ r. refl;
+      shows = refl;
+      rises = refl;
+      characters = tt;
+      row =
+          λ n. plain_row kind.Br xs refl h refl;
+    }
 
 entity_kind : (xs : List (AttrName × List ℕ)) → HasAttributes kind.Entity xs → IsElementKind kind.Entity xs
 unfolding spelling placeholder extension_prefix no_include no_include_end only_include only_include_end include_only switch_prefix tag_name digits
 entity_kind xs h =
-    record { name = (refl, (refl, (refl, (refl, tt)))); whole = refl; placed = λ r. refl; shows = refl; rises = refl; characters = (IsUtf8-are_ascii (codes "mw:Entity") refl, tt); row = λ n. plain_row kind.Entity xs refl h refl }
+    record {
+      name = (refl, (refl, (refl, (refl, tt))));
+      whole = refl;
+      placed = λ r. refl;
+      shows = refl;
+      rises = refl;
+      characters =
+          (IsUtf8-are_ascii (codes "mw:Entity") refl, tt);
+      row = λ n. plain_row kind.Entity xs refl h refl;
+    }
 
 nowiki_kind : (xs : List (AttrName × List ℕ)) → HasAttributes kind.Nowiki xs → IsElementKind kind.Nowiki xs
 unfolding spelling placeholder extension_prefix no_include no_include_end only_include only_include_end include_only switch_prefix tag_name digits
 nowiki_kind xs h =
-    record { name = (refl, (refl, (refl, (refl, tt)))); whole = refl; placed = λ r. refl; shows = refl; rises = refl; characters = (IsUtf8-are_ascii (codes "mw:Nowiki") refl, tt); row = λ n. plain_row kind.Nowiki xs refl h refl }
+    record {
+      name = (refl, (refl, (refl, (refl, tt))));
+      whole = refl;
+      placed = λ r. refl;
+      shows = refl;
+      rises = refl;
+      characters =
+          (IsUtf8-are_ascii (codes "mw:Nowiki") refl, tt);
+      row = λ n. plain_row kind.Nowiki xs refl h refl;
+    }
 
 comment_kind : (xs : List (AttrName × List ℕ)) → HasAttributes kind.Comment xs → IsElementKind kind.Comment xs
 unfolding spelling placeholder extension_prefix no_include no_include_end only_include only_include_end include_only switch_prefix tag_name digits
 comment_kind xs h =
-    record { name = (refl, (refl, (refl, (refl, tt)))); whole = refl; placed = λ r. refl; shows = refl; rises = refl; characters = (IsUtf8-are_ascii (codes "mw:Comment") refl, tt); row = λ n. plain_row kind.Comment xs refl h refl }
+    record {
+      name = (refl, (refl, (refl, (refl, tt))));
+      whole = refl;
+      placed = λ r. refl;
+      shows = refl;
+      rises = refl;
+      characters =
+          (IsUtf8-are_ascii (codes "mw:Comment") refl, tt);
+      row = λ n. plain_row kind.Comment xs refl h refl;
+    }
 
 skip_kind : (xs : List (AttrName × List ℕ)) → HasAttributes kind.Skip xs → IsElementKind kind.Skip xs
 unfolding spelling placeholder extension_prefix no_include no_include_end only_include only_include_end include_only switch_prefix tag_name digits
 skip_kind xs h =
-    record { name = (refl, (refl, (refl, (refl, tt)))); whole = refl; placed = λ r. refl; shows = refl; rises = refl; characters = (IsUtf8-are_ascii (codes "mw:Skip") refl, tt); row = λ n. plain_row kind.Skip xs refl h refl }
+    record {
+      name = (refl, (refl, (refl, (refl, tt))));
+      whole = refl;
+      placed = λ r. refl;
+      shows = refl;
+      rises = refl;
+      characters =
+          (IsUtf8-are_ascii (codes "mw:Skip") refl, tt);
+      row = λ n. plain_row kind.Skip xs refl h refl;
+    }
 
 tag_kind : (t : TagName) (xs : List (AttrName × List ℕ)) → HasAttributes (kind.Tag t) xs → IsElementKind (kind.Tag t) xs
 unfolding spelling tag_name digits
 tag_kind tag.Sup xs h =
-    record { name = (refl, (refl, (refl, tt))); whole = refl; placed = λ r. refl; shows = refl; rises = refl; characters = tt; row = λ n. plain_row (kind.Tag tag.Sup) xs refl h refl }
+    record {
+      name = (refl, (refl, (refl, tt)));
+      whole = refl;
+      placed = λ r. refl;
+      shows = refl;
+      rises = refl;
+      characters =
+          tt;
+      row = λ n. plain_row (kind.Tag tag.Sup) xs refl h refl;
+    }
 tag_kind tag.Sub xs h =
-    record { name = (refl, (refl, (refl, tt))); whole = refl; placed = λ r. refl; shows = refl; rises = refl; characters = tt; row = λ n. plain_row (kind.Tag tag.Sub) xs refl h refl }
+    record {
+      name = (refl, (refl, (refl, tt)));
+      whole = refl;
+      placed = λ r. refl;
+      shows = refl;
+      rises = refl;
+      characters =
+          tt;
+      row = λ n. plain_row (kind.Tag tag.Sub) xs refl h refl;
+    }
 tag_kind tag.Small xs h =
-    record { name = (refl, (refl, (refl, (refl, (refl, tt))))); whole = refl; placed = λ r. refl; shows = refl; rises = refl; characters = tt; row = λ n. plain_row (kind.Tag tag.Small) xs refl h refl }
+    record {
+      name = (refl, (refl, (refl, (refl, (refl, tt)))));
+      whole = refl;
+      placed = λ r. refl;
+      shows = refl;
+      rises =
+          refl;
+      characters = tt;
+      row = λ n. plain_row (kind.Tag tag.Small) xs refl h refl;
+    }
 tag_kind tag.S xs h =
-    record { name = (refl, tt); whole = refl; placed = λ r. refl; shows = refl; rises = refl; characters = tt; row = λ n. plain_row (kind.Tag tag.S) xs refl h refl }
+    record {
+      name = (refl, tt);
+      whole = refl;
+      placed = λ r. refl;
+      shows = refl;
+      rises = refl;
+      characters = tt;
+      row =
+          λ n. plain_row (kind.Tag tag.S) xs refl h refl;
+    }
 tag_kind tag.U xs h =
-    record { name = (refl, tt); whole = refl; placed = λ r. refl; shows = refl; rises = refl; characters = tt; row = λ n. plain_row (kind.Tag tag.U) xs refl h refl }
+    record {
+      name = (refl, tt);
+      whole = refl;
+      placed = λ r. refl;
+      shows = refl;
+      rises = refl;
+      characters = tt;
+      row =
+          λ n. plain_row (kind.Tag tag.U) xs refl h refl;
+    }
 tag_kind tag.Code xs h =
-    record { name = (refl, (refl, (refl, (refl, tt)))); whole = refl; placed = λ r. refl; shows = refl; rises = refl; characters = tt; row = λ n. plain_row (kind.Tag tag.Code) xs refl h refl }
+    record {
+      name = (refl, (refl, (refl, (refl, tt))));
+      whole = refl;
+      placed = λ r. refl;
+      shows = refl;
+      rises = refl;
+      characters =
+          tt;
+      row = λ n. plain_row (kind.Tag tag.Code) xs refl h refl;
+    }
 tag_kind tag.Span xs h =
-    record { name = (refl, (refl, (refl, (refl, tt)))); whole = refl; placed = λ r. refl; shows = refl; rises = refl; characters = tt; row = λ n. plain_row (kind.Tag tag.Span) xs refl h refl }
+    record {
+      name = (refl, (refl, (refl, (refl, tt))));
+      whole = refl;
+      placed = λ r. refl;
+      shows = refl;
+      rises = refl;
+      characters =
+          tt;
+      row = λ n. plain_row (kind.Tag tag.Span) xs refl h refl;
+    }
 
 ul_kind : (xs : List (AttrName × List ℕ)) → HasAttributes kind.Ul xs → IsElementKind kind.Ul xs
 unfolding spelling placeholder extension_prefix no_include no_include_end only_include only_include_end include_only switch_prefix tag_name digits
 ul_kind xs h =
-    record { name = (refl, (refl, tt)); whole = refl; placed = λ r. refl; shows = refl; rises = refl; characters = tt; row = λ n. plain_row kind.Ul xs refl h refl }
+    record {
+      name = (refl, (refl, tt));
+      whole = refl;
+      placed = λ r. refl;
+      shows = refl;
+      rises = refl;
+      characters = tt;
+      row =
+          λ n. plain_row kind.Ul xs refl h refl;
+    }
 
 ol_kind : (xs : List (AttrName × List ℕ)) → HasAttributes kind.Ol xs → IsElementKind kind.Ol xs
 unfolding spelling placeholder extension_prefix no_include no_include_end only_include only_include_end include_only switch_prefix tag_name digits
 ol_kind xs h =
-    record { name = (refl, (refl, tt)); whole = refl; placed = λ r. refl; shows = refl; rises = refl; characters = tt; row = λ n. plain_row kind.Ol xs refl h refl }
+    record {
+      name = (refl, (refl, tt));
+      whole = refl;
+      placed = λ r. refl;
+      shows = refl;
+      rises = refl;
+      characters = tt;
+      row =
+          λ n. plain_row kind.Ol xs refl h refl;
+    }
 
 dl_kind : (xs : List (AttrName × List ℕ)) → HasAttributes kind.Dl xs → IsElementKind kind.Dl xs
 unfolding spelling placeholder extension_prefix no_include no_include_end only_include only_include_end include_only switch_prefix tag_name digits
 dl_kind xs h =
-    record { name = (refl, (refl, tt)); whole = refl; placed = λ r. refl; shows = refl; rises = refl; characters = tt; row = λ n. plain_row kind.Dl xs refl h refl }
+    record {
+      name = (refl, (refl, tt));
+      whole = refl;
+      placed = λ r. refl;
+      shows = refl;
+      rises = refl;
+      characters = tt;
+      row =
+          λ n. plain_row kind.Dl xs refl h refl;
+    }
 
 li_kind : (xs : List (AttrName × List ℕ)) → HasAttributes kind.Li xs → IsElementKind kind.Li xs
 unfolding spelling placeholder extension_prefix no_include no_include_end only_include only_include_end include_only switch_prefix tag_name digits
 li_kind xs h =
-    record { name = (refl, (refl, tt)); whole = refl; placed = λ r. refl; shows = refl; rises = refl; characters = tt; row = λ n. plain_row kind.Li xs refl h refl }
+    record {
+      name = (refl, (refl, tt));
+      whole = refl;
+      placed = λ r. refl;
+      shows = refl;
+      rises = refl;
+      characters = tt;
+      row =
+          λ n. plain_row kind.Li xs refl h refl;
+    }
 
 dt_kind : (xs : List (AttrName × List ℕ)) → HasAttributes kind.Dt xs → IsElementKind kind.Dt xs
 unfolding spelling placeholder extension_prefix no_include no_include_end only_include only_include_end include_only switch_prefix tag_name digits
 dt_kind xs h =
-    record { name = (refl, (refl, tt)); whole = refl; placed = λ r. refl; shows = refl; rises = refl; characters = tt; row = λ n. plain_row kind.Dt xs refl h refl }
+    record {
+      name = (refl, (refl, tt));
+      whole = refl;
+      placed = λ r. refl;
+      shows = refl;
+      rises = refl;
+      characters = tt;
+      row =
+          λ n. plain_row kind.Dt xs refl h refl;
+    }
 
 dd_kind : (xs : List (AttrName × List ℕ)) → HasAttributes kind.Dd xs → IsElementKind kind.Dd xs
 unfolding spelling placeholder extension_prefix no_include no_include_end only_include only_include_end include_only switch_prefix tag_name digits
 dd_kind xs h =
-    record { name = (refl, (refl, tt)); whole = refl; placed = λ r. refl; shows = refl; rises = refl; characters = tt; row = λ n. plain_row kind.Dd xs refl h refl }
+    record {
+      name = (refl, (refl, tt));
+      whole = refl;
+      placed = λ r. refl;
+      shows = refl;
+      rises = refl;
+      characters = tt;
+      row =
+          λ n. plain_row kind.Dd xs refl h refl;
+    }
 
 table_kind : (xs : List (AttrName × List ℕ)) → HasAttributes kind.Table xs → IsElementKind kind.Table xs
 unfolding spelling placeholder extension_prefix no_include no_include_end only_include only_include_end include_only switch_prefix tag_name digits
 table_kind xs h =
-    record { name = (refl, (refl, (refl, (refl, (refl, tt))))); whole = refl; placed = λ r. refl; shows = refl; rises = refl; characters = tt; row = λ n. plain_row kind.Table xs refl h refl }
+    record {
+      name = (refl, (refl, (refl, (refl, (refl, tt)))));
+      whole = refl;
+      placed = λ r. refl;
+      shows = refl;
+      rises =
+          refl;
+      characters = tt;
+      row = λ n. plain_row kind.Table xs refl h refl;
+    }
 
 tbody_kind : (xs : List (AttrName × List ℕ)) → HasAttributes kind.Tbody xs → IsElementKind kind.Tbody xs
 unfolding spelling placeholder extension_prefix no_include no_include_end only_include only_include_end include_only switch_prefix tag_name digits
 tbody_kind xs h =
-    record { name = (refl, (refl, (refl, (refl, (refl, tt))))); whole = refl; placed = λ r. refl; shows = refl; rises = refl; characters = tt; row = λ n. plain_row kind.Tbody xs refl h refl }
+    record {
+      name = (refl, (refl, (refl, (refl, (refl, tt)))));
+      whole = refl;
+      placed = λ r. refl;
+      shows = refl;
+      rises =
+          refl;
+      characters = tt;
+      row = λ n. plain_row kind.Tbody xs refl h refl;
+    }
 
 tr_kind : (xs : List (AttrName × List ℕ)) → HasAttributes kind.Tr xs → IsElementKind kind.Tr xs
 unfolding spelling placeholder extension_prefix no_include no_include_end only_include only_include_end include_only switch_prefix tag_name digits
 tr_kind xs h =
-    record { name = (refl, (refl, tt)); whole = refl; placed = λ r. refl; shows = refl; rises = refl; characters = tt; row = λ n. plain_row kind.Tr xs refl h refl }
+    record {
+      name = (refl, (refl, tt));
+      whole = refl;
+      placed = λ r. refl;
+      shows = refl;
+      rises = refl;
+      characters = tt;
+      row =
+          λ n. plain_row kind.Tr xs refl h refl;
+    }
 
 caption_kind : (xs : List (AttrName × List ℕ)) → HasAttributes kind.Caption xs → IsElementKind kind.Caption xs
 unfolding spelling placeholder extension_prefix no_include no_include_end only_include only_include_end include_only switch_prefix tag_name digits
 caption_kind xs h =
-    record { name = (refl, (refl, (refl, (refl, (refl, (refl, (refl, tt))))))); whole = refl; placed = λ r. refl; shows = refl; rises = refl; characters = tt; row = λ n. plain_row kind.Caption xs refl h refl }
+    record {
+      name = (refl, (refl, (refl, (refl, (refl, (refl, (refl, tt)))))));
+      whole = refl;
+      placed = λ r. refl;
+      shows =
+          refl;
+      rises = refl;
+      characters = tt;
+      row = λ n. plain_row kind.Caption xs refl h refl;
+    }
 
 td_kind : (xs : List (AttrName × List ℕ)) → HasAttributes kind.Td xs → IsElementKind kind.Td xs
 unfolding spelling placeholder extension_prefix no_include no_include_end only_include only_include_end include_only switch_prefix tag_name digits
 td_kind xs h =
-    record { name = (refl, (refl, tt)); whole = refl; placed = λ r. refl; shows = refl; rises = refl; characters = tt; row = λ n. plain_row kind.Td xs refl h refl }
+    record {
+      name = (refl, (refl, tt));
+      whole = refl;
+      placed = λ r. refl;
+      shows = refl;
+      rises = refl;
+      characters = tt;
+      row =
+          λ n. plain_row kind.Td xs refl h refl;
+    }
 
 th_kind : (xs : List (AttrName × List ℕ)) → HasAttributes kind.Th xs → IsElementKind kind.Th xs
 unfolding spelling placeholder extension_prefix no_include no_include_end only_include only_include_end include_only switch_prefix tag_name digits
 th_kind xs h =
-    record { name = (refl, (refl, tt)); whole = refl; placed = λ r. refl; shows = refl; rises = refl; characters = tt; row = λ n. plain_row kind.Th xs refl h refl }
+    record {
+      name = (refl, (refl, tt));
+      whole = refl;
+      placed = λ r. refl;
+      shows = refl;
+      rises = refl;
+      characters = tt;
+      row =
+          λ n. plain_row kind.Th xs refl h refl;
+    }
 
 level_cases : (P : ℕ → Type 0) → P 1 → P 2 → P 3 → P 4 → P 5 → P 6 → (n : ℕ) → (nat_le 1 n && nat_le n 6) ≡ true → P n
 level_cases P a b c d e f zero h = absurd cc
@@ -231,15 +493,34 @@ heading_name = level_cases IsHeadingName
     (record { name = (refl, (refl, tt)); whole = refl; row = refl })
     (record { name = (refl, (refl, tt)); whole = refl; row = refl })
 
-heading_kind : (n : ℕ) (xs : List (AttrName × List ℕ)) → (nat_le 1 n && nat_le n 6) ≡ true → HasAttributes (kind.Heading n) xs → IsElementKind (kind.Heading n) xs
+heading_kind : (n : ℕ) (xs : List (AttrName × List ℕ)) → (nat_le 1 n && nat_le n 6) ≡ true → HasAttributes (kind.Heading n) xs
+    → IsElementKind (kind.Heading n) xs
 unfolding spelling tag_name digits
 heading_kind n xs l h =
     let q = heading_name n l in
-    record { name = q.name; whole = q.whole; placed = λ r. refl; shows = refl; rises = refl; characters = tt; row = λ m. plain_row (kind.Heading n) xs refl h q.row }
+    record {
+      name = q.name;
+      whole = q.whole;
+      placed = λ r. refl;
+      shows = refl;
+      rises = refl;
+      characters = tt;
+      row =
+          λ m. plain_row (kind.Heading n) xs refl h q.row;
+    }
 
 body_kind : (xs : List (AttrName × List ℕ)) → IsElementKind kind.Body xs
 unfolding spelling tag_name digits
-body_kind xs = record { name = (refl, (refl, (refl, (refl, tt)))); whole = refl; placed = λ r. refl; shows = refl; rises = refl; characters = tt; row = λ h. cc }
+body_kind xs = record {
+  name = (refl, (refl, (refl, (refl, tt))));
+  whole = refl;
+  placed = λ r. refl;
+  shows = refl;
+  rises =
+      refl;
+  characters = tt;
+  row = λ h. cc;
+}
 
 -- ---- islands, include tags and switches: one attribute tells them
 

@@ -76,7 +76,8 @@ own_text (x ∷ xs) = ap (λ y. said_text (own_said x) ++ y) (own_text xs)
 digit_plain : (d : ℕ) → 48 ≤ d → d ≤ 57 → escape_double d ≡ d ∷ []
 unfolding escape_double escape
 digit_plain d l h =
-    if_false (d == 34) _ _ (differ d 34 (omega arith)) ∙ if_false (d == 38) _ _ (differ d 38 (omega arith)) ∙ if_false (d == 60) _ _ (differ_up d 60 (omega arith))
+    if_false (d == 34) _ _ (differ d 34 (omega arith)) ∙ if_false (d == 38) _ _ (differ d 38 (omega arith))
+    ∙ if_false (d == 60) _ _ (differ_up d 60 (omega arith))
     ∙ if_false (d == 62) _ _ (differ_up d 62 (omega arith)) ∙ if_false (is_control d) _ _ (no_control d l)
   where
     differ : (c d : ℕ) → d < c → (c == d) ≡ false
@@ -97,7 +98,8 @@ unfolding id_attribute escape_double escape attribute_name
 id_text id h = by_test (id == 0) (digits_plain (decimal id) (decimal_is_IsNumeral id h).0.1)
   where
     by_test : (t : Bool) → escaped_double (decimal id) ≡ decimal id
-        → flat_map said_text (if t then [] else double attr.Id (109 ∷ 119 ∷ decimal id) ∷ []) ≡ (if t then [] else codes " id=\"mw" ++ (decimal id ++ codes "\""))
+        → flat_map said_text (if t then [] else double attr.Id (109 ∷ 119 ∷ decimal id) ∷ [])
+        ≡ (if t then [] else codes " id=\"mw" ++ (decimal id ++ codes "\""))
     by_test true e = refl
     by_test false e = append-nil _ ∙ ap (λ x. codes " id=\"mw" ++ (x ++ codes "\"")) e
 
@@ -134,7 +136,8 @@ said_value (single n v) = v
 -- names that may stand there, each once and none of those before, and values in UTF-8
 abbrev pub AreGood : List (List ℕ) → List Said → Type 0
 AreGood before [] = Unit {0}
-AreGood before (s ∷ ss) = IsAttributeName (said_name s) × IsUtf8 (said_value s) × (is_among (said_name s) before ≡ false) × AreGood (before ++ said_name s ∷ []) ss
+AreGood before (s ∷ ss) = IsAttributeName (said_name s) × IsUtf8 (said_value s) × (is_among (said_name s) before ≡ false)
+    × AreGood (before ++ said_name s ∷ []) ss
 
 spelled_one : (s : Said) → IsUtf8 (said_value s) → spell_attribute (attribute_for s) ≡ said_text s
 spelled_one (double n v) u = ap (λ x. 32 ∷ (attribute_name n ++ (61 ∷ 34 ∷ (x ++ 34 ∷ [])))) (pieces_spelled _ _ _ spells_double v u)

@@ -51,7 +51,8 @@ pub extension_utf8 : (t : List ℕ) → is_extension_type t ≡ true → IsUtf8 
 unfolding extension_prefix
 extension_utf8 t h =
     let q = and_parts _ _ h in
-    subst IsUtf8 (sym (begins_is extension_prefix t q.0)) (IsUtf8-append extension_prefix _ (IsUtf8-are_ascii extension_prefix refl) (IsUtf8-are_ascii _ (extension_ascii _ q.1)))
+    subst IsUtf8 (sym (begins_is extension_prefix t q.0))
+    (IsUtf8-append extension_prefix _ (IsUtf8-are_ascii extension_prefix refl) (IsUtf8-are_ascii _ (extension_ascii _ q.1)))
 
 -- ---- include tags
 

@@ -46,14 +46,26 @@ document body = record { head = record { lead = []; doctype = codes "<!DOCTYPE h
 document_spelled : (body : Element) → frame_start ++ (spell body ++ frame_end) ≡ spell_document (document body)
 unfolding frame_start frame_end encode
 document_spelled body =
-    let ends : (x : List ℕ) → x ++ codes "</html>" ≡ ((x ++ []) ++ codes "</html>") ++ [] = λ x. sym (append-nil _ ∙ ap (λ y. y ++ codes "</html>") (append-nil x)) in
+    let ends : (x : List ℕ) → x ++ codes "</html>" ≡ ((x ++ []) ++ codes "</html>") ++ [] =
+    λ x. sym (append-nil _ ∙ ap (λ y. y ++ codes "</html>") (append-nil x)) in
     ap (λ x. codes "<!DOCTYPE html><html><head><meta charset=\"utf-8\"/></head>" ++ x) (ends (spell body))
 
 meta_good : IsElement 2 meta
 meta_good = (
   omega arith,
   (refl, (refl, (refl, (refl, tt)))),
-  (((refl, tt), (refl, (refl, (refl, (refl, (refl, (refl, (refl, tt))))))), ((refl, refl), ((refl, refl), ((refl, refl), ((refl, refl), ((refl, refl), tt))))), refl, tt, tt), refl, tt),
+  (
+    (
+      (refl, tt),
+      (refl, (refl, (refl, (refl, (refl, (refl, (refl, tt))))))),
+      ((refl, refl), ((refl, refl), ((refl, refl), ((refl, refl), ((refl, refl), tt))))),
+      refl,
+      tt,
+      tt,
+    ),
+    refl,
+    tt,
+  ),
   tt,
   refl,
 )
@@ -81,9 +93,11 @@ found l m = record { number = 4; attributes = pairs (said_of l); contents = m }
 
 body_found : (l : Label) (m : Markups) → l.kind ≡ kind.Body → body_of (page_markup (node_for l m)) ≡ Some (found l m)
 unfolding spelling
-body_found l m e = if_true (bytes_eq (codes "head") (codes "head") && bytes_eq (element_name l.kind) (codes "body")) _ _ (ap (λ k. bytes_eq (codes "head") (codes "head") && bytes_eq (element_name k) (codes "body")) e)
+body_found l m e = if_true (bytes_eq (codes "head") (codes "head") && bytes_eq (element_name l.kind) (codes "body")) _ _
+    (ap (λ k. bytes_eq (codes "head") (codes "head") && bytes_eq (element_name k) (codes "body")) e)
 
-body_fits : (l : Label) (ts : Trees) → l.kind ≡ kind.Body → IsElementLabel l → IsTold l → AllWrittenIn 2 kind.Body ts → fit (page_markup (node_for l (markups_of ts))) ≡ Ok (unranged (tree l ts))
+body_fits : (l : Label) (ts : Trees) → l.kind ≡ kind.Body → IsElementLabel l → IsTold l → AllWrittenIn 2 kind.Body ts
+    → fit (page_markup (node_for l (markups_of ts))) ≡ Ok (unranged (tree l ts))
 body_fits l ts e w t h =
     let ps : List Pair = pairs (said_of l) in
     let m : Markups = markups_of ts in
@@ -95,7 +109,8 @@ body_fits l ts e w t h =
     ∙ ap (λ x. Ok (tree x (unranged_all ts)))
     (ap (λ k. label_for k ps t.told (texts_in m)) (sym e) ∙ t.label_is (texts_in m) (ap (λ k. if shows_text k then texts_in m else []) e ∙ s))
 
-body_sourced : (l : Label) (ts : Trees) → l.kind ≡ kind.Body → IsTold l → AllWrittenIn 2 kind.Body ts → unsourced (page_markup (node_for l (markups_of ts))) ≡ None
+body_sourced : (l : Label) (ts : Trees) → l.kind ≡ kind.Body → IsTold l → AllWrittenIn 2 kind.Body ts
+    → unsourced (page_markup (node_for l (markups_of ts))) ≡ None
 body_sourced l ts e t h =
     ap unsourced_body (body_found l (markups_of ts) e)
     ∙ if_false (is_marked (pairs (said_of l))) _ _ t.marked ∙ items_sourced ts 2 kind.Body 5 h

@@ -6,4 +6,5 @@ pub returns-in-Ok : goal.returns-in-Ok
 returns-in-Ok c = page_answer (view_content c.args.root) c.in-Ok.edited c.in-Ok.ensures
 
 pub returns-in-Err-Unfit : goal.returns-in-Err-Unfit
-returns-in-Err-Unfit c = misfit_answer (view_content c.args.root) c.in-Err-Unfit.element c.in-Err-Unfit.why (rw c.in-Err-Unfit.field-0-is at c.in-Err-Unfit.ensures)
+returns-in-Err-Unfit c = misfit_answer (view_content c.args.root) c.in-Err-Unfit.element c.in-Err-Unfit.why
+    (rw c.in-Err-Unfit.field-0-is at c.in-Err-Unfit.ensures)

@@ -7,23 +7,30 @@ use Rattle.wt_html_in.proofs.frame.edited.Goals as goal
 pub returns-in_err-children : goal.returns-in_err-children
 returns-in_err-children c =
     let r : c.from_residual-in_err-children.result ≡ Err c.in_err-children.field-0.0 = search rules in
-    fits_at (Some (found_of c.args.number (pairs c.args.attributes.items) (views c.args.contents.items))) _ c.from_residual-in_err-children.result (Err c.in_err-children.field-0.0) refl r
-    (body_inside c.args.number (pairs c.args.attributes.items) (views c.args.contents.items) c.in_ok-head.head c.walk_in-walk.result c.nodes.new.walk c.in_err-children.field-0.0
-    (bodied_at c.args.number (pairs c.as_slice.result.now) (pairs c.args.attributes.items) c.as_slice-2.result.now c.args.contents.items (Ok c.in_ok-head.head) (search rules) c.as_slice-2.ensures.value
+    fits_at (Some (found_of c.args.number (pairs c.args.attributes.items) (views c.args.contents.items))) _
+    c.from_residual-in_err-children.result (Err c.in_err-children.field-0.0) refl r
+    (body_inside c.args.number (pairs c.args.attributes.items) (views c.args.contents.items) c.in_ok-head.head
+    c.walk_in-walk.result c.nodes.new.walk c.in_err-children.field-0.0
+    (bodied_at c.args.number (pairs c.as_slice.result.now) (pairs c.args.attributes.items) c.as_slice-2.result.now
+    c.args.contents.items (Ok c.in_ok-head.head) (search rules) c.as_slice-2.ensures.value
     c.in_ok-head.ensures)
     c.walk_in-walk.ensures.next c.in_err-children.ensures)
 
 pub returns : goal.returns
 returns c =
-    body_made c.args.number (pairs c.args.attributes.items) (views c.args.contents.items) c.in_ok-head.head c.walk_in-walk.result c.nodes.new.walk c.in_ok-children.children c.in_ok-body.body c.of.result
-    (bodied_at c.args.number (pairs c.as_slice.result.now) (pairs c.args.attributes.items) c.as_slice-2.result.now c.args.contents.items (Ok c.in_ok-head.head) (search rules) c.as_slice-2.ensures.value
+    body_made c.args.number (pairs c.args.attributes.items) (views c.args.contents.items) c.in_ok-head.head c.walk_in-walk.result
+    c.nodes.new.walk c.in_ok-children.children c.in_ok-body.body c.of.result
+    (bodied_at c.args.number (pairs c.as_slice.result.now) (pairs c.args.attributes.items) c.as_slice-2.result.now
+    c.args.contents.items (Ok c.in_ok-head.head) (search rules) c.as_slice-2.ensures.value
     c.in_ok-head.ensures)
     c.walk_in-walk.ensures.next c.walk_in-walk.ensures.unsourced c.in_ok-children.ensures c.in_ok-body.ensures.node c.of.ensures.body c.of.ensures.unsourced
 
 pub returns-in_err-head : goal.returns-in_err-head
 returns-in_err-head c =
     let r : c.from_residual.result ≡ Err c.in_err-head.field-0.0 = search rules in
-    fits_at (Some (found_of c.args.number (pairs c.args.attributes.items) (views c.args.contents.items))) _ c.from_residual.result (Err c.in_err-head.field-0.0) refl r
+    fits_at (Some (found_of c.args.number (pairs c.args.attributes.items) (views c.args.contents.items))) _ c.from_residual.result
+    (Err c.in_err-head.field-0.0) refl r
     (body_misfit c.args.number (pairs c.args.attributes.items) (views c.args.contents.items) c.in_err-head.field-0.0
-    (bodied_at c.args.number (pairs c.as_slice.result.now) (pairs c.args.attributes.items) c.as_slice-2.result.now c.args.contents.items (Err c.in_err-head.field-0.0) (search rules) c.as_slice-2.ensures.value
+    (bodied_at c.args.number (pairs c.as_slice.result.now) (pairs c.args.attributes.items) c.as_slice-2.result.now
+    c.args.contents.items (Err c.in_err-head.field-0.0) (search rules) c.as_slice-2.ensures.value
     c.in_err-head.ensures))

@@ -6,4 +6,5 @@ use Rattle.wt_fitting.specs.Fit.{elements_in}
 use Rattle.wt_html_in.proofs.frame.elements_in.Given as goal
 
 abbrev pub invariant-loop-content : goal.invariant-loop-content
-invariant-loop-content l = append (views l.elements.items) (elements_in (views (into_iter_items l.content-iterator))) ≡ elements_in (views (into_iter_items l.initial.content-iterator))
+invariant-loop-content l = append (views l.elements.items) (elements_in (views (into_iter_items l.content-iterator)))
+    ≡ elements_in (views (into_iter_items l.initial.content-iterator))

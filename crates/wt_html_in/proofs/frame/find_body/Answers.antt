@@ -7,6 +7,8 @@ use Rattle.wt_html_in.proofs.frame.find_body.Goals as goal
 
 pub body_in-requires : goal.body_in-requires
 body_in-requires c =
-    let e : view_content c.args.root ≡ node c.in-Element.name.items (pairs c.in-Element.attributes.items) (views c.in-Element.contents.items) = search (rules, the_lemmas, fold-roll-Content) in
-    few_in_root (view_content c.args.root) c.in-Element.name.items (pairs c.in-Element.attributes.items) (views c.in-Element.contents.items) (views c.in_ok-elements-in-Element.elements.items)
+    let e : view_content c.args.root ≡ node c.in-Element.name.items (pairs c.in-Element.attributes.items)
+    (views c.in-Element.contents.items) = search (rules, the_lemmas, fold-roll-Content) in
+    few_in_root (view_content c.args.root) c.in-Element.name.items (pairs c.in-Element.attributes.items)
+    (views c.in-Element.contents.items) (views c.in_ok-elements-in-Element.elements.items)
     e c.in_ok-elements-in-Element.ensures.elements c.requires

@@ -13,4 +13,5 @@ edited-requires-clause-utf8_values c =
     (sound_by (view_content c.args.root) c.in_ok-find_body.field-0 c.in-Some.field-0 c.in_ok-find_body.ensures.found c.in-Some.is c.requires.utf8).utf8_values
 
 pub edited-requires-clause-utf8 : goal.edited-requires-clause-utf8
-edited-requires-clause-utf8 c = (sound_by (view_content c.args.root) c.in_ok-find_body.field-0 c.in-Some.field-0 c.in_ok-find_body.ensures.found c.in-Some.is c.requires.utf8).utf8
+edited-requires-clause-utf8 c = (sound_by (view_content c.args.root) c.in_ok-find_body.field-0 c.in-Some.field-0
+    c.in_ok-find_body.ensures.found c.in-Some.is c.requires.utf8).utf8

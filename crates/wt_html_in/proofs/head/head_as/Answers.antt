@@ -6,5 +6,6 @@ use Rattle.wt_html_in.proofs.head.head_as.Goals as goal
 
 pub returns-then-text_fits : goal.returns-then-text_fits
 returns-then-text_fits c =
-    head_good c.args.number c.args.kind (pairs c.args.attributes.now) (views c.args.contents.now) (data_both c.in-Good.sync c.in-Good.mw) c.text_fits.result c.head_with.result
+    head_good c.args.number c.args.kind (pairs c.args.attributes.now) (views c.args.contents.now)
+    (data_both c.in-Good.sync c.in-Good.mw) c.text_fits.result c.head_with.result
     (sym (ap data_said c.in-Good.is) ∙ c.in_ok-data_of.ensures.fits) c.text_fits.ensures c.if-text_fits.true c.head_with.ensures.head c.head_with.ensures.memory

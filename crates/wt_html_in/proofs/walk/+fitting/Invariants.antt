@@ -6,4 +6,5 @@ use Rattle.wt_html_in.proofs.walk.+fitting.Given as goal
 
 abbrev pub invariant-nodes-loop-content : goal.invariant-nodes-loop-content
 invariant-nodes-loop-content l =
-    Going l.initial.walk l.outer (markups (into_iter_items l.initial.content-iterator)) (views l.children.items) l.walk l.behind (markups (into_iter_items l.content-iterator))
+    Going l.initial.walk l.outer (markups (into_iter_items l.initial.content-iterator)) (views l.children.items) l.walk l.behind
+    (markups (into_iter_items l.content-iterator))

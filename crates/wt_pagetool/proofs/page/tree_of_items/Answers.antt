@@ -9,13 +9,16 @@ build-requires c = small_items c.args.page.now c.args.items.now.items c.requires
 
 pub annotate-requires-clause-bytes : goal.annotate-requires-clause-bytes
 annotate-requires-clause-bytes c =
-    small_width c.args.page.now c.args.items.now.items (item_tree c.into_body.result) c.requires.room (ap item_tree c.into_body.ensures ∙ c.in_ok-meaning.ensures) c.requires.items
+    small_width c.args.page.now c.args.items.now.items (item_tree c.into_body.result) c.requires.room
+    (ap item_tree c.into_body.ensures ∙ c.in_ok-meaning.ensures) c.requires.items
 
 pub annotate-requires-clause-numbers : goal.annotate-requires-clause-numbers
 annotate-requires-clause-numbers c =
-    small_numbers c.args.page.now c.args.items.now.items (item_tree c.into_body.result) c.requires.room (ap item_tree c.into_body.ensures ∙ c.in_ok-meaning.ensures) c.requires.items
+    small_numbers c.args.page.now c.args.items.now.items (item_tree c.into_body.result) c.requires.room
+    (ap item_tree c.into_body.ensures ∙ c.in_ok-meaning.ensures) c.requires.items
 
 pub returns : goal.returns
 returns c =
     subst (λ t. IfOk c.annotate.result (λ tree. view tree.body ≡ t))
-    (tree_is c.args.page.now c.args.items.now.items (item_tree c.into_body.result) (ap item_tree c.into_body.ensures ∙ c.in_ok-meaning.ensures) c.requires.items) c.annotate.ensures
+    (tree_is c.args.page.now c.args.items.now.items (item_tree c.into_body.result)
+    (ap item_tree c.into_body.ensures ∙ c.in_ok-meaning.ensures) c.requires.items) c.annotate.ensures

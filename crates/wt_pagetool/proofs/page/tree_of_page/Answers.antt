@@ -13,11 +13,13 @@ overflow_cast-result c =
 
 pub returns-in-Ok-clause-answered : goal.returns-in-Ok-clause-answered
 returns-in-Ok-clause-answered c =
-    tree_answered c.args.page.now c.in-Ok.text.now c.tree_of_text.result c.in-Ok.ensures.text (omega (arith, c.if-page-gt-PAGE_BYTES.false)) c.in-Ok.ensures.whole c.tree_of_text.ensures.built
+    tree_answered c.args.page.now c.in-Ok.text.now c.tree_of_text.result c.in-Ok.ensures.text
+    (omega (arith, c.if-page-gt-PAGE_BYTES.false)) c.in-Ok.ensures.whole c.tree_of_text.ensures.built
 
 pub returns-in-Ok-clause-refused : goal.returns-in-Ok-clause-refused
 returns-in-Ok-clause-refused c =
-    tree_refused c.args.page.now c.in-Ok.text.now c.tree_of_text.result c.in-Ok.ensures.text (omega (arith, c.if-page-gt-PAGE_BYTES.false)) c.in-Ok.ensures.whole c.tree_of_text.ensures.refused
+    tree_refused c.args.page.now c.in-Ok.text.now c.tree_of_text.result c.in-Ok.ensures.text
+    (omega (arith, c.if-page-gt-PAGE_BYTES.false)) c.in-Ok.ensures.whole c.tree_of_text.ensures.refused
 
 pub returns-in-Err-clause-refused : goal.returns-in-Err-clause-refused
 returns-in-Err-clause-refused c = page_not_utf8 c.args.page.now c.in-Err.place (omega (arith, c.if-page-gt-PAGE_BYTES.false)) c.in-Err.ensures.place

@@ -6,40 +6,74 @@ use Rattle.wt_pagetool.proofs.top.run.Goals as goal
 
 pub returns-clause-page : goal.returns-clause-page
 returns-clause-page g c command title is e =
-    run_page c.args.words.now (read_from g.S.Source c.args.input.now c.find_answer-found.new.input) (fetched_from g.F.Folder c.args.folder.now c.find_answer-found.new.folder) (written_to g.W.Sink c.args.out.now c.report.new.out) (written_to g.E.Sink c.args.err.now c.report.new.err) c.find_answer-found.result c.report.result c.code.result c.code.ensures c.find_answer-found.ensures.answered c.find_answer-found.ensures.due c.report.ensures command title is e
+    run_page c.args.words.now (read_from g.S.Source c.args.input.now c.find_answer-found.new.input)
+    (fetched_from g.F.Folder c.args.folder.now c.find_answer-found.new.folder)
+    (written_to g.W.Sink c.args.out.now c.report.new.out) (written_to g.E.Sink c.args.err.now c.report.new.err)
+    c.find_answer-found.result c.report.result c.code.result c.code.ensures c.find_answer-found.ensures.answered
+    c.find_answer-found.ensures.due c.report.ensures command title is e
 
 pub returns-clause-wikitext : goal.returns-clause-wikitext
 returns-clause-wikitext g c is e =
-    run_wikitext c.args.words.now (read_from g.S.Source c.args.input.now c.find_answer-found.new.input) (fetched_from g.F.Folder c.args.folder.now c.find_answer-found.new.folder) (written_to g.W.Sink c.args.out.now c.report.new.out) (written_to g.E.Sink c.args.err.now c.report.new.err) c.find_answer-found.result c.report.result c.code.result c.code.ensures c.find_answer-found.ensures.answered c.find_answer-found.ensures.due c.find_answer-found.ensures.ended c.report.ensures is e
+    run_wikitext c.args.words.now (read_from g.S.Source c.args.input.now c.find_answer-found.new.input)
+    (fetched_from g.F.Folder c.args.folder.now c.find_answer-found.new.folder)
+    (written_to g.W.Sink c.args.out.now c.report.new.out) (written_to g.E.Sink c.args.err.now c.report.new.err)
+    c.find_answer-found.result c.report.result c.code.result c.code.ensures c.find_answer-found.ensures.answered
+    c.find_answer-found.ensures.due c.find_answer-found.ensures.ended c.report.ensures is e
 
 pub returns-clause-gives_back : goal.returns-clause-gives_back
 returns-clause-gives_back g c is =
-    run_gives_back (g.F.Folder.pages c.args.folder.now) (g.S.Source.left c.args.input.now) c.args.words.now c.find_answer-found.result c.report.result c.code.result (written_to g.W.Sink c.args.out.now c.report.new.out) (written_to g.E.Sink c.args.err.now c.report.new.err) c.code.ensures is c.find_answer-found.ensures.answered c.report.ensures
+    run_gives_back (g.F.Folder.pages c.args.folder.now) (g.S.Source.left c.args.input.now) c.args.words.now
+    c.find_answer-found.result c.report.result c.code.result (written_to g.W.Sink c.args.out.now c.report.new.out)
+    (written_to g.E.Sink c.args.err.now c.report.new.err) c.code.ensures is c.find_answer-found.ensures.answered c.report.ensures
 
 pub returns-clause-exact : goal.returns-clause-exact
 returns-clause-exact g c =
-    run_exact (answer_told (g.F.Folder.pages c.args.folder.now) (g.S.Source.left c.args.input.now) c.args.words.now) c.find_answer-found.result c.report.result c.code.result (written_to g.W.Sink c.args.out.now c.report.new.out) (written_to g.E.Sink c.args.err.now c.report.new.err) c.code.ensures c.find_answer-found.ensures.answered c.report.ensures
+    run_exact (answer_told (g.F.Folder.pages c.args.folder.now) (g.S.Source.left c.args.input.now) c.args.words.now)
+    c.find_answer-found.result c.report.result c.code.result (written_to g.W.Sink c.args.out.now c.report.new.out)
+    (written_to g.E.Sink c.args.err.now c.report.new.err) c.code.ensures c.find_answer-found.ensures.answered c.report.ensures
 
 pub returns-clause-done : goal.returns-clause-done
 returns-clause-done g c e =
-    run_done c.args.words.now (read_from g.S.Source c.args.input.now c.find_answer-found.new.input) (fetched_from g.F.Folder c.args.folder.now c.find_answer-found.new.folder) (written_to g.W.Sink c.args.out.now c.report.new.out) (written_to g.E.Sink c.args.err.now c.report.new.err) c.find_answer-found.result c.report.result c.code.result c.code.ensures c.find_answer-found.ensures.answered c.find_answer-found.ensures.due c.report.ensures e
+    run_done c.args.words.now (read_from g.S.Source c.args.input.now c.find_answer-found.new.input)
+    (fetched_from g.F.Folder c.args.folder.now c.find_answer-found.new.folder)
+    (written_to g.W.Sink c.args.out.now c.report.new.out) (written_to g.E.Sink c.args.err.now c.report.new.err)
+    c.find_answer-found.result c.report.result c.code.result c.code.ensures c.find_answer-found.ensures.answered
+    c.find_answer-found.ensures.due c.report.ensures e
 
 pub returns-clause-refused : goal.returns-clause-refused
 returns-clause-refused g c d w =
-    run_refused c.args.words.now (read_from g.S.Source c.args.input.now c.find_answer-found.new.input) (fetched_from g.F.Folder c.args.folder.now c.find_answer-found.new.folder) (written_to g.W.Sink c.args.out.now c.report.new.out) (written_to g.E.Sink c.args.err.now c.report.new.err) c.find_answer-found.result c.report.result c.code.result c.code.ensures c.find_answer-found.ensures.due c.report.ensures d w
+    run_refused c.args.words.now (read_from g.S.Source c.args.input.now c.find_answer-found.new.input)
+    (fetched_from g.F.Folder c.args.folder.now c.find_answer-found.new.folder)
+    (written_to g.W.Sink c.args.out.now c.report.new.out) (written_to g.E.Sink c.args.err.now c.report.new.err)
+    c.find_answer-found.result c.report.result c.code.result c.code.ensures c.find_answer-found.ensures.due c.report.ensures d w
 
 pub returns-clause-write_fault : goal.returns-clause-write_fault
 returns-clause-write_fault g c e =
-    run_fault c.args.words.now (read_from g.S.Source c.args.input.now c.find_answer-found.new.input) (fetched_from g.F.Folder c.args.folder.now c.find_answer-found.new.folder) (written_to g.W.Sink c.args.out.now c.report.new.out) (written_to g.E.Sink c.args.err.now c.report.new.err) c.find_answer-found.result c.report.result c.code.result c.code.ensures c.find_answer-found.ensures.answered c.find_answer-found.ensures.due c.report.ensures e
+    run_fault c.args.words.now (read_from g.S.Source c.args.input.now c.find_answer-found.new.input)
+    (fetched_from g.F.Folder c.args.folder.now c.find_answer-found.new.folder)
+    (written_to g.W.Sink c.args.out.now c.report.new.out) (written_to g.E.Sink c.args.err.now c.report.new.err)
+    c.find_answer-found.result c.report.result c.code.result c.code.ensures c.find_answer-found.ensures.answered
+    c.find_answer-found.ensures.due c.report.ensures e
 
 pub returns-clause-complete : goal.returns-clause-complete
 returns-clause-complete g c =
-    run_complete c.args.words.now (read_from g.S.Source c.args.input.now c.find_answer-found.new.input) (fetched_from g.F.Folder c.args.folder.now c.find_answer-found.new.folder) (written_to g.W.Sink c.args.out.now c.report.new.out) (written_to g.E.Sink c.args.err.now c.report.new.err) c.find_answer-found.result c.report.result c.code.result (answer_told (g.F.Folder.pages c.args.folder.now) (g.S.Source.left c.args.input.now) c.args.words.now) c.code.ensures c.find_answer-found.ensures.answered c.find_answer-found.ensures.due c.report.ensures
+    run_complete c.args.words.now (read_from g.S.Source c.args.input.now c.find_answer-found.new.input)
+    (fetched_from g.F.Folder c.args.folder.now c.find_answer-found.new.folder)
+    (written_to g.W.Sink c.args.out.now c.report.new.out) (written_to g.E.Sink c.args.err.now c.report.new.err)
+    c.find_answer-found.result c.report.result c.code.result
+    (answer_told (g.F.Folder.pages c.args.folder.now) (g.S.Source.left c.args.input.now) c.args.words.now) c.code.ensures
+    c.find_answer-found.ensures.answered c.find_answer-found.ensures.due c.report.ensures
 
 pub returns-clause-kept : goal.returns-clause-kept
 returns-clause-kept g c h =
-    run_kept c.args.words.now (read_from g.S.Source c.args.input.now c.find_answer-found.new.input) (fetched_from g.F.Folder c.args.folder.now c.find_answer-found.new.folder) (written_to g.W.Sink c.args.out.now c.report.new.out) (written_to g.E.Sink c.args.err.now c.report.new.err) c.find_answer-found.result c.report.result c.code.result c.code.ensures c.find_answer-found.ensures.input_kept c.find_answer-found.ensures.folder_kept c.report.ensures h
+    run_kept c.args.words.now (read_from g.S.Source c.args.input.now c.find_answer-found.new.input)
+    (fetched_from g.F.Folder c.args.folder.now c.find_answer-found.new.folder)
+    (written_to g.W.Sink c.args.out.now c.report.new.out) (written_to g.E.Sink c.args.err.now c.report.new.err)
+    c.find_answer-found.result c.report.result c.code.result c.code.ensures c.find_answer-found.ensures.input_kept
+    c.find_answer-found.ensures.folder_kept c.report.ensures h
 
 pub returns-clause-asked : goal.returns-clause-asked
 returns-clause-asked g c h =
-    c.find_answer-found.ensures.asked (run_found c.find_answer-found.result c.report.result c.code.result (written_to g.W.Sink c.args.out.now c.report.new.out) (written_to g.E.Sink c.args.err.now c.report.new.err) c.code.ensures c.report.ensures h).is
+    c.find_answer-found.ensures.asked (run_found c.find_answer-found.result c.report.result c.code.result
+    (written_to g.W.Sink c.args.out.now c.report.new.out) (written_to g.E.Sink c.args.err.now c.report.new.err) c.code.ensures
+    c.report.ensures h).is

@@ -8,4 +8,5 @@ returns-then-count-taken-clause-answered g c =
     let len : length (take c.in-Ok.count c.read.new.into) ≡ c.in-Ok.count = length-take-le c.in-Ok.count c.read.new.into c.in-Ok.ensures.bound in
     let within : length so_far.bytes ≤ 67108864 = omega (arith, so_far.count, c.pieces.invariant.most) in
     let past : 67108864 - length so_far.bytes < length (take c.in-Ok.count c.read.new.into) = omega (arith, len, so_far.count, c.if-count-taken.true) in
-    past_most (g.S.Source.left c.args.input.now) (g.S.Source.left c.pieces.input) (g.S.Source.left c.read.new.self) so_far.bytes (take c.in-Ok.count c.read.new.into) so_far.given c.in-Ok.ensures.bytes.0 within past
+    past_most (g.S.Source.left c.args.input.now) (g.S.Source.left c.pieces.input) (g.S.Source.left c.read.new.self) so_far.bytes
+    (take c.in-Ok.count c.read.new.into) so_far.given c.in-Ok.ensures.bytes.0 within past

@@ -9,4 +9,5 @@ returns-in-Some-clause-answered c = source_unsourced (body_of c.args.edited.now)
 
 pub returns-in_ok-flat-in-None-clause-answered : goal.returns-in_ok-flat-in-None-clause-answered
 returns-in_ok-flat-in-None-clause-answered c =
-    source_sourced (body_of c.args.edited.now) (unsourced_of c.args.edited.now) c.in_ok-flat-in-None.field-0 (sym c.in-None.ensures) (c.in_ok-flat-in-None.ensures ∙ ap flat c.body.ensures)
+    source_sourced (body_of c.args.edited.now) (unsourced_of c.args.edited.now) c.in_ok-flat-in-None.field-0
+    (sym c.in-None.ensures) (c.in_ok-flat-in-None.ensures ∙ ap flat c.body.ensures)
