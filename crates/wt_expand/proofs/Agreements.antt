@@ -21,7 +21,7 @@ use Rattle.wt_expand.specs.PageCalls.{Stretch, call_stretches, stretches_of, all
 
 -- ---- work in parts
 
-fetches_append : (xs ys : List Entry) → fetches (xs ++ ys) ≡ fetches xs ++ fetches ys
+pub fetches_append : (xs ys : List Entry) → fetches (xs ++ ys) ≡ fetches xs ++ fetches ys
 fetches_append [] ys = refl
 fetches_append (e ∷ es) ys = ap (λ ns. fetched_by e ++ ns) (fetches_append es ys) ∙ sym (append_assoc (fetched_by e) (fetches es) (fetches ys))
 
@@ -169,7 +169,7 @@ page_same p q m v f g start t xs ys same s h =
 text_same : (p q : Pages) (k : ℕ) (source : List ℕ) (os us : List Output) → AllSame p q os us → AgreeOn p q (text_output k source os).work → os ≡ us
 text_same p q k source os us s h = all_equal p q os us s (agree_left p q (joined os).work [] h)
 
-called_is : (k : ℕ) (source : List ℕ) (target : List Item) → called k source target ≡ (if k == 3 then argument else (if is_function source then function else called_by (title_of_target target)))
+pub called_is : (k : ℕ) (source : List ℕ) (target : List Item) → called k source target ≡ (if k == 3 then argument else (if is_function source then function else called_by (title_of_target target)))
 unfolding called
 called_is k source target = refl
 
