@@ -7,7 +7,8 @@ use Rattle.wt_names.specs.Namespace.{full_name_of}
 use Rattle.wt_expand.specs.Work.{Pages, fetched, is_among}
 use Rattle.wt_expand.specs.Expansion.{Output, just, chars, Frame, text_given, loop_text, absent_text, fetched_output, template_output}
 
-pub absent_page : (pages : Pages) (left : ℕ) (titles : List (List ℕ)) (t : Title) (v : Frame) → is_among (full_name_of t) titles ≡ false → pages (full_name_of t) ≡ None
+pub absent_page : (pages : Pages) (left : ℕ) (titles : List (List ℕ)) (t : Title) (v : Frame)
+    → is_among (full_name_of t) titles ≡ false → pages (full_name_of t) ≡ None
     → template_output pages (suc left) titles t v ≡ record { items = chars (absent_text (full_name_of t)); work = fetched (full_name_of t) ∷ [] }
 absent_page pages left titles t v e f =
     let full = full_name_of t in

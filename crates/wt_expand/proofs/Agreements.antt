@@ -21,15 +21,17 @@ use Rattle.wt_expand.specs.PageCalls.{Stretch, call_stretches, stretches_of, all
 
 -- ---- work in parts
 
-fetches_append : (xs ys : List Entry) → fetches (xs ++ ys) ≡ fetches xs ++ fetches ys
+pub fetches_append : (xs ys : List Entry) → fetches (xs ++ ys) ≡ fetches xs ++ fetches ys
 fetches_append [] ys = refl
 fetches_append (e ∷ es) ys = ap (λ ns. fetched_by e ++ ns) (fetches_append es ys) ∙ sym (append_assoc (fetched_by e) (fetches es) (fetches ys))
 
 agree_left : (p q : Pages) (xs ys : List Entry) → AgreeOn p q (xs ++ ys) → AgreeOn p q xs
-agree_left p q xs ys h full there = h full (let P : List (List ℕ) → Type 0 = λ ns. Contains ns full in subst P (sym (fetches_append xs ys)) (Contains-append_left (fetches xs) (fetches ys) full there))
+agree_left p q xs ys h full there = h full (let P : List (List ℕ) → Type 0 = λ ns. Contains ns full in
+    subst P (sym (fetches_append xs ys)) (Contains-append_left (fetches xs) (fetches ys) full there))
 
 agree_right : (p q : Pages) (xs ys : List Entry) → AgreeOn p q (xs ++ ys) → AgreeOn p q ys
-agree_right p q xs ys h full there = h full (let P : List (List ℕ) → Type 0 = λ ns. Contains ns full in subst P (sym (fetches_append xs ys)) (Contains-append_right (fetches xs) (fetches ys) full there))
+agree_right p q xs ys h full there = h full (let P : List (List ℕ) → Type 0 = λ ns. Contains ns full in
+    subst P (sym (fetches_append xs ys)) (Contains-append_right (fetches xs) (fetches ys) full there))
 
 -- the work behind one entry
 agree_tail : (p q : Pages) (e : Entry) (es : List Entry) → AgreeOn p q (e ∷ es) → AgreeOn p q es
@@ -112,7 +114,8 @@ parts_equal p q [] [] s h = refl
 parts_equal p q [] (y ∷ ys) s h = absurd s
 parts_equal p q (x ∷ xs) [] s h = absurd s
 parts_equal p q (x ∷ xs) (y ∷ ys) s h =
-    ap (λ z. z ∷ xs) (s.0 (agree_left p q x.all.work (parts_work xs) h)) ∙ ap (λ zs. y ∷ zs) (parts_equal p q xs ys s.1 (agree_right p q x.all.work (parts_work xs) h))
+    ap (λ z. z ∷ xs) (s.0 (agree_left p q x.all.work (parts_work xs) h))
+    ∙ ap (λ zs. y ∷ zs) (parts_equal p q xs ys s.1 (agree_right p q x.all.work (parts_work xs) h))
 
 -- ---- calls
 
@@ -124,7 +127,8 @@ reading m v f = record { mode = m; frame = v; template = f }
 
 -- what stands between the beginning and the end of a call
 agree_inside : (p q : Pages) (before inside : List Entry) (n : ℕ) → AgreeOn p q (before ++ (begun ∷ (inside ++ ended n ∷ []))) → AgreeOn p q inside
-agree_inside p q before inside n h = agree_left p q inside (ended n ∷ []) (agree_tail p q begun (inside ++ ended n ∷ []) (agree_right p q before (begun ∷ (inside ++ ended n ∷ [])) h))
+agree_inside p q before inside n h = agree_left p q inside (ended n ∷ [])
+    (agree_tail p q begun (inside ++ ended n ∷ []) (agree_right p q before (begun ∷ (inside ++ ended n ∷ [])) h))
 
 default_same : (p q : Pages) (name : Output) (xs ys : List PartOutput) → PartsSame p q xs ys → Same p q (default_output name xs) (default_output name ys)
 default_same p q name [] [] s h = refl
@@ -148,18 +152,23 @@ argument_same p q v xs ys s h =
     let inside = agree_inside p q [] (name.work ++ o.work) _ h in
     let names : name ≡ other = target_same p q xs ys s (agree_left p q name.work o.work inside) in
     let u = if_value (value_of (name_text name.items) v) (default_output name (later_parts ys)) in
-    let values : o ≡ u = value_same p q (value_of (name_text name.items) v) (default_output name (later_parts xs)) (default_output name (later_parts ys)) (default_same p q name (later_parts xs) (later_parts ys) (later_same p q xs ys s)) (agree_right p q name.work o.work inside) in
+    let values : o ≡ u = value_same p q (value_of (name_text name.items) v) (default_output name (later_parts xs))
+    (default_output name (later_parts ys)) (default_same p q name (later_parts xs) (later_parts ys) (later_same p q xs ys s))
+    (agree_right p q name.work o.work inside) in
     ap (argument_by name) values ∙ ap (λ n. argument_by n (if_value (value_of (name_text n.items) v) (default_output n (later_parts ys)))) names
 
-page_same : (p q : Pages) (m : Mode) (v : Frame) (f g : Title → Frame → Output) (start : Bool) (t : Title) (xs ys : List PartOutput) → TemplatesSame p q f g → PartsSame p q xs ys
+page_same : (p q : Pages) (m : Mode) (v : Frame) (f g : Title → Frame → Output) (start : Bool) (t : Title)
+    (xs ys : List PartOutput) → TemplatesSame p q f g → PartsSame p q xs ys
     → Same p q (page_output (reading m v f) start t xs) (page_output (reading m v g) start t ys)
 page_same p q m v f g start t xs ys same s h =
     let o = f t (values_from 1 (later_parts xs)) in
     let work = parts_work (later_parts xs) ++ o.work in
     let inside = agree_inside p q (target_part xs).work work _ h in
     let targets : target_part xs ≡ target_part ys = target_same p q xs ys s (agree_left p q (target_part xs).work _ h) in
-    let later : later_parts xs ≡ later_parts ys = parts_equal p q (later_parts xs) (later_parts ys) (later_same p q xs ys s) (agree_left p q (parts_work (later_parts xs)) o.work inside) in
-    let outs : o ≡ g t (values_from 1 (later_parts xs)) = same t (values_from 1 (later_parts xs)) (agree_right p q (parts_work (later_parts xs)) o.work inside) in
+    let later : later_parts xs ≡ later_parts ys = parts_equal p q (later_parts xs) (later_parts ys) (later_same p q xs ys s)
+    (agree_left p q (parts_work (later_parts xs)) o.work inside) in
+    let outs : o ≡ g t (values_from 1 (later_parts xs)) =
+    same t (values_from 1 (later_parts xs)) (agree_right p q (parts_work (later_parts xs)) o.work inside) in
     ap (λ u. page_by (target_part xs) (later_parts xs) u) outs ∙ ap (λ n. page_by n (later_parts xs) (g t (values_from 1 (later_parts xs)))) targets
     ∙ ap (λ zs. page_by (target_part ys) zs (g t (values_from 1 zs))) later
   where
@@ -169,12 +178,14 @@ page_same p q m v f g start t xs ys same s h =
 text_same : (p q : Pages) (k : ℕ) (source : List ℕ) (os us : List Output) → AllSame p q os us → AgreeOn p q (text_output k source os).work → os ≡ us
 text_same p q k source os us s h = all_equal p q os us s (agree_left p q (joined os).work [] h)
 
-called_is : (k : ℕ) (source : List ℕ) (target : List Item) → called k source target ≡ (if k == 3 then argument else (if is_function source then function else called_by (title_of_target target)))
+pub called_is : (k : ℕ) (source : List ℕ) (target : List Item)
+    → called k source target ≡ (if k == 3 then argument else (if is_function source then function else called_by (title_of_target target)))
 unfolding called
 called_is k source target = refl
 
 -- a call and what it is, with what it gives
-record CallSame (p q : Pages) (r s : Reading) (start : Bool) (k : ℕ) (source : List ℕ) (c d : Called) (xs ys : List PartOutput) (os us : List Output) : Type 0 where
+record CallSame (p q : Pages) (r s : Reading) (start : Bool) (k : ℕ) (source : List ℕ) (c d : Called) (xs ys : List PartOutput)
+    (os us : List Output) : Type 0 where
   pub kinds : c ≡ d
   pub outputs : called_output c r start k source xs os ≡ called_output d s start k source ys us
 
@@ -184,7 +195,8 @@ kind_by t u o = if t then argument else (if u then function else called_by o)
 abbrev title_by : List PartOutput → Option Title
 title_by xs = title_of_target (target_part xs).items
 
-title_same : (p q : Pages) (m : Mode) (v : Frame) (f g : Title → Frame → Output) (start : Bool) (k : ℕ) (source : List ℕ) (xs ys : List PartOutput) (os us : List Output) (o : Option Title) → TemplatesSame p q f g → AllSame p q os us
+title_same : (p q : Pages) (m : Mode) (v : Frame) (f g : Title → Frame → Output) (start : Bool) (k : ℕ) (source : List ℕ)
+    (xs ys : List PartOutput) (os us : List Output) (o : Option Title) → TemplatesSame p q f g → AllSame p q os us
     → PartsSame p q xs ys → (os ≡ us → xs ≡ ys) → title_by xs ≡ o → AgreeOn p q (called_output (called_by o) (reading m v f) start k source xs os).work
     → CallSame p q (reading m v f) (reading m v g) start k source (called_by (title_by xs)) (called_by (title_by ys)) xs ys os us
 title_same p q m v f g start k source xs ys os us None same s parts whole e h =
@@ -204,14 +216,17 @@ title_same p q m v f g start k source xs ys os us (Some t) same s parts whole e 
           ∙ sym (ap (λ o. called_output (called_by o) (reading m v g) start k source ys us) (sym titles ∙ e));
     }
 
-tests_same : (p q : Pages) (m : Mode) (v : Frame) (f g : Title → Frame → Output) (start : Bool) (k : ℕ) (source : List ℕ) (xs ys : List PartOutput) (os us : List Output) (t u : Bool) → TemplatesSame p q f g → AllSame p q os us
+tests_same : (p q : Pages) (m : Mode) (v : Frame) (f g : Title → Frame → Output) (start : Bool) (k : ℕ) (source : List ℕ)
+    (xs ys : List PartOutput) (os us : List Output) (t u : Bool) → TemplatesSame p q f g → AllSame p q os us
     → PartsSame p q xs ys → (os ≡ us → xs ≡ ys) → AgreeOn p q (called_output (kind_by t u (title_by xs)) (reading m v f) start k source xs os).work
     → CallSame p q (reading m v f) (reading m v g) start k source (kind_by t u (title_by xs)) (kind_by t u (title_by ys)) xs ys os us
 tests_same p q m v f g start k source xs ys os us true u same s parts whole h = record { kinds = refl; outputs = argument_same p q v xs ys parts h }
 tests_same p q m v f g start k source xs ys os us false true same s parts whole h = record { kinds = refl; outputs = refl }
-tests_same p q m v f g start k source xs ys os us false false same s parts whole h = title_same p q m v f g start k source xs ys os us (title_by xs) same s parts whole refl h
+tests_same p q m v f g start k source xs ys os us false false same s parts whole h =
+    title_same p q m v f g start k source xs ys os us (title_by xs) same s parts whole refl h
 
-call_same : (p q : Pages) (m : Mode) (v : Frame) (f g : Title → Frame → Output) (start : Bool) (k : ℕ) (source : List ℕ) (parts : List PartMembers) (os us : List Output) (xs ys : List PartOutput) → part_outputs parts os ≡ xs → part_outputs parts us ≡ ys
+call_same : (p q : Pages) (m : Mode) (v : Frame) (f g : Title → Frame → Output) (start : Bool) (k : ℕ) (source : List ℕ)
+    (parts : List PartMembers) (os us : List Output) (xs ys : List PartOutput) → part_outputs parts os ≡ xs → part_outputs parts us ≡ ys
     → TemplatesSame p q f g → AllSame p q os us → AgreeOn p q (called_output (called k source (target_part xs).items) (reading m v f) start k source xs os).work
     → CallSame p q (reading m v f) (reading m v g) start k source (called k source (target_part xs).items) (called k source (target_part ys).items) xs ys os us
 call_same p q m v f g start k source parts os us xs ys e d same s h =
@@ -224,34 +239,43 @@ call_same p q m v f g start k source parts os us xs ys e d same s h =
     let whole : os ≡ us → xs ≡ ys = λ z. sym e ∙ ap (part_outputs parts) z ∙ d in
     subst Q (sym (called_is k source (target_part ys).items))
     (subst P (sym (called_is k source (target_part xs).items))
-    (tests_same p q m v f g start k source xs ys os us (k == 3) (is_function source) same s (subst R e (subst S d (parts_same p q parts os us s))) whole (subst A (called_is k source (target_part xs).items) h)))
+    (tests_same p q m v f g start k source xs ys os us (k == 3) (is_function source) same s
+    (subst R e (subst S d (parts_same p q parts os us s))) whole (subst A (called_is k source (target_part xs).items) h)))
 
 -- ---- texts
 
 mutual
-  one_same : (p q : Pages) (m : Mode) (v : Frame) (f g : Title → Frame → Output) (start : Bool) (bs : List ℕ) (x : Member) → TemplatesSame p q f g → Same p q (output_of (reading m v f) start bs x) (output_of (reading m v g) start bs x)
+  one_same : (p q : Pages) (m : Mode) (v : Frame) (f g : Title → Frame → Output) (start : Bool) (bs : List ℕ) (x : Member)
+      → TemplatesSame p q f g → Same p q (output_of (reading m v f) start bs x) (output_of (reading m v g) start bs x)
   one_same p q m v f g start bs (lexeme (kind, n)) same h = refl
   one_same p q m v f g start bs (call k ms) same h =
       let os = outputs_of (reading m v f) false (drop k bs) ms in
       let us = outputs_of (reading m v g) false (drop k bs) ms in
       let source = take (k + width_of_all ms + k) bs in
-      (call_same p q m v f g start k source (part_members 0 ms) os us (part_outputs (part_members 0 ms) os) (part_outputs (part_members 0 ms) us) refl refl same (many_same p q m v f g false (drop k bs) ms same) h).outputs
+      (call_same p q m v f g start k source (part_members 0 ms) os us (part_outputs (part_members 0 ms) os)
+      (part_outputs (part_members 0 ms) us) refl refl same (many_same p q m v f g false (drop k bs) ms same) h).outputs
 
-  many_same : (p q : Pages) (m : Mode) (v : Frame) (f g : Title → Frame → Output) (start : Bool) (bs : List ℕ) (ms : Members) → TemplatesSame p q f g → AllSame p q (outputs_of (reading m v f) start bs ms) (outputs_of (reading m v g) start bs ms)
+  many_same : (p q : Pages) (m : Mode) (v : Frame) (f g : Title → Frame → Output) (start : Bool) (bs : List ℕ) (ms : Members)
+      → TemplatesSame p q f g → AllSame p q (outputs_of (reading m v f) start bs ms) (outputs_of (reading m v g) start bs ms)
   many_same p q m v f g start bs none same = tt
-  many_same p q m v f g start bs (more x ms) same = (one_same p q m v f g start bs x same, many_same p q m v f g (is_break (slice_index bs (width x - 1))) (drop (width x) bs) ms same)
+  many_same p q m v f g start bs (more x ms) same =
+      (one_same p q m v f g start bs x same, many_same p q m v f g (is_break (slice_index bs (width x - 1))) (drop (width x) bs) ms same)
 
-given_same : (p q : Pages) (m : Mode) (v : Frame) (f g : Title → Frame → Output) (bs : List ℕ) → TemplatesSame p q f g → Same p q (text_given (reading m v f) bs) (text_given (reading m v g) bs)
+given_same : (p q : Pages) (m : Mode) (v : Frame) (f g : Title → Frame → Output) (bs : List ℕ) → TemplatesSame p q f g
+    → Same p q (text_given (reading m v f) bs) (text_given (reading m v g) bs)
 given_same p q m v f g bs same h =
-    let ms = text_members m bs in ap joined (all_equal p q (outputs_of (reading m v f) true bs ms) (outputs_of (reading m v g) true bs ms) (many_same p q m v f g true bs ms same) h)
+    let ms = text_members m bs in ap joined (all_equal p q (outputs_of (reading m v f) true bs ms)
+    (outputs_of (reading m v g) true bs ms) (many_same p q m v f g true bs ms same) h)
 
 -- ---- templates
 
-fetch_same : (p q : Pages) (full : List ℕ) (f g : List ℕ → Output) (o : Option (List ℕ)) → ((bs : List ℕ) → Same p q (f bs) (g bs)) → Same p q (fetched_output full f o) (fetched_output full g o)
+fetch_same : (p q : Pages) (full : List ℕ) (f g : List ℕ → Output) (o : Option (List ℕ))
+    → ((bs : List ℕ) → Same p q (f bs) (g bs)) → Same p q (fetched_output full f o) (fetched_output full g o)
 fetch_same p q full f g None same h = refl
 fetch_same p q full f g (Some bytes) same h =
     let F : Output → Output = λ o. record { items = o.items; work = fetched full ∷ (entered (Some full) ∷ o.work) } in
-    ap F (same (template_text bytes) (agree_tail p q (entered (Some full)) (f (template_text bytes)).work (agree_tail p q (fetched full) (entered (Some full) ∷ (f (template_text bytes)).work) h)))
+    ap F (same (template_text bytes) (agree_tail p q (entered (Some full)) (f (template_text bytes)).work
+    (agree_tail p q (fetched full) (entered (Some full) ∷ (f (template_text bytes)).work) h)))
 
 first_fetch : (p q : Pages) (full : List ℕ) (f : List ℕ → Output) (o : Option (List ℕ)) → AgreeOn p q (fetched_output full f o).work → p full ≡ q full
 first_fetch p q full f None h = h full (0, omega arith, refl)
@@ -261,7 +285,8 @@ first_fetch p q full f (Some bytes) h = h full (0, omega arith, refl)
 abbrev read_at : ℕ → List (List ℕ) → Frame → Pages → List ℕ → Output
 read_at n open_titles v pages bs = text_given (reading mode.Template v (template_output pages n open_titles)) bs
 
-enter_same : (p q : Pages) (n : ℕ) (open_titles : List (List ℕ)) (t : Title) (v : Frame) (b : Bool) → ((bs : List ℕ) → Same p q (read_at n (full_name_of t ∷ open_titles) v p bs) (read_at n (full_name_of t ∷ open_titles) v q bs))
+enter_same : (p q : Pages) (n : ℕ) (open_titles : List (List ℕ)) (t : Title) (v : Frame) (b : Bool)
+    → ((bs : List ℕ) → Same p q (read_at n (full_name_of t ∷ open_titles) v p bs) (read_at n (full_name_of t ∷ open_titles) v q bs))
     → Same p q (if b then just (chars (loop_text t)) else fetched_output (full_name_of t) (read_at n (full_name_of t ∷ open_titles) v p) (p (full_name_of t)))
     (if b then just (chars (loop_text t)) else fetched_output (full_name_of t) (read_at n (full_name_of t ∷ open_titles) v q) (q (full_name_of t)))
 enter_same p q n open_titles t v true same h = refl
@@ -276,24 +301,30 @@ template_same p q zero open_titles t v h = refl
 template_same p q (suc n) open_titles t v h =
     let full = full_name_of t in
     let ih = template_same p q n (full ∷ open_titles) in
-    enter_same p q n open_titles t v (is_among full open_titles) (λ bs. given_same p q mode.Template v (template_output p n (full ∷ open_titles)) (template_output q n (full ∷ open_titles)) bs ih) h
+    enter_same p q n open_titles t v (is_among full open_titles)
+    (λ bs. given_same p q mode.Template v (template_output p n (full ∷ open_titles)) (template_output q n (full ∷ open_titles)) bs ih) h
 
 -- ---- the page
 
-inside_same : (d : Called) (at k : ℕ) (source : List ℕ) (ms : Members) (xs : List Item) (inside others : List Stretch) → (d ≡ text → inside ≡ others) → call_stretches d at k source ms xs inside ≡ call_stretches d at k source ms xs others
+inside_same : (d : Called) (at k : ℕ) (source : List ℕ) (ms : Members) (xs : List Item) (inside others : List Stretch)
+    → (d ≡ text → inside ≡ others) → call_stretches d at k source ms xs inside ≡ call_stretches d at k source ms xs others
 inside_same argument at k source ms xs inside others f = refl
 inside_same function at k source ms xs inside others f = refl
 inside_same (page t) at k source ms xs inside others f = refl
 inside_same text at k source ms xs inside others f = ap (call_stretches text at k source ms xs) (f refl)
 
-call_stretches_same : (p q : Pages) (r s : Reading) (start : Bool) (at k : ℕ) (source : List ℕ) (ms : Members) (c d : Called) (xs ys : List PartOutput) (os us : List Output) (inside others : List Stretch) → CallSame p q r s start k source c d xs ys os us
-    → (c ≡ text → inside ≡ others) → call_stretches c at k source ms (called_output c r start k source xs os).items inside ≡ call_stretches d at k source ms (called_output d s start k source ys us).items others
+call_stretches_same : (p q : Pages) (r s : Reading) (start : Bool) (at k : ℕ) (source : List ℕ) (ms : Members) (c d : Called)
+    (xs ys : List PartOutput) (os us : List Output) (inside others : List Stretch) → CallSame p q r s start k source c d xs ys os us
+    → (c ≡ text → inside ≡ others) → call_stretches c at k source ms (called_output c r start k source xs os).items inside
+    ≡ call_stretches d at k source ms (called_output d s start k source ys us).items others
 call_stretches_same p q r s start at k source ms c d xs ys os us inside others h inner =
-    ap (λ o. call_stretches c at k source ms o.items inside) h.outputs ∙ ap (λ x. call_stretches x at k source ms (called_output d s start k source ys us).items inside) h.kinds
+    ap (λ o. call_stretches c at k source ms o.items inside) h.outputs
+    ∙ ap (λ x. call_stretches x at k source ms (called_output d s start k source ys us).items inside) h.kinds
     ∙ inside_same d at k source ms (called_output d s start k source ys us).items inside others (λ e. inner (h.kinds ∙ e))
 
 mutual
-  stretch_same : (p q : Pages) (m : Mode) (v : Frame) (f g : Title → Frame → Output) (at : ℕ) (start : Bool) (bs : List ℕ) (x : Member) → TemplatesSame p q f g → AgreeOn p q (output_of (reading m v f) start bs x).work
+  stretch_same : (p q : Pages) (m : Mode) (v : Frame) (f g : Title → Frame → Output) (at : ℕ) (start : Bool) (bs : List ℕ)
+      (x : Member) → TemplatesSame p q f g → AgreeOn p q (output_of (reading m v f) start bs x).work
       → stretches_of (reading m v f) at start bs x ≡ stretches_of (reading m v g) at start bs x
   stretch_same p q m v f g at start bs (lexeme (kind, n)) same h = refl
   stretch_same p q m v f g at start bs (call k ms) same h =
@@ -306,11 +337,13 @@ mutual
       let ys = part_outputs (part_members 0 ms) us in
       let c = called k source (target_part xs).items in
       let A : Called → Type 0 = λ x. AgreeOn p q (called_output x r start k source xs os).work in
-      call_stretches_same p q r s start at k source ms c (called k source (target_part ys).items) xs ys os us (all_stretches r (at + k) false (drop k bs) ms) (all_stretches s (at + k) false (drop k bs) ms)
+      call_stretches_same p q r s start at k source ms c (called k source (target_part ys).items) xs ys os us
+      (all_stretches r (at + k) false (drop k bs) ms) (all_stretches s (at + k) false (drop k bs) ms)
       (call_same p q m v f g start k source (part_members 0 ms) os us xs ys refl refl same (many_same p q m v f g false (drop k bs) ms same) h)
       (λ e. stretches_same p q m v f g (at + k) false (drop k bs) ms same (agree_left p q (joined os).work [] (subst A e h)))
 
-  stretches_same : (p q : Pages) (m : Mode) (v : Frame) (f g : Title → Frame → Output) (at : ℕ) (start : Bool) (bs : List ℕ) (ms : Members) → TemplatesSame p q f g → AgreeOn p q (joined (outputs_of (reading m v f) start bs ms)).work
+  stretches_same : (p q : Pages) (m : Mode) (v : Frame) (f g : Title → Frame → Output) (at : ℕ) (start : Bool) (bs : List ℕ)
+      (ms : Members) → TemplatesSame p q f g → AgreeOn p q (joined (outputs_of (reading m v f) start bs ms)).work
       → all_stretches (reading m v f) at start bs ms ≡ all_stretches (reading m v g) at start bs ms
   stretches_same p q m v f g at start bs none same h = refl
   stretches_same p q m v f g at start bs (more x ms) same h =
@@ -318,8 +351,10 @@ mutual
       let next = is_break (slice_index bs (width x - 1)) in
       let o = output_of r start bs x in
       let os = outputs_of r next (drop (width x) bs) ms in
-      ap (λ ss. ss ++ all_stretches r (at + width x) next (drop (width x) bs) ms) (stretch_same p q m v f g at start bs x same (agree_left p q o.work (joined os).work h))
-      ∙ ap (λ ss. stretches_of (reading m v g) at start bs x ++ ss) (stretches_same p q m v f g (at + width x) next (drop (width x) bs) ms same (agree_right p q o.work (joined os).work h))
+      ap (λ ss. ss ++ all_stretches r (at + width x) next (drop (width x) bs) ms)
+      (stretch_same p q m v f g at start bs x same (agree_left p q o.work (joined os).work h))
+      ∙ ap (λ ss. stretches_of (reading m v g) at start bs x ++ ss)
+      (stretches_same p q m v f g (at + width x) next (drop (width x) bs) ms same (agree_right p q o.work (joined os).work h))
 
 work_is : (p : Pages) (bs : List ℕ) → page_work p bs ≡ entered None ∷ (text_given (page_reading p) bs).work
 unfolding page_work
@@ -331,7 +366,8 @@ page_agrees p q bs h = agree_tail p q (entered None) (text_given (page_reading p
 -- the work is the same
 pub same_work : (p q : Pages) (bs : List ℕ) → AgreeOn p q (page_work p bs) → page_work p bs ≡ page_work q bs
 same_work p q bs h =
-    let o = given_same p q mode.Page [] (template_output p most_templates []) (template_output q most_templates []) bs (template_same p q most_templates []) (page_agrees p q bs h) in
+    let o = given_same p q mode.Page [] (template_output p most_templates []) (template_output q most_templates []) bs
+    (template_same p q most_templates []) (page_agrees p q bs h) in
     work_is p bs ∙ ap (λ x. entered None ∷ x.work) o ∙ sym (work_is q bs)
 
 -- and so is the expanded page
@@ -339,4 +375,5 @@ pub same_page : (p q : Pages) (bs : List ℕ) → AgreeOn p q (page_work p bs) �
 unfolding expanded_page page_stretches
 same_page p q bs h =
     let E : List Stretch → Expanded = λ ss. record { items = numbered 0 ss; outer = outer_calls ss; text_calls = text_spans ss } in
-    ap E (stretches_same p q mode.Page [] (template_output p most_templates []) (template_output q most_templates []) 0 true bs (text_members mode.Page bs) (template_same p q most_templates []) (page_agrees p q bs h))
+    ap E (stretches_same p q mode.Page [] (template_output p most_templates []) (template_output q most_templates []) 0 true bs
+    (text_members mode.Page bs) (template_same p q most_templates []) (page_agrees p q bs h))

@@ -39,7 +39,8 @@ unfolding trimmed
 ends_trimmed = refl
 
 -- a mark at an end keeps what lies inside of it
-mark_stays : trimmed_items (char None 32 ∷ whole form.Comment None (codes "<!---->") ∷ char None 32 ∷ char None 97 ∷ []) ≡ whole form.Comment None (codes "<!---->") ∷ char None 32 ∷ char None 97 ∷ []
+mark_stays : trimmed_items (char None 32 ∷ whole form.Comment None (codes "<!---->") ∷ char None 32 ∷ char None 97 ∷ [])
+    ≡ whole form.Comment None (codes "<!---->") ∷ char None 32 ∷ char None 97 ∷ []
 unfolding trimmed_items
 mark_stays = refl
 
@@ -61,47 +62,82 @@ one_page name bytes full = if bytes_eq full name then Some bytes else None
 
 -- an argument of the page has no value: its default, or its own spelling
 default_given : gives none_there (codes "x{{{a|b=c}}}{{{ d}}}") ≡ codes "xb=c{{{ d}}}"
-unfolding words closed form_at comment_len comment_line_len raw_len opening_tag tag_after closing_tag with_inside is_extension include_at entity_at named_entity decimal_entity hex_entity entity_names sign_word reduced rewritten text_members trimmed name_text called most_templates
+unfolding words closed form_at comment_len comment_line_len raw_len opening_tag tag_after closing_tag with_inside is_extension
+    include_at entity_at named_entity decimal_entity hex_entity entity_names sign_word reduced rewritten text_members trimmed
+    name_text called most_templates
 default_given = refl
 
 -- a target that names no title: the call is text, and what stands in it is as it was expanded
 bad_name : gives none_there (codes "{{{{{x}}}}}") ≡ codes "{{{{{x}}}}}"
-unfolding words closed form_at comment_len comment_line_len raw_len opening_tag tag_after closing_tag with_inside is_extension include_at entity_at named_entity decimal_entity hex_entity entity_names sign_word reduced rewritten text_members trimmed trimmed_items name_text called most_templates is_function title_of_target title_in_target read_text is_allowed is_forbidden is_good has_signature is_step begins_with_step holds_step ends_with_step name_of image is_called namespace_named prefix_of full_name_of whole_in cut_namespace title_in template_text begins_only ends_only loop_text depth_text absent_text
+unfolding words closed form_at comment_len comment_line_len raw_len opening_tag tag_after closing_tag with_inside is_extension
+    include_at entity_at named_entity decimal_entity hex_entity entity_names sign_word reduced rewritten text_members trimmed
+    trimmed_items name_text called most_templates is_function title_of_target title_in_target read_text is_allowed is_forbidden
+    is_good has_signature is_step begins_with_step holds_step ends_with_step name_of image is_called namespace_named prefix_of
+    full_name_of whole_in cut_namespace title_in template_text begins_only ends_only loop_text depth_text absent_text
 bad_name = refl
 
 -- a page that is absent gives the characters of the link to it
 absent : gives none_there (codes "a{{m}}") ≡ codes "a[[:Template:M]]"
-unfolding words closed form_at comment_len comment_line_len raw_len opening_tag tag_after closing_tag with_inside is_extension include_at entity_at named_entity decimal_entity hex_entity entity_names sign_word reduced rewritten text_members trimmed trimmed_items name_text called most_templates is_function title_of_target title_in_target read_text is_allowed is_forbidden is_good has_signature is_step begins_with_step holds_step ends_with_step name_of image is_called namespace_named prefix_of full_name_of whole_in cut_namespace title_in template_text begins_only ends_only loop_text depth_text absent_text
+unfolding words closed form_at comment_len comment_line_len raw_len opening_tag tag_after closing_tag with_inside is_extension
+    include_at entity_at named_entity decimal_entity hex_entity entity_names sign_word reduced rewritten text_members trimmed
+    trimmed_items name_text called most_templates is_function title_of_target title_in_target read_text is_allowed is_forbidden
+    is_good has_signature is_step begins_with_step holds_step ends_with_step name_of image is_called namespace_named prefix_of
+    full_name_of whole_in cut_namespace title_in template_text begins_only ends_only loop_text depth_text absent_text
 absent = refl
 
 -- a template within itself
 loop : gives (one_page (codes "Template:A") (codes "{{a}}")) (codes "{{A}}") ≡ codes "Template loop: A"
-unfolding words closed form_at comment_len comment_line_len raw_len opening_tag tag_after closing_tag with_inside is_extension include_at entity_at named_entity decimal_entity hex_entity entity_names sign_word reduced rewritten text_members trimmed trimmed_items name_text called most_templates is_function title_of_target title_in_target read_text is_allowed is_forbidden is_good has_signature is_step begins_with_step holds_step ends_with_step name_of image is_called namespace_named prefix_of full_name_of whole_in cut_namespace title_in template_text begins_only ends_only loop_text depth_text absent_text
+unfolding words closed form_at comment_len comment_line_len raw_len opening_tag tag_after closing_tag with_inside is_extension
+    include_at entity_at named_entity decimal_entity hex_entity entity_names sign_word reduced rewritten text_members trimmed
+    trimmed_items name_text called most_templates is_function title_of_target title_in_target read_text is_allowed is_forbidden
+    is_good has_signature is_step begins_with_step holds_step ends_with_step name_of image is_called namespace_named prefix_of
+    full_name_of whole_in cut_namespace title_in template_text begins_only ends_only loop_text depth_text absent_text
 loop = refl
 
 -- a value by its name, trimmed
 with_values : gives (one_page (codes "Template:T") (codes "[{{{1}}}]")) (codes "x {{T|1= y }} z") ≡ codes "x [y] z"
-unfolding words closed form_at comment_len comment_line_len raw_len opening_tag tag_after closing_tag with_inside is_extension include_at entity_at named_entity decimal_entity hex_entity entity_names sign_word reduced rewritten text_members trimmed trimmed_items name_text called most_templates is_function title_of_target title_in_target read_text is_allowed is_forbidden is_good has_signature is_step begins_with_step holds_step ends_with_step name_of image is_called namespace_named prefix_of full_name_of whole_in cut_namespace title_in template_text begins_only ends_only loop_text depth_text absent_text
+unfolding words closed form_at comment_len comment_line_len raw_len opening_tag tag_after closing_tag with_inside is_extension
+    include_at entity_at named_entity decimal_entity hex_entity entity_names sign_word reduced rewritten text_members trimmed
+    trimmed_items name_text called most_templates is_function title_of_target title_in_target read_text is_allowed is_forbidden
+    is_good has_signature is_step begins_with_step holds_step ends_with_step name_of image is_called namespace_named prefix_of
+    full_name_of whole_in cut_namespace title_in template_text begins_only ends_only loop_text depth_text absent_text
 with_values = refl
 
 -- a later value of a name wins, and one without a name stays as it is
 later_wins : gives (one_page (codes "Template:T") (codes "[{{{1}}}]")) (codes "{{T|1=x| y}}") ≡ codes "[ y]"
-unfolding words closed form_at comment_len comment_line_len raw_len opening_tag tag_after closing_tag with_inside is_extension include_at entity_at named_entity decimal_entity hex_entity entity_names sign_word reduced rewritten text_members trimmed trimmed_items name_text called most_templates is_function title_of_target title_in_target read_text is_allowed is_forbidden is_good has_signature is_step begins_with_step holds_step ends_with_step name_of image is_called namespace_named prefix_of full_name_of whole_in cut_namespace title_in template_text begins_only ends_only loop_text depth_text absent_text digits
+unfolding words closed form_at comment_len comment_line_len raw_len opening_tag tag_after closing_tag with_inside is_extension
+    include_at entity_at named_entity decimal_entity hex_entity entity_names sign_word reduced rewritten text_members trimmed
+    trimmed_items name_text called most_templates is_function title_of_target title_in_target read_text is_allowed is_forbidden
+    is_good has_signature is_step begins_with_step holds_step ends_with_step name_of image is_called namespace_named prefix_of
+    full_name_of whole_in cut_namespace title_in template_text begins_only ends_only loop_text depth_text absent_text digits
 later_wins = refl
 
 -- a line break before what opens a block, unless the call stands at a line start
 line_start : gives (one_page (codes "Template:T") (codes "*b")) (codes "{{T}}a{{T}}") ≡ codes "*ba\n*b"
-unfolding words closed form_at comment_len comment_line_len raw_len opening_tag tag_after closing_tag with_inside is_extension include_at entity_at named_entity decimal_entity hex_entity entity_names sign_word reduced rewritten text_members trimmed trimmed_items name_text called most_templates is_function title_of_target title_in_target read_text is_allowed is_forbidden is_good has_signature is_step begins_with_step holds_step ends_with_step name_of image is_called namespace_named prefix_of full_name_of whole_in cut_namespace title_in template_text begins_only ends_only loop_text depth_text absent_text
+unfolding words closed form_at comment_len comment_line_len raw_len opening_tag tag_after closing_tag with_inside is_extension
+    include_at entity_at named_entity decimal_entity hex_entity entity_names sign_word reduced rewritten text_members trimmed
+    trimmed_items name_text called most_templates is_function title_of_target title_in_target read_text is_allowed is_forbidden
+    is_good has_signature is_step begins_with_step holds_step ends_with_step name_of image is_called namespace_named prefix_of
+    full_name_of whole_in cut_namespace title_in template_text begins_only ends_only loop_text depth_text absent_text
 line_start = refl
 
 -- each page is asked for once
 asked : names_asked (page_work (one_page (codes "Template:T") (codes "b")) (codes "{{T}}{{t}}{{:u}}")) ≡ codes "Template:T" ∷ codes "U" ∷ []
-unfolding words closed form_at comment_len comment_line_len raw_len opening_tag tag_after closing_tag with_inside is_extension include_at entity_at named_entity decimal_entity hex_entity entity_names sign_word reduced rewritten text_members trimmed trimmed_items name_text called most_templates is_function title_of_target title_in_target read_text is_allowed is_forbidden is_good has_signature is_step begins_with_step holds_step ends_with_step name_of image is_called namespace_named prefix_of full_name_of whole_in cut_namespace title_in template_text begins_only ends_only loop_text depth_text absent_text names_asked page_work
+unfolding words closed form_at comment_len comment_line_len raw_len opening_tag tag_after closing_tag with_inside is_extension
+    include_at entity_at named_entity decimal_entity hex_entity entity_names sign_word reduced rewritten text_members trimmed
+    trimmed_items name_text called most_templates is_function title_of_target title_in_target read_text is_allowed is_forbidden
+    is_good has_signature is_step begins_with_step holds_step ends_with_step name_of image is_called namespace_named prefix_of
+    full_name_of whole_in cut_namespace title_in template_text begins_only ends_only loop_text depth_text absent_text names_asked page_work
 asked = refl
 
 -- a page is entered, a call begins when its target was expanded, its page is fetched and entered, an argument in it begins and ends, the call ends
-work_of : page_work (one_page (codes "Template:T") (codes "{{{1|b}}}")) (codes "{{T}}") ≡ entered None ∷ begun ∷ fetched (codes "Template:T") ∷ entered (Some (codes "Template:T")) ∷ begun ∷ ended 1 ∷ ended 1 ∷ []
-unfolding words closed form_at comment_len comment_line_len raw_len opening_tag tag_after closing_tag with_inside is_extension include_at entity_at named_entity decimal_entity hex_entity entity_names sign_word reduced rewritten text_members trimmed trimmed_items name_text called most_templates is_function title_of_target title_in_target read_text is_allowed is_forbidden is_good has_signature is_step begins_with_step holds_step ends_with_step name_of image is_called namespace_named prefix_of full_name_of whole_in cut_namespace title_in template_text begins_only ends_only loop_text depth_text absent_text page_work
+work_of : page_work (one_page (codes "Template:T") (codes "{{{1|b}}}")) (codes "{{T}}") ≡ entered None ∷ begun
+    ∷ fetched (codes "Template:T") ∷ entered (Some (codes "Template:T")) ∷ begun ∷ ended 1 ∷ ended 1 ∷ []
+unfolding words closed form_at comment_len comment_line_len raw_len opening_tag tag_after closing_tag with_inside is_extension
+    include_at entity_at named_entity decimal_entity hex_entity entity_names sign_word reduced rewritten text_members trimmed
+    trimmed_items name_text called most_templates is_function title_of_target title_in_target read_text is_allowed is_forbidden
+    is_good has_signature is_step begins_with_step holds_step ends_with_step name_of image is_called namespace_named prefix_of
+    full_name_of whole_in cut_namespace title_in template_text begins_only ends_only loop_text depth_text absent_text page_work
 work_of = refl
 
 -- an outermost call that gives nothing is a mark, and in a call that is text the calls are outermost ones
@@ -111,5 +147,10 @@ with_origins : expanded_page (one_page (codes "Template:T") (codes "")) (codes "
       ∷ record { start = 8; source = codes "{{{a}}}"; argument = true; parts = (11, 12) ∷ []; equals = None ∷ []; href = None } ∷ [];
   text_calls = (5, 17) ∷ [];
 }
-unfolding words closed form_at comment_len comment_line_len raw_len opening_tag tag_after closing_tag with_inside is_extension include_at entity_at named_entity decimal_entity hex_entity entity_names sign_word reduced rewritten text_members trimmed trimmed_items name_text called most_templates is_function title_of_target title_in_target read_text is_allowed is_forbidden is_good has_signature is_step begins_with_step holds_step ends_with_step name_of image is_called namespace_named prefix_of full_name_of whole_in cut_namespace title_in template_text begins_only ends_only loop_text depth_text absent_text expanded_page page_stretches parts_of link_to link_text stays_in_link
+unfolding words closed form_at comment_len comment_line_len raw_len opening_tag tag_after closing_tag with_inside is_extension
+    include_at entity_at named_entity decimal_entity hex_entity entity_names sign_word reduced rewritten text_members trimmed
+    trimmed_items name_text called most_templates is_function title_of_target title_in_target read_text is_allowed is_forbidden
+    is_good has_signature is_step begins_with_step holds_step ends_with_step name_of image is_called namespace_named prefix_of
+    full_name_of whole_in cut_namespace title_in template_text begins_only ends_only loop_text depth_text absent_text
+    expanded_page page_stretches parts_of link_to link_text stays_in_link
 with_origins = refl

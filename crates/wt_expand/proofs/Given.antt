@@ -32,14 +32,16 @@ given_append (own xs ∷ ss) ts = ap (λ ys. xs ++ ys) (given_append ss ts) ∙ 
 given_append (outer c xs ∷ ss) ts = ap (λ ys. xs ++ ys) (given_append ss ts) ∙ sym (append_assoc xs (given_items ss) (given_items ts))
 given_append (text_call s ∷ ss) ts = given_append ss ts
 
-given_call : (c : Called) (r : Reading) (start : Bool) (at k : ℕ) (source : List ℕ) (ms : Members) (ps : List PartOutput) (os : List Output) (inside : List Stretch) → given_items inside ≡ (joined os).items
+given_call : (c : Called) (r : Reading) (start : Bool) (at k : ℕ) (source : List ℕ) (ms : Members) (ps : List PartOutput)
+    (os : List Output) (inside : List Stretch) → given_items inside ≡ (joined os).items
     → given_items (call_stretches c at k source ms (called_output c r start k source ps os).items inside) ≡ (called_output c r start k source ps os).items
 given_call argument r start at k source ms ps os inside e = append-nil _
 given_call function r start at k source ms ps os inside e = append-nil _
 given_call (page t) r start at k source ms ps os inside e = append-nil _
 given_call text r start at k source ms ps os inside e =
     ap (λ ys. chars (front_braces k source) ++ ys)
-    (given_append inside (own (chars (back_braces k source)) ∷ []) ∙ ap (λ ys. ys ++ (chars (back_braces k source) ++ [])) e ∙ ap (λ ys. (joined os).items ++ ys) (append-nil (chars (back_braces k source))))
+    (given_append inside (own (chars (back_braces k source)) ∷ []) ∙ ap (λ ys. ys ++ (chars (back_braces k source) ++ [])) e
+    ∙ ap (λ ys. (joined os).items ++ ys) (append-nil (chars (back_braces k source))))
 
 mutual
   given_one : (r : Reading) (at : ℕ) (start : Bool) (bs : List ℕ) (m : Member) → given_items (stretches_of r at start bs m) ≡ (output_of r start bs m).items
@@ -48,9 +50,11 @@ mutual
       let os = outputs_of r false (drop k bs) ms in
       let ps = part_outputs (part_members 0 ms) os in
       let source = take (k + width_of_all ms + k) bs in
-      given_call (called k source (target_part ps).items) r start at k source ms ps os (all_stretches r (at + k) false (drop k bs) ms) (given_all r (at + k) false (drop k bs) ms)
+      given_call (called k source (target_part ps).items) r start at k source ms ps os
+      (all_stretches r (at + k) false (drop k bs) ms) (given_all r (at + k) false (drop k bs) ms)
 
-  given_all : (r : Reading) (at : ℕ) (start : Bool) (bs : List ℕ) (ms : Members) → given_items (all_stretches r at start bs ms) ≡ (joined (outputs_of r start bs ms)).items
+  given_all : (r : Reading) (at : ℕ) (start : Bool) (bs : List ℕ) (ms : Members) → given_items (all_stretches r at start bs ms)
+      ≡ (joined (outputs_of r start bs ms)).items
   given_all r at start bs none = refl
   given_all r at start bs (more m ms) =
       let next = is_break (slice_index bs (width m - 1)) in
@@ -109,7 +113,8 @@ take_both zero b (x ∷ xs) = let e : 0 + b ≡ b = omega arith in ap (λ (n : �
 take_both (suc n) b [] = take_none (suc n + b) ∙ sym (take_none b)
 take_both (suc n) b (x ∷ xs) = let e : suc n + b ≡ suc (n + b) = omega arith in ap (λ (i : ℕ). take i (x ∷ xs)) e ∙ ap (λ ys. x ∷ ys) (take_both n b xs)
 
-bytes_call : (c : Called) (r : Reading) (start : Bool) (at k w : ℕ) (source : List ℕ) (ms : Members) (ps : List PartOutput) (os : List Output) (inside : List Stretch)
+bytes_call : (c : Called) (r : Reading) (start : Bool) (at k w : ℕ) (source : List ℕ) (ms : Members) (ps : List PartOutput)
+    (os : List Output) (inside : List Stretch)
     → take k source ++ (page_bytes inside ++ drop (length source - k) source) ≡ source
     → page_bytes (call_stretches c at k source ms (called_output c r start k source ps os).items inside) ≡ source
 bytes_call argument r start at k w source ms ps os inside e = append-nil source
@@ -117,10 +122,12 @@ bytes_call function r start at k w source ms ps os inside e = append-nil _ ∙ a
 bytes_call (page t) r start at k w source ms ps os inside e = append-nil source
 bytes_call text r start at k w source ms ps os inside e =
     ap (λ ys. ys ++ page_bytes (inside ++ own (chars (back_braces k source)) ∷ [])) (char_sources (front_braces k source))
-    ∙ ap (λ ys. front_braces k source ++ ys) (bytes_append inside (own (chars (back_braces k source)) ∷ []) ∙ ap (λ ys. page_bytes inside ++ ys) (append-nil _ ∙ char_sources (back_braces k source))) ∙ e
+    ∙ ap (λ ys. front_braces k source ++ ys) (bytes_append inside (own (chars (back_braces k source)) ∷ [])
+    ∙ ap (λ ys. page_bytes inside ++ ys) (append-nil _ ∙ char_sources (back_braces k source))) ∙ e
 
 mutual
-  bytes_one : (r : Reading) (at : ℕ) (start : Bool) (bs : List ℕ) (m : Member) → r.mode ≡ mode.Page → width m ≤ length bs → page_bytes (stretches_of r at start bs m) ≡ take (width m) bs
+  bytes_one : (r : Reading) (at : ℕ) (start : Bool) (bs : List ℕ) (m : Member) → r.mode ≡ mode.Page → width m ≤ length bs
+      → page_bytes (stretches_of r at start bs m) ≡ take (width m) bs
   bytes_one r at start bs (lexeme (kind, n)) e le =
       append-nil _ ∙ ap (λ (x : Mode). sources (lexeme_items x kind (take n bs))) e ∙ form_sources (form_of kind (take n bs)) (take n bs)
   bytes_one r at start bs (call k ms) e le =
@@ -140,7 +147,8 @@ mutual
       (ap (λ ys. ys ++ (page_bytes (all_stretches r (at + k) false (drop k bs) ms) ++ drop (length source - k) source)) front
       ∙ ap (λ ys. take k bs ++ (ys ++ drop (length source - k) source)) inside ∙ ap (λ ys. take k bs ++ (take W (drop k bs) ++ ys)) back ∙ mid)
 
-  bytes_all : (r : Reading) (at : ℕ) (start : Bool) (bs : List ℕ) (ms : Members) → r.mode ≡ mode.Page → width_of_all ms ≤ length bs → page_bytes (all_stretches r at start bs ms) ≡ take (width_of_all ms) bs
+  bytes_all : (r : Reading) (at : ℕ) (start : Bool) (bs : List ℕ) (ms : Members) → r.mode ≡ mode.Page
+      → width_of_all ms ≤ length bs → page_bytes (all_stretches r at start bs ms) ≡ take (width_of_all ms) bs
   bytes_all r at start [] none e le = refl
   bytes_all r at start (b ∷ bs) none e le = refl
   bytes_all r at start bs (more m ms) e le =
@@ -163,4 +171,5 @@ pub stretches_join : (pages : Pages) (bs : List ℕ) → page_bytes (page_stretc
 unfolding page_stretches
 stretches_join pages bs =
     let wide = members_wide bs in
-    bytes_all (page_reading pages) 0 true bs (text_members mode.Page bs) refl (omega (arith, wide)) ∙ ap (λ (n : ℕ). take n bs) wide ∙ take_all (length bs) bs (omega arith)
+    bytes_all (page_reading pages) 0 true bs (text_members mode.Page bs) refl (omega (arith, wide))
+    ∙ ap (λ (n : ℕ). take n bs) wide ∙ take_all (length bs) bs (omega arith)

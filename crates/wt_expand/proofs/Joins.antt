@@ -41,12 +41,17 @@ lexeme_own m kind bs = by (is_removed m kind)
     by true = tt
     by false = form_from (form_of kind bs) None bs
 
-own_call : (c : Called) (r : Reading) (start : Bool) (at k : ℕ) (source : List ℕ) (ms : Members) (ps : List PartOutput) (os : List Output) (inside : List Stretch) → OwnPage inside
+own_call : (c : Called) (r : Reading) (start : Bool) (at k : ℕ) (source : List ℕ) (ms : Members) (ps : List PartOutput)
+    (os : List Output) (inside : List Stretch) → OwnPage inside
     → OwnPage (call_stretches c at k source ms (called_output c r start k source ps os).items inside)
 own_call argument r start at k source ms ps os inside h = tt
 own_call function r start at k source ms ps os inside h = ((refl, tt), tt)
 own_call (page t) r start at k source ms ps os inside h = tt
-own_call text r start at k source ms ps os inside h = (chars_from None (front_braces k source), own_append inside (own (chars (back_braces k source)) ∷ []) h (chars_from None (back_braces k source), tt))
+own_call text r start at k source ms ps os inside h = (
+  chars_from None (front_braces k source),
+  own_append inside (own (chars (back_braces k source)) ∷ []) h
+      (chars_from None (back_braces k source), tt),
+)
 
 mutual
   own_one : (r : Reading) (at : ℕ) (start : Bool) (bs : List ℕ) (m : Member) → OwnPage (stretches_of r at start bs m)
@@ -55,17 +60,20 @@ mutual
       let os = outputs_of r false (drop k bs) ms in
       let ps = part_outputs (part_members 0 ms) os in
       let source = take (k + width_of_all ms + k) bs in
-      own_call (called k source (target_part ps).items) r start at k source ms ps os (all_stretches r (at + k) false (drop k bs) ms) (own_all r (at + k) false (drop k bs) ms)
+      own_call (called k source (target_part ps).items) r start at k source ms ps os
+      (all_stretches r (at + k) false (drop k bs) ms) (own_all r (at + k) false (drop k bs) ms)
 
   own_all : (r : Reading) (at : ℕ) (start : Bool) (bs : List ℕ) (ms : Members) → OwnPage (all_stretches r at start bs ms)
   own_all r at start bs none = tt
   own_all r at start bs (more m ms) =
       let next = is_break (slice_index bs (width m - 1)) in
-      own_append (stretches_of r at start bs m) (all_stretches r (at + width m) next (drop (width m) bs) ms) (own_one r at start bs m) (own_all r (at + width m) next (drop (width m) bs) ms)
+      own_append (stretches_of r at start bs m) (all_stretches r (at + width m) next (drop (width m) bs) ms)
+      (own_one r at start bs m) (own_all r (at + width m) next (drop (width m) bs) ms)
 
 -- ---- what stands on the page for items that follow others
 
-between_append : (calls : List OuterCall) (all : List Item) (j k n : ℕ) → text_between calls all n (j + k) ≡ text_between calls all n j ++ text_between calls all (n + j) k
+between_append : (calls : List OuterCall) (all : List Item) (j k n : ℕ) → text_between calls all n (j + k)
+    ≡ text_between calls all n j ++ text_between calls all (n + j) k
 between_append calls all zero k n =
     let e : 0 + k ≡ k = omega arith in
     let f : n ≡ n + 0 = omega arith in
@@ -80,7 +88,8 @@ between_append calls all (suc j) k n =
 
 -- one item, and what follows it
 between_more : (calls : List OuterCall) (front : List Item) (z : Item) (zs back : List Item)
-    → text_between calls (front ++ (z ∷ zs ++ back)) (length front) (length (z ∷ zs)) ≡ text_behind calls (last_call front) z ++ text_between calls ((front ++ z ∷ []) ++ (zs ++ back)) (length (front ++ z ∷ [])) (length zs)
+    → text_between calls (front ++ (z ∷ zs ++ back)) (length front) (length (z ∷ zs)) ≡ text_behind calls (last_call front) z
+    ++ text_between calls ((front ++ z ∷ []) ++ (zs ++ back)) (length (front ++ z ∷ [])) (length zs)
 between_more calls front z zs back =
     let all = front ++ (z ∷ zs ++ back) in
     let m : all ≡ (front ++ z ∷ []) ++ (zs ++ back) = sym (append_assoc front (z ∷ []) (zs ++ back)) in
@@ -88,29 +97,37 @@ between_more calls front z zs back =
     ∙ ap (λ i. text_behind calls (last_call front) z ++ text_between calls all i (length zs)) (sym (length_push front z))
     ∙ ap (λ xs. text_behind calls (last_call front) z ++ text_between calls xs (length (front ++ z ∷ [])) (length zs)) m
 
-between_own : (calls : List OuterCall) (front zs back : List Item) → AllFrom None zs → text_between calls (front ++ (zs ++ back)) (length front) (length zs) ≡ sources zs
+between_own : (calls : List OuterCall) (front zs back : List Item) → AllFrom None zs
+    → text_between calls (front ++ (zs ++ back)) (length front) (length zs) ≡ sources zs
 between_own calls front [] back h = refl
 between_own calls front (z ∷ zs) back h =
-    between_more calls front z zs back ∙ ap (λ bs. bs ++ text_between calls ((front ++ z ∷ []) ++ (zs ++ back)) (length (front ++ z ∷ [])) (length zs)) (behind_page calls (last_call front) z h.0)
+    between_more calls front z zs back ∙ ap (λ bs. bs ++ text_between calls ((front ++ z ∷ []) ++ (zs ++ back))
+    (length (front ++ z ∷ [])) (length zs)) (behind_page calls (last_call front) z h.0)
     ∙ ap (λ bs. source z ++ bs) (between_own calls (front ++ z ∷ []) zs back h.1)
 
-between_same : (calls : List OuterCall) (k : ℕ) (front zs back : List Item) → last_call front ≡ Some k → AllFrom (Some k) zs → text_between calls (front ++ (zs ++ back)) (length front) (length zs) ≡ []
+between_same : (calls : List OuterCall) (k : ℕ) (front zs back : List Item) → last_call front ≡ Some k → AllFrom (Some k) zs
+    → text_between calls (front ++ (zs ++ back)) (length front) (length zs) ≡ []
 between_same calls k front [] back e h = refl
 between_same calls k front (z ∷ zs) back e h =
-    between_more calls front z zs back ∙ ap (λ bs. bs ++ text_between calls ((front ++ z ∷ []) ++ (zs ++ back)) (length (front ++ z ∷ [])) (length zs)) (behind_same calls (last_call front) k z e h.0)
+    between_more calls front z zs back ∙ ap (λ bs. bs ++ text_between calls ((front ++ z ∷ []) ++ (zs ++ back))
+    (length (front ++ z ∷ [])) (length zs)) (behind_same calls (last_call front) k z e h.0)
     ∙ between_same calls k (front ++ z ∷ []) zs back (last_push front z ∙ h.0) h.1
 
-behind_new : (calls : List OuterCall) (before : Option ℕ) (k : ℕ) (x : Item) → same_call before (Some k) ≡ false → call_of x ≡ Some k → text_behind calls before x ≡ source_of_call (slice_get calls k)
+behind_new : (calls : List OuterCall) (before : Option ℕ) (k : ℕ) (x : Item) → same_call before (Some k) ≡ false
+    → call_of x ≡ Some k → text_behind calls before x ≡ source_of_call (slice_get calls k)
 behind_new calls before k x f e =
     ap (λ o. if not (same_call before o) then text_by calls o (source x) else []) e ∙ ap (λ t. if not t then source_of_call (slice_get calls k) else []) f
 
-between_outer : (calls : List OuterCall) (k : ℕ) (front zs back : List Item) → same_call (last_call front) (Some k) ≡ false → 0 < length zs → AllFrom (Some k) zs
+between_outer : (calls : List OuterCall) (k : ℕ) (front zs back : List Item) → same_call (last_call front) (Some k) ≡ false
+    → 0 < length zs → AllFrom (Some k) zs
     → text_between calls (front ++ (zs ++ back)) (length front) (length zs) ≡ source_of_call (slice_get calls k)
 between_outer calls k front [] back f some h = absurd (omega arith)
 between_outer calls k front (z ∷ zs) back f some h =
     between_more calls front z zs back
-    ∙ ap (λ bs. bs ++ text_between calls ((front ++ z ∷ []) ++ (zs ++ back)) (length (front ++ z ∷ [])) (length zs)) (behind_new calls (last_call front) k z f h.0)
-    ∙ ap (λ bs. source_of_call (slice_get calls k) ++ bs) (between_same calls k (front ++ z ∷ []) zs back (last_push front z ∙ h.0) h.1) ∙ append-nil (source_of_call (slice_get calls k))
+    ∙ ap (λ bs. bs ++ text_between calls ((front ++ z ∷ []) ++ (zs ++ back)) (length (front ++ z ∷ [])) (length zs))
+    (behind_new calls (last_call front) k z f h.0)
+    ∙ ap (λ bs. source_of_call (slice_get calls k) ++ bs)
+    (between_same calls k (front ++ z ∷ []) zs back (last_push front z ∙ h.0) h.1) ∙ append-nil (source_of_call (slice_get calls k))
 
 -- ---- stretch after stretch
 
@@ -145,7 +162,9 @@ below_outer k front zs some f = subst (IsBelow (suc k)) (sym (last_of (Some k) f
 
 -- items, and what follows them
 two_parts : (calls : List OuterCall) (front xs ys : List Item)
-    → text_between calls (front ++ (xs ++ ys)) (length front) (length (xs ++ ys)) ≡ text_between calls (front ++ (xs ++ ys)) (length front) (length xs) ++ text_between calls ((front ++ xs) ++ ys) (length (front ++ xs)) (length ys)
+    → text_between calls (front ++ (xs ++ ys)) (length front) (length (xs ++ ys))
+    ≡ text_between calls (front ++ (xs ++ ys)) (length front) (length xs)
+    ++ text_between calls ((front ++ xs) ++ ys) (length (front ++ xs)) (length ys)
 two_parts calls front xs ys =
     let all = front ++ (xs ++ ys) in
     ap (text_between calls all (length front)) (length-append xs ys) ∙ between_append calls all (length xs) (length ys) (length front)
@@ -158,7 +177,8 @@ joins [] front before k e b h = refl
 joins (own xs ∷ ss) front before k e b h =
     let calls = before ++ outer_calls ss in
     two_parts calls front xs (numbered k ss)
-    ∙ ap (λ bs. bs ++ text_between calls ((front ++ xs) ++ numbered k ss) (length (front ++ xs)) (length (numbered k ss))) (between_own calls front xs (numbered k ss) h.0)
+    ∙ ap (λ bs. bs ++ text_between calls ((front ++ xs) ++ numbered k ss) (length (front ++ xs)) (length (numbered k ss)))
+    (between_own calls front xs (numbered k ss) h.0)
     ∙ ap (λ bs. sources xs ++ bs) (joins ss (front ++ xs) before k e (below_own k front xs b h.0) h.1)
 joins (outer c xs ∷ ss) front before k e b h =
     let calls = before ++ c ∷ outer_calls ss in
@@ -170,8 +190,10 @@ joins (outer c xs ∷ ss) front before k e b h =
     let same : calls ≡ (before ++ c ∷ []) ++ outer_calls ss = sym (append_assoc before (c ∷ []) (outer_calls ss)) in
     let next : suc k ≡ length (before ++ c ∷ []) = omega (arith, e, length-append before (c ∷ [])) in
     two_parts calls front zs rest
-    ∙ ap (λ bs. bs ++ text_between calls ((front ++ zs) ++ rest) (length (front ++ zs)) (length rest)) (between_outer calls k front zs rest (below_other k (last_call front) b) some f ∙ ap source_of_call here)
-    ∙ ap (λ bs. c.source ++ bs) (ap (λ cs. text_between cs ((front ++ zs) ++ rest) (length (front ++ zs)) (length rest)) same ∙ joins ss (front ++ zs) (before ++ c ∷ []) (suc k) next (below_outer k front zs some f) h)
+    ∙ ap (λ bs. bs ++ text_between calls ((front ++ zs) ++ rest) (length (front ++ zs)) (length rest))
+    (between_outer calls k front zs rest (below_other k (last_call front) b) some f ∙ ap source_of_call here)
+    ∙ ap (λ bs. c.source ++ bs) (ap (λ cs. text_between cs ((front ++ zs) ++ rest) (length (front ++ zs)) (length rest)) same
+    ∙ joins ss (front ++ zs) (before ++ c ∷ []) (suc k) next (below_outer k front zs some f) h)
 joins (text_call s ∷ ss) front before k e b h = joins ss front before k e b h
 
 stretches_are : (pages : Pages) (bs : List ℕ) → page_stretches pages bs ≡ all_stretches (page_reading pages) 0 true bs (text_members mode.Page bs)

@@ -8,3 +8,6 @@ pub mod Joins
 pub mod NoCalls
 pub mod Agreements
 pub mod Absent
+pub mod Names
+pub mod ShownPieces
+pub mod TextLaws

@@ -27,7 +27,8 @@ use Rattle.wt_expand.specs.Made.{IsOfPage, IsMade, AreMade}
 
 -- ---- one more
 
-made_push : (page : List ℕ) (ps : List Piece) (xs : List Lexeme) (p : Piece) (x : Lexeme) → AreMade page ps xs → IsMade page p x → AreMade page (ps ++ p ∷ []) (xs ++ x ∷ [])
+made_push : (page : List ℕ) (ps : List Piece) (xs : List Lexeme) (p : Piece) (x : Lexeme) → AreMade page ps xs → IsMade page p x
+    → AreMade page (ps ++ p ∷ []) (xs ++ x ∷ [])
 made_push page [] [] p x h m = (m, tt)
 made_push page [] (y ∷ xs) p x h m = absurd h
 made_push page (q ∷ ps) [] p x h m = absurd h
@@ -66,7 +67,8 @@ behind page x =
     let place : x.at.start + (x.at.end - x.at.start) ≡ x.at.end = omega arith in
     drop-drop (x.at.end - x.at.start) x.at.start page ∙ ap (λ n. drop n page) place
 
-pub items_made : (page : List ℕ) (ps : List Piece) (xs : List Lexeme) (at to : ℕ) → AreMade page ps xs → Follow at xs to → items ps ≡ items_of_words (map word_of xs) (drop at page)
+pub items_made : (page : List ℕ) (ps : List Piece) (xs : List Lexeme) (at to : ℕ) → AreMade page ps xs → Follow at xs to
+    → items ps ≡ items_of_words (map word_of xs) (drop at page)
 items_made page [] [] at to h f = refl
 items_made page [] (x ∷ xs) at to h f = absurd h
 items_made page (p ∷ ps) [] at to h f = absurd h
@@ -88,7 +90,8 @@ RawBy o form.Nowiki bs = raw_by is_nowiki o bs ≡ Some (length bs)
 RawBy o form.Extension bs = raw_by is_extension o bs ≡ Some (length bs)
 RawBy o f bs = ⊥
 
-raw_named : (t : Tag) (bs : List ℕ) (b : Bool) → is_nowiki t.name ≡ b → (raw_by is_nowiki (Some t) bs ≡ Some (length bs)) ⊎ (raw_by is_extension (Some t) bs ≡ Some (length bs))
+raw_named : (t : Tag) (bs : List ℕ) (b : Bool) → is_nowiki t.name ≡ b → (raw_by is_nowiki (Some t) bs ≡ Some (length bs))
+    ⊎ (raw_by is_extension (Some t) bs ≡ Some (length bs))
     → RawBy (Some t) (if b then form.Nowiki else form.Extension) bs
 unfolding RawBy
 raw_named t bs true e h =
@@ -96,7 +99,8 @@ raw_named t bs true e h =
     ∙ ⊎_elim (then_some (is_nowiki t.name) (with_inside t bs) (length bs)) (then_some (is_extension t.name) (with_inside t bs) (length bs)) h
 raw_named t bs false e h = ⊎_elim (λ k. absurd (let z : None ≡ Some (length bs) = sym (ap (λ v. if v then with_inside t bs else None) e) ∙ k in cc)) (λ k. k) h
 
-raw_any : (o : Option Tag) (bs : List ℕ) → (raw_by is_nowiki o bs ≡ Some (length bs)) ⊎ (raw_by is_extension o bs ≡ Some (length bs)) → RawBy o (raw_form_by o) bs
+raw_any : (o : Option Tag) (bs : List ℕ) → (raw_by is_nowiki o bs ≡ Some (length bs))
+    ⊎ (raw_by is_extension o bs ≡ Some (length bs)) → RawBy o (raw_form_by o) bs
 raw_any None bs h = ⊎_elim (λ k. absurd cc) (λ k. absurd cc) h
 raw_any (Some t) bs h = raw_named t bs (is_nowiki t.name) refl h
 
@@ -115,7 +119,8 @@ raw_is form.EmptyCall bs h = absurd h
 raw_whole : (bs : List ℕ) → IsRawTag is_nowiki bs ⊎ IsRawTag is_extension bs → IsWhole (raw_form bs) bs
 raw_whole bs h = raw_is (raw_form bs) bs (raw_any (opening_tag bs) bs h)
 
-pub word_whole : (after : Bool) (kind : LexKind) (n : ℕ) (bs : List ℕ) → 0 < n → n ≤ length bs → Stands Page after kind n bs → IsWhole (form_of kind (take n bs)) (take n bs)
+pub word_whole : (after : Bool) (kind : LexKind) (n : ℕ) (bs : List ℕ) → 0 < n → n ≤ length bs → Stands Page after kind n bs
+    → IsWhole (form_of kind (take n bs)) (take n bs)
 word_whole after lex.Chars n bs some le s = omega (arith, length-take n bs)
 word_whole after lex.CommentLine n bs some le s = form_whole Page after lex.CommentLine n bs s
 word_whole after lex.Comment n bs some le s = form_whole Page after lex.Comment n bs s
@@ -159,7 +164,8 @@ placed : (o : Origin) (s t : Span) → IsOfPage s o → s ≡ t → IsPlaced o t
 placed (origin.Page r) s t h e = h ∙ e
 placed (origin.Call k) s t h e = absurd h
 
-made_sound : (page : List ℕ) (p : Piece) (x : Lexeme) (after : Bool) → IsMade page p x → 0 < x.at.end - x.at.start → x.at.end - x.at.start ≤ length (drop x.at.start page)
+made_sound : (page : List ℕ) (p : Piece) (x : Lexeme) (after : Bool) → IsMade page p x → 0 < x.at.end - x.at.start
+    → x.at.end - x.at.start ≤ length (drop x.at.start page)
     → Stands Page after x.kind (x.at.end - x.at.start) (drop x.at.start page) → IsSoundPiece p
 made_sound page p x after h some le s =
     let bytes = bytes_of p.text in
@@ -174,7 +180,8 @@ made_sound page p x after h some le s =
       fits = subst R (sym h.form) (word_fits x.kind bytes (call_of_origin p.origin));
     }
 
-pub sound_made : (page : List ℕ) (ps : List Piece) (xs : List Lexeme) (at to : ℕ) (after : Bool) → AreMade page ps xs → Follow at xs to → AreLexemes Page after (map word_of xs) (drop at page) → All IsSoundPiece ps
+pub sound_made : (page : List ℕ) (ps : List Piece) (xs : List Lexeme) (at to : ℕ) (after : Bool) → AreMade page ps xs
+    → Follow at xs to → AreLexemes Page after (map word_of xs) (drop at page) → All IsSoundPiece ps
 sound_made page [] [] at to after h f a = All-nil IsSoundPiece
 sound_made page [] (x ∷ xs) at to after h f a = absurd h
 sound_made page (p ∷ ps) [] at to after h f a = absurd h
@@ -204,7 +211,8 @@ named_made : (page : List ℕ) (ps : List Piece) (xs : List Lexeme) → AreMade 
 named_made page [] [] h = All-nil (IsAmong [])
 named_made page [] (x ∷ xs) h = absurd h
 named_made page (p ∷ ps) [] h = absurd h
-named_made page (p ∷ ps) (x ∷ xs) h = All-cons (IsAmong []) p.origin (origins ps) (page_among (x.at.start, x.at.end) p.origin h.0.origin) (named_made page ps xs h.1)
+named_made page (p ∷ ps) (x ∷ xs) h = All-cons (IsAmong []) p.origin (origins ps)
+    (page_among (x.at.start, x.at.end) p.origin h.0.origin) (named_made page ps xs h.1)
 
 -- an origin of the page counts by itself
 before_page : (os : List Origin) (o : Origin) → call_of_origin o ≡ None → origin_before os o ≡ false
@@ -215,7 +223,8 @@ before_page (p ∷ os) (origin.Call k) e = absurd cc
 pub once_page : (os : List Origin) (o : Origin) → call_of_origin o ≡ None → once (o ∷ os) ≡ o ∷ once os
 once_page os o e = ap (λ b. if b then once os else o ∷ once os) (before_page os o e)
 
-follow_made : (page : List ℕ) (ps : List Piece) (xs : List Lexeme) (at to : ℕ) → AreMade page ps xs → Follow at xs to → FollowFrom at (map (span_of_origin []) (once (origins ps)))
+follow_made : (page : List ℕ) (ps : List Piece) (xs : List Lexeme) (at to : ℕ) → AreMade page ps xs → Follow at xs to
+    → FollowFrom at (map (span_of_origin []) (once (origins ps)))
 follow_made page [] [] at to h f = tt
 follow_made page [] (x ∷ xs) at to h f = absurd h
 follow_made page (p ∷ ps) [] at to h f = absurd h
@@ -223,7 +232,8 @@ follow_made page (p ∷ ps) (x ∷ xs) at to h f =
     let span : Span = (x.at.start, x.at.end) in
     let others = map (span_of_origin []) (once (origins ps)) in
     let same : map (span_of_origin []) (once (origins (p ∷ ps))) ≡ span ∷ others =
-    ap (map (span_of_origin [])) (once_page (origins ps) p.origin (no_call span p.origin h.0.origin)) ∙ ap (λ (s : Span). s ∷ others) (page_span span p.origin h.0.origin) in
+    ap (map (span_of_origin [])) (once_page (origins ps) p.origin (no_call span p.origin h.0.origin))
+    ∙ ap (λ (s : Span). s ∷ others) (page_span span p.origin h.0.origin) in
     let P : List Span → Type 0 = FollowFrom at in
     subst P (sym same) (f.0, follow_made page ps xs x.at.end to h.1 f.1)
 
@@ -240,7 +250,8 @@ apart_made page (p ∷ ps) (x ∷ xs) h =
     let P : List Origin → Type 0 = AreApart in
     subst P (sym (once_page (origins ps) p.origin e)) (other_than_page p.origin e (once (origins ps)), apart_made page ps xs h.1)
 
-pub are_items : (page : List ℕ) (ps : List Piece) (xs : List Lexeme) (cs : List OuterCall) (ts : List Span) → AreMade page ps xs → Follow 0 xs (length page) → AreLexemes Page false (map word_of xs) page → cs ≡ [] → ts ≡ [] → AreItems ps cs ts
+pub are_items : (page : List ℕ) (ps : List Piece) (xs : List Lexeme) (cs : List OuterCall) (ts : List Span) → AreMade page ps xs
+    → Follow 0 xs (length page) → AreLexemes Page false (map word_of xs) page → cs ≡ [] → ts ≡ [] → AreItems ps cs ts
 are_items page ps xs cs ts h f a none no_text =
     let P : List OuterCall → Type 0 = λ ds. AreItems ps ds ts in
     let Q : List Span → Type 0 = λ us. AreItems ps [] us in

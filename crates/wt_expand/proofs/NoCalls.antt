@@ -50,7 +50,8 @@ one_more zero before = inl (stuck_few 0 before (omega arith))
 one_more (suc zero) before = inl (stuck_few 1 before (omega arith))
 one_more (suc (suc c)) before = by (nearest before)
   where
-    by : NoRun before ⊎ Behind before → (rewritten (suc (suc c), before) ≡ (suc (suc c), before)) ⊎ (calls_in (rewritten (suc (suc c), before)).1 ≡ 1 + calls_in before)
+    by : NoRun before ⊎ Behind before → (rewritten (suc (suc c), before) ≡ (suc (suc c), before))
+        ⊎ (calls_in (rewritten (suc (suc c), before)).1 ≡ 1 + calls_in before)
     by (inl free) = inl (stuck_free (suc (suc c)) before free)
     by (inr b) =
         let n = b.braces in
@@ -64,7 +65,8 @@ never_fewer : (f c : ℕ) (before : List Member) → calls_in before ≤ calls_i
 never_fewer zero c before = omega arith
 never_fewer (suc f) c before = by (one_more c before) (never_fewer f (rewritten (c, before)).0 (rewritten (c, before)).1)
   where
-    by : (rewritten (c, before) ≡ (c, before)) ⊎ (calls_in (rewritten (c, before)).1 ≡ 1 + calls_in before) → calls_in (rewritten (c, before)).1 ≤ calls_in (again f rewritten (rewritten (c, before))).1
+    by : (rewritten (c, before) ≡ (c, before)) ⊎ (calls_in (rewritten (c, before)).1 ≡ 1 + calls_in before)
+        → calls_in (rewritten (c, before)).1 ≤ calls_in (again f rewritten (rewritten (c, before))).1
         → calls_in before ≤ calls_in (again f rewritten (rewritten (c, before))).1
     by (inl e) h = omega (arith, h, ap (λ x. calls_in x.1) e)
     by (inr e) h = omega (arith, h, e)
@@ -74,8 +76,10 @@ none_taken : (f c : ℕ) (before : List Member) → calls_in (again f rewritten 
 none_taken zero c before h = refl
 none_taken (suc f) c before h = by (one_more c before) (never_fewer f (rewritten (c, before)).0 (rewritten (c, before)).1) (λ g. none_taken f c before g)
   where
-    by : (rewritten (c, before) ≡ (c, before)) ⊎ (calls_in (rewritten (c, before)).1 ≡ 1 + calls_in before) → calls_in (rewritten (c, before)).1 ≤ calls_in (again f rewritten (rewritten (c, before))).1
-        → (calls_in (again f rewritten (c, before)).1 ≡ 0 → again f rewritten (c, before) ≡ (c, before)) → again f rewritten (rewritten (c, before)) ≡ (c, before)
+    by : (rewritten (c, before) ≡ (c, before)) ⊎ (calls_in (rewritten (c, before)).1 ≡ 1 + calls_in before)
+        → calls_in (rewritten (c, before)).1 ≤ calls_in (again f rewritten (rewritten (c, before))).1
+        → (calls_in (again f rewritten (c, before)).1 ≡ 0 → again f rewritten (c, before) ≡ (c, before))
+        → again f rewritten (rewritten (c, before)) ≡ (c, before)
     by (inl e) le rest = ap (again f rewritten) e ∙ rest (sym (ap (λ x. calls_in (again f rewritten x).1) e) ∙ h)
     by (inr e) le rest = absurd (omega (arith, h, e, le))
 
@@ -103,7 +107,8 @@ Stays before ws = reduced_onto before ws ≡ reverse (as_members ws) ++ before
 
 stays_word : (w : Word) (before : List Member) (ws : List Word) → with_word w before ≡ lexeme w ∷ before → Stays (lexeme w ∷ before) ws → Stays before (w ∷ ws)
 stays_word w before ws e h =
-    ap (λ xs. reduced_onto xs ws) e ∙ h ∙ sym (append_assoc (reverse (as_members ws)) (lexeme w ∷ []) before) ∙ ap (λ xs. xs ++ before) (sym (reverse-append (lexeme w ∷ []) (as_members ws)))
+    ap (λ xs. reduced_onto xs ws) e ∙ h ∙ sym (append_assoc (reverse (as_members ws)) (lexeme w ∷ []) before)
+    ∙ ap (λ xs. xs ++ before) (sym (reverse-append (lexeme w ∷ []) (as_members ws)))
 
 closing_stays : (n : ℕ) (before : List Member) → 1 ≤ n → calls_in (closed_by n before) ≡ 0 → closed_by n before ≡ lexeme (Closes, n) ∷ before
 closing_stays n before some h =
@@ -142,15 +147,19 @@ reduced_stays ws h e =
 
 -- ---- the items
 
-lexemes_items : (pages : Pages) (at k : ℕ) (start : Bool) (bs : List ℕ) (ws : List Word) → numbered k (all_stretches (page_reading pages) at start bs (members (as_members ws))) ≡ items_of_words ws bs
+lexemes_items : (pages : Pages) (at k : ℕ) (start : Bool) (bs : List ℕ) (ws : List Word)
+    → numbered k (all_stretches (page_reading pages) at start bs (members (as_members ws))) ≡ items_of_words ws bs
 lexemes_items pages at k start bs [] = refl
-lexemes_items pages at k start bs ((kind, n) ∷ ws) = ap (λ xs. items_of_word kind (take n bs) ++ xs) (lexemes_items pages (at + n) k (is_break (slice_index bs (n - 1))) (drop n bs) ws)
+lexemes_items pages at k start bs ((kind, n) ∷ ws) = ap (λ xs. items_of_word kind (take n bs) ++ xs)
+    (lexemes_items pages (at + n) k (is_break (slice_index bs (n - 1))) (drop n bs) ws)
 
-lexemes_outer : (pages : Pages) (at : ℕ) (start : Bool) (bs : List ℕ) (ws : List Word) → outer_calls (all_stretches (page_reading pages) at start bs (members (as_members ws))) ≡ []
+lexemes_outer : (pages : Pages) (at : ℕ) (start : Bool) (bs : List ℕ) (ws : List Word)
+    → outer_calls (all_stretches (page_reading pages) at start bs (members (as_members ws))) ≡ []
 lexemes_outer pages at start bs [] = refl
 lexemes_outer pages at start bs ((kind, n) ∷ ws) = lexemes_outer pages (at + n) (is_break (slice_index bs (n - 1))) (drop n bs) ws
 
-lexemes_text : (pages : Pages) (at : ℕ) (start : Bool) (bs : List ℕ) (ws : List Word) → text_spans (all_stretches (page_reading pages) at start bs (members (as_members ws))) ≡ []
+lexemes_text : (pages : Pages) (at : ℕ) (start : Bool) (bs : List ℕ) (ws : List Word)
+    → text_spans (all_stretches (page_reading pages) at start bs (members (as_members ws))) ≡ []
 lexemes_text pages at start bs [] = refl
 lexemes_text pages at start bs ((kind, n) ∷ ws) = lexemes_text pages (at + n) (is_break (slice_index bs (n - 1))) (drop n bs) ws
 
@@ -170,11 +179,13 @@ page_items_are : (bs : List ℕ) → page_items bs ≡ items_of_words (words mod
 unfolding page_items
 page_items_are bs = refl
 
-pub without_calls : (pages : Pages) (bs : List ℕ) → call_count_of_all (text_members mode.Page bs) ≡ 0 → expanded_page pages bs ≡ record { items = page_items bs; outer = []; text_calls = [] }
+pub without_calls : (pages : Pages) (bs : List ℕ) → call_count_of_all (text_members mode.Page bs) ≡ 0
+    → expanded_page pages bs ≡ record { items = page_items bs; outer = []; text_calls = [] }
 without_calls pages bs h =
     let ws = words mode.Page bs in
     let e = text_members_are bs in
-    let stay : text_members mode.Page bs ≡ members (as_members ws) = e ∙ ap members (reduced_stays ws (lexemes_have_braces mode.Page bs) (sym (ap call_count_of_all e) ∙ h)) in
+    let stay : text_members mode.Page bs ≡ members (as_members ws) = e
+    ∙ ap members (reduced_stays ws (lexemes_have_braces mode.Page bs) (sym (ap call_count_of_all e) ∙ h)) in
     let ss = all_stretches (page_reading pages) 0 true bs (members (as_members ws)) in
     let R : List Item → Expanded = λ xs. record { items = xs; outer = outer_calls ss; text_calls = text_spans ss } in
     expanded_is pages bs ∙ ap (λ ms. of_stretches (all_stretches (page_reading pages) 0 true bs ms)) stay

@@ -72,7 +72,8 @@ form_of_page form.EmptyCall bs = one _ refl
 words_of_page : (ws : List Word) (bs : List ℕ) → All OfPage (items_of_words ws bs)
 words_of_page [] bs = All-nil OfPage
 words_of_page ((kind, n) ∷ ws) bs =
-    All-append OfPage (items_of_word kind (take n bs)) (items_of_words ws (drop n bs)) (form_of_page (form_of kind (take n bs)) (take n bs)) (words_of_page ws (drop n bs))
+    All-append OfPage (items_of_word kind (take n bs)) (items_of_words ws (drop n bs))
+    (form_of_page (form_of kind (take n bs)) (take n bs)) (words_of_page ws (drop n bs))
 
 pub page_has_no_calls : (page : List ℕ) → All (λ x. call_of x ≡ None) (page_items page)
 unfolding page_items
@@ -83,13 +84,15 @@ page_has_no_calls page = words_of_page (words Page page) page
 as_lexemes : (page : List ℕ) (ls : List Lexeme) → map word_of ls ≡ words Page page → AreLexemes Page false (map word_of ls) page
 as_lexemes page ls e = let P : List Word → Type 0 = λ ws. AreLexemes Page false ws page in subst P (sym e) (words_are Page page)
 
-pub page_is_sound : (page : List ℕ) (ps : List Piece) (ls xs : List Lexeme) (cs : List OuterCall) (ts : List Span) → xs ≡ ls → AreMade page ps xs → Follow 0 ls (length page) → map word_of ls ≡ words Page page
+pub page_is_sound : (page : List ℕ) (ps : List Piece) (ls xs : List Lexeme) (cs : List OuterCall) (ts : List Span) → xs ≡ ls
+    → AreMade page ps xs → Follow 0 ls (length page) → map word_of ls ≡ words Page page
     → cs ≡ [] → ts ≡ [] → AreItems ps cs ts
 page_is_sound page ps ls xs cs ts same h f e none no_text =
     let P : List Lexeme → Type 0 = AreMade page ps in
     are_items page ps ls cs ts (subst P same h) f (as_lexemes page ls e) none no_text
 
-pub page_is_whole : (page : List ℕ) (ps : List Piece) (ls xs : List Lexeme) → xs ≡ ls → AreMade page ps xs → Follow 0 ls (length page) → map word_of ls ≡ words Page page → items ps ≡ page_items page
+pub page_is_whole : (page : List ℕ) (ps : List Piece) (ls xs : List Lexeme) → xs ≡ ls → AreMade page ps xs
+    → Follow 0 ls (length page) → map word_of ls ≡ words Page page → items ps ≡ page_items page
 unfolding page_items
 page_is_whole page ps ls xs same h f e =
     let P : List Lexeme → Type 0 = AreMade page ps in

@@ -49,7 +49,8 @@ free_here (a ∷ front) x xs =
 abbrev pub text_behind : List OuterCall → Option ℕ → Item → List ℕ
 text_behind calls before x = if not (same_call before (call_of x)) then text_by calls (call_of x) (source x) else []
 
-pub text_here : (calls : List OuterCall) (front : List Item) (x : Item) (xs : List Item) → text_at calls (front ++ x ∷ xs) (length front) ≡ text_behind calls (last_call front) x
+pub text_here : (calls : List OuterCall) (front : List Item) (x : Item) (xs : List Item)
+    → text_at calls (front ++ x ∷ xs) (length front) ≡ text_behind calls (last_call front) x
 text_here calls front x xs =
     ap (λ t. if t then origin_text calls (slice_get (front ++ x ∷ xs) (length front)) else []) (free_here front x xs)
     ∙ ap (λ o. if not (same_call (last_call front) (call_of x)) then origin_text calls o else []) (get_mid front x xs)
@@ -116,7 +117,8 @@ behind_same calls before k x b e =
 move : (front : List Item) (z : Item) (zs xs : List Item) → front ++ (z ∷ zs ++ xs) ≡ (front ++ z ∷ []) ++ (zs ++ xs)
 move front z zs xs = sym (append_assoc front (z ∷ []) (zs ++ xs))
 
-behind_of_page : (calls : List OuterCall) (front zs xs : List Item) → AllFrom None zs → place calls (front ++ (zs ++ xs)) (length (front ++ zs)) ≡ place calls (front ++ (zs ++ xs)) (length front) + length (sources zs)
+behind_of_page : (calls : List OuterCall) (front zs xs : List Item) → AllFrom None zs
+    → place calls (front ++ (zs ++ xs)) (length (front ++ zs)) ≡ place calls (front ++ (zs ++ xs)) (length front) + length (sources zs)
 behind_of_page calls front [] xs h = ap (λ ys. place calls (front ++ xs) (length ys)) (append-nil front) ∙ omega arith
 behind_of_page calls front (z ∷ zs) xs h =
     let all = front ++ (z ∷ zs ++ xs) in
@@ -128,7 +130,8 @@ behind_of_page calls front (z ∷ zs) xs h =
     let e : length (front ++ z ∷ zs) ≡ length ((front ++ z ∷ []) ++ zs) = ap length (sym (append_assoc front (z ∷ []) zs)) in
     ap (place calls all) e ∙ omega (arith, r, s, length-append (source z) (sources zs))
 
-behind_of_same : (calls : List OuterCall) (k : ℕ) (front zs xs : List Item) → last_call front ≡ Some k → AllFrom (Some k) zs → place calls (front ++ (zs ++ xs)) (length (front ++ zs)) ≡ place calls (front ++ (zs ++ xs)) (length front)
+behind_of_same : (calls : List OuterCall) (k : ℕ) (front zs xs : List Item) → last_call front ≡ Some k → AllFrom (Some k) zs
+    → place calls (front ++ (zs ++ xs)) (length (front ++ zs)) ≡ place calls (front ++ (zs ++ xs)) (length front)
 behind_of_same calls k front [] xs b h = ap (λ ys. place calls (front ++ xs) (length ys)) (append-nil front)
 behind_of_same calls k front (z ∷ zs) xs b h =
     let all = front ++ (z ∷ zs ++ xs) in
@@ -224,20 +227,24 @@ record Passed (calls : List OuterCall) (all front : List Item) (p : Piece) (ps :
 abbrev spans : List OuterCall → List Piece → List Span
 spans calls ps = map (span_of_origin calls) (once (origins ps))
 
-pass_page : (calls : List OuterCall) (front : List Item) (p : Piece) (ps : List Piece) (at : ℕ) (o : Origin) → p.origin ≡ o → call_of_origin o ≡ None → IsSoundPiece p → FollowFrom at (spans calls (p ∷ ps))
-    → place calls (front ++ (items_of p ++ items ps)) (length front) ≡ at + already calls (last_call front) (call_of_origin p.origin) → Passed calls (front ++ (items_of p ++ items ps)) front p ps at
+pass_page : (calls : List OuterCall) (front : List Item) (p : Piece) (ps : List Piece) (at : ℕ) (o : Origin) → p.origin ≡ o
+    → call_of_origin o ≡ None → IsSoundPiece p → FollowFrom at (spans calls (p ∷ ps))
+    → place calls (front ++ (items_of p ++ items ps)) (length front) ≡ at
+    + already calls (last_call front) (call_of_origin p.origin) → Passed calls (front ++ (items_of p ++ items ps)) front p ps at
 pass_page calls front p ps at (origin.Call k) e none sound f had = absurd cc
 pass_page calls front p ps at (origin.Page r) e none sound f had =
     let all = front ++ (items_of p ++ items ps) in
     let own : call_of_origin p.origin ≡ None = ap call_of_origin e in
-    let cut : spans calls (p ∷ ps) ≡ span_of r ∷ spans calls ps = ap (map (span_of_origin calls)) (once_page (origins ps) p.origin own) ∙ ap (λ q. span_of_origin calls q ∷ spans calls ps) e in
+    let cut : spans calls (p ∷ ps) ≡ span_of r ∷ spans calls ps =
+    ap (map (span_of_origin calls)) (once_page (origins ps) p.origin own) ∙ ap (λ q. span_of_origin calls q ∷ spans calls ps) e in
     let follow = subst (FollowFrom at) cut f in
     let P : Origin → Type 0 = λ q. IsPlaced q (start_of p.text, end_of p.text) in
     let placed : span_of r ≡ (start_of p.text, end_of p.text) = subst P e sound.placed in
     let from : r.start ≡ start_of p.text = ap (λ (s : Span). s.0) placed in
     let to : r.end ≡ end_of p.text = ap (λ (s : Span). s.1) placed in
     let here : place calls all (length front) ≡ at = had ∙ ap (λ c. at + already calls (last_call front) c) own ∙ omega arith in
-    let items_e : AllFrom None (items_of p) = let Q : Option ℕ → Type 0 = λ c. AllFrom c (items_of p) in subst Q own (form_from p.form (call_of_origin p.origin) (bytes_of p.text)) in
+    let items_e : AllFrom None (items_of p) = let Q : Option ℕ → Type 0 = λ c. AllFrom c (items_of p) in
+    subst Q own (form_from p.form (call_of_origin p.origin) (bytes_of p.text)) in
     let some = form_some p.form (call_of_origin p.origin) (bytes_of p.text) sound.whole in
     let text : sources (items_of p) ≡ bytes_of p.text = ap (λ c. sources (items_by p.form c (bytes_of p.text))) own ∙ form_sources p.form (bytes_of p.text) in
     let last : last_call (front ++ items_of p) ≡ None = last_of None front (items_of p) some items_e in
@@ -246,7 +253,9 @@ pass_page calls front p ps at (origin.Page r) e none sound f had =
       begin = subst B (sym e) (here ∙ sym follow.0 ∙ from);
       to = r.end;
       follow = follow.1;
-      place_is = behind_of_page calls front (items_of p) (items ps) items_e ∙ omega (arith, here, follow.0, from, to, ap length text) ∙ ap (λ c. r.end + c) (sym (already_none calls (last_call (front ++ items_of p)) (first_call ps) last));
+      place_is = behind_of_page calls front (items_of p) (items ps) items_e
+          ∙ omega (arith, here, follow.0, from, to, ap length text)
+          ∙ ap (λ c. r.end + c) (sym (already_none calls (last_call (front ++ items_of p)) (first_call ps) last));
       ends = ap (end_of_spans at) cut;
     }
   where
@@ -257,9 +266,11 @@ entry_end : (c : Option OuterCall) (at : ℕ) → (span_of_entry c).0 ≡ at →
 entry_end None at e = omega (arith, e)
 entry_end (Some c) at e = omega (arith, e)
 
-pass_call : (calls : List OuterCall) (front : List Item) (p : Piece) (ps : List Piece) (at k : ℕ) (t : Bool) → p.origin ≡ origin.Call k → IsSoundPiece p → FollowFrom at (spans calls (p ∷ ps))
+pass_call : (calls : List OuterCall) (front : List Item) (p : Piece) (ps : List Piece) (at k : ℕ) (t : Bool)
+    → p.origin ≡ origin.Call k → IsSoundPiece p → FollowFrom at (spans calls (p ∷ ps))
     → same_call (Some k) (first_call ps) ≡ t
-    → place calls (front ++ (items_of p ++ items ps)) (length front) ≡ at + already calls (last_call front) (call_of_origin p.origin) → Passed calls (front ++ (items_of p ++ items ps)) front p ps at
+    → place calls (front ++ (items_of p ++ items ps)) (length front) ≡ at
+    + already calls (last_call front) (call_of_origin p.origin) → Passed calls (front ++ (items_of p ++ items ps)) front p ps at
 pass_call calls front p ps at k t e sound f next had = by_next t next
   where
     all : List Item
@@ -278,7 +289,8 @@ pass_call calls front p ps at k t e sound f next had = by_next t next
     last = last_of (Some k) front (items_of p) some from
 
     behind : place calls all (length (front ++ items_of p)) ≡ at + source_len calls k
-    behind = behind_of_call calls k front (items_of p) (items ps) some from ∙ omega (arith, had, ap (already calls (last_call front)) own, both calls (last_call front) k)
+    behind = behind_of_call calls k front (items_of p) (items ps) some from
+        ∙ omega (arith, had, ap (already calls (last_call front)) own, both calls (last_call front) k)
 
     begin : IsBegin p.origin (place calls all (length front)) (start_of p.text)
     begin = let B : Origin → Type 0 = λ q. IsBegin q (place calls all (length front)) (start_of p.text) in subst B (sym e) tt
@@ -297,7 +309,8 @@ pass_call calls front p ps at k t e sound f next had = by_next t next
           ends = ap (end_of_spans at) cut;
         }
     by_next false g =
-        let cut : spans calls (p ∷ ps) ≡ span_of_entry (slice_get calls k) ∷ spans calls ps = ap (map (span_of_origin calls)) (once_by false g) ∙ ap (λ q. span_of_origin calls q ∷ spans calls ps) e in
+        let cut : spans calls (p ∷ ps) ≡ span_of_entry (slice_get calls k) ∷ spans calls ps =
+        ap (map (span_of_origin calls)) (once_by false g) ∙ ap (λ q. span_of_origin calls q ∷ spans calls ps) e in
         let follow = subst (FollowFrom at) cut f in
         let ends = entry_end (slice_get calls k) at follow.0 in
         record {
@@ -308,13 +321,16 @@ pass_call calls front p ps at k t e sound f next had = by_next t next
           ends = ap (end_of_spans at) cut;
         }
 
-pass : (calls : List OuterCall) (front : List Item) (p : Piece) (ps : List Piece) (at : ℕ) (o : Origin) → p.origin ≡ o → IsSoundPiece p → FollowFrom at (spans calls (p ∷ ps))
-    → place calls (front ++ (items_of p ++ items ps)) (length front) ≡ at + already calls (last_call front) (call_of_origin p.origin) → Passed calls (front ++ (items_of p ++ items ps)) front p ps at
+pass : (calls : List OuterCall) (front : List Item) (p : Piece) (ps : List Piece) (at : ℕ) (o : Origin) → p.origin ≡ o
+    → IsSoundPiece p → FollowFrom at (spans calls (p ∷ ps))
+    → place calls (front ++ (items_of p ++ items ps)) (length front) ≡ at
+    + already calls (last_call front) (call_of_origin p.origin) → Passed calls (front ++ (items_of p ++ items ps)) front p ps at
 pass calls front p ps at (origin.Page r) e sound f had = pass_page calls front p ps at (origin.Page r) e refl sound f had
 pass calls front p ps at (origin.Call k) e sound f had = pass_call calls front p ps at k (same_call (Some k) (first_call ps)) e sound f refl had
 
 stand : (calls : List OuterCall) (ps : List Piece) (front : List Item) (at : ℕ) → All IsSoundPiece ps → FollowFrom at (spans calls ps)
-    → place calls (front ++ items ps) (length front) ≡ at + already calls (last_call front) (first_call ps) → Standing calls (front ++ items ps) (length front) at ps
+    → place calls (front ++ items ps) (length front) ≡ at + already calls (last_call front) (first_call ps)
+    → Standing calls (front ++ items ps) (length front) at ps
 stand calls [] front at sound f had = record {
   begin = tt;
   end = ap (λ xs. place calls (front ++ []) (length xs)) (append-nil front) ∙ had ∙ omega arith;
@@ -352,5 +368,6 @@ whole_standing ps calls ts h = stand calls ps [] 0 h.sound_pieces h.follow (sym 
 pub pieces_begin : (ps : List Piece) (calls : List OuterCall) (ts : List Span) → AreItems ps calls ts → BeginFrom calls (items ps) 0 ps
 pieces_begin ps calls ts h = (whole_standing ps calls ts h).begin
 
-pub page_is_covered : (ps : List Piece) (calls : List OuterCall) (ts : List Span) → AreItems ps calls ts → length (page_of calls (items ps)) ≡ end_of_spans 0 (map (span_of_origin calls) (once (map (λ p. p.origin) ps)))
+pub page_is_covered : (ps : List Piece) (calls : List OuterCall) (ts : List Span) → AreItems ps calls ts
+    → length (page_of calls (items ps)) ≡ end_of_spans 0 (map (span_of_origin calls) (once (map (λ p. p.origin) ps)))
 page_is_covered ps calls ts h = sym (page_place calls (items ps)) ∙ (whole_standing ps calls ts h).end

@@ -1,4 +1,5 @@
 pub mod Agreement
+pub mod Asked
 pub mod Expansion
 pub mod Made
 pub mod PageCalls
@@ -8,4 +9,5 @@ pub mod Stretches
 pub mod Targets
 pub mod Templates
 pub mod Texts
+pub mod Trimmed
 pub mod Work

@@ -1,20 +1,22 @@
-ghost use Rattle.std.specs.Prelude.{◌≡◌, ℕ, suc, List, [], ◌∷◌, None, false, length, map};
+ghost use Rattle.std.specs.Prelude.{◌≡◌, ℕ, suc, List, [], ◌∷◌, ◌++◌, None, Some, false, length, map, take, ◌+◌, Contains};
 ghost use Rattle.std.specs.List.{All};
 ghost use Rattle.wt_span.specs.declared.form.Mode.TheVariants as text_mode;
 ghost use Rattle.wt_span.specs.Braces.{call_count_of_all};
 ghost use Rattle.wt_span.specs.Cuts.{page_of};
-ghost use Rattle.wt_span.specs.Items.{sources, call_of, items};
+ghost use Rattle.wt_span.specs.Items.{Item, sources, call_of, is_char_in, items};
 ghost use Rattle.wt_span.specs.Origins.{AreItems, OuterCall, Span, once, span_of_origin};
 ghost use Rattle.wt_span.specs.declared.form.Piece.{Piece as PieceAt};
 ghost use Rattle.wt_names.specs.declared.title.Title.{Title as TitleOf};
 ghost use Rattle.wt_names.specs.Namespace.{full_name_of};
 ghost use Rattle.wt_expand.specs.Agreement.{AgreeOn};
-ghost use Rattle.wt_expand.specs.Expansion.{Frame, absent_text, chars, page_reading, page_work, template_output, text_given, text_members};
+ghost use Rattle.wt_expand.specs.Asked.{AreArguments, AreOnce, IsLonger};
+ghost use Rattle.wt_expand.specs.Expansion.{Frame, value_of, absent_text, chars, page_reading, page_work, template_output, text_given, text_members};
 ghost use Rattle.wt_expand.specs.PageCalls.{expanded_page};
 ghost use Rattle.wt_expand.specs.PageItems.{page_items};
 ghost use Rattle.wt_expand.specs.PiecePlaces.{BeginFrom, end_of_spans};
-ghost use Rattle.wt_expand.specs.Texts.{shown_text};
-ghost use Rattle.wt_expand.specs.Work.{Pages, fetched, is_among};
+ghost use Rattle.wt_expand.specs.Texts.{is_space, shown_text, trimmed, trimmed_items};
+ghost use Rattle.wt_expand.specs.Trimmed.{IsTrimmed};
+ghost use Rattle.wt_expand.specs.Work.{Entry, Pages, fetched, fetches, is_among, most_bytes, names_asked, template_refusal};
 
 /// The sources of a page's items, joined, are the page, and none comes from a call.
 pub fn whole_page()
@@ -55,4 +57,36 @@ pub fn hangs_on_what_is_fetched()
 /// alone.
 pub fn absent_page_is_a_link()
     ensures { (pages : Pages) (left : ℕ) (titles : List (List ℕ)) (t : TitleOf) (v : Frame) → is_among (full_name_of t) titles ≡ false → pages (full_name_of t) ≡ None → template_output pages (suc left) titles t v ≡ record { items = chars (absent_text (full_name_of t)); work = fetched (full_name_of t) ∷ [] } }
+{}
+
+/// The names that are asked for are those that are fetched, each once; and as the work goes on, names
+/// are appended: so they stand in the order of their first fetch.
+pub fn names_are_asked_once()
+    ensures once { (work : List Entry) → AreOnce (names_asked work) }
+    ensures asked { (work : List Entry) (name : List ℕ) → Contains (fetches work) name → Contains (names_asked work) name }
+    ensures fetched { (work : List Entry) (name : List ℕ) → Contains (names_asked work) name → Contains (fetches work) name }
+    ensures in_order { (work later : List Entry) → IsLonger (names_asked work) (names_asked (work ++ later)) }
+{}
+
+/// A page all whose calls are arguments fetches nothing.
+pub fn arguments_fetch_nothing()
+    ensures { (pages : Pages) (page : List ℕ) → AreArguments (text_members text_mode.Page page) → names_asked (page_work pages page) ≡ [] }
+{}
+
+/// What is trimmed lies between parts that pass the test, and neither its first nor its last member
+/// passes it: of texts, and of items.
+pub fn trimmed_ends()
+    ensures texts { (text : List ℕ) → IsTrimmed is_space text (trimmed text) }
+    ensures items { (xs : List Item) → IsTrimmed (is_char_in is_space) xs (trimmed_items xs) }
+{}
+
+/// Of several values of a name the last one counts.
+pub fn last_value_counts()
+    ensures { (name : List ℕ) (before after : Frame) (v : List Item) → value_of name after ≡ None → value_of name (before ++ (name, v) ∷ after) ≡ Some v }
+{}
+
+/// A page of which only one byte more than a template may have is taken is refused as the whole
+/// page is.
+pub fn cut_page_is_refused()
+    ensures { (title bytes : List ℕ) → template_refusal title (take (most_bytes + 1) bytes) ≡ template_refusal title bytes }
 {}

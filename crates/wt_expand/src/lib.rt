@@ -1,13 +1,16 @@
 //! The items of a page: its characters, atoms and invisible marks, each with where it comes from.
-//! Pages without calls are read so far.
+//! Pages without calls are read so far; what a page with calls means is defined in `specs/`.
 #![tactic(auto)]
 
 mod laws;
 mod page;
 mod piece;
+mod shown;
 
 pub use laws::{
-    absent_page_is_a_link, hangs_on_what_is_fetched, origins_join, pieces_have_places,
-    shows_what_is_given, whole_page, without_calls,
+    absent_page_is_a_link, arguments_fetch_nothing, cut_page_is_refused, hangs_on_what_is_fetched,
+    last_value_counts, names_are_asked_once, origins_join, pieces_have_places, shows_what_is_given,
+    trimmed_ends, whole_page, without_calls,
 };
 pub use page::page_items;
+pub use shown::expanded;

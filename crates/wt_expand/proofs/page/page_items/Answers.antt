@@ -5,10 +5,12 @@ use Rattle.wt_expand.proofs.page.page_items.Goals as goal
 
 pub new-requires-3 : goal.new-requires-3
 new-requires-3 c =
-    page_is_sound c.args.page.now c.in_ok-pieces.pieces c.in_ok-lexemes.lexemes c.as_slice.result.now _ _ c.as_slice.ensures c.in_ok-pieces.ensures c.in_ok-lexemes.ensures.follow c.in_ok-lexemes.ensures.words
+    page_is_sound c.args.page.now c.in_ok-pieces.pieces c.in_ok-lexemes.lexemes c.as_slice.result.now _ _ c.as_slice.ensures
+    c.in_ok-pieces.ensures c.in_ok-lexemes.ensures.follow c.in_ok-lexemes.ensures.words
     (ap (map outer_call) c.new.ensures) (ap (map span_of) c.new-2.ensures)
 
 pub returns-clause-items : goal.returns-clause-items
 returns-clause-items c =
     c.new-3.ensures.items
-    ∙ page_is_whole c.args.page.now c.in_ok-pieces.pieces c.in_ok-lexemes.lexemes c.as_slice.result.now c.as_slice.ensures c.in_ok-pieces.ensures c.in_ok-lexemes.ensures.follow c.in_ok-lexemes.ensures.words
+    ∙ page_is_whole c.args.page.now c.in_ok-pieces.pieces c.in_ok-lexemes.lexemes c.as_slice.result.now c.as_slice.ensures
+    c.in_ok-pieces.ensures c.in_ok-lexemes.ensures.follow c.in_ok-lexemes.ensures.words
