@@ -1,4 +1,4 @@
--- What the element of a group carries.
+-- What the element of a group carries, by its parts: nothing so far.
 use Rattle.std.specs.Prelude.{Option, None, List}
 use Rattle.wt_tree.specs.declared.node.DataMw.{DataMw}
 use Rattle.wt_span.specs.Origins.{OuterCall}
