@@ -15,7 +15,7 @@ use Rattle.wt_checks.specs.Kept.{GroupAsItWas, HoldsTheSame, NodeAsItWas, is_of_
 use Rattle.wt_checks.specs.Marks.{editing, allows, is_wrongly_marked}
 use Rattle.wt_checks.specs.Places.{Place, number, kind_at, is_kept, Condition, Page}
 use Rattle.wt_checks.specs.Unmarked.{own_character, entries, same_entries, holds_same, keeps_data, keeps_face, keeps_children, is_other, is_unmarked_change}
-use Rattle.wt_checks.proofs.Comparisons.{kinds_decide, attrs_decide, data_decide, entries_decide, signs_decide}
+use Rattle.wt_checks.proofs.Compares.{kinds_decide, attrs_decide, data_decide, entries_decide, signs_decide}
 use Rattle.wt_checks.proofs.InOrder.{Nowhere}
 
 -- ---- a condition of a place alone

@@ -1,7 +1,7 @@
 pub mod Alikes
 pub mod AsItWas
 pub mod Cases
-pub mod Comparisons
+pub mod Compares
 pub mod Elements
 pub mod Entries
 pub mod Firsts

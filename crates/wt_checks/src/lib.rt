@@ -18,5 +18,5 @@ mod written;
 
 pub use checking::check;
 pub use editing::Editing;
-pub use laws::what_is_kept;
+pub use laws::{comparisons, what_is_kept};
 pub use refusal::Check;
