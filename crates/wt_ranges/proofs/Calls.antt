@@ -56,7 +56,8 @@ page_none : (all : List Item) (n : ℕ) (xs ys : List Item) → drop n all ≡ x
 page_none all n [] ys e p = refl
 page_none all n (x ∷ xs) ys e p =
     let q = both (is_page x) (list_all is_page xs) p in
-    let first : begun_at all n ≡ [] = ap (λ o. cond (is_free all n) (begun_by n (call_of_item o)) []) (at_get all n x (xs ++ ys) e) ∙ none_by (call_of x) n (is_free all n) q.0 in
+    let first : begun_at all n ≡ [] = ap (λ o. cond (is_free all n) (begun_by n (call_of_item o)) []) (at_get all n x (xs ++ ys) e)
+    ∙ none_by (call_of x) n (is_free all n) q.0 in
     ap (λ bs. bs ++ begun all (suc n) (length xs)) first ∙ page_none all (suc n) xs ys (at_rest all n x (xs ++ ys) e) q.1
 
 pub all_split : (xs ys : List Item) → list_all is_page (xs ++ ys) ≡ true → (list_all is_page xs ≡ true) × (list_all is_page ys ≡ true)
@@ -67,7 +68,8 @@ all_split (x ∷ xs) ys e =
     (rw q.0 r.0, r.1)
 
 -- a clean node's own items are the page's
-own_page : (all : List Item) (n : ℕ) (h : Head) (opening : List Item) (ts : ItemTrees) (closing : List Item) → is_clean all n (inner h opening ts closing) ≡ true
+own_page : (all : List Item) (n : ℕ) (h : Head) (opening : List Item) (ts : ItemTrees) (closing : List Item)
+    → is_clean all n (inner h opening ts closing) ≡ true
     → list_all is_page (own_by (is_leaf h.kind) opening (held_by_all ts) closing) ≡ true
 own_page all n h opening ts closing e =
     let own : Bool = list_all is_page (own_by (is_leaf h.kind) opening (held_by_all ts) closing) in
@@ -87,7 +89,8 @@ abbrev Chain : List Item → ℕ → List Child → Type 0
 Chain all i [] = Unit {0}
 Chain all i (c ∷ cs) = (c.from ≡ i) × (c.clean ≡ true → calls_in_groups all c.whole ≡ begun all c.from c.size) × Chain all (c.from + c.size) cs
 
-chain_rest : (all : List Item) (i : ℕ) (c : Child) (cs others : List Child) → Chain all i (c ∷ cs ++ others) → Chain all (c.from + size_of_all (c ∷ cs)) others
+chain_rest : (all : List Item) (i : ℕ) (c : Child) (cs others : List Child) → Chain all i (c ∷ cs ++ others)
+    → Chain all (c.from + size_of_all (c ∷ cs)) others
 chain_rest all i c [] others h =
     let e : c.from + c.size ≡ c.from + (c.size + 0) = omega arith in
     subst (λ (n : ℕ). Chain all n others) e h.2
@@ -105,7 +108,8 @@ one_by : (all : List Item) (c : Child) (v : Bool) → (v ≡ true → calls_in_g
 one_by all c true g = g refl
 one_by all c false g = refl
 
-runs_calls : (all : List Item) (i : ℕ) (rs : List (List Child)) (cs : List Child) → AreRuns (is_tied all) rs cs → Chain all i cs → calls_in_all_groups all (of_runs rs) ≡ begun all i (size_of_all cs)
+runs_calls : (all : List Item) (i : ℕ) (rs : List (List Child)) (cs : List Child) → AreRuns (is_tied all) rs cs → Chain all i cs
+    → calls_in_all_groups all (of_runs rs) ≡ begun all i (size_of_all cs)
 runs_calls all i [] cs h k = sym (ap (λ ds. begun all i (size_of_all ds)) h)
 runs_calls all i ([] ∷ rs) cs h k = absurd h.2
 runs_calls all i ((c ∷ []) ∷ rs) cs h k =
@@ -129,20 +133,24 @@ children_size all n nothing = refl
 children_size all n (further t ts) = omega (arith, children_size all (n + length (held t)) ts, length-append (held t) (held_by_all ts))
 
 -- a node by its three parts, of which the first and the last begin no call
-node_by : (all : List Item) (is : Bool) (n : ℕ) (opening inside closing after : List Item) (bs : List Begun) → drop n all ≡ (opening ++ (inside ++ closing)) ++ after
+node_by : (all : List Item) (is : Bool) (n : ℕ) (opening inside closing after : List Item) (bs : List Begun)
+    → drop n all ≡ (opening ++ (inside ++ closing)) ++ after
     → list_all is_page (own_by is opening inside closing) ≡ true → bs ≡ begun all (n + length opening) (length inside)
     → cond is [] bs ≡ begun all n (length (opening ++ (inside ++ closing)))
 node_by all true n opening inside closing after bs e p g = sym (page_none all n (opening ++ (inside ++ closing)) after e p)
 node_by all false n opening inside closing after bs e p g =
     let q = all_split opening closing p in
     let one : drop n all ≡ opening ++ ((inside ++ closing) ++ after) = e ∙ append_assoc opening (inside ++ closing) after in
-    let two : drop (n + length opening) all ≡ inside ++ (closing ++ after) = behind all n opening ((inside ++ closing) ++ after) one ∙ append_assoc inside closing after in
+    let two : drop (n + length opening) all ≡ inside ++ (closing ++ after) = behind all n opening ((inside ++ closing) ++ after) one
+    ∙ append_assoc inside closing after in
     let three : drop (n + length opening + length inside) all ≡ closing ++ after = behind all (n + length opening) inside (closing ++ after) two in
     let first : begun all n (length opening) ≡ [] = page_none all n opening ((inside ++ closing) ++ after) one q.0 in
-    let last : begun all (n + length opening + length inside) (length closing) ≡ [] = page_none all (n + length opening + length inside) closing after three q.1 in
+    let last : begun all (n + length opening + length inside) (length closing) ≡ [] =
+    page_none all (n + length opening + length inside) closing after three q.1 in
     let i : ℕ = length inside in
     let c : ℕ = length closing in
-    let m : length (opening ++ (inside ++ closing)) ≡ length opening + (i + c) = omega (arith, length-append opening (inside ++ closing), length-append inside closing) in
+    let m : length (opening ++ (inside ++ closing)) ≡ length opening + (i + c) =
+    omega (arith, length-append opening (inside ++ closing), length-append inside closing) in
     g
     ∙ sym (append-nil (begun all (n + length opening) i))
     ∙ ap (λ xs. begun all (n + length opening) i ++ xs) (sym last)
@@ -152,20 +160,27 @@ node_by all false n opening inside closing after bs e p g =
     ∙ ap (begun all n) (sym m)
 
 mutual
-  pub calls_at : (all : List Item) (n : ℕ) (t : ItemTree) (after : List Item) → drop n all ≡ held t ++ after → is_clean all n t ≡ true → calls_in_groups all (grouped all n t) ≡ begun all n (length (held t))
+  pub calls_at : (all : List Item) (n : ℕ) (t : ItemTree) (after : List Item) → drop n all ≡ held t ++ after → is_clean all n t ≡ true
+      → calls_in_groups all (grouped all n t) ≡ begun all n (length (held t))
   calls_at all n (inner h o ts c) after e q =
       let cs : List Child = children all (n + length o) ts in
       let one : drop n all ≡ o ++ ((held_by_all ts ++ c) ++ after) = e ∙ append_assoc o (held_by_all ts ++ c) after in
-      let two : drop (n + length o) all ≡ held_by_all ts ++ (c ++ after) = behind all n o ((held_by_all ts ++ c) ++ after) one ∙ append_assoc (held_by_all ts) c after in
+      let two : drop (n + length o) all ≡ held_by_all ts ++ (c ++ after) = behind all n o ((held_by_all ts ++ c) ++ after) one
+      ∙ append_assoc (held_by_all ts) c after in
       let g : calls_in_all_groups all (of_runs (runs (is_tied all) cs)) ≡ begun all (n + length o) (length (held_by_all ts)) =
-      runs_calls all (n + length o) (runs (is_tied all) cs) cs (runs_are (is_tied all) cs) (chained all (n + length o) ts (c ++ after) two) ∙ ap (begun all (n + length o)) (children_size all (n + length o) ts) in
+      runs_calls all (n + length o) (runs (is_tied all) cs) cs (runs_are (is_tied all) cs) (chained all (n + length o) ts (c ++ after) two)
+      ∙ ap (begun all (n + length o)) (children_size all (n + length o) ts) in
       node_by all (is_leaf h.kind) n o (held_by_all ts) c after (calls_in_all_groups all (of_runs (runs (is_tied all) cs))) e (own_page all n h o ts c q) g
 
   pub chained : (all : List Item) (n : ℕ) (ts : ItemTrees) (after : List Item) → drop n all ≡ held_by_all ts ++ after → Chain all n (children all n ts)
   chained all n nothing after e = tt
   chained all n (further t ts) after e =
-      let one : drop n all ≡ held t ++ (held_by_all ts ++ after) = e ∙ append_assoc (held t) (held_by_all ts) after in
-      (refl, λ q. calls_at all n t (held_by_all ts ++ after) one q, chained all (n + length (held t)) ts after (behind all n (held t) (held_by_all ts ++ after) one))
+      let one : drop n all ≡ held t ++ (held_by_all ts ++ after) = e ∙ append_assoc (held t) (held_by_all ts) after in (
+        refl,
+        λ q. calls_at all n t (held_by_all ts ++ after) one q,
+        chained all (n + length (held t)) ts after
+            (behind all n (held t) (held_by_all ts ++ after) one),
+      )
 
 pub all_calls : (t : ItemTree) → is_clean (held t) 0 t ≡ true → calls_in_groups (held t) (grouped (held t) 0 t) ≡ begun (held t) 0 (length (held t))
 all_calls t q = calls_at (held t) 0 t [] (sym (append-nil (held t))) q

@@ -58,7 +58,8 @@ unfolding annotated label_at
 in_text = refl
 
 -- `{{{{{x}}}}}`: text, an argument, text
-argument : lines_of (call (codes "{{{x}}}") ∷ []) (body (para (text (page (codes "{{")) ∷ text (given 0 (codes "{{{x}}}")) ∷ text (page (codes "}}")) ∷ []) ∷ []))
+argument : lines_of (call (codes "{{{x}}}") ∷ [])
+    (body (para (text (page (codes "{{")) ∷ text (given 0 (codes "{{{x}}}")) ∷ text (page (codes "}}")) ∷ []) ∷ []))
     ≡ line 0 kind.Body 0 11 0 0 ∷ line 1 kind.Para 0 11 0 0 ∷ line 0 kind.Text 0 2 0 0 ∷ line 2 kind.Group 2 9 0 0 ∷ line 0 kind.Text 9 11 0 0 ∷ []
 unfolding annotated label_at
 argument = refl
@@ -75,7 +76,8 @@ table_calls = call (codes "{{Ts}}") ∷ call (codes "{{Te}}") ∷ []
 
 abbrev table_page : ItemTree
 table_page = body (node kind.Table (given 0 (codes "{|"))
-    (sep (page (codes "\n")) ∷ node kind.Tbody [] (node kind.Tr [] (node kind.Td (page (codes "| ")) (text (page (codes "a")) ∷ []) [] ∷ []) [] ∷ []) [] ∷ sep (page (codes "\n")) ∷ [])
+    (sep (page (codes "\n")) ∷ node kind.Tbody [] (node kind.Tr [] (node kind.Td (page (codes "| ")) (text (page (codes "a")) ∷ []) [] ∷ []) [] ∷ []) []
+    ∷ sep (page (codes "\n")) ∷ [])
     (given 1 (codes "|}")) ∷ [])
 
 table : lines_of table_calls table_page ≡ line 0 kind.Body 0 17 0 0 ∷ line 1 kind.Group 0 17 0 0 ∷ []
@@ -86,7 +88,8 @@ table_parts : parts table_calls (held table_page) 0 9 ≡ called 0 ∷ between (
 table_parts = refl
 
 -- X = `''`, page `a {{x}} b`
-toggle : lines_of (call (codes "{{x}}") ∷ []) (body (para (text (page (codes "a ")) ∷ node kind.Italic (given 0 (codes "''")) (text (page (codes " b")) ∷ []) [] ∷ []) ∷ []))
+toggle : lines_of (call (codes "{{x}}") ∷ [])
+    (body (para (text (page (codes "a ")) ∷ node kind.Italic (given 0 (codes "''")) (text (page (codes " b")) ∷ []) [] ∷ []) ∷ []))
     ≡ line 0 kind.Body 0 9 0 0 ∷ line 1 kind.Para 0 9 0 0 ∷ line 0 kind.Text 0 2 0 0 ∷ line 2 kind.Group 2 9 0 0 ∷ []
 unfolding annotated label_at
 toggle = refl
@@ -109,15 +112,18 @@ two_calls = refl
 
 -- a heading half of which a call gives, and the paragraph behind it from the same call: one group
 heading : lines_of (call (codes "{{x}}") ∷ [])
-    (body (node (kind.Heading 1) (page (codes "=")) (text (page (codes "a")) ∷ []) (given 0 (codes "=")) ∷ sep (given 0 (codes "\n")) ∷ para (text (given 0 (codes "b")) ∷ text (page (codes "c")) ∷ []) ∷ []))
+    (body (node (kind.Heading 1) (page (codes "=")) (text (page (codes "a")) ∷ []) (given 0 (codes "=")) ∷ sep (given 0 (codes "\n"))
+    ∷ para (text (given 0 (codes "b")) ∷ text (page (codes "c")) ∷ []) ∷ []))
     ≡ line 0 kind.Body 0 8 0 0 ∷ line 1 kind.Group 0 8 0 0 ∷ []
 unfolding annotated label_at
 heading = refl
 
 -- a call that gives nothing between two paragraphs
 empty_call : lines_of (call (codes "{{x}}") ∷ [])
-    (body (para (text (page (codes "a")) ∷ []) ∷ sep (page (codes "\n")) ∷ leaf (plain kind.Empty) (whole form.EmptyCall (Some 0) (codes "{{x}}") ∷ []) ∷ sep (page (codes "\n")) ∷ para (text (page (codes "b")) ∷ []) ∷ []))
-    ≡ line 0 kind.Body 0 9 0 0 ∷ line 1 kind.Para 0 1 0 0 ∷ line 0 kind.Text 0 1 0 0 ∷ line 0 kind.Sep 1 2 0 0 ∷ line 2 kind.Group 2 7 0 0 ∷ line 0 kind.Sep 7 8 0 0 ∷ line 3 kind.Para 8 9 0 0 ∷ line 0 kind.Text 8 9 0 0 ∷ []
+    (body (para (text (page (codes "a")) ∷ []) ∷ sep (page (codes "\n")) ∷ leaf (plain kind.Empty) (whole form.EmptyCall (Some 0) (codes "{{x}}") ∷ [])
+    ∷ sep (page (codes "\n")) ∷ para (text (page (codes "b")) ∷ []) ∷ []))
+    ≡ line 0 kind.Body 0 9 0 0 ∷ line 1 kind.Para 0 1 0 0 ∷ line 0 kind.Text 0 1 0 0 ∷ line 0 kind.Sep 1 2 0 0 ∷ line 2 kind.Group 2 7 0 0
+    ∷ line 0 kind.Sep 7 8 0 0 ∷ line 3 kind.Para 8 9 0 0 ∷ line 0 kind.Text 8 9 0 0 ∷ []
 unfolding annotated label_at
 empty_call = refl
 
@@ -128,12 +134,15 @@ unfolding annotated label_at
 empty_style = refl
 
 -- an entity within the `nowiki` of the page is a node, and a `nowiki` of a call is a group
-raw_page : lines_of [] (body (node kind.Nowiki (page (codes "<nowiki>")) (text (page (codes "a")) ∷ leaf (plain kind.Entity) (whole (form.Entity 60) None (codes "&lt;") ∷ []) ∷ []) (page (codes "</nowiki>")) ∷ []))
+raw_page : lines_of [] (body (node kind.Nowiki (page (codes "<nowiki>"))
+    (text (page (codes "a")) ∷ leaf (plain kind.Entity) (whole (form.Entity 60) None (codes "&lt;") ∷ []) ∷ []) (page (codes "</nowiki>")) ∷ []))
     ≡ line 0 kind.Body 0 22 0 0 ∷ line 1 kind.Nowiki 0 22 8 9 ∷ line 0 kind.Text 8 9 0 0 ∷ line 2 kind.Entity 9 13 4 0 ∷ []
 unfolding annotated label_at
 raw_page = refl
 
-raw_call : lines_of (call (codes "{{x}}") ∷ []) (body (para (text (page (codes "a")) ∷ node kind.Nowiki (given 0 (codes "<nowiki>")) (text (given 0 (codes "b")) ∷ []) (given 0 (codes "</nowiki>")) ∷ []) ∷ []))
+raw_call : lines_of (call (codes "{{x}}") ∷ [])
+    (body (para (text (page (codes "a")) ∷ node kind.Nowiki (given 0 (codes "<nowiki>")) (text (given 0 (codes "b")) ∷ []) (given 0 (codes "</nowiki>"))
+    ∷ []) ∷ []))
     ≡ line 0 kind.Body 0 6 0 0 ∷ line 1 kind.Para 0 6 0 0 ∷ line 0 kind.Text 0 1 0 0 ∷ line 2 kind.Group 1 6 0 0 ∷ []
 unfolding annotated label_at
 raw_call = refl

@@ -28,10 +28,12 @@ not_false false e = false_true (sym e)
 abbrev pub FreePlaces : List Item → ℕ → ℕ → ℕ → ℕ → Type 0
 FreePlaces all n o i c = (is_free all n ≡ true) × (is_free all (n + o) ≡ true) × (is_free all (n + o + i) ≡ true) × (is_free all (n + o + i + c) ≡ true)
 
-pub clean_places : (all : List Item) (n : ℕ) (h : Head) (opening : List Item) (ts : ItemTrees) (closing : List Item) → is_clean all n (inner h opening ts closing) ≡ true
+pub clean_places : (all : List Item) (n : ℕ) (h : Head) (opening : List Item) (ts : ItemTrees) (closing : List Item)
+    → is_clean all n (inner h opening ts closing) ≡ true
     → FreePlaces all n (length opening) (length (held_by_all ts)) (length closing)
 clean_places all n h opening ts closing e =
-    let own : Bool = list_all is_page (own_by (is_leaf h.kind) opening (held_by_all ts) closing) && (is_body h.kind || list_any is_page (opening ++ (held_by_all ts ++ closing))) in
+    let own : Bool = list_all is_page (own_by (is_leaf h.kind) opening (held_by_all ts) closing)
+    && (is_body h.kind || list_any is_page (opening ++ (held_by_all ts ++ closing))) in
     let d : Bool = is_free all (n + length opening + length (held_by_all ts) + length closing) in
     let c : Bool = is_free all (n + length opening + length (held_by_all ts)) in
     let b : Bool = is_free all (n + length opening) in
@@ -51,7 +53,8 @@ abbrev pub Chain : List Item → ℕ → List Child → ℕ → Type 0
 Chain all i [] j = i ≡ j
 Chain all i (c ∷ cs) j = (c.from ≡ i) × (c.clean ≡ true → Stands all c) × Chain all (c.from + c.size) cs j
 
-chain_rest : (all : List Item) (i j : ℕ) (c : Child) (cs others : List Child) → Chain all i (c ∷ cs ++ others) j → Chain all (c.from + size_of_all (c ∷ cs)) others j
+chain_rest : (all : List Item) (i j : ℕ) (c : Child) (cs others : List Child) → Chain all i (c ∷ cs ++ others) j
+    → Chain all (c.from + size_of_all (c ∷ cs)) others j
 chain_rest all i j c [] others h =
     let e : c.from + c.size ≡ c.from + (c.size + 0) = omega arith in
     subst (λ (n : ℕ). Chain all n others j) e h.2
@@ -61,7 +64,8 @@ chain_rest all i j c (d ∷ ds) others h =
     subst (λ (n : ℕ). Chain all n others j) e (chain_rest all (c.from + c.size) j d ds others h.2)
 
 -- behind a run the cut is free
-run_end : (all : List Item) (n j : ℕ) (r others : List Child) → IsRun (is_tied all) r others → Chain all n others j → is_free all j ≡ true → is_free all n ≡ true
+run_end : (all : List Item) (n j : ℕ) (r others : List Child) → IsRun (is_tied all) r others → Chain all n others j → is_free all j ≡ true
+    → is_free all n ≡ true
 run_end all n j [] others h k f = absurd h
 run_end all n j (c ∷ []) [] h k f = subst (λ (m : ℕ). is_free all m ≡ true) (sym k) f
 run_end all n j (c ∷ []) (d ∷ others) h k f = subst (λ (m : ℕ). is_free all m ≡ true) k.0 (not_false (is_free all d.from) h)
@@ -70,7 +74,8 @@ run_end all n j (c ∷ d ∷ ds) others h k f = run_end all n j (d ∷ ds) other
 abbrev Done : List Item → GroupedAll → ℕ → ℕ → Type 0
 Done all gs i j = FillFrom gs i j × AllAtFreeCuts all gs
 
-one_done : (all : List Item) (c : Child) (gs : GroupedAll) (j : ℕ) (v : Bool) → (v ≡ true → Stands all c) → is_free all c.from ≡ true → is_free all (c.from + c.size) ≡ true → Done all gs (c.from + c.size) j
+one_done : (all : List Item) (c : Child) (gs : GroupedAll) (j : ℕ) (v : Bool) → (v ≡ true → Stands all c) → is_free all c.from ≡ true
+    → is_free all (c.from + c.size) ≡ true → Done all gs (c.from + c.size) j
     → Done all (along (cond v c.whole (group c.from c.size (further c.tree nothing))) gs) c.from j
 one_done all c gs j true g f e d =
     let s : Stands all c = g refl in
@@ -78,7 +83,8 @@ one_done all c gs j true g f e d =
     ((s.0, s.2, subst (λ (n : ℕ). FillFrom gs n j) m d.0), (s.3, d.1))
 one_done all c gs j false g f e d = ((refl, tt, d.0), ((f, e), d.1))
 
-runs_done : (all : List Item) (i j : ℕ) (rs : List (List Child)) (cs : List Child) → AreRuns (is_tied all) rs cs → Chain all i cs j → is_free all i ≡ true → is_free all j ≡ true → Done all (of_runs rs) i j
+runs_done : (all : List Item) (i j : ℕ) (rs : List (List Child)) (cs : List Child) → AreRuns (is_tied all) rs cs → Chain all i cs j → is_free all i ≡ true
+    → is_free all j ≡ true → Done all (of_runs rs) i j
 runs_done all i j [] cs h k f e =
     let q : Chain all i [] j = subst (λ (ds : List Child). Chain all i ds j) h k in
     (q, tt)
@@ -87,7 +93,8 @@ runs_done all i j ((c ∷ []) ∷ rs) cs h k f e =
     let l : Chain all i (c ∷ h.0) j = subst (λ (ds : List Child). Chain all i ds j) h.1 k in
     let s : is_free all c.from ≡ true = subst (λ (n : ℕ). is_free all n ≡ true) (sym l.0) f in
     let m : is_free all (c.from + c.size) ≡ true = run_end all (c.from + c.size) j (c ∷ []) h.0 h.2 l.2 e in
-    subst (λ (n : ℕ). Done all (of_runs ((c ∷ []) ∷ rs)) n j) l.0 (one_done all c (of_runs rs) j c.clean l.1 s m (runs_done all (c.from + c.size) j rs h.0 h.3 l.2 m e))
+    subst (λ (n : ℕ). Done all (of_runs ((c ∷ []) ∷ rs)) n j) l.0
+    (one_done all c (of_runs rs) j c.clean l.1 s m (runs_done all (c.from + c.size) j rs h.0 h.3 l.2 m e))
 runs_done all i j ((c ∷ d ∷ ds) ∷ rs) cs h k f e =
     let l : Chain all i (c ∷ d ∷ ds ++ h.0) j = subst (λ (es : List Child). Chain all i es j) h.1 k in
     let x : ℕ = c.from + size_of_all (c ∷ d ∷ ds) in
@@ -110,14 +117,20 @@ mutual
   stand all n (inner h o ts c) e =
       let p : FreePlaces all n (length o) (length (held_by_all ts)) (length c) = clean_places all n h o ts c e in
       let cs : List Child = children all (n + length o) ts in
-      let d = runs_done all (n + length o) (n + length o + length (held_by_all ts)) (runs (is_tied all) cs) cs (runs_are (is_tied all) cs) (chained all (n + length o) ts) p.1 p.2 in
+      let d = runs_done all (n + length o) (n + length o + length (held_by_all ts)) (runs (is_tied all) cs) cs (runs_are (is_tied all) cs)
+      (chained all (n + length o) ts) p.1 p.2 in
       (d.0, (p.0, p.1, p.2, p.3, d.1))
 
   pub chained : (all : List Item) (n : ℕ) (ts : ItemTrees) → Chain all n (children all n ts) (n + length (held_by_all ts))
   chained all n nothing = omega arith
   chained all n (further t ts) =
-      let e : n + length (held t) + length (held_by_all ts) ≡ n + length (held t ++ held_by_all ts) = omega (arith, length-append (held t) (held_by_all ts)) in
-      (refl, λ q. (start_is all n t, size_is all n t, (stand all n t q).0, (stand all n t q).1), subst (λ (m : ℕ). Chain all (n + length (held t)) (children all (n + length (held t)) ts) m) e (chained all (n + length (held t)) ts))
+      let e : n + length (held t) + length (held_by_all ts) ≡ n + length (held t ++ held_by_all ts) =
+      omega (arith, length-append (held t) (held_by_all ts)) in (
+        refl,
+        λ q. (start_is all n t, size_is all n t, (stand all n t q).0, (stand all n t q).1),
+        subst
+            (λ (m : ℕ). Chain all (n + length (held t)) (children all (n + length (held t)) ts) m) e (chained all (n + length (held t)) ts),
+      )
 
 -- ---- the body of a page is clean
 

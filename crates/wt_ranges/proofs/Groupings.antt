@@ -61,11 +61,13 @@ child_near : (calls : List OuterCall) (cs : List Child) → child_nodes cs ≡ n
 child_near calls [] = refl
 child_near calls (c ∷ cs) = ap (λ n. nodes_in (item_tree c.tree) + n) (child_near calls cs)
 
-near_is : (calls : List OuterCall) (o : Option ℕ) (at : ℕ) (p : Option ℕ) (ts : ItemTrees) → near_size (near calls (group_data calls) o at p ts) ≡ nodes_in_all ts
+near_is : (calls : List OuterCall) (o : Option ℕ) (at : ℕ) (p : Option ℕ) (ts : ItemTrees)
+    → near_size (near calls (group_data calls) o at p ts) ≡ nodes_in_all ts
 near_is calls o at p nothing = refl
 near_is calls o at p (further t ts) = ap (λ n. nodes_in t + n) (near_is calls (last_of o (held t)) (at + length (text_from calls o (held t))) p ts)
 
-pub fewer : (calls : List OuterCall) (n : PieceTree) (o : Option ℕ) (at : ℕ) (p : Option ℕ) (cs : List Child) (rs : List Run) → nears_of calls cs ≡ children_at calls o at p (item_trees (out-PieceTree n).children) → AreRunsOf rs cs → 2 + runs_size rs < nodes_in (item_tree n)
+pub fewer : (calls : List OuterCall) (n : PieceTree) (o : Option ℕ) (at : ℕ) (p : Option ℕ) (cs : List Child) (rs : List Run)
+    → nears_of calls cs ≡ children_at calls o at p (item_trees (out-PieceTree n).children) → AreRunsOf rs cs → 2 + runs_size rs < nodes_in (item_tree n)
 fewer calls n o at p cs rs e a =
     let ts : ItemTrees = forest (item_trees (out-PieceTree n).children) in
     let s : runs_size rs ≡ nodes_in_all ts = runs_joined rs ∙ ap child_nodes a.joined ∙ child_near calls cs ∙ ap near_size e ∙ near_is calls o at p ts in
@@ -88,53 +90,68 @@ nears_held calls o at p (further t ts) = ap (further t) (nears_held calls (last_
 
 held_append : (cs ds : List Near) → held_by_all (near_nodes (cs ++ ds)) ≡ held_by_all (near_nodes cs) ++ held_by_all (near_nodes ds)
 held_append [] ds = refl
-held_append (c ∷ cs) ds = ap (λ xs. held c.tree ++ xs) (held_append cs ds) ∙ sym (append_assoc (held c.tree) (held_by_all (near_nodes cs)) (held_by_all (near_nodes ds)))
+held_append (c ∷ cs) ds = ap (λ xs. held c.tree ++ xs) (held_append cs ds)
+    ∙ sym (append_assoc (held c.tree) (held_by_all (near_nodes cs)) (held_by_all (near_nodes ds)))
 
 -- the bytes and the call behind some of them
 abbrev bytes_of_all : List OuterCall → Option ℕ → List Near → ℕ
 bytes_of_all calls o cs = length (text_from calls o (held_by_all (near_nodes cs)))
 
-bytes_more : (calls : List OuterCall) (o : Option ℕ) (xs ys : List Item) → length (text_from calls o (xs ++ ys)) ≡ length (text_from calls o xs) + length (text_from calls (last_of o xs) ys)
+bytes_more : (calls : List OuterCall) (o : Option ℕ) (xs ys : List Item)
+    → length (text_from calls o (xs ++ ys)) ≡ length (text_from calls o xs) + length (text_from calls (last_of o xs) ys)
 bytes_more calls o xs ys = ap length (text_append_from calls o xs ys) ∙ length-append (text_from calls o xs) (text_from calls (last_of o xs) ys)
 
-sits_rest : (calls : List OuterCall) (o : Option ℕ) (at : ℕ) (cs ds : List Near) → Sits calls o at (cs ++ ds) → Sits calls (last_of o (held_by_all (near_nodes cs))) (at + bytes_of_all calls o cs) ds
+sits_rest : (calls : List OuterCall) (o : Option ℕ) (at : ℕ) (cs ds : List Near) → Sits calls o at (cs ++ ds)
+    → Sits calls (last_of o (held_by_all (near_nodes cs))) (at + bytes_of_all calls o cs) ds
 sits_rest calls o at [] ds s = let e : at ≡ at + 0 = omega arith in subst (λ (n : ℕ). Sits calls o n ds) e s
 sits_rest calls o at (c ∷ cs) ds s =
     let r = sits_rest calls (last_of o (held c.tree)) (at + length (text_from calls o (held c.tree))) cs ds s.2 in
-    let a : last_of (last_of o (held c.tree)) (held_by_all (near_nodes cs)) ≡ last_of o (held_by_all (near_nodes (c ∷ cs))) = sym (last_append o (held c.tree) (held_by_all (near_nodes cs))) in
-    let b : at + length (text_from calls o (held c.tree)) + bytes_of_all calls (last_of o (held c.tree)) cs ≡ at + bytes_of_all calls o (c ∷ cs) = omega (arith, bytes_more calls o (held c.tree) (held_by_all (near_nodes cs))) in
+    let a : last_of (last_of o (held c.tree)) (held_by_all (near_nodes cs)) ≡ last_of o (held_by_all (near_nodes (c ∷ cs))) =
+    sym (last_append o (held c.tree) (held_by_all (near_nodes cs))) in
+    let b : at + length (text_from calls o (held c.tree)) + bytes_of_all calls (last_of o (held c.tree)) cs ≡ at + bytes_of_all calls o (c ∷ cs) =
+    omega (arith, bytes_more calls o (held c.tree) (held_by_all (near_nodes cs))) in
     subst (λ (n : ℕ). Sits calls (last_of o (held_by_all (near_nodes (c ∷ cs)))) n ds) b
     (subst (λ (q : Option ℕ). Sits calls q (at + length (text_from calls o (held c.tree)) + bytes_of_all calls (last_of o (held c.tree)) cs) ds) a r)
 
-bytes_parts : (calls : List OuterCall) (o : Option ℕ) (cs ds : List Near) → bytes_of_all calls o (cs ++ ds) ≡ bytes_of_all calls o cs + bytes_of_all calls (last_of o (held_by_all (near_nodes cs))) ds
-bytes_parts calls o cs ds = ap (λ xs. length (text_from calls o xs)) (held_append cs ds) ∙ bytes_more calls o (held_by_all (near_nodes cs)) (held_by_all (near_nodes ds))
+bytes_parts : (calls : List OuterCall) (o : Option ℕ) (cs ds : List Near)
+    → bytes_of_all calls o (cs ++ ds) ≡ bytes_of_all calls o cs + bytes_of_all calls (last_of o (held_by_all (near_nodes cs))) ds
+bytes_parts calls o cs ds = ap (λ xs. length (text_from calls o xs)) (held_append cs ds)
+    ∙ bytes_more calls o (held_by_all (near_nodes cs)) (held_by_all (near_nodes ds))
 
-first_fits : (calls : List OuterCall) (o : Option ℕ) (at : ℕ) (cs ds : List Near) → Sits calls o at (cs ++ ds) → at + bytes_of_all calls o cs < 2 ^ 32 → NearsFit calls cs
+first_fits : (calls : List OuterCall) (o : Option ℕ) (at : ℕ) (cs ds : List Near) → Sits calls o at (cs ++ ds) → at + bytes_of_all calls o cs < 2 ^ 32
+    → NearsFit calls cs
 first_fits calls o at [] ds s w = tt
 first_fits calls o at (c ∷ cs) ds s w =
     let e : bytes_of_all calls c.before (c ∷ cs) ≡ bytes_of_all calls o (c ∷ cs) = ap (λ (q : Option ℕ). bytes_of_all calls q (c ∷ cs)) s.0 in
     omega (arith, s.1, w, e)
 
-runs_fit : (calls : List OuterCall) (o : Option ℕ) (at : ℕ) (rs : List Run) (cs : List Child) → flat_map run_children rs ≡ cs → Sits calls o at (nears_of calls cs) → at + bytes_of_all calls o (nears_of calls cs) < 2 ^ 32 → AllByRecursion (RunFits calls) rs
+runs_fit : (calls : List OuterCall) (o : Option ℕ) (at : ℕ) (rs : List Run) (cs : List Child) → flat_map run_children rs ≡ cs
+    → Sits calls o at (nears_of calls cs) → at + bytes_of_all calls o (nears_of calls cs) < 2 ^ 32 → AllByRecursion (RunFits calls) rs
 runs_fit calls o at [] cs e s w = tt
 runs_fit calls o at (r ∷ rs) cs e s w =
     let one : List Near = nears_of calls (run_children r) in
     let rest : List Near = nears_of calls (flat_map run_children rs) in
     let m : nears_of calls cs ≡ one ++ rest = ap (nears_of calls) (sym e) ∙ map-append (near_of calls) (run_children r) (flat_map run_children rs) in
     let t : Sits calls o at (one ++ rest) = subst (λ (ns : List Near). Sits calls o at ns) m s in
-    let v : bytes_of_all calls o (nears_of calls cs) ≡ bytes_of_all calls o one + bytes_of_all calls (last_of o (held_by_all (near_nodes one))) rest = ap (bytes_of_all calls o) m ∙ bytes_parts calls o one rest in (
+    let v : bytes_of_all calls o (nears_of calls cs) ≡ bytes_of_all calls o one + bytes_of_all calls (last_of o (held_by_all (near_nodes one))) rest =
+    ap (bytes_of_all calls o) m ∙ bytes_parts calls o one rest in (
       first_fits calls o at one rest t (omega (arith, v, w)),
-      runs_fit calls (last_of o (held_by_all (near_nodes one))) (at + bytes_of_all calls o one) rs (flat_map run_children rs) refl (sits_rest calls o at one rest t) (omega (arith, v, w)),
+      runs_fit calls (last_of o (held_by_all (near_nodes one))) (at + bytes_of_all calls o one) rs (flat_map run_children rs) refl
+          (sits_rest calls o at one rest t) (omega (arith, v, w)),
     )
 
-pub all_fit : (calls : List OuterCall) (o : Option ℕ) (at : ℕ) (p : Option ℕ) (ts : List ItemTree) (cs : List Child) (rs : List Run) → nears_of calls cs ≡ children_at calls o at p ts → at + length (text_from calls o (held_by_all (forest ts))) < 2 ^ 32 → AreRunsOf rs cs → AllByRecursion (RunFits calls) rs
+pub all_fit : (calls : List OuterCall) (o : Option ℕ) (at : ℕ) (p : Option ℕ) (ts : List ItemTree) (cs : List Child) (rs : List Run)
+    → nears_of calls cs ≡ children_at calls o at p ts → at + length (text_from calls o (held_by_all (forest ts))) < 2 ^ 32 → AreRunsOf rs cs
+    → AllByRecursion (RunFits calls) rs
 all_fit calls o at p ts cs rs e w a =
     let s : Sits calls o at (nears_of calls cs) = subst (λ (ns : List Near). Sits calls o at ns) (sym e) (nears_sit calls o at p (forest ts)) in
-    let b : bytes_of_all calls o (nears_of calls cs) ≡ length (text_from calls o (held_by_all (forest ts))) = ap (bytes_of_all calls o) e ∙ ap (λ us. length (text_from calls o (held_by_all us))) (nears_held calls o at p (forest ts)) in
+    let b : bytes_of_all calls o (nears_of calls cs) ≡ length (text_from calls o (held_by_all (forest ts))) = ap (bytes_of_all calls o) e
+    ∙ ap (λ us. length (text_from calls o (held_by_all us))) (nears_held calls o at p (forest ts)) in
     runs_fit calls o at rs cs a.joined s (omega (arith, w, b))
 
 -- the inside of a node that fits
-pub inside_fits : (calls : List OuterCall) (c : Child) (f : Frame) → Fits calls c → IsFrame calls c f → f.byte + length (text_from calls f.before (held_by_all (forest (item_trees (out-PieceTree c.tree).children)))) < 2 ^ 32
+pub inside_fits : (calls : List OuterCall) (c : Child) (f : Frame) → Fits calls c → IsFrame calls c f
+    → f.byte + length (text_from calls f.before (held_by_all (forest (item_trees (out-PieceTree c.tree).children)))) < 2 ^ 32
 inside_fits calls c f h g =
     let i : List Item = held_by_all (forest (item_trees (out-PieceTree c.tree).children)) in
     let e : length (text_from calls f.before i) ≡ length (text_from calls (opened c.before c.tree) i) = ap (λ o. length (text_from calls o i)) g.before in
@@ -143,7 +160,8 @@ inside_fits calls c f h g =
 -- a child that is a run by itself
 pub alone_fits : (calls : List OuterCall) (c : Child) → NearsFit calls (nears_of calls (c ∷ [])) → Fits calls c
 alone_fits calls c h =
-    let e : length (text_from calls c.before (held (item_tree c.tree) ++ [])) ≡ length (text_from calls c.before (held (item_tree c.tree))) = ap (λ xs. length (text_from calls c.before xs)) (append-nil (held (item_tree c.tree))) in
+    let e : length (text_from calls c.before (held (item_tree c.tree) ++ [])) ≡ length (text_from calls c.before (held (item_tree c.tree))) =
+    ap (λ xs. length (text_from calls c.before xs)) (append-nil (held (item_tree c.tree))) in
     omega (arith, h, e)
 
 -- ---- runs, one after another
@@ -153,20 +171,23 @@ pub record RunsSoFar (calls : List OuterCall) (done : List Node) (rest all : Lis
   pub fit : AllByRecursion (RunFits calls) rest
   pub size : runs_size rest ≤ runs_size all
 
-pub runs_first : (calls : List OuterCall) (ns : List Node) (rs bs : List Run) → ns ≡ [] → rs ≡ bs → AllByRecursion (RunFits calls) bs → RunsSoFar calls ns rs bs
+pub runs_first : (calls : List OuterCall) (ns : List Node) (rs bs : List Run) → ns ≡ [] → rs ≡ bs → AllByRecursion (RunFits calls) bs
+    → RunsSoFar calls ns rs bs
 runs_first calls ns rs bs e f h = record {
   trees_are = ap (λ (ms : List Node). map view ms ++ map (run_tree calls) rs) e ∙ ap (map (run_tree calls)) f;
   fit = subst (AllByRecursion (RunFits calls)) (sym f) h;
   size = let s : runs_size rs ≡ runs_size bs = ap runs_size f in omega (arith, s);
 }
 
-pub runs_next : (calls : List OuterCall) (done : List Node) (rs ss all : List Run) (r : Run) → RunsSoFar calls done rs all → rs ≡ r ∷ ss → RunFits calls r × (run_size r ≤ runs_size all)
+pub runs_next : (calls : List OuterCall) (done : List Node) (rs ss all : List Run) (r : Run) → RunsSoFar calls done rs all → rs ≡ r ∷ ss
+    → RunFits calls r × (run_size r ≤ runs_size all)
 runs_next calls done rs ss all r s e =
     let f : AllByRecursion (RunFits calls) (r ∷ ss) = subst (AllByRecursion (RunFits calls)) e s.fit in
     let w : runs_size rs ≡ run_size r + runs_size ss = ap runs_size e in
     (f.0, omega (arith, w, s.size))
 
-pub runs_step : (calls : List OuterCall) (ms us : List Node) (u : Node) (rs ss all : List Run) (r : Run) → RunsSoFar calls ms rs all → rs ≡ r ∷ ss → view u ≡ run_tree calls r → us ≡ ms ++ u ∷ [] → RunsSoFar calls us ss all
+pub runs_step : (calls : List OuterCall) (ms us : List Node) (u : Node) (rs ss all : List Run) (r : Run) → RunsSoFar calls ms rs all → rs ≡ r ∷ ss
+    → view u ≡ run_tree calls r → us ≡ ms ++ u ∷ [] → RunsSoFar calls us ss all
 runs_step calls ms us u rs ss all r s e v m =
     let f : AllByRecursion (RunFits calls) (r ∷ ss) = subst (AllByRecursion (RunFits calls)) e s.fit in
     let w : runs_size rs ≡ run_size r + runs_size ss = ap runs_size e in
@@ -181,12 +202,14 @@ runs_step calls ms us u rs ss all r s e v m =
       size = omega (arith, w, s.size);
     }
 
-pub runs_end : (calls : List OuterCall) (ms : List Node) (rs all : List Run) → RunsSoFar calls ms rs all → length rs ≡ 0 → map view ms ≡ map (run_tree calls) all
+pub runs_end : (calls : List OuterCall) (ms : List Node) (rs all : List Run) → RunsSoFar calls ms rs all → length rs ≡ 0
+    → map view ms ≡ map (run_tree calls) all
 runs_end calls ms [] all s l = sym (append-nil (map view ms)) ∙ s.trees_are
 runs_end calls ms (r ∷ rs) all s l = absurd (omega (arith, l))
 
 -- the nodes inside
-pub inside_is : (calls : List OuterCall) (ns : List Node) (rs : List Run) (cs : List Child) (o : Option ℕ) (at : ℕ) (p : Option ℕ) (ts : List ItemTree) → map view ns ≡ map (run_tree calls) rs → AreRunsOf rs cs → nears_of calls cs ≡ children_at calls o at p ts
+pub inside_is : (calls : List OuterCall) (ns : List Node) (rs : List Run) (cs : List Child) (o : Option ℕ) (at : ℕ) (p : Option ℕ) (ts : List ItemTree)
+    → map view ns ≡ map (run_tree calls) rs → AreRunsOf rs cs → nears_of calls cs ≡ children_at calls o at p ts
     → views ns ≡ trees (near_runs calls (group_data calls) (children_at calls o at p ts))
 inside_is calls ns rs cs o at p ts e a n = ap trees (e ∙ a.become calls ∙ ap (near_runs calls (group_data calls)) n)
 

@@ -43,7 +43,8 @@ sources_piece p = sources_by p.form (call_of_origin p.origin) (bytes_of p.text)
 texts_more : (ts : List Text) (t : Text) → texts_of (ts ++ t ∷ []) ≡ texts_of ts ++ bytes_of t
 texts_more ts t = flat_map-append bytes_of ts (t ∷ []) ∙ ap (λ xs. texts_of ts ++ xs) (append-nil (bytes_of t))
 
-pub texts_step : (ts us : List Text) (ps : List Piece) (at : ℕ) (p : Piece) → at < length ps → p ≡ get_or ps at p → texts_of ts ≡ sources (items (take at ps)) → us ≡ ts ++ p.text ∷ [] → texts_of us ≡ sources (items (take (at + 1) ps))
+pub texts_step : (ts us : List Text) (ps : List Piece) (at : ℕ) (p : Piece) → at < length ps → p ≡ get_or ps at p
+    → texts_of ts ≡ sources (items (take at ps)) → us ≡ ts ++ p.text ∷ [] → texts_of us ≡ sources (items (take (at + 1) ps))
 texts_step ts us ps at p l i e f =
     ap texts_of f
     ∙ texts_more ts p.text
@@ -56,14 +57,18 @@ texts_step ts us ps at p l i e f =
 
 -- ---- a tree
 
-pub item_tree_out : (n : PieceTree) → item_tree n ≡ inner (head_of (out-PieceTree n).head) (items (out-PieceTree n).opening) (forest (item_trees (out-PieceTree n).children)) (items (out-PieceTree n).closing)
+pub item_tree_out : (n : PieceTree)
+    → item_tree n ≡ inner (head_of (out-PieceTree n).head) (items (out-PieceTree n).opening) (forest (item_trees (out-PieceTree n).children))
+    (items (out-PieceTree n).closing)
 item_tree_out n = fold_out-PieceTree ItemTree view_step n
 
 pub held_list : (ns : List PieceTree) → held_by_all (forest (item_trees ns)) ≡ flat_map (λ n. held (item_tree n)) ns
 held_list [] = refl
 held_list (n ∷ ns) = ap (λ xs. held (item_tree n) ++ xs) (held_list ns)
 
-pub held_out : (n : PieceTree) → held (item_tree n) ≡ items (out-PieceTree n).opening ++ (flat_map (λ m. held (item_tree m)) (out-PieceTree n).children ++ items (out-PieceTree n).closing)
+pub held_out : (n : PieceTree)
+    → held (item_tree n) ≡ items (out-PieceTree n).opening
+    ++ (flat_map (λ m. held (item_tree m)) (out-PieceTree n).children ++ items (out-PieceTree n).closing)
 held_out n =
     ap held (item_tree_out n)
     ∙ ap (λ xs. items (out-PieceTree n).opening ++ (xs ++ items (out-PieceTree n).closing)) (held_list (out-PieceTree n).children)

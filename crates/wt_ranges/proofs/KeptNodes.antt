@@ -30,15 +30,20 @@ use Rattle.wt_ranges.proofs.Seams.{text_append_from}
 -- ---- leaves
 
 abbrev leaf_label : Head → ℕ → List ℕ → Tree
-leaf_label h at source = tree (node_label h (Some (record { start = at; end = at + length source; open_w = leaf_open h.kind (length source); close_w = 0 })) [] [] source) none
+leaf_label h at source = tree (node_label h (Some (record { start = at; end = at + length source; open_w = leaf_open h.kind (length source); close_w = 0 }))
+    [] [] source) none
 
-leaf_by : (is : Bool) (h : Head) (at : ℕ) (source opening closing : List ℕ) (us : Trees) → is ≡ true → tree (kept_label is h at source opening closing) (inside_by is us) ≡ leaf_label h at source
+leaf_by : (is : Bool) (h : Head) (at : ℕ) (source opening closing : List ℕ) (us : Trees) → is ≡ true
+    → tree (kept_label is h at source opening closing) (inside_by is us) ≡ leaf_label h at source
 leaf_by true h at source opening closing us e = refl
 leaf_by false h at source opening closing us e = cc
 
-pub leaf_kept : (calls : List OuterCall) (c : Child) (u : Tree) (s : Sources) (own : List Text) (ps qs : List Piece) (ns : List Node) (r : Ranges) (w : ℕ) → is_leaf (out-PieceTree c.tree).head.kind ≡ true
-    → u ≡ tree (node_label (head_of (out-PieceTree c.tree).head) (Some r) (texts_of s.opening) (texts_of s.closing) (texts_of s.own)) (views ns) → s ≡ record { opening = []; closing = []; own = own } → ns ≡ []
-    → texts_of own ≡ text_from calls c.before (items qs) → items qs ≡ items ps → items ps ≡ held (item_tree c.tree) → w ≡ length (text_from calls c.before (held (item_tree c.tree)))
+pub leaf_kept : (calls : List OuterCall) (c : Child) (u : Tree) (s : Sources) (own : List Text) (ps qs : List Piece) (ns : List Node) (r : Ranges) (w : ℕ)
+    → is_leaf (out-PieceTree c.tree).head.kind ≡ true
+    → u ≡ tree (node_label (head_of (out-PieceTree c.tree).head) (Some r) (texts_of s.opening) (texts_of s.closing) (texts_of s.own)) (views ns)
+    → s ≡ record { opening = []; closing = []; own = own } → ns ≡ []
+    → texts_of own ≡ text_from calls c.before (items qs) → items qs ≡ items ps → items ps ≡ held (item_tree c.tree)
+    → w ≡ length (text_from calls c.before (held (item_tree c.tree)))
     → r ≡ record { start = c.byte; end = c.byte + w; open_w = leaf_open (out-PieceTree c.tree).head.kind w; close_w = 0 } → u ≡ (near_of calls c).whole
 leaf_kept calls c u s own ps qs ns r w e f g m t i h x y =
     let n : PieceTree = c.tree in
@@ -55,20 +60,29 @@ leaf_kept calls c u s own ps qs ns r w e f g m t i h x y =
     ∙ ap (λ (v : List Node). tree (node_label k (Some r) [] [] (texts_of own)) (views v)) m
     ∙ ap (λ (v : List ℕ). tree (node_label k (Some r) [] [] v) none) own_is
     ∙ ap (λ (v : Ranges). tree (node_label k (Some v) [] [] source) none) y
-    ∙ ap (λ (v : ℕ). tree (node_label k (Some (record { start = c.byte; end = c.byte + v; open_w = leaf_open k.kind v; close_w = 0 })) [] [] source) none) w_is
-    ∙ sym (leaf_by (is_leaf k.kind) k c.byte source (text_from calls c.before o) (text_from calls (last_of (last_of c.before o) (held_by_all ts)) d) (trees (near_runs calls (group_data calls) (children_at calls (last_of c.before o) (c.byte + length (text_from calls c.before o)) (first_of d c.after) (item_trees (out-PieceTree n).children)))) e)
+    ∙ ap (λ (v : ℕ). tree (node_label k (Some (record { start = c.byte; end = c.byte + v; open_w = leaf_open k.kind v; close_w = 0 })) [] [] source) none)
+    w_is
+    ∙ sym (leaf_by (is_leaf k.kind) k c.byte source (text_from calls c.before o) (text_from calls (last_of (last_of c.before o) (held_by_all ts)) d)
+    (trees (near_runs calls (group_data calls)
+    (children_at calls (last_of c.before o) (c.byte + length (text_from calls c.before o)) (first_of d c.after)
+    (item_trees (out-PieceTree n).children)))) e)
     ∙ sym (ap (walked calls (group_data calls) c.before c.byte c.after) (item_tree_out n))
 
 -- ---- other nodes
 
 inner_by : (is : Bool) (h : Head) (at : ℕ) (source opening closing : List ℕ) (us : Trees) → is ≡ false
-    → tree (kept_label is h at source opening closing) (inside_by is us) ≡ tree (node_label h (Some (record { start = at; end = at + length source; open_w = length opening; close_w = length closing })) opening closing []) us
+    → tree (kept_label is h at source opening closing) (inside_by is us)
+    ≡ tree (node_label h (Some (record { start = at; end = at + length source; open_w = length opening; close_w = length closing })) opening closing [])
+    us
 inner_by true h at source opening closing us e = cc
 inner_by false h at source opening closing us e = refl
 
-pub inner_kept : (calls : List OuterCall) (c : Child) (f : Frame) (ns : List Node) (u : Tree) → is_leaf (out-PieceTree c.tree).head.kind ≡ false → IsFrame calls c f
-    → u ≡ tree (node_label (head_of (out-PieceTree c.tree).head) (Some f.ranges) (texts_of f.sources.opening) (texts_of f.sources.closing) (texts_of f.sources.own)) (views ns)
-    → views ns ≡ trees (near_runs calls (group_data calls) (children_at calls f.before f.byte f.after (item_trees (out-PieceTree c.tree).children))) → u ≡ (near_of calls c).whole
+pub inner_kept : (calls : List OuterCall) (c : Child) (f : Frame) (ns : List Node) (u : Tree) → is_leaf (out-PieceTree c.tree).head.kind ≡ false
+    → IsFrame calls c f
+    → u ≡ tree (node_label (head_of (out-PieceTree c.tree).head) (Some f.ranges) (texts_of f.sources.opening) (texts_of f.sources.closing)
+    (texts_of f.sources.own)) (views ns)
+    → views ns ≡ trees (near_runs calls (group_data calls) (children_at calls f.before f.byte f.after (item_trees (out-PieceTree c.tree).children)))
+    → u ≡ (near_of calls c).whole
 inner_kept calls c f ns u e g h v =
     let n : PieceTree = c.tree in
     let k : Head = head_of (out-PieceTree n).head in
@@ -77,17 +91,25 @@ inner_kept calls c f ns u e g h v =
     let ts : ItemTrees = forest (item_trees (out-PieceTree n).children) in
     let front : List ℕ = text_from calls c.before o in
     let back : List ℕ = text_from calls (filled c.before n) d in
-    let us : Option ℕ → ℕ → Option ℕ → Trees = λ b at a. trees (near_runs calls (group_data calls) (children_at calls b at a (item_trees (out-PieceTree n).children))) in
-    let inside : views ns ≡ us (opened c.before n) (c.byte + length front) (first_of d c.after) = v ∙ ap (λ b. us b f.byte f.after) g.before ∙ ap (λ at. us (opened c.before n) at f.after) g.byte ∙ ap (λ a. us (opened c.before n) (c.byte + length front) a) g.after in
+    let us : Option ℕ → ℕ → Option ℕ
+    → Trees = λ b at a. trees (near_runs calls (group_data calls) (children_at calls b at a (item_trees (out-PieceTree n).children))) in
+    let inside : views ns ≡ us (opened c.before n) (c.byte + length front) (first_of d c.after) = v ∙ ap (λ b. us b f.byte f.after) g.before
+    ∙ ap (λ at. us (opened c.before n) at f.after) g.byte ∙ ap (λ a. us (opened c.before n) (c.byte + length front) a) g.after in
     let source : List ℕ = text_from calls c.before (held (inner k o ts d)) in
     let r : frame_ranges calls c ≡ record { start = c.byte; end = c.byte + length source; open_w = length front; close_w = length back } =
-    ap (λ (x : ItemTree). record { start = c.byte; end = c.byte + length (text_from calls c.before (held x)); open_w = length front; close_w = length back }) (item_tree_out n) in
+    ap (λ (x : ItemTree). record { start = c.byte; end = c.byte + length (text_from calls c.before (held x)); open_w = length front; close_w = length back })
+    (item_tree_out n) in
     h
-    ∙ ap (λ (x : Ranges). tree (node_label k (Some x) (texts_of f.sources.opening) (texts_of f.sources.closing) (texts_of f.sources.own)) (views ns)) (g.ranges ∙ r)
-    ∙ ap (λ (x : List ℕ). tree (node_label k (Some (record { start = c.byte; end = c.byte + length source; open_w = length front; close_w = length back })) x (texts_of f.sources.closing) (texts_of f.sources.own)) (views ns)) g.opening
-    ∙ ap (λ (x : List ℕ). tree (node_label k (Some (record { start = c.byte; end = c.byte + length source; open_w = length front; close_w = length back })) front x (texts_of f.sources.own)) (views ns)) g.closing
-    ∙ ap (λ (x : List ℕ). tree (node_label k (Some (record { start = c.byte; end = c.byte + length source; open_w = length front; close_w = length back })) front back x) (views ns)) g.own
-    ∙ ap (tree (node_label k (Some (record { start = c.byte; end = c.byte + length source; open_w = length front; close_w = length back })) front back [])) inside
+    ∙ ap (λ (x : Ranges). tree (node_label k (Some x) (texts_of f.sources.opening) (texts_of f.sources.closing) (texts_of f.sources.own)) (views ns))
+    (g.ranges ∙ r)
+    ∙ ap (λ (x : List ℕ). tree (node_label k (Some (record { start = c.byte; end = c.byte + length source; open_w = length front; close_w = length back })) x
+    (texts_of f.sources.closing) (texts_of f.sources.own)) (views ns)) g.opening
+    ∙ ap (λ (x : List ℕ). tree (node_label k (Some (record { start = c.byte; end = c.byte + length source; open_w = length front; close_w = length back }))
+    front x (texts_of f.sources.own)) (views ns)) g.closing
+    ∙ ap (λ (x : List ℕ). tree (node_label k (Some (record { start = c.byte; end = c.byte + length source; open_w = length front; close_w = length back }))
+    front back x) (views ns)) g.own
+    ∙ ap (tree (node_label k (Some (record { start = c.byte; end = c.byte + length source; open_w = length front; close_w = length back })) front back []))
+    inside
     ∙ sym (inner_by (is_leaf k.kind) k c.byte source front back (us (opened c.before n) (c.byte + length front) (first_of d c.after)) e)
     ∙ sym (ap (walked calls (group_data calls) c.before c.byte c.after) (item_tree_out n))
 
@@ -95,11 +117,18 @@ inner_kept calls c f ns u e g h v =
 
 -- the opening, the inside and the closing of a tree take no more bytes than all of it
 pub parts_fit : (calls : List OuterCall) (o : Option ℕ) (n : PieceTree) → length (text_from calls o (items (out-PieceTree n).opening))
-    + (length (text_from calls (opened o n) (held_by_all (forest (item_trees (out-PieceTree n).children)))) + length (text_from calls (filled o n) (items (out-PieceTree n).closing))) ≡ length (text_from calls o (held (item_tree n)))
+    + (length (text_from calls (opened o n) (held_by_all (forest (item_trees (out-PieceTree n).children))))
+    + length (text_from calls (filled o n) (items (out-PieceTree n).closing))) ≡ length (text_from calls o (held (item_tree n)))
 parts_fit calls o n =
     let a : List Item = items (out-PieceTree n).opening in
     let i : List Item = held_by_all (forest (item_trees (out-PieceTree n).children)) in
     let d : List Item = items (out-PieceTree n).closing in
     let e : text_from calls o (held (item_tree n)) ≡ text_from calls o a ++ (text_from calls (last_of o a) i ++ text_from calls (last_of (last_of o a) i) d) =
-    ap (λ t. text_from calls o (held t)) (item_tree_out n) ∙ text_append_from calls o a (i ++ d) ∙ ap (λ bs. text_from calls o a ++ bs) (text_append_from calls (last_of o a) i d) in
-    omega (arith, ap length e, length-append (text_from calls o a) (text_from calls (last_of o a) i ++ text_from calls (last_of (last_of o a) i) d), length-append (text_from calls (last_of o a) i) (text_from calls (last_of (last_of o a) i) d))
+    ap (λ t. text_from calls o (held t)) (item_tree_out n) ∙ text_append_from calls o a (i ++ d)
+    ∙ ap (λ bs. text_from calls o a ++ bs) (text_append_from calls (last_of o a) i d) in
+    omega (
+      arith,
+      ap length e,
+      length-append (text_from calls o a) (text_from calls (last_of o a) i ++ text_from calls (last_of (last_of o a) i) d),
+      length-append (text_from calls (last_of o a) i) (text_from calls (last_of (last_of o a) i) d),
+    )

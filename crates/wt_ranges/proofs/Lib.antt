@@ -1,6 +1,7 @@
 pub mod Calls
 mod Cases
 pub mod ChildWalks
+pub mod Counts
 pub mod Ends
 pub mod Groupings
 pub mod GroupNodes
@@ -16,6 +17,7 @@ pub mod RunCuts
 pub mod Seams
 pub mod Slices
 pub mod Smallest
+pub mod TakenApart
 pub mod Tiles
 pub mod UnplacedNodes
 pub mod Walks

@@ -27,10 +27,12 @@ pub record NumberedSoFar (done : List Tree) (behind : ℕ) (rest : List Tree) (n
 pub numbered_first : (ns : List Node) (next : ℕ) (all : List Tree) → ns ≡ [] → NumberedSoFar (map view ns) next all next all
 numbered_first ns next all e = record { trees_are = ap (λ (ms : List Node). map view ms ++ numbered_list next all) e; next_is = refl }
 
-pub numbered_step : (ms us : List Node) (u n : Node) (behind after next : ℕ) (ns rs : List Node) (all : List Tree) → NumberedSoFar (map view ms) behind (map view rs) next all → rs ≡ n ∷ ns → IsNumbered behind (view n) (view u) after → us ≡ ms ++ u ∷ []
+pub numbered_step : (ms us : List Node) (u n : Node) (behind after next : ℕ) (ns rs : List Node) (all : List Tree)
+    → NumberedSoFar (map view ms) behind (map view rs) next all → rs ≡ n ∷ ns → IsNumbered behind (view n) (view u) after → us ≡ ms ++ u ∷ []
     → NumberedSoFar (map view us) after (map view ns) next all
 numbered_step ms us u n behind after next ns rs all s r m e =
-    let t : NumberedSoFar (map view ms) behind (view n ∷ map view ns) next all = subst (λ (xs : List Node). NumberedSoFar (map view ms) behind (map view xs) next all) r s in
+    let t : NumberedSoFar (map view ms) behind (view n ∷ map view ns) next all =
+    subst (λ (xs : List Node). NumberedSoFar (map view ms) behind (map view xs) next all) r s in
     record {
       trees_are =
           ap (λ (xs : List Tree). xs ++ numbered_list after (map view ns)) (ap (map view) e ∙ map-append view ms (u ∷ []))
@@ -42,7 +44,8 @@ numbered_step ms us u n behind after next ns rs all s r m e =
     }
 
 -- the next node's numbers fit, where those of all nodes do
-pub numbered_room : (ms : List Node) (n : Node) (behind next bound : ℕ) (ns rs : List Node) (all : List Tree) → NumberedSoFar (map view ms) behind (map view rs) next all → rs ≡ n ∷ ns → next + count_all (trees all) < bound → behind + count (view n) < bound
+pub numbered_room : (ms : List Node) (n : Node) (behind next bound : ℕ) (ns rs : List Node) (all : List Tree)
+    → NumberedSoFar (map view ms) behind (map view rs) next all → rs ≡ n ∷ ns → next + count_all (trees all) < bound → behind + count (view n) < bound
 numbered_room ms n behind next bound ns rs all s r w =
     let e : count_all (trees (map view rs)) ≡ count (view n) + count_all (trees (map view ns)) = ap (λ (xs : List Node). count_all (trees (map view xs))) r in
     omega (arith, s.next_is, e, w)
@@ -51,7 +54,8 @@ none_left : (rs : List Node) → length rs ≡ 0 → rs ≡ []
 none_left [] e = refl
 none_left (r ∷ rs) e = absurd (omega (arith, e))
 
-pub numbered_all : (k : Kind) (ms : List Node) (behind next : ℕ) (rs ys bs : List Node) → NumberedSoFar (map view ms) behind (map view rs) next (map view ys) → length rs ≡ 0 → ys ≡ bs → is_group k ≡ false → AreNumbered k next (views bs) (views ms) behind
+pub numbered_all : (k : Kind) (ms : List Node) (behind next : ℕ) (rs ys bs : List Node) → NumberedSoFar (map view ms) behind (map view rs) next (map view ys)
+    → length rs ≡ 0 → ys ≡ bs → is_group k ≡ false → AreNumbered k next (views bs) (views ms) behind
 numbered_all k ms behind next rs ys bs s l e g =
     let z : rs ≡ [] = none_left rs l in
     record {

@@ -32,7 +32,8 @@ range_join n (suc a) b =
     ∙ ap (range_with_len n) (sym f)
 
 numbers_by : (n g : Bool) (next m : ℕ) (ts us : Trees) → numbers_of_all us ≡ range_with_len (if n then next + 1 else next) m
-    → (if n then (if n then next else 0) ∷ [] else []) ++ (if g then [] else numbers_of_all (if g then ts else us)) ≡ range_with_len next ((if n then 1 else 0) + (if g then 0 else m))
+    → (if n then (if n then next else 0) ∷ [] else []) ++ (if g then [] else numbers_of_all (if g then ts else us))
+    ≡ range_with_len next ((if n then 1 else 0) + (if g then 0 else m))
 numbers_by true true next m ts us e = refl
 numbers_by true false next m ts us e = let one : 1 + m ≡ suc m = omega arith in ap (λ ns. next ∷ ns) e ∙ ap (range_with_len next) (sym one)
 numbers_by false true next m ts us e = refl
@@ -40,7 +41,8 @@ numbers_by false false next m ts us e = let none : 0 + m ≡ m = omega arith in 
 
 mutual
   numbers_at : (next : ℕ) (t : Tree) → numbers (with_numbers next t) ≡ range_with_len next (count t)
-  numbers_at next (tree l ts) = numbers_by (is_numbered l.kind) (is_group l.kind) next (count_all ts) ts (all_with_numbers (next_after l.kind next) ts) (all_numbers_at (next_after l.kind next) ts)
+  numbers_at next (tree l ts) = numbers_by (is_numbered l.kind) (is_group l.kind) next (count_all ts) ts (all_with_numbers (next_after l.kind next) ts)
+      (all_numbers_at (next_after l.kind next) ts)
 
   all_numbers_at : (next : ℕ) (ts : Trees) → numbers_of_all (all_with_numbers next ts) ≡ range_with_len next (count_all ts)
   all_numbers_at next none = refl
@@ -85,11 +87,14 @@ others_by false false next ts us rest h m = (refl, m h)
 mutual
   others_at : (next : ℕ) (t : Tree) → NoneInGroups t → AllZero (others (with_numbers next t))
   others_at next (tree l ts) h =
-      others_by (is_numbered l.kind) (is_group l.kind) next ts (all_with_numbers (next_after l.kind next) ts) (AllNoneInGroups ts) h (λ q. all_others_at (next_after l.kind next) ts q)
+      others_by (is_numbered l.kind) (is_group l.kind) next ts (all_with_numbers (next_after l.kind next) ts) (AllNoneInGroups ts) h
+      (λ q. all_others_at (next_after l.kind next) ts q)
 
   all_others_at : (next : ℕ) (ts : Trees) → AllNoneInGroups ts → AllZero (others_of_all (all_with_numbers next ts))
   all_others_at next none h = tt
-  all_others_at next (more t ts) h = zeros_append (others (with_numbers next t)) (others_of_all (all_with_numbers (next + count t) ts)) (others_at next t h.0) (all_others_at (next + count t) ts h.1)
+  all_others_at next (more t ts) h =
+      zeros_append (others (with_numbers next t)) (others_of_all (all_with_numbers (next + count t) ts)) (others_at next t h.0)
+      (all_others_at (next + count t) ts h.1)
 
 zeros_inside : (is : Bool) (ts : Trees) → AllZero (ids_of_all ts) → AllZero (ids_of_all (inside_by is ts))
 zeros_inside true ts h = tt
@@ -113,7 +118,8 @@ kept_by false false us q h = h
 
 mutual
   placed_none : (calls : List OuterCall) (carried : Carried) (all : List Item) (g : Grouped) → NoneInGroups (placed calls carried all g)
-  placed_none calls carried all (kept h n o i c gs) = kept_by (is_group h.kind) (is_leaf h.kind) (all_placed calls carried all gs) (group_leaf h.kind) (all_placed_none calls carried all gs)
+  placed_none calls carried all (kept h n o i c gs) =
+      kept_by (is_group h.kind) (is_leaf h.kind) (all_placed calls carried all gs) (group_leaf h.kind) (all_placed_none calls carried all gs)
   placed_none calls carried all (group n k ts) = all_unplaced_zeros ts
 
   all_placed_none : (calls : List OuterCall) (carried : Carried) (all : List Item) (gs : GroupedAll) → AllNoneInGroups (all_placed calls carried all gs)
@@ -128,4 +134,5 @@ in_preorder t h =
 
 pub annotated_numbered : (calls : List OuterCall) (carried : Carried) (t : ItemTree) → InPreorder (annotated calls carried t)
 unfolding annotated
-annotated_numbered calls carried t = in_preorder (placed calls carried (held t) (grouped (held t) 0 t)) (placed_none calls carried (held t) (grouped (held t) 0 t))
+annotated_numbered calls carried t =
+    in_preorder (placed calls carried (held t) (grouped (held t) 0 t)) (placed_none calls carried (held t) (grouped (held t) 0 t))

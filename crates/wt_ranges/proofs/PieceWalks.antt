@@ -42,7 +42,8 @@ one_or_chars form.Hidden o bs = inr (refl, refl)
 one_or_chars form.EmptyCall o bs = inr (refl, refl)
 
 -- what holds of no items where a piece is hollow, and of items of one call where it isn't
-by_hollow : (P : List Item → Bool → Type 0) (f : Form) (o : Option ℕ) (bs : List ℕ) → P [] true → ((b : ℕ) (cs : List ℕ) → bs ≡ b ∷ cs → P (map (char o) (b ∷ cs)) false) → P (whole f o bs ∷ []) false → OneOrChars f o bs
+by_hollow : (P : List Item → Bool → Type 0) (f : Form) (o : Option ℕ) (bs : List ℕ) → P [] true
+    → ((b : ℕ) (cs : List ℕ) → bs ≡ b ∷ cs → P (map (char o) (b ∷ cs)) false) → P (whole f o bs ∷ []) false → OneOrChars f o bs
     → P (items_by f o bs) (hollow_by f bs)
 by_hollow P f o [] n c w (inl h) =
     let e : true ≡ hollow_by f [] = sym (ap (λ v. v && 0 == 0) h.0) in
@@ -60,7 +61,8 @@ last_chars o (b ∷ bs) = last_chars o bs
 
 pub last_piece : (o : Option ℕ) (p : Piece) → last_of o (items_of p) ≡ cond (is_hollow p) o (call_of_origin p.origin)
 last_piece o p =
-    by_hollow (λ xs v. last_of o xs ≡ cond v o (call_of_origin p.origin)) p.form (call_of_origin p.origin) (bytes_of p.text) refl (λ b cs e. last_chars (call_of_origin p.origin) cs) refl
+    by_hollow (λ xs v. last_of o xs ≡ cond v o (call_of_origin p.origin)) p.form (call_of_origin p.origin) (bytes_of p.text) refl
+    (λ b cs e. last_chars (call_of_origin p.origin) cs) refl
     (one_or_chars p.form (call_of_origin p.origin) (bytes_of p.text))
 
 pub first_piece : (p : Piece) (o : Option ℕ) → first_of (items_of p) o ≡ cond (is_hollow p) o (call_of_origin p.origin)
@@ -89,12 +91,14 @@ one_any (Some k) f bs = refl
 pub all_piece : (p : Piece) → list_all is_page (items_of p) ≡ cond (is_hollow p) true (is_no_call (call_of_origin p.origin))
 all_piece p =
     let o : Option ℕ = call_of_origin p.origin in
-    by_hollow (λ xs v. list_all is_page xs ≡ cond v true (is_no_call o)) p.form o (bytes_of p.text) refl (λ b cs e. all_chars o b cs) (one_all o p.form (bytes_of p.text)) (one_or_chars p.form o (bytes_of p.text))
+    by_hollow (λ xs v. list_all is_page xs ≡ cond v true (is_no_call o)) p.form o (bytes_of p.text) refl (λ b cs e. all_chars o b cs)
+    (one_all o p.form (bytes_of p.text)) (one_or_chars p.form o (bytes_of p.text))
 
 pub any_piece : (p : Piece) → list_any is_page (items_of p) ≡ cond (is_hollow p) false (is_no_call (call_of_origin p.origin))
 any_piece p =
     let o : Option ℕ = call_of_origin p.origin in
-    by_hollow (λ xs v. list_any is_page xs ≡ cond v false (is_no_call o)) p.form o (bytes_of p.text) refl (λ b cs e. any_chars o b cs) (one_any o p.form (bytes_of p.text)) (one_or_chars p.form o (bytes_of p.text))
+    by_hollow (λ xs v. list_any is_page xs ≡ cond v false (is_no_call o)) p.form o (bytes_of p.text) refl (λ b cs e. any_chars o b cs)
+    (one_any o p.form (bytes_of p.text)) (one_or_chars p.form o (bytes_of p.text))
 
 -- ---- what stands on the page for one piece
 
@@ -107,22 +111,29 @@ same_parted k = let t : (k == k) ≡ true = grind (arith, nat_tests) in ap not t
 
 page_chars : (calls : List OuterCall) (o : Option ℕ) (bs : List ℕ) → text_from calls o (map (char None) bs) ≡ bs
 page_chars calls o [] = refl
-page_chars calls o (b ∷ bs) = ap (λ v. cond v (b ∷ []) [] ++ text_from calls None (map (char None) bs)) (page_parted o) ∙ ap (λ cs. b ∷ cs) (page_chars calls None bs)
+page_chars calls o (b ∷ bs) = ap (λ v. cond v (b ∷ []) [] ++ text_from calls None (map (char None) bs)) (page_parted o)
+    ∙ ap (λ cs. b ∷ cs) (page_chars calls None bs)
 
 call_rest : (calls : List OuterCall) (k : ℕ) (bs : List ℕ) → text_from calls (Some k) (map (char (Some k)) bs) ≡ []
 call_rest calls k [] = refl
-call_rest calls k (b ∷ bs) = ap (λ v. cond v (source_of_call (slice_get calls k)) [] ++ text_from calls (Some k) (map (char (Some k)) bs)) (same_parted k) ∙ call_rest calls k bs
+call_rest calls k (b ∷ bs) = ap (λ v. cond v (source_of_call (slice_get calls k)) [] ++ text_from calls (Some k) (map (char (Some k)) bs)) (same_parted k)
+    ∙ call_rest calls k bs
 
-text_chars : (calls : List OuterCall) (o p : Option ℕ) (b : ℕ) (cs bs : List ℕ) → bs ≡ b ∷ cs → text_from calls o (map (char p) (b ∷ cs)) ≡ cond (parted o p) (text_by calls p bs) []
+text_chars : (calls : List OuterCall) (o p : Option ℕ) (b : ℕ) (cs bs : List ℕ) → bs ≡ b ∷ cs
+    → text_from calls o (map (char p) (b ∷ cs)) ≡ cond (parted o p) (text_by calls p bs) []
 text_chars calls o None b cs bs e = page_chars calls o (b ∷ cs) ∙ sym e ∙ sym (ap (λ v. cond v bs []) (page_parted o))
 text_chars calls o (Some k) b cs bs e =
-    ap (λ xs. cond (parted o (Some k)) (source_of_call (slice_get calls k)) [] ++ xs) (call_rest calls k cs) ∙ append-nil (cond (parted o (Some k)) (source_of_call (slice_get calls k)) [])
+    ap (λ xs. cond (parted o (Some k)) (source_of_call (slice_get calls k)) [] ++ xs) (call_rest calls k cs)
+    ∙ append-nil (cond (parted o (Some k)) (source_of_call (slice_get calls k)) [])
 
-pub text_piece : (calls : List OuterCall) (o : Option ℕ) (p : Piece) → text_from calls o (items_of p) ≡ cond (is_hollow p) [] (cond (parted o (call_of_origin p.origin)) (text_by calls (call_of_origin p.origin) (bytes_of p.text)) [])
+pub text_piece : (calls : List OuterCall) (o : Option ℕ) (p : Piece)
+    → text_from calls o (items_of p)
+    ≡ cond (is_hollow p) [] (cond (parted o (call_of_origin p.origin)) (text_by calls (call_of_origin p.origin) (bytes_of p.text)) [])
 text_piece calls o p =
     let q : Option ℕ = call_of_origin p.origin in
     let bs : List ℕ = bytes_of p.text in
-    by_hollow (λ xs v. text_from calls o xs ≡ cond v [] (cond (parted o q) (text_by calls q bs) [])) p.form q bs refl (λ b cs e. text_chars calls o q b cs bs e) (append-nil (cond (parted o q) (text_by calls q bs) []))
+    by_hollow (λ xs v. text_from calls o xs ≡ cond v [] (cond (parted o q) (text_by calls q bs) [])) p.form q bs refl
+    (λ b cs e. text_chars calls o q b cs bs e) (append-nil (cond (parted o q) (text_by calls q bs) []))
     (one_or_chars p.form q bs)
 
 -- ---- several pieces
@@ -134,27 +145,31 @@ pub items_more : (ps : List Piece) (p : Piece) → items (ps ++ p ∷ []) ≡ it
 items_more ps p = items_append ps (p ∷ []) ∙ ap (λ xs. items ps ++ xs) (append-nil (items_of p))
 
 -- the pieces from one on, and up to one
-pub first_step : (ps : List Piece) (at : ℕ) (p : Piece) (o : Option ℕ) → at < length ps → p ≡ get_or ps at p → first_of (items (drop at ps)) o ≡ cond (is_hollow p) (first_of (items (drop (at + 1) ps)) o) (call_of_origin p.origin)
+pub first_step : (ps : List Piece) (at : ℕ) (p : Piece) (o : Option ℕ) → at < length ps → p ≡ get_or ps at p
+    → first_of (items (drop at ps)) o ≡ cond (is_hollow p) (first_of (items (drop (at + 1) ps)) o) (call_of_origin p.origin)
 first_step ps at p o l e =
     ap (λ qs. first_of (items qs) o) (drop_more ps at p l)
     ∙ ap (λ q. first_of (items_of q ++ items (drop (at + 1) ps)) o) (sym e)
     ∙ first_append (items_of p) (items (drop (at + 1) ps)) o
     ∙ first_piece p (first_of (items (drop (at + 1) ps)) o)
 
-pub last_step : (ps : List Piece) (at : ℕ) (p : Piece) (o : Option ℕ) → at < length ps → p ≡ get_or ps at p → last_of o (items (take (at + 1) ps)) ≡ last_of (last_of o (items (take at ps))) (items_of p)
+pub last_step : (ps : List Piece) (at : ℕ) (p : Piece) (o : Option ℕ) → at < length ps → p ≡ get_or ps at p
+    → last_of o (items (take (at + 1) ps)) ≡ last_of (last_of o (items (take at ps))) (items_of p)
 last_step ps at p o l e =
     ap (λ qs. last_of o (items qs)) (take_more ps at p l)
     ∙ ap (λ q. last_of o (items (take at ps ++ q ∷ []))) (sym e)
     ∙ ap (last_of o) (items_more (take at ps) p)
     ∙ last_append o (items (take at ps)) (items_of p)
 
-pub all_step : (ps : List Piece) (at : ℕ) (p : Piece) → at < length ps → p ≡ get_or ps at p → list_all is_page (items (drop at ps)) ≡ (list_all is_page (items_of p) && list_all is_page (items (drop (at + 1) ps)))
+pub all_step : (ps : List Piece) (at : ℕ) (p : Piece) → at < length ps → p ≡ get_or ps at p
+    → list_all is_page (items (drop at ps)) ≡ (list_all is_page (items_of p) && list_all is_page (items (drop (at + 1) ps)))
 all_step ps at p l e =
     ap (λ qs. list_all is_page (items qs)) (drop_more ps at p l)
     ∙ ap (λ q. list_all is_page (items_of q ++ items (drop (at + 1) ps))) (sym e)
     ∙ list_all-append is_page (items_of p) (items (drop (at + 1) ps))
 
-pub any_step : (ps : List Piece) (at : ℕ) (p : Piece) → at < length ps → p ≡ get_or ps at p → list_any is_page (items (drop at ps)) ≡ (list_any is_page (items_of p) || list_any is_page (items (drop (at + 1) ps)))
+pub any_step : (ps : List Piece) (at : ℕ) (p : Piece) → at < length ps → p ≡ get_or ps at p
+    → list_any is_page (items (drop at ps)) ≡ (list_any is_page (items_of p) || list_any is_page (items (drop (at + 1) ps)))
 any_step ps at p l e =
     ap (λ qs. list_any is_page (items qs)) (drop_more ps at p l)
     ∙ ap (λ q. list_any is_page (items_of q ++ items (drop (at + 1) ps))) (sym e)
@@ -169,13 +184,16 @@ text_step_pieces calls ps at p o l e =
     ∙ text_append_from calls o (items (take at ps)) (items_of p)
 
 -- so many pieces take no more bytes than all
-pub text_front : (calls : List OuterCall) (ps : List Piece) (n : ℕ) (o : Option ℕ) → length (text_from calls o (items (take n ps))) ≤ length (text_from calls o (items ps))
+pub text_front : (calls : List OuterCall) (ps : List Piece) (n : ℕ) (o : Option ℕ)
+    → length (text_from calls o (items (take n ps))) ≤ length (text_from calls o (items ps))
 text_front calls ps n o =
     let e : text_from calls o (items ps) ≡ text_from calls o (items (take n ps)) ++ text_from calls (last_of o (items (take n ps))) (items (drop n ps)) =
-    ap (λ qs. text_from calls o (items qs)) (sym (take-append-drop n ps)) ∙ ap (text_from calls o) (items_append (take n ps) (drop n ps)) ∙ text_append_from calls o (items (take n ps)) (items (drop n ps)) in
+    ap (λ qs. text_from calls o (items qs)) (sym (take-append-drop n ps)) ∙ ap (text_from calls o) (items_append (take n ps) (drop n ps))
+    ∙ text_append_from calls o (items (take n ps)) (items (drop n ps)) in
     omega (arith, ap length e, length-append (text_from calls o (items (take n ps))) (text_from calls (last_of o (items (take n ps))) (items (drop n ps))))
 
-pub first_found : (ps : List Piece) (at : ℕ) (p : Piece) (o call : Option ℕ) (v : Bool) → at < length ps → p ≡ get_or ps at p → v ≡ is_hollow p → v ≡ false → call ≡ call_of_origin p.origin → first_of (items (drop at ps)) o ≡ first_of (items ps) o
+pub first_found : (ps : List Piece) (at : ℕ) (p : Piece) (o call : Option ℕ) (v : Bool) → at < length ps → p ≡ get_or ps at p → v ≡ is_hollow p → v ≡ false
+    → call ≡ call_of_origin p.origin → first_of (items (drop at ps)) o ≡ first_of (items ps) o
     → call ≡ first_of (items ps) o
 first_found ps at p o call true l e h n c i = cc
 first_found ps at p o call false l e h n c i =
@@ -183,7 +201,8 @@ first_found ps at p o call false l e h n c i =
 
 -- ---- one more piece of a loop
 
-pub bytes_step : (calls : List OuterCall) (ps : List Piece) (at : ℕ) (p : Piece) (o last : Option ℕ) (xs ys bs : List ℕ) → at < length ps → p ≡ get_or ps at p → xs ≡ text_from calls o (items (take at ps)) → last ≡ last_of o (items (take at ps))
+pub bytes_step : (calls : List OuterCall) (ps : List Piece) (at : ℕ) (p : Piece) (o last : Option ℕ) (xs ys bs : List ℕ) → at < length ps
+    → p ≡ get_or ps at p → xs ≡ text_from calls o (items (take at ps)) → last ≡ last_of o (items (take at ps))
     → bs ≡ text_from calls last (items_of p) → ys ≡ xs ++ bs → ys ≡ text_from calls o (items (take (at + 1) ps))
 bytes_step calls ps at p o last xs ys bs l e x t b y =
     y
@@ -191,11 +210,13 @@ bytes_step calls ps at p o last xs ys bs l e x t b y =
     ∙ ap (λ cs. text_from calls o (items (take at ps)) ++ cs) (b ∙ ap (λ q. text_from calls q (items_of p)) t)
     ∙ sym (text_step_pieces calls ps at p o l e)
 
-pub width_step : (calls : List OuterCall) (ps : List Piece) (at : ℕ) (p : Piece) (o last : Option ℕ) (w n : ℕ) (bs : List ℕ) → at < length ps → p ≡ get_or ps at p → w ≡ length (text_from calls o (items (take at ps))) → last ≡ last_of o (items (take at ps))
+pub width_step : (calls : List OuterCall) (ps : List Piece) (at : ℕ) (p : Piece) (o last : Option ℕ) (w n : ℕ) (bs : List ℕ) → at < length ps
+    → p ≡ get_or ps at p → w ≡ length (text_from calls o (items (take at ps))) → last ≡ last_of o (items (take at ps))
     → bs ≡ text_from calls last (items_of p) → n ≡ length bs → w + n ≡ length (text_from calls o (items (take (at + 1) ps)))
 width_step calls ps at p o last w n bs l e x t b y =
     let more = bytes_step calls ps at p o last (text_from calls o (items (take at ps))) (text_from calls o (items (take at ps)) ++ bs) bs l e refl t b refl in
     omega (arith, x, y, ap length more, length-append (text_from calls o (items (take at ps))) bs)
 
-pub call_step : (ps : List Piece) (at : ℕ) (p : Piece) (o last next : Option ℕ) → at < length ps → p ≡ get_or ps at p → last ≡ last_of o (items (take at ps)) → next ≡ last_of last (items_of p) → next ≡ last_of o (items (take (at + 1) ps))
+pub call_step : (ps : List Piece) (at : ℕ) (p : Piece) (o last next : Option ℕ) → at < length ps → p ≡ get_or ps at p → last ≡ last_of o (items (take at ps))
+    → next ≡ last_of last (items_of p) → next ≡ last_of o (items (take (at + 1) ps))
 call_step ps at p o last next l e t n = n ∙ ap (λ q. last_of q (items_of p)) t ∙ sym (last_step ps at p o l e)

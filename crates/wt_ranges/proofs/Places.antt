@@ -4,7 +4,8 @@ use Rattle.wt_span.specs.Items.{Item}
 use Rattle.wt_span.specs.Origins.{OuterCall}
 use Rattle.wt_span.specs.Cuts.{place, text_at, text_between}
 
-pub text_append : (calls : List OuterCall) (all : List Item) (n j k : ℕ) → text_between calls all n (j + k) ≡ text_between calls all n j ++ text_between calls all (n + j) k
+pub text_append : (calls : List OuterCall) (all : List Item) (n j k : ℕ)
+    → text_between calls all n (j + k) ≡ text_between calls all n j ++ text_between calls all (n + j) k
 text_append calls all n zero k =
     let e : 0 + k ≡ k = omega arith in
     let f : n ≡ n + 0 = omega arith in
@@ -27,13 +28,20 @@ place_between calls all (suc k) n =
     ap (place calls all) e ∙ omega (arith, r, l)
 
 -- what stands between two cuts, in three
-pub text_three : (calls : List OuterCall) (all : List Item) (n o i c : ℕ) → text_between calls all n (o + i + c) ≡ text_between calls all n o ++ (text_between calls all (n + o) i ++ text_between calls all (n + o + i) c)
+pub text_three : (calls : List OuterCall) (all : List Item) (n o i c : ℕ)
+    → text_between calls all n (o + i + c) ≡ text_between calls all n o ++ (text_between calls all (n + o) i ++ text_between calls all (n + o + i) c)
 text_three calls all n o i c =
     let e : o + i + c ≡ o + (i + c) = omega arith in
     ap (text_between calls all n) e ∙ text_append calls all n o (i + c) ∙ ap (λ bs. text_between calls all n o ++ bs) (text_append calls all (n + o) i c)
 
 pub width_three : (calls : List OuterCall) (all : List Item) (n o i c : ℕ)
-    → length (text_between calls all n (o + i + c)) ≡ length (text_between calls all n o) + (length (text_between calls all (n + o) i) + length (text_between calls all (n + o + i) c))
+    → length (text_between calls all n (o + i + c))
+    ≡ length (text_between calls all n o) + (length (text_between calls all (n + o) i) + length (text_between calls all (n + o + i) c))
 width_three calls all n o i c =
     ap length (text_three calls all n o i c)
-    ∙ omega (arith, length-append (text_between calls all n o) (text_between calls all (n + o) i ++ text_between calls all (n + o + i) c), length-append (text_between calls all (n + o) i) (text_between calls all (n + o + i) c))
+    ∙ omega (
+      arith,
+      length-append (text_between calls all n o) (text_between calls all (n + o) i ++ text_between calls all (n + o + i) c),
+      length-append
+          (text_between calls all (n + o) i) (text_between calls all (n + o + i) c),
+    )

@@ -32,16 +32,19 @@ pub after_first : (all : List Item) (n : ℕ) (xs ys : List Item) → drop n all
 after_first all n [] ys e = let f : n ≡ n + 0 = omega arith in ap (after_call all) f
 after_first all n (x ∷ xs) ys e = after_is all n x (xs ++ ys) e
 
-pub step_is : (calls : List OuterCall) (all : List Item) (n : ℕ) (x : Item) (rest : List Item) → drop n all ≡ x ∷ rest → text_at calls all n ≡ text_step calls (before_call all n) x
+pub step_is : (calls : List OuterCall) (all : List Item) (n : ℕ) (x : Item) (rest : List Item) → drop n all ≡ x ∷ rest
+    → text_at calls all n ≡ text_step calls (before_call all n) x
 step_is calls all n x rest e =
     ap (λ v. cond v (origin_text calls (slice_get all n)) []) (free_is all n ∙ ap (parted (before_call all n)) (after_is all n x rest e))
     ∙ ap (λ y. cond (parted (before_call all n) (call_of x)) (origin_text calls y) []) (at_get all n x rest e)
 
-pub text_is : (calls : List OuterCall) (all : List Item) (n : ℕ) (xs ys : List Item) → drop n all ≡ xs ++ ys → text_between calls all n (length xs) ≡ text_from calls (before_call all n) xs
+pub text_is : (calls : List OuterCall) (all : List Item) (n : ℕ) (xs ys : List Item) → drop n all ≡ xs ++ ys
+    → text_between calls all n (length xs) ≡ text_from calls (before_call all n) xs
 text_is calls all n [] ys e = refl
 text_is calls all n (x ∷ xs) ys e =
     ap (λ bs. bs ++ text_between calls all (suc n) (length xs)) (step_is calls all n x (xs ++ ys) e)
-    ∙ ap (λ bs. text_step calls (before_call all n) x ++ bs) (text_is calls all (suc n) xs ys (at_rest all n x (xs ++ ys) e) ∙ ap (λ o. text_from calls o xs) (after_is all n x (xs ++ ys) e))
+    ∙ ap (λ bs. text_step calls (before_call all n) x ++ bs)
+    (text_is calls all (suc n) xs ys (at_rest all n x (xs ++ ys) e) ∙ ap (λ o. text_from calls o xs) (after_is all n x (xs ++ ys) e))
 
 -- ---- joined items
 
@@ -53,6 +56,8 @@ pub first_append : (xs ys : List Item) (o : Option ℕ) → first_of (xs ++ ys) 
 first_append [] ys o = refl
 first_append (x ∷ xs) ys o = refl
 
-pub text_append_from : (calls : List OuterCall) (o : Option ℕ) (xs ys : List Item) → text_from calls o (xs ++ ys) ≡ text_from calls o xs ++ text_from calls (last_of o xs) ys
+pub text_append_from : (calls : List OuterCall) (o : Option ℕ) (xs ys : List Item)
+    → text_from calls o (xs ++ ys) ≡ text_from calls o xs ++ text_from calls (last_of o xs) ys
 text_append_from calls o [] ys = refl
-text_append_from calls o (x ∷ xs) ys = ap (λ bs. text_step calls o x ++ bs) (text_append_from calls (call_of x) xs ys) ∙ sym (append_assoc (text_step calls o x) (text_from calls (call_of x) xs) (text_from calls (last_of (call_of x) xs) ys))
+text_append_from calls o (x ∷ xs) ys = ap (λ bs. text_step calls o x ++ bs) (text_append_from calls (call_of x) xs ys)
+    ∙ sym (append_assoc (text_step calls o x) (text_from calls (call_of x) xs) (text_from calls (last_of (call_of x) xs) ys))

@@ -13,9 +13,11 @@ use Rattle.wt_ranges.proofs.Ends.{false_true}
 
 abbrev Chain : List Item → ℕ → List Child → Type 0
 Chain all i [] = Unit {0}
-Chain all i (c ∷ cs) = (c.from ≡ i) × (c.size ≡ length (held c.tree)) × (c.clean ≡ is_clean all c.from c.tree) × AreSmallest all c.whole × Chain all (c.from + c.size) cs
+Chain all i (c ∷ cs) = (c.from ≡ i) × (c.size ≡ length (held c.tree)) × (c.clean ≡ is_clean all c.from c.tree) × AreSmallest all c.whole
+    × Chain all (c.from + c.size) cs
 
-chain_rest : (all : List Item) (i : ℕ) (c : Child) (cs others : List Child) → Chain all i (c ∷ cs ++ others) → Chain all (c.from + size_of_all (c ∷ cs)) others
+chain_rest : (all : List Item) (i : ℕ) (c : Child) (cs others : List Child) → Chain all i (c ∷ cs ++ others)
+    → Chain all (c.from + size_of_all (c ∷ cs)) others
 chain_rest all i c [] others h =
     let e : c.from + c.size ≡ c.from + (c.size + 0) = omega arith in
     subst (λ (n : ℕ). Chain all n others) e h.4
@@ -28,7 +30,8 @@ not_true : (v : Bool) → not v ≡ true → v ≡ false
 not_true true e = false_true e
 not_true false e = refl
 
-no_free : (all : List Item) (i : ℕ) (c : Child) (cs others : List Child) → IsRun (is_tied all) (c ∷ cs) others → Chain all i (c ∷ cs ++ others) → NoFreeCut all c.from (nodes_of (c ∷ cs))
+no_free : (all : List Item) (i : ℕ) (c : Child) (cs others : List Child) → IsRun (is_tied all) (c ∷ cs) others → Chain all i (c ∷ cs ++ others)
+    → NoFreeCut all c.from (nodes_of (c ∷ cs))
 no_free all i c [] others h l = tt
 no_free all i c (d ∷ ds) others h l =
     let s : d.from ≡ c.from + c.size = l.4.0 in
@@ -37,11 +40,13 @@ no_free all i c (d ∷ ds) others h l =
       subst (λ (m : ℕ). NoFreeCut all m (nodes_of (d ∷ ds))) e (no_free all (c.from + c.size) d ds others h.1 l.4),
     )
 
-one_by : (all : List Item) (c : Child) (v : Bool) → v ≡ is_clean all c.from c.tree → AreSmallest all c.whole → AreSmallest all (cond v c.whole (group c.from c.size (further c.tree nothing)))
+one_by : (all : List Item) (c : Child) (v : Bool) → v ≡ is_clean all c.from c.tree → AreSmallest all c.whole
+    → AreSmallest all (cond v c.whole (group c.from c.size (further c.tree nothing)))
 one_by all c true e h = h
 one_by all c false e h = sym e
 
-runs_small : (all : List Item) (i : ℕ) (rs : List (List Child)) (cs : List Child) → AreRuns (is_tied all) rs cs → Chain all i cs → AllSmallest all (of_runs rs)
+runs_small : (all : List Item) (i : ℕ) (rs : List (List Child)) (cs : List Child) → AreRuns (is_tied all) rs cs → Chain all i cs
+    → AllSmallest all (of_runs rs)
 runs_small all i [] cs h k = tt
 runs_small all i ([] ∷ rs) cs h k = absurd h.2
 runs_small all i ((c ∷ []) ∷ rs) cs h k =

@@ -28,31 +28,38 @@ Carried = List Part → Option DataMw
 
 -- ---- tiling
 
-begins : (calls : List OuterCall) (carried : Carried) (all : List Item) (g : Grouped) → BeginsAt (place calls all (start_of g)) (label (placed calls carried all g)).ranges
+begins : (calls : List OuterCall) (carried : Carried) (all : List Item) (g : Grouped)
+    → BeginsAt (place calls all (start_of g)) (label (placed calls carried all g)).ranges
 begins calls carried all (kept h n o i c gs) = refl
 begins calls carried all (group n k ts) = refl
 
-ends : (calls : List OuterCall) (carried : Carried) (all : List Item) (g : Grouped) → end_of (label (placed calls carried all g)).ranges ≡ place calls all (start_of g + size_of g)
+ends : (calls : List OuterCall) (carried : Carried) (all : List Item) (g : Grouped)
+    → end_of (label (placed calls carried all g)).ranges ≡ place calls all (start_of g + size_of g)
 ends calls carried all (kept h n o i c gs) = sym (place_between calls all (o + i + c) n)
 ends calls carried all (group n k ts) = sym (place_between calls all k n)
 
-tiled_by : (calls : List OuterCall) (all : List Item) (is : Bool) (h : Head) (n o i c : ℕ) (us : Trees) → TiledFrom us (place calls all (n + o)) (place calls all (n + o + i))
-    → TiledBy is (kept_label is h (place calls all n) (text_between calls all n (o + i + c)) (text_between calls all n o) (text_between calls all (n + o + i) c)).ranges (λ from to. TiledFrom (inside_by is us) from to)
+tiled_by : (calls : List OuterCall) (all : List Item) (is : Bool) (h : Head) (n o i c : ℕ) (us : Trees)
+    → TiledFrom us (place calls all (n + o)) (place calls all (n + o + i))
+    → TiledBy is (kept_label is h (place calls all n) (text_between calls all n (o + i + c)) (text_between calls all n o)
+    (text_between calls all (n + o + i) c)).ranges (λ from to. TiledFrom (inside_by is us) from to)
 tiled_by calls all true h n o i c us g = omega arith
 tiled_by calls all false h n o i c us g =
     let w = width_three calls all n o i c in
     let a : place calls all (n + o) ≡ place calls all n + length (text_between calls all n o) = place_between calls all o n in
     let b : place calls all (n + o + i) ≡ place calls all (n + o) + length (text_between calls all (n + o) i) = place_between calls all i (n + o) in
-    let d : place calls all (n + o + i) ≡ place calls all n + length (text_between calls all n (o + i + c)) - length (text_between calls all (n + o + i) c) = omega (arith, w, a, b) in
+    let d : place calls all (n + o + i) ≡ place calls all n + length (text_between calls all n (o + i + c)) - length (text_between calls all (n + o + i) c) =
+    omega (arith, w, a, b) in
     let to : ℕ = place calls all n + length (text_between calls all n (o + i + c)) - length (text_between calls all (n + o + i) c) in
     (omega (arith, w), subst (λ (m : ℕ). TiledFrom us m to) a (subst (λ (m : ℕ). TiledFrom us (place calls all (n + o)) m) d g))
 
 mutual
   pub tiled : (calls : List OuterCall) (carried : Carried) (all : List Item) (g : Grouped) → Fills g → Tiled (placed calls carried all g)
-  tiled calls carried all (kept h n o i c gs) f = tiled_by calls all (is_leaf h.kind) h n o i c (all_placed calls carried all gs) (all_tiled calls carried all gs (n + o) (n + o + i) f)
+  tiled calls carried all (kept h n o i c gs) f =
+      tiled_by calls all (is_leaf h.kind) h n o i c (all_placed calls carried all gs) (all_tiled calls carried all gs (n + o) (n + o + i) f)
   tiled calls carried all (group n k ts) f = omega arith
 
-  pub all_tiled : (calls : List OuterCall) (carried : Carried) (all : List Item) (gs : GroupedAll) (from to : ℕ) → FillFrom gs from to → TiledFrom (all_placed calls carried all gs) (place calls all from) (place calls all to)
+  pub all_tiled : (calls : List OuterCall) (carried : Carried) (all : List Item) (gs : GroupedAll) (from to : ℕ) → FillFrom gs from to
+      → TiledFrom (all_placed calls carried all gs) (place calls all from) (place calls all to)
   all_tiled calls carried all ended from to f = ap (place calls all) f
   all_tiled calls carried all (along g gs) from to f =
       let rest = all_tiled calls carried all gs (start_of g + size_of g) to f.2 in (
@@ -76,7 +83,8 @@ numbered_by false false (Some r) ts us m h = (h.0, m (r.start + r.open_w) (r.end
 mutual
   pub tiled_numbered : (next : ℕ) (t : Tree) → Tiled t → Tiled (with_numbers next t)
   tiled_numbered next (tree l ts) h =
-      numbered_by (is_leaf l.kind) (is_group l.kind) l.ranges ts (all_with_numbers (next_after l.kind next) ts) (λ from to q. all_tiled_numbered (next_after l.kind next) ts from to q) h
+      numbered_by (is_leaf l.kind) (is_group l.kind) l.ranges ts (all_with_numbers (next_after l.kind next) ts)
+      (λ from to q. all_tiled_numbered (next_after l.kind next) ts from to q) h
 
   pub all_tiled_numbered : (next : ℕ) (ts : Trees) (from to : ℕ) → TiledFrom ts from to → TiledFrom (all_with_numbers next ts) from to
   all_tiled_numbered next none from to h = h
@@ -84,7 +92,8 @@ mutual
       let s : (label t).ranges ≡ (label (with_numbers next t)).ranges = sym (same_ranges next t) in (
         subst (λ (r : Option Ranges). BeginsAt from r) s h.0,
         tiled_numbered next t h.1,
-        subst (λ (r : Option Ranges). TiledFrom (all_with_numbers (next + count t) ts) (end_of r) to) s (all_tiled_numbered (next + count t) ts (end_of (label t).ranges) to h.2),
+        subst (λ (r : Option Ranges). TiledFrom (all_with_numbers (next + count t) ts) (end_of r) to) s
+            (all_tiled_numbered (next + count t) ts (end_of (label t).ranges) to h.2),
       )
 
 flat_by : (leaf g : Bool) (own opening closing : List ℕ) (ts us : Trees) → (g ≡ true → leaf ≡ true) → flat_of_all us ≡ flat_of_all ts
@@ -100,12 +109,14 @@ group_leaf k e = absurd (subst (λ (b : Bool). cond b ⊥ (Unit {0})) e tt)
 mutual
   pub flat_numbered : (next : ℕ) (t : Tree) → flat (with_numbers next t) ≡ flat t
   flat_numbered next (tree l ts) =
-      flat_by (is_leaf l.kind) (is_group l.kind) l.own l.opening l.closing ts (all_with_numbers (next_after l.kind next) ts) (group_leaf l.kind) (all_flat_numbered (next_after l.kind next) ts)
+      flat_by (is_leaf l.kind) (is_group l.kind) l.own l.opening l.closing ts (all_with_numbers (next_after l.kind next) ts) (group_leaf l.kind)
+      (all_flat_numbered (next_after l.kind next) ts)
 
   pub all_flat_numbered : (next : ℕ) (ts : Trees) → flat_of_all (all_with_numbers next ts) ≡ flat_of_all ts
   all_flat_numbered next none = refl
   all_flat_numbered next (more t ts) =
-      ap (λ bs. bs ++ flat_of_all (all_with_numbers (next + count t) ts)) (flat_numbered next t) ∙ ap (λ bs. flat t ++ bs) (all_flat_numbered (next + count t) ts)
+      ap (λ bs. bs ++ flat_of_all (all_with_numbers (next + count t) ts)) (flat_numbered next t)
+      ∙ ap (λ bs. flat t ++ bs) (all_flat_numbered (next + count t) ts)
 
 -- ---- the source
 
@@ -115,13 +126,16 @@ source_by true source opening inside closing us e g = refl
 source_by false source opening inside closing us e g = ap (λ bs. opening ++ bs ++ closing) g ∙ append_assoc opening inside closing ∙ sym e
 
 mutual
-  pub source : (calls : List OuterCall) (carried : Carried) (all : List Item) (g : Grouped) → Fills g → flat (placed calls carried all g) ≡ text_between calls all (start_of g) (size_of g)
+  pub source : (calls : List OuterCall) (carried : Carried) (all : List Item) (g : Grouped) → Fills g
+      → flat (placed calls carried all g) ≡ text_between calls all (start_of g) (size_of g)
   source calls carried all (kept h n o i c gs) f =
-      source_by (is_leaf h.kind) (text_between calls all n (o + i + c)) (text_between calls all n o) (text_between calls all (n + o) i) (text_between calls all (n + o + i) c) (all_placed calls carried all gs)
+      source_by (is_leaf h.kind) (text_between calls all n (o + i + c)) (text_between calls all n o) (text_between calls all (n + o) i)
+      (text_between calls all (n + o + i) c) (all_placed calls carried all gs)
       (text_three calls all n o i c) (all_source calls carried all gs (n + o) i f)
   source calls carried all (group n k ts) f = refl
 
-  pub all_source : (calls : List OuterCall) (carried : Carried) (all : List Item) (gs : GroupedAll) (from size : ℕ) → FillFrom gs from (from + size) → flat_of_all (all_placed calls carried all gs) ≡ text_between calls all from size
+  pub all_source : (calls : List OuterCall) (carried : Carried) (all : List Item) (gs : GroupedAll) (from size : ℕ) → FillFrom gs from (from + size)
+      → flat_of_all (all_placed calls carried all gs) ≡ text_between calls all from size
   all_source calls carried all ended from size f = let e : 0 ≡ size = omega (arith, f) in ap (text_between calls all from) e
   all_source calls carried all (along g gs) from size f =
       let up = fill_up gs (start_of g + size_of g) (from + size) f.2 in
@@ -143,9 +157,11 @@ mutual
 
 pub annotated_tiles : (calls : List OuterCall) (carried : Carried) (t : ItemTree) → is_clean (held t) 0 t ≡ true → Tiled (annotated calls carried t)
 unfolding annotated
-annotated_tiles calls carried t q = tiled_numbered 1 (placed calls carried (held t) (grouped (held t) 0 t)) (tiled calls carried (held t) (grouped (held t) 0 t) (stand (held t) 0 t q).0)
+annotated_tiles calls carried t q =
+    tiled_numbered 1 (placed calls carried (held t) (grouped (held t) 0 t)) (tiled calls carried (held t) (grouped (held t) 0 t) (stand (held t) 0 t q).0)
 
-pub annotated_source : (calls : List OuterCall) (carried : Carried) (t : ItemTree) → is_clean (held t) 0 t ≡ true → flat (annotated calls carried t) ≡ page_of calls (held t)
+pub annotated_source : (calls : List OuterCall) (carried : Carried) (t : ItemTree) → is_clean (held t) 0 t ≡ true
+    → flat (annotated calls carried t) ≡ page_of calls (held t)
 unfolding annotated
 annotated_source calls carried t q =
     let g : Grouped = grouped (held t) 0 t in

@@ -17,12 +17,14 @@ use Rattle.wt_ranges.specs.Annotated.{no_place, unplaced, all_unplaced}
 use Rattle.wt_ranges.specs.Nodes.{node_label}
 use Rattle.wt_ranges.proofs.HeldPieces.{item_tree_out}
 
-leaf_by : (is : Bool) (h : Head) (o own c : List Item) (us : Trees) → is ≡ true → tree (no_place (label_at 0 0 is h o own c)) (inside_by is us) ≡ tree (node_label h None [] [] (sources own)) none
+leaf_by : (is : Bool) (h : Head) (o own c : List Item) (us : Trees) → is ≡ true
+    → tree (no_place (label_at 0 0 is h o own c)) (inside_by is us) ≡ tree (node_label h None [] [] (sources own)) none
 unfolding label_at
 leaf_by true h o own c us e = refl
 leaf_by false h o own c us e = cc
 
-inner_by : (is : Bool) (h : Head) (o own c : List Item) (us : Trees) → is ≡ false → tree (no_place (label_at 0 0 is h o own c)) (inside_by is us) ≡ tree (node_label h None (sources o) (sources c) []) us
+inner_by : (is : Bool) (h : Head) (o own c : List Item) (us : Trees) → is ≡ false
+    → tree (no_place (label_at 0 0 is h o own c)) (inside_by is us) ≡ tree (node_label h None (sources o) (sources c) []) us
 unfolding label_at
 inner_by true h o own c us e = cc
 inner_by false h o own c us e = refl
@@ -30,8 +32,10 @@ inner_by false h o own c us e = refl
 abbrev made : Head → Sources → List Node → Tree
 made h s ns = tree (node_label h None (texts_of s.opening) (texts_of s.closing) (texts_of s.own)) (views ns)
 
-pub leaf_unplaced : (n : PieceTree) (u : Tree) (s : Sources) (own : List Text) (ps qs : List Piece) (ns : List Node) → is_leaf (out-PieceTree n).head.kind ≡ true
-    → u ≡ tree (node_label (head_of (out-PieceTree n).head) None (texts_of s.opening) (texts_of s.closing) (texts_of s.own)) (views ns) → s ≡ record { opening = []; closing = []; own = own } → ns ≡ []
+pub leaf_unplaced : (n : PieceTree) (u : Tree) (s : Sources) (own : List Text) (ps qs : List Piece) (ns : List Node)
+    → is_leaf (out-PieceTree n).head.kind ≡ true
+    → u ≡ tree (node_label (head_of (out-PieceTree n).head) None (texts_of s.opening) (texts_of s.closing) (texts_of s.own)) (views ns)
+    → s ≡ record { opening = []; closing = []; own = own } → ns ≡ []
     → texts_of own ≡ sources (items qs) → qs ≡ ps → items ps ≡ held (item_tree n) → u ≡ unplaced (item_tree n)
 leaf_unplaced n u s own ps qs ns e f g m t i h =
     let k : Head = head_of (out-PieceTree n).head in
@@ -47,7 +51,8 @@ leaf_unplaced n u s own ps qs ns e f g m t i h =
     ∙ sym (ap unplaced (item_tree_out n))
 
 pub inner_unplaced : (n : PieceTree) (u : Tree) (us : Trees) (os cs : List Piece) → is_leaf (out-PieceTree n).head.kind ≡ false
-    → u ≡ tree (node_label (head_of (out-PieceTree n).head) None (sources (items os)) (sources (items cs)) []) us → os ≡ (out-PieceTree n).opening → cs ≡ (out-PieceTree n).closing → us ≡ all_unplaced (forest (item_trees (out-PieceTree n).children)) → u ≡ unplaced (item_tree n)
+    → u ≡ tree (node_label (head_of (out-PieceTree n).head) None (sources (items os)) (sources (items cs)) []) us → os ≡ (out-PieceTree n).opening
+    → cs ≡ (out-PieceTree n).closing → us ≡ all_unplaced (forest (item_trees (out-PieceTree n).children)) → u ≡ unplaced (item_tree n)
 inner_unplaced n u us os cs e f p q m =
     let k : Head = head_of (out-PieceTree n).head in
     let o : List Item = items (out-PieceTree n).opening in
@@ -69,6 +74,9 @@ none_left : (rs : List PieceTree) → length rs ≡ 0 → rs ≡ []
 none_left [] e = refl
 none_left (r ∷ rs) e = absurd (omega (arith, e))
 
-pub all_unplaced_done : (ms : List Node) (rs ys bs : List PieceTree) → map view ms ++ map (λ n. unplaced (item_tree n)) rs ≡ map (λ n. unplaced (item_tree n)) ys → length rs ≡ 0 → ys ≡ bs → views ms ≡ all_unplaced (forest (item_trees bs))
+pub all_unplaced_done : (ms : List Node) (rs ys bs : List PieceTree)
+    → map view ms ++ map (λ n. unplaced (item_tree n)) rs ≡ map (λ n. unplaced (item_tree n)) ys → length rs ≡ 0 → ys ≡ bs
+    → views ms ≡ all_unplaced (forest (item_trees bs))
 all_unplaced_done ms rs ys bs h z e =
-    ap trees (sym (append-nil (map view ms)) ∙ ap (λ xs. map view ms ++ map (λ n. unplaced (item_tree n)) xs) (sym (none_left rs z)) ∙ h) ∙ sym (unplaced_list ys) ∙ ap (λ xs. all_unplaced (forest (item_trees xs))) e
+    ap trees (sym (append-nil (map view ms)) ∙ ap (λ xs. map view ms ++ map (λ n. unplaced (item_tree n)) xs) (sym (none_left rs z)) ∙ h)
+    ∙ sym (unplaced_list ys) ∙ ap (λ xs. all_unplaced (forest (item_trees xs))) e

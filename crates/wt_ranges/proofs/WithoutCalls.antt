@@ -41,11 +41,14 @@ all_free all zero p = refl
 all_free all (suc n) p = ap (λ o. not (same_call o (call_of_item (slice_get all (suc n))))) (no_call_at all n p)
 
 -- what stands on the page for items of the page are their bytes
-own_at : (calls : List OuterCall) (all : List Item) (n : ℕ) (x : Item) (rest : List Item) → drop n all ≡ x ∷ rest → is_page x ≡ true → is_free all n ≡ true → text_at calls all n ≡ source x
+own_at : (calls : List OuterCall) (all : List Item) (n : ℕ) (x : Item) (rest : List Item) → drop n all ≡ x ∷ rest → is_page x ≡ true → is_free all n ≡ true
+    → text_at calls all n ≡ source x
 own_at calls all n x rest e p f =
-    ap (λ v. cond v (origin_text calls (slice_get all n)) []) f ∙ ap (origin_text calls) (at_get all n x rest e) ∙ ap (λ o. text_by calls o (source x)) (none_of (call_of x) p)
+    ap (λ v. cond v (origin_text calls (slice_get all n)) []) f ∙ ap (origin_text calls) (at_get all n x rest e)
+    ∙ ap (λ o. text_by calls o (source x)) (none_of (call_of x) p)
 
-page_between : (calls : List OuterCall) (all : List Item) (n : ℕ) (xs ys : List Item) → drop n all ≡ xs ++ ys → OfPage all → OfPage xs → text_between calls all n (length xs) ≡ sources xs
+page_between : (calls : List OuterCall) (all : List Item) (n : ℕ) (xs ys : List Item) → drop n all ≡ xs ++ ys → OfPage all → OfPage xs
+    → text_between calls all n (length xs) ≡ sources xs
 page_between calls all n [] ys e p q = refl
 page_between calls all n (x ∷ xs) ys e p q =
     let r = both (is_page x) (list_all is_page xs) q in
@@ -70,12 +73,14 @@ part_page all before xs after e p =
     let q = all_split before (xs ++ after) (ap (list_all is_page) (sym e) ∙ p) in
     (all_split xs after q.1).0
 
-text_page : (calls : List OuterCall) (all before xs after : List Item) → all ≡ before ++ (xs ++ after) → OfPage all → text_between calls all (length before) (length xs) ≡ sources xs
+text_page : (calls : List OuterCall) (all before xs after : List Item) → all ≡ before ++ (xs ++ after) → OfPage all
+    → text_between calls all (length before) (length xs) ≡ sources xs
 text_page calls all before xs after e p = page_between calls all (length before) xs after (stands all before xs after e) p (part_page all before xs after e p)
 
 -- ---- clean nodes
 
-own_all : (is : Bool) (opening inside closing : List Item) → OfPage opening → OfPage (inside ++ closing) → OfPage closing → OfPage (own_by is opening inside closing)
+own_all : (is : Bool) (opening inside closing : List Item) → OfPage opening → OfPage (inside ++ closing) → OfPage closing
+    → OfPage (own_by is opening inside closing)
 own_all true [] inside closing o r c = r
 own_all true (x ∷ xs) inside closing o r c = let q = both (is_page x) (list_all is_page xs) o in rw q.0 (own_all true xs inside closing q.1 r c)
 own_all false [] inside closing o r c = c
@@ -108,7 +113,8 @@ all_clean all n (inner h o ts c) p q l =
 
 put_single : (all : List Item) (c : Child) (cs : List Child) → OfPage all → put (is_tied all) c (map (λ d. d ∷ []) cs) ≡ (c ∷ []) ∷ map (λ d. d ∷ []) cs
 put_single all c [] p = refl
-put_single all c (d ∷ ds) p = ap (λ v. cond (not v) ((c ∷ d ∷ []) ∷ map (λ e. e ∷ []) ds) ((c ∷ []) ∷ (d ∷ []) ∷ map (λ e. e ∷ []) ds)) (all_free all d.from p)
+put_single all c (d ∷ ds) p = ap (λ v. cond (not v) ((c ∷ d ∷ []) ∷ map (λ e. e ∷ []) ds) ((c ∷ []) ∷ (d ∷ []) ∷ map (λ e. e ∷ []) ds))
+    (all_free all d.from p)
 
 singles : (all : List Item) (cs : List Child) → OfPage all → runs (is_tied all) cs ≡ map (λ c. c ∷ []) cs
 singles all [] p = refl
@@ -124,22 +130,26 @@ label_by false h at o own c = refl
 -- ---- trees
 
 mutual
-  same_placed : (calls : List OuterCall) (carried : Carried) (all before after : List Item) (t : ItemTree) → all ≡ before ++ (held t ++ after) → OfPage all → NoneEmpty t
+  same_placed : (calls : List OuterCall) (carried : Carried) (all before after : List Item) (t : ItemTree) → all ≡ before ++ (held t ++ after) → OfPage all
+      → NoneEmpty t
       → placed calls carried all (grouped all (length before) t) ≡ placed_behind before t
   same_placed calls carried all before after (inner h o ts c) e p m =
       let is : Bool = is_leaf h.kind in
       let n : ℕ = length before in
       let i : List Item = held_by_all ts in
       let rest : all ≡ (before ++ o) ++ (i ++ (c ++ after)) =
-      e ∙ ap (λ xs. before ++ xs) (append_assoc o (i ++ c) after ∙ ap (λ xs. o ++ xs) (append_assoc i c after)) ∙ sym (append_assoc before o (i ++ (c ++ after))) in
+      e ∙ ap (λ xs. before ++ xs) (append_assoc o (i ++ c) after ∙ ap (λ xs. o ++ xs) (append_assoc i c after))
+      ∙ sym (append_assoc before o (i ++ (c ++ after))) in
       let first : all ≡ before ++ (o ++ ((i ++ c) ++ after)) = e ∙ ap (λ xs. before ++ xs) (append_assoc o (i ++ c) after) in
       let last : all ≡ ((before ++ o) ++ i) ++ (c ++ after) = rest ∙ sym (append_assoc (before ++ o) i (c ++ after)) in
       let k : length (before ++ o) ≡ n + length o = length-append before o in
       let j : length ((before ++ o) ++ i) ≡ n + length o + length i = omega (arith, length-append (before ++ o) i, k) in
       let w : length (o ++ (i ++ c)) ≡ length o + length i + length c = omega (arith, length-append o (i ++ c), length-append i c) in
-      let whole : text_between calls all n (length o + length i + length c) ≡ sources (o ++ (i ++ c)) = ap (text_between calls all n) (sym w) ∙ text_page calls all before (o ++ (i ++ c)) after e p in
+      let whole : text_between calls all n (length o + length i + length c) ≡ sources (o ++ (i ++ c)) = ap (text_between calls all n) (sym w)
+      ∙ text_page calls all before (o ++ (i ++ c)) after e p in
       let front : text_between calls all n (length o) ≡ sources o = text_page calls all before o ((i ++ c) ++ after) first p in
-      let back : text_between calls all (n + length o + length i) (length c) ≡ sources c = ap (λ x. text_between calls all x (length c)) (sym j) ∙ text_page calls all ((before ++ o) ++ i) c after last p in
+      let back : text_between calls all (n + length o + length i) (length c) ≡ sources c = ap (λ x. text_between calls all x (length c)) (sym j)
+      ∙ text_page calls all ((before ++ o) ++ i) c after last p in
       let at : place calls all n ≡ width before = page_place calls all before (held (inner h o ts c) ++ after) e p in
       let cs : List Child = children all (n + length o) ts in
       let us : Trees = all_placed calls carried all (of_runs (runs (is_tied all) cs)) in
@@ -147,14 +157,18 @@ mutual
       ap (λ rs. all_placed calls carried all (of_runs rs)) (singles all cs p)
       ∙ ap (λ x. all_placed calls carried all (of_runs (map (λ d. d ∷ []) (children all x ts)))) (sym k)
       ∙ all_same calls carried all (before ++ o) (c ++ after) ts rest p m in
-      ap (λ x. tree (kept_label is h x (text_between calls all n (length o + length i + length c)) (text_between calls all n (length o)) (text_between calls all (n + length o + length i) (length c))) (inside_by is us)) at
-      ∙ ap (λ x. tree (kept_label is h (width before) x (text_between calls all n (length o)) (text_between calls all (n + length o + length i) (length c))) (inside_by is us)) whole
-      ∙ ap (λ x. tree (kept_label is h (width before) (sources (o ++ (i ++ c))) x (text_between calls all (n + length o + length i) (length c))) (inside_by is us)) front
+      ap (λ x. tree (kept_label is h x (text_between calls all n (length o + length i + length c)) (text_between calls all n (length o))
+      (text_between calls all (n + length o + length i) (length c))) (inside_by is us)) at
+      ∙ ap (λ x. tree (kept_label is h (width before) x (text_between calls all n (length o)) (text_between calls all (n + length o + length i) (length c)))
+      (inside_by is us)) whole
+      ∙ ap (λ x. tree (kept_label is h (width before) (sources (o ++ (i ++ c))) x (text_between calls all (n + length o + length i) (length c)))
+      (inside_by is us)) front
       ∙ ap (λ x. tree (kept_label is h (width before) (sources (o ++ (i ++ c))) (sources o) x) (inside_by is us)) back
       ∙ ap (λ l. tree l (inside_by is us)) (label_by is h (width before) o (o ++ (i ++ c)) c)
       ∙ ap (λ vs. tree (label_at (width before) 0 is h o (o ++ (i ++ c)) c) (inside_by is vs)) inside
 
-  all_same : (calls : List OuterCall) (carried : Carried) (all before after : List Item) (ts : ItemTrees) → all ≡ before ++ (held_by_all ts ++ after) → OfPage all → AllNonEmpty ts
+  all_same : (calls : List OuterCall) (carried : Carried) (all before after : List Item) (ts : ItemTrees) → all ≡ before ++ (held_by_all ts ++ after)
+      → OfPage all → AllNonEmpty ts
       → all_placed calls carried all (of_runs (map (λ d. d ∷ []) (children all (length before) ts))) ≡ all_placed_behind before ts
   all_same calls carried all before after nothing e p m = refl
   all_same calls carried all before after (further t ts) e p m =
@@ -169,6 +183,7 @@ mutual
       ∙ ap (λ x. more (placed_behind before t) (all_placed calls carried all (of_runs (map (λ d. d ∷ []) (children all x ts))))) (sym k)
       ∙ ap (more (placed_behind before t)) (all_same calls carried all (before ++ held t) after ts rest p m.2)
 
-pub without_calls : (calls : List OuterCall) (carried : Carried) (t : ItemTree) → list_all is_page (held t) ≡ true → NoneEmpty t → annotated calls carried t ≡ annotated_plainly t
+pub without_calls : (calls : List OuterCall) (carried : Carried) (t : ItemTree) → list_all is_page (held t) ≡ true → NoneEmpty t
+    → annotated calls carried t ≡ annotated_plainly t
 unfolding annotated annotated_plainly
 without_calls calls carried t p m = ap (with_numbers 1) (same_placed calls carried (held t) [] [] t (sym (append-nil (held t))) p m)

@@ -23,7 +23,9 @@ no_place l = record l { ranges = None }
 
 abbrev mutual
   pub unplaced : ItemTree → Tree
-  unplaced (inner h opening ts closing) = tree (no_place (label_at 0 0 (is_leaf h.kind) h opening (opening ++ (held_by_all ts ++ closing)) closing)) (inside_by (is_leaf h.kind) (all_unplaced ts))
+  unplaced (inner h opening ts closing) =
+      tree (no_place (label_at 0 0 (is_leaf h.kind) h opening (opening ++ (held_by_all ts ++ closing))
+      closing)) (inside_by (is_leaf h.kind) (all_unplaced ts))
 
   pub all_unplaced : ItemTrees → Trees
   all_unplaced nothing = none
@@ -39,7 +41,12 @@ abbrev pub kept_label : Bool → Head → ℕ → List ℕ → List ℕ → List
 kept_label is h at source opening closing = record {
   kind = h.kind;
   id = 0;
-  ranges = Some (record { start = at; end = at + length source; open_w = open_by is h.kind source opening; close_w = length (if_inner is closing) });
+  ranges = Some (record {
+    start = at;
+    end = at + length source;
+    open_w = open_by is h.kind source opening;
+    close_w = length (if_inner is closing);
+  });
   opening = if_inner is opening;
   closing = if_inner is closing;
   own = if_leaf is source;
@@ -70,12 +77,17 @@ group_label at source mw = record {
 abbrev mutual
   pub placed : List OuterCall → (List Part → Option DataMw) → List Item → Grouped → Tree
   placed calls carried all (kept h n o i c gs) =
-      tree (kept_label (is_leaf h.kind) h (place calls all n) (text_between calls all n (o + i + c)) (text_between calls all n o) (text_between calls all (n + o + i) c)) (inside_by (is_leaf h.kind) (all_placed calls carried all gs))
-  placed calls carried all (group n k ts) = tree (group_label (place calls all n) (text_between calls all n k) (carried (parts calls all n k))) (all_unplaced ts)
+      tree (kept_label (is_leaf h.kind) h (place calls all n) (text_between calls all n (o + i + c))
+      (text_between calls all n o) (text_between calls all (n + o + i) c))
+      (inside_by (is_leaf h.kind) (all_placed calls carried all gs))
+  placed calls carried all (group n k ts) =
+      tree (group_label (place calls all n) (text_between calls all n k) (carried (parts calls all n k)))
+      (all_unplaced ts)
 
   pub all_placed : List OuterCall → (List Part → Option DataMw) → List Item → GroupedAll → Trees
   all_placed calls carried all ended = none
-  all_placed calls carried all (along g gs) = more (placed calls carried all g) (all_placed calls carried all gs)
+  all_placed calls carried all (along g gs) =
+      more (placed calls carried all g) (all_placed calls carried all gs)
 
 -- The annotated tree, in which neighbouring texts and separators of an item or a cell aren't cut anew.
 unfoldable pub annotated : List OuterCall → (List Part → Option DataMw) → ItemTree → Tree

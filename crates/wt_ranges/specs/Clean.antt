@@ -32,5 +32,7 @@ own_by false opening inside closing = opening ++ closing
 abbrev pub is_clean : List Item → ℕ → ItemTree → Bool
 is_clean all n (inner h opening ts closing) =
     is_free all n && (is_free all (n + length opening)
-    && (is_free all (n + length opening + length (held_by_all ts)) && (is_free all (n + length opening + length (held_by_all ts) + length closing)
-    && (list_all is_page (own_by (is_leaf h.kind) opening (held_by_all ts) closing) && (is_body h.kind || list_any is_page (opening ++ (held_by_all ts ++ closing)))))))
+    && (is_free all (n + length opening + length (held_by_all ts))
+    && (is_free all (n + length opening + length (held_by_all ts) + length closing)
+    && (list_all is_page (own_by (is_leaf h.kind) opening (held_by_all ts) closing)
+    && (is_body h.kind || list_any is_page (opening ++ (held_by_all ts ++ closing)))))))

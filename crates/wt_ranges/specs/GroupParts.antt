@@ -33,12 +33,14 @@ slice_part (b ∷ bs) = between (b ∷ bs) ∷ []
 
 -- what stands on the page after the first call up to the second
 abbrev pub text_after : List OuterCall → List Item → Begun → Begun → List ℕ
-text_after calls all (n, k) (m, j) = drop (length (source_of_call (slice_get calls k))) (text_between calls all n (m - n))
+text_after calls all (n, k) (m, j) =
+    drop (length (source_of_call (slice_get calls k))) (text_between calls all n (m - n))
 
 abbrev pub parts_by : List OuterCall → List Item → List Begun → List Part
 parts_by calls all [] = []
 parts_by calls all (b ∷ []) = called b.1 ∷ []
-parts_by calls all (b ∷ c ∷ bs) = called b.1 ∷ (slice_part (text_after calls all b c) ++ parts_by calls all (c ∷ bs))
+parts_by calls all (b ∷ c ∷ bs) =
+    called b.1 ∷ (slice_part (text_after calls all b c) ++ parts_by calls all (c ∷ bs))
 
 -- the parts of a group of so many items after a cut
 abbrev pub parts : List OuterCall → List Item → ℕ → ℕ → List Part

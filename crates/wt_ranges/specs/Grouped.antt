@@ -52,8 +52,17 @@ of_runs (r ∷ rs) = along (of_run r) (of_runs rs)
 abbrev mutual
   pub grouped : List Item → ℕ → ItemTree → Grouped
   grouped all n (inner h opening ts closing) =
-      kept h n (length opening) (length (held_by_all ts)) (length closing) (of_runs (runs (is_tied all) (children all (n + length opening) ts)))
+      kept h n (length opening) (length (held_by_all ts)) (length closing)
+      (of_runs (runs (is_tied all) (children all (n + length opening) ts)))
 
   pub children : List Item → ℕ → ItemTrees → List Child
   children all n nothing = []
-  children all n (further t ts) = record { from = n; size = length (held t); tree = t; clean = is_clean all n t; whole = grouped all n t } ∷ children all (n + length (held t)) ts
+  children all n (further t ts) =
+      record {
+        from = n;
+        size = length (held t);
+        tree = t;
+        clean = is_clean all n t;
+        whole = grouped all n t;
+      }
+      ∷ children all (n + length (held t)) ts

@@ -22,7 +22,8 @@ Fits calls c = c.byte + length (text_from calls c.before (held (item_tree c.tree
 
 abbrev pub NearsFit : List OuterCall → List Near → Type 0
 NearsFit calls [] = Unit {0}
-NearsFit calls (c ∷ cs) = c.byte + length (text_from calls c.before (held_by_all (near_nodes (c ∷ cs)))) < 2 ^ 32
+NearsFit calls (c ∷ cs) =
+    c.byte + length (text_from calls c.before (held_by_all (near_nodes (c ∷ cs)))) < 2 ^ 32
 
 -- and so does a run of children
 abbrev pub RunFits : List OuterCall → Run → Type 0
@@ -47,7 +48,8 @@ frame_ranges calls c = record {
 pub record IsFrame (calls : List OuterCall) (c : Child) (f : Frame) : Type 0 where
   pub ranges : f.ranges ≡ frame_ranges calls c
   pub opening : texts_of f.sources.opening ≡ text_from calls c.before (items (out-PieceTree c.tree).opening)
-  pub closing : texts_of f.sources.closing ≡ text_from calls (filled c.before c.tree) (items (out-PieceTree c.tree).closing)
+  pub closing : texts_of f.sources.closing
+      ≡ text_from calls (filled c.before c.tree) (items (out-PieceTree c.tree).closing)
   pub own : texts_of f.sources.own ≡ []
   pub before : f.before ≡ opened c.before c.tree
   pub byte : f.byte ≡ c.byte + length (text_from calls c.before (items (out-PieceTree c.tree).opening))

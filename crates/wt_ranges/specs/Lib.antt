@@ -2,6 +2,7 @@ pub mod Annotated
 pub mod Children
 pub mod Clean
 pub mod Grouped
+pub mod Counted
 pub mod GroupData
 pub mod GroupParts
 pub mod Kept
@@ -12,5 +13,6 @@ pub mod Pieces
 pub mod Reached
 pub mod RunTrees
 pub mod Seams
+pub mod Ungrouped
 pub mod Walked
 pub mod WithoutCalls

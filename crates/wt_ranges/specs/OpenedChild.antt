@@ -15,4 +15,6 @@ pub record IsOpened (calls : List OuterCall) (c : Child) (o : Opened) : Type 0 w
   pub head : o.head ≡ (out-PieceTree c.tree).head
   pub children : List Child
   pub runs : AreRunsOf o.runs children
-  pub nears : nears_of calls children ≡ children_at calls o.frame.before o.frame.byte o.frame.after (item_trees (out-PieceTree c.tree).children)
+  pub nears : nears_of calls children
+      ≡ children_at calls o.frame.before o.frame.byte o.frame.after
+      (item_trees (out-PieceTree c.tree).children)

@@ -39,7 +39,9 @@ size_of (group n k ts) = k
 -- The four places of each node that is kept, and both ends of each group, are free cuts.
 abbrev mutual
   pub AtFreeCuts : List Item → Grouped → Type 0
-  AtFreeCuts all (kept h n o i c gs) = (is_free all n ≡ true) × (is_free all (n + o) ≡ true) × (is_free all (n + o + i) ≡ true) × (is_free all (n + o + i + c) ≡ true) × AllAtFreeCuts all gs
+  AtFreeCuts all (kept h n o i c gs) =
+      (is_free all n ≡ true) × (is_free all (n + o) ≡ true) × (is_free all (n + o + i) ≡ true)
+      × (is_free all (n + o + i + c) ≡ true) × AllAtFreeCuts all gs
   AtFreeCuts all (group n k ts) = (is_free all n ≡ true) × (is_free all (n + k) ≡ true)
 
   pub AllAtFreeCuts : List Item → GroupedAll → Type 0
@@ -72,7 +74,8 @@ abbrev mutual
 abbrev pub NoFreeCut : List Item → ℕ → ItemTrees → Type 0
 NoFreeCut all n nothing = Unit {0}
 NoFreeCut all n (further t nothing) = Unit {0}
-NoFreeCut all n (further t (further u ts)) = (is_free all (n + length (held t)) ≡ false) × NoFreeCut all (n + length (held t)) (further u ts)
+NoFreeCut all n (further t (further u ts)) =
+    (is_free all (n + length (held t)) ≡ false) × NoFreeCut all (n + length (held t)) (further u ts)
 
 -- a group holds one unclean node, or more between which no cut is free
 abbrev pub IsGroup : List Item → ℕ → ItemTrees → Type 0

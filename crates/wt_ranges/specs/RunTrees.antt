@@ -27,7 +27,8 @@ run_tree calls (Group cs) = near_group calls (group_data calls) (nears_of calls 
 -- the run of these children
 pub record IsRunOf (cs : List Child) (r : Run) : Type 0 where
   pub children : run_children r ≡ cs
-  pub becomes : (calls : List OuterCall) → run_tree calls r ≡ near_run calls (group_data calls) (nears_of calls cs)
+  pub becomes : (calls : List OuterCall)
+      → run_tree calls r ≡ near_run calls (group_data calls) (nears_of calls cs)
 
 -- a child begins another run behind the one that waits
 abbrev pub begins_run : List Child → Child → Bool
@@ -43,10 +44,13 @@ AreTied (c ∷ d ∷ ds) = (d.free ≡ false) × AreTied (d ∷ ds)
 -- some runs are cut, one waits for more children, and the rest comes next
 pub record CutSoFar (runs : List Run) (run rest all : List Child) : Type 0 where
   pub joined : flat_map run_children runs ++ (run ++ rest) ≡ all
-  pub become : (calls : List OuterCall) → map (run_tree calls) runs ++ near_runs calls (group_data calls) (nears_of calls (run ++ rest)) ≡ near_runs calls (group_data calls) (nears_of calls all)
+  pub become : (calls : List OuterCall)
+      → map (run_tree calls) runs ++ near_runs calls (group_data calls) (nears_of calls (run ++ rest))
+      ≡ near_runs calls (group_data calls) (nears_of calls all)
   pub tied : AreTied run
 
 -- all runs of these children
 pub record AreRunsOf (runs : List Run) (all : List Child) : Type 0 where
   pub joined : flat_map run_children runs ≡ all
-  pub become : (calls : List OuterCall) → map (run_tree calls) runs ≡ near_runs calls (group_data calls) (nears_of calls all)
+  pub become : (calls : List OuterCall)
+      → map (run_tree calls) runs ≡ near_runs calls (group_data calls) (nears_of calls all)

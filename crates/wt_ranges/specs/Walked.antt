@@ -22,11 +22,14 @@ abbrev pub free_places : Option ℕ → List Item → List Item → List Item �
 free_places o opening inside closing p =
     parted o (first_of opening (first_of inside (first_of closing p)))
     && (parted (last_of o opening) (first_of inside (first_of closing p))
-    && (parted (last_of (last_of o opening) inside) (first_of closing p) && parted (last_of (last_of (last_of o opening) inside) closing) p))
+    && (parted (last_of (last_of o opening) inside) (first_of closing p)
+    && parted (last_of (last_of (last_of o opening) inside) closing) p))
 
 abbrev pub clean_at : Option ℕ → Option ℕ → ItemTree → Bool
 clean_at o p (inner h opening ts closing) =
-    free_places o opening (held_by_all ts) closing p && (list_all is_page (own_by (is_leaf h.kind) opening (held_by_all ts) closing) && (is_body h.kind || list_any is_page (opening ++ (held_by_all ts ++ closing))))
+    free_places o opening (held_by_all ts) closing p
+    && (list_all is_page (own_by (is_leaf h.kind) opening (held_by_all ts) closing)
+    && (is_body h.kind || list_any is_page (opening ++ (held_by_all ts ++ closing))))
 
 -- ---- the parts of a group
 
@@ -48,7 +51,8 @@ part_step true (Some k) bs since rest = slice_since since ++ called k ∷ rest (
 -- the parts among items behind one of this call, where this stands since the last call
 abbrev pub parts_from : Option ℕ → Option (List ℕ) → List Item → List Part
 parts_from o since [] = []
-parts_from o since (x ∷ xs) = part_step (parted o (call_of x)) (call_of x) (source x) since (λ s. parts_from (call_of x) s xs)
+parts_from o since (x ∷ xs) = part_step (parted o (call_of x)) (call_of x) (source x) since
+    (λ s. parts_from (call_of x) s xs)
 
 -- ---- trees
 
@@ -72,7 +76,9 @@ near_nodes (c ∷ cs) = further c.tree (near_nodes cs)
 
 -- a group of these nodes, behind an item of this call and from this byte on
 abbrev pub group_at : List OuterCall → (List Part → Option DataMw) → Option ℕ → ℕ → ItemTrees → Tree
-group_at calls carried o at ts = tree (group_label at (text_from calls o (held_by_all ts)) (carried (parts_from o None (held_by_all ts)))) (all_unplaced ts)
+group_at calls carried o at ts =
+    tree (group_label at (text_from calls o (held_by_all ts)) (carried (parts_from o None (held_by_all ts))))
+    (all_unplaced ts)
 
 -- the group of these children
 abbrev pub near_group : List OuterCall → (List Part → Option DataMw) → List Near → Tree
@@ -90,8 +96,11 @@ near_runs calls carried cs = map (near_run calls carried) (runs near_tied cs)
 abbrev mutual
   pub walked : List OuterCall → (List Part → Option DataMw) → Option ℕ → ℕ → Option ℕ → ItemTree → Tree
   walked calls carried o at p (inner h opening ts closing) =
-      tree (kept_label (is_leaf h.kind) h at (text_from calls o (opening ++ (held_by_all ts ++ closing))) (text_from calls o opening) (text_from calls (last_of (last_of o opening) (held_by_all ts)) closing))
-      (inside_by (is_leaf h.kind) (trees (near_runs calls carried (near calls carried (last_of o opening) (at + length (text_from calls o opening)) (first_of closing p) ts))))
+      tree
+      (kept_label (is_leaf h.kind) h at (text_from calls o (opening ++ (held_by_all ts ++ closing)))
+      (text_from calls o opening) (text_from calls (last_of (last_of o opening) (held_by_all ts)) closing))
+      (inside_by (is_leaf h.kind) (trees (near_runs calls carried
+      (near calls carried (last_of o opening) (at + length (text_from calls o opening)) (first_of closing p) ts))))
 
   pub near : List OuterCall → (List Part → Option DataMw) → Option ℕ → ℕ → Option ℕ → ItemTrees → List Near
   near calls carried o at p nothing = []

@@ -1,6 +1,6 @@
 //! What holds of the groups of any tree over items.
 
-ghost use Rattle.std.specs.Prelude.{◌≡◌, ℕ, [], List, Option, None, length, true};
+ghost use Rattle.std.specs.Prelude.{◌≡◌, ◌≤◌, ℕ, [], List, Option, None, length, true};
 ghost use Rattle.wt_span.specs.Items.{Item};
 ghost use Rattle.wt_span.specs.Cuts.{page_of};
 ghost use Rattle.wt_span.specs.Origins.{OuterCall};
@@ -10,13 +10,16 @@ ghost use Rattle.wt_tree.specs.declared.node.DataMw.{DataMw};
 ghost use Rattle.wt_tree.specs.declared.kind.Kind.TheVariants as node_kind;
 ghost use Rattle.std.specs.List.{list_all};
 ghost use Rattle.wt_tree.specs.Plain.{plain as plain_view};
-ghost use Rattle.wt_inline.specs.ItemTree.{plain, ItemTree, inner, ItemTrees, held};
+ghost use Rattle.wt_inline.specs.ItemTree.{plain, ItemTree, inner, ItemTrees, nothing, further, held};
 ghost use Rattle.wt_annotate.specs.Annotated.{annotated as annotated_plainly};
 ghost use Rattle.wt_ranges.specs.Annotated.{annotated, placed, unplaced};
+ghost use Rattle.wt_annotate.specs.Numbering.{count};
+ghost use Rattle.wt_ranges.specs.Counted.{nodes};
 ghost use Rattle.wt_ranges.specs.Clean.{is_clean, is_page};
 ghost use Rattle.wt_ranges.specs.Grouped.{grouped};
 ghost use Rattle.wt_ranges.specs.GroupParts.{Part, begun};
 ghost use Rattle.wt_ranges.specs.Reached.{AreReachedSlices, AreSmallest, AtFreeCuts, Fills, calls_in_groups};
+ghost use Rattle.wt_ranges.specs.Ungrouped.{ungrouped};
 ghost use Rattle.wt_ranges.specs.Walked.{walked};
 ghost use Rattle.wt_ranges.specs.WithoutCalls.{NoneEmpty};
 
@@ -68,4 +71,15 @@ pub fn annotated_without_calls()
 /// stands, makes the tree with its groups.
 pub fn groups_by_walking()
     ensures { (calls : List OuterCall) (carried : List Part → Option DataMw) (t : ItemTree) → walked calls carried None 0 None t ≡ placed calls carried (held t) (grouped (held t) 0 t) }
+{}
+
+/// At most as many nodes and groups have a number as the tree has nodes.
+pub fn few_numbers_with_groups()
+    ensures { (calls : List OuterCall) (carried : List Part → Option DataMw) (all : List Item) (n : ℕ) (t : ItemTree) → count (placed calls carried all (grouped all n t)) ≤ nodes t }
+{}
+
+/// A tree with groups gives back the tree that it comes from: each group has its own nodes in their
+/// order, and each kept node its own head and delimiters.
+pub fn groups_taken_apart()
+    ensures { (t : ItemTree) → ungrouped (held t) (grouped (held t) 0 t) nothing ≡ further t nothing }
 {}

@@ -18,5 +18,6 @@ mod unplaced;
 pub use grouping::group;
 pub use laws::{
     annotated_page, annotated_without_calls, body_is_clean, each_call_in_one_group,
-    groups_are_smallest, groups_by_walking, groups_end_at_free_cuts, plain_view_stays,
+    few_numbers_with_groups, groups_are_smallest, groups_by_walking, groups_end_at_free_cuts,
+    groups_taken_apart, plain_view_stays,
 };

@@ -6,22 +6,45 @@ use Rattle.wt_ranges.proofs.ChildWalks.{child_is, read_first, read_room, read_st
 use Rattle.wt_ranges.proofs.child.children.Goals as goal
 
 pub loop-tree-init : goal.loop-tree-init
-loop-tree-init c = read_first (outer_calls c.args.calls.now) c.new-children.result c.in_ok-followed.followed.items c.args.before c.args.after c.args.byte c.args.trees c.new-children.ensures c.in_ok-followed.ensures c.requires
+loop-tree-init c = read_first (outer_calls c.args.calls.now) c.new-children.result c.in_ok-followed.followed.items c.args.before c.args.after c.args.byte
+    c.args.trees c.new-children.ensures c.in_ok-followed.ensures c.requires
 
 pub read_child-requires : goal.read_child-requires
 read_child-requires c =
     let calls = outer_calls c.args.calls.now in
-    omega (arith, read_room calls c.loop-tree.children c.loop-tree.last c.loop-tree.at c.loop-tree.followed.items c.pop.new.self.items c.in-Some.field-0 (children_at calls c.args.before c.args.byte c.args.after (item_trees c.args.trees)) c.loop-tree.invariant c.in-Some.ensures.items)
+    omega (
+      arith,
+      read_room calls c.loop-tree.children c.loop-tree.last c.loop-tree.at c.loop-tree.followed.items c.pop.new.self.items c.in-Some.field-0
+          (children_at calls c.args.before c.args.byte c.args.after (item_trees c.args.trees)) c.loop-tree.invariant c.in-Some.ensures.items,
+    )
 
 pub overflow_add-at : goal.overflow_add-at
 overflow_add-at c =
     let calls = outer_calls c.args.calls.now in
-    omega (arith, c.in_ok-found.ensures.width, read_room calls c.loop-tree.children c.loop-tree.last c.loop-tree.at c.loop-tree.followed.items c.pop.new.self.items c.in-Some.field-0 (children_at calls c.args.before c.args.byte c.args.after (item_trees c.args.trees)) c.loop-tree.invariant c.in-Some.ensures.items)
+    omega (
+      arith,
+      c.in_ok-found.ensures.width,
+      read_room calls c.loop-tree.children c.loop-tree.last c.loop-tree.at c.loop-tree.followed.items
+          c.pop.new.self.items c.in-Some.field-0 (children_at calls c.args.before c.args.byte c.args.after (item_trees c.args.trees)) c.loop-tree.invariant
+          c.in-Some.ensures.items,
+    )
 
 pub loop-tree-preserved : goal.loop-tree-preserved
 loop-tree-preserved c =
     let calls = outer_calls c.args.calls.now in
     let found = c.in_ok-found.found in
-    let one = child_is calls c.in-Some.field-0.tree c.loop-tree.last c.in-Some.field-0.after c.loop-tree.at found.free found.clean c.in_ok-found.ensures.free c.in_ok-found.ensures.clean in
-    read_step calls c.loop-tree.children c.push.new.self (record { tree = c.in-Some.field-0.tree; before = c.loop-tree.last; after = c.in-Some.field-0.after; byte = c.loop-tree.at; free = found.free; clean = found.clean }) c.loop-tree.last found.last c.loop-tree.at (c.loop-tree.at + found.width)
-    c.loop-tree.followed.items c.pop.new.self.items c.in-Some.field-0 (children_at calls c.args.before c.args.byte c.args.after (item_trees c.args.trees)) c.loop-tree.invariant c.in-Some.ensures.items c.in_ok-push.ensures.ok one c.in_ok-found.ensures.last (ap (λ n. c.loop-tree.at + n) c.in_ok-found.ensures.width)
+    let one = child_is calls c.in-Some.field-0.tree c.loop-tree.last c.in-Some.field-0.after c.loop-tree.at found.free found.clean c.in_ok-found.ensures.free
+    c.in_ok-found.ensures.clean in
+    read_step calls c.loop-tree.children c.push.new.self
+    (record {
+      tree = c.in-Some.field-0.tree;
+      before = c.loop-tree.last;
+      after = c.in-Some.field-0.after;
+      byte = c.loop-tree.at;
+      free =
+          found.free;
+      clean = found.clean;
+    }) c.loop-tree.last found.last c.loop-tree.at (c.loop-tree.at + found.width)
+    c.loop-tree.followed.items c.pop.new.self.items c.in-Some.field-0 (children_at calls c.args.before c.args.byte c.args.after (item_trees c.args.trees))
+    c.loop-tree.invariant c.in-Some.ensures.items c.in_ok-push.ensures.ok one c.in_ok-found.ensures.last
+    (ap (λ n. c.loop-tree.at + n) c.in_ok-found.ensures.width)

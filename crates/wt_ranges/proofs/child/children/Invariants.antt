@@ -6,7 +6,8 @@ use Rattle.wt_ranges.proofs.ChildWalks.{Read}
 use Rattle.wt_ranges.proofs.child.children.Given as goal
 
 abbrev pub invariant-loop-tree : goal.invariant-loop-tree
-invariant-loop-tree l = Read (outer_calls l.calls) l.children l.last l.at l.followed.items (children_at (outer_calls l.calls) l.fn.before l.fn.byte l.fn.after (item_trees l.fn.trees))
+invariant-loop-tree l = Read (outer_calls l.calls) l.children l.last l.at l.followed.items
+    (children_at (outer_calls l.calls) l.fn.before l.fn.byte l.fn.after (item_trees l.fn.trees))
 
 abbrev pub decreases-loop-tree : goal.decreases-loop-tree
 decreases-loop-tree l = length l.followed.items

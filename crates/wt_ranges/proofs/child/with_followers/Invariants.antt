@@ -5,7 +5,8 @@ use Rattle.wt_ranges.specs.Children.{tree_after, trees_after}
 use Rattle.wt_ranges.proofs.child.with_followers.Given as goal
 
 abbrev pub invariant-loop-tree : goal.invariant-loop-tree
-invariant-loop-tree l = trees_after (item_trees l.trees.items) l.after ++ reverse (map tree_after l.followed.items) ≡ trees_after (item_trees l.fn.trees) l.fn.after
+invariant-loop-tree l = trees_after (item_trees l.trees.items) l.after ++ reverse (map tree_after l.followed.items)
+    ≡ trees_after (item_trees l.fn.trees) l.fn.after
 
 abbrev pub decreases-loop-tree : goal.decreases-loop-tree
 decreases-loop-tree l = length l.trees.items

@@ -21,7 +21,8 @@ pub number_tree-requires : goal.number_tree-requires
 number_tree-requires c =
     let calls = outer_calls c.args.calls.now in
     let t = item_tree c.args.tree in
-    let e : count (view c.in_ok-node.node) ≡ count (placed calls (group_data calls) (held t) (grouped (held t) 0 t)) = ap count (c.in_ok-node.ensures ∙ walk_all calls (group_data calls) t) in
+    let e : count (view c.in_ok-node.node) ≡ count (placed calls (group_data calls) (held t) (grouped (held t) 0 t)) =
+    ap count (c.in_ok-node.ensures ∙ walk_all calls (group_data calls) t) in
     omega (arith, e, c.requires.numbers)
 
 pub returns : goal.returns

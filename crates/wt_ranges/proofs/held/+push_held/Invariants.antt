@@ -7,4 +7,5 @@ use Rattle.wt_inline.specs.declared.tree.PieceTree.{out-PieceTree}
 use Rattle.wt_ranges.proofs.held.+push_held.Given as goal
 
 abbrev pub invariant-loop-child : goal.invariant-loop-child
-invariant-loop-child l = items l.out ≡ (items l.fn.out ++ items (out-PieceTree l.tree).opening) ++ flat_map (λ n. held (item_tree n)) (take l.child-index l.child-items)
+invariant-loop-child l = items l.out
+    ≡ (items l.fn.out ++ items (out-PieceTree l.tree).opening) ++ flat_map (λ n. held (item_tree n)) (take l.child-index l.child-items)

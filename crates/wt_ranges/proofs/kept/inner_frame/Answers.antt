@@ -10,5 +10,6 @@ pub overflow_add-result : goal.overflow_add-result
 overflow_add-result c =
     let calls = outer_calls c.args.calls.now in
     let child = c.args.child.now in
-    let e : c.inner_ranges-ranges.result.open_w ≡ length (text_from calls child.before (items (out-PieceTree child.tree).opening)) = ap (λ r. r.open_w) c.inner_ranges-ranges.ensures in
+    let e : c.inner_ranges-ranges.result.open_w ≡ length (text_from calls child.before (items (out-PieceTree child.tree).opening)) =
+    ap (λ r. r.open_w) c.inner_ranges-ranges.ensures in
     omega (arith, e, parts_fit calls child.before child.tree, c.requires)

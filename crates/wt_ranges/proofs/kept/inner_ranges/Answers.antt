@@ -11,13 +11,17 @@ pub page_width-requires-2 : goal.page_width-requires-2
 page_width-requires-2 c =
     let calls = outer_calls c.args.calls.now in
     let child = c.args.child.now in
-    let e : length (text_from calls child.before (items c.as_slice.result.now)) ≡ length (text_from calls child.before (items (out-PieceTree child.tree).opening)) = ap (λ ps. length (text_from calls child.before (items ps))) c.as_slice.ensures in
+    let e : length (text_from calls child.before (items c.as_slice.result.now))
+    ≡ length (text_from calls child.before (items (out-PieceTree child.tree).opening)) =
+    ap (λ ps. length (text_from calls child.before (items ps))) c.as_slice.ensures in
     omega (arith, e, parts_fit calls child.before child.tree, c.requires.fits)
 
 pub page_width-requires-3 : goal.page_width-requires-3
 page_width-requires-3 c =
     let calls = outer_calls c.args.calls.now in
     let child = c.args.child.now in
-    let e : length (text_from calls c.args.filled (items c.as_slice-2.result.now)) ≡ length (text_from calls (filled child.before child.tree) (items (out-PieceTree child.tree).closing)) =
-    ap (λ o. length (text_from calls o (items c.as_slice-2.result.now))) c.requires.filled ∙ ap (λ ps. length (text_from calls (filled child.before child.tree) (items ps))) c.as_slice-2.ensures in
+    let e : length (text_from calls c.args.filled (items c.as_slice-2.result.now))
+    ≡ length (text_from calls (filled child.before child.tree) (items (out-PieceTree child.tree).closing)) =
+    ap (λ o. length (text_from calls o (items c.as_slice-2.result.now))) c.requires.filled
+    ∙ ap (λ ps. length (text_from calls (filled child.before child.tree) (items ps))) c.as_slice-2.ensures in
     omega (arith, e, parts_fit calls child.before child.tree, c.requires.fits)

@@ -9,4 +9,5 @@ number_children-returns t c =
     let ys = into_iter_items c.into_iter-node-iterator.result in
     let given : ys ≡ c.into_vec-node-items.result.items = c.into_iter-node-iterator.ensures.into_iter_gives.0 in
     let len : length rs ≡ 0 = sym c.loop-node.node-iterator.rest.ok.0 ∙ c.in-None.ensures.steps.0 in
-    numbered_all c.args.kind c.loop-node.numbered c.loop-node.behind c.args.next rs ys c.args.nodes c.loop-node.invariant len (given ∙ c.into_vec-node-items.ensures) (sym c.is_group.ensures ∙ c.if-is_group.false)
+    numbered_all c.args.kind c.loop-node.numbered c.loop-node.behind c.args.next rs ys c.args.nodes c.loop-node.invariant len
+    (given ∙ c.into_vec-node-items.ensures) (sym c.is_group.ensures ∙ c.if-is_group.false)

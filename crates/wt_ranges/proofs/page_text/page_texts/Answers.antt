@@ -9,6 +9,9 @@ loop-piece-preserved c =
     let at = c.loop-piece.piece-index in
     let p = c.piece-item.result in
     record {
-      texts = bytes_step (outer_calls c.args.calls.now) ps at p c.args.before c.loop-piece.last (texts_of c.loop-piece.texts) (texts_of c.push_text.new.texts) (bytes_if_any c.page_text.result) c.loop-piece-test.true c.piece-item.is c.loop-piece.invariant.texts c.loop-piece.invariant.last c.page_text.ensures c.in_ok-push_text.ensures;
-      last = call_step ps at p c.args.before c.loop-piece.last c.last_of_piece-last.result c.loop-piece-test.true c.piece-item.is c.loop-piece.invariant.last c.last_of_piece-last.ensures;
+      texts = bytes_step (outer_calls c.args.calls.now) ps at p c.args.before c.loop-piece.last (texts_of c.loop-piece.texts)
+          (texts_of c.push_text.new.texts) (bytes_if_any c.page_text.result) c.loop-piece-test.true c.piece-item.is c.loop-piece.invariant.texts
+          c.loop-piece.invariant.last c.page_text.ensures c.in_ok-push_text.ensures;
+      last = call_step ps at p c.args.before c.loop-piece.last c.last_of_piece-last.result c.loop-piece-test.true c.piece-item.is c.loop-piece.invariant.last
+          c.last_of_piece-last.ensures;
     }

@@ -8,7 +8,8 @@ use Rattle.wt_ranges.proofs.unplaced.+unplacing.Goals as goal
 pub unplaced_node-returns : goal.unplaced_node-returns
 unplaced_node-returns t c =
     IfOk-weaker c.unplaced_inner.result _ _
-    (λ n e. inner_unplaced c.args.tree (view n) (views c.in_ok-children.children) c.as_slice.result.now c.as_slice-2.result.now (sym c.is_leaf.ensures ∙ c.if-is_leaf.false) e c.as_slice.ensures c.as_slice-2.ensures c.in_ok-children.ensures)
+    (λ n e. inner_unplaced c.args.tree (view n) (views c.in_ok-children.children) c.as_slice.result.now c.as_slice-2.result.now
+    (sym c.is_leaf.ensures ∙ c.if-is_leaf.false) e c.as_slice.ensures c.as_slice-2.ensures c.in_ok-children.ensures)
     c.unplaced_inner.ensures
 
 pub unplaced_nodes-returns : goal.unplaced_nodes-returns

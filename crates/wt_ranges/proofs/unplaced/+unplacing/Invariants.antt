@@ -6,4 +6,6 @@ use Rattle.wt_ranges.specs.Annotated.{unplaced}
 use Rattle.wt_ranges.proofs.unplaced.+unplacing.Given as goal
 
 abbrev pub invariant-unplaced_nodes-loop-tree : goal.invariant-unplaced_nodes-loop-tree
-invariant-unplaced_nodes-loop-tree l = map view l.nodes ++ map (λ n. unplaced (item_tree n)) (into_iter_items l.tree-iterator) ≡ map (λ n. unplaced (item_tree n)) (into_iter_items l.initial.tree-iterator)
+invariant-unplaced_nodes-loop-tree l =
+    map view l.nodes ++ map (λ n. unplaced (item_tree n)) (into_iter_items l.tree-iterator)
+    ≡ map (λ n. unplaced (item_tree n)) (into_iter_items l.initial.tree-iterator)
