@@ -1,0 +1,17 @@
+-- A tile whose parts can be cut.
+use Rattle.std.specs.Prelude.{◌≡◌, ℕ, ◌+◌, List, length, drop, map}
+use Rattle.wt_span.specs.Items.{Item}
+use Rattle.wt_tiles.specs.declared.shape.Shape.{Shape}
+use Rattle.wt_tiles.specs.declared.tile.Tile.{Tile}
+use Rattle.wt_tiles.specs.Tiles.{size}
+use Rattle.wt_tiles.specs.Cutting.{IsEdgeIn}
+
+abbrev pub shape_of : Tile → Shape
+shape_of t = record { kind = t.kind; opening = t.opening; inside = t.inside; closing = t.closing; trail = t.trail }
+
+-- no character lies on both sides of an end of a part
+pub record HasCuts (w : Shape) (xs : List Item) : Type 0 where
+  pub whole : length xs ≡ size w
+  pub opening : IsEdgeIn xs w.opening
+  pub inside : IsEdgeIn (drop w.opening xs) w.inside
+  pub closing : IsEdgeIn (drop (w.opening + w.inside) xs) w.closing
