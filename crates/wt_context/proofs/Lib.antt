@@ -1,0 +1,13 @@
+pub mod AttributeCuts
+pub mod ChunkLaws
+pub mod ChunkSteps
+pub mod Forests
+pub mod Loosening
+pub mod Quoting
+pub mod Resting
+pub mod Seeing
+pub mod Segmenting
+pub mod StyleSteps
+pub mod Texts
+pub mod TokenLaws
+pub mod UrlTexts

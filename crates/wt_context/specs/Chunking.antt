@@ -35,3 +35,11 @@ IsChunked c added d = (us : List Segment) → chunked d us ≡ chunked c (added 
 -- no apostrophe is open in the second any more
 abbrev pub IsClosed : Chunking → Chunking → Type 0
 IsClosed c d = (d.quotes ≡ 0) × ((next : Seen → List Chunk) → d.chunks ++ next d.seen ≡ c.chunks ++ flushed c.seen c.quotes next)
+
+-- a segment that is no run behind the first
+abbrev pub IsOther : Chunking → Seen → Chunking → Type 0
+IsOther c s d = (d.chunks ≡ c.chunks ++ other s ∷ []) × (d.seen ≡ s) × (d.quotes ≡ 0)
+
+-- a run of so many apostrophes
+abbrev pub IsRunOn : Chunking → ℕ → Chunking → Type 0
+IsRunOn c n d = (d.chunks ≡ c.chunks ++ chunk.Run n ∷ []) × (d.seen ≡ nothing_seen) × (d.quotes ≡ 0)

@@ -1,10 +1,12 @@
 -- A tile whose parts can be cut.
-use Rattle.std.specs.Prelude.{◌≡◌, ℕ, ◌+◌, List, length, drop, map}
-use Rattle.wt_span.specs.Items.{Item}
+use Rattle.std.specs.Prelude.{◌≡◌, ℕ, ◌+◌, List, length, drop, All}
+use Rattle.wt_span.specs.Items.{Item, items}
+use Rattle.wt_span.specs.Origins.{IsSoundPiece}
 use Rattle.wt_tiles.specs.declared.shape.Shape.{Shape}
 use Rattle.wt_tiles.specs.declared.tile.Tile.{Tile}
 use Rattle.wt_tiles.specs.Tiles.{size}
 use Rattle.wt_tiles.specs.Cutting.{IsEdgeIn}
+use Rattle.wt_tiles.specs.Reading.{IsForm}
 
 abbrev pub shape_of : Tile → Shape
 shape_of t = record { kind = t.kind; opening = t.opening; inside = t.inside; closing = t.closing; trail = t.trail }
@@ -15,3 +17,7 @@ pub record HasCuts (w : Shape) (xs : List Item) : Type 0 where
   pub opening : IsEdgeIn xs w.opening
   pub inside : IsEdgeIn (drop w.opening xs) w.inside
   pub closing : IsEdgeIn (drop (w.opening + w.inside) xs) w.closing
+
+-- a tile with sound pieces, whose parts can be cut where it has some
+abbrev pub IsCutTile : Tile → Type 0
+IsCutTile t = All IsSoundPiece t.pieces × (IsForm t.kind → HasCuts (shape_of t) (items t.pieces))

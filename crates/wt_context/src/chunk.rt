@@ -20,16 +20,12 @@ struct Chunking {
 }
 
 impl Chunking {
-    ghost use Rattle.wt_quotes.specs.declared.chunk.Chunk.TheVariants as chunk;
-    ghost use Rattle.wt_context.specs.Seen.{nothing_seen};
     ghost use Rattle.wt_context.specs.Segments.{Segment};
-    ghost use Rattle.wt_context.specs.Chunking.{other, IsChunked, IsClosed};
+    ghost use Rattle.wt_context.specs.Chunking.{IsOther, IsRunOn, IsChunked, IsClosed};
 
     /// A segment that is no run behind these, with what was seen up to it.
     fn with_other(self, seen: Seen) -> Result<Chunking, NoMemory>
-        ensures chunks { IfOk result (λ c. c.chunks ≡ self.chunks ++ other seen ∷ []) }
-        ensures seen { IfOk result (λ c. c.seen ≡ seen) }
-        ensures none { IfOk result (λ c. c.quotes ≡ 0) }
+        ensures { IfOk result (λ c. IsOther self seen c) }
     {
         let Chunking { mut chunks, .. } = self;
         chunks.push(Chunk::Text {
@@ -46,9 +42,7 @@ impl Chunking {
 
     /// A run behind these.
     fn with_run(self, quotes: u32) -> Result<Chunking, NoMemory>
-        ensures chunks { IfOk result (λ c. c.chunks ≡ self.chunks ++ chunk.Run quotes ∷ []) }
-        ensures seen { IfOk result (λ c. c.seen ≡ nothing_seen) }
-        ensures none { IfOk result (λ c. c.quotes ≡ 0) }
+        ensures { IfOk result (λ c. IsRunOn self quotes c) }
     {
         let Chunking { mut chunks, .. } = self;
         chunks.push(Chunk::Run(quotes))?;
@@ -76,7 +70,8 @@ impl Chunking {
 
     /// A segment of these pieces that is no apostrophe behind these.
     fn with_pieces(self, pieces: &[Piece<'_>]) -> Result<Chunking, NoMemory>
-        ensures { IfOk result (λ c. (u : Segment) → u.quote ≡ false → u.items ≡ items pieces.now → IsChunked self (u ∷ []) c) }
+        ensures none { IfOk result (λ c. c.quotes ≡ 0) }
+        ensures value { IfOk result (λ c. (u : Segment) → u.quote ≡ false → u.items ≡ items pieces.now → IsChunked self (u ∷ []) c) }
     {
         let closed = self.closed()?;
         let seen = closed.seen.with_pieces(pieces);

@@ -43,7 +43,7 @@ fn with_href(alloc: Global, kind: Kind, href: Str) -> Result<NodeHead, NoMemory>
 }
 
 /// The head of what is kept and not read into.
-#[tactic(auto, unfolding(crate::specs::Heads::placeholder))]
+#[tactic(auto, unfolding(crate::specs::Heads::placeholder, wt_inline::specs::Carried::placeholder_typeof))]
 pub fn placeholder(alloc: Global) -> Result<NodeHead, NoMemory>
     ensures { IfOk result (λ h. head_of h ≡ placeholder) }
 {

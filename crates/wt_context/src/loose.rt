@@ -1,6 +1,6 @@
 //! Characters that follow one another, cut into apostrophes and the stretches between them.
 
-ghost use Rattle.std.specs.Prelude.{◌≡◌, ◌<◌, ◌≤◌, ◌==◌, ◌++◌, length, map, take, drop, All, IfOk, OnOk, Some, None, true, slice_index};
+ghost use Rattle.std.specs.Prelude.{◌≡◌, ◌<◌, ◌≤◌, ◌==◌, ◌++◌, length, map, take, drop, All, IfOk, OnOk, Some, None, true, [], slice_index};
 ghost use Rattle.std.specs.List.{list_all, prefix_len};
 ghost use Rattle.std.specs.Str.{IsCharBoundary};
 ghost use Rattle.wt_span.specs.Slice.{bytes_of};
@@ -98,7 +98,8 @@ impl<'a> Loosening<'a> {
 
     /// These and a piece that goes on in the stretch.
     fn with_plain(self, piece: Piece<'a>) -> Result<Loosening<'a>, NoMemory>
-        requires { are_plain (items_of piece) ≡ true }
+        requires plain { are_plain (items_of piece) ≡ true }
+        requires some { 0 < length (items_of piece) }
         ensures { IfOk result (λ l. IsLoosened self.entry (items_of piece.entry) l) }
     {
         let Loosening { tokens, stretch } = self;

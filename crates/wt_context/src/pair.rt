@@ -8,11 +8,12 @@ ghost use Rattle.wt_inline.specs.View.{head_of};
 ghost use Rattle.wt_context.specs.Heads.{with_attrs, name_end, attribute_items, attributes_of, pair_by_name, pair_by, pair_head};
 
 use crate::head::placeholder;
+use crate::parts::take_some;
 use std::alloc::Global;
 use wt_attributes::read_attributes;
 use wt_inline::NodeHead;
 use wt_span::{List, NoMemory, Piece, rest_of};
-use wt_tiles::{Class, Glyph, Name, Rest, Tag, glyphs_of, run_len, tag_at, take_items};
+use wt_tiles::{Class, Glyph, Name, Rest, Tag, glyphs_of, run_len, tag_at};
 use wt_tree::{Attr, Kind, TagName};
 
 /// How many items stand up to the end of the name of a tag.
@@ -43,8 +44,8 @@ fn attribute_pieces<'a>(
     let glyphs = glyphs_of(alloc, opening)?;
     let n = name_end(glyphs.as_slice());
     let k = run_len(Class::Tag, rest_of(glyphs.as_slice(), n));
-    let (_, rest) = take_items(alloc, Rest::of(opening), n)?;
-    let (inside, _) = take_items(alloc, rest, k)?;
+    let (_, rest) = take_some(alloc, Rest::of(opening), n)?;
+    let (inside, _) = take_some(alloc, rest, k)?;
     Ok(inside)
 }
 

@@ -1,11 +1,17 @@
 //! Contexts, each read with what stands in its tiles.
 
-ghost use Rattle.std.specs.Prelude.{◌≡◌, ◌<◌, ◌+◌, ◌^◌, ◌++◌, All, IfOk};
+ghost use Rattle.std.specs.Prelude.{◌≡◌, ◌<◌, ◌+◌, ◌^◌, ◌++◌, map, option_map, All, IfOk};
+ghost use Rattle.std.specs.List.{flat_map};
 ghost use Rattle.wt_span.specs.Items.{items};
 ghost use Rattle.wt_span.specs.Origins.{IsSoundPiece};
 ghost use Rattle.wt_tiles.specs.Contexts.{in_pair};
+ghost use Rattle.wt_tiles.specs.Cutting.{tile_of};
+ghost use Rattle.wt_inline.specs.View.{item_tree};
 ghost use Rattle.wt_inline.specs.Grown.{grown, Grows};
 ghost use Rattle.wt_context.specs.Line.{within};
+ghost use Rattle.wt_context.specs.Nodes.{inside_of, nested_tree, tile_tree, tile_segments};
+ghost use Rattle.wt_context.specs.TileParts.{shape_of, HasCuts, IsCutTile};
+ghost use Rattle.wt_context.specs.Tokens.{segments_of};
 
 use crate::loose::with_loose;
 use crate::node::{Leaf, Nested, bare_url, leaf_tree, nested_tree};
@@ -26,6 +32,10 @@ fn nested<'a>(
     kind: Nested,
     tile: &Tile<'a>,
 ) -> Result<PieceTree<'a>, NoMemory>
+    requires sound { All IsSoundPiece tile.now.pieces }
+    requires cuts { HasCuts (shape_of tile.now) (items tile.now.pieces) }
+    requires room { context.pairs + levels < 2 ^ 32 }
+    ensures { IfOk result (λ t. item_tree t ≡ nested_tree kind (shape_of tile.now) (items tile.now.pieces) (within levels context (inside_of (shape_of tile.now) (items tile.now.pieces)))) }
 {
     let parts = parts_of(alloc, tile)?;
     let children = with_context(
@@ -46,6 +56,9 @@ fn tile_tree<'a>(
     context: Context,
     tile: &Tile<'a>,
 ) -> Result<Option<PieceTree<'a>>, NoMemory>
+    requires cut { IsCutTile tile.now }
+    requires room { context.pairs + levels + 1 < 2 ^ 32 }
+    ensures { IfOk result (λ o. option_map item_tree o ≡ tile_tree (within levels) context tile.now.kind (shape_of tile.now) (items tile.now.pieces)) }
 {
     let pieces = tile.pieces.as_slice();
     let tree = match tile.kind {
@@ -82,6 +95,9 @@ fn with_tile<'a>(
     tokens: List<Token<'a>>,
     tile: Tile<'a>,
 ) -> Result<List<Token<'a>>, NoMemory>
+    requires cut { IsCutTile tile }
+    requires room { context.pairs + levels + 1 < 2 ^ 32 }
+    ensures { IfOk result (λ ts. segments_of ts ≡ segments_of tokens.entry ++ tile_segments (within levels) context (tile_of tile.entry)) }
 {
     let Some(tree) = tile_tree(alloc, levels, context, &tile)? else {
         return with_loose(alloc, tokens, tile.pieces.as_slice());
@@ -100,6 +116,9 @@ fn tokens_of<'a>(
     context: Context,
     tiles: List<Tile<'a>>,
 ) -> Result<List<Token<'a>>, NoMemory>
+    requires cut { All IsCutTile tiles }
+    requires room { context.pairs + levels + 1 < 2 ^ 32 }
+    ensures { IfOk result (λ ts. segments_of ts ≡ flat_map (tile_segments (within levels) context) (map tile_of tiles.entry)) }
 {
     let mut tokens = List::new(alloc);
     for tile in tiles.into_vec() {
@@ -118,6 +137,9 @@ pub fn with_context<'a>(
     context: Context,
     pieces: &[Piece<'a>],
 ) -> Result<Children<'a>, NoMemory>
+    requires sound { All IsSoundPiece pieces.now }
+    requires room { context.pairs + levels < 2 ^ 32 }
+    ensures { IfOk result (λ c. Grows (grown children.entry) (within levels context (items pieces.now)) (grown c)) }
 {
     if levels == 0 {
         return children.with_line(alloc, pieces);

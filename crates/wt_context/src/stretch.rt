@@ -23,6 +23,7 @@ pub struct Quotes<'a> {
 pub struct Stretch<'a> {
     pub pieces: List<Piece<'a>>,
     pub ghost plain: { are_plain (items pieces) ≡ true },
+    pub ghost solid: { 0 < length pieces → 0 < length (items pieces) },
 }
 
 impl<'a> Quotes<'a> {
@@ -60,12 +61,8 @@ impl<'a> Quotes<'a> {
         let _text = piece.text.as_str();
         let (front, back) = piece.text.split_at(piece.text.range().start + n as u32);
         (
-            Quotes {
-                piece: chars_piece(front, piece.origin),
-            },
-            Quotes {
-                piece: chars_piece(back, piece.origin),
-            },
+            Quotes::of(front, piece.origin),
+            Quotes::of(back, piece.origin),
         )
     }
 }
@@ -84,7 +81,8 @@ impl<'a> Stretch<'a> {
 
     /// These and a piece.
     pub fn with(self, piece: Piece<'a>) -> Result<Stretch<'a>, NoMemory>
-        requires { are_plain (items_of piece) ≡ true }
+        requires plain { are_plain (items_of piece) ≡ true }
+        requires some { 0 < length (items_of piece) }
         ensures { IfOk result (λ s. items s.pieces ≡ items self.entry.pieces ++ items_of piece.entry) }
     {
         let Stretch { mut pieces } = self;

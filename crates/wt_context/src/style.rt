@@ -97,12 +97,9 @@ fn with_style<'a>(
         rest,
     };
     let from = style.from + style.open_w;
-    let Styling {
-        children: within,
-        rest,
-    } = styled(alloc, inside, from, style.to - style.close_w, inner)?;
-    let within = within.finish(alloc)?;
-    let (closing, rest) = rest.pieces(alloc, style.close_w as usize)?;
+    let inside = styled(alloc, inside, from, style.to - style.close_w, inner)?;
+    let within = inside.children.finish(alloc)?;
+    let (closing, rest) = inside.rest.pieces(alloc, style.close_w as usize)?;
     let node = style_node(alloc, style.bold, opening, within, closing);
     let children = children.with_tree(alloc, node)?;
     Ok(Styling { children, rest })

@@ -71,8 +71,8 @@ impl<'a> Token<'a> {
     }
 
     /// Its pieces, behind others.
-    pub fn push_pieces(&self, out: &mut List<Piece<'a>>) -> Result<(), NoMemory>
-        ensures { OnOk result (items out.new ≡ items out.old ++ segment_items (token_segments self.now)) }
+    pub fn push_pieces(self, out: &mut List<Piece<'a>>) -> Result<(), NoMemory>
+        ensures { OnOk result (items out.new ≡ items out.old ++ segment_items (token_segments self.entry)) }
     {
         match self {
             Token::Quotes(quotes) => out.push(quotes.piece),
