@@ -61,18 +61,41 @@ fn tile_tree<'a>(
     ensures { IfOk result (λ o. option_map item_tree o ≡ tile_tree (within levels) context tile.now.kind (shape_of tile.now) (items tile.now.pieces)) }
 {
     let pieces = tile.pieces.as_slice();
-    let tree = match tile.kind {
-        TileKind::Chars | TileKind::Atom | TileKind::Mark => return Ok(None),
-        TileKind::Link => nested(alloc, levels, context.link_text(), Nested::Link, tile)?,
-        TileKind::ExtLink => nested(alloc, levels, context.link_text(), Nested::ExtLink, tile)?,
-        TileKind::Pair => nested(alloc, levels, inside_pair(context), Nested::Pair, tile)?,
-        TileKind::BareUrl => bare_url(alloc, tile)?,
-        TileKind::Category => leaf_tree(alloc, Leaf::Category, pieces)?,
-        TileKind::Switch => leaf_tree(alloc, Leaf::Switch, pieces)?,
-        TileKind::Br => leaf_tree(alloc, Leaf::Break, pieces)?,
-        TileKind::Media | TileKind::TagIsland => leaf_tree(alloc, Leaf::Placeholder, pieces)?,
-    };
-    Ok(Some(tree))
+    match tile.kind {
+        TileKind::Chars | TileKind::Atom | TileKind::Mark => Ok(None),
+        TileKind::Link => {
+            let tree = nested(alloc, levels, context.link_text(), Nested::Link, tile)?;
+            Ok(Some(tree))
+        }
+        TileKind::ExtLink => {
+            let tree = nested(alloc, levels, context.link_text(), Nested::ExtLink, tile)?;
+            Ok(Some(tree))
+        }
+        TileKind::Pair => {
+            let tree = nested(alloc, levels, inside_pair(context), Nested::Pair, tile)?;
+            Ok(Some(tree))
+        }
+        TileKind::BareUrl => {
+            let tree = bare_url(alloc, tile)?;
+            Ok(Some(tree))
+        }
+        TileKind::Category => {
+            let tree = leaf_tree(alloc, Leaf::Category, pieces)?;
+            Ok(Some(tree))
+        }
+        TileKind::Switch => {
+            let tree = leaf_tree(alloc, Leaf::Switch, pieces)?;
+            Ok(Some(tree))
+        }
+        TileKind::Br => {
+            let tree = leaf_tree(alloc, Leaf::Break, pieces)?;
+            Ok(Some(tree))
+        }
+        TileKind::Media | TileKind::TagIsland => {
+            let tree = leaf_tree(alloc, Leaf::Placeholder, pieces)?;
+            Ok(Some(tree))
+        }
+    }
 }
 
 /// The inside of a pair of tags.

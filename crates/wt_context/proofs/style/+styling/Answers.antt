@@ -27,7 +27,7 @@ styled-with_style-requires t c =
     let low = fill_le (s.from + s.open_w) (s.to - s.close_w) (forest_of ins) fill.1 in
     let end = fill_le s.to c.args.high (forest_of (drop (at + (1 + n)) ss)) fill.3 in
     let room = c.ranges.high in
-    (omega (arith, short), (fill.0, omega (arith, low, end, room), fill.2, fill.1))
+    (omega (arith, short), (fill.0, (omega (arith, low, end, room), (fill.2, fill.1))))
 
 pub styled-loop-at-preserved : goal.styled-loop-at-preserved
 styled-loop-at-preserved t c =
