@@ -1,5 +1,5 @@
 -- Where the items of a key and of attributes may be cut.
-use Rattle.std.proofs.Common.{◌≡◌, ℕ, zero, suc, ◌+◌, ◌-◌, ◌<◌, ◌≤◌, ◌==◌, Bool, true, false, Option, Some, None, List, [], ◌∷◌, length, map, take, drop, refl, sym, ap, ◌∙◌, subst, cond, arith, inl, inr}
+use Rattle.std.proofs.Common.{◌≡◌, ℕ, zero, suc, ◌+◌, ◌-◌, ◌<◌, ◌≤◌, ◌==◌, ◌⊎◌, Bool, true, false, Option, Some, None, List, [], ◌∷◌, length, map, take, drop, refl, sym, ap, ◌∙◌, subst, cond, arith, inl, inr}
 use Rattle.std.specs.Prelude.{codes, if◌then◌else◌, not}
 use Rattle.std.specs.List.{prefix_len}
 use Rattle.std.proofs.Math.Numerals.{one-add}
@@ -53,8 +53,10 @@ name_by : (gs : List Glyph) (m n : ℕ) → name_len (drop 1 gs) ≡ m → n ≡
 name_by gs zero n f g p = absurd (omega (arith, g))
 name_by gs (suc m) n f g p =
     let k : m < name_len (drop 1 gs) = omega (arith, f) in
+    let z : (suc m == 0) ≡ false = grind (arith, nat_tests) in
+    let i : n ≡ 1 + suc m = g ∙ ap (λ (t : Bool). if t then 0 else 1 + suc m) z in
     let low : low_at (drop 1 gs) m ≡ true = name_low _ m (drop 1 gs) k in
-    edge_after gs (1 + m) n (omega (arith, g)) (sym (low_drop 1 m gs) ∙ low)
+    edge_after gs (1 + m) n (omega (arith, i)) (sym (low_drop 1 m gs) ∙ low)
 
 pub name_edge : (gs hs : List Glyph) (n : ℕ) → hs ≡ gs → n ≡ name_end gs → 0 < n → IsEdge hs n
 name_edge gs hs n e i pos =

@@ -104,12 +104,25 @@ flush_open xs (q ∷ r ∷ qs) gs next e p h =
 abbrev AreRead : List Segment → Type 0
 AreRead us = (ys : List Item) (ps : List Segment) → are_open ps ≡ true → AreProper ps → chunks_since ys (runs both_quotes (ps ++ us)) ≡ chunks_after (seen_of ys) (length ps) us
 
-proper_both : (ps qs : List Segment) → AreProper ps → AreProper qs → AreProper (ps ++ qs)
+pub proper_both : (ps qs : List Segment) → AreProper ps → AreProper qs → AreProper (ps ++ qs)
 proper_both [] qs a b = b
 proper_both (p ∷ ps) qs a b = (a.0, proper_both ps qs a.1 b)
 
 all_one : (ps : List Segment) (u : Segment) → are_open ps ≡ true → u.quote ≡ true → are_open (ps ++ u ∷ []) ≡ true
 all_one ps u e f = all_both (λ v. v.quote) ps (u ∷ []) e (and_both u.quote true f refl)
+
+quote_step : (s : Seen) (n : ℕ) (u : Segment) (us : List Segment) → u.quote ≡ true → chunks_after s (suc n) us ≡ chunks_after s n (u ∷ us)
+quote_step s n u us e = rw e refl
+
+other_step : (s : Seen) (n : ℕ) (u : Segment) (us : List Segment) → u.quote ≡ false → flushed s n (λ t. other (after_items t u.items) ∷ chunks_after (after_items t u.items) 0 us) ≡ chunks_after s n (u ∷ us)
+other_step s n u us e = rw e refl
+
+no_left : (a b : Bool) → a ≡ false → (a && b) ≡ false
+no_left true b e = cc
+no_left false b e = refl
+
+since_other : (ys : List Item) (u : Segment) (gs : List (List Segment)) → u.quote ≡ false → chunks_since ys ((u ∷ []) ∷ gs) ≡ other (seen_of (ys ++ segment_items (u ∷ []))) ∷ chunks_since (ys ++ segment_items (u ∷ [])) gs
+since_other ys u gs e = let r : is_run (u ∷ []) ≡ false = no_left u.quote (nat_le 2 (length (u ∷ []))) e in rw r refl
 
 read_by : (xs : List Item) (qs us : List Segment) (u : Segment) (v : Bool) → u.quote ≡ v → are_open qs ≡ true → AreProper qs → IsProper u → AreRead us
     → chunks_since xs (runs both_quotes (qs ++ u ∷ us)) ≡ chunks_after (seen_of xs) (length qs) (u ∷ us)
@@ -117,15 +130,14 @@ read_by xs qs us u true q e p h rest =
     let n : length (qs ++ u ∷ []) ≡ suc (length qs) = omega (arith, length-append qs (u ∷ [])) in
     ap (λ ws. chunks_since xs (runs both_quotes ws)) (sym (append_assoc qs (u ∷ []) us))
     ∙ rest xs (qs ++ u ∷ []) (all_one qs u e q) (proper_both qs (u ∷ []) p (h, tt))
-    ∙ rw q (ap (λ k. chunks_after (seen_of xs) k us) n)
+    ∙ ap (λ k. chunks_after (seen_of xs) k us) n ∙ quote_step (seen_of xs) (length qs) u us q
 read_by xs qs us u false q e p h rest =
     let next : Seen → List Chunk = λ t. other (after_items t u.items) ∷ chunks_after (after_items t u.items) 0 us in
-    let r : is_run (u ∷ []) ≡ false = rw q refl in
     let one : (ys : List Item) → ys ++ segment_items (u ∷ []) ≡ ys ++ u.items = λ ys. ap (λ zs. ys ++ zs) (append-nil u.items) in
     ap (chunks_since xs) (other_runs qs us u q)
     ∙ flush_open xs qs ((u ∷ []) ∷ runs both_quotes us) next e p
-    (λ ys. rw r (ap (λ cs. other (seen_of (ys ++ segment_items (u ∷ []))) ∷ cs) (rest (ys ++ segment_items (u ∷ [])) [] refl tt) ∙ ap (λ t. other t ∷ chunks_after t 0 us) (ap seen_of (one ys) ∙ sym (seen_more ys u.items))))
-    ∙ rw q refl
+    (λ ys. since_other ys u (runs both_quotes us) q ∙ (ap (λ cs. other (seen_of (ys ++ segment_items (u ∷ []))) ∷ cs) (rest (ys ++ segment_items (u ∷ [])) [] refl tt) ∙ ap (λ t. other t ∷ chunks_after t 0 us) (ap seen_of (one ys) ∙ sym (seen_more ys u.items))))
+    ∙ other_step (seen_of xs) (length qs) u us q
 
 pub read_all : (us : List Segment) → AreProper us → AreRead us
 read_all [] h ys ps e p = ap (λ ws. chunks_since ys (runs both_quotes ws)) (append-nil ps) ∙ ap (chunks_since ys) (sym (append-nil (runs both_quotes ps))) ∙ flush_open ys ps [] (λ t. []) e p (λ zs. refl)
@@ -172,9 +184,13 @@ few_chunks us = let n = count_since [] (runs both_quotes us) in omega (arith, n,
 
 -- ---- no two runs are neighbours
 
+last_by : (a b : Bool) → a ≡ true → (a && b) ≡ false → b ≡ false
+last_by true b e h = h
+last_by false b e h = cc
+
 last_quote : (r : List Segment) (y : Segment) (others : List Segment) → begins_with_quote r ≡ true → IsRun both_quotes r (y ∷ others) → y.quote ≡ false
 last_quote [] y others e h = cc
-last_quote (x ∷ []) y others e h = rw (sym e) h
+last_quote (x ∷ []) y others e h = last_by x.quote y.quote e h
 last_quote (x ∷ z ∷ zs) y others e h = last_quote (z ∷ zs) y others (and_right x.quote z.quote h.0) h.1
 
 no_quote_after : (r others : List Segment) → begins_with_quote r ≡ true → IsRun both_quotes r others → begins_with_quote others ≡ false

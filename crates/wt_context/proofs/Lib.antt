@@ -2,6 +2,7 @@ pub mod AttributeCuts
 pub mod ChunkLaws
 pub mod ChunkSteps
 pub mod ContextReads
+pub mod ContextStyles
 pub mod Forests
 pub mod Loosening
 pub mod NestedTrees
