@@ -34,3 +34,12 @@ loose_tile read cx t e = ap (λ o. segments_by o (items t.pieces)) e
 
 pub tree_tile : (read : Reading) (cx : Context) (t : Tile) (tree : ItemTree) → Some tree ≡ tile_tree read cx t.kind (tile_of t).0 (items t.pieces) → tree_segment (items t.pieces) tree ∷ [] ≡ tile_segments read cx (tile_of t)
 tree_tile read cx t tree e = ap (λ o. segments_by o (items t.pieces)) e
+
+-- one tile more
+pub tiles_step : (read : Reading) (cx : Context) (before rest : List Tile) (t : Tile) (old new all : List Segment) → before ≡ t ∷ rest → new ≡ old ++ tile_segments read cx (tile_of t)
+    → old ++ flat_map (tile_segments read cx) (map tile_of before) ≡ all → new ++ flat_map (tile_segments read cx) (map tile_of rest) ≡ all
+tiles_step read cx before rest t old new all e n i =
+    ap (λ us. us ++ flat_map (tile_segments read cx) (map tile_of rest)) n
+    ∙ append_assoc old (tile_segments read cx (tile_of t)) (flat_map (tile_segments read cx) (map tile_of rest))
+    ∙ ap (λ ts. old ++ flat_map (tile_segments read cx) (map tile_of ts)) (sym e)
+    ∙ i
