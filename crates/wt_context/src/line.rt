@@ -18,6 +18,7 @@ use wt_tiles::Context;
 const MOST_CONTEXTS: u32 = 18;
 
 /// The children of a node with what stands on a line, or in a cell.
+#[tactic(auto, unfolding(crate::specs::Line::context_parts))]
 pub fn with_line<'a>(
     alloc: Global,
     children: Children<'a>,
@@ -30,6 +31,7 @@ pub fn with_line<'a>(
 }
 
 /// What stands on a line, or in a cell, as the children of its node.
+#[tactic(auto, unfolding(crate::specs::Line::line_trees))]
 pub fn line_children<'a>(
     alloc: Global,
     pieces: &[Piece<'a>],
