@@ -105,7 +105,7 @@ count_cuts p low high (grown s f g) h =
 
 -- each piece of a context's line
 
-context_fills : (chunks : List Chunk) → Fill 0 (bytes_of chunks) (forest_of (style_tree_of chunks))
+pub context_fills : (chunks : List Chunk) → Fill 0 (bytes_of chunks) (forest_of (style_tree_of chunks))
 context_fills chunks =
     let rs = steps_of chunks (toggles_of chunks) in
     let us : List Style = styles_by (bytes_of chunks) (run false false false rs) in

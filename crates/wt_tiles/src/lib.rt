@@ -19,9 +19,10 @@ mod tile;
 mod url;
 
 pub use context::Context;
-pub use glyph::{Class, Glyph};
+pub use glyph::{Class, Glyph, run_len};
+pub use link::{close_len, target_len};
 pub use read::shapes;
 pub use shape::{Shape, TileKind};
 pub use tag::{Name, Tag, TagShape, tag_at};
 pub use target::{LinkKind, Target, target_of};
-pub use tile::{Tile, glyphs_of, tiles, tiles_in};
+pub use tile::{Rest, Tile, glyphs_of, take_items, tiles, tiles_in};

@@ -61,6 +61,23 @@ impl Search {
     }
 }
 
+/// How many items the target of a link takes that begins these, which stand behind the `[[`: up to
+/// the first `|` or `]]`, and none where a `[[` comes before it.
+pub fn target_len(glyphs: &[Glyph]) -> Option<usize>
+    ensures value { result ≡ target_len glyphs.now }
+    ensures within { IfSome result (λ n. n < length glyphs.now) }
+{
+    Search::Target.place(glyphs)
+}
+
+/// How many items stand before the `]]` that ends a link, where no `[[` comes before it.
+pub fn close_len(glyphs: &[Glyph]) -> Option<usize>
+    ensures value { result ≡ to_close glyphs.now }
+    ensures within { IfSome result (λ n. n < length glyphs.now) }
+{
+    Search::Close.place(glyphs)
+}
+
 /// A leaf of so many items.
 pub fn leaf(kind: TileKind, len: usize) -> Shape
     ensures { result ≡ leaf kind len }

@@ -79,12 +79,22 @@ pub fn glyphs_of(alloc: Global, pieces: &[Piece<'_>]) -> Result<List<Glyph>, NoM
 
 /// Pieces that are taken from the front: what is left of one, and those after it.
 #[derive(Clone, Copy, Debug)]
-struct Rest<'p, 'a> {
+pub struct Rest<'p, 'a> {
     first: Option<Piece<'a>>,
     pieces: &'p [Piece<'a>],
 }
 
 impl<'p, 'a> Rest<'p, 'a> {
+    /// All of these pieces.
+    pub fn of(pieces: &'p [Piece<'a>]) -> Rest<'p, 'a>
+        ensures { rest_pieces result ≡ pieces.entry.now }
+    {
+        Rest {
+            first: None,
+            pieces,
+        }
+    }
+
     /// The next piece, and those after it.
     fn split_first(self) -> Option<(Piece<'a>, &'p [Piece<'a>])>
         requires { All IsSoundPiece (rest_pieces self) }
@@ -159,8 +169,9 @@ fn take_piece<'p, 'a>(
     ))
 }
 
-/// Takes n items from the front.
-fn take_items<'p, 'a>(
+/// Takes n items from the front: their pieces, and what is left. No character may lie on both sides
+/// of the cut.
+pub fn take_items<'p, 'a>(
     alloc: Global,
     pieces: Rest<'p, 'a>,
     n: usize,

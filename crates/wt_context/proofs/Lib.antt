@@ -1,0 +1,17 @@
+pub mod AttributeCuts
+pub mod ChunkLaws
+pub mod ChunkSteps
+pub mod ContextReads
+pub mod ContextStyles
+pub mod Forests
+pub mod Loosening
+pub mod NestedTrees
+pub mod Quoting
+pub mod Resting
+pub mod Seeing
+pub mod Segmenting
+pub mod StyleSteps
+pub mod Texts
+pub mod TileCuts
+pub mod TokenLaws
+pub mod UrlTexts

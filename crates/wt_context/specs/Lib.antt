@@ -1,0 +1,13 @@
+pub mod Chunking
+pub mod Chunks
+pub mod Heads
+pub mod Line
+pub mod Loosened
+pub mod Made
+pub mod Nodes
+pub mod Seen
+pub mod Segments
+pub mod Styled
+pub mod Styling
+pub mod TileParts
+pub mod Tokens

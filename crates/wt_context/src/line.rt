@@ -1,0 +1,44 @@
+//! Lines, read.
+
+ghost use Rattle.std.specs.Prelude.{◌≡◌, All, IfOk};
+ghost use Rattle.wt_span.specs.Items.{items};
+ghost use Rattle.wt_span.specs.Origins.{IsSoundPiece};
+ghost use Rattle.wt_inline.specs.View.{item_trees};
+ghost use Rattle.wt_inline.specs.Grown.{grown, Grows};
+ghost use Rattle.wt_context.specs.Line.{line_parts, line_trees};
+
+use crate::reading::with_context;
+use std::alloc::Global;
+use wt_inline::{Children, PieceTree};
+use wt_span::{List, NoMemory, Piece};
+use wt_tiles::Context;
+
+/// How many contexts may stand one inside the other: a line, the text of a link, and sixteen pairs
+/// of tags.
+const MOST_CONTEXTS: u32 = 18;
+
+/// The children of a node with what stands on a line, or in a cell.
+#[tactic(auto, unfolding(crate::specs::Line::context_parts))]
+pub fn with_line<'a>(
+    alloc: Global,
+    children: Children<'a>,
+    pieces: &[Piece<'a>],
+) -> Result<Children<'a>, NoMemory>
+    requires { All IsSoundPiece pieces.now }
+    ensures { IfOk result (λ c. Grows (grown children.entry) (line_parts (items pieces.now)) (grown c)) }
+{
+    with_context(alloc, children, MOST_CONTEXTS, Context::line(), pieces)
+}
+
+/// What stands on a line, or in a cell, as the children of its node.
+#[tactic(auto, unfolding(crate::specs::Line::line_trees))]
+pub fn line_children<'a>(
+    alloc: Global,
+    pieces: &[Piece<'a>],
+) -> Result<List<PieceTree<'a>>, NoMemory>
+    requires { All IsSoundPiece pieces.now }
+    ensures { IfOk result (λ l. item_trees l ≡ line_trees (items pieces.now)) }
+{
+    let children = with_line(alloc, Children::new(alloc), pieces)?;
+    children.finish(alloc)
+}
