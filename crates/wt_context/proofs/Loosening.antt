@@ -55,9 +55,11 @@ passes_first p (x ∷ xs) d s e = rw e (omega arith)
 -- a text can be cut behind them
 pub alike_border : (bs : List ℕ) (q : Bool) (n : ℕ) → IsUtf8 bs → 0 < length bs → q ≡ (get_or bs 0 0 == 39) → n ≡ prefix_len (is_alike q) bs → IsCharBoundary bs n
 alike_border bs false n u s e i =
-    let w = prefix_len-le-length (is_alike false) bs in
-    (omega (arith, i, w), λ l high. let k : prefix_len (is_alike false) bs < length bs = omega (arith, i, l) in
-    let is = no_other _ (ap (λ m. is_alike false (get_or bs m 0)) i ∙ prefix_len_stops (is_alike false) bs 0 k) in absurd (omega arith))
+    let w = prefix_len-le-length (is_alike false) bs in (
+      omega (arith, i, w),
+      λ l high. let k : prefix_len (is_alike false) bs < length bs = omega (arith, i, l) in
+          let is = no_other _ (ap (λ m. is_alike false (get_or bs m 0)) i ∙ prefix_len_stops (is_alike false) bs 0 k) in absurd (omega arith),
+    )
 alike_border bs true n u s e i =
     let w = prefix_len-le-length (is_alike true) bs in
     let some = passes_first (is_alike true) bs 0 s (sym e) in

@@ -51,9 +51,9 @@ taken_none g us n = (λ ps. refl, refl)
 pub taken_step : (g h i : Grown) (n m k : ℕ) (us vs ts ws : List Segment) → vs ≡ ts ++ ws → length ts ≤ m → k ≡ m - length ts → Grows h (segment_parts ts) i → AreTaken g us n h vs m → AreTaken g us n i ws k
 taken_step g h i n m k us vs ts ws e l f a t = (
   λ ps. a (segment_parts (take k ws) ++ ps)
-  ∙ ap (made h) (sym (append_assoc (segment_parts ts) (segment_parts (take k ws)) ps)
-  ∙ ap (λ qs. qs ++ ps) (sym (flat_map-append (λ (u : Segment). u.parts) ts (take k ws)) ∙ ap segment_parts (sym (take_token m k vs ts ws e l f))))
-  ∙ t.0 ps,
+      ∙ ap (made h) (sym (append_assoc (segment_parts ts) (segment_parts (take k ws)) ps)
+      ∙ ap (λ qs. qs ++ ps) (sym (flat_map-append (λ (u : Segment). u.parts) ts (take k ws)) ∙ ap segment_parts (sym (take_token m k vs ts ws e l f))))
+      ∙ t.0 ps,
   sym (drop_token m k vs ts ws e l f) ∙ t.1,
 )
 
@@ -85,9 +85,9 @@ AreCut xs us n ys vs m = (ys ++ segment_items (take m vs) ≡ xs ++ segment_item
 pub cut_step : (xs ys zs : List Item) (n m k : ℕ) (us vs ts ws : List Segment) → vs ≡ ts ++ ws → length ts ≤ m → k ≡ m - length ts → zs ≡ ys ++ segment_items ts → AreCut xs us n ys vs m → AreCut xs us n zs ws k
 cut_step xs ys zs n m k us vs ts ws e l f a t = (
   ap (λ qs. qs ++ segment_items (take k ws)) a
-  ∙ append_assoc ys (segment_items ts) (segment_items (take k ws))
-  ∙ ap (λ qs. ys ++ qs) (sym (flat_map-append (λ (u : Segment). u.items) ts (take k ws)) ∙ ap segment_items (sym (take_token m k vs ts ws e l f)))
-  ∙ t.0,
+      ∙ append_assoc ys (segment_items ts) (segment_items (take k ws))
+      ∙ ap (λ qs. ys ++ qs) (sym (flat_map-append (λ (u : Segment). u.items) ts (take k ws)) ∙ ap segment_items (sym (take_token m k vs ts ws e l f)))
+      ∙ t.0,
   sym (drop_token m k vs ts ws e l f) ∙ t.1,
 )
 

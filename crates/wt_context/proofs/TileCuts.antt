@@ -48,9 +48,11 @@ edge_take gs m n l w e = by (at_or_before n m l) e
   where
     full : length (take m gs) ≡ m
     full = length-take-le m gs w
+
     before : (k : ℕ) → n ≡ k → n < m → low_before gs k ≡ true → low_before (take m gs) k ≡ true
     before zero i h b = b
     before (suc k) i h b = low_take gs m k (omega (arith, i, h)) ∙ b
+
     by : ((n < m) ⊎ (n ≡ m)) → IsEdge gs n → IsEdge (take m gs) n
     by (inr h) f = inl (omega (arith, h, full))
     by (inl h) (inl i) = absurd (omega (arith, i, h, w))

@@ -16,8 +16,7 @@ blank_ascii b e = grind (arith, nat_tests)
 
 pub blank_border : (bs : List ℕ) (n : ℕ) → n ≡ prefix_len unblank bs → IsCharBoundary bs n
 blank_border bs n e =
-    let w = prefix_len-le-length unblank bs in
-    (
+    let w = prefix_len-le-length unblank bs in (
       omega (arith, e, w),
       λ l high.
           let k : prefix_len unblank bs < length bs = omega (arith, e, l) in

@@ -20,12 +20,7 @@ use wt_tiles::{Glyph, Rest, Target, close_len, glyphs_of, take_items, target_len
 use wt_tree::{Attr, AttrName, Kind};
 
 /// A head with one attribute.
-fn with_attr(
-    alloc: Global,
-    kind: Kind,
-    name: AttrName,
-    value: Str,
-) -> Result<NodeHead, NoMemory>
+fn with_attr(alloc: Global, kind: Kind, name: AttrName, value: Str) -> Result<NodeHead, NoMemory>
     ensures { IfOk result (λ h. head_of h ≡ with_attrs kind ((name, value) ∷ [])) }
 {
     let mut attrs = List::new(alloc);
@@ -119,11 +114,7 @@ fn key_after(
 
 /// A category's key.
 #[tactic(auto, unfolding(crate::specs::Heads::key))]
-fn key(
-    alloc: Global,
-    pieces: &[Piece<'_>],
-    glyphs: &[Glyph],
-) -> Result<Option<Str>, NoMemory>
+fn key(alloc: Global, pieces: &[Piece<'_>], glyphs: &[Glyph]) -> Result<Option<Str>, NoMemory>
     requires sound { All IsSoundPiece pieces.now }
     requires signs { glyphs.now ≡ map glyph_of (items pieces.now) }
     ensures { IfOk result (λ k. k ≡ key (items pieces.now)) }
@@ -142,11 +133,7 @@ fn is_pipe(glyphs: &[Glyph], n: usize) -> bool
     matches!(glyphs.get(n), Some(Glyph::Byte(b'|')))
 }
 
-fn href_with(
-    alloc: Global,
-    target: Option<Target>,
-    key: Option<Str>,
-) -> Result<Str, NoMemory>
+fn href_with(alloc: Global, target: Option<Target>, key: Option<Str>) -> Result<Str, NoMemory>
     ensures { IfOk result (λ s. s ≡ href_with target key) }
 {
     match target {

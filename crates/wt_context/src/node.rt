@@ -4,14 +4,15 @@ ghost use Rattle.std.specs.Prelude.{◌≡◌, ◌∷◌, ◌++◌, [], All, IfO
 ghost use Rattle.wt_span.specs.Items.{items};
 ghost use Rattle.wt_span.specs.Origins.{IsSoundPiece};
 ghost use Rattle.wt_inline.specs.ItemTree.{leaf, inner, forest};
-
 ghost use Rattle.wt_inline.specs.View.{head_of, item_tree, item_trees};
 ghost use Rattle.wt_inline.specs.Grown.{grown, Grows, made};
 ghost use Rattle.wt_context.specs.Nodes.{trail_parts, leaf_head, leaf_tree, link_by, nested_head, nested_by, bare_url};
 ghost use Rattle.wt_context.specs.TileParts.{shape_of, HasCuts};
 ghost use Rattle.wt_context.specs.Made.{Inside, IsMade};
 
-use crate::head::{bare_url_head, category_head, ext_link_head, link_head, placeholder, switch_head};
+use crate::head::{
+    bare_url_head, category_head, ext_link_head, link_head, placeholder, switch_head,
+};
 use crate::pair::pair_head;
 use crate::parts::{TileParts, parts_of};
 use std::alloc::Global;
@@ -184,12 +185,19 @@ pub fn nested_tree<'a>(
     requires { All IsSoundPiece parts.opening }
     ensures { IfOk result (λ t. (ps : Inside) → IsMade (grown children.entry) ps → item_tree t ≡ nested_by kind tile.now.trail (items tile.now.pieces) (items parts.entry.opening) (items parts.entry.closing) (items parts.entry.trail) ps) }
 {
-    let head = nested_head(alloc, kind, tile.pieces.as_slice(), parts.opening.as_slice())?;
+    let head = nested_head(
+        alloc,
+        kind,
+        tile.pieces.as_slice(),
+        parts.opening.as_slice(),
+    )?;
     match kind {
         Nested::Link => link(alloc, head, tile.trail, parts, children),
         Nested::ExtLink | Nested::Pair => {
             let TileParts {
-                opening, closing, ..
+                opening,
+                closing,
+                ..
             } = parts;
             round(alloc, head, opening, children, closing)
         }

@@ -34,10 +34,7 @@ fn name_end(glyphs: &[Glyph]) -> usize
 
 /// The pieces that stand between the name of an opening tag and its `>`.
 #[tactic(auto, unfolding(crate::specs::Heads::attribute_items))]
-fn attribute_pieces<'a>(
-    alloc: Global,
-    opening: &[Piece<'a>],
-) -> Result<List<Piece<'a>>, NoMemory>
+fn attribute_pieces<'a>(alloc: Global, opening: &[Piece<'a>]) -> Result<List<Piece<'a>>, NoMemory>
     requires { All IsSoundPiece opening.now }
     ensures { IfOk result (λ l. items l ≡ attribute_items (items opening.now)) }
 {
@@ -77,19 +74,17 @@ fn named(alloc: Global, name: TagName, opening: &[Piece<'_>]) -> Result<NodeHead
     })
 }
 
-fn pair_by(
-    alloc: Global,
-    tag: Option<Tag>,
-    opening: &[Piece<'_>],
-) -> Result<NodeHead, NoMemory>
+fn pair_by(alloc: Global, tag: Option<Tag>, opening: &[Piece<'_>]) -> Result<NodeHead, NoMemory>
     requires { All IsSoundPiece opening.now }
     ensures { IfOk result (λ h. head_of h ≡ pair_by tag (items opening.now)) }
 {
     match tag {
-        Some(Tag {
-            name: Name::Paired(name),
-            ..
-        }) => named(alloc, name, opening),
+        Some(
+            Tag {
+                name: Name::Paired(name),
+                ..
+            },
+        ) => named(alloc, name, opening),
         _ => placeholder(alloc),
     }
 }

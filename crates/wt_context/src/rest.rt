@@ -97,11 +97,7 @@ impl<'a> Rest<'a> {
     }
 
     /// The pieces of the first n segments, and what is left.
-    pub fn pieces(
-        self,
-        alloc: Global,
-        n: usize,
-    ) -> Result<(List<Piece<'a>>, Rest<'a>), NoMemory>
+    pub fn pieces(self, alloc: Global, n: usize) -> Result<(List<Piece<'a>>, Rest<'a>), NoMemory>
         ensures front { IfOk result (λ r. items r.0 ≡ segment_items (take n (rest_segments self.entry))) }
         ensures back { IfOk result (λ r. rest_segments r.1 ≡ drop n (rest_segments self.entry)) }
     {

@@ -22,7 +22,7 @@ nested-returns t c =
     let xs = items c.args.tile.now.pieces in
     IfOk-weaker c.nested_tree.result _ _
     (λ tree f. nested_made c.args.kind (item_tree tree) (shape_of c.args.tile.now) xs (items ps.opening) (items ps.inside) (items ps.closing) (items ps.trail) (items c.as_slice.result.now) (λ ys. within c.args.levels c.args.context ys)
-        (grown c.new.result) (grown c.in_ok-children.children) c.in_ok-parts.ensures.opening c.in_ok-parts.ensures.inside c.in_ok-parts.ensures.closing c.in_ok-parts.ensures.trail (ap items c.as_slice.ensures) c.new.ensures c.in_ok-children.ensures f)
+    (grown c.new.result) (grown c.in_ok-children.children) c.in_ok-parts.ensures.opening c.in_ok-parts.ensures.inside c.in_ok-parts.ensures.closing c.in_ok-parts.ensures.trail (ap items c.as_slice.ensures) c.new.ensures c.in_ok-children.ensures f)
     c.nested_tree.ensures
 
 pub tokens_of-loop-tile-preserved : goal.tokens_of-loop-tile-preserved
