@@ -1,1 +1,2 @@
 mod SignCases
+mod TreeCases

@@ -48,7 +48,6 @@ word = record {
   between_equals = false;
 }
 
-
 -- ---- text alone
 
 empty : spelled (at Paragraph) [] ≡ codes "<nowiki/>"

@@ -86,12 +86,8 @@ fn after_bare(right: Side) -> bool
     match right {
         Side::Edge => false,
         Side::Text(c) => !is_space(c),
-        Side::Link
-        | Side::Bare
-        | Side::Switch
-        | Side::Group { .. }
-        | Side::Toggle
-        | Side::Node => true,
+        Side::Link | Side::Bare | Side::Switch | Side::Group { .. } | Side::Toggle | Side::Node =>
+            true,
     }
 }
 
@@ -107,12 +103,8 @@ fn after_group(slashes: bool, right: Side) -> bool
     match right {
         Side::Edge => false,
         Side::Text(c) => !follows_group(slashes, c),
-        Side::Link
-        | Side::Bare
-        | Side::Switch
-        | Side::Group { .. }
-        | Side::Toggle
-        | Side::Node => true,
+        Side::Link | Side::Bare | Side::Switch | Side::Group { .. } | Side::Toggle | Side::Node =>
+            true,
     }
 }
 
