@@ -1,2 +1,3 @@
 mod SignCases
 mod TreeCases
+pub mod Texts

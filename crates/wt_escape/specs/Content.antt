@@ -1,5 +1,5 @@
 -- The content as it is read from the left: characters, and nodes by what they write and what they are to their neighbours.
-use Rattle.std.specs.Prelude.{ℕ, Bool, true, false, List, [], ◌∷◌, map, Option}
+use Rattle.std.specs.Prelude.{ℕ, Bool, true, false, List, [], ◌∷◌, map, Option, Some, None}
 use Rattle.std.specs.Str.{chars}
 use Rattle.wt_escape.specs.declared.role.Role.{Role}
 use Rattle.wt_escape.specs.declared.role.Role.TheVariants.{Link, External, Bare, Switch, Toggle, Mark, Group, Function, Node}
@@ -18,6 +18,11 @@ pub record Thing : Type 0 where
 pub data Sign : Type 0 where
   letter : ℕ → Sign
   thing : Thing → Sign
+
+-- the sign next to the place
+abbrev pub nearest : List Sign → Option Sign
+nearest [] = None
+nearest (s ∷ signs) = Some s
 
 -- the characters of a text
 abbrev pub letters : List ℕ → List Sign

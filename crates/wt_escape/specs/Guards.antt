@@ -12,16 +12,16 @@ use Rattle.wt_escape.specs.declared.side.Place.TheVariants as place
 use Rattle.wt_escape.specs.declared.side.Side.{Side}
 use Rattle.wt_escape.specs.declared.side.Side.TheVariants as side
 use Rattle.wt_escape.specs.Table.{hazard, line_start_hazard}
-use Rattle.wt_escape.specs.Content.{Thing, Sign, letter, thing, side_of, ends_line, is_invisible, is_group, is_function}
+use Rattle.wt_escape.specs.Content.{Thing, Sign, letter, thing, nearest, side_of, ends_line, is_invisible, is_group, is_function}
 use Rattle.wt_escape.specs.Letters.{written}
 
 -- ---- starts of lines
 
 -- A line begins at the content's start, after a line break, and after a mark whose source ends with one.
-abbrev pub is_line_start : List Sign → Bool
-is_line_start [] = true
-is_line_start (letter c ∷ before) = c == 10
-is_line_start (thing t ∷ before) = ends_line t.role
+abbrev pub is_line_start : Option Sign → Bool
+is_line_start None = true
+is_line_start (Some (letter c)) = c == 10
+is_line_start (Some (thing t)) = ends_line t.role
 
 -- The line has no character but spaces and tabs from here on, and no node but marks.
 abbrev pub is_empty_line : List Sign → Bool
@@ -30,10 +30,10 @@ is_empty_line (letter c ∷ after) = c == 10 || (is_blank c && is_empty_line aft
 is_empty_line (thing t ∷ after) = ends_line t.role || (is_invisible t.role && is_empty_line after)
 
 -- the next sign is a mark whose source ends with a line break, before which nothing is put
-abbrev pub is_line_mark_next : List Sign → Bool
-is_line_mark_next [] = false
-is_line_mark_next (letter c ∷ after) = false
-is_line_mark_next (thing t ∷ after) = ends_line t.role
+abbrev pub is_line_mark_next : Option Sign → Bool
+is_line_mark_next None = false
+is_line_mark_next (Some (letter c)) = false
+is_line_mark_next (Some (thing t)) = ends_line t.role
 
 -- nothing but marks stands between the line's start and this place
 abbrev pub is_line_begun : List Sign → Bool
@@ -42,10 +42,10 @@ is_line_begun (letter c ∷ before) = c == 10
 is_line_begun (thing t ∷ before) = ends_line t.role || (is_invisible t.role && is_line_begun before)
 
 -- the next sign is a character that may not begin a line
-abbrev pub is_start_hazard : List Sign → Bool
-is_start_hazard [] = false
-is_start_hazard (letter c ∷ after) = line_start_hazard c
-is_start_hazard (thing t ∷ after) = false
+abbrev pub is_start_hazard : Option Sign → Bool
+is_start_hazard None = false
+is_start_hazard (Some (letter c)) = line_start_hazard c
+is_start_hazard (Some (thing t)) = false
 
 -- a group, or a mark whose source doesn't end with a line break, that didn't stand at the start of its line or of the content
 abbrev pub is_new_at_start : Role → Bool
@@ -59,27 +59,28 @@ is_new_at_start (Group g) = not g.began_line
 is_new_at_start Function = false
 is_new_at_start Node = false
 
-abbrev pub is_new_next : List Sign → Bool
-is_new_next [] = false
-is_new_next (letter c ∷ after) = false
-is_new_next (thing t ∷ after) = is_new_at_start t.role
+abbrev pub is_new_next : Option Sign → Bool
+is_new_next None = false
+is_new_next (Some (letter c)) = false
+is_new_next (Some (thing t)) = is_new_at_start t.role
 
 unfoldable pub is_start_guard : List Sign → List Sign → Bool
 is_start_guard before after =
-    (is_line_start before && ((is_empty_line after && not (is_line_mark_next after)) || is_new_next after)) || (is_line_begun before && is_start_hazard after)
+    (is_line_start (nearest before) && ((is_empty_line after && not (is_line_mark_next (nearest after))) || is_new_next (nearest after)))
+    || (is_line_begun before && is_start_hazard (nearest after))
 
 -- ---- ends of lines
 
 -- the content ends here, or the line
-abbrev pub is_end : List Sign → Bool
-is_end [] = true
-is_end (letter c ∷ after) = false
-is_end (thing t ∷ after) = false
+abbrev pub is_end : Option Sign → Bool
+is_end None = true
+is_end (Some (letter c)) = false
+is_end (Some (thing t)) = false
 
-abbrev pub is_line_end : List Sign → Bool
-is_line_end [] = true
-is_line_end (letter c ∷ after) = c == 10
-is_line_end (thing t ∷ after) = false
+abbrev pub is_line_end : Option Sign → Bool
+is_line_end None = true
+is_line_end (Some (letter c)) = c == 10
+is_line_end (Some (thing t)) = false
 
 -- a group that didn't end its line in the page, or a bare URL that ends with `=`
 abbrev pub is_new_at_end : Role → Bool
@@ -99,10 +100,10 @@ is_unended [] = false
 is_unended (letter c ∷ before) = is_blank c && is_unended before
 is_unended (thing t ∷ before) = if is_invisible t.role then is_unended before else is_new_at_end t.role
 
-abbrev pub is_blank_last : List Sign → Bool
-is_blank_last [] = false
-is_blank_last (letter c ∷ before) = is_blank c
-is_blank_last (thing t ∷ before) = false
+abbrev pub is_blank_last : Option Sign → Bool
+is_blank_last None = false
+is_blank_last (Some (letter c)) = is_blank c
+is_blank_last (Some (thing t)) = false
 
 -- a group that didn't end the content in the page
 abbrev pub is_new_last : Role → Bool
@@ -116,22 +117,22 @@ is_new_last (Group g) = not g.ended_content
 is_new_last Function = false
 is_new_last Node = false
 
-abbrev pub is_group_last : List Sign → Bool
-is_group_last [] = false
-is_group_last (letter c ∷ before) = false
-is_group_last (thing t ∷ before) = is_new_last t.role
+abbrev pub is_group_last : Option Sign → Bool
+is_group_last None = false
+is_group_last (Some (letter c)) = false
+is_group_last (Some (thing t)) = is_new_last t.role
 
 -- At the content's end `<nowiki/>` keeps a last space or tab, and in a paragraph a group from being all of it.
-abbrev pub is_content_end_guard : Place → List Sign → Bool
-is_content_end_guard place.Paragraph before = is_group_last before
-is_content_end_guard place.Heading before = is_blank_last before
-is_content_end_guard place.Item before = is_blank_last before
-is_content_end_guard place.Term before = is_blank_last before
-is_content_end_guard place.Cell before = is_blank_last before
-is_content_end_guard place.Header before = is_blank_last before
+abbrev pub is_content_end_guard : Place → Option Sign → Bool
+is_content_end_guard place.Paragraph last = is_group_last last
+is_content_end_guard place.Heading last = is_blank_last last
+is_content_end_guard place.Item last = is_blank_last last
+is_content_end_guard place.Term last = is_blank_last last
+is_content_end_guard place.Cell last = is_blank_last last
+is_content_end_guard place.Header last = is_blank_last last
 
 unfoldable pub is_end_guard : Place → List Sign → List Sign → Bool
-is_end_guard p before after = (is_line_end after && is_unended before) || (is_end after && is_content_end_guard p before)
+is_end_guard p before after = (is_line_end (nearest after) && is_unended before) || (is_end (nearest after) && is_content_end_guard p (nearest before))
 
 -- ---- a text of spaces and tabs alone before a group
 
@@ -187,15 +188,16 @@ is_reached None start = false
 is_reached (Some at) start = is_this start at
 
 -- The next sign is a node, and the page has the same text between the last node and this one.
-abbrev pub is_new_text_next : Option ℕ → List Sign → Bool
-is_new_text_next at [] = false
-is_new_text_next at (letter c ∷ after) = false
-is_new_text_next at (thing t ∷ after) = not (is_reached at (start_of t.place))
+abbrev pub is_new_text_next : Option ℕ → Option Sign → Bool
+is_new_text_next at None = false
+is_new_text_next at (Some (letter c)) = false
+is_new_text_next at (Some (thing t)) = not (is_reached at (start_of t.place))
 
 -- After a text of spaces and tabs alone between a group or a bare URL and a group, unless the page has it there.
 unfoldable pub is_blank_guard : List ℕ → List Sign → List Sign → Bool
 is_blank_guard source before after =
-    is_blank_last before && (is_past_node before && (is_nearest is_group_or_bare before && (is_nearest is_group after && is_new_text_next (reached source before) after)))
+    is_blank_last (nearest before) && (is_past_node before
+    && (is_nearest is_group_or_bare before && (is_nearest is_group after && is_new_text_next (reached source before) (nearest after))))
 
 -- ---- between two signs
 
@@ -266,20 +268,20 @@ is_parted a b =
     else hazard (left_side a.role) (side_of b.role) && (is_always_parted a.role b.role || not (is_adjacent a b))
 
 -- the sign on the left, and then the one on the right
-abbrev pub is_parted_from_letter : ℕ → List Sign → Bool
-is_parted_from_letter c [] = false
-is_parted_from_letter c (letter d ∷ after) = false
-is_parted_from_letter c (thing b ∷ after) = hazard (side.Text c) (side_of b.role)
+abbrev pub is_parted_from_letter : ℕ → Option Sign → Bool
+is_parted_from_letter c None = false
+is_parted_from_letter c (Some (letter d)) = false
+is_parted_from_letter c (Some (thing b)) = hazard (side.Text c) (side_of b.role)
 
-abbrev pub is_parted_from_thing : Thing → List Sign → Bool
-is_parted_from_thing a [] = false
-is_parted_from_thing a (letter d ∷ after) = hazard (left_side a.role) (side.Text d)
-is_parted_from_thing a (thing b ∷ after) = is_parted a b
+abbrev pub is_parted_from_thing : Thing → Option Sign → Bool
+is_parted_from_thing a None = false
+is_parted_from_thing a (Some (letter d)) = hazard (left_side a.role) (side.Text d)
+is_parted_from_thing a (Some (thing b)) = is_parted a b
 
-abbrev pub is_between_guard : List Sign → List Sign → Bool
-is_between_guard [] after = false
-is_between_guard (letter c ∷ before) after = is_parted_from_letter c after
-is_between_guard (thing a ∷ before) after = is_parted_from_thing a after
+unfoldable pub is_between_guard : Option Sign → Option Sign → Bool
+is_between_guard None next = false
+is_between_guard (Some (letter c)) next = is_parted_from_letter c next
+is_between_guard (Some (thing a)) next = is_parted_from_thing a next
 
 -- ---- all guards, and the content
 
@@ -292,7 +294,7 @@ pub record Setting : Type 0 where
 
 unfoldable pub is_guarded : Setting → List Sign → List Sign → Bool
 is_guarded s before after =
-    is_between_guard before after || (not s.within && (is_start_guard before after || (is_end_guard s.place before after || is_blank_guard s.source before after)))
+    is_between_guard (nearest before) (nearest after) || (not s.within && (is_start_guard before after || (is_end_guard s.place before after || is_blank_guard s.source before after)))
 
 unfoldable pub nowiki : List ℕ
 nowiki = codes "<nowiki/>"

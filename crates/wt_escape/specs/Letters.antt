@@ -1,43 +1,43 @@
 -- How a character of text is written, by its neighbours: as itself, or as a character reference where wikitext would read a sign.
-use Rattle.std.specs.Prelude.{ℕ, Bool, true, false, not, ◌||◌, ◌&&◌, ◌==◌, List, [], ◌∷◌, ◌++◌, if◌then◌else◌, codes, decimal, encode_utf8}
+use Rattle.std.specs.Prelude.{ℕ, Bool, true, false, not, ◌||◌, ◌&&◌, ◌==◌, Option, Some, None, List, [], ◌∷◌, ◌++◌, if◌then◌else◌, codes, decimal, encode_utf8}
 use Rattle.std.specs.Char.{is_ascii_alphabetic}
 use Rattle.wt_span.specs.Bytes.{is_blank}
 use Rattle.wt_escape.specs.declared.side.Place.{Place}
 use Rattle.wt_escape.specs.declared.side.Place.TheVariants.{Paragraph, Heading, Item, Term, Cell, Header}
-use Rattle.wt_escape.specs.Content.{Sign, letter, thing, ends_line, is_invisible, shows_blanks}
+use Rattle.wt_escape.specs.Content.{Sign, letter, thing, nearest, ends_line, is_invisible, shows_blanks}
 
 -- `[` `]` `{` `}` `|` `>`: written otherwise wherever they stand
 abbrev pub is_bracket : ℕ → Bool
 is_bracket c = c == 91 || (c == 93 || (c == 123 || (c == 125 || (c == 124 || c == 62))))
 
 -- the next sign is no character, or one that makes a tag of a `<`: an ASCII letter, `/` or `!`
-abbrev pub opens_tag : List Sign → Bool
-opens_tag [] = true
-opens_tag (letter c ∷ after) = is_ascii_alphabetic c || (c == 47 || c == 33)
-opens_tag (thing t ∷ after) = true
+abbrev pub opens_tag : Option Sign → Bool
+opens_tag None = true
+opens_tag (Some (letter c)) = is_ascii_alphabetic c || (c == 47 || c == 33)
+opens_tag (Some (thing t)) = true
 
 -- the next sign is no character, or one that makes an entity of a `&`: an ASCII letter or `#`
-abbrev pub opens_entity : List Sign → Bool
-opens_entity [] = true
-opens_entity (letter c ∷ after) = is_ascii_alphabetic c || c == 35
-opens_entity (thing t ∷ after) = true
+abbrev pub opens_entity : Option Sign → Bool
+opens_entity None = true
+opens_entity (Some (letter c)) = is_ascii_alphabetic c || c == 35
+opens_entity (Some (thing t)) = true
 
 -- the nearest sign is this character
-abbrev pub is_next : ℕ → List Sign → Bool
-is_next d [] = false
-is_next d (letter c ∷ signs) = c == d
-is_next d (thing t ∷ signs) = false
+abbrev pub is_next : ℕ → Option Sign → Bool
+is_next d None = false
+is_next d (Some (letter c)) = c == d
+is_next d (Some (thing t)) = false
 
 -- the nearest sign is no character, or an apostrophe
-abbrev pub is_apostrophe_or_end : List Sign → Bool
-is_apostrophe_or_end [] = true
-is_apostrophe_or_end (letter c ∷ signs) = c == 39
-is_apostrophe_or_end (thing t ∷ signs) = true
+abbrev pub is_apostrophe_or_end : Option Sign → Bool
+is_apostrophe_or_end None = true
+is_apostrophe_or_end (Some (letter c)) = c == 39
+is_apostrophe_or_end (Some (thing t)) = true
 
 -- `//` follows
 abbrev pub are_slashes : List Sign → Bool
 are_slashes [] = false
-are_slashes (letter c ∷ after) = c == 47 && is_next 47 after
+are_slashes (letter c ∷ after) = c == 47 && is_next 47 (nearest after)
 are_slashes (thing t ∷ after) = false
 
 -- only spaces and tabs follow, up to a line break or the end of the text
@@ -78,13 +78,13 @@ is_indented (thing t ∷ before) = not (ends_line t.role) && ((shows_blanks t.ro
 unfoldable pub is_escaped : Bool → Place → List Sign → ℕ → List Sign → Bool
 is_escaped within place before c after =
     if is_bracket c then true
-    else if c == 60 then opens_tag after
-    else if c == 38 then opens_entity after
-    else if c == 39 then is_apostrophe_or_end before || is_apostrophe_or_end after
-    else if c == 95 then is_next 95 before
+    else if c == 60 then opens_tag (nearest after)
+    else if c == 38 then opens_entity (nearest after)
+    else if c == 39 then is_apostrophe_or_end (nearest before) || is_apostrophe_or_end (nearest after)
+    else if c == 95 then is_next 95 (nearest before)
     else if c == 58 then is_term place || are_slashes after
     else if c == 61 then is_blank_to_end after
-    else if c == 33 then (is_header place && (is_next 33 before || is_next 33 after)) || (not within && is_indented before)
+    else if c == 33 then (is_header place && (is_next 33 (nearest before) || is_next 33 (nearest after))) || (not within && is_indented before)
     else false
 
 -- `>`, `<` and `&` by their names, and others by their numbers

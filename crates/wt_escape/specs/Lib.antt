@@ -5,3 +5,4 @@ pub mod Kinds
 pub mod Letters
 pub mod Spelling
 pub mod Table
+pub mod Views

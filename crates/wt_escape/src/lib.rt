@@ -5,8 +5,14 @@
 //! stands next to each other and before what begins a line.
 #![tactic(auto)]
 
+mod ahead;
+mod behind;
+mod content;
+mod guards;
 mod kinds;
+mod letters;
 mod role;
 mod side;
+mod signs;
 
 pub use side::{Place, Side, hazard, line_start_hazard};
