@@ -1,3 +1,4 @@
 mod SignCases
 mod TreeCases
 pub mod Texts
+pub mod Nodes

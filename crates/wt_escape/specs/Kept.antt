@@ -4,9 +4,10 @@ use Rattle.std.specs.List.{filter, list_all, ends_with, starts_with}
 use Rattle.wt_span.specs.Bytes.{is_blank}
 use Rattle.wt_names.specs.Good.{holds}
 use Rattle.wt_tree.specs.Tree.{Label, Tree, tree, Trees, none, more, label}
-use Rattle.wt_tree.specs.Kinds.{is_leaf}
+use Rattle.wt_tree.specs.declared.kind.Showing.{Showing}
+use Rattle.wt_tree.specs.declared.kind.Showing.TheVariants as showing
+use Rattle.wt_tree.specs.Kinds.{is_leaf, showing as showing_of}
 use Rattle.wt_tree.specs.Source.{flat}
-use Rattle.wt_tree.specs.Stream.{signs, signs_of_all, bytes_in}
 use Rattle.wt_escape.specs.declared.kinds.ItemsOf.{ItemsOf}
 use Rattle.wt_escape.specs.declared.kinds.ItemsOf.TheVariants.{Delimited, Characters, Opaque, Invisible, Nodes}
 use Rattle.wt_escape.specs.declared.kinds.Sort.{Sort}
@@ -111,9 +112,20 @@ between_equals block s =
 
 -- ---- what it is to its neighbours
 
--- the characters that a node shows
-abbrev pub shown : Tree → List ℕ
-shown t = bytes_in (signs t)
+abbrev pub shown_by : Showing → Label → List ℕ → List ℕ
+shown_by showing.Characters l inside = l.shown
+shown_by showing.Inside l inside = inside
+shown_by showing.Nothing l inside = []
+shown_by showing.Element l inside = inside
+
+-- the characters that a node shows, those of what it holds among them
+abbrev mutual
+  pub shown : Tree → List ℕ
+  shown (tree l ts) = shown_by (showing_of l.kind) l (shown_in ts)
+
+  pub shown_in : Trees → List ℕ
+  shown_in none = []
+  shown_in (more t ts) = shown t ++ shown_in ts
 
 abbrev pub is_apostrophe : Option Item → Bool
 is_apostrophe x = is_character (λ c. c == 39) x
@@ -155,35 +167,51 @@ role_of block s t = role_by (shape (label t).kind).sort block s t
 
 -- ---- the kept nodes of a block
 
--- a node of the page with a number, what it is, and where it stands in the source of its block
+-- a node of the page with a number, and where it stands in its block
+pub record Found : Type 0 where
+  pub node : Tree
+  pub spot : Spot
+
+abbrev pub found_at : ℕ → ℕ → Tree → Found
+found_at at from t = record { node = t; spot = record { start = at; end = at + length (flat t); from = from; to = from + length (visible (items t)) } }
+
+abbrev pub found_if : Bool → Found → List Found
+found_if true f = []
+found_if false f = f ∷ []
+
+abbrev pub is_delimited : ItemsOf → Bool
+is_delimited Delimited = true
+is_delimited Characters = false
+is_delimited Opaque = false
+is_delimited Invisible = false
+is_delimited Nodes = false
+
+-- It has kept nodes in it: it is no leaf, and its items are its delimiters round those of what it holds.
+abbrev pub holds_kept : Label → Bool
+holds_kept l = not (is_leaf l.kind) && is_delimited (shape l.kind).items
+
+-- All in preorder, from a node on with so many bytes and visible items before it; what a group shows has no numbers.
+abbrev mutual
+  pub found_from : ℕ → ℕ → Tree → List Found
+  found_from at from (tree l ts) =
+      found_if (l.id == 0) (found_at at from (tree l ts)) ++ (if holds_kept l then found_in (at + length l.opening) (from + length l.opening) ts else [])
+
+  pub found_in : ℕ → ℕ → Trees → List Found
+  found_in at from none = []
+  found_in at from (more t ts) = found_from at from t ++ found_in (at + length (flat t)) (from + length (visible (items t))) ts
+
+-- such a node, what it is, and where it stands in the source of its block
 pub record Kept : Type 0 where
   pub node : Tree
   pub role : Role
   pub place : Stretch
 
-abbrev pub spot_at : ℕ → ℕ → Tree → Spot
-spot_at at from t = record { start = at; end = at + length (flat t); from = from; to = from + length (visible (items t)) }
-
-abbrev pub kept_at : Tree → ℕ → ℕ → Tree → Kept
-kept_at block at from t = record { node = t; role = role_of block (spot_at at from t) t; place = record { start = at; end = at + length (flat t) } }
-
-abbrev pub kept_if : Bool → Kept → List Kept
-kept_if true k = []
-kept_if false k = k ∷ []
-
--- All in preorder, from a node with so many bytes and visible items before it; what a group shows has no numbers.
-abbrev mutual
-  pub kept_from : Tree → ℕ → ℕ → Tree → List Kept
-  kept_from block at from (tree l ts) =
-      kept_if (l.id == 0) (kept_at block at from (tree l ts)) ++ (if is_leaf l.kind then [] else kept_in block (at + length l.opening) (from + length l.opening) ts)
-
-  pub kept_in : Tree → ℕ → ℕ → Trees → List Kept
-  kept_in block at from none = []
-  kept_in block at from (more t ts) = kept_from block at from t ++ kept_in block (at + length (flat t)) (from + length (visible (items t))) ts
+abbrev pub kept_of : Tree → Found → Kept
+kept_of block f = record { node = f.node; role = role_of block f.spot f.node; place = record { start = f.spot.start; end = f.spot.end } }
 
 -- the nodes in a block, and the block
 abbrev pub kept_nodes : Tree → List Kept
-kept_nodes block = kept_from block 0 0 block
+kept_nodes block = map (kept_of block) (found_from 0 0 block)
 
 -- the first one with this number; 0 is no number
 unfoldable pub kept_with : ℕ → List Kept → Option Kept

@@ -1,4 +1,5 @@
 pub mod Content
+pub mod Gathered
 pub mod Guards
 pub mod Kept
 pub mod Kinds

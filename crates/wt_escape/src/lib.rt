@@ -8,6 +8,7 @@
 mod ahead;
 mod behind;
 mod content;
+mod gather;
 mod guards;
 mod kinds;
 mod letters;
