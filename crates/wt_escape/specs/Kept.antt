@@ -16,6 +16,7 @@ use Rattle.wt_escape.specs.declared.role.Role.{Role}
 use Rattle.wt_escape.specs.declared.role.Role.TheVariants as role
 use Rattle.wt_escape.specs.declared.role.Transclusion.{Transclusion}
 use Rattle.wt_escape.specs.declared.role.Stretch.{Stretch}
+use Rattle.wt_escape.specs.declared.role.Spot.{Spot}
 use Rattle.wt_escape.specs.Kinds.{shape}
 
 -- ---- items
@@ -74,14 +75,7 @@ are_blank_to_end (invisible ∷ xs) = are_blank_to_end xs
 abbrev pub last_of : List Item → Option Item
 last_of xs = slice_get xs (length xs - 1)
 
--- ---- where a node stood
-
--- In a block: the bytes before it and up to its end, and the visible items before it and up to its end.
-pub record Spot : Type 0 where
-  pub start : ℕ
-  pub end : ℕ
-  pub from : ℕ
-  pub to : ℕ
+-- ---- where a node stood: the bytes of its block before it and up to its end, and the visible items before it and up to its end
 
 -- the visible items of the whole block, and of it without its closing delimiter
 abbrev pub seen : Tree → List Item

@@ -3,6 +3,7 @@ pub mod Gathered
 pub mod Guards
 pub mod Kept
 pub mod Kinds
+pub mod SpellingLaws
 pub mod Letters
 pub mod Spelling
 pub mod Table

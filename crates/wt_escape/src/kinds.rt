@@ -222,7 +222,12 @@ pub fn shape(kind: Kind) -> Spelled
         ),
         Kind::Br => row(ItemsOf::Opaque, Sort::Other, Way::Break, BlockForm::NoBlock),
         Kind::Entity => row(ItemsOf::Opaque, Sort::Other, Way::Shown, BlockForm::NoBlock),
-        Kind::Nowiki => row(ItemsOf::Opaque, Sort::Other, Way::Shown, BlockForm::NoBlock),
+        Kind::Nowiki => row(
+            ItemsOf::Delimited,
+            Sort::Other,
+            Way::Shown,
+            BlockForm::NoBlock,
+        ),
         Kind::Island => row(
             ItemsOf::Opaque,
             Sort::Island,

@@ -39,13 +39,7 @@ fn is_header(place: Place) -> bool
 /// Whether a character is written as a reference, by what stands before and after it. In the inside
 /// of a link or tag (`within`) no line begins.
 #[tactic(auto, unfolding(crate::specs::Letters::is_escaped))]
-fn is_escaped(
-    within: bool,
-    place: Place,
-    behind: Behind<'_>,
-    c: char,
-    after: Signs<'_, '_>,
-) -> bool
+fn is_escaped(within: bool, place: Place, behind: Behind<'_>, c: char, after: Signs<'_, '_>) -> bool
     ensures { (source : List ℕ) (before : List AnySign) → IsBehind source before behind.entry → result ≡ is_escaped within place before c (signs_left after.entry) }
 {
     if is_bracket(c) {

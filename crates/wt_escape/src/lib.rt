@@ -7,13 +7,16 @@
 
 mod ahead;
 mod behind;
+mod block;
 mod content;
 mod gather;
 mod guards;
 mod kinds;
+mod laws;
 mod letters;
 mod role;
 mod side;
 mod signs;
 
+pub use laws::{quiet_content_stays, text_is_harmless};
 pub use side::{Place, Side, hazard, line_start_hazard};

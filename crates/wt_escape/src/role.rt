@@ -48,6 +48,16 @@ pub struct Stretch {
     pub end: usize,
 }
 
+/// Where a node stands in its block: the bytes before it and up to its end, and the visible items
+/// before it and up to its end.
+#[derive(Clone, Copy, Debug)]
+pub struct Spot {
+    pub start: usize,
+    pub end: usize,
+    pub from: usize,
+    pub to: usize,
+}
+
 impl Role {
     /// How its neighbours see it.
     pub fn side_of(self) -> Side
@@ -59,10 +69,7 @@ impl Role {
             Role::Switch => Side::Switch,
             Role::Toggle => Side::Toggle,
             Role::Group(g) => Side::Group { slashes: g.slashes },
-            Role::External
-            | Role::Mark { .. }
-            | Role::Function
-            | Role::Node => Side::Node,
+            Role::External | Role::Mark { .. } | Role::Function | Role::Node => Side::Node,
         }
     }
 
@@ -266,11 +273,7 @@ impl Role {
             Role::Bare(_) => right.is_group(),
             Role::Toggle => right.is_parted_from_toggle(),
             Role::Group(g) => g.is_parted_from(right),
-            Role::Link
-            | Role::Switch
-            | Role::Mark { .. }
-            | Role::Function
-            | Role::Node => false,
+            Role::Link | Role::Switch | Role::Mark { .. } | Role::Function | Role::Node => false,
         }
     }
 
