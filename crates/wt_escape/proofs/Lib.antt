@@ -1,0 +1,6 @@
+mod SignCases
+mod TreeCases
+pub mod Texts
+pub mod SpellingLaws
+pub mod Nodes
+pub mod Gathering

@@ -1,0 +1,10 @@
+pub mod Content
+pub mod Gathered
+pub mod Guards
+pub mod Kept
+pub mod Kinds
+pub mod SpellingLaws
+pub mod Letters
+pub mod Spelling
+pub mod Table
+pub mod Views

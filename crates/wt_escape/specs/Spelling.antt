@@ -1,0 +1,272 @@
+-- The spelling: the signs of the edited content, and what is written for a block.
+use Rattle.std.specs.Prelude.{◌≡◌, ℕ, ◌+◌, ◌-◌, Bool, true, false, ◌||◌, ◌&&◌, ◌==◌, nat_eq, Option, Some, None, List, [], ◌∷◌, ◌++◌, length, if◌then◌else◌, codes, replicate, encode_utf8}
+use Rattle.std.specs.Bool.{Decides}
+use Rattle.std.specs.Str.{bytes_eq}
+use Rattle.wt_names.specs.declared.namespace.Ns.{Ns}
+use Rattle.wt_names.specs.declared.namespace.Ns.TheVariants as ns
+use Rattle.wt_names.specs.declared.title.Title.{Title}
+use Rattle.wt_names.specs.Namespace.{full_name_of}
+use Rattle.wt_names.specs.Tidy.{text_of}
+use Rattle.wt_names.specs.Written.{read_link}
+use Rattle.wt_tree.specs.declared.kind.Kind.{Kind}
+use Rattle.wt_tree.specs.declared.kind.AttrName.{AttrName}
+use Rattle.wt_tree.specs.declared.kind.AttrName.TheVariants as attr
+use Rattle.wt_tree.specs.Kinds.{order}
+use Rattle.wt_tree.specs.Tree.{Label, Tree, tree, Trees, none, more, label}
+use Rattle.wt_tree.specs.Tiling.{is_group}
+use Rattle.wt_tree.specs.Plain.{plain}
+use Rattle.wt_tree.specs.Source.{flat}
+use Rattle.wt_escape.specs.declared.kinds.Way.{Way}
+use Rattle.wt_escape.specs.declared.kinds.Way.TheVariants as way
+use Rattle.wt_escape.specs.declared.kinds.BlockForm.{BlockForm}
+use Rattle.wt_escape.specs.declared.kinds.BlockForm.TheVariants as form
+use Rattle.wt_escape.specs.declared.role.Role.{Role}
+use Rattle.wt_escape.specs.declared.role.Role.TheVariants as role
+use Rattle.wt_escape.specs.declared.role.Stretch.{Stretch}
+use Rattle.wt_escape.specs.declared.side.Place.{Place}
+use Rattle.wt_escape.specs.declared.side.Place.TheVariants as place
+use Rattle.wt_escape.specs.Kinds.{shape}
+use Rattle.wt_escape.specs.Content.{Thing, Sign, letter, thing, letters}
+use Rattle.wt_escape.specs.Guards.{Setting, nowiki, spelled}
+use Rattle.wt_escape.specs.Kept.{Kept, kept_nodes, kept_with, shown}
+
+-- ---- what is known of the page
+
+-- The kept nodes of a block, its source, and a test of two nodes.
+pub record Page : Type 0 where
+  pub kept : List Kept
+  pub source : List ℕ
+  pub same : Tree → Tree → Bool
+
+-- the test tells nodes of one kind with one plain view
+abbrev pub TellsSame : (Tree → Tree → Bool) → Type 0
+TellsSame same = (t u : Tree) → Decides (same t u) (((label t).kind ≡ (label u).kind) × (plain t ≡ plain u))
+
+abbrev pub page_of : (Tree → Tree → Bool) → Tree → Page
+page_of same block = record { kept = kept_nodes block; source = flat block; same = same }
+
+-- a new block has no kept nodes
+abbrev pub no_page : (Tree → Tree → Bool) → Page
+no_page same = record { kept = []; source = []; same = same }
+
+-- the page's node, where there is one
+abbrev pub node_or : Tree → Option Kept → Tree
+node_or t None = t
+node_or t (Some k) = k.node
+
+-- A node of the edited tree, in which each group shows what the page's group with its number shows.
+abbrev mutual
+  pub restored : List Kept → Tree → Tree
+  restored ks (tree l ts) = if is_group l.kind then node_or (tree l ts) (kept_with l.id ks) else tree l (restored_all ks ts)
+
+  pub restored_all : List Kept → Trees → Trees
+  restored_all ks none = none
+  restored_all ks (more t ts) = more (restored ks t) (restored_all ks ts)
+
+-- A kept node is unchanged where it is a group, or is of the same kind and has the same plain view.
+abbrev pub is_unchanged : Page → Kept → Tree → Bool
+is_unchanged p k t = is_group (label k.node).kind || p.same (restored p.kept t) k.node
+
+-- ---- nodes
+
+abbrev pub place_of : Option Kept → Option Stretch
+place_of None = None
+place_of (Some k) = Some k.place
+
+-- a kept node as it stands in the page
+abbrev pub kept_thing : Kept → Sign
+kept_thing k = thing (record { role = k.role; source = flat k.node; place = Some k.place })
+
+-- a new node, or a changed one
+abbrev pub new_thing : Role → List ℕ → Option Kept → List Sign
+new_thing r source k = thing (record { role = r; source = source; place = place_of k }) ∷ []
+
+-- as it stands in the page, if it is kept
+abbrev pub as_it_stood : Option Kept → List Sign
+as_it_stood None = new_thing role.Node [] None
+as_it_stood (Some k) = kept_thing k ∷ []
+
+abbrev pub unless_kept : Page → Option Kept → Tree → List Sign → List Sign
+unless_kept p None t new = new
+unless_kept p (Some k) t new = if is_unchanged p k t then kept_thing k ∷ [] else new
+
+-- ---- styles
+
+abbrev pub is_style : Way → Bool
+is_style way.Nothing = false
+is_style way.Characters = false
+is_style way.Bold = true
+is_style way.Italic = true
+is_style way.Shown = false
+is_style way.PageLink = false
+is_style way.ExternalLink = false
+is_style way.Tag = false
+is_style way.Break = false
+is_style way.AsItStood = false
+
+-- a stretch that isn't empty
+abbrev pub stretch : ℕ → ℕ → Option Stretch
+stretch start end = if start == end then None else Some (record { start = start; end = end })
+
+-- where the delimiters of a style stand in the page, if they aren't empty
+abbrev pub opening_place : Option Kept → Option Stretch
+opening_place None = None
+opening_place (Some k) = if is_style (shape (label k.node).kind).way then stretch k.place.start (k.place.start + length (label k.node).opening) else None
+
+abbrev pub closing_place : Option Kept → Option Stretch
+closing_place None = None
+closing_place (Some k) = if is_style (shape (label k.node).kind).way then stretch (k.place.end - length (label k.node).closing) k.place.end else None
+
+abbrev pub toggle : List ℕ → Option Stretch → Sign
+toggle sign at = thing (record { role = role.Toggle; source = sign; place = at })
+
+-- an empty inside is `<nowiki/>`
+abbrev pub or_nowiki : List Sign → List Sign
+or_nowiki [] = new_thing role.Node nowiki None
+or_nowiki (s ∷ ss) = s ∷ ss
+
+abbrev pub style : List ℕ → Option Kept → List Sign → List Sign
+style sign k inside = toggle sign (opening_place k) ∷ (or_nowiki inside ++ (toggle sign (closing_place k) ∷ []))
+
+-- ---- links and tags
+
+-- the inside of a link or tag
+abbrev pub spelled_within : Page → Place → List Sign → List ℕ
+spelled_within p where_ inside = spelled (record { within = true; place = where_; source = p.source }) inside
+
+abbrev pub value_of : AttrName → List (AttrName × List ℕ) → List ℕ
+value_of name [] = []
+value_of name ((m, value) ∷ attrs) = if order m == order name then value else value_of name attrs
+
+abbrev pub href_of : Label → List ℕ
+href_of l = value_of attr.Href l.attrs
+
+-- a node that is written as characters of its own is a text
+abbrev pub text_by : Way → List ℕ → Option (List ℕ)
+text_by way.Nothing shown = None
+text_by way.Characters shown = Some shown
+text_by way.Bold shown = None
+text_by way.Italic shown = None
+text_by way.Shown shown = None
+text_by way.PageLink shown = None
+text_by way.ExternalLink shown = None
+text_by way.Tag shown = None
+text_by way.Break shown = None
+text_by way.AsItStood shown = None
+
+-- the children are one text
+abbrev pub only_text : Trees → Option (List ℕ)
+only_text none = None
+only_text (more t none) = text_by (shape (label t).kind).way (label t).shown
+only_text (more t (more u us)) = None
+
+abbrev pub is_text : Option (List ℕ) → List ℕ → Bool
+is_text None name = false
+is_text (Some text) name = bytes_eq text name
+
+-- A link to a category or a file wants a colon, else it would be none.
+abbrev pub colon : Ns → List ℕ
+colon ns.Main = []
+colon ns.Talk = []
+colon ns.User = []
+colon ns.UserTalk = []
+colon ns.Project = []
+colon ns.ProjectTalk = []
+colon ns.File = 58 ∷ []
+colon ns.FileTalk = []
+colon ns.Template = []
+colon ns.TemplateTalk = []
+colon ns.Help = []
+colon ns.HelpTalk = []
+colon ns.Category = 58 ∷ []
+colon ns.CategoryTalk = []
+
+abbrev pub nowiki_or : List ℕ → List ℕ
+nowiki_or [] = nowiki
+nowiki_or (b ∷ bs) = b ∷ bs
+
+-- `|` and the inside, unless the content is one text that is the full name
+abbrev pub link_text : Bool → List ℕ → List ℕ
+link_text true inside = []
+link_text false inside = 124 ∷ nowiki_or inside
+
+-- A link to a page. (A link that leads to none is refused before.)
+abbrev pub page_link : Option Title → Trees → List ℕ → List ℕ
+page_link None ts inside = []
+page_link (Some t) ts inside = 91 ∷ 91 ∷ (colon t.ns ++ (text_of t ++ (link_text (is_text (only_text ts) (full_name_of t)) inside ++ (93 ∷ 93 ∷ []))))
+
+abbrev pub after_space : List ℕ → List ℕ
+after_space [] = []
+after_space (b ∷ bs) = 32 ∷ b ∷ bs
+
+abbrev pub external_link : List ℕ → List ℕ → List ℕ
+external_link url inside = 91 ∷ (url ++ (after_space inside ++ (93 ∷ [])))
+
+-- a changed tag has its old delimiters
+abbrev pub tag_pair : Option Kept → List ℕ → List ℕ
+tag_pair None inside = inside
+tag_pair (Some k) inside = (label k.node).opening ++ (inside ++ (label k.node).closing)
+
+unfoldable pub break : List ℕ
+break = codes "<br>"
+
+-- ---- the signs of the content
+
+-- by the way of its kind: of a node, its page's node and the signs of what it holds
+abbrev pub signs_by : Way → Page → Place → Option Kept → Label → Trees → List Sign → List Sign
+signs_by way.Nothing p pl k l ts inside = []
+signs_by way.Characters p pl k l ts inside = letters l.shown
+signs_by way.Bold p pl k l ts inside = style (39 ∷ 39 ∷ 39 ∷ []) k inside
+signs_by way.Italic p pl k l ts inside = style (39 ∷ 39 ∷ []) k inside
+signs_by way.Shown p pl k l ts inside = unless_kept p k (tree l ts) (letters (shown (tree l ts)))
+signs_by way.PageLink p pl k l ts inside = unless_kept p k (tree l ts) (new_thing role.Link (page_link (read_link (href_of l)) ts (spelled_within p pl inside)) k)
+signs_by way.ExternalLink p pl k l ts inside = unless_kept p k (tree l ts) (new_thing role.External (external_link (href_of l) (spelled_within p pl inside)) k)
+signs_by way.Tag p pl k l ts inside = unless_kept p k (tree l ts) (new_thing role.Node (tag_pair k (spelled_within p pl inside)) k)
+signs_by way.Break p pl k l ts inside = unless_kept p k (tree l ts) (new_thing role.Node break k)
+signs_by way.AsItStood p pl k l ts inside = as_it_stood k
+
+abbrev mutual
+  pub signs_of : Page → Place → Tree → List Sign
+  signs_of p pl (tree l ts) = signs_by (shape l.kind).way p pl (kept_with l.id p.kept) l ts (signs_of_all p pl ts)
+
+  pub signs_of_all : Page → Place → Trees → List Sign
+  signs_of_all p pl none = []
+  signs_of_all p pl (more t ts) = signs_of p pl t ++ signs_of_all p pl ts
+
+abbrev pub children_of : Tree → Trees
+children_of (tree l ts) = ts
+
+-- ---- what is written
+
+-- the content of an edited block
+abbrev pub content : Page → Place → Tree → List ℕ
+content p pl new = spelled (record { within = false; place = pl; source = p.source }) (signs_of_all p pl (children_of new))
+
+-- of a block that stands in the page
+unfoldable pub inline_spelling : (Tree → Tree → Bool) → Tree → Tree → Place → List ℕ
+inline_spelling same old new pl = content (page_of same old) pl new
+
+-- `n` signs of a heading
+abbrev pub equals : ℕ → List ℕ
+equals n = replicate n 61
+
+abbrev pub place_in : BlockForm → Place
+place_in form.Paragraph = place.Paragraph
+place_in (form.Heading n) = place.Heading
+place_in form.Rule = place.Paragraph
+place_in form.Item = place.Item
+place_in form.NoBlock = place.Paragraph
+
+abbrev pub framed : BlockForm → ℕ → List ℕ → List ℕ
+framed form.Paragraph sign inside = inside
+framed (form.Heading n) sign inside = equals n ++ (32 ∷ (inside ++ (32 ∷ equals n)))
+framed form.Rule sign inside = codes "----"
+framed form.Item sign inside = encode_utf8 sign ++ (32 ∷ inside)
+framed form.NoBlock sign inside = inside
+
+abbrev pub form_of : Tree → BlockForm
+form_of t = (shape (label t).kind).form
+
+-- a new block: a paragraph, a heading, a rule or an item of a list with this sign
+unfoldable pub block_spelling : (Tree → Tree → Bool) → Tree → ℕ → List ℕ
+block_spelling same new sign = framed (form_of new) sign (content (no_page same) (place_in (form_of new)) new)
