@@ -8,6 +8,8 @@ mod blocks;
 #[cfg(test)]
 mod braces;
 #[cfg(test)]
+mod expand;
+#[cfg(test)]
 mod tables;
 #[cfg(test)]
 mod tiles;
