@@ -5,6 +5,7 @@ pub mod Cuts
 pub mod Cutting
 pub mod Ends
 pub mod Nesting
+pub mod Numbers
 pub mod Opens
 pub mod PartLines
 mod Rows

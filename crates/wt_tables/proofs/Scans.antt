@@ -1,4 +1,4 @@
--- Steps of the scans over signs.
+-- Steps of the scans over the numbers of signs.
 use Rattle.std.proofs.Common.{◌≡◌, ◌<◌, ◌≤◌, ℕ, zero, suc, ◌+◌, ◌==◌, Bool, true, false, Option, List, [], ◌∷◌, length, drop, map, get_or, refl, sym, ap, ◌∙◌, arith}
 use Rattle.std.specs.Prelude.{◌||◌, codes, if◌then◌else◌}
 use Rattle.std.proofs.lemmas.List.{drop_more, drop_all}
@@ -10,13 +10,6 @@ use Rattle.wt_tables.specs.declared.scan.Splits.{Splits}
 use Rattle.wt_tables.specs.Cells.{splits, has_link, single_at}
 use Rattle.wt_tables.specs.Views.{first_len, begins_single}
 use Rattle.wt_tables.proofs.Singles.{single_from, single_is}
-
-chars_signs : (o : Option ℕ) (bs : List ℕ) → map sign (map (char o) bs) ≡ bs
-chars_signs o [] = refl
-chars_signs o (b ∷ bs) = ap (λ (l : List ℕ). b ∷ l) (chars_signs o bs)
-
-pub signs_of_chars : (f : Form) (o : Option ℕ) (bs : List ℕ) → f ≡ form.Chars → map sign (items_by f o bs) ≡ bs
-signs_of_chars f o bs e = ap (λ (g : Form). map sign (items_by g o bs)) e ∙ chars_signs o bs
 
 pub first_begins : (by : Splits) (n : ℕ) (ss : List ℕ) → n ≤ length ss → n + first_len by 0 (drop n ss) ≡ first_len by n ss
 first_begins by zero ss l = omega arith
@@ -35,6 +28,19 @@ first_goes by i ss all l e h =
     let here = drop_more ss i 0 l in
     let s : first_len by 0 (drop i ss) ≡ suc (first_len by 0 (drop (i + 1) ss)) = ap (first_len by 0) here ∙ goes_by _ _ (ap (splits by) (sym here) ∙ e) in
     omega (arith, s, h)
+
+pub first_stops : (by : Splits) (i : ℕ) (ss : List ℕ) (all : ℕ) → i < length ss → splits by (drop i ss) ≡ true
+    → i + first_len by 0 (drop i ss) ≡ all → i ≡ all
+first_stops by i ss all l e h =
+    let here = drop_more ss i 0 l in
+    let s : first_len by 0 (drop i ss) ≡ 0 = ap (first_len by 0) here ∙ stops_by _ _ (ap (splits by) (sym here) ∙ e) in
+    omega (arith, s, h)
+
+pub link_stops : (i : ℕ) (ss : List ℕ) (all : Bool) → i < length ss → begins (codes "[[") (drop i ss) ≡ true
+    → has_link (drop i ss) ≡ all → true ≡ all
+link_stops i ss all l e h =
+    let here = drop_more ss i 0 l in
+    sym (ap has_link here ∙ ap (λ (t : Bool). t || has_link (drop (i + 1) ss)) (ap (begins (codes "[[")) (sym here) ∙ e)) ∙ h
 
 pub link_goes : (i : ℕ) (ss : List ℕ) (all : Bool) → i < length ss → begins (codes "[[") (drop i ss) ≡ false
     → has_link (drop i ss) ≡ all → has_link (drop (i + 1) ss) ≡ all

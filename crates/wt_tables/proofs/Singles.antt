@@ -23,7 +23,7 @@ next_single : (bar : Bool) (s : ℕ) (ss : List ℕ) (k : ℕ) → single_by bar
 next_single bar s ss zero = refl
 next_single bar s ss (suc k) = refl
 
-turned : (s : ℕ) → (124 == s) ≡ (s == 124)
+pub turned : (s : ℕ) → (124 == s) ≡ (s == 124)
 turned s = grind (arith, nat_tests)
 
 and_true : (b : Bool) → (b && true) ≡ b

@@ -9,6 +9,8 @@ use Rattle.wt_lines.specs.declared.kind.LineKind.{LineKind}
 use Rattle.wt_lines.specs.declared.kind.LineKind.TheVariants as kind
 use Rattle.wt_lines.specs.declared.line.Line.{Line}
 use Rattle.wt_lines.specs.Kinds.{line_kind}
+use Rattle.wt_lines.specs.declared.sign.Sign.{Sign}
+use Rattle.wt_lines.specs.Signs.{number}
 use Rattle.wt_lines.specs.Pieces.{line_items}
 use Rattle.wt_tables.specs.declared.scan.Splits.{Splits}
 use Rattle.wt_tables.specs.Cells.{splits}
@@ -65,6 +67,10 @@ ends_from at len [] = []
 ends_from at len (k ∷ ks) = end_of k (closers (at + 1) ks) len ∷ ends_from (at + 1) len ks
 
 -- ---- cells
+
+-- signs in code by their numbers
+abbrev pub numbers : List Sign → List ℕ
+numbers ss = map number ss
 
 -- how many items the first cell has, of whose sign `n` items stand at the front
 abbrev pub first_len : Splits → ℕ → List ℕ → ℕ

@@ -2,20 +2,19 @@
 
 ghost use Rattle.std.specs.Prelude.{◌≡◌, ◌≤◌, ◌+◌, All, IfOk, true, length, map, take, drop, codes};
 ghost use Rattle.std.specs.List.{list_all, flat_map};
-ghost use Rattle.wt_span.specs.Bytes.{begins};
 ghost use Rattle.wt_span.specs.Items.{sign, items};
 ghost use Rattle.wt_span.specs.Origins.{IsSoundPiece};
 ghost use Rattle.wt_tree.specs.View.{attrs_of};
 ghost use Rattle.wt_lines.specs.Pieces.{line_items};
 ghost use Rattle.wt_tables.specs.Cells.{is_text_form, is_text, is_plain, bar_at, past_bar, attributes_by, cell_of, cells, cells_in, parts, sign_len, split_by, header_by, from_sign, begins_cell};
-ghost use Rattle.wt_tables.specs.Views.{waiting, AreSound, IsLowCut, HasSign};
+ghost use Rattle.wt_tables.specs.Views.{numbers, waiting, AreSound, IsLowCut, HasSign};
 ghost use Rattle.wt_tables.specs.CellViews.{cell_view, IsSoundCell, whole_cell};
 
 use crate::cursor::Cursor;
-use crate::scan::{Splits, blanks_from, has_link, idle_len, signs_of, single_at};
+use crate::scan::{Splits, begins_one, blanks_from, has_link, idle_len, signs_of, single_at};
 use std::alloc::Global;
 use wt_attributes::read_attributes;
-use wt_lines::Line;
+use wt_lines::{Line, Sign};
 use wt_span::{Form, List, NoMemory, Piece, front_of, rest_of};
 use wt_tree::Attr;
 
@@ -56,8 +55,8 @@ fn are_texts(pieces: &[Piece<'_>]) -> bool
 }
 
 /// What may stand before the `|` of attributes.
-fn is_plain(pieces: &[Piece<'_>], signs: &[u16]) -> bool
-    requires { signs.now ≡ map sign (items pieces.now) }
+fn is_plain(pieces: &[Piece<'_>], signs: &[Sign]) -> bool
+    requires { numbers signs.now ≡ map sign (items pieces.now) }
     ensures { result ≡ is_plain (items pieces.now) }
 {
     are_texts(pieces) && !has_link(signs)
@@ -86,11 +85,11 @@ fn read_attrs(
     alloc: Global,
     n: usize,
     part: &[Piece<'_>],
-    signs: &[u16],
+    signs: &[Sign],
 ) -> Result<(usize, List<Attr>), NoMemory>
     requires sound { All IsSoundPiece part.now }
-    requires signs_are { signs.now ≡ map sign (items part.now) }
-    requires sign { HasSign n signs.now }
+    requires signs_are { numbers signs.now ≡ map sign (items part.now) }
+    requires sign { HasSign n (numbers signs.now) }
     ensures len { IfOk result (λ r. r.0 ≡ n + past_bar (bar_at (drop n (items part.now)))) }
     ensures attrs { IfOk result (λ r. attrs_of r.1 ≡ attributes_by (bar_at (drop n (items part.now))) (drop n (items part.now))) }
     ensures within { IfOk result (λ r. r.0 ≤ length signs.now) }
@@ -115,11 +114,11 @@ fn read_cell<'a>(
     header: bool,
     n: usize,
     part: &[Piece<'a>],
-    signs: &[u16],
+    signs: &[Sign],
 ) -> Result<CellAt<'a>, NoMemory>
     requires sound { All IsSoundPiece part.now }
-    requires signs_are { signs.now ≡ map sign (items part.now) }
-    requires sign { HasSign n signs.now }
+    requires signs_are { numbers signs.now ≡ map sign (items part.now) }
+    requires sign { HasSign n (numbers signs.now) }
     ensures value { IfOk result (λ c. cell_view c ≡ cell_of header n (items part.now)) }
     ensures sound_cell { IfOk result IsSoundCell }
 {
@@ -141,11 +140,11 @@ fn read_cells<'a>(
     header: bool,
     n: usize,
     cursor: Cursor<'_, 'a>,
-    signs: &[u16],
+    signs: &[Sign],
 ) -> Result<List<CellAt<'a>>, NoMemory>
     requires sound { AreSound cursor }
-    requires signs_are { signs.now ≡ map sign (waiting cursor) }
-    requires sign { HasSign n signs.now }
+    requires signs_are { numbers signs.now ≡ map sign (waiting cursor) }
+    requires sign { HasSign n (numbers signs.now) }
     ensures value { IfOk result (λ cs. map cell_view cs ≡ cells_in header n (parts by n (waiting cursor.entry))) }
     ensures sound_cells { IfOk result (λ cs. All IsSoundCell cs) }
 {
@@ -172,22 +171,16 @@ fn read_cells<'a>(
     Ok(cells)
 }
 
-fn begins_header(signs: &[u16]) -> bool
-    ensures { result ≡ begins (codes "!") signs.now }
-{
-    signs.starts_with(&[b'!' as u16])
-}
-
 /// What splits a line that begins with these signs, whether its cells are header cells, and how many
 /// items its first sign has.
-fn mode(caption: bool, signs: &[u16]) -> (Splits, bool, usize)
-    ensures by { result.0 ≡ split_by caption signs.now }
-    ensures header { result.1 ≡ header_by caption signs.now }
+fn mode(caption: bool, signs: &[Sign]) -> (Splits, bool, usize)
+    ensures by { result.0 ≡ split_by caption (numbers signs.now) }
+    ensures header { result.1 ≡ header_by caption (numbers signs.now) }
     ensures len { result.2 ≡ sign_len caption }
 {
     if caption {
         (Splits::Nothing, false, 2)
-    } else if begins_header(signs) {
+    } else if begins_one(signs, b'!') {
         (Splits::Headers, true, 1)
     } else {
         (Splits::Cells, false, 1)

@@ -1,26 +1,17 @@
-//! The signs of a line, and what is found in them. A sign is an item by one number: a character by
-//! its byte, any atom by 256, any mark by 257.
+//! The signs of a line, and what is found in them.
 
-ghost use Rattle.std.specs.Prelude.{◌≡◌, ◌≤◌, ◌+◌, ◌++◌, ◌&&◌, ◌||◌, nat_lt, length, map, drop, take, slice_index, OnOk, IfOk, codes};
+ghost use Rattle.std.specs.Prelude.{◌≡◌, ◌≤◌, ◌+◌, ◌++◌, ◌∷◌, [], ◌&&◌, ◌||◌, nat_lt, length, map, drop, take, slice_index, OnOk, IfOk, codes};
 ghost use Rattle.std.specs.List.{prefix_len};
 ghost use Rattle.wt_span.specs.Bytes.{is_blank, begins};
 ghost use Rattle.wt_span.specs.Items.{sign, items, items_of};
 ghost use Rattle.wt_lines.specs.Kinds.{is_idle};
+ghost use Rattle.wt_lines.specs.Signs.{number};
 ghost use Rattle.wt_tables.specs.Cells.{splits, single_at, has_link, blanks_from};
-ghost use Rattle.wt_tables.specs.Views.{first_len, begins_single};
+ghost use Rattle.wt_tables.specs.Views.{numbers, first_len, begins_single};
 
 use std::alloc::Global;
-use wt_span::{Form, List, NoMemory, Piece, rest_of};
-
-const ATOM: u16 = 256;
-
-const MARK: u16 = 257;
-
-const BAR: u16 = b'|' as u16;
-
-const BANG: u16 = b'!' as u16;
-
-const BRACKET: u16 = b'[' as u16;
+use wt_lines::Sign;
+use wt_span::{List, NoMemory, Piece, rest_of};
 
 /// What splits a line into cells.
 #[derive(Clone, Copy, Debug)]
@@ -32,28 +23,27 @@ pub enum Splits {
     Nothing,
 }
 
-fn push_signs(out: &mut List<u16>, piece: &Piece<'_>) -> Result<(), NoMemory>
-    ensures { OnOk result (out.new ≡ out.old ++ map sign (items_of piece.now)) }
+fn push_signs(out: &mut List<Sign>, piece: &Piece<'_>) -> Result<(), NoMemory>
+    ensures { OnOk result (numbers out.new ≡ numbers out.old ++ map sign (items_of piece.now)) }
 {
-    match piece.form {
-        Form::Chars => push_bytes(out, piece.text.as_str().as_bytes()),
-        Form::Entity(_) | Form::Nowiki | Form::Extension | Form::Function => out.push(ATOM),
-        Form::Comment | Form::Include | Form::Hidden | Form::EmptyCall => out.push(MARK),
+    match Sign::of_form(piece.form) {
+        Some(sign) => out.push(sign),
+        None => push_bytes(out, piece.text.as_str().as_bytes()),
     }
 }
 
-fn push_bytes(out: &mut List<u16>, bytes: &[u8]) -> Result<(), NoMemory>
-    ensures { OnOk result (out.new ≡ out.old ++ bytes.now) }
+fn push_bytes(out: &mut List<Sign>, bytes: &[u8]) -> Result<(), NoMemory>
+    ensures { OnOk result (numbers out.new ≡ numbers out.old ++ bytes.now) }
 {
     for byte in bytes {
-        out.push(u16::from(*byte))?;
+        out.push(Sign::Byte(*byte))?;
     }
     Ok(())
 }
 
 /// The signs of pieces.
-pub fn signs_of(alloc: Global, pieces: &[Piece<'_>]) -> Result<List<u16>, NoMemory>
-    ensures { IfOk result (λ ss. ss ≡ map sign (items pieces.now)) }
+pub fn signs_of(alloc: Global, pieces: &[Piece<'_>]) -> Result<List<Sign>, NoMemory>
+    ensures { IfOk result (λ ss. numbers ss ≡ map sign (items pieces.now)) }
 {
     let mut out = List::new(alloc);
     for piece in pieces {
@@ -62,27 +52,27 @@ pub fn signs_of(alloc: Global, pieces: &[Piece<'_>]) -> Result<List<u16>, NoMemo
     Ok(out)
 }
 
-fn is_blank(sign: u16) -> bool
-    ensures { result ≡ is_blank sign }
+fn is_blank(sign: Sign) -> bool
+    ensures { result ≡ is_blank (number sign) }
 {
-    sign == b' ' as u16 || sign == b'\t' as u16
+    sign.is_byte(b' ') || sign.is_byte(b'\t')
 }
 
 /// How many blanks and marks stand at the front.
-pub fn idle_len(signs: &[u16]) -> usize
-    ensures value { result ≡ prefix_len is_idle signs.now }
+pub fn idle_len(signs: &[Sign]) -> usize
+    ensures value { result ≡ prefix_len is_idle (numbers signs.now) }
     ensures within { result ≤ length signs.now }
 {
     for (i, sign) in signs.iter().enumerate() {
-        if !(is_blank(*sign) || *sign == MARK) {
+        if !sign.is_idle() {
             return i;
         }
     }
     signs.len()
 }
 
-fn blank_len(signs: &[u16]) -> usize
-    ensures value { result ≡ prefix_len is_blank signs.now }
+fn blank_len(signs: &[Sign]) -> usize
+    ensures value { result ≡ prefix_len is_blank (numbers signs.now) }
     ensures within { result ≤ length signs.now }
 {
     for (i, sign) in signs.iter().enumerate() {
@@ -94,30 +84,51 @@ fn blank_len(signs: &[u16]) -> usize
 }
 
 /// The place behind the blanks that stand at a place.
-pub fn blanks_from(at: usize, signs: &[u16]) -> usize
+pub fn blanks_from(at: usize, signs: &[Sign]) -> usize
     requires { at ≤ length signs.now }
-    ensures value { result ≡ blanks_from at signs.now }
+    ensures value { result ≡ blanks_from at (numbers signs.now) }
     ensures within { result ≤ length signs.now }
 {
     at + blank_len(rest_of(signs, at))
 }
 
+/// The character stands at the front.
+pub fn begins_one(signs: &[Sign], byte: u8) -> bool
+    ensures { result ≡ begins (byte ∷ []) (numbers signs.now) }
+{
+    match signs {
+        [first, ..] => first.is_byte(byte),
+        [] => false,
+    }
+}
+
+/// The character stands at the front, and once more behind.
+fn begins_two(signs: &[Sign], byte: u8) -> bool
+    ensures { result ≡ begins (byte ∷ byte ∷ []) (numbers signs.now) }
+{
+    match signs {
+        [first, second, ..] => first.is_byte(byte) && second.is_byte(byte),
+        [_] => false,
+        [] => false,
+    }
+}
+
 impl Splits {
     /// A sign that begins a further cell stands at the front.
-    fn begin(self, signs: &[u16]) -> bool
-        ensures { result ≡ splits self signs.now }
+    fn begin(self, signs: &[Sign]) -> bool
+        ensures { result ≡ splits self (numbers signs.now) }
     {
         match self {
-            Splits::Cells => signs.starts_with(&[BAR, BAR]),
-            Splits::Headers => signs.starts_with(&[BAR, BAR]) || signs.starts_with(&[BANG, BANG]),
+            Splits::Cells => begins_two(signs, b'|'),
+            Splits::Headers => begins_two(signs, b'|') || begins_two(signs, b'!'),
             Splits::Nothing => false,
         }
     }
 
     /// How many items the first cell has, whose sign has `from`.
-    pub fn first_len(self, from: usize, signs: &[u16]) -> usize
+    pub fn first_len(self, from: usize, signs: &[Sign]) -> usize
         requires { from ≤ length signs.now }
-        ensures value { result ≡ first_len self from signs.now }
+        ensures value { result ≡ first_len self from (numbers signs.now) }
         ensures within { result ≤ length signs.now }
         ensures some { from ≤ result }
     {
@@ -133,15 +144,15 @@ impl Splits {
 }
 
 /// A single `|` stands at the front, where one stands before it or not.
-fn begins_single(behind_bar: bool, signs: &[u16]) -> bool
-    ensures { result ≡ begins_single behind_bar signs.now }
+fn begins_single(behind_bar: bool, signs: &[Sign]) -> bool
+    ensures { result ≡ begins_single behind_bar (numbers signs.now) }
 {
-    !behind_bar && signs.starts_with(&[BAR]) && !signs.starts_with(&[BAR, BAR])
+    !behind_bar && begins_one(signs, b'|') && !begins_two(signs, b'|')
 }
 
 /// The place of the first `|` beside which none stands, or the length.
-pub fn single_at(signs: &[u16]) -> usize
-    ensures value { result ≡ single_at signs.now }
+pub fn single_at(signs: &[Sign]) -> usize
+    ensures value { result ≡ single_at (numbers signs.now) }
     ensures within { result ≤ length signs.now }
 {
     let mut behind_bar = false;
@@ -149,20 +160,20 @@ pub fn single_at(signs: &[u16]) -> usize
         if begins_single(behind_bar, rest_of(signs, i)) {
             return i;
         }
-        behind_bar = *sign == BAR;
+        behind_bar = sign.is_byte(b'|');
     }
     signs.len()
 }
 
-fn begins_link(signs: &[u16]) -> bool
-    ensures { result ≡ begins (codes "[[") signs.now }
+fn begins_link(signs: &[Sign]) -> bool
+    ensures { result ≡ begins (codes "[[") (numbers signs.now) }
 {
-    signs.starts_with(&[BRACKET, BRACKET])
+    begins_two(signs, b'[')
 }
 
 /// Whether `[[` stands somewhere.
-pub fn has_link(signs: &[u16]) -> bool
-    ensures { result ≡ has_link signs.now }
+pub fn has_link(signs: &[Sign]) -> bool
+    ensures { result ≡ has_link (numbers signs.now) }
 {
     for at in 0..signs.len() {
         if begins_link(rest_of(signs, at)) {

@@ -1,7 +1,8 @@
 use Rattle.std.proofs.Common.{◌≡◌, ◌+◌, drop}
 use Rattle.std.specs.List.{prefix_len}
 use Rattle.wt_lines.specs.Kinds.{is_idle}
+use Rattle.wt_tables.specs.Views.{numbers}
 use Rattle.wt_tables.proofs.scan.idle_len.Given as goal
 
 abbrev pub invariant-loop-i : goal.invariant-loop-i
-invariant-loop-i l = l.i + prefix_len is_idle (drop l.i l.signs) ≡ prefix_len is_idle l.signs
+invariant-loop-i l = l.i + prefix_len is_idle (drop l.i (numbers l.signs)) ≡ prefix_len is_idle (numbers l.signs)
