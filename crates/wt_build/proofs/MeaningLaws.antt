@@ -1,19 +1,15 @@
 -- The meaning holds its items, each opened.
-use Rattle.std.proofs.Common.{◌≡◌, ℕ, zero, suc, ◌-◌, Option, Some, None, List, [], ◌∷◌, ◌++◌, take, drop, map, refl, sym, ap, ◌∙◌, append_assoc, append-nil}
+use Rattle.std.proofs.Common.{◌≡◌, ℕ, List, [], ◌∷◌, ◌++◌, take, drop, map, refl, sym, ap, ◌∙◌, append_assoc, append-nil}
 use Rattle.std.specs.List.{flat_map}
 use Rattle.std.proofs.lemmas.List.{take-append-drop, map-append}
 use Rattle.std.proofs.lemmas.Grind.{flat_map-append}
 use Rattle.wt_tree.specs.declared.kind.Kind.TheVariants as kind
-use Rattle.wt_span.specs.declared.form.Form.{Form}
-use Rattle.wt_span.specs.declared.form.Form.TheVariants as form
-use Rattle.wt_span.specs.Entities.{entity_at}
-use Rattle.wt_span.specs.Items.{Item, char, whole, sources}
+use Rattle.wt_span.specs.Items.{Item, sources}
 use Rattle.wt_span.specs.Runs.{runs}
 use Rattle.wt_span.proofs.RunLaws.{runs_are, runs_only, runs_joined}
 use Rattle.wt_lines.specs.Lines.{content, goes_on, full_lines}
 use Rattle.wt_inline.specs.declared.loose.Loose.TheVariants.{Text, Sep}
-use Rattle.wt_inline.specs.RawTag.{opening_of, inside_of, closing_of}
-use Rattle.wt_inline.specs.Inside.{read_with, inside_items, opened_whole, opened, opened_all}
+use Rattle.wt_inline.specs.Inside.{opened_all}
 use Rattle.wt_inline.specs.ItemTree.{plain, ItemTree, inner, forest, held, held_by_all}
 use Rattle.wt_inline.specs.Parts.{node, held_parts, parts, children}
 use Rattle.wt_context.specs.Line.{line_parts, line_trees}
@@ -34,7 +30,8 @@ use Rattle.wt_build.proofs.Ends.{content_ending}
 
 opened_line : (l : List Item) → opened_all (held_parts (full_line_parts l)) ≡ opened_all l
 opened_line l =
-    ap opened_all (held_append (line_parts (content l)) (parts Text (ending l)) ∙ ap (λ ys. held_parts (line_parts (content l)) ++ ys) (held_of_parts Text (ending l)))
+    ap opened_all (held_append (line_parts (content l)) (parts Text (ending l))
+    ∙ ap (λ ys. held_parts (line_parts (content l)) ++ ys) (held_of_parts Text (ending l)))
     ∙ opened_append (held_parts (line_parts (content l))) (opened_all (ending l))
     ∙ ap (λ ys. ys ++ opened_all (opened_all (ending l))) (line_holds (content l))
     ∙ ap (λ ys. opened_all (content l) ++ ys) (opened_twice (ending l))
@@ -52,7 +49,8 @@ opened_lines (l ∷ ls) =
 
 held_para : (ls : List (List Item)) → opened_all (held (para ls)) ≡ opened_all (joined ls)
 unfolding para
-held_para ls = ap opened_all (append-nil (held_by_all (forest (children (flat_map full_line_parts ls)))) ∙ held_children (flat_map full_line_parts ls)) ∙ opened_lines ls
+held_para ls = ap opened_all (append-nil (held_by_all (forest (children (flat_map full_line_parts ls))))
+    ∙ held_children (flat_map full_line_parts ls)) ∙ opened_lines ls
 
 held_heading : (xs : List Item) → opened_all (held (heading xs)) ≡ opened_all xs
 unfolding heading
