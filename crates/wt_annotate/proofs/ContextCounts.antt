@@ -1,6 +1,6 @@
 -- What stands on a line has at most one number for each item, beside those that forms make: a tile one of its own and, if letters
 -- join it, one for its close delimiter; and of styles there are no more than apostrophes.
-use Rattle.std.proofs.Common.{◌≡◌, ℕ, zero, suc, ◌+◌, ◌-◌, ◌<◌, ◌≤◌, ◌==◌, Bool, true, false, Option, Some, None, List, [], ◌∷◌, ◌++◌, length, take, drop, map, refl, sym, ap, ◌∙◌, subst, arith, append-nil, length-append, length-take, length-drop, drop-drop, take-add, take_all}
+use Rattle.std.proofs.Common.{◌≡◌, ℕ, zero, suc, ◌+◌, ◌-◌, ◌<◌, ◌≤◌, ◌==◌, Bool, true, false, Option, Some, None, List, [], ◌∷◌, ◌++◌, length, take, drop, map, refl, sym, ap, ◌∙◌, subst, arith, append-nil, length-append, length-take, drop-drop, take-add, take_all}
 use Rattle.std.specs.Prelude.{if◌then◌else◌}
 use Rattle.std.specs.List.{flat_map, AllByRecursion}
 use Rattle.std.proofs.lemmas.Grind.{flat_map-append}
@@ -15,7 +15,7 @@ use Rattle.wt_tree.specs.declared.kind.Kind.TheVariants as node_kind
 use Rattle.wt_quotes.specs.declared.style.Style.{Style}
 use Rattle.wt_quotes.specs.Styles.{style_tree_of}
 use Rattle.wt_quotes.specs.Forest.{Forest, bare, grown, preorder, forest_of}
-use Rattle.wt_quotes.proofs.Flattening.{context_fills, flattened}
+use Rattle.wt_quotes.proofs.Flattening.{flattened}
 use Rattle.wt_tiles.specs.declared.context.Context.{Context}
 use Rattle.wt_tiles.specs.declared.shape.Shape.{Shape}
 use Rattle.wt_tiles.specs.declared.shape.TileKind.{TileKind}
@@ -28,14 +28,13 @@ use Rattle.wt_context.specs.declared.node.Nested.{Nested}
 use Rattle.wt_context.specs.declared.node.Nested.TheVariants as nested
 use Rattle.wt_context.specs.declared.node.Leaf.{Leaf}
 use Rattle.wt_context.specs.declared.node.Leaf.TheVariants as as_leaf
-use Rattle.wt_context.specs.Segments.{Segment, one_stretch, is_first_quote, loose_segment, loose_segments, tree_segment, segment_items, segment_parts}
+use Rattle.wt_context.specs.Segments.{Segment, one_stretch, is_first_quote, loose_segment, loose_segments, segment_items, segment_parts}
 use Rattle.wt_context.specs.Chunks.{chunks}
 use Rattle.wt_context.specs.Styled.{style_kind, between, style_node, styled, with_styles}
 use Rattle.wt_context.specs.Styling.{Fill}
 use Rattle.wt_context.specs.Heads.{bare_url_head}
-use Rattle.wt_context.specs.Nodes.{Reading, opening_of, inside_of, closing_of, trail_of, leaf_head, leaf_tree, round_parts, bare_url, trail_parts, link_by, nested_head, nested_by, nested_tree, tile_tree, segments_by, tile_segments, segments}
+use Rattle.wt_context.specs.Nodes.{Reading, opening_of, inside_of, closing_of, trail_of, leaf_head, leaf_tree, round_parts, bare_url, trail_parts, nested_head, nested_by, nested_tree, tile_tree, segments_by, tile_segments, segments}
 use Rattle.wt_context.specs.Line.{within, most_contexts, context_parts, line_parts, line_trees}
-use Rattle.wt_context.proofs.Forests.{same_fill}
 use Rattle.wt_context.proofs.ContextStyles.{styles_fill}
 use Rattle.wt_annotate.specs.Annotated.{count_by, numbered, numbered_in_all}
 use Rattle.wt_annotate.specs.Numbers.{makes_all}

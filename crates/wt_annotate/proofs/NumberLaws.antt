@@ -10,13 +10,11 @@ use Rattle.wt_span.specs.Items.{Item, char, whole, sources}
 use Rattle.wt_span.specs.Runs.{runs, IsRun, AreRuns}
 use Rattle.wt_span.proofs.RunLaws.{runs_are, runs_joined}
 use Rattle.wt_lines.specs.Lines.{content, goes_on, full_lines}
-use Rattle.wt_inline.specs.declared.loose.Loose.{Loose}
 use Rattle.wt_inline.specs.declared.loose.Loose.TheVariants.{Text, Sep}
 use Rattle.wt_inline.specs.RawTag.{inside_len, behind, inside_of, opening_len}
 use Rattle.wt_inline.specs.Inside.{read_with, inside_items}
-use Rattle.wt_inline.specs.ItemTree.{forest}
-use Rattle.wt_inline.specs.Parts.{Part, loose, node, one_leaf, child, children, form_leaf, inside_part, nowiki, whole_tree, parts}
-use Rattle.wt_context.specs.Line.{line_parts, line_trees}
+use Rattle.wt_inline.specs.Parts.{node, form_leaf, inside_part, nowiki, whole_tree, parts}
+use Rattle.wt_context.specs.Line.{line_parts}
 use Rattle.wt_build.specs.declared.block.BlockKind.{BlockKind}
 use Rattle.wt_build.specs.declared.block.BlockKind.TheVariants.{Between, Heading, Para}
 use Rattle.wt_blocks.specs.Headings.{opening, inside, closing}
@@ -26,7 +24,7 @@ use Rattle.wt_build.specs.Blocks.{joined, full_line_parts, para, heading, block,
 use Rattle.wt_build.specs.Meaning.{row_items, run_parts, body_parts, meaning}
 use Rattle.wt_build.proofs.Ends.{content_ending}
 use Rattle.wt_build.proofs.MeaningLaws.{row_items_are}
-use Rattle.wt_annotate.specs.Annotated.{numbered, numbered_in_all}
+use Rattle.wt_annotate.specs.Annotated.{numbered}
 use Rattle.wt_annotate.specs.Labels.{width}
 use Rattle.wt_annotate.specs.Numbers.{makes_all}
 use Rattle.wt_annotate.proofs.Makes.{makes_append, counts, counts_append, children_count, parts_count}

@@ -1,5 +1,5 @@
 -- A tile in which a context stands has an open delimiter, so that its inside is shorter.
-use Rattle.std.proofs.Common.{◌≡◌, ℕ, zero, suc, ◌+◌, ◌-◌, ◌<◌, ◌≤◌, Bool, true, false, Option, Some, None, List, [], ◌∷◌, length, take, drop, map, codes, refl, sym, ap, ◌∙◌, subst, arith}
+use Rattle.std.proofs.Common.{◌≡◌, ℕ, ◌+◌, ◌-◌, ◌<◌, ◌≤◌, Bool, true, false, Option, Some, None, List, [], ◌∷◌, length, take, drop, map, codes, refl, sym, ap, ◌∙◌, subst, arith}
 use Rattle.std.specs.Prelude.{◌&&◌, ◌==◌, if◌then◌else◌, option_map, nat_lt}
 use Rattle.std.specs.List.{AllByRecursion}
 use Rattle.std.specs.Option.{option_or}
@@ -23,7 +23,7 @@ use Rattle.wt_tiles.specs.declared.target.Target.{Target}
 use Rattle.wt_tiles.specs.Glyphs.{glyph_of, begins, first_is, run_len}
 use Rattle.wt_tiles.specs.Tags.{tag_at}
 use Rattle.wt_tiles.specs.Links.{leaf, target_of, kind_of, target_len, inner_len, has_pipe, head_len, link_shape, link_with, link_to, link_by, link_in, link_at}
-use Rattle.wt_tiles.specs.Urls.{scheme_len, kept_len, url_items, text_len, ext_shape, ext_link_after, ext_link_of, ext_link_at, bare_url_of, bare_url_at}
+use Rattle.wt_tiles.specs.Urls.{scheme_len, kept_len, url_items, text_len, ext_shape, ext_link_after, ext_link_of, ext_link_at, bare_url_at}
 use Rattle.wt_tiles.specs.Tiles.{pair_or_island, closing_for, shape_of_tag, tag_tile, switch_names, switch_len, switch_at, outside, link_or_url, form_at, tile_with, size, parts, shapes, tiles}
 use Rattle.wt_tiles.specs.Reading.{tile_at, StandsBy, is_word_at, AreTiles}
 use Rattle.wt_tiles.proofs.TagFits.{OptTag, tag_fits}
@@ -188,8 +188,7 @@ IsOpened (w, xs) = (length xs ≡ size w) × (0 < size w) × Opens w.kind w.open
 parts_opened : (cx : Context) (after : Bool) (ws : List Shape) (xs : List Item) (gs : List Glyph) → gs ≡ map glyph_of xs → AreTiles cx after ws gs → AllByRecursion IsOpened (parts ws xs)
 parts_opened cx after [] xs gs e h = tt
 parts_opened cx after (w ∷ ws) xs gs e (pos, le, stands, apart, rest) =
-    let m : size w ≤ length xs = omega (arith, le, ap length e, length-map xs glyph_of) in
-    (
+    let m : size w ≤ length xs = omega (arith, le, ap length e, length-map xs glyph_of) in (
       (length-take-le (size w) xs m, pos, shape_stands w.kind w.opening cx after w gs refl refl stands),
       parts_opened cx (is_word_at gs (size w - 1)) ws (drop (size w) xs) (drop (size w) gs) (ap (drop (size w)) e ∙ drop-map glyph_of (size w) xs) rest,
     )
