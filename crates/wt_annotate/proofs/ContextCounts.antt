@@ -187,7 +187,8 @@ trail_count : (closing trail : List Item) → counts (trail_parts closing trail)
 trail_count closing trail = omega (arith, leaf_count (plain node_kind.Skip) closing, parts_count Text trail)
 
 link_count : (h : Head) (n : ℕ) (none : Bool) (opening closing trail : List Item) (ps : List Part) → (none ≡ false → 0 < n)
-    → numbered (if none then round_parts h opening ps closing else round_parts h opening (ps ++ trail_parts closing trail) []) ≤ 1 + n + counts ps + makes_all trail
+    → numbered (if none then round_parts h opening ps closing else round_parts h opening (ps ++ trail_parts closing trail) [])
+    ≤ 1 + n + counts ps + makes_all trail
 link_count h n true opening closing trail ps e = omega (arith, node_count h opening closing ps)
 link_count h n false opening closing trail ps e =
     let some : 0 < n = e refl in
@@ -212,7 +213,13 @@ tree_count k w xs ps e o h =
 url_count : (w : Shape) (xs : List Item) → length xs ≡ size w → 0 < size w → numbered (bare_url w xs) ≤ room xs
 unfolding bare_url
 url_count w xs e p =
-    omega (arith, node_count (bare_url_head (inside_of w xs)) (opening_of w xs) (closing_of w xs) (parts Text (inside_of w xs)), parts_count Text (inside_of w xs), inside_makes w xs)
+    let ps = parts Text (inside_of w xs) in
+    omega (
+      arith,
+      node_count (bare_url_head (inside_of w xs)) (opening_of w xs) (closing_of w xs) ps,
+      parts_count Text (inside_of w xs),
+      inside_makes w xs,
+    )
 
 leaf_room : (k : Leaf) (w : Shape) (xs : List Item) → length xs ≡ size w → 0 < size w → numbered (leaf_tree k xs) ≤ room xs
 leaf_room k w xs e p = omega (arith, leaf_count (leaf_head k xs) xs)
@@ -240,7 +247,8 @@ tile_cost : (xs : List Item) (t : Option ItemTree) → IsFewTree xs t → cost (
 tile_cost xs None h = loose_count xs
 tile_cost xs (Some t) h = omega (arith, h)
 
-tiles_cost : (read : Reading) (cx : Context) (ts : List (Shape × List Item)) → IsFew read → AllByRecursion IsOpened ts → cost (flat_map (tile_segments read cx) ts) ≤ room (joined ts)
+tiles_cost : (read : Reading) (cx : Context) (ts : List (Shape × List Item)) → IsFew read → AllByRecursion IsOpened ts
+    → cost (flat_map (tile_segments read cx) ts) ≤ room (joined ts)
 tiles_cost read cx [] f h = omega arith
 tiles_cost read cx ((w, xs) ∷ ts) f h =
     omega (

@@ -102,9 +102,11 @@ toggles_few : (cs rest : List Chunk) (k : ℕ) → drop k cs ≡ rest → 2 * le
 unfolding toggle_at
 toggles_few cs [] k e = omega arith
 toggles_few cs (c ∷ rest) k e =
-    let here : TwoEach (run_length (Some c)) (toggle_at cs k) = subst (λ (o : Option Chunk). TwoEach (run_length o) (toggle_at cs k)) (get_first cs rest c k e) (two_each k (run_length (slice_get cs k))) in
+    let P : Option Chunk → Type 0 = λ o. TwoEach (run_length o) (toggle_at cs k) in
+    let here : P (Some c) = subst P (get_first cs rest c k e) (two_each k (run_length (slice_get cs k))) in
     let later : drop (k + 1) cs ≡ rest = sym (drop-drop 1 k cs) ∙ ap (drop 1) e in
-    cons_few (toggle_at cs k) (filter_map (toggle_at cs) (range_with_len (k + 1) (length rest))) (run_length (Some c)) (in_runs rest) here (toggles_few cs rest (k + 1) later)
+    cons_few (toggle_at cs k) (filter_map (toggle_at cs) (range_with_len (k + 1) (length rest))) (run_length (Some c)) (in_runs rest) here
+    (toggles_few cs rest (k + 1) later)
 
 -- ---- runs by segments
 
@@ -135,7 +137,8 @@ all_quotes (u ∷ v ∷ us) others e h = omega (arith, one_of u.quote e, all_quo
 
 run_few : (xs : List Item) (r others : List Segment) (rest : List (List Segment)) (v : Bool) → is_run r ≡ v → IsRun both_quotes r others
     → ((ys : List Item) → in_runs (chunks_since ys rest) ≤ quotes others)
-    → in_runs (if v then chunk.Run (length r) ∷ chunks_since [] rest else other_chunk (length r) (xs ++ segment_items r) ∷ chunks_since (xs ++ segment_items r) rest) ≤ quotes r + quotes others
+    → in_runs (if v then chunk.Run (length r) ∷ chunks_since [] rest
+    else other_chunk (length r) (xs ++ segment_items r) ∷ chunks_since (xs ++ segment_items r) rest) ≤ quotes r + quotes others
 run_few xs r others rest true e h next =
     omega (arith, all_quotes r others (left_of (begins_with_quote r) (nat_le 2 (length r)) e) h, next [])
 run_few xs r others rest false e h next = omega (arith, next (xs ++ segment_items r))

@@ -167,30 +167,36 @@ all_open cx after (g ∷ gs) = one_opens cx after g gs
 opens_by : (cx : Context) (after : Bool) (gs : List Glyph) (w : Shape) → tile_at cx after gs ≡ Some w → Opens w.kind w.opening
 opens_by cx after gs w e = let P : Option Shape → Type 0 = λ o. OptOpens o in subst P e (all_open cx after gs)
 
-shape_stands : (k : TileKind) (n : ℕ) (cx : Context) (after : Bool) (w : Shape) (gs : List Glyph) → w.kind ≡ k → w.opening ≡ n → StandsBy k cx after w gs → Opens k n
-shape_stands kind.Link n cx after w gs e f h = subst (λ (m : ℕ). 0 < m) f (subst (λ (j : TileKind). Opens j w.opening) e (opens_by cx after gs w h))
-shape_stands kind.Category n cx after w gs e f h = tt
-shape_stands kind.Media n cx after w gs e f h = tt
-shape_stands kind.ExtLink n cx after w gs e f h = subst (λ (m : ℕ). 0 < m) f (subst (λ (j : TileKind). Opens j w.opening) e (opens_by cx after gs w h))
-shape_stands kind.BareUrl n cx after w gs e f h = tt
-shape_stands kind.Br n cx after w gs e f h = tt
-shape_stands kind.Pair n cx after w gs e f h = subst (λ (m : ℕ). 0 < m) f (subst (λ (j : TileKind). Opens j w.opening) e (opens_by cx after gs w h))
-shape_stands kind.TagIsland n cx after w gs e f h = tt
-shape_stands kind.Switch n cx after w gs e f h = tt
-shape_stands kind.Atom n cx after w gs e f h = tt
-shape_stands kind.Mark n cx after w gs e f h = tt
-shape_stands kind.Chars n cx after w gs e f h = tt
+opened_kind : (k j : TileKind) (n : ℕ) → j ≡ k → Opens j n → Opens k n
+opened_kind k j n e h = subst (λ (i : TileKind). Opens i n) e h
+
+shape_stands : (k : TileKind) (cx : Context) (after : Bool) (w : Shape) (gs : List Glyph) → w.kind ≡ k → StandsBy k cx after w gs
+    → Opens k w.opening
+shape_stands kind.Link cx after w gs e h = opened_kind kind.Link w.kind w.opening e (opens_by cx after gs w h)
+shape_stands kind.ExtLink cx after w gs e h = opened_kind kind.ExtLink w.kind w.opening e (opens_by cx after gs w h)
+shape_stands kind.Pair cx after w gs e h = opened_kind kind.Pair w.kind w.opening e (opens_by cx after gs w h)
+shape_stands kind.Category cx after w gs e h = tt
+shape_stands kind.Media cx after w gs e h = tt
+shape_stands kind.BareUrl cx after w gs e h = tt
+shape_stands kind.Br cx after w gs e h = tt
+shape_stands kind.TagIsland cx after w gs e h = tt
+shape_stands kind.Switch cx after w gs e h = tt
+shape_stands kind.Atom cx after w gs e h = tt
+shape_stands kind.Mark cx after w gs e h = tt
+shape_stands kind.Chars cx after w gs e h = tt
 
 -- a tile has as many items as its shape tells, and an open delimiter where a context stands in it
 abbrev pub IsOpened : Shape × List Item → Type 0
 IsOpened (w, xs) = (length xs ≡ size w) × (0 < size w) × Opens w.kind w.opening
 
-parts_opened : (cx : Context) (after : Bool) (ws : List Shape) (xs : List Item) (gs : List Glyph) → gs ≡ map glyph_of xs → AreTiles cx after ws gs → AllByRecursion IsOpened (parts ws xs)
+parts_opened : (cx : Context) (after : Bool) (ws : List Shape) (xs : List Item) (gs : List Glyph) → gs ≡ map glyph_of xs
+    → AreTiles cx after ws gs → AllByRecursion IsOpened (parts ws xs)
 parts_opened cx after [] xs gs e h = tt
 parts_opened cx after (w ∷ ws) xs gs e (pos, le, stands, apart, rest) =
     let m : size w ≤ length xs = omega (arith, le, ap length e, length-map xs glyph_of) in (
-      (length-take-le (size w) xs m, pos, shape_stands w.kind w.opening cx after w gs refl refl stands),
-      parts_opened cx (is_word_at gs (size w - 1)) ws (drop (size w) xs) (drop (size w) gs) (ap (drop (size w)) e ∙ drop-map glyph_of (size w) xs) rest,
+      (length-take-le (size w) xs m, pos, shape_stands w.kind cx after w gs refl stands),
+      parts_opened cx (is_word_at gs (size w - 1)) ws (drop (size w) xs) (drop (size w) gs)
+          (ap (drop (size w)) e ∙ drop-map glyph_of (size w) xs) rest,
     )
 
 pub tiles_opened : (cx : Context) (xs : List Item) → AllByRecursion IsOpened (tiles cx xs)
