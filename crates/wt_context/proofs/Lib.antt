@@ -1,4 +1,5 @@
 pub mod AttributeCuts
+mod Cases
 pub mod ChunkCuts
 pub mod ChunkLaws
 pub mod ChunkSteps
@@ -24,6 +25,7 @@ pub mod Texts
 pub mod TileCuts
 pub mod TileHolding
 pub mod TilePlaces
+pub mod TileTargets
 pub mod TokenLaws
 pub mod Unstyling
 pub mod UrlTexts

@@ -12,6 +12,7 @@ pub mod Segments
 pub mod Styled
 pub mod StyledPlaces
 pub mod Styling
+pub mod Targets
 pub mod TileParts
 pub mod Tokens
 pub mod Unstyled

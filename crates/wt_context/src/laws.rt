@@ -13,6 +13,7 @@ ghost use Rattle.wt_context.specs.Nodes.{Reading, segments};
 ghost use Rattle.wt_context.specs.Line.{context_parts, line_parts, line_trees};
 ghost use Rattle.wt_context.specs.Nesting.{IsReading};
 ghost use Rattle.wt_context.specs.RunCuts.{IsRunBetween, has_run, IsTold};
+ghost use Rattle.wt_context.specs.Targets.{HaveTargets};
 ghost use Rattle.wt_context.specs.Unstyled.{all_unstyled, plain_parts};
 ghost use Rattle.wt_context.specs.StyledPlaces.{all_places, toggled, places_from};
 
@@ -50,4 +51,10 @@ pub fn chunks_tell_items_before_runs()
 /// else does.
 pub fn parts_stand_in_styles()
     ensures { (kind : Bool) (cx : Where) (xs : List Item) → cx.pairs ≤ 16 → all_places kind false (forest (children (context_parts cx xs))) ≡ places_from (toggled kind (chunks (segments context_parts cx xs))) 0 (segments context_parts cx xs) }
+{}
+
+/// Each link and each category of a context holds a target in its own items, whose title the link
+/// that is written for it leads back to.
+pub fn links_lead_to_their_targets()
+    ensures { (cx : Where) (xs : List Item) → HaveTargets cx xs }
 {}
