@@ -4,4 +4,5 @@ pub mod Growing
 pub mod HeadingCuts
 pub mod MeaningLaws
 pub mod Pieces
+pub mod PlainLines
 pub mod RowRuns

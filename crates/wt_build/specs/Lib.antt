@@ -1,4 +1,5 @@
 pub mod Blocks
 pub mod Cuts
 pub mod Meaning
+pub mod Plain
 pub mod Rows

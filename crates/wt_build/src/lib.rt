@@ -7,6 +7,7 @@ mod block;
 mod body;
 mod cut;
 mod laws;
+mod plain;
 mod row;
 mod split;
 mod tree;

@@ -1,18 +1,21 @@
 //! The tree of a block, by its pieces.
 
-ghost use Rattle.std.specs.Prelude.{◌≡◌, ◌∷◌, [], IfOk};
+ghost use Rattle.std.specs.Prelude.{◌≡◌, ◌∷◌, [], All, IfOk};
 ghost use Rattle.wt_span.specs.Items.{items};
+ghost use Rattle.wt_span.specs.Origins.{IsSoundPiece};
 ghost use Rattle.wt_lines.specs.Lines.{full_lines};
 ghost use Rattle.wt_tree.specs.declared.kind.Kind.TheVariants as node_kind;
 ghost use Rattle.wt_inline.specs.ItemTree.{plain, inner, forest};
 ghost use Rattle.wt_inline.specs.Parts.{children};
 ghost use Rattle.wt_inline.specs.View.{item_tree, item_trees};
 ghost use Rattle.wt_inline.specs.Grown.{grown, Grows};
+ghost use Rattle.wt_context.specs.Line.{line_parts};
 ghost use Rattle.wt_build.specs.Blocks.{full_line_parts, heading, block};
 ghost use Rattle.wt_build.specs.Cuts.{AreReady, IsOpenCut, IsInsideCut, paragraph_parts, heading_by};
 
 use crate::block::BlockKind;
 use crate::cut::content_len;
+use crate::plain::is_plain_line;
 use crate::split::{split_before, split_behind};
 use std::alloc::Global;
 use wt_blocks::{HeadingCuts, heading_cuts};
@@ -21,6 +24,22 @@ use wt_inline::{Children, Loose, NodeHead, PieceTree};
 use wt_lines::line_len;
 use wt_span::{List, NoMemory, Piece, front_of, rest_of};
 use wt_tree::Kind;
+
+/// The children of a paragraph with what stands on a line: where no sign of a tile or a style is in
+/// it, its characters.
+fn with_content<'a>(
+    alloc: Global,
+    children: Children<'a>,
+    content: &[Piece<'a>],
+) -> Result<Children<'a>, NoMemory>
+    requires { All IsSoundPiece content.now }
+    ensures { IfOk result (λ c. Grows (grown children.entry) (line_parts (items content.now)) (grown c)) }
+{
+    if is_plain_line(content) {
+        return children.with_pieces(alloc, Loose::Text, content);
+    }
+    with_line(alloc, children, content)
+}
 
 /// The children of a paragraph with one more line: what stands on it is read by itself, and its line
 /// break is text.
@@ -33,7 +52,7 @@ fn with_full_line<'a>(
     ensures { IfOk result (λ c. Grows (grown children.entry) (full_line_parts (items line.now)) (grown c)) }
 {
     let n = content_len(line);
-    let children = with_line(alloc, children, front_of(line, n))?;
+    let children = with_content(alloc, children, front_of(line, n))?;
     children.with_pieces(alloc, Loose::Text, rest_of(line, n))
 }
 
