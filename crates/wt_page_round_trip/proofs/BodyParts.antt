@@ -25,11 +25,11 @@ use Rattle.wt_build.specs.Rows.{ending}
 use Rattle.wt_build.specs.Blocks.{joined, line_parts, para, heading, block, lead, without_lead, last_ending, without_ending, around}
 use Rattle.wt_annotate.specs.Labels.{width, label_at}
 use Rattle.wt_page_round_trip.proofs.TextItems.{AreTexts, BeginsLow, EndsLow, cut_after, cut_items_before}
-use Rattle.wt_page_round_trip.proofs.OfPage.{IsPageItem, IsPageForm, AreOfPage}
+use Rattle.wt_page_round_trip.proofs.OfPage.{IsPageItem, IsPageForm, AreOfPage, ArePageItems}
 use Rattle.wt_page_round_trip.proofs.Parts.{IsWrittenNode, AreWrittenParts, wide_append, children_written}
 use Rattle.wt_page_round_trip.proofs.Forms.{mark_node}
 use Rattle.wt_page_round_trip.proofs.Inline.{IsInlineParent, text_parts}
-use Rattle.wt_page_round_trip.proofs.PageLines.{IsPageLine, IsBetween, AreBlockParts, is_white_byte, all_left, all_right, all_both, last_between, content_ending}
+use Rattle.wt_page_round_trip.proofs.PageLines.{IsBetween, AreBlockParts, is_white_byte, all_left, all_right, all_both, last_between, content_ending}
 
 -- ---- paragraphs
 
@@ -51,7 +51,7 @@ para_parent = record { text = refl; elements = λ k h. inline_held (is_anywhere 
 heading_parent : (n : ℕ) → IsInlineParent (kind.Heading n)
 heading_parent n = record { text = refl; elements = λ k h. inline_held (is_anywhere (shape k).class) _ h }
 
-pub para_node : (ls : List (List Item)) → IsPageLine (joined ls) → IsWrittenNode 2 kind.Body (para ls)
+pub para_node : (ls : List (List Item)) → ArePageItems (joined ls) → IsWrittenNode 2 kind.Body (para ls)
 unfolding para label_at spelling
 para_node ls h =
     let ps : List Part = flat_map line_parts ls in
@@ -94,7 +94,7 @@ form_utf8 form.Hidden bs h = h.1
 form_utf8 form.EmptyCall bs h = absurd h
 
 -- texts with the forms between them are UTF-8
-texts_utf8 : (run : List ℕ) (xs : List Item) → AreTexts run xs → AreOfPage xs → IsUtf8 (run ++ sources xs)
+pub texts_utf8 : (run : List ℕ) (xs : List Item) → AreTexts run xs → AreOfPage xs → IsUtf8 (run ++ sources xs)
 texts_utf8 run [] t p = subst IsUtf8 (sym (append-nil run)) t
 texts_utf8 run (char o b ∷ xs) t p = subst IsUtf8 (append_assoc run (b ∷ []) (sources xs)) (texts_utf8 (run ++ b ∷ []) xs t p.1)
 texts_utf8 run (whole f o bs ∷ xs) t p = IsUtf8-append run (bs ++ sources xs) t.0
@@ -106,7 +106,7 @@ pub record IsHeadingLine (xs : List Item) : Type 0 where
   pub open_ends : EndsLow (opening xs)
   pub close_begins : BeginsLow (closing xs)
 
-pub heading_node : (xs : List Item) → IsPageLine xs → IsHeadingLine xs → IsWrittenNode 2 kind.Body (heading xs)
+pub heading_node : (xs : List Item) → ArePageItems xs → IsHeadingLine xs → IsWrittenNode 2 kind.Body (heading xs)
 unfolding heading label_at inline_trees spelling
 heading_node xs l c =
     let n : ℕ = heading_level xs in

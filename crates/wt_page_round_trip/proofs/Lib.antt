@@ -6,6 +6,15 @@ pub mod Forms
 pub mod Inline
 pub mod PageLines
 pub mod BodyParts
+pub mod WrittenParts
+pub mod InlineNodes
+pub mod TileTexts
+pub mod ShownTexts
+pub mod LinkHeads
+pub mod SpanAttributes
+pub mod SwitchHeads
+pub mod StyleDepth
+pub mod ContextParts
 pub mod Idle
 pub mod Delimiters
 pub mod HeadingLines

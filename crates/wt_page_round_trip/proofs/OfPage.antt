@@ -39,6 +39,11 @@ IsPageItem (whole f o bs) = (o ≡ None) × IsPageForm f bs
 abbrev pub AreOfPage : List Item → Type 0
 AreOfPage xs = AllByRecursion IsPageItem xs
 
+-- texts in UTF-8 and whole forms
+pub record ArePageItems (xs : List Item) : Type 0 where
+  pub texts : AreTexts [] xs
+  pub page : AreOfPage xs
+
 -- ---- one form
 
 pub texts_chars : (o : Option ℕ) (run bs : List ℕ) (ys : List Item) → AreTexts (run ++ bs) ys → AreTexts run (map (char o) bs ++ ys)
