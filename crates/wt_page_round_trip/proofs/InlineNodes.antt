@@ -30,9 +30,9 @@ abbrev pub round : Head → List Item → List Part → List Item → ItemTree
 round h opening ps closing = inner h opening (forest (children ps)) closing
 
 -- what stands in such a node, and its delimiters
-pub record IsFilled (most : ℕ) (opening : List Item) (ps : List Part) (closing : List Item) : Type 0 where
-  pub opening : IsUtf8 (sources opening)
-  pub closing : IsUtf8 (sources closing)
+pub record IsFilled (most : ℕ) (before : List Item) (ps : List Part) (after : List Item) : Type 0 where
+  pub opening : IsUtf8 (sources before)
+  pub closing : IsUtf8 (sources after)
   pub inside : FitsIn (suc most) ps
   pub small : most < 199
 

@@ -7,7 +7,7 @@ use Rattle.std.specs.Fmt.{digit_glyph}
 use Rattle.std.proofs.lemmas.Bool.{ltb-true}
 use Rattle.std.proofs.lemmas.Bool.Decides.{nat_tests}
 use Rattle.std.proofs.lemmas.Str.{IsUtf8-nil, IsUtf8-append, IsUtf8-from_is_utf8}
-use Rattle.percent_encoding.specs.Percent.{percent_encode_byte, percent_sign}
+use Rattle.percent_encoding.specs.Percent.{percent_encode_byte}
 use Rattle.json.proofs.Printed.Utf8.{IsUtf8-are_ascii}
 use Rattle.wt_span.specs.Items.{Item}
 use Rattle.wt_tree.specs.declared.kind.Kind.TheVariants as kind
@@ -33,7 +33,7 @@ digit_low : (d : ℕ) → d < 16 → digit_glyph true d < 128
 digit_low d h = grind (arith, nat_tests)
 
 byte_utf8 : (b : ℕ) → IsUtf8 (percent_encode_byte b)
-unfolding percent_encode_byte percent_sign
+unfolding percent_encode_byte
 byte_utf8 b = ascii_then 37 _ (omega arith) (ascii_then (digit_glyph true (b / 16 % 16)) _ (digit_low (b / 16 % 16) (omega arith))
     (ascii_then (digit_glyph true (b % 16)) [] (digit_low (b % 16) (omega arith)) IsUtf8-nil))
 

@@ -55,7 +55,7 @@ same_item (whole f o bs) = same_by f
 -- the text in which attributes are read is what the items show
 pub same_text : (xs : List Item) → flat_map characters xs ≡ flat_map shown_item xs
 same_text [] = refl
-same_text (x ∷ xs) = ap₂ (λ as bs. as ++ bs) (same_item x) (same_text xs)
+same_text (x ∷ xs) = ap₂ (λ bs cs. bs ++ cs) (same_item x) (same_text xs)
 
 -- ---- URLs
 
@@ -74,7 +74,7 @@ blank_cut run (b ∷ bs) u = by_test (is_blank b) refl (blank_cut (run ++ b ∷ 
         subst (λ n. IsUtf8 (run ++ take n (b ∷ bs))) (sym z) (subst IsUtf8 (append_assoc run (b ∷ []) (before_blank bs)) i)
 
 bracket_cut : (bs : List ℕ) → IsUtf8 bs → IsUtf8 (behind_bracket bs)
-bracket_cut [] u = by_test (slice_index ([] : List ℕ) 0 == 91)
+bracket_cut [] u = let none : List ℕ = [] in by_test (slice_index none 0 == 91)
   where
     by_test : (t : Bool) → IsUtf8 (if t then [] else [])
     by_test true = u

@@ -234,7 +234,7 @@ leaf_told xs n e h =
     record {
       word = h.word;
       told = h.told;
-      source = ap (λ m. sources (take m xs)) z ∙ ap sources (take-add 2 (length h.word) xs) ∙ sources_append (take 2 xs) (take (length h.word) (drop 2 xs)) ∙ ap₂ (λ as bs. as ++ bs) f g;
+      source = ap (λ m. sources (take m xs)) z ∙ ap sources (take-add 2 (length h.word) xs) ∙ sources_append (take 2 xs) (take (length h.word) (drop 2 xs)) ∙ ap₂ (λ bs cs. bs ++ cs) f g;
     }
 
 map_told : (xs : List Item) (o : Option ℕ) (w : Shape) → begins (codes "__") (map glyph_of xs) ≡ true → OptWord (drop 2 (map glyph_of xs)) o

@@ -2,7 +2,7 @@
 use Rattle.std.proofs.Common.{◌≡◌, ℕ, zero, suc, ◌+◌, ◌-◌, ◌<◌, ◌≤◌, ◌⊎◌, Bool, true, false, Option, Some, None, List, [], ◌∷◌, ◌++◌, length, map, take, drop, nat_lt, IsUtf8, refl, sym, ap, ◌∙◌, subst, arith, inl, inr, length-drop}
 use Rattle.std.specs.List.{AllByRecursion}
 use Rattle.std.proofs.lemmas.Bool.{ltb-true}
-use Rattle.std.proofs.lemmas.List.{length-map, length-take-le, take-map, drop-map, take-append-drop, take_all, drop_all}
+use Rattle.std.proofs.lemmas.List.{length-map, length-take-le, take-map, drop-map, take-append-drop, take_all, drop_all, drop-drop}
 use Rattle.std.proofs.lemmas.Str.{IsUtf8-nil}
 use Rattle.wt_span.specs.Items.{Item, char, whole}
 use Rattle.wt_tiles.specs.declared.context.Context.{Context}
@@ -89,13 +89,7 @@ pub record AreParts (w : Shape) (xs : List Item) : Type 0 where
   pub trail : ArePageItems (drop (w.opening + w.inside + w.closing) xs)
 
 drop_more_items : (xs : List Item) (m n : ℕ) → ArePageItems (drop n (drop m xs)) → ArePageItems (drop (m + n) xs)
-drop_more_items xs m n h = subst ArePageItems (dropped xs m n) h
-  where
-    dropped : (ys : List Item) (i j : ℕ) → drop j (drop i ys) ≡ drop (i + j) ys
-    dropped ys zero j = let z : 0 + j ≡ j = omega arith in ap (λ k. drop k ys) (sym z)
-    dropped [] (suc i) zero = refl
-    dropped [] (suc i) (suc j) = refl
-    dropped (y ∷ ys) (suc i) j = let z : suc i + j ≡ suc (i + j) = omega arith in dropped ys i j ∙ ap (λ k. drop k (y ∷ ys)) (sym z)
+drop_more_items xs m n h = subst ArePageItems (drop-drop n m xs) h
 
 pub parts_of_page : (w : Shape) (xs : List Item) → HasCuts w xs → ArePageItems xs → AreParts w xs
 parts_of_page w xs c h =
