@@ -1,6 +1,7 @@
 #!/usr/bin/env python3
 """Measures the proved `wtround`: `html` on pages of 64 KiB, 512 KiB and 2 MiB, `wikitext` on HTML of 512 KiB,
-8 MiB and 64 MiB less a page's frame, and of the HTML of pages with comments and entities.
+8 MiB and 64 MiB less a page's frame, of the HTML of pages with comments and entities, and of what `html` answers
+for pages of links, URLs, styles and tags (a third of the size for apostrophes).
 
   bench/bench.py PROGRAM [OTHER]
 
@@ -40,6 +41,22 @@ KINDS = {
     "one letter a paragraph": lines(lambda k: "a\n\n"),
     "one long line": lines(lambda k: WORDS + " "),
     "blank lines": lines(lambda k: "\n"),
+}
+
+
+def whole(word):
+    """One line of words of one kind, each of them whole."""
+    return lambda size: (word * (size // len(word))).encode()
+
+
+# One line of one form again and again: `html` of the page, and `wikitext` of what it answers.
+INLINE_KINDS = {
+    "links": whole("[[a|b]] "),
+    "URLs": whole("http://a.b "),
+    "italic": whole("''a'' "),
+    "italic within bold": whole("'''''a''b''' "),
+    "apostrophes": lambda size: b"'" * (size // 3),
+    "tags": whole("<s>a</s>"),
 }
 
 
@@ -114,6 +131,15 @@ def run(program, folder, words):
     return best, peak
 
 
+def answer(program, page):
+    """What `html` of the first program answers for a page."""
+    with tempfile.TemporaryDirectory() as folder:
+        os.mkdir(os.path.join(folder, "pages"))
+        with open(os.path.join(folder, "pages", "Main.wiki"), "wb") as out:
+            out.write(page)
+        return subprocess.run([program, "html", "Main"], cwd=folder, capture_output=True).stdout
+
+
 def measure(programs, title, words, sizes, make):
     last = [None] * len(programs)
     for size in sizes:
@@ -130,7 +156,8 @@ def measure(programs, title, words, sizes, make):
                 if seconds is None:
                     cells.append(peak)
                     continue
-                speed = f"{len(made) / 1e6 / seconds:7.0f}" if seconds > 0 else "      -"
+                rate = len(made) / 1e6 / seconds if seconds > 0 else None
+                speed = "      -" if rate is None else f"{rate:7.0f}" if rate >= 10 else f"{rate:7.1f}"
                 growth = f"{seconds / last[n]:7.1f}" if last[n] else "      -"
                 last[n] = seconds
                 cells.append(f"{speed} {peak / 1000:8.1f} {growth}")
@@ -146,8 +173,12 @@ def main():
     print(f"{'command and page':34} {'KiB':>5} " + " ".join(f"{'MB/s':>7} {'peak MB':>8} {'growth':>7}" for _ in programs))
     for kind, make in KINDS.items():
         measure(programs, f"html, {kind}", ["html", "Main"], SIZES, make)
+    for kind, make in INLINE_KINDS.items():
+        measure(programs, f"html, {kind}", ["html", "Main"], SIZES, make)
     for kind, make in HTML_KINDS.items():
         measure(programs, f"wikitext, {kind}", ["wikitext"], HTML_SIZES, make)
+    for kind, make in INLINE_KINDS.items():
+        measure(programs, f"wikitext, {kind}", ["wikitext"], SIZES, lambda size: answer(programs[0], make(size)))
     return 0
 
 

@@ -1,5 +1,5 @@
--- How many nodes of a meaning have a number: one for each line at most, and what each form makes.
-use Rattle.std.proofs.Common.{◌≡◌, ℕ, zero, suc, ◌+◌, ◌-◌, ◌<◌, ◌≤◌, Bool, Option, Some, None, List, [], ◌∷◌, ◌++◌, length, take, drop, map, refl, sym, ap, ◌∙◌, subst, append_assoc, append-nil, arith, length-append, length-take, length-drop}
+-- How many nodes of a meaning have a number: one for each block and one for each item at most, and what each form makes.
+use Rattle.std.proofs.Common.{◌≡◌, ℕ, zero, suc, ◌+◌, ◌-◌, ◌*◌, ◌<◌, ◌≤◌, Bool, Option, Some, None, List, [], ◌∷◌, ◌++◌, length, take, drop, map, refl, sym, ap, ◌∙◌, subst, append_assoc, append-nil, arith, length-append, length-take, length-drop}
 use Rattle.std.specs.List.{flat_map}
 use Rattle.std.proofs.lemmas.List.{take-append-drop, map-append, length-map}
 use Rattle.std.proofs.lemmas.Grind.{flat_map-append}
@@ -16,94 +16,70 @@ use Rattle.wt_inline.specs.RawTag.{inside_len, behind, inside_of, opening_len}
 use Rattle.wt_inline.specs.Inside.{read_with, inside_items}
 use Rattle.wt_inline.specs.ItemTree.{forest}
 use Rattle.wt_inline.specs.Parts.{Part, loose, node, one_leaf, child, children, form_leaf, inside_part, nowiki, whole_tree, parts}
-use Rattle.wt_inline.specs.Inline.{inline_parts, inline_trees}
+use Rattle.wt_context.specs.Line.{line_parts, line_trees}
 use Rattle.wt_build.specs.declared.block.BlockKind.{BlockKind}
 use Rattle.wt_build.specs.declared.block.BlockKind.TheVariants.{Between, Heading, Para}
 use Rattle.wt_blocks.specs.Headings.{opening, inside, closing}
 use Rattle.wt_blocks.proofs.HeadingLaws.{joined as heading_joined}
 use Rattle.wt_build.specs.Rows.{Row, rows, same_block, ending}
-use Rattle.wt_build.specs.Blocks.{joined, line_parts, para, heading, block, lead_len, lead, without_lead, last_ending, without_ending, around, parts_by}
+use Rattle.wt_build.specs.Blocks.{joined, full_line_parts, para, heading, block, lead_len, lead, without_lead, last_ending, without_ending, around, parts_by}
 use Rattle.wt_build.specs.Meaning.{row_items, run_parts, body_parts, meaning}
 use Rattle.wt_build.proofs.Ends.{content_ending}
 use Rattle.wt_build.proofs.MeaningLaws.{row_items_are}
 use Rattle.wt_annotate.specs.Annotated.{numbered, numbered_in_all}
 use Rattle.wt_annotate.specs.Labels.{width}
 use Rattle.wt_annotate.specs.Numbers.{makes_all}
-
--- ---- what items make
-
-makes_append : (xs ys : List Item) → makes_all (xs ++ ys) ≡ makes_all xs + makes_all ys
-makes_append [] ys = omega arith
-makes_append (x ∷ xs) ys = omega (arith, makes_append xs ys)
-
--- ---- parts
-
-abbrev count : Part → ℕ
-count (loose k o b) = 0
-count (node t) = numbered t
-
-abbrev counts : List Part → ℕ
-counts [] = 0
-counts (p ∷ ps) = count p + counts ps
-
-counts_append : (ps qs : List Part) → counts (ps ++ qs) ≡ counts ps + counts qs
-counts_append [] qs = omega arith
-counts_append (p ∷ ps) qs = omega (arith, counts_append ps qs)
-
-child_count : (r : List Part) → numbered (child r) ≤ counts r
-child_count [] = omega arith
-child_count (loose Text o b ∷ ps) = omega arith
-child_count (loose Sep o b ∷ ps) = omega arith
-child_count (node t ∷ ps) = omega arith
-
-forest_count : (rs : List (List Part)) → numbered_in_all (forest (map child rs)) ≤ counts (flat_map (λ r. r) rs)
-forest_count [] = omega arith
-forest_count (r ∷ rs) = omega (arith, child_count r, forest_count rs, counts_append r (flat_map (λ s. s) rs))
-
-children_count : (ps : List Part) → numbered_in_all (forest (children ps)) ≤ counts ps
-unfolding children
-children_count ps = subst (λ qs. numbered_in_all (forest (map child (runs one_leaf ps))) ≤ counts qs) (runs_joined one_leaf ps)
-    (forest_count (runs one_leaf ps))
-
--- ---- the parts of items
-
-parts_count : (k : Loose) (xs : List Item) → counts (parts k xs) ≤ makes_all xs
-parts_count k [] = omega arith
-parts_count k (char o b ∷ xs) = omega (arith, parts_count k xs)
-parts_count k (whole f o bs ∷ xs) = omega (arith, parts_count k xs)
+use Rattle.wt_annotate.proofs.Makes.{makes_append, counts, counts_append, children_count, parts_count}
+use Rattle.wt_annotate.proofs.ContextCounts.{line_count, line_trees_count}
 
 -- ---- blocks
 
-line_count : (l : List Item) → counts (line_parts l) ≤ makes_all l
-line_count l =
+full_line_count : (l : List Item) → counts (full_line_parts l) ≤ length l + makes_all l
+full_line_count l =
     omega (
       arith,
-      counts_append (inline_parts (content l)) (parts Text (ending l)),
-      parts_count Text (content l),
+      counts_append (line_parts (content l)) (parts Text (ending l)),
+      line_count (content l),
       parts_count Text (ending l),
       makes_append (content l) (ending l),
+      length-append (content l) (ending l),
       ap makes_all (content_ending l),
+      ap length (content_ending l),
     )
 
-lines_count : (ls : List (List Item)) → counts (flat_map line_parts ls) ≤ makes_all (joined ls)
+lines_count : (ls : List (List Item)) → counts (flat_map full_line_parts ls) ≤ length (joined ls) + makes_all (joined ls)
 lines_count [] = omega arith
-lines_count (l ∷ ls) = omega (arith, counts_append (line_parts l) (flat_map line_parts ls), line_count l, lines_count ls, makes_append l (joined ls))
+lines_count (l ∷ ls) =
+    omega (
+      arith,
+      counts_append (full_line_parts l) (flat_map full_line_parts ls),
+      full_line_count l,
+      lines_count ls,
+      makes_append l (joined ls),
+      length-append l (joined ls),
+    )
 
-para_count : (ls : List (List Item)) → numbered (para ls) ≤ 1 + makes_all (joined ls)
+para_count : (ls : List (List Item)) → numbered (para ls) ≤ 1 + length (joined ls) + makes_all (joined ls)
 unfolding para
-para_count ls = omega (arith, children_count (flat_map line_parts ls), lines_count ls)
+para_count ls = omega (arith, children_count (flat_map full_line_parts ls), lines_count ls)
 
-inline_count : (xs : List Item) → numbered_in_all (forest (inline_trees xs)) ≤ makes_all xs
-unfolding inline_trees
-inline_count xs = omega (arith, children_count (inline_parts xs), parts_count Text xs)
-
-heading_count : (xs : List Item) → numbered (heading xs) ≤ 1 + makes_all xs
+heading_count : (xs : List Item) → numbered (heading xs) ≤ 1 + length xs + makes_all xs
 unfolding heading
 heading_count xs =
     let all : makes_all (opening xs ++ (inside xs ++ closing xs)) ≡ makes_all xs = ap makes_all (heading_joined xs) in
-    omega (arith, inline_count (inside xs), makes_append (opening xs) (inside xs ++ closing xs), makes_append (inside xs) (closing xs), all)
+    let whole : length (opening xs ++ (inside xs ++ closing xs)) ≡ length xs = ap length (heading_joined xs) in
+    omega (
+      arith,
+      line_trees_count (inside xs),
+      makes_append (opening xs) (inside xs ++ closing xs),
+      makes_append (inside xs) (closing xs),
+      length-append (opening xs) (inside xs ++ closing xs),
+      length-append (inside xs) (closing xs),
+      all,
+      whole,
+    )
 
-block_count : (k : BlockKind) (ls : List (List Item)) → numbered (block k ls) ≤ 1 + makes_all (joined ls)
+block_count : (k : BlockKind) (ls : List (List Item)) → numbered (block k ls) ≤ 1 + length (joined ls) + makes_all (joined ls)
 unfolding block
 block_count Between ls = para_count ls
 block_count Heading ls = heading_count (joined ls)
@@ -118,7 +94,7 @@ end_joined [] = refl
 end_joined (l ∷ []) = ap (λ ys. ys ++ ending l) (append-nil (content l)) ∙ content_ending l ∙ sym (append-nil l)
 end_joined (l ∷ m ∷ ls) = append_assoc l (joined (without_ending (m ∷ ls))) (last_ending (m ∷ ls)) ∙ ap (λ ys. l ++ ys) (end_joined (m ∷ ls))
 
-around_count : (k : BlockKind) (ls : List (List Item)) → counts (around k ls) ≤ 1 + makes_all (joined ls)
+around_count : (k : BlockKind) (ls : List (List Item)) → counts (around k ls) ≤ 1 + length (joined ls) + makes_all (joined ls)
 around_count k ls =
     let rest = without_lead ls in
     let b = block k (without_ending rest) in
@@ -126,17 +102,21 @@ around_count k ls =
     sym (makes_append (lead ls) (joined rest)) ∙ ap makes_all (lead_joined ls) in
     let behind : makes_all (joined (without_ending rest)) + makes_all (last_ending rest) ≡ makes_all (joined rest) =
     sym (makes_append (joined (without_ending rest)) (last_ending rest)) ∙ ap makes_all (end_joined rest) in
+    let long : length (lead ls) + length (joined rest) ≡ length (joined ls) =
+    sym (length-append (lead ls) (joined rest)) ∙ ap length (lead_joined ls) in
+    let longer : length (joined (without_ending rest)) + length (last_ending rest) ≡ length (joined rest) =
+    sym (length-append (joined (without_ending rest)) (last_ending rest)) ∙ ap length (end_joined rest) in
     let front : counts (parts Sep (lead ls)) ≤ makes_all (lead ls) = parts_count Sep (lead ls) in
     let last : counts (parts Sep (last_ending rest)) ≤ makes_all (last_ending rest) = parts_count Sep (last_ending rest) in
-    let whole_block : numbered b ≤ 1 + makes_all (joined (without_ending rest)) = block_count k (without_ending rest) in
+    let whole_block : numbered b ≤ 1 + length (joined (without_ending rest)) + makes_all (joined (without_ending rest)) = block_count k (without_ending rest) in
     omega (arith, counts_append (parts Sep (lead ls)) (node b ∷ parts Sep (last_ending rest)))
 
-parts_by_count : (k : BlockKind) (ls : List (List Item)) → counts (parts_by k ls) ≤ 1 + makes_all (joined ls)
+parts_by_count : (k : BlockKind) (ls : List (List Item)) → counts (parts_by k ls) ≤ 1 + length (joined ls) + makes_all (joined ls)
 parts_by_count Between ls = omega (arith, parts_count Sep (joined ls))
 parts_by_count Heading ls = around_count Heading ls
 parts_by_count Para ls = around_count Para ls
 
-run_count : (rs : List Row) → counts (run_parts rs) ≤ 1 + makes_all (joined (row_items rs))
+run_count : (rs : List Row) → counts (run_parts rs) ≤ 1 + length (joined (row_items rs)) + makes_all (joined (row_items rs))
 unfolding run_parts
 run_count [] = omega arith
 run_count (r ∷ rs) = parts_by_count r.block (row_items (r ∷ rs))
@@ -144,16 +124,28 @@ run_count (r ∷ rs) = parts_by_count r.block (row_items (r ∷ rs))
 joined_append : (ls ms : List (List Item)) → joined (ls ++ ms) ≡ joined ls ++ joined ms
 joined_append ls ms = flat_map-append (λ l. l) ls ms
 
-blocks_count : (rs : List (List Row)) → counts (flat_map run_parts rs) ≤ length rs + makes_all (joined (row_items (flat_map (λ r. r) rs)))
+-- the items of rows
+abbrev items_of_rows : List Row → List Item
+items_of_rows rs = joined (row_items rs)
+
+rows_append : (rs ss : List Row) → items_of_rows (rs ++ ss) ≡ items_of_rows rs ++ items_of_rows ss
+rows_append rs ss = ap joined (map-append (λ s. s.items) rs ss) ∙ joined_append (row_items rs) (row_items ss)
+
+blocks_count : (rs : List (List Row)) → counts (flat_map run_parts rs)
+    ≤ length rs + length (items_of_rows (flat_map (λ r. r) rs)) + makes_all (items_of_rows (flat_map (λ r. r) rs))
 blocks_count [] = omega arith
 blocks_count (r ∷ rs) =
     let others = flat_map (λ s. s) rs in
-    let here : counts (run_parts r) ≤ 1 + makes_all (joined (row_items r)) = run_count r in
-    let later : counts (flat_map run_parts rs) ≤ length rs + makes_all (joined (row_items others)) = blocks_count rs in
-    let both : makes_all (joined (row_items (r ++ others))) ≡ makes_all (joined (row_items r)) + makes_all (joined (row_items others)) =
-    ap makes_all (ap joined (map-append (λ s. s.items) r others) ∙ joined_append (row_items r) (row_items others))
-    ∙ makes_append (joined (row_items r)) (joined (row_items others)) in
-    omega (arith, counts_append (run_parts r) (flat_map run_parts rs))
+    omega (
+      arith,
+      counts_append (run_parts r) (flat_map run_parts rs),
+      run_count r,
+      blocks_count rs,
+      ap makes_all (rows_append r others),
+      makes_append (items_of_rows r) (items_of_rows others),
+      ap length (rows_append r others),
+      length-append (items_of_rows r) (items_of_rows others),
+    )
 
 -- ---- the body
 
@@ -165,14 +157,14 @@ runs_few : {A : Type 0} (joins : A → A → Bool) (rs : List (List A)) (xs : Li
 runs_few joins [] xs h = omega arith
 runs_few joins (r ∷ rs) xs h = omega (arith, run_some joins r h.0 h.2, runs_few joins rs h.0 h.3, ap length h.1, length-append r h.0)
 
-pub meaning_count : (xs : List Item) → numbered (meaning xs) ≤ length xs + makes_all xs
+pub meaning_count : (xs : List Item) → numbered (meaning xs) ≤ 2 * length xs + makes_all xs
 unfolding meaning
 meaning_count xs =
     let rs = runs same_block (rows xs) in
     let all : joined (row_items (flat_map (λ r. r) rs)) ≡ xs =
     ap (λ ss. joined (row_items ss)) (runs_joined same_block (rows xs)) ∙ ap joined (row_items_are 0 (full_lines xs)) ∙ runs_joined goes_on xs in
-    let body : counts (body_parts (rows xs)) ≤ length rs + makes_all xs =
-    subst (λ ys. counts (flat_map run_parts rs) ≤ length rs + makes_all ys) all (blocks_count rs) in
+    let body : counts (body_parts (rows xs)) ≤ length rs + length xs + makes_all xs =
+    subst (λ ys. counts (flat_map run_parts rs) ≤ length rs + length ys + makes_all ys) all (blocks_count rs) in
     let few_runs : length rs ≤ length (rows xs) = runs_few same_block rs (rows xs) (runs_are same_block (rows xs)) in
     let few_lines : length (full_lines xs) ≤ length xs = runs_few goes_on (full_lines xs) xs (runs_are goes_on xs) in
     let one_each : length (rows xs) ≡ length (full_lines xs) = sym (length-map (rows xs) (λ r. r.items)) ∙ ap length (row_items_are 0 (full_lines xs)) in

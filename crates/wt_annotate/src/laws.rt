@@ -1,6 +1,6 @@
 //! What holds of the annotated tree of any tree of items.
 
-ghost use Rattle.std.specs.Prelude.{◌≡◌, ◌≤◌, ◌+◌, [], List, length};
+ghost use Rattle.std.specs.Prelude.{◌≡◌, ◌≤◌, ◌+◌, ◌*◌, [], List, length};
 ghost use Rattle.wt_span.specs.Items.{Item, sources};
 ghost use Rattle.wt_tree.specs.declared.kind.Kind.TheVariants as node_kind;
 ghost use Rattle.wt_tree.specs.Source.{flat};
@@ -28,9 +28,9 @@ pub fn ranges_are_slices()
     ensures { (t : ItemTree) → AreSlices (sources (held t)) (annotated t) }
 {}
 
-/// At most one node for each item has a number, beside those that forms make, and a form makes at
-/// most one node more than it has bytes.
+/// At most two nodes for each item have a number, a block and a tile or a style, beside those that
+/// forms make, and a form makes at most one node more than it has bytes.
 pub fn few_numbers()
-    ensures blocks { (xs : List Item) → numbered (meaning xs) ≤ length xs + makes_all xs }
+    ensures blocks { (xs : List Item) → numbered (meaning xs) ≤ 2 * length xs + makes_all xs }
     ensures forms { (xs : List Item) → makes_all xs ≤ length xs + width xs }
 {}

@@ -16,9 +16,16 @@ use Rattle.wt_inline.specs.Parts.{node, parts, children}
 use Rattle.wt_build.specs.declared.block.BlockKind.{BlockKind}
 use Rattle.wt_build.specs.declared.block.BlockKind.TheVariants.{Between, Heading, Para}
 use Rattle.wt_build.specs.Rows.{ending}
-use Rattle.wt_build.specs.Blocks.{joined, line_parts, para, heading, block, lead_len, last_ending, without_ending, around}
+use Rattle.wt_build.specs.Blocks.{joined, full_line_parts, para, heading, block, lead_len, last_ending, without_ending, around}
 use Rattle.wt_build.specs.Cuts.{IsAround}
 use Rattle.wt_build.proofs.Ends.{content_onto, ending_onto}
+use Rattle.wt_tiles.specs.Tiles.{closed, shapes, tiles}
+use Rattle.wt_quotes.specs.Toggles.{toggles_of}
+use Rattle.wt_quotes.specs.Styles.{style_tree_of}
+use Rattle.wt_context.specs.Chunks.{chunks}
+use Rattle.wt_context.specs.Nodes.{segments}
+use Rattle.wt_context.specs.Styled.{with_styles}
+use Rattle.wt_context.specs.Line.{context_parts}
 
 -- ---- a block by its lines that hold something
 
@@ -27,10 +34,14 @@ filled [] = []
 filled ([] ∷ ls) = filled ls
 filled ((x ∷ l) ∷ ls) = (x ∷ l) ∷ filled ls
 
-parts_filled : (ls : List (List Item)) → flat_map line_parts ls ≡ flat_map line_parts (filled ls)
+no_line_parts : full_line_parts [] ≡ []
+unfolding context_parts segments tiles shapes closed with_styles chunks style_tree_of toggles_of
+no_line_parts = refl
+
+parts_filled : (ls : List (List Item)) → flat_map full_line_parts ls ≡ flat_map full_line_parts (filled ls)
 parts_filled [] = refl
-parts_filled ([] ∷ ls) = parts_filled ls
-parts_filled ((x ∷ l) ∷ ls) = ap (λ ps. line_parts (x ∷ l) ++ ps) (parts_filled ls)
+parts_filled ([] ∷ ls) = ap (λ ps. ps ++ flat_map full_line_parts ls) no_line_parts ∙ parts_filled ls
+parts_filled ((x ∷ l) ∷ ls) = ap (λ ps. full_line_parts (x ∷ l) ++ ps) (parts_filled ls)
 
 joined_filled : (ls : List (List Item)) → joined ls ≡ joined (filled ls)
 joined_filled [] = refl
@@ -189,11 +200,11 @@ around_is k xs before mid after a =
 
 -- ---- the block of items
 
-pub paragraph_block : (ls : List (List Item)) → inner (plain kind.Para) [] (forest (children (flat_map line_parts ls))) [] ≡ block Para ls
+pub paragraph_block : (ls : List (List Item)) → inner (plain kind.Para) [] (forest (children (flat_map full_line_parts ls))) [] ≡ block Para ls
 unfolding para block
 paragraph_block ls = refl
 
-pub between_block : (ls : List (List Item)) → inner (plain kind.Para) [] (forest (children (flat_map line_parts ls))) [] ≡ block Between ls
+pub between_block : (ls : List (List Item)) → inner (plain kind.Para) [] (forest (children (flat_map full_line_parts ls))) [] ≡ block Between ls
 unfolding para block
 between_block ls = refl
 

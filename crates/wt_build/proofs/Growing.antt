@@ -13,9 +13,9 @@ use Rattle.wt_inline.specs.ItemTree.{ItemTree}
 use Rattle.wt_inline.specs.Parts.{Part, node, parts, children}
 use Rattle.wt_inline.specs.Grown.{Grown, Grows, made}
 use Rattle.wt_build.specs.declared.block.BlockKind.{BlockKind}
-use Rattle.wt_inline.specs.Inline.{inline_parts}
+use Rattle.wt_context.specs.Line.{line_parts}
 use Rattle.wt_build.specs.Rows.{rows, ending}
-use Rattle.wt_build.specs.Blocks.{line_parts, block, around, parts_by}
+use Rattle.wt_build.specs.Blocks.{full_line_parts, block, around, parts_by}
 use Rattle.wt_build.specs.Meaning.{body_parts}
 use Rattle.wt_build.specs.Cuts.{IsAround, IsBlockCut, parts_from, paragraph_parts}
 use Rattle.wt_build.proofs.Around.{around_is}
@@ -62,13 +62,13 @@ body_done ps at t g ts z i e = left_done (parts_from 0 ps) (parts_from t (drop a
 -- ---- a paragraph by its lines
 
 pub lines_step : (all : List Part) (ps rest front : List Piece) (at n : ℕ) (g h : Grown) → rest ≡ drop at ps → front ≡ take n rest
-    → IsLineCut rest n → Grows g (line_parts (items front)) h
+    → IsLineCut rest n → Grows g (full_line_parts (items front)) h
     → IsLeft all (paragraph_parts (drop at ps)) g → IsLeft all (paragraph_parts (drop (at + n) ps)) h
 lines_step all ps rest front at n g h er ef cut a i =
-    left_step all (paragraph_parts (drop at ps)) (line_parts (items front)) (paragraph_parts (drop (at + n) ps)) g h
-    (ap paragraph_parts (sym er) ∙ ap (flat_map line_parts) cut
-    ∙ ap (λ ws. line_parts (items ws) ++ paragraph_parts (drop n rest)) (sym ef)
-    ∙ ap (λ ws. line_parts (items front) ++ paragraph_parts ws) (further ps rest at n er)) a i
+    left_step all (paragraph_parts (drop at ps)) (full_line_parts (items front)) (paragraph_parts (drop (at + n) ps)) g h
+    (ap paragraph_parts (sym er) ∙ ap (flat_map full_line_parts) cut
+    ∙ ap (λ ws. full_line_parts (items ws) ++ paragraph_parts (drop n rest)) (sym ef)
+    ∙ ap (λ ws. full_line_parts (items front) ++ paragraph_parts ws) (further ps rest at n er)) a i
 
 pub lines_done : (ps : List Piece) (at : ℕ) (g : Grown) (ts : List ItemTree) → drop at ps ≡ []
     → IsLeft (paragraph_parts ps) (paragraph_parts (drop at ps)) g → ts ≡ made g [] → ts ≡ children (paragraph_parts ps)
@@ -77,14 +77,14 @@ lines_done ps at g ts z i e = left_done (paragraph_parts ps) (paragraph_parts (d
 -- a line, and its line break
 pub grows_line : (line front rest : List Piece) (n : ℕ) (g h i : Grown) → front ≡ take n line → rest ≡ drop n line
     → content (items line) ≡ items (take n line) → ending (items line) ≡ items (drop n line)
-    → Grows g (inline_parts (items front)) h → Grows h (parts Text (items rest)) i → Grows g (line_parts (items line)) i
+    → Grows g (line_parts (items front)) h → Grows h (parts Text (items rest)) i → Grows g (full_line_parts (items line)) i
 grows_line line front rest n g h i ef er c e p q ps =
     let b = parts Text (items rest) in
     q ps
     ∙ p (b ++ ps)
-    ∙ ap (made g) (sym (append_assoc (inline_parts (items front)) b ps)
-    ∙ ap (λ ws. (inline_parts ws ++ b) ++ ps) (ap items ef ∙ sym c)
-    ∙ ap (λ ws. (inline_parts (content (items line)) ++ parts Text ws) ++ ps) (ap items er ∙ sym e))
+    ∙ ap (made g) (sym (append_assoc (line_parts (items front)) b ps)
+    ∙ ap (λ ws. (line_parts ws ++ b) ++ ps) (ap items ef ∙ sym c)
+    ∙ ap (λ ws. (line_parts (content (items line)) ++ parts Text ws) ++ ps) (ap items er ∙ sym e))
 
 pub between_is : (xs : List Item) → parts Sep xs ≡ parts_by Between (full_lines xs)
 between_is xs = ap (parts Sep) (sym (runs_joined goes_on xs))

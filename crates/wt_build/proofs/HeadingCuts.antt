@@ -12,7 +12,7 @@ use Rattle.wt_lines.specs.Pieces.{begins_char}
 use Rattle.wt_blocks.specs.Headings.{equals, core, level_of, open_len, trimmed_len, inside_len, level, opening, inside, closing}
 use Rattle.wt_tree.specs.declared.kind.Kind.TheVariants as kind
 use Rattle.wt_inline.specs.ItemTree.{plain, inner, forest}
-use Rattle.wt_inline.specs.Inline.{inline_trees}
+use Rattle.wt_context.specs.Line.{line_trees}
 use Rattle.wt_build.specs.Blocks.{heading}
 use Rattle.wt_build.specs.Cuts.{IsOpenCut, IsInsideCut, heading_by}
 
@@ -174,8 +174,8 @@ inside_cut xs n m en em s =
 -- ---- the heading of the cuts
 
 cut_twice : (xs : List Item) (l o i : ℕ) → heading_by l o i xs
-    ≡ inner (plain (kind.Heading l)) (take o xs) (forest (inline_trees (take i (drop o xs)))) (drop (o + i) xs)
-cut_twice xs l o i = ap (λ ys. inner (plain (kind.Heading l)) (take o xs) (forest (inline_trees (take i (drop o xs)))) ys) (drop-drop i o xs)
+    ≡ inner (plain (kind.Heading l)) (take o xs) (forest (line_trees (take i (drop o xs)))) (drop (o + i) xs)
+cut_twice xs l o i = ap (λ ys. inner (plain (kind.Heading l)) (take o xs) (forest (line_trees (take i (drop o xs)))) ys) (drop-drop i o xs)
 
 heading_cut : (xs : List Item) → heading_by (level_of (core (map sign xs))) (open_len (core (map sign xs))) (inside_len (core (map sign xs))) xs ≡ heading xs
 unfolding heading level opening inside closing

@@ -1,22 +1,20 @@
 -- The meaning holds its items, each opened.
-use Rattle.std.proofs.Common.{◌≡◌, ℕ, zero, suc, ◌-◌, Option, Some, None, List, [], ◌∷◌, ◌++◌, take, drop, map, refl, sym, ap, ◌∙◌, append_assoc, append-nil}
+use Rattle.std.proofs.Common.{◌≡◌, ℕ, List, [], ◌∷◌, ◌++◌, take, drop, map, refl, sym, ap, ◌∙◌, append_assoc, append-nil}
 use Rattle.std.specs.List.{flat_map}
 use Rattle.std.proofs.lemmas.List.{take-append-drop, map-append}
 use Rattle.std.proofs.lemmas.Grind.{flat_map-append}
 use Rattle.wt_tree.specs.declared.kind.Kind.TheVariants as kind
-use Rattle.wt_span.specs.declared.form.Form.{Form}
-use Rattle.wt_span.specs.declared.form.Form.TheVariants as form
-use Rattle.wt_span.specs.Entities.{entity_at}
-use Rattle.wt_span.specs.Items.{Item, char, whole, sources}
+use Rattle.wt_span.specs.Items.{Item, sources}
 use Rattle.wt_span.specs.Runs.{runs}
 use Rattle.wt_span.proofs.RunLaws.{runs_are, runs_only, runs_joined}
 use Rattle.wt_lines.specs.Lines.{content, goes_on, full_lines}
 use Rattle.wt_inline.specs.declared.loose.Loose.TheVariants.{Text, Sep}
-use Rattle.wt_inline.specs.RawTag.{opening_of, inside_of, closing_of}
-use Rattle.wt_inline.specs.Inside.{read_with, inside_items, opened_whole, opened, opened_all}
+use Rattle.wt_inline.specs.Inside.{opened_all}
 use Rattle.wt_inline.specs.ItemTree.{plain, ItemTree, inner, forest, held, held_by_all}
 use Rattle.wt_inline.specs.Parts.{node, held_parts, parts, children}
-use Rattle.wt_inline.specs.Inline.{inline_trees}
+use Rattle.wt_context.specs.Line.{line_parts, line_trees}
+use Rattle.wt_context.proofs.Opening.{opened_twice}
+use Rattle.wt_context.proofs.LineHolding.{line_holds, trees_hold}
 use Rattle.wt_inline.proofs.HeldLaws.{held_children, held_of_parts, held_append, opened_append, sources_opened, are_children, only_children}
 use Rattle.wt_build.specs.declared.block.BlockKind.{BlockKind}
 use Rattle.wt_build.specs.declared.block.BlockKind.TheVariants.{Between, Heading, Para}
@@ -24,84 +22,35 @@ use Rattle.wt_blocks.specs.Headings.{opening, inside, closing}
 use Rattle.wt_blocks.proofs.HeadingLaws.{joined as heading_joined}
 use Rattle.wt_tables.specs.Extents.{behind, kinds}
 use Rattle.wt_build.specs.Rows.{Row, block_of, kind_at, line_rows, rows_from, rows, RowsHaveKinds, same_block, ending}
-use Rattle.wt_build.specs.Blocks.{joined, line_parts, para, heading, block, lead_len, lead, without_lead, last_ending, without_ending, around, parts_by}
+use Rattle.wt_build.specs.Blocks.{joined, full_line_parts, para, heading, block, lead_len, lead, without_lead, last_ending, without_ending, around, parts_by}
 use Rattle.wt_build.specs.Meaning.{row_items, run_parts, body_parts, meaning, IsMeaning}
 use Rattle.wt_build.proofs.Ends.{content_ending}
 
--- ---- opened twice is opened once
-
-opened_bytes : (o : Option ℕ) (bs : List ℕ) → opened_all (map (char o) bs) ≡ map (char o) bs
-opened_bytes o [] = refl
-opened_bytes o (b ∷ bs) = ap (λ xs. char o b ∷ xs) (opened_bytes o bs)
-
-opened_read : (o : Option ℕ) (e : Option (ℕ × ℕ)) (b : ℕ) (bs : List ℕ)
-    → ((n : ℕ) → opened_all (inside_items o n bs) ≡ inside_items o n bs)
-    → opened_all (read_with o e b bs (λ n. inside_items o n bs)) ≡ read_with o e b bs (λ n. inside_items o n bs)
-opened_read o None b bs h = ap (λ xs. char o b ∷ xs) (h 0)
-opened_read o (Some e) b bs h = ap (λ xs. whole (form.Entity e.0) o (b ∷ take (e.1 - 1) bs) ∷ xs) (h (e.1 - 1))
-
-opened_inside : (o : Option ℕ) (n : ℕ) (bs : List ℕ) → opened_all (inside_items o n bs) ≡ inside_items o n bs
-opened_inside o zero [] = refl
-opened_inside o (suc n) [] = refl
-opened_inside o (suc n) (b ∷ bs) = opened_inside o n bs
-opened_inside o zero (b ∷ bs) = opened_read o (entity_at (b ∷ bs)) b bs (λ n. opened_inside o n bs)
-
-opened_nowiki : (o : Option ℕ) (bs : List ℕ) → opened_all (opened_whole form.Nowiki o bs) ≡ opened_whole form.Nowiki o bs
-opened_nowiki o bs =
-    let xs = inside_items o 0 (inside_of bs) in
-    let front = map (char o) (opening_of bs) in
-    let back = map (char o) (closing_of bs) in
-    opened_append front (xs ++ back)
-    ∙ ap (λ ys. ys ++ opened_all (xs ++ back)) (opened_bytes o (opening_of bs))
-    ∙ ap (λ ys. front ++ ys) (opened_append xs back ∙ ap (λ ys. ys ++ opened_all back) (opened_inside o 0 (inside_of bs))
-    ∙ ap (λ ys. xs ++ ys) (opened_bytes o (closing_of bs)))
-
-opened_form : (f : Form) (o : Option ℕ) (bs : List ℕ) → opened_all (opened_whole f o bs) ≡ opened_whole f o bs
-opened_form form.Chars o bs = refl
-opened_form (form.Entity c) o bs = refl
-opened_form form.Nowiki o bs = opened_nowiki o bs
-opened_form form.Extension o bs = refl
-opened_form form.Function o bs = refl
-opened_form form.Comment o bs = refl
-opened_form form.Include o bs = refl
-opened_form form.Hidden o bs = refl
-opened_form form.EmptyCall o bs = refl
-
-opened_one : (x : Item) → opened_all (opened x) ≡ opened x
-opened_one (char o b) = refl
-opened_one (whole f o bs) = opened_form f o bs
-
-opened_twice : (xs : List Item) → opened_all (opened_all xs) ≡ opened_all xs
-opened_twice [] = refl
-opened_twice (x ∷ xs) = opened_append (opened x) (opened_all xs) ∙ ap (λ ys. ys ++ opened_all (opened_all xs)) (opened_one x)
-    ∙ ap (λ ys. opened x ++ ys) (opened_twice xs)
-
 -- ---- blocks
 
-held_line : (l : List Item) → held_parts (line_parts l) ≡ opened_all l
-held_line l =
-    held_append (parts Text (content l)) (parts Text (ending l))
-    ∙ ap (λ ys. ys ++ held_parts (parts Text (ending l))) (held_of_parts Text (content l))
-    ∙ ap (λ ys. opened_all (content l) ++ ys) (held_of_parts Text (ending l))
+opened_line : (l : List Item) → opened_all (held_parts (full_line_parts l)) ≡ opened_all l
+opened_line l =
+    ap opened_all (held_append (line_parts (content l)) (parts Text (ending l))
+    ∙ ap (λ ys. held_parts (line_parts (content l)) ++ ys) (held_of_parts Text (ending l)))
+    ∙ opened_append (held_parts (line_parts (content l))) (opened_all (ending l))
+    ∙ ap (λ ys. ys ++ opened_all (opened_all (ending l))) (line_holds (content l))
+    ∙ ap (λ ys. opened_all (content l) ++ ys) (opened_twice (ending l))
     ∙ sym (opened_append (content l) (ending l))
     ∙ ap opened_all (content_ending l)
 
-held_lines : (ls : List (List Item)) → held_parts (flat_map line_parts ls) ≡ opened_all (joined ls)
-held_lines [] = refl
-held_lines (l ∷ ls) =
-    held_append (line_parts l) (flat_map line_parts ls)
-    ∙ ap (λ ys. ys ++ held_parts (flat_map line_parts ls)) (held_line l)
-    ∙ ap (λ ys. opened_all l ++ ys) (held_lines ls)
+opened_lines : (ls : List (List Item)) → opened_all (held_parts (flat_map full_line_parts ls)) ≡ opened_all (joined ls)
+opened_lines [] = refl
+opened_lines (l ∷ ls) =
+    ap opened_all (held_append (full_line_parts l) (flat_map full_line_parts ls))
+    ∙ opened_append (held_parts (full_line_parts l)) (held_parts (flat_map full_line_parts ls))
+    ∙ ap (λ ys. ys ++ opened_all (held_parts (flat_map full_line_parts ls))) (opened_line l)
+    ∙ ap (λ ys. opened_all l ++ ys) (opened_lines ls)
     ∙ sym (opened_append l (joined ls))
 
 held_para : (ls : List (List Item)) → opened_all (held (para ls)) ≡ opened_all (joined ls)
 unfolding para
-held_para ls = ap opened_all (append-nil (held_by_all (forest (children (flat_map line_parts ls))))
-    ∙ held_children (flat_map line_parts ls) ∙ held_lines ls) ∙ opened_twice (joined ls)
-
-held_inline : (xs : List Item) → held_by_all (forest (inline_trees xs)) ≡ opened_all xs
-unfolding inline_trees
-held_inline xs = held_children (parts Text xs) ∙ held_of_parts Text xs
+held_para ls = ap opened_all (append-nil (held_by_all (forest (children (flat_map full_line_parts ls))))
+    ∙ held_children (flat_map full_line_parts ls)) ∙ opened_lines ls
 
 held_heading : (xs : List Item) → opened_all (held (heading xs)) ≡ opened_all xs
 unfolding heading
@@ -109,9 +58,9 @@ held_heading xs =
     let a = opening xs in
     let b = inside xs in
     let c = closing xs in
-    opened_append a (held_by_all (forest (inline_trees b)) ++ c)
-    ∙ ap (λ ys. opened_all a ++ ys) (opened_append (held_by_all (forest (inline_trees b))) c
-    ∙ ap (λ ys. opened_all ys ++ opened_all c) (held_inline b) ∙ ap (λ ys. ys ++ opened_all c) (opened_twice b)
+    opened_append a (held_by_all (forest (line_trees b)) ++ c)
+    ∙ ap (λ ys. opened_all a ++ ys) (opened_append (held_by_all (forest (line_trees b))) c
+    ∙ ap (λ ys. ys ++ opened_all c) (trees_hold b)
     ∙ sym (opened_append b c))
     ∙ sym (opened_append a (b ++ c))
     ∙ ap opened_all (heading_joined xs)

@@ -8,7 +8,7 @@ use Rattle.wt_blocks.specs.Headings.{level, opening, inside, closing}
 use Rattle.wt_inline.specs.declared.loose.Loose.TheVariants.{Text, Sep}
 use Rattle.wt_inline.specs.ItemTree.{plain, ItemTree, inner, forest}
 use Rattle.wt_inline.specs.Parts.{Part, node, parts, children}
-use Rattle.wt_inline.specs.Inline.{inline_parts, inline_trees}
+use Rattle.wt_context.specs.Line.{line_parts, line_trees}
 use Rattle.wt_build.specs.declared.block.BlockKind.{BlockKind}
 use Rattle.wt_build.specs.declared.block.BlockKind.TheVariants.{Between, Heading, Para}
 use Rattle.wt_build.specs.Rows.{ending}
@@ -18,18 +18,18 @@ joined ls = flat_map (λ l. l) ls
 
 -- ---- a paragraph
 
--- each line is read alone; the line breaks between them are text
-abbrev pub line_parts : List Item → List Part
-line_parts l = inline_parts (content l) ++ parts Text (ending l)
+-- each line is a context of its own; the line breaks between them are text
+abbrev pub full_line_parts : List Item → List Part
+full_line_parts l = line_parts (content l) ++ parts Text (ending l)
 
 unfoldable pub para : List (List Item) → ItemTree
-para ls = inner (plain kind.Para) [] (forest (children (flat_map line_parts ls))) []
+para ls = inner (plain kind.Para) [] (forest (children (flat_map full_line_parts ls))) []
 
 -- ---- a heading
 
 -- of a line without its line break, from its first `=` on
 unfoldable pub heading : List Item → ItemTree
-heading line = inner (plain (kind.Heading (level line))) (opening line) (forest (inline_trees (inside line))) (closing line)
+heading line = inner (plain (kind.Heading (level line))) (opening line) (forest (line_trees (inside line))) (closing line)
 
 -- ---- any block
 

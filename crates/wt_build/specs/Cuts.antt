@@ -9,13 +9,13 @@ use Rattle.wt_lines.specs.Pieces.{AllParted, begins_char}
 use Rattle.wt_tree.specs.declared.kind.Kind.TheVariants as kind
 use Rattle.wt_inline.specs.ItemTree.{plain, ItemTree, inner, forest}
 use Rattle.wt_inline.specs.Parts.{Part}
-use Rattle.wt_inline.specs.Inline.{inline_trees}
+use Rattle.wt_context.specs.Line.{line_trees}
 use Rattle.wt_build.specs.declared.block.BlockKind.{BlockKind}
 use Rattle.wt_build.specs.declared.block.BlockKind.TheVariants.{Between, Heading, Para}
 use Rattle.wt_span.specs.Runs.{runs}
 use Rattle.wt_tables.specs.Extents.{behind}
 use Rattle.wt_build.specs.Rows.{block_of, kind_at, rows_from, same_block, ending}
-use Rattle.wt_build.specs.Blocks.{line_parts, lead_len, parts_by}
+use Rattle.wt_build.specs.Blocks.{full_line_parts, lead_len, parts_by}
 use Rattle.wt_build.specs.Meaning.{run_parts}
 
 -- sound pieces that are parted at line breaks, of fewer than 2^32 bytes
@@ -47,13 +47,13 @@ pub record IsAround (xs before inside after : List Item) : Type 0 where
 
 -- the parts that lines of a paragraph give
 abbrev pub paragraph_parts : List Piece → List Part
-paragraph_parts ps = flat_map line_parts (full_lines (items ps))
+paragraph_parts ps = flat_map full_line_parts (full_lines (items ps))
 
 -- a heading of this level that is cut behind so many items, and so many more
 abbrev pub heading_by : ℕ → ℕ → ℕ → List Item → ItemTree
 heading_by level open_len inside_len line =
     let rest = drop open_len line in
-    inner (plain (kind.Heading level)) (take open_len line) (forest (inline_trees (take inside_len rest))) (drop inside_len rest)
+    inner (plain (kind.Heading level)) (take open_len line) (forest (line_trees (take inside_len rest))) (drop inside_len rest)
 
 abbrev pub is_para : BlockKind → Bool
 is_para Between = false

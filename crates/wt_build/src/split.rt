@@ -144,6 +144,7 @@ pub fn split_before<'a>(
     requires border { 0 < n → begins_char (slice_get (items pieces.now) n) ≡ true }
     ensures front { IfOk result (λ r. items r.0 ≡ take n (items pieces.now)) }
     ensures back { IfOk result (λ r. items r.1 ≡ drop n (items pieces.now)) }
+    ensures sound_front { IfOk result (λ r. All IsSoundPiece r.0) }
 {
     if n == 0 {
         let all = copied(alloc, pieces)?;

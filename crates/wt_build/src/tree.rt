@@ -3,13 +3,12 @@
 ghost use Rattle.std.specs.Prelude.{◌≡◌, ◌∷◌, [], IfOk};
 ghost use Rattle.wt_span.specs.Items.{items};
 ghost use Rattle.wt_lines.specs.Lines.{full_lines};
-ghost use Rattle.wt_lines.specs.Pieces.{AllParted};
 ghost use Rattle.wt_tree.specs.declared.kind.Kind.TheVariants as node_kind;
 ghost use Rattle.wt_inline.specs.ItemTree.{plain, inner, forest};
 ghost use Rattle.wt_inline.specs.Parts.{children};
 ghost use Rattle.wt_inline.specs.View.{item_tree, item_trees};
 ghost use Rattle.wt_inline.specs.Grown.{grown, Grows};
-ghost use Rattle.wt_build.specs.Blocks.{line_parts, heading, block};
+ghost use Rattle.wt_build.specs.Blocks.{full_line_parts, heading, block};
 ghost use Rattle.wt_build.specs.Cuts.{AreReady, IsOpenCut, IsInsideCut, paragraph_parts, heading_by};
 
 use crate::block::BlockKind;
@@ -17,7 +16,8 @@ use crate::cut::content_len;
 use crate::split::{split_before, split_behind};
 use std::alloc::Global;
 use wt_blocks::{HeadingCuts, heading_cuts};
-use wt_inline::{Children, Loose, NodeHead, PieceTree, inline_children};
+use wt_context::{line_children, with_line};
+use wt_inline::{Children, Loose, NodeHead, PieceTree};
 use wt_lines::line_len;
 use wt_span::{List, NoMemory, Piece, front_of, rest_of};
 use wt_tree::Kind;
@@ -29,11 +29,11 @@ fn with_full_line<'a>(
     children: Children<'a>,
     line: &[Piece<'a>],
 ) -> Result<Children<'a>, NoMemory>
-    requires { AllParted line.now }
-    ensures { IfOk result (λ c. Grows (grown children.entry) (line_parts (items line.now)) (grown c)) }
+    requires { AreReady line.now }
+    ensures { IfOk result (λ c. Grows (grown children.entry) (full_line_parts (items line.now)) (grown c)) }
 {
     let n = content_len(line);
-    let children = children.with_line(alloc, front_of(line, n))?;
+    let children = with_line(alloc, children, front_of(line, n))?;
     children.with_pieces(alloc, Loose::Text, rest_of(line, n))
 }
 
@@ -42,7 +42,7 @@ fn paragraph_children<'a>(
     alloc: Global,
     lines: &[Piece<'a>],
 ) -> Result<List<PieceTree<'a>>, NoMemory>
-    requires { AllParted lines.now }
+    requires { AreReady lines.now }
     ensures { IfOk result (λ l. item_trees l ≡ children (paragraph_parts lines.now)) }
 {
     let mut children = Children::new(alloc);
@@ -58,7 +58,7 @@ fn paragraph_children<'a>(
 
 /// A paragraph.
 fn paragraph<'a>(alloc: Global, lines: &[Piece<'a>]) -> Result<PieceTree<'a>, NoMemory>
-    requires { AllParted lines.now }
+    requires { AreReady lines.now }
     ensures { IfOk result (λ t. item_tree t ≡ inner (plain node_kind.Para) [] (forest (children (paragraph_parts lines.now))) []) }
 {
     let children = paragraph_children(alloc, lines)?;
@@ -83,7 +83,7 @@ fn heading_by<'a>(
 {
     let (opening, rest) = split_behind(alloc, line, cuts.open_len)?;
     let (inside, closing) = split_before(alloc, rest.as_slice(), cuts.inside_len)?;
-    let children = inline_children(alloc, inside.as_slice())?;
+    let children = line_children(alloc, inside.as_slice())?;
     Ok(PieceTree {
         head: NodeHead::plain(alloc, Kind::Heading(cuts.level)),
         opening,

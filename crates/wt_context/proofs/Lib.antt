@@ -1,11 +1,15 @@
 pub mod AttributeCuts
+pub mod ChunkCuts
 pub mod ChunkLaws
 pub mod ChunkSteps
 pub mod ContextReads
 pub mod ContextStyles
 pub mod Forests
+pub mod LineHolding
 pub mod Loosening
+pub mod NestedContexts
 pub mod NestedTrees
+pub mod Opening
 pub mod Quoting
 pub mod Resting
 pub mod Seeing
@@ -13,5 +17,7 @@ pub mod Segmenting
 pub mod StyleSteps
 pub mod Texts
 pub mod TileCuts
+pub mod TileHolding
+pub mod TilePlaces
 pub mod TokenLaws
 pub mod UrlTexts

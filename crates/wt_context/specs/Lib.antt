@@ -4,7 +4,9 @@ pub mod Heads
 pub mod Line
 pub mod Loosened
 pub mod Made
+pub mod Nesting
 pub mod Nodes
+pub mod RunCuts
 pub mod Seen
 pub mod Segments
 pub mod Styled

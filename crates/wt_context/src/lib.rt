@@ -3,6 +3,7 @@
 
 mod chunk;
 mod head;
+pub mod laws;
 mod line;
 mod loose;
 mod node;

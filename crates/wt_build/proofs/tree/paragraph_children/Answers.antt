@@ -5,19 +5,19 @@ use Rattle.wt_inline.specs.View.{item_trees}
 use Rattle.wt_inline.specs.Grown.{grown}
 use Rattle.wt_build.specs.Cuts.{paragraph_parts}
 use Rattle.wt_build.proofs.RowRuns.{within_by, rest_some}
-use Rattle.wt_build.proofs.Pieces.{parted_rest, parted_front}
+use Rattle.wt_build.proofs.Pieces.{ready_rest, ready_front}
 use Rattle.wt_build.proofs.Growing.{lines_step, lines_done}
 use Rattle.wt_build.proofs.tree.paragraph_children.Goals as goal
 
 pub line_len-n-requires : goal.line_len-n-requires
 line_len-n-requires c = record {
-  parted = parted_rest c.args.lines.now c.rest_of-rest.result.now c.loop-at.at c.requires c.rest_of-rest.ensures;
+  parted = (ready_rest c.args.lines.now c.rest_of-rest.result.now c.loop-at.at c.requires c.rest_of-rest.ensures).parted;
   some = rest_some c.args.lines.now c.rest_of-rest.result.now c.loop-at.at c.loop-at-test.true c.rest_of-rest.ensures;
 }
 
 pub with_full_line-requires : goal.with_full_line-requires
-with_full_line-requires c = parted_front c.rest_of-rest.result.now c.front_of.result.now c.line_len-n.result
-    (parted_rest c.args.lines.now c.rest_of-rest.result.now c.loop-at.at c.requires c.rest_of-rest.ensures) c.front_of.ensures
+with_full_line-requires c = ready_front c.rest_of-rest.result.now c.front_of.result.now c.line_len-n.result
+    (ready_rest c.args.lines.now c.rest_of-rest.result.now c.loop-at.at c.requires c.rest_of-rest.ensures) c.front_of.ensures
 
 pub loop-at-smaller : goal.loop-at-smaller
 loop-at-smaller c =

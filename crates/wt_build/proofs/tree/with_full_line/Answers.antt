@@ -1,7 +1,11 @@
 use Rattle.std.proofs.lemmas.Result.{IfOk-weaker}
 use Rattle.wt_inline.specs.Grown.{grown}
 use Rattle.wt_build.proofs.Growing.{grows_line}
+use Rattle.wt_build.proofs.Pieces.{ready_front}
 use Rattle.wt_build.proofs.tree.with_full_line.Goals as goal
+
+pub with_line-requires : goal.with_line-requires
+with_line-requires c = (ready_front c.args.line.now c.front_of.result.now c.content_len-n.result c.requires c.front_of.ensures).sound
 
 pub returns : goal.returns
 returns c =
