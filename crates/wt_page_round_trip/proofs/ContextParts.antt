@@ -42,9 +42,8 @@ use Rattle.wt_context.specs.Styled.{style_kind, between, style_node, styled, wit
 use Rattle.wt_context.specs.Line.{within, context_parts, line_parts}
 use Rattle.wt_context.proofs.AttributeCuts.{name_edge, tag_edge}
 use Rattle.wt_page_round_trip.proofs.TextItems.{AreTexts, BeginsLow, EndsLow, cut_after, cut_items_before}
-use Rattle.wt_page_round_trip.proofs.OfPage.{IsPageItem, AreOfPage, ArePageItems}
+use Rattle.wt_page_round_trip.proofs.OfPage.{IsPageItem, AreOfPage, ArePageItems, texts_utf8}
 use Rattle.wt_page_round_trip.proofs.PageLines.{all_left, all_right, all_both, all_taken, all_dropped}
-use Rattle.wt_page_round_trip.proofs.BodyParts.{texts_utf8}
 use Rattle.wt_page_round_trip.proofs.WrittenParts.{FitsIn, NodeFits, no_parts, fits_both, fits_fewer, fits_node, fits_text}
 use Rattle.wt_page_round_trip.proofs.InlineNodes.{with_attrs, round, IsFilled, bold_node, italic_node, wiki_link_node, ext_link_node, tag_node, category_leaf, switch_leaf, break_leaf, skip_leaf, kept, kept_leaf, kept_round}
 use Rattle.wt_page_round_trip.proofs.TileTexts.{no_page_items, taken_items, dropped_items, AreParts, parts_of_page, IsPageTile, tiles_good}

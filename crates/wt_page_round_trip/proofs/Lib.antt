@@ -5,8 +5,6 @@ pub mod Parts
 pub mod Forms
 pub mod Inline
 pub mod PageLines
-pub mod FormLengths
-pub mod BodyParts
 pub mod WrittenParts
 pub mod InlineNodes
 pub mod TileTexts
@@ -16,6 +14,7 @@ pub mod SpanAttributes
 pub mod SwitchHeads
 pub mod StyleDepth
 pub mod ContextParts
+pub mod BodyParts
 pub mod Idle
 pub mod Delimiters
 pub mod HeadingLines

@@ -146,7 +146,7 @@ break_begins (char o b) = by_test (b == 10) refl
     by_test false e = tt
 break_begins (whole f o bs) = tt
 
-ending_begins : (l : List Item) → BeginsLow (ending l)
+pub ending_begins : (l : List Item) → BeginsLow (ending l)
 ending_begins [] = tt
 ending_begins (x ∷ []) = break_begins x
 ending_begins (x ∷ y ∷ ys) = ending_begins (y ∷ ys)
@@ -175,6 +175,32 @@ pub end_joined : (ls : List (List Item)) → joined (without_ending ls) ++ last_
 end_joined [] = refl
 end_joined (l ∷ []) = ap (λ ys. ys ++ ending l) (append-nil (content l)) ∙ content_ending l ∙ sym (append-nil l)
 end_joined (l ∷ m ∷ ls) = append_assoc l (joined (without_ending (m ∷ ls))) (last_ending (m ∷ ls)) ∙ ap (λ ys. l ++ ys) (end_joined (m ∷ ls))
+
+-- ---- each line of a block
+
+lead_dropped : (l : List Item) → ArePageItems l → ArePageItems (drop (lead_len l) l)
+lead_dropped l h = record {
+  texts = (cut_after (take (lead_len l) l) (drop (lead_len l) l) (marks_low (take (lead_len l) l) (taken_marks l))
+      (subst (AreTexts []) (sym (take-append-drop (lead_len l) l)) h.texts)).1;
+  page = all_dropped IsPageItem (lead_len l) l h.page;
+}
+
+-- a line and its line break
+pub content_page : (l : List Item) → ArePageItems l → ArePageItems (content l) × ArePageItems (ending l)
+content_page l h =
+    let t : AreTexts [] (content l) × AreTexts [] (ending l) = cut_items_before [] (content l) (ending l) (ending_begins l)
+    (subst (AreTexts []) (sym (content_ending l)) h.texts) in
+    let p : AreOfPage (content l ++ ending l) = subst AreOfPage (sym (content_ending l)) h.page in
+    (record { texts = t.0; page = all_left IsPageItem (content l) (ending l) p }, record { texts = t.1; page = all_right IsPageItem (content l) (ending l) p })
+
+unended_lines : (ls : List (List Item)) → AllByRecursion ArePageItems ls → AllByRecursion ArePageItems (without_ending ls)
+unended_lines [] h = tt
+unended_lines (l ∷ []) h = ((content_page l h.0).0, tt)
+unended_lines (l ∷ m ∷ ls) h = (h.0, unended_lines (m ∷ ls) h.1)
+
+pub block_lines : (ls : List (List Item)) → AllByRecursion ArePageItems ls → AllByRecursion ArePageItems (without_ending (without_lead ls))
+block_lines [] h = tt
+block_lines (l ∷ ls) h = unended_lines (drop (lead_len l) l ∷ ls) (lead_dropped l h.0, h.1)
 
 -- what stands before a block, the block and what stands behind it
 pub record AreBlockParts (ls : List (List Item)) : Type 0 where

@@ -9,10 +9,9 @@ use Rattle.wt_inline.specs.ItemTree.{ItemTree, held}
 use Rattle.wt_inline.specs.Parts.{Part, loose, node, held_parts, parts}
 use Rattle.wt_inline.proofs.HeldLaws.{held_of_parts, held_append, sources_append, sources_opened}
 use Rattle.wt_page_round_trip.proofs.TextItems.{AreTexts}
-use Rattle.wt_page_round_trip.proofs.OfPage.{AreOfPage}
+use Rattle.wt_page_round_trip.proofs.OfPage.{AreOfPage, texts_utf8}
 use Rattle.wt_page_round_trip.proofs.Parts.{IsWrittenNode, AreWrittenParts, no_run}
 use Rattle.wt_page_round_trip.proofs.Inline.{IsInlineParent, text_run, text_parts}
-use Rattle.wt_page_round_trip.proofs.BodyParts.{texts_utf8}
 
 -- ---- parts one behind another
 

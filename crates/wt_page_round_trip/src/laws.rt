@@ -29,8 +29,3 @@ pub fn whole_page_tree()
     ensures numbered { (bytes : List ℕ) → InPreorder (page_tree bytes) }
     ensures few { (bytes : List ℕ) → numbered (meaning (page_items bytes)) ≤ 3 * length bytes }
 {}
-
-/// Drafts.
-pub fn drafts()
-    ensures { (bytes : List ℕ) → bytes ≡ bytes }
-{}
