@@ -1,5 +1,5 @@
 -- The meaning of a page has at most two numbers for each byte.
-use Rattle.std.proofs.Common.{◌≡◌, ℕ, ◌-◌, ◌*◌, ◌<◌, ◌≤◌, Bool, Some, None, List, [], ◌∷◌, length, refl, sym, ap, subst, arith, length-append, length-take, length-drop}
+use Rattle.std.proofs.Common.{◌≡◌, ℕ, ◌+◌, ◌-◌, ◌*◌, ◌<◌, ◌≤◌, Bool, Some, None, List, [], ◌∷◌, length, refl, sym, ap, subst, arith, length-append, length-take, length-drop}
 use Rattle.std.specs.Prelude.{◌⊎◌}
 use Rattle.std.proofs.Common.{⊎_elim}
 use Rattle.wt_span.specs.declared.form.LexKind.{LexKind}

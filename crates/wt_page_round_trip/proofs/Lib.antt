@@ -5,6 +5,7 @@ pub mod Parts
 pub mod Forms
 pub mod Inline
 pub mod PageLines
+pub mod FormLengths
 pub mod WrittenParts
 pub mod InlineNodes
 pub mod TileTexts
