@@ -16,7 +16,8 @@ use Rattle.wt_tiles.specs.Urls.{scheme_len, kept_len, ext_link_at, bare_url_at}
 use Rattle.wt_tiles.specs.Tags.{tag_at, opening_tag as tile_opening_tag, closing_tag as tile_closing_tag}
 use Rattle.wt_tiles.specs.Tiles.{tag_tile, switch_at, link_or_url, form_at, closed, shapes, tiles}
 use Rattle.wt_quotes.specs.Toggles.{toggle_at, toggles_of}
-use Rattle.wt_quotes.specs.Turns.{place_of, since, next, bold_ends_later, effect_on, is_bold_outside_at, turn_at}
+use Rattle.wt_quotes.specs.Runs.{place_of}
+use Rattle.wt_quotes.specs.Turns.{since, next, bold_ends_later, effect_on, is_bold_outside_at, turn_at}
 use Rattle.wt_quotes.specs.Styles.{style_tree_of}
 use Rattle.wt_context.specs.Segments.{loose_segments}
 use Rattle.wt_context.specs.Chunks.{chunks}

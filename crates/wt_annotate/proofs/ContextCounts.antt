@@ -88,7 +88,8 @@ abbrev styles_in : Forest → ℕ
 styles_in f = length (preorder f)
 
 style_count : (s : Style) (ps : List Part) (us : List Segment) → numbered (style_node s ps us) ≤ 1 + counts ps
-style_count s ps us = node_count (plain (style_kind s.bold)) _ _ ps
+style_count s ps us =
+    node_count (plain (style_kind s.bold)) (segment_items (between s.from (s.from + s.open_w) us)) (segment_items (between (s.to - s.close_w) s.to us)) ps
 
 styled_count : (low high : ℕ) (f : Forest) (us : List Segment) → Fill low high f → upto low us + counts (styled low high f us) ≤ styles_in f + upto high us
 styled_count low high bare us h = omega (arith, upto_between low high us h)

@@ -124,8 +124,8 @@ left_of : (a b : Bool) → (a && b) ≡ true → a ≡ true
 left_of true b e = refl
 left_of false b e = cc
 
-one_of : (b : Bool) → b ≡ true → (if b then 1 else 0) ≡ 1
-one_of true e = refl
+one_of : (b : Bool) → b ≡ true → 1 ≤ (if b then 1 else 0)
+one_of true e = omega arith
 one_of false e = cc
 
 all_quotes : (r others : List Segment) → begins_with_quote r ≡ true → IsRun both_quotes r others → length r ≤ quotes r
