@@ -6,7 +6,6 @@ use Rattle.std.specs.List.{AllByRecursion, list_all, prefix_len}
 use Rattle.std.specs.Option.{option_or}
 use Rattle.std.specs.Str.Parse.{digits_value}
 use Rattle.std.proofs.lemmas.Bool.{and_parts}
-use Rattle.std.proofs.lemmas.Bool.Decides.{nat_tests}
 use Rattle.wt_span.specs.declared.form.Form.{Form}
 use Rattle.wt_span.specs.declared.form.Form.TheVariants as form
 use Rattle.wt_span.specs.declared.form.LexKind.{LexKind}
@@ -22,6 +21,7 @@ use Rattle.wt_span.specs.Whole.{IsWhole}
 use Rattle.wt_lex.proofs.Begins.{begins_len}
 use Rattle.wt_lex.proofs.TagForms.{OptTag, TagFits, opening_fits, closing_fits}
 use Rattle.wt_lex.proofs.WholeTags.{raw_at}
+use Rattle.wt_attributes.proofs.Fronts.{some_same, lt_of_test}
 use Rattle.wt_lex.specs.Reading.{AreLexemes}
 use Rattle.wt_lex.proofs.Readings.{words_are}
 use Rattle.wt_lines.specs.Pieces.{is_chars}
@@ -60,12 +60,6 @@ include_long k bs h = include_by k bs (opening_tag bs) (closing_tag bs) refl ref
 
 -- ---- comments
 
-some_same : (m n : ℕ) → Some m ≡ Some n → m ≡ n
-some_same m n e = cc
-
-lt_in : (m n : ℕ) → nat_lt m n ≡ true → m < n
-lt_in m n h = grind (arith, nat_tests)
-
 comment_long : (bs : List ℕ) → comment_len bs ≡ Some (length bs) → 1 < length bs
 unfolding comment_len
 comment_long bs h = by_test (begins (codes "<!--") bs) refl h
@@ -79,7 +73,7 @@ unfolding comment_line_len
 line_long bs h = by_test (nat_lt (blank_len bs) (remarks_len 0 bs)) (is_break (slice_index bs (remarks_len 0 bs))) refl h
   where
     by_test : (t b : Bool) → nat_lt (blank_len bs) (remarks_len 0 bs) ≡ t → (if t && b then Some (remarks_len 0 bs + 1) else None) ≡ Some (length bs) → 1 < length bs
-    by_test true true e i = let l : blank_len bs < remarks_len 0 bs = lt_in (blank_len bs) (remarks_len 0 bs) e in
+    by_test true true e i = let l : blank_len bs < remarks_len 0 bs = lt_of_test (blank_len bs) (remarks_len 0 bs) e in
         let n : remarks_len 0 bs + 1 ≡ length bs = some_same (remarks_len 0 bs + 1) (length bs) i in omega (arith, l, n)
     by_test true false e i = cc
     by_test false b e i = cc
@@ -98,13 +92,10 @@ entry_long : (t : Bool) (c n : ℕ) (o : Option (ℕ × ℕ)) → 1 < n → OptL
 entry_long true c n o h g = h
 entry_long false c n o h g = g
 
-lt_of : (n : ℕ) → nat_lt 1 n ≡ true → 1 < n
-lt_of n h = grind (arith, nat_tests)
-
 named_long : (es : List (List ℕ × ℕ)) (bs : List ℕ) → list_all (λ e. nat_lt 1 (length e.0)) es ≡ true → OptLong (named_in es bs)
 named_long [] bs h = tt
 named_long ((name, c) ∷ es) bs h =
-    let q = and_parts _ _ h in entry_long (begins name bs) c (length name) (named_in es bs) (lt_of (length name) q.0) (named_long es bs q.1)
+    let q = and_parts _ _ h in entry_long (begins name bs) c (length name) (named_in es bs) (lt_of_test 1 (length name) q.0) (named_long es bs q.1)
 
 names_long : list_all (λ e. nat_lt 1 (length e.0)) entity_names ≡ true
 unfolding entity_names

@@ -59,7 +59,7 @@ same_text (x ∷ xs) = ap₂ (λ bs cs. bs ++ cs) (same_item x) (same_text xs)
 
 -- ---- URLs
 
-blank_low : (b : ℕ) → is_blank b ≡ true → b < 128
+pub blank_low : (b : ℕ) → is_blank b ≡ true → b < 128
 blank_low b e = grind (arith, nat_tests)
 
 blank_cut : (run bs : List ℕ) → IsUtf8 (run ++ bs) → IsUtf8 (run ++ before_blank bs)

@@ -4,7 +4,6 @@ use Rattle.std.specs.Prelude.{if◌then◌else◌, option_map}
 use Rattle.std.specs.Option.{option_or}
 use Rattle.std.specs.List.{AllByRecursion, filter_map, cons_option}
 use Rattle.std.proofs.lemmas.Bool.{eqb-true}
-use Rattle.std.proofs.lemmas.Bool.Decides.{nat_tests}
 use Rattle.std.proofs.lemmas.Str.{IsUtf8-nil, IsUtf8-take, IsUtf8-drop}
 use Rattle.wt_span.specs.Bytes.{is_blank}
 use Rattle.wt_span.specs.Items.{Item}
@@ -27,7 +26,7 @@ use Rattle.wt_attributes.proofs.Runs.{border_run}
 use Rattle.wt_round_trip.specs.Written.{IsUtf8IfAny, AreOwn, HasAttributes}
 use Rattle.wt_context.specs.Heads.{attribute_items, attributes_of}
 use Rattle.wt_page_round_trip.proofs.OfPage.{ArePageItems}
-use Rattle.wt_page_round_trip.proofs.ShownTexts.{shown_utf8, same_text}
+use Rattle.wt_page_round_trip.proofs.ShownTexts.{shown_utf8, same_text, blank_low}
 
 -- ---- one attribute
 
@@ -149,9 +148,6 @@ attribute_read bs u = with_value_read (name_at bs) (name_left bs u)
 
 abbrev AreNamed : List Named → Type 0
 AreNamed rs = AllByRecursion (λ (a : Named). IsUtf8 a.1) rs
-
-blank_low : (b : ℕ) → is_blank b ≡ true → b < 128
-blank_low b e = grind (arith, nat_tests)
 
 on_read : (o : Read Named) (bs : List ℕ) (after : ℕ → List Named) (without : List Named) → IsNamed o → ((n : ℕ) → AreNamed (after n)) → AreNamed without
     → AreNamed (going_on o bs after without)

@@ -204,9 +204,10 @@ flat_kind b (s ∷ ss) k w h = (none_inside s b k.0 ss k.1 w.1 h.0, nested_past 
 two_deep : (us : List Style) → AllByRecursion IsForward us → ArePairs us → IsNested 2 (forest_of us)
 two_deep [] w h = tt
 two_deep (s ∷ ss) w h =
-    let n : ℕ = prefix_len (λ u. lies_in u s) ss in
-    (subst (IsNested 1) (sym (inside_taken s ss)) (flat_kind (not s.bold) (take n ss) (inner_kinds s ss w.1 h.0) (all_taken IsForward n ss w.1) (pairs_taken n ss h.1)),
-    nested_past 2 s (forest_of ss) (two_deep ss w.1 h.1))
+    let n : ℕ = prefix_len (λ u. lies_in u s) ss in (
+      subst (IsNested 1) (sym (inside_taken s ss)) (flat_kind (not s.bold) (take n ss) (inner_kinds s ss w.1 h.0) (all_taken IsForward n ss w.1) (pairs_taken n ss h.1)),
+      nested_past 2 s (forest_of ss) (two_deep ss w.1 h.1),
+    )
 
 pub styles_nest : (chunks : List Chunk) → IsNested 2 (forest_of (style_tree_of chunks))
 styles_nest chunks =

@@ -36,6 +36,7 @@ use Rattle.wt_tiles.specs.Urls.{scheme_len, url_items, kept_len, text_len, ext_s
 use Rattle.wt_tiles.specs.Tiles.{size, pair_or_island, closing_for, shape_of_tag, tag_tile, switch_names, switch_len, switch_at, outside, link_or_url, form_at}
 use Rattle.wt_tiles.specs.Reading.{tile_at}
 use Rattle.wt_tiles.proofs.Words.{and_left, and_right, false_true}
+use Rattle.wt_attributes.proofs.Fronts.{some_same}
 use Rattle.wt_round_trip.specs.Written.{HasAttributes}
 use Rattle.wt_inline.proofs.HeldLaws.{sources_append}
 use Rattle.wt_context.specs.Heads.{switch_names as told_names, switch_property}
@@ -151,15 +152,9 @@ outside_other false o h = h
 past_other : (a b : Option Shape) (w : Shape) → IsOther a → is_switch_kind w.kind ≡ true → option_or a b ≡ Some w → b ≡ Some w
 past_other None b w h k e = e
 past_other (Some v) b w h k e = absurd (let f : v ≡ w = some_same v w e in let g : false ≡ true = sym h ∙ ap (λ (s : Shape). is_switch_kind s.kind) f ∙ k in cc)
-  where
-    some_same : (x y : Shape) → Some x ≡ Some y → x ≡ y
-    some_same x y e = cc
 
 none_switch : (k : TileKind) (w : Shape) → is_switch_kind k ≡ false → is_switch_kind w.kind ≡ true → Some (leaf k 1) ≡ Some w → ⊥
 none_switch k w h i e = let f : leaf k 1 ≡ w = some_same (leaf k 1) w e in let g : false ≡ true = sym h ∙ ap (λ (s : Shape). is_switch_kind s.kind) f ∙ i in cc
-  where
-    some_same : (x y : Shape) → Some x ≡ Some y → x ≡ y
-    some_same x y e = cc
 
 form_switch : (cx : Context) (after : Bool) (gs : List Glyph) (w : Shape) → is_switch_kind w.kind ≡ true → form_at cx after gs ≡ Some w → switch_at gs ≡ Some w
 unfolding form_at
@@ -241,9 +236,6 @@ map_told : (xs : List Item) (o : Option ℕ) (w : Shape) → begins (codes "__")
     → option_map (λ n. leaf kind.Switch (2 + n)) o ≡ Some w → IsToldSwitch xs w
 map_told xs None w e h i = cc
 map_told xs (Some n) w e h i = subst (IsToldSwitch xs) (some_same (leaf kind.Switch (2 + n)) w i) (leaf_told xs n e h)
-  where
-    some_same : (x y : Shape) → Some x ≡ Some y → x ≡ y
-    some_same x y e = cc
 
 switch_told : (xs : List Item) (w : Shape) → switch_at (map glyph_of xs) ≡ Some w → IsToldSwitch xs w
 unfolding switch_at
@@ -259,8 +251,15 @@ unfolding spelling
 told_has bs word e h =
     let v : List ℕ = switch_property bs in
     let f : switch_property (codes "__" ++ word) ≡ v = ap switch_property (sym e) in
-    inl (v, [], refl, ap is_switch_name (sym f) ∙ and_left (is_switch_name (switch_property (codes "__" ++ word))) _ h, refl,
-    subst IsUtf8 f (IsUtf8-are_ascii (switch_property (codes "__" ++ word)) (and_right (is_switch_name (switch_property (codes "__" ++ word))) _ h)), refl)
+    inl (
+      v,
+      [],
+      refl,
+      ap is_switch_name (sym f) ∙ and_left (is_switch_name (switch_property (codes "__" ++ word))) _ h,
+      refl,
+      subst IsUtf8 f (IsUtf8-are_ascii (switch_property (codes "__" ++ word)) (and_right (is_switch_name (switch_property (codes "__" ++ word))) _ h)),
+      refl,
+    )
 
 -- the switch that begins some items has the attributes of its row
 pub switch_has : (cx : Context) (after : Bool) (xs : List Item) (w : Shape) → w.kind ≡ kind.Switch → tile_at cx after (map glyph_of xs) ≡ Some w

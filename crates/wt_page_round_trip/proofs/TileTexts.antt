@@ -194,8 +194,7 @@ parts_good cx after (w ∷ ws) xs gs e (pos, le, stands, apart, rest) c p =
     let m : size w ≤ length xs = omega (arith, le, ap length e, length-map xs glyph_of) in
     let edge : 0 < size w → IsEdgeIn xs (size w) = λ z. subst (λ (hs : List Glyph). IsEdge hs (size w)) e c.0 in
     let form : IsForm w.kind → tile_at cx after (map glyph_of xs) ≡ Some w =
-    λ f. subst (λ (hs : List Glyph). tile_at cx after hs ≡ Some w) e (form_stands w.kind cx after w gs f stands) in
-    (
+    λ f. subst (λ (hs : List Glyph). tile_at cx after hs ≡ Some w) e (form_stands w.kind cx after w gs f stands) in (
       record {
         items = taken_items xs (size w) p edge;
         cuts = λ f. cuts_of xs w m (tile_fits cx after (map glyph_of xs) w (form f));

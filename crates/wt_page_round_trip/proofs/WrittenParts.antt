@@ -18,8 +18,12 @@ use Rattle.wt_page_round_trip.proofs.Inline.{IsInlineParent, text_run, text_part
 parts_behind : (k : ℕ) (parent : Kind) → holds_text parent ≡ true → (run s : List ℕ) (qs : List Part) → IsUtf8 run → AreWrittenParts k parent s qs
     → AreWrittenParts k parent (run ++ s) qs
 parts_behind k parent h run s [] u w = text_run parent (run ++ s) h (IsUtf8-append run s u w.0)
-parts_behind k parent h run s (loose j o b ∷ qs) u w = (w.0, w.1, subst (λ r. AreWrittenParts k parent r qs) (sym (append_assoc run s (b ∷ [])))
-    (parts_behind k parent h run (s ++ b ∷ []) qs u w.2))
+parts_behind k parent h run s (loose j o b ∷ qs) u w = (
+  w.0,
+  w.1,
+  subst (λ r. AreWrittenParts k parent r qs) (sym (append_assoc run s (b ∷ [])))
+      (parts_behind k parent h run (s ++ b ∷ []) qs u w.2),
+)
 parts_behind k parent h run s (node t ∷ qs) u w = (text_run parent (run ++ s) h (IsUtf8-append run s u w.0.0), w.1, w.2)
 
 written_both : (k : ℕ) (parent : Kind) → holds_text parent ≡ true → (run : List ℕ) (ps qs : List Part) → AreWrittenParts k parent run ps
