@@ -41,7 +41,8 @@ alone : (r : Row) (rs others : List Row) → IsRun same_block (r ∷ rs) others 
 alone r [] others h e = refl
 alone r (s ∷ rs) others h e = absurd (let f = sym h.0 ∙ e s.block in cc)
 
-between_good : (tables : ℕ) (l : List Item) → ArePageItems l → line_kind tables (content l) ≡ line.Blank → AllByRecursion IsBodyPart (parts Sep (joined (l ∷ [])))
+between_good : (tables : ℕ) (l : List Item) → ArePageItems l → line_kind tables (content l) ≡ line.Blank
+    → AllByRecursion IsBodyPart (parts Sep (joined (l ∷ [])))
 between_good tables l h e =
     let b : AllByRecursion IsBetween l = blank_line tables l (texts_small l h.texts) e in
     subst (λ xs. AllByRecursion IsBodyPart (parts Sep xs)) (sym (append-nil l)) (between_parts l h.page b)

@@ -128,7 +128,8 @@ link_node : (most n : ℕ) (xs opening closing trail : List Item) (ps : List Par
 unfolding link_head
 link_node most n xs opening closing trail ps small h i j f = by_test (n == 0)
   where
-    by_test : (t : Bool) → NodeFits most (if t then round (link_head xs) opening ps closing else round (link_head xs) opening (ps ++ trail_parts closing trail) [])
+    by_test : (t : Bool) → NodeFits most (if t then round (link_head xs) opening ps closing else round (link_head xs) opening
+        (ps ++ trail_parts closing trail) [])
     by_test true = wiki_link_node most _ (link_has (glyphs xs)) opening closing ps (filled most opening closing ps (omega (arith, small)) h i f)
     by_test false = wiki_link_node most _ (link_has (glyphs xs)) opening [] (ps ++ trail_parts closing trail)
         (filled most opening [] (ps ++ trail_parts closing trail) (omega (arith, small)) h no_page_items
@@ -138,7 +139,8 @@ ext_node : (most : ℕ) (opening closing : List Item) (ps : List Part) → most 
     → NodeFits most (round (ext_link_head opening) opening ps closing)
 unfolding ext_link_head
 ext_node most opening closing ps small h i f =
-    ext_link_node most _ (url_has (bracketed_url (text_of opening)) (bracketed_utf8 (text_of opening) (shown_utf8 opening h))) opening closing ps (filled most opening closing ps small h i f)
+    ext_link_node most _ (url_has (bracketed_url (text_of opening)) (bracketed_utf8 (text_of opening) (shown_utf8 opening h))) opening closing ps
+    (filled most opening closing ps small h i f)
 
 -- what stands between the name of a tag and its `>`
 attributes_page : (opening : List Item) → ArePageItems opening → ArePageItems (attribute_items opening)
@@ -152,7 +154,8 @@ attributes_page opening h =
 pair_named : (most : ℕ) (m : Name) (opening closing : List Item) (ps : List Part) → ArePageItems opening → IsFilled most opening ps closing
     → NodeFits most (round (pair_by_name m opening) opening ps closing)
 unfolding placeholder
-pair_named most (Paired m) opening closing ps h f = tag_node m most (attributes_of m opening) (tag_has m opening (attributes_page opening h)) opening closing ps f
+pair_named most (Paired m) opening closing ps h f = tag_node m most (attributes_of m opening)
+    (tag_has m opening (attributes_page opening h)) opening closing ps f
 pair_named most Break opening closing ps h f = kept_round most opening closing ps f
 pair_named most Island opening closing ps h f = kept_round most opening closing ps f
 
@@ -170,7 +173,8 @@ pair_node most opening closing ps h f = pair_of most (tag_at (glyphs opening)) o
 url_node : (most : ℕ) (w : Shape) (xs : List Item) → suc most < 199 → AreParts w xs → NodeFits most (bare_url w xs)
 unfolding bare_url bare_url_head
 url_node most w xs small h =
-    ext_link_node most _ (url_has (text_of (inside_of w xs)) (shown_utf8 (inside_of w xs) h.inside)) (opening_of w xs) (closing_of w xs) (parts Text (inside_of w xs))
+    ext_link_node most _ (url_has (text_of (inside_of w xs)) (shown_utf8 (inside_of w xs) h.inside)) (opening_of w xs) (closing_of w xs)
+    (parts Text (inside_of w xs))
     (filled most (opening_of w xs) (closing_of w xs) (parts Text (inside_of w xs)) (omega (arith, small)) h.opening h.closing
     (fits_text (suc most) (inside_of w xs) small h.inside.texts h.inside.page))
 
@@ -183,34 +187,41 @@ HasSwitch xs = HasAttributes node_kind.Switch ((attr.Property, switch_property (
 form_parts : (cx : Context) (w : Shape) (xs : List Item) (k : TileKind) → IsForm k → w.kind ≡ k → IsPageTile cx (w, xs) → AreParts w xs
 form_parts cx w xs k f e h = parts_of_page w xs (h.cuts (subst IsForm (sym e) f)) h.items
 
-tile_by : (most : ℕ) (read : Reading) → suc most < 199 → Reads (suc most) read → (cx : Context) (w : Shape) (xs : List Item) → IsPageTile cx (w, xs) → (k : TileKind) → w.kind ≡ k
+tile_by : (most : ℕ) (read : Reading) → suc most < 199 → Reads (suc most) read → (cx : Context) (w : Shape) (xs : List Item) → IsPageTile cx (w, xs)
+    → (k : TileKind) → w.kind ≡ k
     → AllByRecursion (SegmentFits most) (segments_by (tile_tree read cx k w xs) xs)
 unfolding nested_tree category_head switch_head placeholder
 tile_by most read small r cx w xs h kind.Link e =
     let p : AreParts w xs = form_parts cx w xs kind.Link tt e h in
-    one_tree most xs _ h.items (link_node most w.trail xs (opening_of w xs) (closing_of w xs) (trail_of w xs) (read (in_text cx) (inside_of w xs)) small p.opening p.closing p.trail
+    one_tree most xs _ h.items (link_node most w.trail xs (opening_of w xs) (closing_of w xs) (trail_of w xs)
+    (read (in_text cx) (inside_of w xs)) small p.opening p.closing p.trail
     (r (in_text cx) (inside_of w xs) p.inside))
-tile_by most read small r cx w xs h kind.Category e = one_tree most xs _ h.items (category_leaf most _ (category_has (glyphs xs) (key xs)) xs (omega (arith, small)) (items_utf8 xs h.items))
+tile_by most read small r cx w xs h kind.Category e = one_tree most xs _ h.items
+    (category_leaf most _ (category_has (glyphs xs) (key xs)) xs (omega (arith, small)) (items_utf8 xs h.items))
 tile_by most read small r cx w xs h kind.Media e = one_tree most xs _ h.items (kept_leaf most xs (omega (arith, small)) (items_utf8 xs h.items))
 tile_by most read small r cx w xs h kind.ExtLink e =
     let p : AreParts w xs = form_parts cx w xs kind.ExtLink tt e h in
-    one_tree most xs _ h.items (ext_node most (opening_of w xs) (closing_of w xs) (read (in_text cx) (inside_of w xs)) (omega (arith, small)) p.opening p.closing
+    one_tree most xs _ h.items (ext_node most (opening_of w xs) (closing_of w xs) (read (in_text cx) (inside_of w xs))
+    (omega (arith, small)) p.opening p.closing
     (r (in_text cx) (inside_of w xs) p.inside))
 tile_by most read small r cx w xs h kind.BareUrl e = one_tree most xs _ h.items (url_node most w xs small (form_parts cx w xs kind.BareUrl tt e h))
 tile_by most read small r cx w xs h kind.Br e = one_tree most xs _ h.items (break_leaf most xs (omega (arith, small)) (items_utf8 xs h.items))
 tile_by most read small r cx w xs h kind.Pair e =
     let p : AreParts w xs = form_parts cx w xs kind.Pair tt e h in
     one_tree most xs _ h.items (pair_node most (opening_of w xs) (closing_of w xs) (read (in_pair cx) (inside_of w xs)) p.opening
-    (filled most (opening_of w xs) (closing_of w xs) (read (in_pair cx) (inside_of w xs)) (omega (arith, small)) p.opening p.closing (r (in_pair cx) (inside_of w xs) p.inside)))
+    (filled most (opening_of w xs) (closing_of w xs) (read (in_pair cx) (inside_of w xs)) (omega (arith, small)) p.opening p.closing
+    (r (in_pair cx) (inside_of w xs) p.inside)))
 tile_by most read small r cx w xs h kind.TagIsland e = one_tree most xs _ h.items (kept_leaf most xs (omega (arith, small)) (items_utf8 xs h.items))
 tile_by most read small r cx w xs h kind.Switch e =
     let b = h.begins (subst IsForm (sym e) tt) in
-    one_tree most xs _ h.items (switch_leaf most _ (subst (λ (ys : List Item). HasSwitch ys) (sym b.are) (switch_has cx b.after b.all w e b.stands)) xs (omega (arith, small)) (items_utf8 xs h.items))
+    one_tree most xs _ h.items (switch_leaf most _ (subst (λ (ys : List Item). HasSwitch ys) (sym b.are)
+    (switch_has cx b.after b.all w e b.stands)) xs (omega (arith, small)) (items_utf8 xs h.items))
 tile_by most read small r cx w xs h kind.Atom e = loose_all most xs (omega (arith, small)) h.items
 tile_by most read small r cx w xs h kind.Mark e = loose_all most xs (omega (arith, small)) h.items
 tile_by most read small r cx w xs h kind.Chars e = loose_all most xs (omega (arith, small)) h.items
 
-all_tiles : (most : ℕ) (read : Reading) → suc most < 199 → Reads (suc most) read → (cx : Context) (ts : List (Shape × List Item)) → AllByRecursion (IsPageTile cx) ts
+all_tiles : (most : ℕ) (read : Reading) → suc most < 199 → Reads (suc most) read → (cx : Context) (ts : List (Shape × List Item))
+    → AllByRecursion (IsPageTile cx) ts
     → AllByRecursion (SegmentFits most) (flat_map (tile_segments read cx) ts)
 all_tiles most read small r cx [] h = tt
 all_tiles most read small r cx ((w, xs) ∷ ts) h =
@@ -243,15 +254,19 @@ style_by most false opening closing ps f = italic_node most opening closing ps f
 
 styled_fits : (n most low high : ℕ) (f : Forest) (us : List Segment) → IsNested n f → most + n < 199 → AllByRecursion (SegmentFits (most + n)) us
     → FitsIn most (styled low high f us)
-styled_fits n most low high bare us d small h = fits_fewer (most + n) most (segment_parts (between low high us)) (omega arith) (parts_fit (most + n) (between low high us) (between_fit (most + n) low high us h))
+styled_fits n most low high bare us d small h = fits_fewer (most + n) most (segment_parts (between low high us)) (omega arith)
+    (parts_fit (most + n) (between low high us) (between_fit (most + n) low high us h))
 styled_fits zero most low high (grown s inside after) us d small h = absurd d
 styled_fits (suc n) most low high (grown s inside after) us d small h =
     let m : ℕ = most + suc n in
     let z : m ≡ suc most + n = omega arith in
-    let before : FitsIn most (segment_parts (between low s.from us)) = fits_fewer m most _ (omega arith) (parts_fit m (between low s.from us) (between_fit m low s.from us h)) in
+    let before : FitsIn most (segment_parts (between low s.from us)) =
+    fits_fewer m most _ (omega arith) (parts_fit m (between low s.from us) (between_fit m low s.from us h)) in
     let ps : List Part = styled (s.from + s.open_w) (s.to - s.close_w) inside us in
-    let within : FitsIn (suc most) ps = styled_fits n (suc most) (s.from + s.open_w) (s.to - s.close_w) inside us d.0 (omega (arith, small)) (subst (λ k. AllByRecursion (SegmentFits k) us) z h) in
-    let here : NodeFits most (style_node s ps us) = style_by most s.bold (segment_items (between s.from (s.from + s.open_w) us)) (segment_items (between (s.to - s.close_w) s.to us)) ps
+    let within : FitsIn (suc most) ps = styled_fits n (suc most) (s.from + s.open_w) (s.to - s.close_w) inside us d.0 (omega (arith, small))
+    (subst (λ k. AllByRecursion (SegmentFits k) us) z h) in
+    let here : NodeFits most (style_node s ps us) = style_by most s.bold (segment_items (between s.from (s.from + s.open_w) us))
+    (segment_items (between (s.to - s.close_w) s.to us)) ps
     (record {
       opening = sources_utf8 m _ (between_fit m s.from (s.from + s.open_w) us h);
       closing = sources_utf8 m _ (between_fit m (s.to - s.close_w) s.to us h);

@@ -72,7 +72,8 @@ line_long : (bs : List ℕ) → comment_line_len bs ≡ Some (length bs) → 1 <
 unfolding comment_line_len
 line_long bs h = by_test (nat_lt (blank_len bs) (remarks_len 0 bs)) (is_break (slice_index bs (remarks_len 0 bs))) refl h
   where
-    by_test : (t b : Bool) → nat_lt (blank_len bs) (remarks_len 0 bs) ≡ t → (if t && b then Some (remarks_len 0 bs + 1) else None) ≡ Some (length bs) → 1 < length bs
+    by_test : (t b : Bool) → nat_lt (blank_len bs) (remarks_len 0 bs) ≡ t → (if t && b then Some (remarks_len 0 bs + 1) else None) ≡ Some (length bs)
+        → 1 < length bs
     by_test true true e i = let l : blank_len bs < remarks_len 0 bs = lt_of_test (blank_len bs) (remarks_len 0 bs) e in
         let n : remarks_len 0 bs + 1 ≡ length bs = some_same (remarks_len 0 bs + 1) (length bs) i in omega (arith, l, n)
     by_test true false e i = cc

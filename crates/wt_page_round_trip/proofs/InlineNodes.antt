@@ -40,11 +40,14 @@ or_right : (b c : Bool) → c ≡ true → (b || c) ≡ true
 or_right true c e = refl
 or_right false c e = e
 
-held_utf8 : (most : ℕ) (h : Head) (opening closing : List Item) (ps : List Part) → IsFilled most opening ps closing → IsUtf8 (sources (held (round h opening ps closing)))
+held_utf8 : (most : ℕ) (h : Head) (opening closing : List Item) (ps : List Part) → IsFilled most opening ps closing
+    → IsUtf8 (sources (held (round h opening ps closing)))
 held_utf8 most h opening closing ps f =
-    subst IsUtf8 (sym (sources_append opening (held_by_all (forest (children ps)) ++ closing) ∙ ap (λ bs. sources opening ++ bs) (sources_append (held_by_all (forest (children ps))) closing)))
+    subst IsUtf8 (sym (sources_append opening (held_by_all (forest (children ps)) ++ closing)
+    ∙ ap (λ bs. sources opening ++ bs) (sources_append (held_by_all (forest (children ps))) closing)))
     (IsUtf8-append (sources opening) (sources (held_by_all (forest (children ps))) ++ sources closing) f.opening
-    (IsUtf8-append (sources (held_by_all (forest (children ps)))) (sources closing) (subst (λ xs. IsUtf8 (sources xs)) (sym (held_children ps)) f.inside.held) f.closing))
+    (IsUtf8-append (sources (held_by_all (forest (children ps)))) (sources closing)
+    (subst (λ xs. IsUtf8 (sources xs)) (sym (held_children ps)) f.inside.held) f.closing))
 
 bold_parent : IsInlineParent kind.Bold
 bold_parent = record { text = refl; elements = λ k h. or_right (is_anywhere (shape k).class) _ h }
@@ -55,7 +58,8 @@ unfolding label_at spelling
 bold_written most opening closing ps f k parent le p =
     let ts : ItemTrees = forest (children ps) in
     let w : AreWrittenParts (suc k) kind.Bold [] ps = f.inside.written (suc k) kind.Bold (omega (arith, le)) bold_parent in
-    let a : width (opening ++ (held_by_all ts ++ closing)) ≡ width opening + width (held_by_all ts ++ closing) = wide_append opening (held_by_all ts ++ closing) in
+    let a : width (opening ++ (held_by_all ts ++ closing)) ≡ width opening + width (held_by_all ts ++ closing) =
+    wide_append opening (held_by_all ts ++ closing) in
     let c : width (held_by_all ts ++ closing) ≡ width (held_by_all ts) + width closing = wide_append (held_by_all ts) closing in
     let small : k < 199 = omega (arith, f.small, le) in
     record {
@@ -79,7 +83,8 @@ bold_written most opening closing ps f k parent le p =
       );
     }
 
-pub bold_node : (most : ℕ) (opening closing : List Item) (ps : List Part) → IsFilled most opening ps closing → NodeFits most (round (with_attrs kind.Bold []) opening ps closing)
+pub bold_node : (most : ℕ) (opening closing : List Item) (ps : List Part) → IsFilled most opening ps closing
+    → NodeFits most (round (with_attrs kind.Bold []) opening ps closing)
 bold_node most opening closing ps f = record {
   written = bold_written most opening closing ps f;
   held = held_utf8 most (with_attrs kind.Bold []) opening closing ps f;
@@ -94,7 +99,8 @@ unfolding label_at spelling
 italic_written most opening closing ps f k parent le p =
     let ts : ItemTrees = forest (children ps) in
     let w : AreWrittenParts (suc k) kind.Italic [] ps = f.inside.written (suc k) kind.Italic (omega (arith, le)) italic_parent in
-    let a : width (opening ++ (held_by_all ts ++ closing)) ≡ width opening + width (held_by_all ts ++ closing) = wide_append opening (held_by_all ts ++ closing) in
+    let a : width (opening ++ (held_by_all ts ++ closing)) ≡ width opening + width (held_by_all ts ++ closing) =
+    wide_append opening (held_by_all ts ++ closing) in
     let c : width (held_by_all ts ++ closing) ≡ width (held_by_all ts) + width closing = wide_append (held_by_all ts) closing in
     let small : k < 199 = omega (arith, f.small, le) in
     record {
@@ -118,7 +124,8 @@ italic_written most opening closing ps f k parent le p =
       );
     }
 
-pub italic_node : (most : ℕ) (opening closing : List Item) (ps : List Part) → IsFilled most opening ps closing → NodeFits most (round (with_attrs kind.Italic []) opening ps closing)
+pub italic_node : (most : ℕ) (opening closing : List Item) (ps : List Part) → IsFilled most opening ps closing
+    → NodeFits most (round (with_attrs kind.Italic []) opening ps closing)
 italic_node most opening closing ps f = record {
   written = italic_written most opening closing ps f;
   held = held_utf8 most (with_attrs kind.Italic []) opening closing ps f;
@@ -127,13 +134,15 @@ italic_node most opening closing ps f = record {
 wiki_link_parent : IsInlineParent kind.WikiLink
 wiki_link_parent = record { text = refl; elements = λ k h. or_right (is_anywhere (shape k).class) _ h }
 
-wiki_link_written : (most : ℕ) (attrs : List (AttrName × List ℕ)) → HasAttributes kind.WikiLink attrs → (opening closing : List Item) (ps : List Part) → IsFilled most opening ps closing
+wiki_link_written : (most : ℕ) (attrs : List (AttrName × List ℕ)) → HasAttributes kind.WikiLink attrs
+    → (opening closing : List Item) (ps : List Part) → IsFilled most opening ps closing
     → (k : ℕ) (parent : Kind) → k ≤ most → IsInlineParent parent → IsWrittenNode k parent (round (with_attrs kind.WikiLink attrs) opening ps closing)
 unfolding label_at spelling
 wiki_link_written most attrs good opening closing ps f k parent le p =
     let ts : ItemTrees = forest (children ps) in
     let w : AreWrittenParts (suc k) kind.WikiLink [] ps = f.inside.written (suc k) kind.WikiLink (omega (arith, le)) wiki_link_parent in
-    let a : width (opening ++ (held_by_all ts ++ closing)) ≡ width opening + width (held_by_all ts ++ closing) = wide_append opening (held_by_all ts ++ closing) in
+    let a : width (opening ++ (held_by_all ts ++ closing)) ≡ width opening + width (held_by_all ts ++ closing) =
+    wide_append opening (held_by_all ts ++ closing) in
     let c : width (held_by_all ts ++ closing) ≡ width (held_by_all ts) + width closing = wide_append (held_by_all ts) closing in
     let small : k < 199 = omega (arith, f.small, le) in
     record {
@@ -157,7 +166,9 @@ wiki_link_written most attrs good opening closing ps f k parent le p =
       );
     }
 
-pub wiki_link_node : (most : ℕ) (attrs : List (AttrName × List ℕ)) → HasAttributes kind.WikiLink attrs → (opening closing : List Item) (ps : List Part) → IsFilled most opening ps closing → NodeFits most (round (with_attrs kind.WikiLink attrs) opening ps closing)
+pub wiki_link_node : (most : ℕ) (attrs : List (AttrName × List ℕ)) → HasAttributes kind.WikiLink attrs
+    → (opening closing : List Item) (ps : List Part) → IsFilled most opening ps closing
+    → NodeFits most (round (with_attrs kind.WikiLink attrs) opening ps closing)
 wiki_link_node most attrs good opening closing ps f = record {
   written = wiki_link_written most attrs good opening closing ps f;
   held = held_utf8 most (with_attrs kind.WikiLink attrs) opening closing ps f;
@@ -166,13 +177,15 @@ wiki_link_node most attrs good opening closing ps f = record {
 ext_link_parent : IsInlineParent kind.ExtLink
 ext_link_parent = record { text = refl; elements = λ k h. or_right (is_anywhere (shape k).class) _ h }
 
-ext_link_written : (most : ℕ) (attrs : List (AttrName × List ℕ)) → HasAttributes kind.ExtLink attrs → (opening closing : List Item) (ps : List Part) → IsFilled most opening ps closing
+ext_link_written : (most : ℕ) (attrs : List (AttrName × List ℕ)) → HasAttributes kind.ExtLink attrs → (opening closing : List Item) (ps : List Part)
+    → IsFilled most opening ps closing
     → (k : ℕ) (parent : Kind) → k ≤ most → IsInlineParent parent → IsWrittenNode k parent (round (with_attrs kind.ExtLink attrs) opening ps closing)
 unfolding label_at spelling
 ext_link_written most attrs good opening closing ps f k parent le p =
     let ts : ItemTrees = forest (children ps) in
     let w : AreWrittenParts (suc k) kind.ExtLink [] ps = f.inside.written (suc k) kind.ExtLink (omega (arith, le)) ext_link_parent in
-    let a : width (opening ++ (held_by_all ts ++ closing)) ≡ width opening + width (held_by_all ts ++ closing) = wide_append opening (held_by_all ts ++ closing) in
+    let a : width (opening ++ (held_by_all ts ++ closing)) ≡ width opening + width (held_by_all ts ++ closing) =
+    wide_append opening (held_by_all ts ++ closing) in
     let c : width (held_by_all ts ++ closing) ≡ width (held_by_all ts) + width closing = wide_append (held_by_all ts) closing in
     let small : k < 199 = omega (arith, f.small, le) in
     record {
@@ -196,7 +209,8 @@ ext_link_written most attrs good opening closing ps f k parent le p =
       );
     }
 
-pub ext_link_node : (most : ℕ) (attrs : List (AttrName × List ℕ)) → HasAttributes kind.ExtLink attrs → (opening closing : List Item) (ps : List Part) → IsFilled most opening ps closing → NodeFits most (round (with_attrs kind.ExtLink attrs) opening ps closing)
+pub ext_link_node : (most : ℕ) (attrs : List (AttrName × List ℕ)) → HasAttributes kind.ExtLink attrs → (opening closing : List Item) (ps : List Part)
+    → IsFilled most opening ps closing → NodeFits most (round (with_attrs kind.ExtLink attrs) opening ps closing)
 ext_link_node most attrs good opening closing ps f = record {
   written = ext_link_written most attrs good opening closing ps f;
   held = held_utf8 most (with_attrs kind.ExtLink attrs) opening closing ps f;
@@ -205,13 +219,15 @@ ext_link_node most attrs good opening closing ps f = record {
 tag_parent : (m : TagName) → IsInlineParent (kind.Tag m)
 tag_parent m = record { text = refl; elements = λ k h. or_right (is_anywhere (shape k).class) _ h }
 
-tag_written : (m : TagName) → (most : ℕ) (attrs : List (AttrName × List ℕ)) → HasAttributes (kind.Tag m) attrs → (opening closing : List Item) (ps : List Part) → IsFilled most opening ps closing
+tag_written : (m : TagName) → (most : ℕ) (attrs : List (AttrName × List ℕ)) → HasAttributes (kind.Tag m) attrs
+    → (opening closing : List Item) (ps : List Part) → IsFilled most opening ps closing
     → (k : ℕ) (parent : Kind) → k ≤ most → IsInlineParent parent → IsWrittenNode k parent (round (with_attrs (kind.Tag m) attrs) opening ps closing)
 unfolding label_at spelling
 tag_written m most attrs good opening closing ps f k parent le p =
     let ts : ItemTrees = forest (children ps) in
     let w : AreWrittenParts (suc k) (kind.Tag m) [] ps = f.inside.written (suc k) (kind.Tag m) (omega (arith, le)) (tag_parent m) in
-    let a : width (opening ++ (held_by_all ts ++ closing)) ≡ width opening + width (held_by_all ts ++ closing) = wide_append opening (held_by_all ts ++ closing) in
+    let a : width (opening ++ (held_by_all ts ++ closing)) ≡ width opening + width (held_by_all ts ++ closing) =
+    wide_append opening (held_by_all ts ++ closing) in
     let c : width (held_by_all ts ++ closing) ≡ width (held_by_all ts) + width closing = wide_append (held_by_all ts) closing in
     let small : k < 199 = omega (arith, f.small, le) in
     record {
@@ -235,7 +251,9 @@ tag_written m most attrs good opening closing ps f k parent le p =
       );
     }
 
-pub tag_node : (m : TagName) → (most : ℕ) (attrs : List (AttrName × List ℕ)) → HasAttributes (kind.Tag m) attrs → (opening closing : List Item) (ps : List Part) → IsFilled most opening ps closing → NodeFits most (round (with_attrs (kind.Tag m) attrs) opening ps closing)
+pub tag_node : (m : TagName) → (most : ℕ) (attrs : List (AttrName × List ℕ)) → HasAttributes (kind.Tag m) attrs
+    → (opening closing : List Item) (ps : List Part) → IsFilled most opening ps closing
+    → NodeFits most (round (with_attrs (kind.Tag m) attrs) opening ps closing)
 tag_node m most attrs good opening closing ps f = record {
   written = tag_written m most attrs good opening closing ps f;
   held = held_utf8 most (with_attrs (kind.Tag m) attrs) opening closing ps f;
@@ -269,7 +287,8 @@ category_written most attrs good own small u k parent le p =
       );
     }
 
-pub category_leaf : (most : ℕ) (attrs : List (AttrName × List ℕ)) → HasAttributes kind.Category attrs → (own : List Item) → most < 199 → IsUtf8 (sources own) → NodeFits most (leaf (with_attrs kind.Category attrs) own)
+pub category_leaf : (most : ℕ) (attrs : List (AttrName × List ℕ)) → HasAttributes kind.Category attrs → (own : List Item) → most < 199
+    → IsUtf8 (sources own) → NodeFits most (leaf (with_attrs kind.Category attrs) own)
 category_leaf most attrs good own small u = record {
   written = category_written most attrs good own small u;
   held = subst (λ xs. IsUtf8 (sources xs)) (sym (append-nil own)) u;
@@ -301,7 +320,8 @@ switch_written most attrs good own small u k parent le p =
       );
     }
 
-pub switch_leaf : (most : ℕ) (attrs : List (AttrName × List ℕ)) → HasAttributes kind.Switch attrs → (own : List Item) → most < 199 → IsUtf8 (sources own) → NodeFits most (leaf (with_attrs kind.Switch attrs) own)
+pub switch_leaf : (most : ℕ) (attrs : List (AttrName × List ℕ)) → HasAttributes kind.Switch attrs → (own : List Item) → most < 199
+    → IsUtf8 (sources own) → NodeFits most (leaf (with_attrs kind.Switch attrs) own)
 switch_leaf most attrs good own small u = record {
   written = switch_written most attrs good own small u;
   held = subst (λ xs. IsUtf8 (sources xs)) (sym (append-nil own)) u;

@@ -90,7 +90,8 @@ in_read (Some bs) h = value_read bs h
 
 assigned_read : (bs : List ℕ) → IsUtf8 bs → IsRead (assigned bs)
 unfolding assigned
-assigned_read bs u = in_read (after_equals (past_blanks bs)) (past_if (after_sign 61 (past_blanks bs)) (sign_left 61 (lit< tt) (past_blanks bs) (past_utf8 bs u)))
+assigned_read bs u = in_read (after_equals (past_blanks bs)) (past_if (after_sign 61 (past_blanks bs))
+    (sign_left 61 (lit< tt) (past_blanks bs) (past_utf8 bs u)))
 
 word_left : (n : AttrName) (word bs : List ℕ) → 0 < length word → length word - 1 < 128 → IsUtf8 bs
     → (begins_any_case word bs ≡ true → IsUtf8 (drop (length word) bs)) → IsLeft (after_word n word bs)
@@ -129,7 +130,8 @@ name_left bs u =
     (or_left (after_word attr.Colspan (codes "colspan") bs) _ (word_left attr.Colspan (codes "colspan") bs (omega arith) (omega arith) u (behind_colspan bs u))
     (or_left (after_word attr.Rowspan (codes "rowspan") bs) _ (word_left attr.Rowspan (codes "rowspan") bs (omega arith) (omega arith) u (behind_rowspan bs u))
     (or_left (after_word attr.Scope (codes "scope") bs) _ (word_left attr.Scope (codes "scope") bs (omega arith) (omega arith) u (behind_scope bs u))
-    (or_left (after_word attr.Lang (codes "lang") bs) (after_word attr.Dir (codes "dir") bs) (word_left attr.Lang (codes "lang") bs (omega arith) (omega arith) u (behind_lang bs u))
+    (or_left (after_word attr.Lang (codes "lang") bs) (after_word attr.Dir (codes "dir") bs)
+    (word_left attr.Lang (codes "lang") bs (omega arith) (omega arith) u (behind_lang bs u))
     (word_left attr.Dir (codes "dir") bs (omega arith) (omega arith) u (behind_dir bs u))))))
 
 with_name_read : (n : AttrName) (o : Read (List ℕ)) → IsRead o → IsNamed (with_name n o)
@@ -191,7 +193,8 @@ span_has : (xs : List Item) → ArePageItems xs → HasAttributes (kind.Tag name
 unfolding spelling attributes
 span_has xs p =
     let u : IsUtf8 (text_of xs) = subst IsUtf8 (sym (same_text xs)) (shown_utf8 xs p) in
-    all_own (attr.Class ∷ attr.Colspan ∷ attr.Rowspan ∷ attr.Scope ∷ attr.Lang ∷ attr.Dir ∷ []) (readings true 0 (text_of xs)) (all_read true 0 [] (text_of xs) u (λ e. u))
+    all_own (attr.Class ∷ attr.Colspan ∷ attr.Rowspan ∷ attr.Scope ∷ attr.Lang ∷ attr.Dir ∷ []) (readings true 0 (text_of xs))
+    (all_read true 0 [] (text_of xs) u (λ e. u))
 
 -- a tag has the attributes of its row
 pub tag_has : (m : TagName) (opening : List Item) → ArePageItems (attribute_items opening) → HasAttributes (kind.Tag m) (attributes_of m opening)

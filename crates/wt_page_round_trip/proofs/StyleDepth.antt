@@ -50,7 +50,8 @@ begun_all P total t ts h hs =
 
 -- a style that ends at a toggle, and those that begin at it or later
 behind : (x : Style) (total : ℕ) (had_bold had_italic outside : Bool) (s : ℕ) (b i flag : Bool) (rs : List Step)
-    → x.to < s + (closing_width true (made had_bold had_italic outside (step s b i flag)) + closing_width false (made had_bold had_italic outside (step s b i flag))) + x.close_w
+    → x.to < s + (closing_width true (made had_bold had_italic outside (step s b i flag)) + closing_width false
+    (made had_bold had_italic outside (step s b i flag))) + x.close_w
     → AreSteps (s + bytes_by b i) total rs → AllByRecursion (IsApart x) (styles_by total (run had_bold had_italic outside (step s b i flag ∷ rs)))
 behind x total had_bold had_italic outside s b i flag rs e h =
     let t : Turn = made had_bold had_italic outside (step s b i flag) in
@@ -102,41 +103,60 @@ abbrev pub ArePairs : List Style → Type 0
 ArePairs [] = Unit {0}
 ArePairs (u ∷ us) = AllByRecursion (IsApart u) us × ArePairs us
 
-one_bold : (total n : ℕ) (t : Turn) (had_italic outside : Bool) (rs : List Step) → AreSteps n total rs → ArePairs (styles_by total (run true had_italic outside rs))
+one_bold : (total n : ℕ) (t : Turn) (had_italic outside : Bool) (rs : List Step) → AreSteps n total rs
+    → ArePairs (styles_by total (run true had_italic outside rs))
     → ArePairs (style_from true t (ending true total (run true had_italic outside rs)) ∷ styles_by total (run true had_italic outside rs))
 one_bold total n t had_italic outside rs h hs =
     (round_bold (style_from true t (ending true total (run true had_italic outside rs))) total n had_italic outside rs h (refl, refl, refl), hs)
 
-one_italic : (total n : ℕ) (t : Turn) (had_bold outside : Bool) (rs : List Step) → AreSteps n total rs → ArePairs (styles_by total (run had_bold true outside rs))
+one_italic : (total n : ℕ) (t : Turn) (had_bold outside : Bool) (rs : List Step) → AreSteps n total rs
+    → ArePairs (styles_by total (run had_bold true outside rs))
     → ArePairs (style_from false t (ending false total (run had_bold true outside rs)) ∷ styles_by total (run had_bold true outside rs))
 one_italic total n t had_bold outside rs h hs =
     (round_italic (style_from false t (ending false total (run had_bold true outside rs))) total n had_bold outside rs h (refl, refl, refl), hs)
 
-pairs : (total low : ℕ) (had_bold had_italic outside : Bool) (rs : List Step) → AreSteps low total rs → ArePairs (styles_by total (run had_bold had_italic outside rs))
+pairs : (total low : ℕ) (had_bold had_italic outside : Bool) (rs : List Step) → AreSteps low total rs
+    → ArePairs (styles_by total (run had_bold had_italic outside rs))
 pairs total low had_bold had_italic outside [] h = tt
 pairs total low had_bold had_italic outside (step s false false flag ∷ rs) h = absurd (cc)
-pairs total low false false o (step s true false true ∷ rs) h = one_bold total (s + 3) (made false false o (step s true false true)) false false rs h.2 (pairs total (s + 3) true false false rs h.2)
-pairs total low false false o (step s true false false ∷ rs) h = one_bold total (s + 3) (made false false o (step s true false false)) false false rs h.2 (pairs total (s + 3) true false false rs h.2)
-pairs total low false false o (step s false true true ∷ rs) h = one_italic total (s + 2) (made false false o (step s false true true)) false false rs h.2 (pairs total (s + 2) false true false rs h.2)
-pairs total low false false o (step s false true false ∷ rs) h = one_italic total (s + 2) (made false false o (step s false true false)) false false rs h.2 (pairs total (s + 2) false true false rs h.2)
+pairs total low false false o (step s true false true ∷ rs) h =
+    one_bold total (s + 3) (made false false o (step s true false true)) false false rs h.2 (pairs total (s + 3) true false false rs h.2)
+pairs total low false false o (step s true false false ∷ rs) h =
+    one_bold total (s + 3) (made false false o (step s true false false)) false false rs h.2 (pairs total (s + 3) true false false rs h.2)
+pairs total low false false o (step s false true true ∷ rs) h =
+    one_italic total (s + 2) (made false false o (step s false true true)) false false rs h.2 (pairs total (s + 2) false true false rs h.2)
+pairs total low false false o (step s false true false ∷ rs) h =
+    one_italic total (s + 2) (made false false o (step s false true false)) false false rs h.2 (pairs total (s + 2) false true false rs h.2)
 pairs total low false false o (step s true true true ∷ rs) h =
     let t : Turn = made false false o (step s true true true) in
-    let bold : Style = style_from true t (ending true total (run true true true rs)) in
-    ((inr refl, round_bold bold total (s + 5) true true rs h.2 (refl, refl, refl)), one_italic total (s + 5) t true true rs h.2 (pairs total (s + 5) true true true rs h.2))
+    let bold : Style = style_from true t (ending true total (run true true true rs)) in (
+      (inr refl, round_bold bold total (s + 5) true true rs h.2 (refl, refl, refl)),
+      one_italic total (s + 5) t true true rs h.2
+          (pairs total (s + 5) true true true rs h.2),
+    )
 pairs total low false false o (step s true true false ∷ rs) h =
     let t : Turn = made false false o (step s true true false) in
-    let italic : Style = style_from false t (ending false total (run true true false rs)) in
-    ((inr refl, round_italic italic total (s + 5) true false rs h.2 (refl, refl, refl)), one_bold total (s + 5) t true false rs h.2 (pairs total (s + 5) true true false rs h.2))
-pairs total low false true o (step s true false flag ∷ rs) h = one_bold total (s + 3) (made false true o (step s true false flag)) true false rs h.2 (pairs total (s + 3) true true false rs h.2)
+    let italic : Style = style_from false t (ending false total (run true true false rs)) in (
+      (inr refl, round_italic italic total (s + 5) true false rs h.2 (refl, refl, refl)),
+      one_bold total (s + 5) t true false rs h.2
+          (pairs total (s + 5) true true false rs h.2),
+    )
+pairs total low false true o (step s true false flag ∷ rs) h = one_bold total (s + 3) (made false true o (step s true false flag)) true false rs h.2
+    (pairs total (s + 3) true true false rs h.2)
 pairs total low false true o (step s false true flag ∷ rs) h = pairs total (s + 2) false false false rs h.2
-pairs total low false true o (step s true true flag ∷ rs) h = one_bold total (s + 5) (made false true o (step s true true flag)) false false rs h.2 (pairs total (s + 5) true false false rs h.2)
-pairs total low true false o (step s false true flag ∷ rs) h = one_italic total (s + 2) (made true false o (step s false true flag)) true true rs h.2 (pairs total (s + 2) true true true rs h.2)
+pairs total low false true o (step s true true flag ∷ rs) h = one_bold total (s + 5) (made false true o (step s true true flag)) false false rs h.2
+    (pairs total (s + 5) true false false rs h.2)
+pairs total low true false o (step s false true flag ∷ rs) h = one_italic total (s + 2) (made true false o (step s false true flag)) true true rs h.2
+    (pairs total (s + 2) true true true rs h.2)
 pairs total low true false o (step s true false flag ∷ rs) h = pairs total (s + 3) false false false rs h.2
-pairs total low true false o (step s true true flag ∷ rs) h = one_italic total (s + 5) (made true false o (step s true true flag)) false false rs h.2 (pairs total (s + 5) false true false rs h.2)
-pairs total low true true true (step s true false flag ∷ rs) h = one_italic total (s + 3) (made true true true (step s true false flag)) false false rs h.2 (pairs total (s + 3) false true false rs h.2)
+pairs total low true false o (step s true true flag ∷ rs) h = one_italic total (s + 5) (made true false o (step s true true flag)) false false rs h.2
+    (pairs total (s + 5) false true false rs h.2)
+pairs total low true true true (step s true false flag ∷ rs) h =
+    one_italic total (s + 3) (made true true true (step s true false flag)) false false rs h.2 (pairs total (s + 3) false true false rs h.2)
 pairs total low true true true (step s false true flag ∷ rs) h = pairs total (s + 2) true false false rs h.2
 pairs total low true true true (step s true true flag ∷ rs) h = pairs total (s + 5) false false false rs h.2
-pairs total low true true false (step s false true flag ∷ rs) h = one_bold total (s + 2) (made true true false (step s false true flag)) false false rs h.2 (pairs total (s + 2) true false false rs h.2)
+pairs total low true true false (step s false true flag ∷ rs) h =
+    one_bold total (s + 2) (made true true false (step s false true flag)) false false rs h.2 (pairs total (s + 2) true false false rs h.2)
 pairs total low true true false (step s true false flag ∷ rs) h = pairs total (s + 3) false true false rs h.2
 pairs total low true true false (step s true true flag ∷ rs) h = pairs total (s + 5) false false false rs h.2
 
@@ -205,7 +225,8 @@ two_deep : (us : List Style) → AllByRecursion IsForward us → ArePairs us →
 two_deep [] w h = tt
 two_deep (s ∷ ss) w h =
     let n : ℕ = prefix_len (λ u. lies_in u s) ss in (
-      subst (IsNested 1) (sym (inside_taken s ss)) (flat_kind (not s.bold) (take n ss) (inner_kinds s ss w.1 h.0) (all_taken IsForward n ss w.1) (pairs_taken n ss h.1)),
+      subst (IsNested 1) (sym (inside_taken s ss)) (flat_kind (not s.bold) (take n ss) (inner_kinds s ss w.1 h.0) (all_taken IsForward n ss w.1)
+          (pairs_taken n ss h.1)),
       nested_past 2 s (forest_of ss) (two_deep ss w.1 h.1),
     )
 

@@ -80,7 +80,8 @@ shape_other link_kind.Media head n gs = refl
 
 with_other : (t : Target) (n : ℕ) (o : Option ℕ) (gs : List Glyph) → IsOther (link_with t n o gs)
 with_other t n None gs = tt
-with_other t n (Some k) gs = else_other (has_pipe n gs && (k == n + 1)) (Some (link_shape (kind_of t) (head_len t.colon n gs) k gs)) (shape_other (kind_of t) (head_len t.colon n gs) k gs)
+with_other t n (Some k) gs = else_other (has_pipe n gs && (k == n + 1)) (Some (link_shape (kind_of t) (head_len t.colon n gs) k gs))
+    (shape_other (kind_of t) (head_len t.colon n gs) k gs)
 
 to_other : (o : Option Target) (n : ℕ) (gs : List Glyph) → IsOther (link_to o n gs)
 to_other None n gs = tt
@@ -221,15 +222,18 @@ record IsToldSwitch (xs : List Item) (w : Shape) : Type 0 where
   told : is_told word ≡ true
   source : sources (take (size w) xs) ≡ codes "__" ++ word
 
-leaf_told : (xs : List Item) (n : ℕ) → begins (codes "__") (map glyph_of xs) ≡ true → IsWord (drop 2 (map glyph_of xs)) n → IsToldSwitch xs (leaf kind.Switch (2 + n))
+leaf_told : (xs : List Item) (n : ℕ) → begins (codes "__") (map glyph_of xs) ≡ true → IsWord (drop 2 (map glyph_of xs)) n
+    → IsToldSwitch xs (leaf kind.Switch (2 + n))
 leaf_told xs n e h =
     let z : 2 + n + 0 + 0 + 0 ≡ 2 + length h.word = omega (arith, h.size) in
     let f : sources (take 2 xs) ≡ codes "__" = begins_source (codes "__") xs e in
-    let g : sources (take (length h.word) (drop 2 xs)) ≡ h.word = begins_source h.word (drop 2 xs) (ap (begins h.word) (sym (drop-map glyph_of 2 xs)) ∙ h.here) in
+    let g : sources (take (length h.word) (drop 2 xs)) ≡ h.word =
+    begins_source h.word (drop 2 xs) (ap (begins h.word) (sym (drop-map glyph_of 2 xs)) ∙ h.here) in
     record {
       word = h.word;
       told = h.told;
-      source = ap (λ m. sources (take m xs)) z ∙ ap sources (take-add 2 (length h.word) xs) ∙ sources_append (take 2 xs) (take (length h.word) (drop 2 xs)) ∙ ap₂ (λ bs cs. bs ++ cs) f g;
+      source = ap (λ m. sources (take m xs)) z ∙ ap sources (take-add 2 (length h.word) xs)
+          ∙ sources_append (take 2 xs) (take (length h.word) (drop 2 xs)) ∙ ap₂ (λ bs cs. bs ++ cs) f g;
     }
 
 map_told : (xs : List Item) (o : Option ℕ) (w : Shape) → begins (codes "__") (map glyph_of xs) ≡ true → OptWord (drop 2 (map glyph_of xs)) o

@@ -94,7 +94,8 @@ drop_more_items xs m n h = subst ArePageItems (drop-drop n m xs) h
 pub parts_of_page : (w : Shape) (xs : List Item) → HasCuts w xs → ArePageItems xs → AreParts w xs
 parts_of_page w xs c h =
     let behind : ArePageItems (drop w.opening xs) = dropped_items xs w.opening h c.opening in
-    let later : ArePageItems (drop (w.opening + w.inside) xs) = drop_more_items xs w.opening w.inside (dropped_items (drop w.opening xs) w.inside behind c.inside) in
+    let later : ArePageItems (drop (w.opening + w.inside) xs) =
+    drop_more_items xs w.opening w.inside (dropped_items (drop w.opening xs) w.inside behind c.inside) in
     record {
       opening = taken_items xs w.opening h c.opening;
       inside = taken_items (drop w.opening xs) w.inside behind c.inside;
@@ -143,10 +144,12 @@ edge_drop hs a zero c pos e (inr (inr i)) = absurd (omega arith)
 edge_drop hs a (suc k) zero pos e (inr (inr i)) = absurd (omega (arith, e))
 edge_drop hs a (suc k) (suc m) pos e (inr (inr i)) = let z : m ≡ a + k = omega (arith, e) in inr (inr (low_drop a k hs ∙ ap (low_at hs) (sym z) ∙ i))
 
-edge_in : (xs : List Item) (w : Shape) (a b n : ℕ) → size w ≤ length xs → n ≤ size w → n ≡ a + b → 0 < b → IsEdge (map glyph_of xs) n → IsEdgeIn (drop a (take (size w) xs)) b
+edge_in : (xs : List Item) (w : Shape) (a b n : ℕ) → size w ≤ length xs → n ≤ size w → n ≡ a + b → 0 < b → IsEdge (map glyph_of xs) n
+    → IsEdgeIn (drop a (take (size w) xs)) b
 edge_in xs w a b n le l e pos edge =
     let m : size w ≤ length (map glyph_of xs) = omega (arith, le, length-map xs glyph_of) in
-    subst (λ (hs : List Glyph). IsEdge hs b) (sym (sym (drop-map glyph_of a (take (size w) xs)) ∙ ap (drop a) (sym (take-map glyph_of (size w) xs)))) (edge_drop (take (size w) (map glyph_of xs)) a b n pos e (edge_take (map glyph_of xs) (size w) n l m edge))
+    subst (λ (hs : List Glyph). IsEdge hs b) (sym (sym (drop-map glyph_of a (take (size w) xs)) ∙ ap (drop a) (sym (take-map glyph_of (size w) xs))))
+    (edge_drop (take (size w) (map glyph_of xs)) a b n pos e (edge_take (map glyph_of xs) (size w) n l m edge))
 
 cuts_of : (xs : List Item) (w : Shape) → size w ≤ length xs → Fits (map glyph_of xs) w → HasCuts w (take (size w) xs)
 cuts_of xs w le f =
