@@ -5,8 +5,8 @@ use Rattle.std.specs.Prelude.{option_map, MatchOption, IfSome, if◌then◌else�
 use Rattle.wt_span.specs.Items.{Item, char, whole, source, sources}
 use Rattle.wt_expand.specs.PageItems.{page_items}
 use Rattle.wt_expand.proofs.PageLaws.{page_sources}
-use Rattle.wt_not_built.specs.Unbuilt.{is_unbuilt, is_front, is_front_after, IsBuilt, IsFirstUnbuilt}
-use Rattle.wt_not_built.specs.FirstPlace.{first_from, first_unbuilt}
+use Rattle.wt_not_built.specs.Unbuilt.{is_unbuilt, is_front, is_front_after, HasNoForm, IsFirstForm}
+use Rattle.wt_not_built.specs.FirstPlace.{first_from, first_form}
 
 -- the same behind other items, the nearest first
 abbrev at_from : List Item → List Item → ℕ → Bool
@@ -74,7 +74,7 @@ found before [] = λ k lt. absurd (omega arith)
 found before (x ∷ xs) = found_by before xs x (is_unbuilt (is_front before) (x ∷ xs))
     (first_from (is_front_after (is_front before) x) xs) refl (found (x ∷ before) xs)
 
-page_first : (page : List ℕ) (n : ℕ) → FirstFrom [] (page_items page) n → IsFirstUnbuilt page n
+page_first : (page : List ℕ) (n : ℕ) → FirstFrom [] (page_items page) n → IsFirstForm page n
 page_first page n first = record {
   item = first.item;
   within = first.within;
@@ -85,18 +85,18 @@ page_first page n first = record {
   on_page = omega (arith, first.on_page, ap length (page_sources page));
 }
 
-page_found : (page : List ℕ) (o : Option ℕ) → Found [] (page_items page) o → MatchOption o (IsBuilt page) (λ n. IsFirstUnbuilt page n)
+page_found : (page : List ℕ) (o : Option ℕ) → Found [] (page_items page) o → MatchOption o (HasNoForm page) (λ n. IsFirstForm page n)
 unfolding NoneFrom
 page_found page None h = h
 page_found page (Some n) h = page_first page n h
 
-pub exact : (page : List ℕ) → MatchOption (first_unbuilt page) (IsBuilt page) (λ n. IsFirstUnbuilt page n)
-unfolding first_unbuilt
+pub exact : (page : List ℕ) → MatchOption (first_form page) (HasNoForm page) (λ n. IsFirstForm page n)
+unfolding first_form
 exact page = page_found page (first_from true (page_items page)) (found [] (page_items page))
 
-on_page_by : (page : List ℕ) (o : Option ℕ) → MatchOption o (IsBuilt page) (λ n. IsFirstUnbuilt page n) → IfSome o (λ n. n < length page)
+on_page_by : (page : List ℕ) (o : Option ℕ) → MatchOption o (HasNoForm page) (λ n. IsFirstForm page n) → IfSome o (λ n. n < length page)
 on_page_by page None h = tt
 on_page_by page (Some n) h = h.on_page
 
-pub on_page : (page : List ℕ) (r : Option ℕ) → r ≡ first_unbuilt page → IfSome r (λ n. n < length page)
-on_page page r e = let P : Option ℕ → Type 0 = λ o. IfSome o (λ n. n < length page) in subst P (sym e) (on_page_by page (first_unbuilt page) (exact page))
+pub on_page : (page : List ℕ) (r : Option ℕ) → r ≡ first_form page → IfSome r (λ n. n < length page)
+on_page page r e = let P : Option ℕ → Type 0 = λ o. IfSome o (λ n. n < length page) in subst P (sym e) (on_page_by page (first_form page) (exact page))

@@ -10,7 +10,7 @@ use Rattle.wt_span.specs.Slice.{bytes_of}
 use Rattle.wt_span.specs.Items.{Item, char, sources, items, items_of, items_by, call_of_origin}
 use Rattle.wt_expand.specs.PageItems.{page_items}
 use Rattle.wt_expand.proofs.PageLaws.{page_sources}
-use Rattle.wt_not_built.specs.Unbuilt.{begins_anywhere, begins_dashes, is_unbuilt, is_front_after}
+use Rattle.wt_not_built.specs.Unbuilt.{begins_line, begins_dashes, is_unbuilt, is_front_after}
 use Rattle.wt_not_built.specs.declared.reading.Reading.{Reading}
 use Rattle.wt_not_built.specs.declared.reading.Reading.TheVariants.{Passed}
 use Rattle.wt_not_built.specs.FirstPlace.{first_from, outcome, Leaves}
@@ -20,24 +20,10 @@ char_sources o [] xs = refl
 char_sources o (b ∷ bs) xs = ap (λ cs. b ∷ cs) (char_sources o bs xs)
 
 -- the first of some characters
-first_char : (front : Bool) (o : Option ℕ) (own text : List ℕ) (xs : List Item) → 0 < length own → text ≡ own ++ sources xs
-    → is_unbuilt front (map (char o) own ++ xs) ≡ begins_anywhere (get_or own 0 0) text
-    || (front && (get_or own 0 0 == 32 || begins_dashes 4 (map (char o) own ++ xs)))
-first_char front o [] text xs some e = absurd (omega arith)
-first_char front o (b ∷ bs) text xs some e =
-    ap (λ t. begins_anywhere b t || (front && (b == 32 || begins_dashes 4 (map (char o) (b ∷ bs) ++ xs)))) (ap (λ cs. b ∷ cs) (char_sources o bs xs) ∙ sym e)
-
-pub char_anywhere : (front : Bool) (o : Option ℕ) (own text : List ℕ) (xs : List Item) → 0 < length own → text ≡ own ++ sources xs
-    → begins_anywhere (get_or own 0 0) text ≡ true → true ≡ is_unbuilt front (map (char o) own ++ xs)
-char_anywhere front o own text xs some e h = sym
-    (first_char front o own text xs some e ∙ ap (λ v. v || (front && (get_or own 0 0 == 32 || begins_dashes 4 (map (char o) own ++ xs)))) h)
-
-pub char_in_line : (front r : Bool) (o : Option ℕ) (own text : List ℕ) (xs : List Item) → 0 < length own
-    → text ≡ own ++ sources xs → begins_anywhere (get_or own 0 0) text ≡ false
-    → r ≡ (front && (get_or own 0 0 == 32 || begins_dashes 4 (map (char o) own ++ xs))) → r ≡ is_unbuilt front (map (char o) own ++ xs)
-char_in_line front r o own text xs some e h k = k
-    ∙ sym (first_char front o own text xs some e
-    ∙ ap (λ v. v || (front && (get_or own 0 0 == 32 || begins_dashes 4 (map (char o) own ++ xs)))) h)
+pub first_char : (front : Bool) (o : Option ℕ) (own : List ℕ) (xs : List Item) → 0 < length own
+    → is_unbuilt front (map (char o) own ++ xs) ≡ ((get_or own 0 0 == 123) || (front && begins_line (get_or own 0 0) (map (char o) own ++ xs)))
+first_char front o [] xs some = absurd (omega arith)
+first_char front o (b ∷ bs) xs some = refl
 
 or_false : (t : Bool) → (t || false) ≡ t
 or_false true = refl
@@ -77,10 +63,6 @@ char_stop front at o own xs lt e =
     ap (λ d. option_map (λ k. at + k) (first_from front (map (char o) d ++ xs))) more
     ∙ stop_step front at (get_or own at 0) o (map (char o) (drop (at + 1) own) ++ xs) (ap (λ d. is_unbuilt front (map (char o) d ++ xs)) (sym more) ∙ e)
     ∙ ap Some z
-
--- what is left of the text behind some of its characters
-pub rest_joined : (at : ℕ) (own text : List ℕ) (xs : List Item) → at ≤ length own → text ≡ own ++ sources xs → drop at text ≡ drop at own ++ sources xs
-rest_joined at own text xs le e = ap (drop at) e ∙ drop-append-le at own (sources xs) le
 
 -- ---- pieces
 
@@ -132,8 +114,8 @@ map_sum : (a b : ℕ) (o : Option ℕ) → option_map (λ n. a + n) (option_map 
 map_sum a b None = refl
 map_sum a b (Some n) = ap Some (sym (add_assoc a b n))
 
-pub page_joined : (page bytes : List ℕ) (ps : List Piece) → bytes ≡ page → items ps ≡ page_items page → bytes ≡ sources (items ps)
-page_joined page bytes ps e h = e ∙ sym (page_sources page) ∙ ap sources (sym h)
+pub page_joined : (page : List ℕ) (ps : List Piece) → items ps ≡ page_items page → page ≡ sources (items ps)
+page_joined page ps h = sym (page_sources page) ∙ ap sources (sym h)
 
 pub page_begun : (page : List ℕ) (ps : List Piece) → items ps ≡ page_items page → first_from true (page_items page)
     ≡ option_map (λ n. 0 + n) (first_from true (items ps))

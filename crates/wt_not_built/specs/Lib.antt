@@ -1,3 +1,3 @@
 pub mod FirstPlace
-pub mod TagNames
+pub mod Styles
 pub mod Unbuilt

@@ -1,15 +1,14 @@
--- The forms that aren't built yet, by the items of a page: links, calls and tables by their signs, apostrophes, signs of
--- lists, switches, tags, and lines that begin with a space or a rule.
+-- The forms that aren't built yet, by the items of a page: calls and tables by their `{`, and lists, rules and preformatted
+-- lines by the first visible item of their line.
 use Rattle.std.specs.Prelude.{◌≡◌, ℕ, zero, suc, ◌<◌, ◌==◌, ◌&&◌, ◌||◌, Bool, true, false, List, [], ◌∷◌, length, take, drop, reverse, codes}
 use Rattle.std.specs.List.{list_any}
 use Rattle.wt_span.specs.Bytes.{is_break}
 use Rattle.wt_span.specs.Items.{Item, char, whole, sources, is_mark, is_mark_form, is_char_in}
 use Rattle.wt_expand.specs.PageItems.{page_items}
-use Rattle.wt_not_built.specs.TagNames.{begins_tag}
 
--- a character with which a form begins wherever it stands
-abbrev pub is_sign : ℕ → Bool
-is_sign b = list_any (λ sign. sign == b) (codes "{['*#:;|!_")
+-- a character with which a form begins where it is the first visible item of its line
+abbrev pub is_line_sign : ℕ → Bool
+is_line_sign b = list_any (λ sign. sign == b) (codes " *#:;")
 
 -- the first visible items are so many `-`
 abbrev pub begins_dashes : ℕ → List Item → Bool
@@ -18,16 +17,16 @@ begins_dashes (suc n) [] = false
 begins_dashes (suc n) (char o b ∷ xs) = b == 45 && begins_dashes n xs
 begins_dashes (suc n) (whole f o bs ∷ xs) = is_mark_form f && begins_dashes (suc n) xs
 
--- a form begins with this character wherever it stands: it is a sign, or the `<` of a tag
-abbrev pub begins_anywhere : ℕ → List ℕ → Bool
-begins_anywhere b text = is_sign b || (b == 60 && begins_tag text)
+-- a form begins with the first of these items where it is the first visible one of its line: a sign, or the first of four `-`
+abbrev pub begins_line : ℕ → List Item → Bool
+begins_line b xs = is_line_sign b || begins_dashes 4 xs
 
--- A form begins with the first of these items: one that may stand anywhere; or, where it is the first visible item of its
--- line, a space or the first of four `-`.
+-- A form begins with the first of these items: a `{`, wherever it stands; or, where it is the first visible item of its
+-- line, one that begins a line of a form.
 abbrev pub is_unbuilt : Bool → List Item → Bool
 is_unbuilt first [] = false
 is_unbuilt first (whole f o bs ∷ xs) = false
-is_unbuilt first (char o b ∷ xs) = begins_anywhere b (b ∷ sources xs) || (first && (b == 32 || begins_dashes 4 (char o b ∷ xs)))
+is_unbuilt first (char o b ∷ xs) = (b == 123) || (first && begins_line b (char o b ∷ xs))
 
 -- ---- by places
 
@@ -44,11 +43,12 @@ is_front (x ∷ before) = is_front_after (is_front before) x
 abbrev pub is_unbuilt_at : List Item → ℕ → Bool
 is_unbuilt_at items k = is_unbuilt (is_front (reverse (take k items))) (drop k items)
 
-abbrev pub IsBuilt : List ℕ → Type 0
-IsBuilt page = (k : ℕ) → k < length (page_items page) → is_unbuilt_at (page_items page) k ≡ false
+-- no form begins on the page
+abbrev pub HasNoForm : List ℕ → Type 0
+HasNoForm page = (k : ℕ) → k < length (page_items page) → is_unbuilt_at (page_items page) k ≡ false
 
 -- the smallest place, in bytes, of a form that isn't built
-pub record IsFirstUnbuilt (page : List ℕ) (place : ℕ) : Type 0 where
+pub record IsFirstForm (page : List ℕ) (place : ℕ) : Type 0 where
   pub item : ℕ
   pub within : item < length (page_items page)
   pub here : is_unbuilt_at (page_items page) item ≡ true

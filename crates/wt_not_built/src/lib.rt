@@ -5,7 +5,7 @@ mod dashes;
 mod laws;
 mod page;
 mod reading;
-mod tag_name;
+mod style;
 
 pub use laws::{exact_place, smallest_place};
 pub use page::first_unbuilt;

@@ -16,23 +16,23 @@ use Rattle.wt_build.specs.Rows.{Row, kind_at, line_rows, rows_from, rows, block_
 use Rattle.wt_build.specs.Blocks.{joined, block, lead_len, without_lead, without_ending, around, parts_by}
 use Rattle.wt_build.specs.Meaning.{row_items, run_parts, body_parts}
 use Rattle.wt_page_round_trip.proofs.TextItems.{AreTexts}
-use Rattle.wt_page_round_trip.proofs.OfPage.{AreOfPage}
-use Rattle.wt_page_round_trip.proofs.PageLines.{IsPageLine, IsBetween, page_lines, joined_line, block_parts, all_left, all_right, all_both}
+use Rattle.wt_page_round_trip.proofs.OfPage.{AreOfPage, ArePageItems}
+use Rattle.wt_page_round_trip.proofs.PageLines.{IsBetween, page_lines, joined_line, block_lines, block_parts, all_left, all_right, all_both}
 use Rattle.wt_page_round_trip.proofs.Idle.{texts_small, block_blank, block_heading, blank_line}
 use Rattle.wt_page_round_trip.proofs.BodyParts.{para_node, heading_node, IsBodyPart, between_parts, around_parts}
 use Rattle.wt_page_round_trip.proofs.HeadingLines.{heading_line}
 
 pub record IsGoodRow (r : Row) : Type 0 where
-  pub line : IsPageLine r.items
+  pub line : ArePageItems r.items
   pub tables : ℕ
   pub kind : r.block ≡ block_of (line_kind tables (content r.items))
 
-rows_good : (tables : ℕ) (ls : List (List Item)) → AllByRecursion IsPageLine ls → AllByRecursion IsGoodRow (rows_from tables ls)
+rows_good : (tables : ℕ) (ls : List (List Item)) → AllByRecursion ArePageItems ls → AllByRecursion IsGoodRow (rows_from tables ls)
 unfolding line_rows
 rows_good tables [] h = tt
 rows_good tables (l ∷ ls) h = (record { line = h.0; tables = tables; kind = refl }, rows_good (behind tables (kind_at tables l)) ls h.1)
 
-pub lines_good : (rs : List Row) → AllByRecursion IsGoodRow rs → AllByRecursion IsPageLine (row_items rs)
+pub lines_good : (rs : List Row) → AllByRecursion IsGoodRow rs → AllByRecursion ArePageItems (row_items rs)
 lines_good [] h = tt
 lines_good (r ∷ rs) h = (h.0.line, lines_good rs h.1)
 
@@ -41,20 +41,21 @@ alone : (r : Row) (rs others : List Row) → IsRun same_block (r ∷ rs) others 
 alone r [] others h e = refl
 alone r (s ∷ rs) others h e = absurd (let f = sym h.0 ∙ e s.block in cc)
 
-between_good : (tables : ℕ) (l : List Item) → IsPageLine l → line_kind tables (content l) ≡ line.Blank → AllByRecursion IsBodyPart (parts Sep (joined (l ∷ [])))
+between_good : (tables : ℕ) (l : List Item) → ArePageItems l → line_kind tables (content l) ≡ line.Blank
+    → AllByRecursion IsBodyPart (parts Sep (joined (l ∷ [])))
 between_good tables l h e =
     let b : AllByRecursion IsBetween l = blank_line tables l (texts_small l h.texts) e in
     subst (λ xs. AllByRecursion IsBodyPart (parts Sep xs)) (sym (append-nil l)) (between_parts l h.page b)
 
-heading_good : (tables : ℕ) (l : List Item) → IsPageLine l → line_kind tables (content l) ≡ line.Heading → AllByRecursion IsBodyPart (around Heading (l ∷ []))
+heading_good : (tables : ℕ) (l : List Item) → ArePageItems l → line_kind tables (content l) ≡ line.Heading → AllByRecursion IsBodyPart (around Heading (l ∷ []))
 unfolding block
 heading_good tables l h e =
     let b = block_parts (l ∷ []) (joined_line (l ∷ []) (h, tt)) in
     around_parts Heading (l ∷ []) b (heading_node (content (drop (lead_len l) l) ++ []) b.line (heading_line tables l h e))
 
-para_good : (ls : List (List Item)) → IsPageLine (joined ls) → AllByRecursion IsBodyPart (around Para ls)
+para_good : (ls : List (List Item)) → AllByRecursion ArePageItems ls → AllByRecursion IsBodyPart (around Para ls)
 unfolding block
-para_good ls h = let b = block_parts ls h in around_parts Para ls b (para_node (without_ending (without_lead ls)) b.line)
+para_good ls h = around_parts Para ls (block_parts ls (joined_line ls h)) (para_node (without_ending (without_lead ls)) (block_lines ls h))
 
 none_between : (k : BlockKind) → k ≡ Between → (j : BlockKind) → one_block k j ≡ false
 none_between k e j = ap (λ i. one_block i j) e
@@ -72,7 +73,7 @@ by_block Heading r rs others e h g =
     let a : rs ≡ [] = alone r rs others h (none_heading r.block e) in
     subst (λ (ss : List Row). AllByRecursion IsBodyPart (around Heading (row_items (r ∷ ss)))) (sym a)
     (heading_good g.0.tables r.items g.0.line (block_heading _ (sym g.0.kind ∙ e)))
-by_block Para r rs others e h g = para_good (row_items (r ∷ rs)) (joined_line (row_items (r ∷ rs)) (lines_good (r ∷ rs) g))
+by_block Para r rs others e h g = para_good (row_items (r ∷ rs)) (lines_good (r ∷ rs) g)
 
 run_good : (r : Row) (rs others : List Row) → IsRun same_block (r ∷ rs) others → AllByRecursion IsGoodRow (r ∷ rs)
     → AllByRecursion IsBodyPart (run_parts (r ∷ rs))

@@ -15,31 +15,34 @@ use Rattle.wt_tree.specs.Kinds.{shape, is_anywhere, spelling}
 use Rattle.wt_round_trip.specs.Written.{has_level}
 use Rattle.wt_round_trip.proofs.Json.{ascii_then}
 use Rattle.wt_inline.specs.declared.loose.Loose.TheVariants.{Text, Sep}
-use Rattle.wt_inline.specs.Inline.{inline_trees}
+use Rattle.wt_context.specs.Line.{line_parts, line_trees}
 use Rattle.wt_inline.specs.ItemTree.{ItemTrees, forest, held_by_all}
 use Rattle.wt_inline.specs.Parts.{Part, loose, node, part, parts, children, whole_tree, loose_kind}
 use Rattle.wt_build.specs.declared.block.BlockKind.{BlockKind}
 use Rattle.wt_blocks.specs.Headings.{level as heading_level, opening, inside, closing}
 use Rattle.wt_blocks.proofs.HeadingLaws.{joined as heading_joined}
 use Rattle.wt_build.specs.Rows.{ending}
-use Rattle.wt_build.specs.Blocks.{joined, line_parts, para, heading, block, lead, without_lead, last_ending, without_ending, around}
+use Rattle.wt_build.specs.Blocks.{full_line_parts, para, heading, block, lead, without_lead, last_ending, without_ending, around}
 use Rattle.wt_annotate.specs.Labels.{width, label_at}
 use Rattle.wt_page_round_trip.proofs.TextItems.{AreTexts, BeginsLow, EndsLow, cut_after, cut_items_before}
-use Rattle.wt_page_round_trip.proofs.OfPage.{IsPageItem, IsPageForm, AreOfPage}
+use Rattle.wt_page_round_trip.proofs.OfPage.{IsPageItem, AreOfPage, ArePageItems, texts_utf8}
 use Rattle.wt_page_round_trip.proofs.Parts.{IsWrittenNode, AreWrittenParts, wide_append, children_written}
 use Rattle.wt_page_round_trip.proofs.Forms.{mark_node}
-use Rattle.wt_page_round_trip.proofs.Inline.{IsInlineParent, text_parts}
-use Rattle.wt_page_round_trip.proofs.PageLines.{IsPageLine, IsBetween, AreBlockParts, is_white_byte, all_left, all_right, all_both, last_between, content_ending}
+use Rattle.wt_page_round_trip.proofs.WrittenParts.{FitsIn, no_parts, fits_both, fits_text}
+use Rattle.wt_page_round_trip.proofs.ContextParts.{line_fits}
+use Rattle.wt_page_round_trip.proofs.Inline.{IsInlineParent}
+use Rattle.wt_page_round_trip.proofs.PageLines.{IsBetween, AreBlockParts, is_white_byte, all_left, all_right, all_both, last_between, content_page}
 
 -- ---- paragraphs
 
-line_is : (l : List Item) → line_parts l ≡ parts Text l
-line_is l = sym (map-append (part Text) (content l) (ending l)) ∙ ap (parts Text) (content_ending l)
-
-pub lines_are : (ls : List (List Item)) → flat_map line_parts ls ≡ parts Text (joined ls)
-lines_are [] = refl
-lines_are (l ∷ ls) = ap (λ ps. ps ++ flat_map line_parts ls) (line_is l) ∙ ap (λ ps. parts Text l ++ ps) (lines_are ls)
-    ∙ sym (map-append (part Text) l (joined ls))
+lines_fit : (most : ℕ) (ls : List (List Item)) → most < 142 → AllByRecursion ArePageItems ls → FitsIn most (flat_map full_line_parts ls)
+lines_fit most [] small h = no_parts most
+lines_fit most (l ∷ ls) small h =
+    let c : ArePageItems (content l) × ArePageItems (ending l) = content_page l h.0 in
+    fits_both most (full_line_parts l) (flat_map full_line_parts ls)
+    (fits_both most (line_parts (content l)) (parts Text (ending l)) (line_fits most small (content l) c.0)
+    (fits_text most (ending l) (omega (arith, small)) c.1.texts c.1.page))
+    (lines_fit most ls small h.1)
 
 inline_held : (b c : Bool) → c ≡ true → (b || c) ≡ true
 inline_held true c e = refl
@@ -51,13 +54,12 @@ para_parent = record { text = refl; elements = λ k h. inline_held (is_anywhere 
 heading_parent : (n : ℕ) → IsInlineParent (kind.Heading n)
 heading_parent n = record { text = refl; elements = λ k h. inline_held (is_anywhere (shape k).class) _ h }
 
-pub para_node : (ls : List (List Item)) → IsPageLine (joined ls) → IsWrittenNode 2 kind.Body (para ls)
+pub para_node : (ls : List (List Item)) → AllByRecursion ArePageItems ls → IsWrittenNode 2 kind.Body (para ls)
 unfolding para label_at spelling
 para_node ls h =
-    let ps : List Part = flat_map line_parts ls in
+    let ps : List Part = flat_map full_line_parts ls in
     let ts : ItemTrees = forest (children ps) in
-    let w : AreWrittenParts 3 kind.Para [] ps = subst (AreWrittenParts 3 kind.Para []) (sym (lines_are ls))
-    (text_parts 3 kind.Para (omega arith) para_parent [] (joined ls) h.texts h.page) in
+    let w : AreWrittenParts 3 kind.Para [] ps = (lines_fit 3 ls (omega arith) h).written 3 kind.Para (omega arith) para_parent in
     let a : width (held_by_all ts ++ []) ≡ width (held_by_all ts) + 0 = wide_append (held_by_all ts) [] in
     record {
       element = λ at next. refl;
@@ -82,32 +84,14 @@ para_node ls h =
 
 -- ---- headings
 
-form_utf8 : (f : Form) (bs : List ℕ) → IsPageForm f bs → IsUtf8 bs
-form_utf8 form.Chars bs h = absurd h
-form_utf8 (form.Entity c) bs h = h.1
-form_utf8 form.Nowiki bs h = h.1
-form_utf8 form.Extension bs h = h.1
-form_utf8 form.Function bs h = absurd h
-form_utf8 form.Comment bs h = h.1
-form_utf8 form.Include bs h = h.1
-form_utf8 form.Hidden bs h = h.1
-form_utf8 form.EmptyCall bs h = absurd h
-
--- texts with the forms between them are UTF-8
-texts_utf8 : (run : List ℕ) (xs : List Item) → AreTexts run xs → AreOfPage xs → IsUtf8 (run ++ sources xs)
-texts_utf8 run [] t p = subst IsUtf8 (sym (append-nil run)) t
-texts_utf8 run (char o b ∷ xs) t p = subst IsUtf8 (append_assoc run (b ∷ []) (sources xs)) (texts_utf8 (run ++ b ∷ []) xs t p.1)
-texts_utf8 run (whole f o bs ∷ xs) t p = IsUtf8-append run (bs ++ sources xs) t.0
-    (IsUtf8-append bs (sources xs) (form_utf8 f bs p.0.1) (texts_utf8 [] xs t.1 p.1))
-
 -- where the delimiters of a heading end, and its level
 pub record IsHeadingLine (xs : List Item) : Type 0 where
   pub level : has_level (kind.Heading (heading_level xs)) ≡ true
   pub open_ends : EndsLow (opening xs)
   pub close_begins : BeginsLow (closing xs)
 
-pub heading_node : (xs : List Item) → IsPageLine xs → IsHeadingLine xs → IsWrittenNode 2 kind.Body (heading xs)
-unfolding heading label_at inline_trees spelling
+pub heading_node : (xs : List Item) → ArePageItems xs → IsHeadingLine xs → IsWrittenNode 2 kind.Body (heading xs)
+unfolding heading label_at line_trees spelling
 heading_node xs l c =
     let n : ℕ = heading_level xs in
     let os : List Item = opening xs in
@@ -118,9 +102,10 @@ heading_node xs l c =
     let q : AreTexts [] os × AreTexts [] (is ++ cs) = cut_after os (is ++ cs) c.open_ends t in
     let v : AreOfPage (is ++ cs) = all_right IsPageItem os (is ++ cs) p in
     let r : AreTexts [] is × AreTexts [] cs = cut_items_before [] is cs c.close_begins q.1 in
-    let ps : List Part = parts Text is in
+    let ps : List Part = line_parts is in
     let ts : ItemTrees = forest (children ps) in
-    let w : AreWrittenParts 3 (kind.Heading n) [] ps = text_parts 3 (kind.Heading n) (omega arith) (heading_parent n) [] is r.0 (all_left IsPageItem is cs v) in
+    let w : AreWrittenParts 3 (kind.Heading n) [] ps = (line_fits 3 (omega arith) is (record { texts = r.0; page = all_left IsPageItem is cs v })).written
+    3 (kind.Heading n) (omega arith) (heading_parent n) in
     let a : width (os ++ (held_by_all ts ++ cs)) ≡ width os + width (held_by_all ts ++ cs) = wide_append os (held_by_all ts ++ cs) in
     let b : width (held_by_all ts ++ cs) ≡ width (held_by_all ts) + width cs = wide_append (held_by_all ts) cs in
     record {

@@ -86,7 +86,7 @@ entity_scalar bs =
     (if_scalar (begins (codes "&#") bs) _ (numbered_scalar 2 7 10 is_ascii_digit bs))
     (if_scalar (begins (codes "&#x") bs || begins (codes "&#X") bs) _ (numbered_scalar 3 6 16 is_ascii_hexdigit bs)))
 
-entity_utf8 : (c : ℕ) (bs : List ℕ) → IsWhole (form.Entity c) bs → IsUtf8 (encode_utf8 c)
+pub entity_utf8 : (c : ℕ) (bs : List ℕ) → IsWhole (form.Entity c) bs → IsUtf8 (encode_utf8 c)
 entity_utf8 c bs h = let s : scalar c ≡ true = subst OptScalar h (entity_scalar bs) in IsUtf8-encode c s
 
 pub entity_node : (k : ℕ) (parent : Kind) (c : ℕ) (bs : List ℕ) → k < 200 → may_hold parent kind.Entity ≡ true

@@ -21,7 +21,7 @@ use Rattle.wt_round_trip.specs.Written.{has_level}
 use Rattle.wt_blocks.specs.Headings.{core, level_of, open_len, trimmed_len, level, opening, closing}
 use Rattle.wt_build.specs.Blocks.{lead_len}
 use Rattle.wt_page_round_trip.proofs.TextItems.{BeginsLow, EndsLow}
-use Rattle.wt_page_round_trip.proofs.PageLines.{IsPageLine}
+use Rattle.wt_page_round_trip.proofs.OfPage.{ArePageItems}
 use Rattle.wt_page_round_trip.proofs.Idle.{IsSmallItem, texts_small, past_table, opens}
 use Rattle.wt_page_round_trip.proofs.BodyParts.{IsHeadingLine}
 use Rattle.wt_page_round_trip.proofs.Delimiters.{IsLevel, level_is, open_sign, middle, close_sign}
@@ -278,7 +278,7 @@ heading_cut xs h =
       close_begins = begins_low xs p (λ _. omega (arith, q.1, b));
     }
 
-pub heading_line : (tables : ℕ) (l : List Item) → IsPageLine l → kind_of_signs tables (map sign (content l)) ≡ line.Heading
+pub heading_line : (tables : ℕ) (l : List Item) → ArePageItems l → kind_of_signs tables (map sign (content l)) ≡ line.Heading
     → IsHeadingLine (content (drop (lead_len l) l) ++ [])
 heading_line tables l h e =
     let xs : List Item = content (drop (lead_len l) l) in

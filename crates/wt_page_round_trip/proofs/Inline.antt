@@ -74,7 +74,7 @@ inside_parts k small (suc n) run [] u = text_run kind.Nowiki run refl (subst IsU
 inside_parts k small (suc n) run (b ∷ bs) u = inside_parts k small n run bs u
 inside_parts k small zero run (b ∷ bs) u = inside_first k small (entity_at (b ∷ bs)) run b bs refl u (λ n r v. inside_parts k small n r bs v)
 
-nowiki_node : (k : ℕ) (parent : Kind) (bs : List ℕ) → k < 100 → may_hold parent kind.Nowiki ≡ true → IsPageForm form.Nowiki bs
+nowiki_node : (k : ℕ) (parent : Kind) (bs : List ℕ) → k < 199 → may_hold parent kind.Nowiki ≡ true → IsPageForm form.Nowiki bs
     → IsWrittenNode k parent (nowiki None bs)
 unfolding label_at nowiki spelling
 nowiki_node k parent bs small e h =
@@ -118,7 +118,7 @@ pub record IsInlineParent (parent : Kind) : Type 0 where
   pub text : holds_text parent ≡ true
   pub elements : (k : Kind) → admits Inlines (shape k).class ≡ true → may_hold parent k ≡ true
 
-pub form_node : (k : ℕ) (parent : Kind) (f : Form) (bs : List ℕ) → k < 100 → IsInlineParent parent → IsPageForm f bs
+pub form_node : (k : ℕ) (parent : Kind) (f : Form) (bs : List ℕ) → k < 199 → IsInlineParent parent → IsPageForm f bs
     → IsWrittenNode k parent (whole_tree f None bs)
 form_node k parent form.Chars bs small p h = absurd h
 form_node k parent (form.Entity c) bs small p h = entity_node k parent c bs (omega arith) (p.elements kind.Entity refl) h
@@ -130,7 +130,7 @@ form_node k parent form.Include bs small p h = mark_node k parent form.Include b
 form_node k parent form.Hidden bs small p h = mark_node k parent form.Hidden bs (omega arith) refl h
 form_node k parent form.EmptyCall bs small p h = absurd h
 
-pub text_parts : (k : ℕ) (parent : Kind) → k < 100 → IsInlineParent parent → (run : List ℕ) (xs : List Item) → AreTexts run xs
+pub text_parts : (k : ℕ) (parent : Kind) → k < 199 → IsInlineParent parent → (run : List ℕ) (xs : List Item) → AreTexts run xs
     → AreOfPage xs → AreWrittenParts k parent run (parts Text xs)
 text_parts k parent small p run [] t h = text_run parent run p.text t
 text_parts k parent small p run (char o b ∷ xs) t h = (text_kind parent p.text, h.0, text_parts k parent small p (run ++ b ∷ []) xs t h.1)

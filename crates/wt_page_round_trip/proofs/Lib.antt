@@ -5,6 +5,16 @@ pub mod Parts
 pub mod Forms
 pub mod Inline
 pub mod PageLines
+pub mod FormLengths
+pub mod WrittenParts
+pub mod InlineNodes
+pub mod TileTexts
+pub mod ShownTexts
+pub mod LinkHeads
+pub mod SpanAttributes
+pub mod SwitchHeads
+pub mod StyleDepth
+pub mod ContextParts
 pub mod BodyParts
 pub mod Idle
 pub mod Delimiters

@@ -4,14 +4,14 @@ use Rattle.std.specs.Prelude.{if◌then◌else◌, slice_index}
 use Rattle.std.specs.Str.{IsCharBoundary}
 use Rattle.std.specs.List.{AllByRecursion}
 use Rattle.std.proofs.lemmas.List.{take-append-drop}
-use Rattle.std.proofs.lemmas.Str.{IsUtf8-take, IsUtf8-drop}
+use Rattle.std.proofs.lemmas.Str.{IsUtf8-append, IsUtf8-take, IsUtf8-drop}
 use Rattle.wt_span.specs.declared.form.Mode.TheVariants.{Page}
 use Rattle.wt_span.specs.declared.form.LexKind.{LexKind}
 use Rattle.wt_span.specs.declared.form.LexKind.TheVariants as lex
 use Rattle.wt_span.specs.declared.form.Form.{Form}
 use Rattle.wt_span.specs.declared.form.Form.TheVariants as form
 use Rattle.wt_span.specs.Bytes.{is_break}
-use Rattle.wt_span.specs.Items.{Item, char, whole, items_by}
+use Rattle.wt_span.specs.Items.{Item, char, whole, sources, items_by}
 use Rattle.wt_span.specs.Lexemes.{Word, words}
 use Rattle.wt_span.specs.Tags.{Tag, opening_tag, is_nowiki}
 use Rattle.wt_span.specs.Whole.{IsWhole}
@@ -38,6 +38,11 @@ IsPageItem (whole f o bs) = (o ≡ None) × IsPageForm f bs
 
 abbrev pub AreOfPage : List Item → Type 0
 AreOfPage xs = AllByRecursion IsPageItem xs
+
+-- texts in UTF-8 and whole forms
+pub record ArePageItems (xs : List Item) : Type 0 where
+  pub texts : AreTexts [] xs
+  pub page : AreOfPage xs
 
 -- ---- one form
 
@@ -160,3 +165,23 @@ page_texts page u = words_texts false (words Page page) [] page u (words_are Pag
 pub page_of_page : (page : List ℕ) → IsUtf8 page → AreOfPage (page_items page)
 unfolding page_items
 page_of_page page u = words_of_page false (words Page page) [] page u (words_are Page page)
+
+-- ---- sources
+
+form_utf8 : (f : Form) (bs : List ℕ) → IsPageForm f bs → IsUtf8 bs
+form_utf8 form.Chars bs h = absurd h
+form_utf8 (form.Entity c) bs h = h.1
+form_utf8 form.Nowiki bs h = h.1
+form_utf8 form.Extension bs h = h.1
+form_utf8 form.Function bs h = absurd h
+form_utf8 form.Comment bs h = h.1
+form_utf8 form.Include bs h = h.1
+form_utf8 form.Hidden bs h = h.1
+form_utf8 form.EmptyCall bs h = absurd h
+
+-- texts with the forms between them are UTF-8
+pub texts_utf8 : (run : List ℕ) (xs : List Item) → AreTexts run xs → AreOfPage xs → IsUtf8 (run ++ sources xs)
+texts_utf8 run [] t p = subst IsUtf8 (sym (append-nil run)) t
+texts_utf8 run (char o b ∷ xs) t p = subst IsUtf8 (append_assoc run (b ∷ []) (sources xs)) (texts_utf8 (run ++ b ∷ []) xs t p.1)
+texts_utf8 run (whole f o bs ∷ xs) t p = IsUtf8-append run (bs ++ sources xs) t.0
+    (IsUtf8-append bs (sources xs) (form_utf8 f bs p.0.1) (texts_utf8 [] xs t.1 p.1))

@@ -12,7 +12,7 @@ use Rattle.wt_lines.specs.Lines.{is_break_item, goes_on, content}
 use Rattle.wt_build.specs.Rows.{ending}
 use Rattle.wt_build.specs.Blocks.{joined, lead_len, lead, without_lead, last_ending, without_ending}
 use Rattle.wt_page_round_trip.proofs.TextItems.{AreTexts, BeginsLow, EndsLow, cut_after, cut_items_before}
-use Rattle.wt_page_round_trip.proofs.OfPage.{IsPageItem, AreOfPage}
+use Rattle.wt_page_round_trip.proofs.OfPage.{IsPageItem, AreOfPage, ArePageItems}
 
 -- ---- all items of a list
 
@@ -48,10 +48,6 @@ texts_both run (whole f o bs ∷ xs) ys h t = (h.0, texts_both [] xs ys h.1 t)
 
 -- ---- lines
 
-pub record IsPageLine (l : List Item) : Type 0 where
-  pub texts : AreTexts [] l
-  pub page : AreOfPage l
-
 break_low : (x : Item) → is_break_item x ≡ true → EndsLow (x ∷ [])
 break_low (char o b) e = let f : b ≡ 10 = eqb-true b 10 e in omega (arith, f)
 break_low (whole f o bs) e = absurd cc
@@ -73,17 +69,17 @@ cut_line r [] h t = (subst (AreTexts []) (append-nil r) t, cut_none)
     cut_none = (cut_after [] [] tt IsUtf8-nil).1
 cut_line r (y ∷ others) h t = cut_after r (y ∷ others) (line_ends r y others h) t
 
-pub page_lines : (rs : List (List Item)) (xs : List Item) → AreRuns goes_on rs xs → AreTexts [] xs → AreOfPage xs → AllByRecursion IsPageLine rs
+pub page_lines : (rs : List (List Item)) (xs : List Item) → AreRuns goes_on rs xs → AreTexts [] xs → AreOfPage xs → AllByRecursion ArePageItems rs
 page_lines [] xs h t p = tt
 page_lines (r ∷ rs) xs h t p =
     let q : AreTexts [] r × AreTexts [] h.0 = cut_line r h.0 h.2 (subst (AreTexts []) h.1 t) in
     let v : AreOfPage (r ++ h.0) = subst AreOfPage h.1 p in
     (record { texts = q.0; page = all_left IsPageItem r h.0 v }, page_lines rs h.0 h.3 q.1 (all_right IsPageItem r h.0 v))
 
-pub joined_line : (ls : List (List Item)) → AllByRecursion IsPageLine ls → IsPageLine (joined ls)
+pub joined_line : (ls : List (List Item)) → AllByRecursion ArePageItems ls → ArePageItems (joined ls)
 joined_line [] h = record { texts = IsUtf8-nil; page = tt }
 joined_line (l ∷ ls) h =
-    let q : IsPageLine (joined ls) = joined_line ls h.1 in
+    let q : ArePageItems (joined ls) = joined_line ls h.1 in
     record { texts = texts_both [] l (joined ls) h.0.texts q.texts; page = all_both IsPageItem l (joined ls) h.0.page q.page }
 
 -- ---- marks and line breaks
@@ -150,7 +146,7 @@ break_begins (char o b) = by_test (b == 10) refl
     by_test false e = tt
 break_begins (whole f o bs) = tt
 
-ending_begins : (l : List Item) → BeginsLow (ending l)
+pub ending_begins : (l : List Item) → BeginsLow (ending l)
 ending_begins [] = tt
 ending_begins (x ∷ []) = break_begins x
 ending_begins (x ∷ y ∷ ys) = ending_begins (y ∷ ys)
@@ -180,14 +176,40 @@ end_joined [] = refl
 end_joined (l ∷ []) = ap (λ ys. ys ++ ending l) (append-nil (content l)) ∙ content_ending l ∙ sym (append-nil l)
 end_joined (l ∷ m ∷ ls) = append_assoc l (joined (without_ending (m ∷ ls))) (last_ending (m ∷ ls)) ∙ ap (λ ys. l ++ ys) (end_joined (m ∷ ls))
 
+-- ---- each line of a block
+
+lead_dropped : (l : List Item) → ArePageItems l → ArePageItems (drop (lead_len l) l)
+lead_dropped l h = record {
+  texts = (cut_after (take (lead_len l) l) (drop (lead_len l) l) (marks_low (take (lead_len l) l) (taken_marks l))
+      (subst (AreTexts []) (sym (take-append-drop (lead_len l) l)) h.texts)).1;
+  page = all_dropped IsPageItem (lead_len l) l h.page;
+}
+
+-- a line and its line break
+pub content_page : (l : List Item) → ArePageItems l → ArePageItems (content l) × ArePageItems (ending l)
+content_page l h =
+    let t : AreTexts [] (content l) × AreTexts [] (ending l) = cut_items_before [] (content l) (ending l) (ending_begins l)
+    (subst (AreTexts []) (sym (content_ending l)) h.texts) in
+    let p : AreOfPage (content l ++ ending l) = subst AreOfPage (sym (content_ending l)) h.page in
+    (record { texts = t.0; page = all_left IsPageItem (content l) (ending l) p }, record { texts = t.1; page = all_right IsPageItem (content l) (ending l) p })
+
+unended_lines : (ls : List (List Item)) → AllByRecursion ArePageItems ls → AllByRecursion ArePageItems (without_ending ls)
+unended_lines [] h = tt
+unended_lines (l ∷ []) h = ((content_page l h.0).0, tt)
+unended_lines (l ∷ m ∷ ls) h = (h.0, unended_lines (m ∷ ls) h.1)
+
+pub block_lines : (ls : List (List Item)) → AllByRecursion ArePageItems ls → AllByRecursion ArePageItems (without_ending (without_lead ls))
+block_lines [] h = tt
+block_lines (l ∷ ls) h = unended_lines (drop (lead_len l) l ∷ ls) (lead_dropped l h.0, h.1)
+
 -- what stands before a block, the block and what stands behind it
 pub record AreBlockParts (ls : List (List Item)) : Type 0 where
   pub before : AllByRecursion IsBetween (lead ls)
   pub before_page : AreOfPage (lead ls)
-  pub line : IsPageLine (joined (without_ending (without_lead ls)))
+  pub line : ArePageItems (joined (without_ending (without_lead ls)))
   pub behind_page : AreOfPage (last_ending (without_lead ls))
 
-pub block_parts : (ls : List (List Item)) → IsPageLine (joined ls) → AreBlockParts ls
+pub block_parts : (ls : List (List Item)) → ArePageItems (joined ls) → AreBlockParts ls
 block_parts ls h =
     let rest : List (List Item) = without_lead ls in
     let a : AreTexts [] (lead ls ++ joined rest) = subst (AreTexts []) (sym (lead_joined ls)) h.texts in

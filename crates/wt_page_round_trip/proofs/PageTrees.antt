@@ -28,42 +28,15 @@ use Rattle.wt_annotate.proofs.TreeRanges.{tiled_annotated, body_covers}
 use Rattle.wt_annotate.proofs.TreeSlices.{annotated_slices}
 use Rattle.wt_annotate.proofs.TreeSource.{flat_annotated}
 use Rattle.wt_page_round_trip.specs.PageTree.{page_tree}
+use Rattle.wt_page_round_trip.proofs.FormLengths.{page_forms}
+use Rattle.wt_page_round_trip.proofs.Counts.{forms_few}
 
--- ---- the items of a page
-
-chars_length : (bs : List ℕ) → length (map (char None) bs) ≡ length bs
-chars_length bs = length-map bs (char None)
-
-form_length : (f : Form) (bs : List ℕ) → 0 < length bs → length (items_by f None bs) ≤ length bs
-form_length form.Chars bs some = omega (arith, chars_length bs)
-form_length (form.Entity c) bs some = omega arith
-form_length form.Nowiki bs some = omega arith
-form_length form.Extension bs some = omega arith
-form_length form.Function bs some = omega arith
-form_length form.Comment bs some = omega arith
-form_length form.Include bs some = omega arith
-form_length form.Hidden bs some = omega arith
-form_length form.EmptyCall bs some = omega arith
-
-words_length : (after : Bool) (ws : List Word) (bs : List ℕ) → AreLexemes Page after ws bs → length (items_of_words ws bs) ≤ length bs
-words_length after [] bs a = omega arith
-words_length after ((kind, n) ∷ ws) bs a =
-    let front : length (take n bs) + length (drop n bs) ≡ length bs = sym (length-append (take n bs) (drop n bs)) ∙ ap length (take-append-drop n bs) in
-    let cut : length (drop n bs) ≡ length bs - n = length-drop n bs in
-    let some : 0 < n = a.0 in
-    let within : n ≤ length bs = a.1 in
-    let here : length (items_of_word kind (take n bs)) ≤ length (take n bs) = form_length (form_of kind (take n bs)) (take n bs) (omega arith) in
-    let later : length (items_of_words ws (drop n bs)) ≤ length (drop n bs) = words_length (is_break (slice_index bs (n - 1))) ws (drop n bs) a.4 in
-    omega (arith, length-append (items_of_word kind (take n bs)) (items_of_words ws (drop n bs)))
-
-items_length : (page : List ℕ) → length (page_items page) ≤ length page
-unfolding page_items
-items_length page = words_length false (words Page page) page (words_are Page page)
+-- ---- numbers
 
 pub few_numbers : (page : List ℕ) → numbered (meaning (page_items page)) ≤ 3 * length page
 few_numbers page =
     let xs = page_items page in
-    omega (arith, meaning_count xs, makes_few xs, items_length page, ap length (page_sources page))
+    omega (arith, forms_few xs (page_forms page), ap length (page_sources page))
 
 -- ---- the tree
 

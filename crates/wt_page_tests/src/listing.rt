@@ -5,7 +5,7 @@ use wt_span::{List, NoMemory, Str};
 use wt_tree::{Kind, Mark, Node, Ranges};
 
 /// A node without delimiters and children.
-fn node<'a>(alloc: Global, kind: Kind, id: u32, start: u32, end: u32) -> Node<'a> {
+pub fn node<'a>(alloc: Global, kind: Kind, id: u32, start: u32, end: u32) -> Node<'a> {
     Node {
         kind,
         id,

@@ -11,9 +11,8 @@ use Rattle.wt_tree.specs.Tree.{Tree}
 use Rattle.wt_tree.specs.declared.annotated.Annotated.{Annotated}
 use Rattle.wt_utf8.specs.Places.{IsPlace, not_utf8_place}
 use Rattle.wt_utf8.proofs.PlaceLaws.{exact as exact_text, at_place}
-use Rattle.wt_not_built.specs.FirstPlace.{first_unbuilt}
 use Rattle.wt_page_round_trip.specs.PageTree.{page_tree}
-use Rattle.wt_pagetool.specs.Answers.{Answer, done, refused, built_answer, text_answer, page_answer, IsAnswered, made_of_tree, made as made_by}
+use Rattle.wt_pagetool.specs.Answers.{Answer, done, refused, built_answer, unbuilt_place, text_answer, page_answer, IsAnswered, made_of_tree, made as made_by}
 use Rattle.wt_pagetool.specs.declared.output.Output.{Output}
 use Rattle.wt_pagetool.specs.declared.command.PageCommand.{PageCommand}
 use Rattle.wt_pagetool.specs.declared.refusal.Refusal.{Refusal}
@@ -49,12 +48,12 @@ unfolding page_answer
 page_not_utf8 page place h e made = rw (short page h, e) refl
 
 page_not_built : (page : List ℕ) (place : ℕ) → length page ≤ 2097152 → not_utf8_place page ≡ None
-    → first_unbuilt page ≡ Some place → RefusesPage (Some page) (NotBuilt place)
+    → unbuilt_place page ≡ Some place → RefusesPage (Some page) (NotBuilt place)
 unfolding page_answer
 page_not_built page place h e f made = rw (short page h, e, f) refl
 
 pub page_unbuilt : (page : List ℕ) (reason : Refusal) → length page ≤ 2097152 → not_utf8_place page ≡ None
-    → IsUnbuilt (first_unbuilt page) reason → RefusesPage (Some page) reason
+    → IsUnbuilt (unbuilt_place page) reason → RefusesPage (Some page) reason
 page_unbuilt page Usage h e u = absurd u
 page_unbuilt page Absent h e u = absurd u
 page_unbuilt page TooLong h e u = absurd u
@@ -70,37 +69,37 @@ page_unbuilt page FolderFault h e u = absurd u
 page_unbuilt page WriteFault h e u = absurd u
 page_unbuilt page NoMemory h e u = λ made. tt
 
-pub page_answered : (page : List ℕ) → length page ≤ 2097152 → not_utf8_place page ≡ None → first_unbuilt page ≡ None → IsAnswered page
+pub page_answered : (page : List ℕ) → length page ≤ 2097152 → not_utf8_place page ≡ None → unbuilt_place page ≡ None → IsAnswered page
 unfolding page_answer
 page_answered page h e f made = rw (short page h, e, f) refl
 
 pub tree_answered : (page text : List ℕ) (result : Result Annotated Refusal) → text ≡ page → length page ≤ 2097152
-    → not_utf8_place page ≡ None → IfOk result (λ t. first_unbuilt text ≡ None) → IfOk result (λ t. IsAnswered page)
-tree_answered page text (Ok t) same h e f = page_answered page h e (sym (ap first_unbuilt same) ∙ f)
+    → not_utf8_place page ≡ None → IfOk result (λ t. unbuilt_place text ≡ None) → IfOk result (λ t. IsAnswered page)
+tree_answered page text (Ok t) same h e f = page_answered page h e (sym (ap unbuilt_place same) ∙ f)
 tree_answered page text (Err reason) same h e f = tt
 
 pub tree_refused : (page text : List ℕ) (result : Result Annotated Refusal) → text ≡ page → length page ≤ 2097152
-    → not_utf8_place page ≡ None → IfErr result (IsUnbuilt (first_unbuilt text)) → IfErr result (RefusesPage (Some page))
+    → not_utf8_place page ≡ None → IfErr result (IsUnbuilt (unbuilt_place text)) → IfErr result (RefusesPage (Some page))
 tree_refused page text (Ok t) same h e u = tt
-tree_refused page text (Err reason) same h e u = page_unbuilt page reason h e (subst (λ bs. IsUnbuilt (first_unbuilt bs) reason) same u)
+tree_refused page text (Err reason) same h e u = page_unbuilt page reason h e (subst (λ bs. IsUnbuilt (unbuilt_place bs) reason) same u)
 
 -- ---- what an answer that is done says of the page
 
 pub record IsMade (page : List ℕ) (made : List ℕ → Answer) (bytes : List ℕ) : Type 0 where
   pub within : length page ≤ 2097152
   pub text : not_utf8_place page ≡ None
-  pub built : first_unbuilt page ≡ None
+  pub built : unbuilt_place page ≡ None
   pub is : made page ≡ done bytes
 
 built_made : (page bytes : List ℕ) (made : List ℕ → Answer) (o : Option ℕ) → length page ≤ 2097152 → not_utf8_place page ≡ None
-    → first_unbuilt page ≡ o → built_answer page made o ≡ done bytes → IsMade page made bytes
+    → unbuilt_place page ≡ o → built_answer page made o ≡ done bytes → IsMade page made bytes
 built_made page bytes made (Some place) within text is e = cc
 built_made page bytes made None within text is e = record { within = within; text = text; built = is; is = e }
 
 text_made : (page bytes : List ℕ) (made : List ℕ → Answer) (o : Option ℕ) → length page ≤ 2097152 → not_utf8_place page ≡ o
     → text_answer page made o ≡ done bytes → IsMade page made bytes
 text_made page bytes made (Some place) within is e = cc
-text_made page bytes made None within is e = built_made page bytes made (first_unbuilt page) within is refl e
+text_made page bytes made None within is e = built_made page bytes made (unbuilt_place page) within is refl e
 
 long_made : (page bytes : List ℕ) (made : List ℕ → Answer) (v : Bool) → nat_lt 2097152 (length page) ≡ v
     → cond v (refused TooLong) (text_answer page made (not_utf8_place page)) ≡ done bytes → IsMade page made bytes

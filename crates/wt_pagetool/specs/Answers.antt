@@ -27,18 +27,22 @@ pub data Answer : Type 0 where
 
 -- ---- what stands under a title
 
--- a page that is text, by the place of its first form that isn't built
+-- a page that is text, by the first place where it isn't built
 abbrev pub built_answer : List ℕ → (List ℕ → Answer) → Option ℕ → Answer
 built_answer page made (Some place) = refused (NotBuilt place)
 built_answer page made None = made page
 
+-- the first place where a page isn't built: that of a form, or of a style without an item
+abbrev pub unbuilt_place : List ℕ → Option ℕ
+unbuilt_place page = first_unbuilt page (page_tree page)
+
 -- a page by the place where it stops being UTF-8
 abbrev pub text_answer : List ℕ → (List ℕ → Answer) → Option ℕ → Answer
 text_answer page made (Some place) = refused (NotUtf8 place)
-text_answer page made None = built_answer page made (first_unbuilt page)
+text_answer page made None = built_answer page made (unbuilt_place page)
 
 -- The refusals of what stands under a title, in their order: no page; one that is too long; one that isn't UTF-8; one
--- with a form that isn't built. Any other page is answered by what is made of it.
+-- that isn't built. Any other page is answered by what is made of it.
 unfoldable pub page_answer : Option (List ℕ) → (List ℕ → Answer) → Answer
 page_answer None made = refused Absent
 page_answer (Some page) made =

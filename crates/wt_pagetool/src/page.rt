@@ -1,8 +1,7 @@
 ghost use Rattle.std.specs.Prelude.{◌≡◌, ◌≤◌, length, IfOk, IfErr, Some, None};
 ghost use Rattle.wt_tree.specs.View.{view};
 ghost use Rattle.wt_expand.specs.PageItems.{page_items};
-ghost use Rattle.wt_not_built.specs.FirstPlace.{first_unbuilt};
-ghost use Rattle.wt_pagetool.specs.Answers.{IsAnswered};
+ghost use Rattle.wt_pagetool.specs.Answers.{unbuilt_place, IsAnswered};
 ghost use Rattle.wt_page_round_trip.specs.PageTree.{page_tree};
 ghost use Rattle.wt_pagetool.specs.Causes.{IsUnbuilt, RefusesPage, IsOfPage};
 
@@ -31,19 +30,19 @@ fn tree_of_items<'a>(
     annotate(alloc, meaning.into_body())
 }
 
-/// The tree of a page that is text, if all its forms are built.
+/// The tree of a page that is text, if all of it is built.
 fn tree_of_text<'a>(alloc: Global, page: &'a str) -> Result<Annotated<'a>, Refusal>
     requires room { length page.now ≤ PAGE_BYTES }
     ensures tree { IfOk result (λ tree. view tree.body ≡ page_tree page.entry.now) }
-    ensures built { IfOk result (λ tree. first_unbuilt page.entry.now ≡ None) }
-    ensures refused { IfErr result (IsUnbuilt (first_unbuilt page.entry.now)) }
+    ensures built { IfOk result (λ tree. unbuilt_place page.entry.now ≡ None) }
+    ensures refused { IfErr result (IsUnbuilt (unbuilt_place page.entry.now)) }
 {
     let items = page_items(alloc, page)?;
-    if let Some(place) = first_unbuilt(page, items.pieces()) {
-        return Err(Refusal::NotBuilt(place as u32));
-    }
     let tree = tree_of_items(alloc, page, &items)?;
-    Ok(tree)
+    match first_unbuilt(page, items.pieces(), tree.body()) {
+        Some(place) => Err(Refusal::NotBuilt(place)),
+        None => Ok(tree),
+    }
 }
 
 /// The tree of a page that nothing refuses.

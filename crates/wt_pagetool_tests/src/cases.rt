@@ -193,8 +193,76 @@ pub const MARKED: [(&str, &str); 11] = [
     ),
 ];
 
+/// A page with links, tags, a switch or apostrophes, and the body of its HTML.
+pub const LINKED: [(&str, &str); 16] = [
+    (
+        "a*b",
+        "<body data-parsoid='{\"dsr\":[0,3,0,0]}'><p id=\"mw1\" data-parsoid='{\"dsr\":[0,3,0,0]}'>a*b</p></body>",
+    ),
+    (
+        "x_y",
+        "<body data-parsoid='{\"dsr\":[0,3,0,0]}'><p id=\"mw1\" data-parsoid='{\"dsr\":[0,3,0,0]}'>x_y</p></body>",
+    ),
+    (
+        "[[a]]",
+        "<body data-parsoid='{\"dsr\":[0,5,0,0]}'><p id=\"mw1\" data-parsoid='{\"dsr\":[0,5,0,0]}'><a rel=\"mw:WikiLink\" href=\"./A\" id=\"mw2\" data-parsoid='{\"c\":\"]]\",\"dsr\":[0,5,2,2],\"o\":\"[[\"}'>a</a></p></body>",
+    ),
+    (
+        "<b>",
+        "<body data-parsoid='{\"dsr\":[0,3,0,0]}'><p id=\"mw1\" data-parsoid='{\"dsr\":[0,3,0,0]}'><span typeof=\"mw:Placeholder\" id=\"mw2\" data-parsoid='{\"dsr\":[0,3,3,0],\"src\":\"&lt;b&gt;\"}'></span></p></body>",
+    ),
+    (
+        "a <BR/>",
+        "<body data-parsoid='{\"dsr\":[0,7,0,0]}'><p id=\"mw1\" data-parsoid='{\"dsr\":[0,7,0,0]}'>a <br id=\"mw2\" data-parsoid='{\"dsr\":[2,7,5,0],\"src\":\"&lt;BR/&gt;\"}'/></p></body>",
+    ),
+    (
+        "it's",
+        "<body data-parsoid='{\"dsr\":[0,4,0,0]}'><p id=\"mw1\" data-parsoid='{\"dsr\":[0,4,0,0]}'>it's</p></body>",
+    ),
+    (
+        "<s>a</s> <span class=\"b\" lang=\"de\">c</span>",
+        "<body data-parsoid='{\"dsr\":[0,43,0,0]}'><p id=\"mw1\" data-parsoid='{\"dsr\":[0,43,0,0]}'><s id=\"mw2\" data-parsoid='{\"c\":\"&lt;/s&gt;\",\"dsr\":[0,8,3,4],\"o\":\"&lt;s&gt;\"}'>a</s> <span class=\"b\" lang=\"de\" id=\"mw3\" data-parsoid='{\"c\":\"&lt;/span&gt;\",\"dsr\":[9,43,26,7],\"o\":\"&lt;span class=\\\"b\\\" lang=\\\"de\\\"&gt;\"}'>c</span></p></body>",
+    ),
+    (
+        "__TOC__ [[Category:Rivers|Opava]]",
+        "<body data-parsoid='{\"dsr\":[0,33,0,0]}'><p id=\"mw1\" data-parsoid='{\"dsr\":[0,33,0,0]}'><meta property=\"mw:PageProp/toc\" id=\"mw2\" data-parsoid='{\"dsr\":[0,7,7,0],\"src\":\"__TOC__\"}'/> <link rel=\"mw:PageProp/Category\" href=\"./Category:Rivers#Opava\" id=\"mw3\" data-parsoid='{\"dsr\":[8,33,25,0],\"src\":\"[[Category:Rivers|Opava]]\"}'/></p></body>",
+    ),
+    (
+        "[[a]]s b",
+        "<body data-parsoid='{\"dsr\":[0,8,0,0]}'><p id=\"mw1\" data-parsoid='{\"dsr\":[0,8,0,0]}'><a rel=\"mw:WikiLink\" href=\"./A\" id=\"mw2\" data-parsoid='{\"dsr\":[0,6,2,0],\"o\":\"[[\"}'>a<meta typeof=\"mw:Skip\" id=\"mw3\" data-parsoid='{\"dsr\":[3,5,2,0],\"src\":\"]]\"}'/>s</a> b</p></body>",
+    ),
+    (
+        "[http://a.b/c d] http://e.f/g, x",
+        "<body data-parsoid='{\"dsr\":[0,32,0,0]}'><p id=\"mw1\" data-parsoid='{\"dsr\":[0,32,0,0]}'><a rel=\"mw:ExtLink\" href=\"http://a.b/c\" id=\"mw2\" data-parsoid='{\"c\":\"]\",\"dsr\":[0,16,14,1],\"o\":\"[http://a.b/c \"}'>d</a> <a rel=\"mw:ExtLink\" href=\"http://e.f/g\" id=\"mw3\" data-parsoid='{\"dsr\":[17,29,0,0]}'>http://e.f/g</a>, x</p></body>",
+    ),
+    (
+        "l'''amour'' x",
+        "<body data-parsoid='{\"dsr\":[0,13,0,0]}'><p id=\"mw1\" data-parsoid='{\"dsr\":[0,13,0,0]}'>l'<i id=\"mw2\" data-parsoid='{\"c\":\"&#39;&#39;\",\"dsr\":[2,11,2,2],\"o\":\"&#39;&#39;\"}'>amour</i> x</p></body>",
+    ),
+    (
+        "''a'''b''c'''",
+        "<body data-parsoid='{\"dsr\":[0,13,0,0]}'><p id=\"mw1\" data-parsoid='{\"dsr\":[0,13,0,0]}'><i id=\"mw2\" data-parsoid='{\"c\":\"&#39;&#39;\",\"dsr\":[0,9,2,2],\"o\":\"&#39;&#39;\"}'>a<b id=\"mw3\" data-parsoid='{\"dsr\":[3,7,3,0],\"o\":\"&#39;&#39;&#39;\"}'>b</b></i><b id=\"mw4\" data-parsoid='{\"c\":\"&#39;&#39;&#39;\",\"dsr\":[9,13,0,3]}'>c</b></p></body>",
+    ),
+    (
+        "'''''a''b'''",
+        "<body data-parsoid='{\"dsr\":[0,12,0,0]}'><p id=\"mw1\" data-parsoid='{\"dsr\":[0,12,0,0]}'><b id=\"mw2\" data-parsoid='{\"c\":\"&#39;&#39;&#39;\",\"dsr\":[0,12,3,3],\"o\":\"&#39;&#39;&#39;\"}'><i id=\"mw3\" data-parsoid='{\"c\":\"&#39;&#39;\",\"dsr\":[3,8,2,2],\"o\":\"&#39;&#39;\"}'>a</i>b</b></p></body>",
+    ),
+    (
+        "'''''a'''''",
+        "<body data-parsoid='{\"dsr\":[0,11,0,0]}'><p id=\"mw1\" data-parsoid='{\"dsr\":[0,11,0,0]}'><i id=\"mw2\" data-parsoid='{\"c\":\"&#39;&#39;\",\"dsr\":[0,11,2,2],\"o\":\"&#39;&#39;\"}'><b id=\"mw3\" data-parsoid='{\"c\":\"&#39;&#39;&#39;\",\"dsr\":[2,9,3,3],\"o\":\"&#39;&#39;&#39;\"}'>a</b></i></p></body>",
+    ),
+    (
+        "[[File:x.png|thumb]] [[Oder (river)|the ''Oder'']]",
+        "<body data-parsoid='{\"dsr\":[0,50,0,0]}'><p id=\"mw1\" data-parsoid='{\"dsr\":[0,50,0,0]}'><span typeof=\"mw:Placeholder\" id=\"mw2\" data-parsoid='{\"dsr\":[0,20,20,0],\"src\":\"[[File:x.png|thumb]]\"}'></span> <a rel=\"mw:WikiLink\" href=\"./Oder_(river)\" id=\"mw3\" data-parsoid='{\"c\":\"]]\",\"dsr\":[21,50,15,2],\"o\":\"[[Oder (river)|\"}'>the <i id=\"mw4\" data-parsoid='{\"c\":\"&#39;&#39;\",\"dsr\":[40,48,2,2],\"o\":\"&#39;&#39;\"}'>Oder</i></a></p></body>",
+    ),
+    (
+        "== '''a''' [[b|c]] ==\n<sup>[[d]]</sup>",
+        "<body data-parsoid='{\"dsr\":[0,38,0,0]}'><h2 id=\"mw1\" data-parsoid='{\"c\":\" ==\",\"dsr\":[0,21,3,3],\"o\":\"== \"}'><b id=\"mw2\" data-parsoid='{\"c\":\"&#39;&#39;&#39;\",\"dsr\":[3,10,3,3],\"o\":\"&#39;&#39;&#39;\"}'>a</b> <a rel=\"mw:WikiLink\" href=\"./B\" id=\"mw3\" data-parsoid='{\"c\":\"]]\",\"dsr\":[11,18,4,2],\"o\":\"[[b|\"}'>c</a></h2>\n<p id=\"mw4\" data-parsoid='{\"dsr\":[22,38,0,0]}'><sup id=\"mw5\" data-parsoid='{\"c\":\"&lt;/sup&gt;\",\"dsr\":[22,38,5,6],\"o\":\"&lt;sup&gt;\"}'><a rel=\"mw:WikiLink\" href=\"./D\" id=\"mw6\" data-parsoid='{\"c\":\"]]\",\"dsr\":[27,32,2,2],\"o\":\"[[\"}'>d</a></sup></p></body>",
+    ),
+];
+
 /// A page, and the listing of its numbered nodes.
-pub const RANGES: [(&str, &str); 12] = [
+pub const RANGES: [(&str, &str); 18] = [
     (
         "a\n<!-- c -->\nb",
         "mw1 p 0 14 0 0\nmw2 comment 2 13 11 0\n",
@@ -216,6 +284,30 @@ pub const RANGES: [(&str, &str); 12] = [
     (",\n== &  ==\n\n", "mw1 p 0 1 0 0\nmw2 h2 2 10 3 4\n"),
     ("\n1bé\n&nbsp;\n", "mw1 p 1 12 0 0\nmw2 entity 6 12 6 0\n"),
     (",, &#x5B;Opava", "mw1 p 0 14 0 0\nmw2 entity 3 9 6 0\n"),
+    (
+        "l'''amour'' x",
+        "mw1 p 0 13 0 0\nmw2 i 2 11 2 2\n",
+    ),
+    (
+        "''a'''b''c'''",
+        "mw1 p 0 13 0 0\nmw2 i 0 9 2 2\nmw3 b 3 7 3 0\nmw4 b 9 13 0 3\n",
+    ),
+    (
+        "'''''a''b'''",
+        "mw1 p 0 12 0 0\nmw2 b 0 12 3 3\nmw3 i 3 8 2 2\n",
+    ),
+    (
+        "'''''a'''''",
+        "mw1 p 0 11 0 0\nmw2 i 0 11 2 2\nmw3 b 2 9 3 3\n",
+    ),
+    (
+        "[[a]]s b",
+        "mw1 p 0 8 0 0\nmw2 wikilink 0 6 2 0\nmw3 skip 3 5 2 0\n",
+    ),
+    (
+        "[http://a.b/c d] http://e.f/g, x",
+        "mw1 p 0 32 0 0\nmw2 extlink 0 16 14 1\nmw3 extlink 17 29 0 0\n",
+    ),
 ];
 
 /// Bytes that aren't UTF-8, and the line that tells where.
@@ -228,26 +320,23 @@ pub const NOT_UTF8: [(&[u8], &str); 6] = [
     (b"*\xFF", "wtround: page not UTF-8 at 1\n"),
 ];
 
-/// A page that holds a form that isn't built, and the line that tells where.
-pub const NOT_BUILT: [(&str, &str); 15] = [
-    ("a*b", "wtround: not built at 1\n"),
+/// A page that holds a form that isn't built or a style without an item, and the line that tells
+/// where.
+pub const NOT_BUILT: [(&str, &str); 14] = [
+    ("a{b", "wtround: not built at 1\n"),
     (" a", "wtround: not built at 0\n"),
     ("a\n b", "wtround: not built at 2\n"),
     ("-----", "wtround: not built at 0\n"),
     ("a\n---- x", "wtround: not built at 2\n"),
-    ("x_y", "wtround: not built at 1\n"),
-    ("[[a]]", "wtround: not built at 0\n"),
     ("{{a}}", "wtround: not built at 0\n"),
-    ("<b>", "wtround: not built at 0\n"),
-    ("a <BR/>", "wtround: not built at 2\n"),
-    ("it's", "wtround: not built at 2\n"),
     ("# a", "wtround: not built at 0\n"),
     (": a", "wtround: not built at 0\n"),
+    ("[[a]]\n;b", "wtround: not built at 6\n"),
     ("a\n<!-- c --> b", "wtround: not built at 12\n"),
-    (
-        "<!-- * -->&#42;<nowiki>*</nowiki>x\u{e9}_",
-        "wtround: not built at 36\n",
-    ),
+    ("<!-- { -->&#123;<nowiki>{</nowiki>x\u{e9}{", "wtround: not built at 37\n"),
+    ("''a'''b''", "wtround: not built at 9\n"),
+    ("''a'''b''\n{", "wtround: not built at 9\n"),
+    ("{ ''a'''b''", "wtround: not built at 0\n"),
 ];
 
 /// HTML that isn't well-formed, holds an element that fits nowhere, or one without a source; and the

@@ -110,6 +110,9 @@ fn a_name_with_slashes_stays_in_the_directory(rt: HostRuntime) -> Result<(), Fai
     assert!(rt; is_absent(&below));
     let inside = folder.fetch(rt.alloc(), "A/C", 9).expect(&rt, "the page");
     assert!(rt; gives(&inside, b"inside"));
+    let (out, err) = (sink(rt.alloc()), sink(rt.alloc()));
+    let listed = ends_with(rt.alloc(), &["ranges", "A/C"], &mut folder, out, err)?;
+    assert_eq!(rt; listed.out.taken(), b"mw1 p 0 6 0 0\n".as_slice());
     assert_eq!(rt; folder.faults(), 0);
     fs::remove_dir_all(&rt, path.as_path())?;
     Ok(())

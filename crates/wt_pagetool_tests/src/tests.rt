@@ -1,4 +1,4 @@
-use crate::cases::{MARKED, NOT_BUILT, NOT_UTF8, PLAIN, RANGES, REFUSED_HTML};
+use crate::cases::{LINKED, MARKED, NOT_BUILT, NOT_UTF8, PLAIN, RANGES, REFUSED_HTML};
 use crate::running::{calls, ends, ends_with, folder_of, reads, sink, spaces, wikitext_of};
 use std::alloc::{AllocError, Global};
 use std::test::Fail;
@@ -42,6 +42,14 @@ fn goes_and_comes(alloc: Global, page: &str, body: &str) -> Result<bool, NoMemor
 #[test]
 fn pages_with_marks_go_and_come_back(rt: HostRuntime) -> Result<(), Fail> {
     for (page, body) in MARKED {
+        assert!(rt; goes_and_comes(rt.alloc(), page, body)?);
+    }
+    Ok(())
+}
+
+#[test]
+fn pages_with_links_tags_and_styles_go_and_come_back(rt: HostRuntime) -> Result<(), Fail> {
+    for (page, body) in LINKED {
         assert!(rt; goes_and_comes(rt.alloc(), page, body)?);
     }
     Ok(())

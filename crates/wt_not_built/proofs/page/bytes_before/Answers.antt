@@ -7,16 +7,9 @@ use Rattle.wt_not_built.proofs.page.bytes_before.Goals as goal
 pub loop-i-init : goal.loop-i-init
 loop-i-init c = record {
   within = omega arith;
-  rest = page_joined c.args.page.now c.as_bytes-bytes.result.now c.args.pieces.now c.as_bytes-bytes.ensures.value c.requires;
+  rest = page_joined c.args.page.now c.args.pieces.now c.requires;
   done = page_begun c.args.page.now c.args.pieces.now c.requires;
 }
-
-pub read_piece-requires : goal.read_piece-requires
-read_piece-requires c =
-    c.rest_of.ensures
-    ∙ c.loop-i.invariant.rest
-    ∙ piece_text c.args.pieces.now c.loop-i.i c.index-pieces-i.result c.loop-i-test.true c.index-pieces-i.is
-    ∙ ap (λ ps. bytes_of c.index-pieces-i.result.text ++ sources (items ps)) (sym c.rest_of-in-loop-i.ensures)
 
 pub loop-i-preserved : goal.loop-i-preserved
 loop-i-preserved c =
@@ -24,13 +17,13 @@ loop-i-preserved c =
     let piece = c.index-pieces-i.result in
     let others = items (drop (c.loop-i.i + 1) c.args.pieces.now) in
     let own = c.as_str.result.now in
-    let cut : drop c.loop-i.at c.as_bytes-bytes.result.now ≡ own ++ sources others =
+    let cut : drop c.loop-i.at c.args.page.now ≡ own ++ sources others =
     before.rest ∙ piece_text c.args.pieces.now c.loop-i.i piece c.loop-i-test.true c.index-pieces-i.is ∙ ap (λ q. q ++ sources others) (sym c.as_str.ensures) in
     record {
-      within = cut_fits c.as_bytes-bytes.result.now own others c.loop-i.at before.within cut;
-      rest = cut_rest c.as_bytes-bytes.result.now own others c.loop-i.at cut;
+      within = cut_fits c.args.page.now own others c.loop-i.at before.within cut;
+      rest = cut_rest c.args.page.now own others c.loop-i.at cut;
       done = read_on c.loop-i.is_front c.in-Passed.next c.loop-i.at own (bytes_of piece.text) _
-          (items (drop c.loop-i.i c.args.pieces.now)) (items_of piece) others (items c.rest_of-in-loop-i.result.now) c.read_piece.result
+          (items (drop c.loop-i.i c.args.pieces.now)) (items_of piece) others (items c.rest_of.result.now) c.read_piece.result
           before.done (piece_first c.args.pieces.now c.loop-i.i piece c.loop-i-test.true c.index-pieces-i.is)
-          (ap items c.rest_of-in-loop-i.ensures) c.as_str.ensures c.in-Passed.is c.read_piece.ensures.found;
+          (ap items c.rest_of.ensures) c.as_str.ensures c.in-Passed.is c.read_piece.ensures.found;
     }

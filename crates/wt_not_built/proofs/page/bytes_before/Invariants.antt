@@ -7,7 +7,7 @@ use Rattle.wt_not_built.proofs.page.bytes_before.Given as goal
 
 abbrev pub invariant-loop-i : goal.invariant-loop-i
 invariant-loop-i l = record {
-  within : l.at ≤ length l.bytes;
-  rest : drop l.at l.bytes ≡ sources (items (drop l.i l.pieces));
+  within : l.at ≤ length l.page;
+  rest : drop l.at l.page ≡ sources (items (drop l.i l.pieces));
   done : first_from true (page_items l.page) ≡ option_map (λ n. l.at + n) (first_from l.is_front (items (drop l.i l.pieces)));
 }
