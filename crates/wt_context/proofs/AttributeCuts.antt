@@ -1,19 +1,18 @@
 -- Where the items of a key and of attributes may be cut.
-use Rattle.std.proofs.Common.{◌≡◌, ℕ, zero, suc, ◌+◌, ◌-◌, ◌<◌, ◌≤◌, ◌==◌, ◌⊎◌, Bool, true, false, Option, Some, None, List, [], ◌∷◌, length, map, take, drop, refl, sym, ap, ◌∙◌, subst, cond, arith, inl, inr}
-use Rattle.std.specs.Prelude.{codes, if◌then◌else◌, not}
-use Rattle.std.specs.List.{prefix_len}
+use Rattle.std.proofs.Common.{◌≡◌, ℕ, zero, suc, ◌+◌, ◌<◌, ◌==◌, ◌⊎◌, Bool, true, false, Option, Some, None, List, [], ◌∷◌, length, map, drop, refl, sym, ap, ◌∙◌, subst, cond, arith, inl, inr}
+use Rattle.std.specs.Prelude.{codes, if◌then◌else◌}
 use Rattle.std.proofs.Math.Numerals.{one-add}
 use Rattle.std.proofs.lemmas.Bool.Decides.{nat_tests}
 use Rattle.std.proofs.lemmas.List.{drop-map}
 use Rattle.wt_span.specs.declared.form.Piece.{Piece}
 use Rattle.wt_span.specs.Tags.{is_tag_byte}
-use Rattle.wt_span.specs.Items.{Item, items}
+use Rattle.wt_span.specs.Items.{items}
 use Rattle.wt_tiles.specs.declared.glyph.Glyph.{Glyph}
 use Rattle.wt_tiles.specs.declared.glyph.Glyph.TheVariants as glyph
 use Rattle.wt_tiles.specs.declared.glyph.Class.TheVariants as class
-use Rattle.wt_tiles.specs.Glyphs.{glyph_of, in_class, is_tag_glyph, run_len, begins}
+use Rattle.wt_tiles.specs.Glyphs.{glyph_of, is_tag_glyph, run_len, begins}
 use Rattle.wt_tiles.specs.Tags.{name_len}
-use Rattle.wt_tiles.specs.Links.{place, has_pipe, to_close}
+use Rattle.wt_tiles.specs.Links.{has_pipe, to_close}
 use Rattle.wt_tiles.specs.Edges.{is_low, low_at, IsEdge}
 use Rattle.wt_tiles.proofs.Words.{first_low, low_drop, run_low, begins_low, edge_after, edge_at}
 use Rattle.wt_tiles.proofs.LinkFits.{OptPlace, place_fits}
@@ -38,7 +37,8 @@ close_by gs (Some n) k e f =
     same a b i = cc
 
 pub close_edge : (gs hs : List Glyph) (k : ℕ) → hs ≡ gs → to_close gs ≡ Some k → IsEdge hs k
-close_edge gs hs k e h = edge_at hs k k refl (ap (λ ks. low_at ks k) e ∙ close_by gs (to_close gs) k h (place_fits (begins (codes "]]")) (begins (codes "[[")) gs))
+close_edge gs hs k e h = edge_at hs k k refl (ap (λ ks. low_at ks k) e ∙ close_by gs (to_close gs) k h (place_fits (begins (codes "]]"))
+    (begins (codes "[[")) gs))
 
 -- behind the name of a tag
 end_is : (gs : List Glyph) → name_end gs ≡ (if name_len (drop 1 gs) == 0 then 0 else 1 + name_len (drop 1 gs))
@@ -103,5 +103,6 @@ tag_edge gs hs k e i =
 pub same_glyphs : (ps qs : List Piece) (gs : List Glyph) → ps ≡ qs → gs ≡ map glyph_of (items qs) → map glyph_of (items ps) ≡ gs
 same_glyphs ps qs gs e i = ap (λ rs. map glyph_of (items rs)) e ∙ sym i
 
-pub later_glyphs : (ps qs rs : List Piece) (gs hs : List Glyph) (n : ℕ) → items rs ≡ drop n (items ps) → ps ≡ qs → gs ≡ map glyph_of (items qs) → hs ≡ drop n gs → map glyph_of (items rs) ≡ hs
+pub later_glyphs : (ps qs rs : List Piece) (gs hs : List Glyph) (n : ℕ) → items rs ≡ drop n (items ps) → ps ≡ qs → gs ≡ map glyph_of (items qs)
+    → hs ≡ drop n gs → map glyph_of (items rs) ≡ hs
 later_glyphs ps qs rs gs hs n e f i h = ap (map glyph_of) e ∙ sym (drop-map glyph_of n (items ps)) ∙ ap (drop n) (same_glyphs ps qs gs f i) ∙ sym h

@@ -1,5 +1,5 @@
 -- Worked cases of the inside of a line, each computed.
-use Rattle.std.proofs.Common.{◌≡◌, ℕ, None, Some, List, [], ◌∷◌, ◌++◌, map, refl}
+use Rattle.std.proofs.Common.{◌≡◌, ℕ, None, List, [], ◌∷◌, ◌++◌, map, refl}
 use Rattle.std.specs.Prelude.{codes}
 use Rattle.std.specs.Str.{is_utf8, chars as chars_of}
 use Rattle.wt_tree.specs.declared.kind.Kind.{Kind}
@@ -24,7 +24,7 @@ use Rattle.wt_tiles.specs.Partners.{bracket_turn}
 use Rattle.wt_tiles.specs.Links.{target_of, link_in, link_at}
 use Rattle.wt_tiles.specs.Urls.{scheme_len, is_url_char, is_dropped, kept_len, ext_link_at, bare_url_at}
 use Rattle.wt_tiles.specs.Tiles.{tag_tile, switch_names as switch_words, switch_at, link_or_url, form_at, closed, shapes, tiles}
-use Rattle.wt_inline.specs.ItemTree.{ItemTree, plain, leaf, inner, forest}
+use Rattle.wt_inline.specs.ItemTree.{ItemTree, plain, inner, forest}
 use Rattle.wt_inline.specs.Parts.{loose_leaf, form_leaf, children, nowiki}
 use Rattle.wt_inline.specs.Carried.{placeholder_typeof}
 use Rattle.wt_inline.specs.declared.loose.Loose.TheVariants.{Text}
@@ -70,7 +70,8 @@ three = codes "'''"
 
 -- letters behind a link join it, and its close delimiter is then a node
 link_with_trail : read (codes "[[a|b]]s c")
-    ≡ linked kind.WikiLink (codes "./A") (codes "[[a|") (text (codes "b") ∷ round kind.Skip (codes "]]") ([]) [] ∷ text (codes "s") ∷ []) [] ∷ text (codes " c") ∷ []
+    ≡ linked kind.WikiLink (codes "./A") (codes "[[a|") (text (codes "b") ∷ round kind.Skip (codes "]]") ([]) [] ∷ text (codes "s") ∷ []) [] ∷
+    text (codes " c") ∷ []
 unfolding context_parts line_trees segments bare_url nested_tree placeholder target_size target link_head key_after key category_head ext_link_head
     bare_url_head name_end attribute_items pair_head switch_names switch_property switch_head with_styles chunks loose_segments children nowiki
     placeholder_typeof style_tree_of turn_at is_bold_outside_at effect_on bold_ends_later next since toggles_of toggle_at place_of attributes
@@ -196,7 +197,8 @@ pair = refl
 
 -- the attributes of a span, in the order in which they are written
 span : read (codes "<span lang=en class=\"x\">a</span>")
-    ≡ with_attrs (kind.Tag tag.Span) ((attr.Class, codes "x") ∷ (attr.Lang, codes "en") ∷ []) (codes "<span lang=en class=\"x\">") (text (codes "a") ∷ []) (codes "</span>") ∷ []
+    ≡ with_attrs (kind.Tag tag.Span) ((attr.Class, codes "x") ∷ (attr.Lang, codes "en") ∷ []) (codes "<span lang=en class=\"x\">") (text (codes "a") ∷ [])
+    (codes "</span>") ∷ []
 unfolding context_parts line_trees segments bare_url nested_tree placeholder target_size target link_head key_after key category_head ext_link_head
     bare_url_head name_end attribute_items pair_head switch_names switch_property switch_head with_styles chunks loose_segments children nowiki
     placeholder_typeof style_tree_of turn_at is_bold_outside_at effect_on bold_ends_later next since toggles_of toggle_at place_of attributes
@@ -252,7 +254,8 @@ line_break = refl
 
 -- a pair in the text of a link, but no link there
 pair_in_link : read (codes "[[a|<s>http://b</s>]]")
-    ≡ linked kind.WikiLink (codes "./A") (codes "[[a|") (round (kind.Tag tag.S) (codes "<s>") (text (codes "http://b") ∷ []) (codes "</s>") ∷ []) (codes "]]") ∷ []
+    ≡ linked kind.WikiLink (codes "./A")
+    (codes "[[a|") (round (kind.Tag tag.S) (codes "<s>") (text (codes "http://b") ∷ []) (codes "</s>") ∷ []) (codes "]]") ∷ []
 unfolding context_parts line_trees segments bare_url nested_tree placeholder target_size target link_head key_after key category_head ext_link_head
     bare_url_head name_end attribute_items pair_head switch_names switch_property switch_head with_styles chunks loose_segments children nowiki
     placeholder_typeof style_tree_of turn_at is_bold_outside_at effect_on bold_ends_later next since toggles_of toggle_at place_of attributes
@@ -518,7 +521,9 @@ nowiki_in_apostrophes = refl
 
 -- an apostrophe behind a mark is the last item before the run, and the space before the mark the one before it
 letter_behind_mark : line_trees (page (codes "k'''m '") ++ ((whole form.Comment None (codes "<!--c-->") ∷ []) ++ page (codes "'''n'''o''")))
-    ≡ text (codes "k") ∷ bold three (text (codes "m '") ∷ form_leaf form.Comment None (codes "<!--c-->") ∷ text (codes "'") ∷ italic two (text (codes "n") ∷ []) [] ∷ []) three ∷ italic [] (text (codes "o") ∷ []) two ∷ []
+    ≡ text (codes "k") ∷ bold three
+    (text (codes "m '") ∷ form_leaf form.Comment None (codes "<!--c-->") ∷ text (codes "'") ∷ italic two (text (codes "n") ∷ []) [] ∷ []) three ∷
+    italic [] (text (codes "o") ∷ []) two ∷ []
 unfolding context_parts line_trees segments bare_url nested_tree placeholder target_size target link_head key_after key category_head ext_link_head
     bare_url_head name_end attribute_items pair_head switch_names switch_property switch_head with_styles chunks loose_segments children nowiki
     placeholder_typeof style_tree_of turn_at is_bold_outside_at effect_on bold_ends_later next since toggles_of toggle_at place_of attributes

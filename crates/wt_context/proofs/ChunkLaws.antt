@@ -1,11 +1,10 @@
 -- The chunks of segments: as they are carried, and as they are defined.
-use Rattle.std.proofs.Common.{◌≡◌, ℕ, zero, suc, ◌+◌, ◌-◌, ◌<◌, ◌≤◌, Bool, true, false, Option, Some, None, List, [], ◌∷◌, ◌++◌, length, take, drop, map, reverse, refl, sym, ap, ◌∙◌, subst, arith, append_assoc, append-nil, length-append}
-use Rattle.std.specs.Prelude.{◌&&◌, ◌==◌, not, filter, nat_le, slice_get, if◌then◌else◌}
+use Rattle.std.proofs.Common.{◌≡◌, ℕ, suc, ◌+◌, ◌<◌, ◌≤◌, Bool, true, false, Some, None, List, [], ◌∷◌, ◌++◌, length, reverse, refl, sym, ap, ◌∙◌, arith, append_assoc, append-nil, length-append}
+use Rattle.std.specs.Prelude.{◌&&◌, not, nat_le, slice_get, if◌then◌else◌}
 use Rattle.std.specs.List.{flat_map, list_all, AllByRecursion}
 use Rattle.std.proofs.lemmas.Bool.Decides.{nat_tests}
 use Rattle.std.proofs.lemmas.List.{reverse-append}
 use Rattle.std.proofs.lemmas.List.Elements.{filter-append}
-use Rattle.std.proofs.lemmas.Grind.{flat_map-append}
 use Rattle.wt_span.specs.Items.{Item, char, whole, is_mark}
 use Rattle.wt_span.specs.Runs.{runs, IsRun, AreRuns}
 use Rattle.wt_span.proofs.RunLaws.{runs_cut, runs_alone, runs_are, runs_joined}
@@ -90,7 +89,8 @@ flush_open xs (q ∷ []) gs next e p h =
     let o = and_left q.quote true e in
     let y = p.0 o in
     let one : segment_items (q ∷ []) ≡ y.0 ∷ [] = append-nil q.items ∙ y.1 in
-    let z : seen_of (xs ++ segment_items (q ∷ [])) ≡ seen_letter (seen_of xs) (Some 39) = ap (λ zs. seen_of (xs ++ zs)) one ∙ sym (seen_more xs (y.0 ∷ [])) ∙ quote_seen (seen_of xs) y.0 y.2 in
+    let z : seen_of (xs ++ segment_items (q ∷ [])) ≡ seen_letter (seen_of xs) (Some 39) = ap (λ zs. seen_of (xs ++ zs)) one ∙ sym (seen_more xs (y.0 ∷ []))
+    ∙ quote_seen (seen_of xs) y.0 y.2 in
     let r : is_run (q ∷ []) ≡ false = rw o refl in
     rw r (ap (λ cs. other (seen_of (xs ++ segment_items (q ∷ []))) ∷ cs) (h (xs ++ segment_items (q ∷ []))) ∙ ap (λ t. other t ∷ next t) z)
 flush_open xs (q ∷ r ∷ qs) gs next e p h =
@@ -102,7 +102,8 @@ flush_open xs (q ∷ r ∷ qs) gs next e p h =
 
 -- what follows segments of which all are read by what was seen
 abbrev AreRead : List Segment → Type 0
-AreRead us = (ys : List Item) (ps : List Segment) → are_open ps ≡ true → AreProper ps → chunks_since ys (runs both_quotes (ps ++ us)) ≡ chunks_after (seen_of ys) (length ps) us
+AreRead us = (ys : List Item) (ps : List Segment) → are_open ps ≡ true → AreProper ps
+    → chunks_since ys (runs both_quotes (ps ++ us)) ≡ chunks_after (seen_of ys) (length ps) us
 
 pub proper_both : (ps qs : List Segment) → AreProper ps → AreProper qs → AreProper (ps ++ qs)
 proper_both [] qs a b = b
@@ -114,14 +115,16 @@ all_one ps u e f = all_both (λ v. v.quote) ps (u ∷ []) e (and_both u.quote tr
 quote_step : (s : Seen) (n : ℕ) (u : Segment) (us : List Segment) → u.quote ≡ true → chunks_after s (suc n) us ≡ chunks_after s n (u ∷ us)
 quote_step s n u us e = rw e refl
 
-other_step : (s : Seen) (n : ℕ) (u : Segment) (us : List Segment) → u.quote ≡ false → flushed s n (λ t. other (after_items t u.items) ∷ chunks_after (after_items t u.items) 0 us) ≡ chunks_after s n (u ∷ us)
+other_step : (s : Seen) (n : ℕ) (u : Segment) (us : List Segment) → u.quote ≡ false
+    → flushed s n (λ t. other (after_items t u.items) ∷ chunks_after (after_items t u.items) 0 us) ≡ chunks_after s n (u ∷ us)
 other_step s n u us e = rw e refl
 
 no_left : (a b : Bool) → a ≡ false → (a && b) ≡ false
 no_left true b e = cc
 no_left false b e = refl
 
-since_other : (ys : List Item) (u : Segment) (gs : List (List Segment)) → u.quote ≡ false → chunks_since ys ((u ∷ []) ∷ gs) ≡ other (seen_of (ys ++ segment_items (u ∷ []))) ∷ chunks_since (ys ++ segment_items (u ∷ [])) gs
+since_other : (ys : List Item) (u : Segment) (gs : List (List Segment)) → u.quote ≡ false
+    → chunks_since ys ((u ∷ []) ∷ gs) ≡ other (seen_of (ys ++ segment_items (u ∷ []))) ∷ chunks_since (ys ++ segment_items (u ∷ [])) gs
 since_other ys u gs e = let r : is_run (u ∷ []) ≡ false = no_left u.quote (nat_le 2 (length (u ∷ []))) e in rw r refl
 
 read_by : (xs : List Item) (qs us : List Segment) (u : Segment) (v : Bool) → u.quote ≡ v → are_open qs ≡ true → AreProper qs → IsProper u → AreRead us
@@ -136,11 +139,14 @@ read_by xs qs us u false q e p h rest =
     let one : (ys : List Item) → ys ++ segment_items (u ∷ []) ≡ ys ++ u.items = λ ys. ap (λ zs. ys ++ zs) (append-nil u.items) in
     ap (chunks_since xs) (other_runs qs us u q)
     ∙ flush_open xs qs ((u ∷ []) ∷ runs both_quotes us) next e p
-    (λ ys. since_other ys u (runs both_quotes us) q ∙ (ap (λ cs. other (seen_of (ys ++ segment_items (u ∷ []))) ∷ cs) (rest (ys ++ segment_items (u ∷ [])) [] refl tt) ∙ ap (λ t. other t ∷ chunks_after t 0 us) (ap seen_of (one ys) ∙ sym (seen_more ys u.items))))
+    (λ ys. since_other ys u (runs both_quotes us) q
+    ∙ (ap (λ cs. other (seen_of (ys ++ segment_items (u ∷ []))) ∷ cs) (rest (ys ++ segment_items (u ∷ [])) [] refl tt)
+    ∙ ap (λ t. other t ∷ chunks_after t 0 us) (ap seen_of (one ys) ∙ sym (seen_more ys u.items))))
     ∙ other_step (seen_of xs) (length qs) u us q
 
 pub read_all : (us : List Segment) → AreProper us → AreRead us
-read_all [] h ys ps e p = ap (λ ws. chunks_since ys (runs both_quotes ws)) (append-nil ps) ∙ ap (chunks_since ys) (sym (append-nil (runs both_quotes ps))) ∙ flush_open ys ps [] (λ t. []) e p (λ zs. refl)
+read_all [] h ys ps e p = ap (λ ws. chunks_since ys (runs both_quotes ws)) (append-nil ps) ∙ ap (chunks_since ys) (sym (append-nil (runs both_quotes ps)))
+    ∙ flush_open ys ps [] (λ t. []) e p (λ zs. refl)
 read_all (u ∷ us) h ys ps e p = read_by ys ps us u u.quote refl e p h.0 (read_all us h.1)
 
 pub chunks_are : (us : List Segment) → AreProper us → chunks us ≡ chunks_after nothing_seen 0 us
@@ -152,7 +158,8 @@ chunks_are us h = read_all us h [] [] refl tt
 abbrev all_of : List (List Segment) → List Segment
 all_of gs = flat_map (λ g. g) gs
 
-bytes_by : (xs : List Item) (us : List Segment) (rest : List (List Segment)) (v : Bool) → is_run us ≡ v → ((ys : List Item) → bytes_of (chunks_since ys rest) ≡ length (all_of rest))
+bytes_by : (xs : List Item) (us : List Segment) (rest : List (List Segment)) (v : Bool) → is_run us ≡ v
+    → ((ys : List Item) → bytes_of (chunks_since ys rest) ≡ length (all_of rest))
     → bytes_of (chunks_since xs (us ∷ rest)) ≡ length us + length (all_of rest)
 bytes_by xs us rest true e h = rw e (ap (λ n. length us + n) (h []))
 bytes_by xs us rest false e h = rw e (ap (λ n. length us + n) (h (xs ++ segment_items us)))
@@ -165,7 +172,8 @@ pub chunk_bytes_are : (us : List Segment) → bytes_of (chunks us) ≡ length us
 unfolding chunks
 chunk_bytes_are us = bytes_since [] (runs both_quotes us) ∙ ap length (runs_joined both_quotes us)
 
-count_by : (xs : List Item) (us : List Segment) (rest : List (List Segment)) (v : Bool) → is_run us ≡ v → ((ys : List Item) → length (chunks_since ys rest) ≡ length rest) → length (chunks_since xs (us ∷ rest)) ≡ suc (length rest)
+count_by : (xs : List Item) (us : List Segment) (rest : List (List Segment)) (v : Bool) → is_run us ≡ v
+    → ((ys : List Item) → length (chunks_since ys rest) ≡ length rest) → length (chunks_since xs (us ∷ rest)) ≡ suc (length rest)
 count_by xs us rest true e h = rw e (ap suc (h []))
 count_by xs us rest false e h = rw e (ap suc (h (xs ++ segment_items us)))
 
@@ -204,8 +212,10 @@ not_run false q h e = refl
 apart_both : (a b c : Bool) → (a && b) ≡ false → c ≡ true → (not (a && b) && c) ≡ true
 apart_both a b c e f = rw (e, f) refl
 
-apart_by : (c : Chunk) (xs : List Item) (u : Segment) (r : List Segment) (rest : List (List Segment)) (v : Bool) → is_run (u ∷ r) ≡ v → (is_run_chunk c ≡ true → u.quote ≡ false)
-    → ((d : Chunk) (ys : List Item) → (is_run_chunk d ≡ true → v ≡ true) → are_apart (d ∷ chunks_since ys rest) ≡ true) → are_apart (c ∷ chunks_since xs ((u ∷ r) ∷ rest)) ≡ true
+apart_by : (c : Chunk) (xs : List Item) (u : Segment) (r : List Segment) (rest : List (List Segment)) (v : Bool) → is_run (u ∷ r) ≡ v
+    → (is_run_chunk c ≡ true → u.quote ≡ false)
+    → ((d : Chunk) (ys : List Item) → (is_run_chunk d ≡ true → v ≡ true) → are_apart (d ∷ chunks_since ys rest) ≡ true)
+    → are_apart (c ∷ chunks_since xs ((u ∷ r) ∷ rest)) ≡ true
 apart_by c xs u r rest true e h next =
     let n : is_run_chunk c ≡ false = not_run (is_run_chunk c) u.quote h (and_left u.quote (nat_le 2 (length (u ∷ r))) e) in
     rw (e, n) (next (chunk.Run (length (u ∷ r))) [] (λ k. refl))
@@ -214,7 +224,8 @@ apart_by c xs u r rest false e h next =
     let d = other_chunk (length (u ∷ r)) ys in
     rw e (apart_both (is_run_chunk c) false (are_apart (d ∷ chunks_since ys rest)) (no_right (is_run_chunk c) false refl) (next d ys (λ k. k)))
 
-apart_after : (c : Chunk) (xs : List Item) (gs : List (List Segment)) (us : List Segment) → AreRuns both_quotes gs us → (is_run_chunk c ≡ true → begins_with_quote us ≡ false) → are_apart (c ∷ chunks_since xs gs) ≡ true
+apart_after : (c : Chunk) (xs : List Item) (gs : List (List Segment)) (us : List Segment) → AreRuns both_quotes gs us
+    → (is_run_chunk c ≡ true → begins_with_quote us ≡ false) → are_apart (c ∷ chunks_since xs gs) ≡ true
 apart_after c xs [] us h f = refl
 apart_after c xs ([] ∷ gs) us h f = absurd h.2
 apart_after c xs ((u ∷ r) ∷ gs) us h f =
@@ -227,4 +238,5 @@ tail_apart c (d ∷ cs) e = and_right (not (is_run_chunk c && is_run_chunk d)) (
 
 pub chunks_apart : (us : List Segment) → are_apart (chunks us) ≡ true
 unfolding chunks
-chunks_apart us = tail_apart (chunk.Text 0 None None) (chunks_since [] (runs both_quotes us)) (apart_after (chunk.Text 0 None None) [] (runs both_quotes us) us (runs_are both_quotes us) (λ e. cc))
+chunks_apart us = tail_apart (chunk.Text 0 None None) (chunks_since [] (runs both_quotes us))
+    (apart_after (chunk.Text 0 None None) [] (runs both_quotes us) us (runs_are both_quotes us) (λ e. cc))

@@ -1,5 +1,5 @@
 -- What a forest of styles says of each place, and what its styles say of it together.
-use Rattle.std.proofs.Common.{◌≡◌, ℕ, zero, suc, ◌+◌, ◌-◌, ◌<◌, ◌≤◌, ◌⊎◌, inl, inr, Bool, true, false, Option, Some, None, List, [], ◌∷◌, ◌++◌, refl, sym, ap, ◌∙◌, subst, arith}
+use Rattle.std.proofs.Common.{◌≡◌, ℕ, ◌+◌, ◌-◌, ◌<◌, ◌≤◌, ◌⊎◌, inl, inr, Bool, true, false, Option, Some, None, List, ◌++◌, refl, sym, ap, ◌∙◌, subst, arith}
 use Rattle.std.specs.Prelude.{◌&&◌, ◌||◌, ◌%◌, ◌==◌, nat_lt, nat_le, count_by, if◌then◌else◌}
 use Rattle.std.proofs.lemmas.Bool.{cases_lt}
 use Rattle.std.proofs.lemmas.Bool.Decides.{nat_tests}
@@ -65,11 +65,13 @@ delim_open s p h k = grind (arith, nat_tests)
 delim_close : (s : Style) (p : ℕ) → s.close_w ≤ s.to → s.to - s.close_w ≤ p → p < s.to → delimits p s ≡ true
 delim_close s p c h k = grind (arith, nat_tests)
 
-between_out : (s : Style) (p : ℕ) → s.close_w ≤ s.to → Outside (s.from + s.open_w) (s.to - s.close_w) p → (nat_le (s.from + s.open_w) p && nat_lt (p + s.close_w) s.to) ≡ false
+between_out : (s : Style) (p : ℕ) → s.close_w ≤ s.to → Outside (s.from + s.open_w) (s.to - s.close_w) p
+    → (nat_le (s.from + s.open_w) p && nat_lt (p + s.close_w) s.to) ≡ false
 between_out s p c (inl h) = grind (arith, nat_tests)
 between_out s p c (inr h) = grind (arith, nat_tests)
 
-between_in : (s : Style) (p : ℕ) → s.close_w ≤ s.to → s.from + s.open_w ≤ p → p < s.to - s.close_w → (nat_le (s.from + s.open_w) p && nat_lt (p + s.close_w) s.to) ≡ true
+between_in : (s : Style) (p : ℕ) → s.close_w ≤ s.to → s.from + s.open_w ≤ p → p < s.to - s.close_w
+    → (nat_le (s.from + s.open_w) p && nat_lt (p + s.close_w) s.to) ≡ true
 between_in s p c h k = grind (arith, nat_tests)
 
 and_none : (a b : Bool) → b ≡ false → (a && b) ≡ false
@@ -149,7 +151,8 @@ pub in_closing : (kind now : Bool) (s : Style) (f g : Forest) (p : ℕ) → s.fr
 in_closing kind now s f g p l h k =
     rw (lt_no p s.from (omega (arith, l, h)), lt_no p (s.from + s.open_w) (omega (arith, l, h)), lt_no p (s.to - s.close_w) h, lt_yes p s.to k) refl
 
-pub in_back : (kind now : Bool) (s : Style) (f g : Forest) (p : ℕ) → s.from + s.open_w ≤ s.to - s.close_w → s.to ≤ p → place_in kind now (grown s f g) p ≡ place_in kind now g p
+pub in_back : (kind now : Bool) (s : Style) (f g : Forest) (p : ℕ) → s.from + s.open_w ≤ s.to - s.close_w → s.to ≤ p
+    → place_in kind now (grown s f g) p ≡ place_in kind now g p
 in_back kind now s f g p l h =
     rw
     (lt_no p s.from (omega (arith, l, h)), lt_no p (s.from + s.open_w) (omega (arith, l, h)), lt_no p (s.to - s.close_w) (omega (arith, h)), lt_no p s.to h)
@@ -169,7 +172,8 @@ told_front kind now s f g p high within closes rest h =
     let e = ap one (hold_out kind s p closes (inl (omega (arith, h)))) in
     let Is : Option Bool → Type 0 = λ o. Tells now (delims p (grown s f g)) (holders kind p (grown s f g)) o in
     subst Is (sym (in_front kind now s f g p h))
-    (tells_plain now (delims p (grown s f g)) (holders kind p (grown s f g)) (omega (arith, delims_of p s f g, d, i.0, j.0)) (omega (arith, holders_of kind p s f g, e, i.1, j.1)))
+    (tells_plain now (delims p (grown s f g)) (holders kind p (grown s f g)) (omega (arith, delims_of p s f g, d, i.0, j.0))
+    (omega (arith, holders_of kind p s f g, e, i.1, j.1)))
 
 told_opening : (kind now : Bool) (s : Style) (f g : Forest) (p high : ℕ) → Fill (s.from + s.open_w) (s.to - s.close_w) f → s.close_w ≤ s.to → Fill s.to high g
     → s.from ≤ p → p < s.from + s.open_w → IsTold kind now p (grown s f g)
@@ -219,7 +223,8 @@ Sides p n = (p < n) ⊎ (n ≤ p)
 
 told_by : (kind now : Bool) (s : Style) (f g : Forest) (p high : ℕ) → Sides p s.from → Sides p (s.from + s.open_w) → Sides p (s.to - s.close_w) → Sides p s.to
     → Fill (s.from + s.open_w) (s.to - s.close_w) f → s.close_w ≤ s.to → Fill s.to high g
-    → (s.from + s.open_w ≤ p → p < s.to - s.close_w → IsTold kind (now || is_kind kind s.bold) p f) → (s.to ≤ p → IsTold kind now p g) → IsTold kind now p (grown s f g)
+    → (s.from + s.open_w ≤ p → p < s.to - s.close_w → IsTold kind (now || is_kind kind s.bold) p f) → (s.to ≤ p → IsTold kind now p g)
+    → IsTold kind now p (grown s f g)
 told_by kind now s f g p high (inl h) u v w within closes rest ins aft = told_front kind now s f g p high within closes rest h
 told_by kind now s f g p high (inr h) (inl k) v w within closes rest ins aft = told_opening kind now s f g p high within closes rest h k
 told_by kind now s f g p high (inr h) (inr k) (inl i) w within closes rest ins aft = told_inside kind now s f g p high closes rest (ins k i) k i

@@ -1,5 +1,5 @@
 -- Forests of styles: those that lie in a style are the first of the list, as many as do.
-use Rattle.std.proofs.Common.{◌≡◌, ℕ, zero, suc, ◌+◌, ◌-◌, ◌≤◌, Bool, true, false, List, [], ◌∷◌, take, drop, refl, sym, ap, ◌∙◌, cond, arith}
+use Rattle.std.proofs.Common.{◌≡◌, ℕ, ◌+◌, ◌-◌, ◌≤◌, Bool, true, false, List, [], ◌∷◌, take, drop, refl, sym, ap, ◌∙◌, cond, arith}
 use Rattle.std.specs.Prelude.{if◌then◌else◌}
 use Rattle.std.specs.List.{prefix_len}
 use Rattle.std.proofs.Math.Numerals.{one-add}
@@ -32,7 +32,8 @@ inside_inside : (s u : Style) (f : Forest) → lies_in u s ≡ true → inside_o
 inside_inside s u bare e = refl
 inside_inside s u (grown v f g) e = inside_inside_by s u v f g (lies_in v s) e refl (inside_inside s u g e)
 
-past_inside_by : (s u v : Style) (f g : Forest) (t w : Bool) → lies_in u s ≡ true → lies_in v s ≡ t → lies_in v u ≡ w → past u (inside_of s g) ≡ inside_of s (past u g)
+past_inside_by : (s u v : Style) (f g : Forest) (t w : Bool) → lies_in u s ≡ true → lies_in v s ≡ t → lies_in v u ≡ w
+    → past u (inside_of s g) ≡ inside_of s (past u g)
     → past u (if t then grown v f (inside_of s g) else bare) ≡ inside_of s (if w then past u g else grown v f g)
 past_inside_by s u v f g true true e h k i = rw k i
 past_inside_by s u v f g true false e h k i = rw (k, h) refl
@@ -43,7 +44,8 @@ past_inside : (s u : Style) (f : Forest) → lies_in u s ≡ true → past u (in
 past_inside s u bare e = refl
 past_inside s u (grown v f g) e = past_inside_by s u v f g (lies_in v s) (lies_in v u) e refl refl (past_inside s u g e)
 
-past_past_by : (s u v : Style) (f g : Forest) (t : Bool) → lies_in u s ≡ true → lies_in v u ≡ t → past s (past u g) ≡ past s g → past s (if t then past u g else grown v f g) ≡ past s (grown v f g)
+past_past_by : (s u v : Style) (f g : Forest) (t : Bool) → lies_in u s ≡ true → lies_in v u ≡ t → past s (past u g) ≡ past s g
+    → past s (if t then past u g else grown v f g) ≡ past s (grown v f g)
 past_past_by s u v f g true e h i = let d = deeper s u v e h in rw d i
 past_past_by s u v f g false e h i = refl
 
@@ -70,7 +72,8 @@ inside_taken s [] = refl
 inside_taken s (u ∷ ss) = inside_by s u ss (lies_in u s) refl (inside_taken s ss)
 
 past_by : (s u : Style) (ss : List Style) (v : Bool) → lies_in u s ≡ v → past s (forest_of ss) ≡ forest_of (drop (inner s ss) ss)
-    → (if v then past s (past u (forest_of ss)) else grown u (inside_of u (forest_of ss)) (past u (forest_of ss))) ≡ forest_of (drop (cond v (1 + inner s ss) 0) (u ∷ ss))
+    → (if v then past s (past u (forest_of ss)) else grown u (inside_of u (forest_of ss)) (past u (forest_of ss)))
+    ≡ forest_of (drop (cond v (1 + inner s ss) 0) (u ∷ ss))
 past_by s u ss false e h = refl
 past_by s u ss true e h = rw one-add (past_past s u (forest_of ss) e ∙ h)
 

@@ -1,5 +1,5 @@
 -- What is read of a context holds its items.
-use Rattle.std.proofs.Common.{◌≡◌, ℕ, zero, suc, ◌+◌, ◌-◌, ◌≤◌, Option, Some, None, List, [], ◌∷◌, ◌++◌, length, take, drop, map, refl, sym, ap, ◌∙◌, subst, arith, append-nil, drop-drop}
+use Rattle.std.proofs.Common.{◌≡◌, ℕ, zero, suc, ◌+◌, ◌-◌, ◌≤◌, Option, Some, None, List, [], ◌∷◌, ◌++◌, length, take, drop, map, refl, sym, ap, ◌∙◌, arith, append-nil, drop-drop}
 use Rattle.std.specs.List.{flat_map, AllByRecursion}
 use Rattle.std.proofs.Math.Seq.{take-add}
 use Rattle.std.proofs.lemmas.List.{take_all}
@@ -19,9 +19,9 @@ use Rattle.wt_tiles.proofs.Joining.{tiles_join}
 use Rattle.wt_inline.specs.declared.loose.Loose.TheVariants.{Text}
 use Rattle.wt_inline.specs.Inside.{opened_all}
 use Rattle.wt_inline.specs.ItemTree.{ItemTree, plain, held, forest, held_by_all}
-use Rattle.wt_inline.specs.Parts.{Part, node, held_parts, parts, children}
+use Rattle.wt_inline.specs.Parts.{Part, node, held_parts}
 use Rattle.wt_inline.proofs.HeldLaws.{held_children, held_append, opened_append, sources_opened}
-use Rattle.wt_context.specs.Segments.{Segment, one_stretch, loose_segment, loose_segments, tree_segment, segment_items, segment_parts}
+use Rattle.wt_context.specs.Segments.{Segment, one_stretch, loose_segment, loose_segments, segment_items, segment_parts}
 use Rattle.wt_context.specs.Chunks.{chunks}
 use Rattle.wt_context.specs.Styled.{style_kind, between, style_node, styled, with_styles}
 use Rattle.wt_context.specs.Styling.{Fill}

@@ -1,5 +1,5 @@
 -- Contexts stand one inside the other no deeper than the definition reads them.
-use Rattle.std.proofs.Common.{◌≡◌, ℕ, zero, suc, ◌+◌, ◌-◌, ◌<◌, ◌≤◌, Bool, true, false, Option, Some, None, List, [], ◌∷◌, ◌++◌, refl, sym, ap, ◌∙◌, arith}
+use Rattle.std.proofs.Common.{◌≡◌, ℕ, zero, suc, ◌+◌, ◌-◌, ◌<◌, ◌≤◌, Bool, true, false, Some, List, [], ◌∷◌, ◌++◌, refl, ap, ◌∙◌, arith}
 use Rattle.std.specs.List.{flat_map, AllByRecursion}
 use Rattle.wt_span.specs.Items.{Item}
 use Rattle.wt_tiles.specs.declared.context.Context.{Context}
@@ -9,7 +9,6 @@ use Rattle.wt_tiles.specs.declared.shape.TileKind.TheVariants as kind
 use Rattle.wt_tiles.specs.Contexts.{in_text, in_pair}
 use Rattle.wt_tiles.specs.Tiles.{tiles}
 use Rattle.wt_context.specs.declared.node.Nested.TheVariants as nested
-use Rattle.wt_context.specs.Segments.{Segment}
 use Rattle.wt_context.specs.Styled.{with_styles}
 use Rattle.wt_context.specs.Nodes.{Reading, inside_of, nested_tree, tile_tree, segments_by, tile_segments, segments}
 use Rattle.wt_context.specs.Line.{read_by, within, context_parts}

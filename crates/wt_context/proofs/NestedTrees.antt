@@ -1,6 +1,5 @@
 -- The nodes of tiles in which a context stands.
-use Rattle.std.proofs.Common.{◌≡◌, ℕ, ◌==◌, Bool, true, false, None, Some, Option, List, [], ◌∷◌, ◌++◌, refl, sym, ap, ◌∙◌, subst}
-use Rattle.std.specs.Prelude.{if◌then◌else◌}
+use Rattle.std.proofs.Common.{◌≡◌, None, List, [], ap, ◌∙◌, subst}
 use Rattle.wt_span.specs.Items.{Item}
 use Rattle.wt_tiles.specs.declared.shape.Shape.{Shape}
 use Rattle.wt_inline.specs.ItemTree.{ItemTree}
@@ -11,7 +10,8 @@ use Rattle.wt_context.specs.Made.{IsMade}
 use Rattle.wt_context.specs.Nodes.{opening_of, inside_of, closing_of, trail_of, nested_by, nested_tree}
 
 pub nested_made : (k : Nested) (t : ItemTree) (w : Shape) (xs opening inside closing trail ys : List Item) (read : List Item → List Part) (g h : Grown)
-    → opening ≡ opening_of w xs → inside ≡ inside_of w xs → closing ≡ closing_of w xs → trail ≡ trail_of w xs → ys ≡ inside → g ≡ record { trees = []; run = None } → Grows g (read ys) h
+    → opening ≡ opening_of w xs → inside ≡ inside_of w xs → closing ≡ closing_of w xs → trail ≡ trail_of w xs → ys ≡ inside
+    → g ≡ record { trees = []; run = None } → Grows g (read ys) h
     → ((ps : List Part) → IsMade h ps → t ≡ nested_by k w.trail xs opening closing trail ps) → t ≡ nested_tree k w xs (read (inside_of w xs))
 unfolding nested_tree
 nested_made k t w xs opening inside closing trail ys read g h o i c l y e a f =

@@ -1,10 +1,9 @@
 -- The parts of a context stand in bold and in italic as the toggles say.
-use Rattle.std.proofs.Common.{◌≡◌, ℕ, zero, suc, ◌+◌, ◌-◌, ◌<◌, ◌≤◌, Bool, true, false, Option, Some, None, List, [], ◌∷◌, ◌++◌, length, take, drop, map, refl, sym, ap, ◌∙◌, subst, arith, append-nil, append_assoc, length-drop}
+use Rattle.std.proofs.Common.{◌≡◌, ℕ, suc, ◌+◌, ◌-◌, ◌<◌, ◌≤◌, Bool, false, Option, Some, None, List, [], ◌∷◌, ◌++◌, length, drop, map, refl, sym, ap, ◌∙◌, subst, arith, append-nil, append_assoc, length-drop}
 use Rattle.std.specs.Prelude.{◌||◌}
-use Rattle.std.specs.List.{flat_map, AllByRecursion}
-use Rattle.std.proofs.lemmas.List.{take_all, map-append, length-take-le}
+use Rattle.std.proofs.lemmas.List.{map-append, length-take-le}
 use Rattle.std.proofs.lemmas.Grind.{flat_map-append}
-use Rattle.wt_span.specs.Items.{Item, char, whole}
+use Rattle.wt_span.specs.Items.{Item}
 use Rattle.wt_span.specs.Runs.{runs, IsRun, AreRuns}
 use Rattle.wt_span.proofs.RunLaws.{runs_are}
 use Rattle.wt_quotes.specs.declared.style.Style.{Style}
@@ -14,7 +13,7 @@ use Rattle.wt_quotes.specs.Forest.{Forest, bare, grown, forest_of}
 use Rattle.wt_tiles.specs.declared.context.Context.{Context}
 use Rattle.wt_inline.specs.declared.loose.Loose.TheVariants.{Text, Sep}
 use Rattle.wt_inline.specs.ItemTree.{forest}
-use Rattle.wt_inline.specs.Parts.{Part, loose, node, held_parts, one_leaf, child, children, parts, part}
+use Rattle.wt_inline.specs.Parts.{Part, loose, node, held_parts, one_leaf, child, children, parts}
 use Rattle.wt_context.specs.Segments.{Segment, segment_items, segment_parts}
 use Rattle.wt_context.specs.Chunks.{chunks}
 use Rattle.wt_context.specs.Styled.{between, style_node, styled, with_styles}
@@ -22,8 +21,7 @@ use Rattle.wt_context.specs.Styling.{Fill}
 use Rattle.wt_context.specs.Nodes.{segments}
 use Rattle.wt_context.specs.Line.{context_parts}
 use Rattle.wt_context.specs.RunCuts.{AreQuotes}
-use Rattle.wt_context.specs.Unstyled.{role}
-use Rattle.wt_context.specs.StyledPlaces.{Places, no_places, places_by, places, all_places, toggled, places_from}
+use Rattle.wt_context.specs.StyledPlaces.{no_places, places_by, places, all_places, toggled, places_from}
 use Rattle.wt_context.proofs.Forests.{fill_le}
 use Rattle.wt_context.proofs.ContextStyles.{styles_fill}
 use Rattle.wt_context.proofs.ChunkLaws.{chunk_bytes_are}
@@ -135,7 +133,8 @@ style_placed kind now s f ps us a t l c w o q h g =
     says_none s.from (between s.from mid us) (steady_between s.from mid us a) o
     ∙ sym (says_between all (λ i. None) s.from mid us m (omega (arith, l, w)) (λ i x y. in_opening kind now s f g i x y)) in
     let middle : ins ≡ places_from all mid (between mid end us) =
-    children_placed kind new ps t ∙ h new ∙ sym (says_between all (place_in kind new f) mid end us l (omega (arith, w)) (λ i x y. in_inside kind now s f g i x y)) in
+    children_placed kind new ps t ∙ h new
+    ∙ sym (says_between all (place_in kind new f) mid end us l (omega (arith, w)) (λ i x y. in_inside kind now s f g i x y)) in
     let back : no_places (segment_items (between end s.to us)) ≡ places_from all end (between end s.to us) =
     says_none end (between end s.to us) (steady_between end s.to us a) q
     ∙ sym (says_between all (λ i. None) end s.to us n w (λ i x y. in_closing kind now s f g i l x y)) in
@@ -189,7 +188,8 @@ with_styles_placed kind us a =
     ∙ says_same (place_in kind false f) (toggled kind cs) 0 us (λ n x y. place_toggled kind cs n fill_bytes (omega (arith, y, chunk_bytes_are us)))
 
 pub context_placed : (kind : Bool) (cx : Context) (xs : List Item) → cx.pairs ≤ 16
-    → all_places kind false (forest (children (context_parts cx xs))) ≡ places_from (toggled kind (chunks (segments context_parts cx xs))) 0 (segments context_parts cx xs)
+    → all_places kind false (forest (children (context_parts cx xs)))
+    ≡ places_from (toggled kind (chunks (segments context_parts cx xs))) 0 (segments context_parts cx xs)
 context_placed kind cx xs p =
     ap (λ ps. all_places kind false (forest (children ps))) (contexts_are cx xs p)
     ∙ with_styles_placed kind (segments context_parts cx xs) (segments_steady context_parts cx xs)

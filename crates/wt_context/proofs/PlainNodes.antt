@@ -1,21 +1,11 @@
 -- Nodes that are no styles.
-use Rattle.std.proofs.Common.{◌≡◌, ℕ, zero, suc, ◌+◌, ◌-◌, ◌<◌, ◌≤◌, ◌==◌, Bool, true, false, Option, Some, None, List, [], ◌∷◌, ◌++◌, length, take, drop, map, refl, sym, ap, ◌∙◌, subst, arith, append-nil, append_assoc}
+use Rattle.std.proofs.Common.{◌≡◌, ℕ, ◌==◌, Bool, true, false, Option, Some, None, List, [], ◌∷◌, ◌++◌, refl}
 use Rattle.std.specs.Prelude.{if◌then◌else◌}
-use Rattle.std.specs.List.{flat_map, AllByRecursion}
-use Rattle.std.proofs.lemmas.List.{take_all, map-append}
-use Rattle.std.proofs.lemmas.Grind.{flat_map-append}
-use Rattle.wt_tree.specs.declared.kind.Kind.{Kind}
-use Rattle.wt_tree.specs.declared.kind.TagName.{TagName}
+use Rattle.std.specs.List.{AllByRecursion}
 use Rattle.wt_span.specs.declared.form.Form.{Form}
 use Rattle.wt_span.specs.declared.form.Form.TheVariants as form
 use Rattle.wt_span.specs.Items.{Item, char, whole}
-use Rattle.wt_span.specs.Runs.{runs, IsRun, AreRuns}
-use Rattle.wt_span.proofs.RunLaws.{runs_are, runs_joined}
-use Rattle.wt_quotes.specs.declared.style.Style.{Style}
-use Rattle.wt_quotes.specs.Styles.{style_tree_of}
-use Rattle.wt_quotes.specs.Forest.{Forest, bare, grown, forest_of}
 use Rattle.wt_tiles.specs.declared.context.Context.{Context}
-use Rattle.wt_tiles.specs.declared.glyph.Glyph.{Glyph}
 use Rattle.wt_tiles.specs.declared.shape.Shape.{Shape}
 use Rattle.wt_tiles.specs.declared.shape.TileKind.{TileKind}
 use Rattle.wt_tiles.specs.declared.shape.TileKind.TheVariants as kind
@@ -23,25 +13,19 @@ use Rattle.wt_tiles.specs.declared.tag.Name.{Name}
 use Rattle.wt_tiles.specs.declared.tag.Name.TheVariants.{Paired, Break, Island}
 use Rattle.wt_tiles.specs.declared.tag.Tag.{Tag}
 use Rattle.wt_tiles.specs.Tags.{tag_at}
-use Rattle.wt_tiles.specs.Tiles.{tiles}
 use Rattle.wt_tiles.specs.Contexts.{in_text, in_pair}
 use Rattle.wt_inline.specs.declared.loose.Loose.{Loose}
 use Rattle.wt_inline.specs.declared.loose.Loose.TheVariants.{Text, Sep}
-use Rattle.wt_inline.specs.ItemTree.{Head, ItemTree, ItemTrees, inner, nothing, further, forest, plain}
-use Rattle.wt_inline.specs.Parts.{Part, loose, node, held_parts, one_leaf, child, children, nowiki, whole_tree, part, parts}
+use Rattle.wt_inline.specs.ItemTree.{Head, ItemTree, ItemTrees, inner, forest}
+use Rattle.wt_inline.specs.Parts.{Part, loose, node, children, nowiki, whole_tree, part, parts}
 use Rattle.wt_context.specs.declared.node.Nested.{Nested}
 use Rattle.wt_context.specs.declared.node.Nested.TheVariants as nested
 use Rattle.wt_context.specs.declared.node.Leaf.{Leaf}
 use Rattle.wt_context.specs.declared.node.Leaf.TheVariants as as_leaf
 use Rattle.wt_context.specs.Heads.{glyphs, placeholder, link_head, category_head, ext_link_head, bare_url_head, pair_by_name, pair_by, pair_head, switch_head}
-use Rattle.wt_context.specs.Segments.{Segment, is_first_quote, one_stretch, loose_segment, loose_segments, segment_items, segment_parts}
-use Rattle.wt_context.specs.Chunks.{chunks}
-use Rattle.wt_context.specs.Styled.{style_kind, between, style_node, styled, with_styles}
-use Rattle.wt_context.specs.Styling.{Fill}
-use Rattle.wt_context.specs.Nodes.{Reading, opening_of, inside_of, closing_of, trail_of, leaf_tree, bare_url, link_by, trail_parts, round_parts, nested_head, nested_tree, tile_tree, segments_by, tile_segments, segments}
-use Rattle.wt_context.specs.Line.{context_parts}
-use Rattle.wt_context.specs.Unstyled.{Role, style, characters, other, role, by_role, unstyled, all_unstyled, tile_parts, tile_part, plain_parts}
-use Rattle.wt_context.specs.StyledPlaces.{Places, places_by, places, all_places}
+use Rattle.wt_context.specs.Nodes.{Reading, opening_of, inside_of, closing_of, trail_of, leaf_tree, bare_url, trail_parts, round_parts, nested_head, nested_tree, tile_tree}
+use Rattle.wt_context.specs.Unstyled.{other, role, unstyled}
+use Rattle.wt_context.specs.StyledPlaces.{places}
 
 -- ---- parts
 

@@ -1,7 +1,7 @@
 -- Where a run stands, the segments are apostrophes.
-use Rattle.std.proofs.Common.{◌≡◌, ℕ, zero, suc, ◌+◌, ◌-◌, ◌<◌, ◌≤◌, Bool, true, false, Option, Some, None, List, [], ◌∷◌, ◌++◌, length, take, drop, get_or, refl, sym, ap, ◌∙◌, subst, arith, length-append}
-use Rattle.std.specs.Prelude.{◌&&◌, nat_le, nat_lt, slice_get, if◌then◌else◌, All}
-use Rattle.std.specs.List.{flat_map, list_any, AllByRecursion, Any}
+use Rattle.std.proofs.Common.{◌≡◌, ℕ, zero, suc, ◌+◌, ◌-◌, ◌<◌, ◌≤◌, Bool, true, false, List, [], ◌∷◌, ◌++◌, length, take, drop, refl, sym, ap, ◌∙◌, subst, arith}
+use Rattle.std.specs.Prelude.{nat_le, nat_lt, slice_get, All}
+use Rattle.std.specs.List.{AllByRecursion}
 use Rattle.std.proofs.lemmas.Bool.Decides.{nat_tests}
 use Rattle.std.proofs.lemmas.List.Folds.{Any-from_list_any}
 use Rattle.wt_span.specs.Items.{Item}
@@ -9,7 +9,6 @@ use Rattle.wt_span.specs.Runs.{runs, IsRun, AreRuns}
 use Rattle.wt_span.proofs.RunLaws.{runs_are}
 use Rattle.wt_quotes.specs.declared.chunk.Chunk.{Chunk}
 use Rattle.wt_quotes.specs.declared.chunk.Chunk.TheVariants as chunk
-use Rattle.wt_quotes.specs.declared.style.Style.{Style}
 use Rattle.wt_quotes.specs.declared.toggle.Toggle.{Toggle}
 use Rattle.wt_quotes.specs.Runs.{bytes_of, place_of, run_length}
 use Rattle.wt_quotes.specs.Toggles.{toggles_of, width_of, IsOfRun}

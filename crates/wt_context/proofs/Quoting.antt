@@ -1,6 +1,6 @@
 -- Apostrophes of a piece, and where they may be cut.
-use Rattle.std.proofs.Common.{◌≡◌, ℕ, zero, suc, ◌+◌, ◌-◌, ◌<◌, ◌≤◌, Bool, true, false, Option, List, [], ◌∷◌, ◌++◌, length, take, drop, map, get_or, refl, sym, ap, ◌∙◌, subst, arith}
-use Rattle.std.specs.Prelude.{◌&&◌, ◌==◌, not}
+use Rattle.std.proofs.Common.{◌≡◌, ℕ, zero, suc, ◌<◌, ◌≤◌, Bool, true, false, Option, List, [], ◌∷◌, ◌++◌, length, take, drop, map, get_or, refl, sym, ap, ◌∙◌, arith}
+use Rattle.std.specs.Prelude.{◌&&◌, ◌==◌}
 use Rattle.std.specs.List.{list_all}
 use Rattle.std.specs.Str.{IsCharBoundary}
 use Rattle.std.proofs.lemmas.Bool.Decides.{nat_tests}
@@ -9,9 +9,9 @@ use Rattle.wt_span.specs.declared.form.Form.{Form}
 use Rattle.wt_span.specs.declared.form.Form.TheVariants as form
 use Rattle.wt_span.specs.declared.form.Piece.{Piece}
 use Rattle.wt_span.specs.Slice.{bytes_of}
-use Rattle.wt_span.specs.Items.{Item, char, items_of, items_by, call_of_origin}
+use Rattle.wt_span.specs.Items.{char, items_of, items_by, call_of_origin}
 use Rattle.wt_lines.specs.Pieces.{is_chars}
-use Rattle.wt_context.specs.Segments.{is_quote, are_quotes, are_plain}
+use Rattle.wt_context.specs.Segments.{is_quote, are_quotes}
 
 pub and_left : (a b : Bool) → (a && b) ≡ true → a ≡ true
 and_left true b e = refl
@@ -88,17 +88,24 @@ quote_border p n e q le =
 -- whatever origin its apostrophes have
 other_origin : (o p : Option ℕ) (bs : List ℕ) → are_quotes (map (char o) bs) ≡ true → are_quotes (map (char p) bs) ≡ true
 other_origin o p [] e = refl
-other_origin o p (b ∷ bs) e = and_both (b == 39) (are_quotes (map (char p) bs)) (and_left (b == 39) (are_quotes (map (char o) bs)) e) (other_origin o p bs (and_right (b == 39) (are_quotes (map (char o) bs)) e))
+other_origin o p (b ∷ bs) e = and_both (b == 39) (are_quotes (map (char p) bs)) (and_left (b == 39) (are_quotes (map (char o) bs)) e)
+    (other_origin o p bs (and_right (b == 39) (are_quotes (map (char o) bs)) e))
 
 byte_quotes : (p : Piece) → is_chars p.form ≡ true → are_quotes (items_of p) ≡ true → are_quotes (map (char (call_of_origin p.origin)) (bytes_of p.text)) ≡ true
 byte_quotes p e q = ap are_quotes (sym (chars_are p.form (call_of_origin p.origin) (bytes_of p.text) e)) ∙ q
 
-pub front_quotes : (p : Piece) (o : Option ℕ) (n : ℕ) (bs : List ℕ) → is_chars p.form ≡ true → are_quotes (items_of p) ≡ true → bs ≡ take n (bytes_of p.text) → are_quotes (map (char o) bs) ≡ true
+pub front_quotes : (p : Piece) (o : Option ℕ) (n : ℕ) (bs : List ℕ) → is_chars p.form ≡ true → are_quotes (items_of p) ≡ true → bs ≡ take n (bytes_of p.text)
+    → are_quotes (map (char o) bs) ≡ true
 front_quotes p o n bs e q i =
     let c = char (call_of_origin p.origin) in
-    other_origin (call_of_origin p.origin) o bs (ap (λ ys. are_quotes (map c ys)) i ∙ ap are_quotes (sym (take-map c n (bytes_of p.text))) ∙ all_take is_quote n (map c (bytes_of p.text)) (byte_quotes p e q))
+    other_origin (call_of_origin p.origin) o bs
+    (ap (λ ys. are_quotes (map c ys)) i ∙ ap are_quotes (sym (take-map c n (bytes_of p.text)))
+    ∙ all_take is_quote n (map c (bytes_of p.text)) (byte_quotes p e q))
 
-pub back_quotes : (p : Piece) (o : Option ℕ) (n : ℕ) (bs : List ℕ) → is_chars p.form ≡ true → are_quotes (items_of p) ≡ true → bs ≡ drop n (bytes_of p.text) → are_quotes (map (char o) bs) ≡ true
+pub back_quotes : (p : Piece) (o : Option ℕ) (n : ℕ) (bs : List ℕ) → is_chars p.form ≡ true → are_quotes (items_of p) ≡ true → bs ≡ drop n (bytes_of p.text)
+    → are_quotes (map (char o) bs) ≡ true
 back_quotes p o n bs e q i =
     let c = char (call_of_origin p.origin) in
-    other_origin (call_of_origin p.origin) o bs (ap (λ ys. are_quotes (map c ys)) i ∙ ap are_quotes (sym (drop-map c n (bytes_of p.text))) ∙ all_drop is_quote n (map c (bytes_of p.text)) (byte_quotes p e q))
+    other_origin (call_of_origin p.origin) o bs
+    (ap (λ ys. are_quotes (map c ys)) i ∙ ap are_quotes (sym (drop-map c n (bytes_of p.text)))
+    ∙ all_drop is_quote n (map c (bytes_of p.text)) (byte_quotes p e q))

@@ -1,13 +1,13 @@
 -- The last two visible items: as they are carried, and as they stand in a list.
-use Rattle.std.proofs.Common.{◌≡◌, ℕ, zero, suc, ◌+◌, ◌-◌, ◌<◌, ◌≤◌, Bool, true, false, Option, Some, None, List, [], ◌∷◌, ◌++◌, length, take, drop, map, get_or, refl, sym, ap, ◌∙◌, subst, arith, append-nil}
+use Rattle.std.proofs.Common.{◌≡◌, ℕ, zero, suc, ◌+◌, ◌<◌, Option, Some, List, [], ◌∷◌, ◌++◌, length, take, map, get_or, refl, sym, ap, ◌∙◌, arith, append-nil}
 use Rattle.std.proofs.lemmas.List.{take_more}
 use Rattle.std.proofs.lemmas.Grind.{flat_map-append}
 use Rattle.wt_span.specs.declared.form.Piece.{Piece}
 use Rattle.wt_span.specs.declared.form.Form.{Form}
 use Rattle.wt_span.specs.declared.form.Form.TheVariants as form
-use Rattle.wt_span.specs.Items.{Item, char, whole, items, items_of, items_by, is_mark}
+use Rattle.wt_span.specs.Items.{Item, char, items, items_of, items_by}
 use Rattle.wt_context.specs.declared.seen.Seen.{Seen}
-use Rattle.wt_context.specs.Seen.{nothing_seen, seen_letter, after_item, after_items, after_bytes}
+use Rattle.wt_context.specs.Seen.{seen_letter, after_item, after_items, after_bytes}
 
 -- bytes one by one
 pub bytes_seen : (o : Option ℕ) (s : Seen) (bs : List ℕ) → after_items s (map (char o) bs) ≡ after_bytes s bs
@@ -24,13 +24,15 @@ one_byte_seen s (b ∷ []) e = refl
 one_byte_seen s (b ∷ c ∷ bs) e = absurd (omega (arith, e))
 
 -- the last two count alone
-last_two : (s : Seen) (b c : ℕ) (bs : List ℕ) (n : ℕ) → length bs ≡ n → seen_letter (seen_letter s (Some (get_or (b ∷ c ∷ bs) n 0))) (Some (get_or (b ∷ c ∷ bs) (suc n) 0)) ≡ after_bytes s (b ∷ c ∷ bs)
+last_two : (s : Seen) (b c : ℕ) (bs : List ℕ) (n : ℕ) → length bs ≡ n
+    → seen_letter (seen_letter s (Some (get_or (b ∷ c ∷ bs) n 0))) (Some (get_or (b ∷ c ∷ bs) (suc n) 0)) ≡ after_bytes s (b ∷ c ∷ bs)
 last_two s b c [] zero e = refl
 last_two s b c [] (suc n) e = absurd (omega (arith, e))
 last_two s b c (d ∷ bs) zero e = absurd (omega (arith, e))
 last_two s b c (d ∷ bs) (suc n) e = last_two (seen_letter s (Some b)) c d bs n (omega (arith, e))
 
-pub two_bytes_seen : (s : Seen) (bs : List ℕ) (n m : ℕ) → length bs ≡ n + 2 → m ≡ n + 1 → seen_letter (seen_letter s (Some (get_or bs n 0))) (Some (get_or bs m 0)) ≡ after_bytes s bs
+pub two_bytes_seen : (s : Seen) (bs : List ℕ) (n m : ℕ) → length bs ≡ n + 2 → m ≡ n + 1
+    → seen_letter (seen_letter s (Some (get_or bs n 0))) (Some (get_or bs m 0)) ≡ after_bytes s bs
 two_bytes_seen s [] n m e f = absurd (omega (arith, e))
 two_bytes_seen s (b ∷ []) n m e f = absurd (omega (arith, e))
 two_bytes_seen s (b ∷ c ∷ bs) n m e f =
@@ -44,8 +46,10 @@ both_seen s (x ∷ xs) ys = both_seen (after_item s x) xs ys
 pub chars_seen : (f : Form) (o : Option ℕ) (bs : List ℕ) (s : Seen) → f ≡ form.Chars → after_bytes s bs ≡ after_items s (items_by f o bs)
 chars_seen f o bs s e = sym (bytes_seen o s bs) ∙ ap (λ g. after_items s (items_by g o bs)) (sym e)
 
-pub seen_step : (s old new : Seen) (ps : List Piece) (at : ℕ) (p : Piece) → at < length ps → p ≡ get_or ps at p → old ≡ after_items s (items (take at ps)) → new ≡ after_items old (items_of p) → new ≡ after_items s (items (take (at + 1) ps))
+pub seen_step : (s old new : Seen) (ps : List Piece) (at : ℕ) (p : Piece) → at < length ps → p ≡ get_or ps at p → old ≡ after_items s (items (take at ps))
+    → new ≡ after_items old (items_of p) → new ≡ after_items s (items (take (at + 1) ps))
 seen_step s old new ps at p l e i n =
     let more : take (at + 1) ps ≡ take at ps ++ p ∷ [] = take_more ps at p l ∙ ap (λ q. take at ps ++ q ∷ []) (sym e) in
-    let one : items (take (at + 1) ps) ≡ items (take at ps) ++ items_of p = ap items more ∙ flat_map-append items_of (take at ps) (p ∷ []) ∙ ap (λ xs. items (take at ps) ++ xs) (append-nil (items_of p)) in
+    let one : items (take (at + 1) ps) ≡ items (take at ps) ++ items_of p = ap items more ∙ flat_map-append items_of (take at ps) (p ∷ [])
+    ∙ ap (λ xs. items (take at ps) ++ xs) (append-nil (items_of p)) in
     n ∙ ap (λ t. after_items t (items_of p)) i ∙ sym (both_seen s (items (take at ps)) (items_of p)) ∙ ap (after_items s) (sym one)

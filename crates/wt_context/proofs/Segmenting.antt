@@ -1,14 +1,12 @@
 -- What segments hold.
-use Rattle.std.proofs.Common.{◌≡◌, ℕ, zero, suc, ◌+◌, ◌-◌, ◌≤◌, Bool, true, false, Option, List, [], ◌∷◌, ◌++◌, length, take, drop, map, refl, sym, ap, ◌∙◌, subst, arith}
-use Rattle.std.proofs.lemmas.List.{take-map, drop-map, length-map, map-append}
-use Rattle.std.proofs.lemmas.Grind.{flat_map-append}
-use Rattle.wt_span.specs.declared.form.Piece.{Piece}
-use Rattle.wt_span.specs.Items.{Item, items, items_of}
+use Rattle.std.proofs.Common.{◌≡◌, ℕ, List, [], ◌∷◌, take, drop, refl, sym, ap, ◌∙◌, subst}
+use Rattle.std.proofs.lemmas.List.{take-map, drop-map}
+use Rattle.wt_span.specs.Items.{Item}
 use Rattle.wt_inline.specs.declared.loose.Loose.TheVariants.{Text}
 use Rattle.wt_inline.specs.Parts.{Part, part, parts}
 use Rattle.wt_inline.specs.Grown.{Grown, Grows}
-use Rattle.wt_context.specs.Segments.{Segment, loose_segment, segment_items, segment_parts}
-use Rattle.wt_context.specs.Tokens.{quote_segments, token_segments, segments_of}
+use Rattle.wt_context.specs.Segments.{loose_segment, segment_items, segment_parts}
+use Rattle.wt_context.specs.Tokens.{quote_segments}
 
 pub quote_parts : (xs : List Item) → segment_parts (quote_segments xs) ≡ parts Text xs
 quote_parts [] = refl

@@ -1,6 +1,6 @@
 -- The text and the source of pieces.
-use Rattle.std.proofs.Common.{◌≡◌, ℕ, Bool, true, false, Option, List, [], ◌∷◌, ◌++◌, map, refl, sym, ap, ◌∙◌, append-nil, ◌+◌, ◌<◌, length, take, get_or}
-use Rattle.std.specs.Prelude.{filter, not}
+use Rattle.std.proofs.Common.{◌≡◌, ℕ, true, false, Option, List, [], ◌∷◌, ◌++◌, map, refl, sym, ap, ◌∙◌, append-nil, ◌+◌, ◌<◌, length, take, get_or}
+use Rattle.std.specs.Prelude.{not}
 use Rattle.std.proofs.lemmas.List.{take_more}
 use Rattle.std.proofs.lemmas.List.Elements.{filter-append}
 use Rattle.std.proofs.lemmas.Grind.{flat_map-append}
@@ -56,10 +56,12 @@ hidden_by form.EmptyCall o bs e = refl
 pub visible_both : (xs ys : List Item) → visible_source (xs ++ ys) ≡ visible_source xs ++ visible_source ys
 visible_both xs ys = ap sources (filter-append (λ x. not (is_mark x)) xs ys) ∙ flat_map-append source (visible xs) (visible ys)
 
-pub source_step : (ps : List Piece) (at : ℕ) (p : Piece) (old new text : List ℕ) → at < length ps → p ≡ get_or ps at p → old ≡ sources (items (take at ps)) → new ≡ old ++ text → text ≡ bytes_of p.text
+pub source_step : (ps : List Piece) (at : ℕ) (p : Piece) (old new text : List ℕ) → at < length ps → p ≡ get_or ps at p → old ≡ sources (items (take at ps))
+    → new ≡ old ++ text → text ≡ bytes_of p.text
     → new ≡ sources (items (take (at + 1) ps))
 source_step ps at p old new text l e i n t =
     let more : take (at + 1) ps ≡ take at ps ++ p ∷ [] = take_more ps at p l ∙ ap (λ q. take at ps ++ q ∷ []) (sym e) in
-    let one : items (take (at + 1) ps) ≡ items (take at ps) ++ items_of p = ap items more ∙ flat_map-append items_of (take at ps) (p ∷ []) ∙ ap (λ xs. items (take at ps) ++ xs) (append-nil (items_of p)) in
+    let one : items (take (at + 1) ps) ≡ items (take at ps) ++ items_of p = ap items more ∙ flat_map-append items_of (take at ps) (p ∷ [])
+    ∙ ap (λ xs. items (take at ps) ++ xs) (append-nil (items_of p)) in
     n ∙ ap (λ bs. bs ++ text) i ∙ ap (λ bs. sources (items (take at ps)) ++ bs) (t ∙ sym (source_by p.form (call_of_origin p.origin) (bytes_of p.text)))
     ∙ sym (flat_map-append source (items (take at ps)) (items_of p)) ∙ ap sources (sym one)

@@ -1,11 +1,10 @@
 -- The parts of each tile can be cut.
-use Rattle.std.proofs.Common.{◌≡◌, ℕ, zero, suc, ◌+◌, ◌-◌, ◌<◌, ◌≤◌, ◌⊎◌, Bool, true, false, Option, Some, List, [], ◌∷◌, length, map, take, drop, refl, sym, ap, ◌∙◌, subst, arith, inl, inr, length-drop}
+use Rattle.std.proofs.Common.{◌≡◌, ℕ, zero, suc, ◌+◌, ◌-◌, ◌<◌, ◌≤◌, ◌⊎◌, Bool, true, false, Some, List, [], ◌∷◌, length, map, take, drop, refl, sym, ap, ◌∙◌, subst, arith, inl, inr, length-drop}
 use Rattle.std.specs.Prelude.{All}
 use Rattle.std.specs.List.{AllByRecursion}
 use Rattle.std.proofs.lemmas.List.{length-map, length-take-le, take-map, drop-map}
 use Rattle.std.proofs.lemmas.List.Elements.{All-head, All-tail, All-nil, All-cons}
-use Rattle.wt_span.specs.declared.form.Piece.{Piece}
-use Rattle.wt_span.specs.Items.{Item, items}
+use Rattle.wt_span.specs.Items.{Item}
 use Rattle.wt_span.specs.Origins.{IsSoundPiece}
 use Rattle.wt_tiles.specs.declared.context.Context.{Context}
 use Rattle.wt_tiles.specs.declared.glyph.Glyph.{Glyph}
@@ -23,7 +22,7 @@ use Rattle.wt_tiles.proofs.LinkFits.{Fits}
 use Rattle.wt_tiles.proofs.Fits.{tile_fits}
 use Rattle.wt_tiles.proofs.Readings.{shapes_are}
 use Rattle.wt_tiles.proofs.Joining.{tiles_are}
-use Rattle.wt_context.specs.TileParts.{shape_of, HasCuts, IsCutTile}
+use Rattle.wt_context.specs.TileParts.{HasCuts, IsCutTile}
 
 -- ---- edges of what is taken, and of what is left
 
@@ -85,11 +84,13 @@ form_stands kind.Chars cx after w gs f h = absurd f
 abbrev IsCutPart : Shape × List Item → Type 0
 IsCutPart (w, ys) = IsForm w.kind → HasCuts w ys
 
-edge_in : (xs : List Item) (w : Shape) (a b n : ℕ) → size w ≤ length xs → n ≤ size w → n ≡ a + b → 0 < b → IsEdge (map glyph_of xs) n → IsEdge (map glyph_of (drop a (take (size w) xs))) b
+edge_in : (xs : List Item) (w : Shape) (a b n : ℕ) → size w ≤ length xs → n ≤ size w → n ≡ a + b → 0 < b → IsEdge (map glyph_of xs) n
+    → IsEdge (map glyph_of (drop a (take (size w) xs))) b
 edge_in xs w a b n le l e pos edge =
     let P : List Glyph → Type 0 = λ hs. IsEdge hs b in
     let m : size w ≤ length (map glyph_of xs) = omega (arith, le, length-map xs glyph_of) in
-    subst P (sym (sym (drop-map glyph_of a (take (size w) xs)) ∙ ap (drop a) (sym (take-map glyph_of (size w) xs)))) (edge_drop (take (size w) (map glyph_of xs)) a b n pos e (edge_take (map glyph_of xs) (size w) n l m edge))
+    subst P (sym (sym (drop-map glyph_of a (take (size w) xs)) ∙ ap (drop a) (sym (take-map glyph_of (size w) xs))))
+    (edge_drop (take (size w) (map glyph_of xs)) a b n pos e (edge_take (map glyph_of xs) (size w) n l m edge))
 
 cuts_of : (xs : List Item) (w : Shape) → size w ≤ length xs → Fits (map glyph_of xs) w → HasCuts w (take (size w) xs)
 cuts_of xs w le f =
@@ -100,7 +101,8 @@ cuts_of xs w le f =
       closing = λ pos. edge_in xs w (w.opening + w.inside) w.closing (w.opening + w.inside + w.closing) le (omega arith) refl pos f.edges.closing;
     }
 
-parts_cut : (cx : Context) (after : Bool) (ws : List Shape) (xs : List Item) (gs : List Glyph) → gs ≡ map glyph_of xs → AreTiles cx after ws gs → AllByRecursion IsCutPart (parts ws xs)
+parts_cut : (cx : Context) (after : Bool) (ws : List Shape) (xs : List Item) (gs : List Glyph) → gs ≡ map glyph_of xs → AreTiles cx after ws gs
+    → AllByRecursion IsCutPart (parts ws xs)
 parts_cut cx after [] xs gs e h = tt
 parts_cut cx after (w ∷ ws) xs gs e (pos, le, stands, apart, rest) = (
   λ form.
@@ -114,8 +116,10 @@ parts_cut cx after (w ∷ ws) xs gs e (pos, le, stands, apart, rest) = (
 
 all_cut : (ts : List Tile) → AllByRecursion IsCutPart (map tile_of ts) → AreSoundTiles ts → All IsCutTile ts
 all_cut [] h s = All-nil IsCutTile
-all_cut (t ∷ ts) h s = All-cons IsCutTile t ts (All-head (λ u. All IsSoundPiece u.pieces) t ts s, h.0) (all_cut ts h.1 (All-tail (λ u. All IsSoundPiece u.pieces) t ts s))
+all_cut (t ∷ ts) h s = All-cons IsCutTile t ts (All-head (λ u. All IsSoundPiece u.pieces) t ts s, h.0)
+    (all_cut ts h.1 (All-tail (λ u. All IsSoundPiece u.pieces) t ts s))
 
 pub tiles_cut : (cx : Context) (xs : List Item) (ts : List Tile) → map tile_of ts ≡ tiles cx xs → AreSoundTiles ts → All IsCutTile ts
 tiles_cut cx xs ts e s =
-    all_cut ts (subst (AllByRecursion IsCutPart) (sym (e ∙ tiles_are cx xs)) (parts_cut cx false (shapes cx (map glyph_of xs)) xs (map glyph_of xs) refl (shapes_are cx (map glyph_of xs)))) s
+    all_cut ts (subst (AllByRecursion IsCutPart) (sym (e ∙ tiles_are cx xs))
+    (parts_cut cx false (shapes cx (map glyph_of xs)) xs (map glyph_of xs) refl (shapes_are cx (map glyph_of xs)))) s

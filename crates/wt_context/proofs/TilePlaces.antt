@@ -1,12 +1,11 @@
 -- No link stands in the text of a link, no pair where sixteen are open, and nothing joins a tile but a link.
-use Rattle.std.proofs.Common.{◌≡◌, ℕ, zero, suc, ◌+◌, ◌-◌, ◌<◌, ◌≤◌, Bool, true, false, Option, Some, None, List, [], ◌∷◌, length, take, drop, map, refl, sym, ap, ◌∙◌, subst, arith, length-drop}
+use Rattle.std.proofs.Common.{◌≡◌, ℕ, ◌+◌, ◌-◌, ◌<◌, Bool, true, false, Option, Some, None, List, [], ◌∷◌, length, take, drop, map, refl, sym, subst, arith, length-drop}
 use Rattle.std.specs.Prelude.{◌&&◌, ◌==◌, if◌then◌else◌, option_map, nat_lt, codes}
 use Rattle.std.specs.Option.{option_or}
 use Rattle.std.specs.List.{AllByRecursion}
 use Rattle.std.proofs.lemmas.Bool.Decides.{nat_tests}
 use Rattle.std.proofs.lemmas.List.{length-map, length-take-le}
 use Rattle.wt_span.specs.Items.{Item}
-use Rattle.wt_tree.specs.declared.kind.TagName.{TagName}
 use Rattle.wt_tiles.specs.declared.context.Context.{Context}
 use Rattle.wt_tiles.specs.declared.glyph.Class.TheVariants as class
 use Rattle.wt_tiles.specs.declared.glyph.Glyph.{Glyph}
@@ -26,8 +25,8 @@ use Rattle.wt_tiles.specs.Glyphs.{glyph_of, first_is, begins, run_len}
 use Rattle.wt_tiles.specs.Tags.{tag_at}
 use Rattle.wt_tiles.specs.Partners.{number, partner}
 use Rattle.wt_tiles.specs.Links.{leaf, target_of, kind_of, target_len, inner_len, has_pipe, head_len, link_shape, link_with, link_to, link_by, link_in, link_at}
-use Rattle.wt_tiles.specs.Urls.{scheme_len, url_items, kept_len, text_len, ext_shape, ext_link_after, ext_link_of, ext_link_at, bare_shape, bare_url_of, bare_url_at}
-use Rattle.wt_tiles.specs.Tiles.{pair_or_island, closing_for, shape_of_tag, tag_tile, switch_names, switch_len, switch_at, outside, link_or_url, form_at, tile_with, size, shapes, parts, tiles}
+use Rattle.wt_tiles.specs.Urls.{scheme_len, url_items, kept_len, text_len, ext_shape, ext_link_of, ext_link_at, bare_shape, bare_url_of, bare_url_at}
+use Rattle.wt_tiles.specs.Tiles.{pair_or_island, shape_of_tag, tag_tile, switch_names, switch_len, switch_at, outside, link_or_url, form_at, tile_with, size, shapes, parts, tiles}
 use Rattle.wt_tiles.specs.Reading.{tile_at, StandsBy, AreTiles, is_word_at}
 use Rattle.wt_tiles.proofs.Readings.{shapes_are}
 

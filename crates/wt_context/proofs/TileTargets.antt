@@ -1,17 +1,16 @@
 -- The tile of a link or of a category holds its target.
-use Rattle.std.proofs.Common.{◌≡◌, ℕ, zero, suc, ◌+◌, ◌-◌, ◌<◌, ◌≤◌, Bool, true, false, Option, Some, None, List, [], ◌∷◌, length, take, drop, map, refl, sym, ap, ◌∙◌, subst, arith, length-drop}
+use Rattle.std.proofs.Common.{◌≡◌, ℕ, zero, suc, ◌+◌, ◌-◌, ◌≤◌, Bool, true, false, Option, Some, None, List, [], ◌∷◌, length, take, drop, map, refl, sym, ap, ◌∙◌, subst, arith}
 use Rattle.std.specs.Prelude.{◌&&◌, ◌||◌, ◌==◌, if◌then◌else◌, option_map, nat_lt, codes, slice_index}
 use Rattle.std.specs.Option.{option_or}
-use Rattle.std.specs.Str.{is_utf8, IsUtf8}
+use Rattle.std.specs.Str.{is_utf8}
 use Rattle.std.specs.List.{AllByRecursion, list_any}
 use Rattle.std.proofs.lemmas.Str.{IsUtf8-from_is_utf8}
-use Rattle.std.proofs.lemmas.List.{length-map, take-map, drop-map, drop-take}
+use Rattle.std.proofs.lemmas.List.{take-map, drop-map, drop-take}
 use Rattle.wt_span.specs.Items.{Item}
 use Rattle.wt_names.specs.declared.title.Title.{Title}
 use Rattle.wt_names.specs.Good.{read_text}
 use Rattle.wt_names.specs.Written.{read_bytes, link_to, read_link}
 use Rattle.wt_names.proofs.Links.{links_back}
-use Rattle.wt_tree.specs.declared.kind.TagName.{TagName}
 use Rattle.wt_tiles.specs.declared.context.Context.{Context}
 use Rattle.wt_tiles.specs.declared.glyph.Class.TheVariants as class
 use Rattle.wt_tiles.specs.declared.glyph.Glyph.{Glyph}
@@ -30,11 +29,11 @@ use Rattle.wt_tiles.specs.declared.target.Target.{Target}
 use Rattle.wt_tiles.specs.Glyphs.{glyph_of, first_is, begins, run_len}
 use Rattle.wt_tiles.specs.Tags.{tag_at}
 use Rattle.wt_tiles.specs.Links.{leaf, place, is_atom, target_text, aimed, target_in, target_of, kind_of, target_len, to_close, inner_len, has_pipe, head_len, link_shape, link_with, link_to as link_by_target, link_by, link_in, link_at}
-use Rattle.wt_tiles.specs.Urls.{scheme_len, url_items, kept_len, text_len, ext_shape, ext_link_after, ext_link_of, ext_link_at, bare_shape, bare_url_of, bare_url_at}
+use Rattle.wt_tiles.specs.Urls.{scheme_len, url_items, kept_len, text_len, ext_shape, ext_link_of, ext_link_at, bare_shape, bare_url_of, bare_url_at}
 use Rattle.wt_tiles.specs.Tiles.{pair_or_island, closing_for, shape_of_tag, tag_tile, switch_names, switch_len, switch_at, outside, link_or_url, form_at, tile_with, size, shapes, parts, tiles}
 use Rattle.wt_tiles.specs.Reading.{tile_at, StandsBy, AreTiles, is_word_at}
 use Rattle.wt_tiles.proofs.Readings.{shapes_are}
-use Rattle.wt_context.specs.Heads.{glyphs, or_none, target_size, target}
+use Rattle.wt_context.specs.Heads.{or_none, target_size, target}
 use Rattle.wt_context.specs.Targets.{IsLed, HasTarget, HaveTargets}
 
 -- ---- a target stands before these signs, and `]]` behind it
@@ -75,7 +74,8 @@ shape_found gs Page head n m t e f l = (n, t, e, f, omega (arith, l))
 shape_found gs Category head n m t e f l = (n, t, e, f, omega (arith, l))
 shape_found gs Media head n m t e f l = tt
 
-with_found : (gs : List Glyph) (k : LinkKind) (head n : ℕ) (t : Target) (stop : Bool) (o : Option ℕ) → target_len (drop 2 gs) ≡ Some n → target_of (take n (drop 2 gs)) ≡ Some t
+with_found : (gs : List Glyph) (k : LinkKind) (head n : ℕ) (t : Target) (stop : Bool) (o : Option ℕ) → target_len (drop 2 gs) ≡ Some n
+    → target_of (take n (drop 2 gs)) ≡ Some t
     → OptFound gs (if stop then None else Some (link_shape k head n (drop 2 gs)))
 with_found gs k head n t stop o e f =
     unless_found gs stop (Some (link_shape k head n (drop 2 gs))) (shape_found gs k head n n t e f (omega arith))
@@ -102,7 +102,8 @@ kind_found gs t n Page i e f = close_found gs t n (to_close (drop n (drop 2 gs))
 kind_found gs t n Category i e f = close_found gs t n (to_close (drop n (drop 2 gs))) e f
 kind_found gs t n Media i e f = media_found gs t n (inner_len Media n (drop 2 gs)) i
 
-target_found : (gs : List Glyph) (n : ℕ) (o : Option Target) → target_len (drop 2 gs) ≡ Some n → target_of (take n (drop 2 gs)) ≡ o → OptFound gs (link_by_target o n (drop 2 gs))
+target_found : (gs : List Glyph) (n : ℕ) (o : Option Target) → target_len (drop 2 gs) ≡ Some n → target_of (take n (drop 2 gs)) ≡ o
+    → OptFound gs (link_by_target o n (drop 2 gs))
 target_found gs n None e f = tt
 target_found gs n (Some t) e f = kind_found gs t n (kind_of t) refl e f
 
@@ -211,7 +212,8 @@ bar_local m [] = refl
 bar_local m (g ∷ []) = refl
 bar_local m (g ∷ h ∷ gs) = refl
 
-place_step : (f b : List Glyph → Bool) (g : Glyph) (gs : List Glyph) (m n : ℕ) (s t : Bool) (o : Option ℕ) → IsLocal f → IsLocal b → f (g ∷ gs) ≡ s → b (g ∷ gs) ≡ t → n ≤ m
+place_step : (f b : List Glyph → Bool) (g : Glyph) (gs : List Glyph) (m n : ℕ) (s t : Bool) (o : Option ℕ) → IsLocal f → IsLocal b → f (g ∷ gs) ≡ s
+    → b (g ∷ gs) ≡ t → n ≤ m
     → (if s then Some 0 else (if t then None else option_map (λ k. suc k) o)) ≡ Some n
     → ((j : ℕ) → o ≡ Some j → suc j ≡ n → place f b (take (suc m) gs) ≡ Some j) → place f b (take (suc (suc m)) (g ∷ gs)) ≡ Some n
 place_step f b g gs m n true t o lf lb ef eb l e h = let a = lf m (g ∷ gs) ∙ ef in rw a e
@@ -226,7 +228,8 @@ place_step f b g gs m n false false (Some j) lf lb ef eb l e h =
     same : (x y : ℕ) → Some x ≡ Some y → x ≡ y
     same x y k = cc
 
-place_front : (f b : List Glyph → Bool) → IsLocal f → IsLocal b → (gs : List Glyph) (m n : ℕ) → place f b gs ≡ Some n → n + 2 ≤ m → place f b (take m gs) ≡ Some n
+place_front : (f b : List Glyph → Bool) → IsLocal f → IsLocal b → (gs : List Glyph) (m n : ℕ) → place f b gs ≡ Some n → n + 2 ≤ m
+    → place f b (take m gs) ≡ Some n
 place_front f b lf lb [] m n e l = cc
 place_front f b lf lb (g ∷ gs) zero n e l = absurd (omega (arith, l))
 place_front f b lf lb (g ∷ gs) (suc zero) n e l = absurd (omega (arith, l))
@@ -281,7 +284,12 @@ target_leads gs t e = of_leads gs (list_any is_atom gs) t e
 -- ---- the tiles of a context
 
 found_led : (xs : List Item) (m : ℕ) → IsFound (map glyph_of xs) m → IsLed (take m xs)
-found_led xs m f = (f.1, ap target (sym (take-map glyph_of m xs)) ∙ target_front (map glyph_of xs) m f, target_leads (take f.0 (drop 2 (map glyph_of xs))) f.1 f.3)
+found_led xs m f = (
+  f.1,
+  ap target (sym (take-map glyph_of m xs))
+      ∙ target_front (map glyph_of xs) m f,
+  target_leads (take f.0 (drop 2 (map glyph_of xs))) f.1 f.3,
+)
 
 has_target : (k : TileKind) (xs : List Item) (m : ℕ) → FoundBy k (map glyph_of xs) m → HasTarget k (take m xs)
 has_target kind.Link xs m f = found_led xs m f
@@ -297,12 +305,16 @@ has_target kind.Atom xs m f = tt
 has_target kind.Mark xs m f = tt
 has_target kind.Chars xs m f = tt
 
-parts_have : (cx : Context) (after : Bool) (ws : List Shape) (xs : List Item) → AreTiles cx after ws (map glyph_of xs) → AllByRecursion (λ p. HasTarget p.0.kind p.1) (parts ws xs)
+parts_have : (cx : Context) (after : Bool) (ws : List Shape) (xs : List Item) → AreTiles cx after ws (map glyph_of xs)
+    → AllByRecursion (λ p. HasTarget p.0.kind p.1) (parts ws xs)
 parts_have cx after [] xs h = tt
 parts_have cx after (w ∷ ws) xs (pos, le, stands, apart, rest) =
     let next = is_word_at (map glyph_of xs) (size w - 1) in
-    let P : List Glyph → Type 0 = λ gs. AreTiles cx next ws gs in
-    (has_target w.kind xs (size w) (stands_found w.kind cx after w (map glyph_of xs) stands), parts_have cx next ws (drop (size w) xs) (subst P (drop-map glyph_of (size w) xs) rest))
+    let P : List Glyph → Type 0 = λ gs. AreTiles cx next ws gs in (
+      has_target w.kind xs (size w) (stands_found w.kind cx after w (map glyph_of xs) stands),
+      parts_have cx next ws (drop (size w) xs)
+          (subst P (drop-map glyph_of (size w) xs) rest),
+    )
 
 pub have_targets : (cx : Context) (xs : List Item) → HaveTargets cx xs
 unfolding tiles

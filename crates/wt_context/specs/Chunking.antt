@@ -1,6 +1,6 @@
 -- Chunks while segments are read: those that are made, the visible items since the last run, and how many apostrophes stand
 -- behind them, which may go on.
-use Rattle.std.specs.Prelude.{◌≡◌, ℕ, suc, ◌==◌, Bool, Some, None, List, [], ◌∷◌, ◌++◌, nat_le, if◌then◌else◌}
+use Rattle.std.specs.Prelude.{◌≡◌, ℕ, suc, ◌==◌, Some, List, [], ◌∷◌, ◌++◌, nat_le, if◌then◌else◌}
 use Rattle.wt_quotes.specs.declared.chunk.Chunk.{Chunk}
 use Rattle.wt_quotes.specs.declared.chunk.Chunk.TheVariants as chunk
 use Rattle.wt_context.specs.declared.seen.Seen.{Seen}

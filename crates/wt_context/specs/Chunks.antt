@@ -1,5 +1,5 @@
 -- The segments of a context as the rule of apostrophes takes them, each segment one place.
-use Rattle.std.specs.Prelude.{ℕ, Bool, true, false, not, ◌&&◌, Option, Some, None, List, [], ◌∷◌, ◌++◌, length, nat_le, reverse, filter, slice_get, if◌then◌else◌}
+use Rattle.std.specs.Prelude.{ℕ, Bool, false, not, ◌&&◌, Option, Some, None, List, [], ◌∷◌, ◌++◌, length, nat_le, reverse, filter, slice_get, if◌then◌else◌}
 use Rattle.wt_span.specs.Items.{Item, char, whole, is_mark}
 use Rattle.wt_span.specs.Runs.{runs}
 use Rattle.wt_quotes.specs.declared.chunk.Chunk.{Chunk}

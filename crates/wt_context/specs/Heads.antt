@@ -1,5 +1,5 @@
 -- What the elements of tiles carry: links, attributes and the names of switches. Each by the items of its tile.
-use Rattle.std.specs.Prelude.{ℕ, ◌+◌, ◌==◌, Bool, not, Option, Some, None, List, [], ◌∷◌, ◌++◌, map, take, drop, slice_index, codes, if◌then◌else◌}
+use Rattle.std.specs.Prelude.{ℕ, ◌+◌, ◌==◌, not, Option, Some, None, List, [], ◌∷◌, ◌++◌, map, take, drop, slice_index, codes, if◌then◌else◌}
 use Rattle.std.specs.List.{flat_map, prefix_len}
 use Rattle.std.specs.Option.{option_map}
 use Rattle.std.specs.Str.{bytes_eq}
@@ -11,7 +11,6 @@ use Rattle.wt_tree.specs.declared.kind.AttrName.{AttrName}
 use Rattle.wt_tree.specs.declared.kind.AttrName.TheVariants as attr
 use Rattle.wt_span.specs.Bytes.{is_blank}
 use Rattle.wt_span.specs.Items.{Item, sources}
-use Rattle.wt_names.specs.declared.title.Title.{Title}
 use Rattle.wt_names.specs.Written.{link_to}
 use Rattle.wt_attributes.specs.Attributes.{attributes}
 use Rattle.wt_tiles.specs.declared.glyph.Glyph.{Glyph}
@@ -24,7 +23,7 @@ use Rattle.wt_tiles.specs.Glyphs.{glyph_of, run_len}
 use Rattle.wt_tiles.specs.Tags.{tag_at, name_len}
 use Rattle.wt_tiles.specs.Links.{target_len, target_of, has_pipe, to_close}
 use Rattle.wt_inline.specs.Carried.{shown_item, typeof, placeholder_typeof}
-use Rattle.wt_inline.specs.ItemTree.{Head, plain}
+use Rattle.wt_inline.specs.ItemTree.{Head}
 use Rattle.wt_context.specs.Chunks.{visible}
 
 abbrev pub glyphs : List Item → List Glyph

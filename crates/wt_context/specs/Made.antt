@@ -1,8 +1,7 @@
 -- Children that these parts alone have made.
 use Rattle.std.specs.Prelude.{List, [], None}
-use Rattle.wt_inline.specs.Parts.{Part, children}
-use Rattle.wt_inline.specs.Grown.{Grown, Grows, made}
-use Rattle.wt_context.specs.Segments.{Segment}
+use Rattle.wt_inline.specs.Parts.{Part}
+use Rattle.wt_inline.specs.Grown.{Grown, Grows}
 
 -- what stands in a node
 abbrev pub Inside : Type 0

@@ -1,6 +1,6 @@
 -- The last two visible items as they are carried from item to item.
 use Rattle.std.specs.Prelude.{ℕ, Option, Some, None, List, [], ◌∷◌, if◌then◌else◌}
-use Rattle.wt_span.specs.Items.{Item, char, whole, is_mark}
+use Rattle.wt_span.specs.Items.{Item, is_mark}
 use Rattle.wt_context.specs.declared.seen.Seen.{Seen}
 use Rattle.wt_context.specs.Chunks.{letter}
 

@@ -1,6 +1,6 @@
 -- What a context is made of, as apostrophes see it: each apostrophe by itself, each longest stretch of other characters, and each
 -- tile. Styles begin and end between segments, so that none begins or ends in a tile.
-use Rattle.std.specs.Prelude.{ℕ, Bool, true, false, not, ◌==◌, ◌||◌, List, [], ◌∷◌, length, map}
+use Rattle.std.specs.Prelude.{Bool, false, not, ◌==◌, ◌||◌, List, [], ◌∷◌, map}
 use Rattle.std.specs.List.{flat_map, list_all}
 use Rattle.wt_span.specs.Items.{Item, is_char_in}
 use Rattle.wt_span.specs.Runs.{runs}

@@ -1,5 +1,5 @@
 -- Styles as nodes over segments: places are numbers of segments from the start of the context.
-use Rattle.std.specs.Prelude.{ℕ, ◌+◌, ◌-◌, Bool, true, false, List, [], ◌∷◌, ◌++◌, length, take, drop}
+use Rattle.std.specs.Prelude.{ℕ, ◌+◌, ◌-◌, Bool, true, false, List, ◌∷◌, ◌++◌, length, take, drop}
 use Rattle.wt_tree.specs.declared.kind.Kind.{Kind}
 use Rattle.wt_tree.specs.declared.kind.Kind.TheVariants as kind
 use Rattle.wt_quotes.specs.declared.style.Style.{Style}
@@ -21,7 +21,8 @@ between from to us = take (to - from) (drop from us)
 -- the node of a style with these parts inside
 abbrev pub style_node : Style → List Part → List Segment → ItemTree
 style_node s inside us =
-    inner (plain (style_kind s.bold)) (segment_items (between s.from (s.from + s.open_w) us)) (forest (children inside)) (segment_items (between (s.to - s.close_w) s.to us))
+    inner (plain (style_kind s.bold)) (segment_items (between s.from (s.from + s.open_w) us)) (forest (children inside))
+    (segment_items (between (s.to - s.close_w) s.to us))
 
 -- the parts between two places, with these styles
 abbrev pub styled : ℕ → ℕ → Forest → List Segment → List Part

@@ -2,7 +2,7 @@
 use Rattle.std.specs.Prelude.{◌≡◌, ℕ, ◌+◌, ◌-◌, ◌≤◌, List, [], ◌∷◌, ◌++◌, drop}
 use Rattle.wt_quotes.specs.declared.style.Style.{Style}
 use Rattle.wt_quotes.specs.Forest.{Forest, bare, grown, forest_of}
-use Rattle.wt_inline.specs.Parts.{Part, node}
+use Rattle.wt_inline.specs.Parts.{node}
 use Rattle.wt_inline.specs.Grown.{Grown, Grows}
 use Rattle.wt_context.specs.Segments.{Segment, segment_parts}
 use Rattle.wt_context.specs.Styled.{between, style_node, styled}
@@ -16,7 +16,8 @@ Fill low high (grown s inside after) = (low ≤ s.from) × Fill (s.from + s.open
 abbrev pub IsStyle : ℕ → Style → List Style → List Segment → Grown → List Segment → Grown → Type 0
 IsStyle low s ss before g after h =
     (us : List Segment) → drop low us ≡ before
-    → Grows g (segment_parts (between low s.from us) ++ (node (style_node s (styled (s.from + s.open_w) (s.to - s.close_w) (forest_of ss) us) us) ∷ [])) h × (drop s.to us ≡ after)
+    → Grows g (segment_parts (between low s.from us) ++ (node (style_node s (styled (s.from + s.open_w) (s.to - s.close_w) (forest_of ss) us) us) ∷ [])) h
+    × (drop s.to us ≡ after)
 
 -- the same of all segments up to the place `high`
 abbrev pub AreStyled : ℕ → ℕ → List Style → List Segment → Grown → List Segment → Grown → Type 0

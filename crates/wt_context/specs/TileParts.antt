@@ -1,5 +1,5 @@
 -- A tile whose parts can be cut.
-use Rattle.std.specs.Prelude.{◌≡◌, ◌<◌, ℕ, ◌+◌, List, length, drop, All}
+use Rattle.std.specs.Prelude.{◌≡◌, ◌<◌, ◌+◌, List, length, drop, All}
 use Rattle.wt_span.specs.Items.{Item, items}
 use Rattle.wt_span.specs.Origins.{IsSoundPiece}
 use Rattle.wt_tiles.specs.declared.shape.Shape.{Shape}

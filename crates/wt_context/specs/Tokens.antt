@@ -1,17 +1,14 @@
 -- Tokens: the pieces of segments, several apostrophes in one.
-use Rattle.std.specs.Prelude.{◌≡◌, ◌<◌, ℕ, ◌==◌, Bool, true, false, not, Option, Some, None, List, [], ◌∷◌, ◌++◌, length, map}
-use Rattle.std.specs.List.{flat_map, list_all}
+use Rattle.std.specs.Prelude.{Option, Some, None, List, [], ◌∷◌, ◌++◌, map}
+use Rattle.std.specs.List.{flat_map}
 use Rattle.std.specs.Vec.Iter.{into_iter_items}
-use Rattle.wt_span.specs.declared.form.Piece.{Piece}
 use Rattle.wt_span.specs.Items.{Item, items, items_of}
 use Rattle.wt_inline.specs.View.{item_tree}
 use Rattle.wt_context.specs.declared.stretch.Quotes.{Quotes}
-use Rattle.wt_context.specs.declared.stretch.Stretch.{Stretch}
-use Rattle.wt_context.specs.declared.token.TileNode.{TileNode}
 use Rattle.wt_context.specs.declared.token.Token.{Token}
 use Rattle.wt_context.specs.declared.token.Token.TheVariants as token
 use Rattle.wt_context.specs.declared.rest.Rest.{Rest}
-use Rattle.wt_context.specs.Segments.{Segment, is_quote, loose_segment, tree_segment}
+use Rattle.wt_context.specs.Segments.{Segment, loose_segment, tree_segment}
 
 -- each apostrophe is a segment
 abbrev pub quote_segments : List Item → List Segment

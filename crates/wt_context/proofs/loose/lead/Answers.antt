@@ -1,4 +1,4 @@
-use Rattle.std.proofs.Common.{◌≡◌, ap, ◌∙◌, sym, subst, ℕ, List, get_or, take, true}
+use Rattle.std.proofs.Common.{ap, ◌∙◌, get_or, take}
 use Rattle.std.specs.Prelude.{◌==◌}
 use Rattle.std.specs.List.{prefix_len, list_all}
 use Rattle.wt_context.specs.Loosened.{is_alike}
@@ -15,4 +15,5 @@ pub returns-clause-border : goal.returns-clause-border
 returns-clause-border c =
     let q = c.is_quote-quotes.result in
     let is = c.alike_len.ensures.value ∙ ap (prefix_len (is_alike q)) c.as_bytes-bytes.ensures.value in
-    alike_border c.args.text.now q c.alike_len.result c.utf8.text c.requires (c.is_quote-quotes.ensures ∙ ap (λ bs. get_or bs 0 0 == 39) c.as_bytes-bytes.ensures.value) is
+    alike_border c.args.text.now q c.alike_len.result c.utf8.text c.requires
+    (c.is_quote-quotes.ensures ∙ ap (λ bs. get_or bs 0 0 == 39) c.as_bytes-bytes.ensures.value) is

@@ -1,10 +1,10 @@
-use Rattle.std.proofs.Common.{◌≡◌, ◌-◌, ◌<◌, List, sym, ap, ◌∙◌, subst, arith}
+use Rattle.std.proofs.Common.{List, ap, subst, arith}
 use Rattle.std.specs.Prelude.{All}
 use Rattle.std.specs.Vec.Iter.{into_iter_items}
 use Rattle.std.proofs.lemmas.Result.{IfOk-weaker}
 use Rattle.std.proofs.lemmas.List.Elements.{All-tail}
 use Rattle.wt_tiles.specs.declared.tile.Tile.{Tile}
-use Rattle.wt_span.specs.Items.{Item, items}
+use Rattle.wt_span.specs.Items.{items}
 use Rattle.wt_inline.specs.Parts.{Part}
 use Rattle.wt_inline.specs.View.{item_tree}
 use Rattle.wt_inline.specs.Grown.{grown, Grows}
@@ -21,8 +21,10 @@ nested-returns t c =
     let ps = c.in_ok-parts.parts in
     let xs = items c.args.tile.now.pieces in
     IfOk-weaker c.nested_tree.result _ _
-    (λ tree f. nested_made c.args.kind (item_tree tree) (shape_of c.args.tile.now) xs (items ps.opening) (items ps.inside) (items ps.closing) (items ps.trail) (items c.as_slice.result.now) (λ ys. within c.args.levels c.args.context ys)
-    (grown c.new.result) (grown c.in_ok-children.children) c.in_ok-parts.ensures.opening c.in_ok-parts.ensures.inside c.in_ok-parts.ensures.closing c.in_ok-parts.ensures.trail (ap items c.as_slice.ensures) c.new.ensures c.in_ok-children.ensures f)
+    (λ tree f. nested_made c.args.kind (item_tree tree) (shape_of c.args.tile.now) xs (items ps.opening) (items ps.inside) (items ps.closing)
+    (items ps.trail) (items c.as_slice.result.now) (λ ys. within c.args.levels c.args.context ys)
+    (grown c.new.result) (grown c.in_ok-children.children) c.in_ok-parts.ensures.opening c.in_ok-parts.ensures.inside c.in_ok-parts.ensures.closing
+    c.in_ok-parts.ensures.trail (ap items c.as_slice.ensures) c.new.ensures c.in_ok-children.ensures f)
     c.nested_tree.ensures
 
 pub tokens_of-loop-tile-preserved : goal.tokens_of-loop-tile-preserved
@@ -32,14 +34,19 @@ tokens_of-loop-tile-preserved t c =
     let steps = c.in-Some.ensures.steps.0 in
     record {
       cut = All-tail IsCutTile c.in-Some.tile rest (subst (λ (ts : List Tile). All IsCutTile ts) steps c.loop-tile.invariant.cut);
-      made = tiles_step (within c.args.levels) c.args.context before rest c.in-Some.tile (segments_of c.loop-tile.tokens) (segments_of c.in_ok-tokens.tokens) _ steps c.in_ok-tokens.ensures c.loop-tile.invariant.made;
+      made = tiles_step (within c.args.levels) c.args.context before rest c.in-Some.tile (segments_of c.loop-tile.tokens)
+          (segments_of c.in_ok-tokens.tokens) _ steps c.in_ok-tokens.ensures c.loop-tile.invariant.made;
     }
 
 pub with_context-tokens_of-requires : goal.with_context-tokens_of-requires
 with_context-tokens_of-requires t c =
     let some = c.if-levels-eq0.false in (
       omega (arith, some),
-      (tiles_cut c.args.context (items c.args.pieces.now) c.in_ok-tiles.tiles c.in_ok-tiles.ensures.value c.in_ok-tiles.ensures.sound, omega (arith, some, c.requires.room)),
+      (
+        tiles_cut c.args.context (items c.args.pieces.now) c.in_ok-tiles.tiles c.in_ok-tiles.ensures.value c.in_ok-tiles.ensures.sound,
+        omega
+            (arith, some, c.requires.room),
+      ),
     )
 
 pub with_context-returns : goal.with_context-returns
@@ -47,5 +54,6 @@ with_context-returns t c =
     let some = c.if-levels-eq0.false in
     let xs = items c.args.pieces.now in
     let g = grown c.args.children in
-    let is = context_read c.args.levels c.args.context xs c.in_ok-tiles.tiles (segments_of c.in_ok-tokens.tokens) (omega (arith, some)) c.in_ok-tiles.ensures.value c.in_ok-tokens.ensures in
+    let is = context_read c.args.levels c.args.context xs c.in_ok-tiles.tiles (segments_of c.in_ok-tokens.tokens)
+    (omega (arith, some)) c.in_ok-tiles.ensures.value c.in_ok-tokens.ensures in
     IfOk-weaker c.with_styles.result _ _ (λ d a. subst (λ (ps : List Part). Grows g ps (grown d)) is a) c.with_styles.ensures

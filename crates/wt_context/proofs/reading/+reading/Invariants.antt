@@ -1,4 +1,4 @@
-use Rattle.std.proofs.Common.{◌≡◌, ◌++◌, ℕ, ◌+◌, ◌*◌, map}
+use Rattle.std.proofs.Common.{◌≡◌, ◌++◌, ◌+◌, ◌*◌, map}
 use Rattle.std.specs.Prelude.{All}
 use Rattle.std.specs.List.{flat_map}
 use Rattle.std.specs.Vec.Iter.{into_iter_items}
@@ -27,5 +27,6 @@ decreases-with_tile l = 5 * l.levels + 3
 abbrev pub invariant-tokens_of-loop-tile : goal.invariant-tokens_of-loop-tile
 invariant-tokens_of-loop-tile l = record {
   cut : All IsCutTile (into_iter_items l.tile-iterator);
-  made : segments_of l.tokens ++ flat_map (tile_segments (within l.levels) l.context) (map tile_of (into_iter_items l.tile-iterator)) ≡ flat_map (tile_segments (within l.levels) l.context) (map tile_of (into_iter_items l.initial.tile-iterator));
+  made : segments_of l.tokens ++ flat_map (tile_segments (within l.levels) l.context) (map tile_of (into_iter_items l.tile-iterator))
+      ≡ flat_map (tile_segments (within l.levels) l.context) (map tile_of (into_iter_items l.initial.tile-iterator));
 }

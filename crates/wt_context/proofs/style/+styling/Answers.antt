@@ -1,10 +1,10 @@
-use Rattle.std.proofs.Common.{◌≡◌, ℕ, ◌+◌, ◌-◌, ◌<◌, ◌≤◌, None, List, [], length, take, drop, get_or, refl, sym, ap, ◌∙◌, subst, arith}
+use Rattle.std.proofs.Common.{◌+◌, ◌-◌, ◌≤◌, length, drop, get_or, ap, ◌∙◌, subst, arith}
 use Rattle.std.proofs.lemmas.List.{drop_all}
 use Rattle.wt_span.specs.Items.{items}
 use Rattle.wt_quotes.specs.Forest.{forest_of}
 use Rattle.wt_inline.specs.ItemTree.{plain, inner as inner_tree, forest}
-use Rattle.wt_inline.specs.View.{item_tree, item_trees}
-use Rattle.wt_inline.specs.Grown.{Grown, grown, made}
+use Rattle.wt_inline.specs.View.{item_tree}
+use Rattle.wt_inline.specs.Grown.{Grown, grown}
 use Rattle.wt_context.specs.Styled.{style_kind}
 use Rattle.wt_context.specs.Styling.{AreStyled}
 use Rattle.wt_context.specs.Tokens.{rest_segments}
@@ -42,7 +42,8 @@ styled-loop-at-preserved t c =
     let fill = fill_at c.loop-at.place c.args.high _ _ fo c.loop-at.invariant.fill in
     record {
       fill = fill.3;
-      left = left_step c.args.low c.args.high c.loop-at.place ss (drop at ss) more ins s (rest_segments c.args.now.rest) (rest_segments c.loop-at.now.rest) (rest_segments c.in_ok-now.now.rest)
+      left = left_step c.args.low c.args.high c.loop-at.place ss (drop at ss) more ins s (rest_segments c.args.now.rest) (rest_segments c.loop-at.now.rest)
+          (rest_segments c.in_ok-now.now.rest)
           (grown c.args.now.children) (grown c.loop-at.now.children) (grown c.in_ok-now.now.children) fo c.in_ok-now.ensures c.loop-at.invariant.left;
     }
 
@@ -51,8 +52,10 @@ styled-returns t c =
     let ss = c.args.styles.now in
     let at = c.loop-at.at in
     let end : length ss ≤ at = omega (arith, c.loop-at-test.false) in
-    left_done c.args.low c.args.high c.loop-at.place ss (drop at ss) (rest_segments c.args.now.rest) (rest_segments c.loop-at.now.rest) (rest_segments c.in_ok-children.rest)
-    (grown c.args.now.children) (grown c.loop-at.now.children) (grown c.in_ok-children.children) (drop_all at ss end) (fill_le c.loop-at.place c.args.high (forest_of (drop at ss)) c.loop-at.invariant.fill)
+    left_done c.args.low c.args.high c.loop-at.place ss (drop at ss) (rest_segments c.args.now.rest) (rest_segments c.loop-at.now.rest)
+    (rest_segments c.in_ok-children.rest)
+    (grown c.args.now.children) (grown c.loop-at.now.children) (grown c.in_ok-children.children) (drop_all at ss end)
+    (fill_le c.loop-at.place c.args.high (forest_of (drop at ss)) c.loop-at.invariant.fill)
     c.in_ok-children.ensures.front c.in_ok-children.ensures.back c.loop-at.invariant.left
 
 pub with_style-returns : goal.with_style-returns
@@ -66,8 +69,11 @@ with_style-returns t c =
     let high = s.to - s.close_w in
     let within = subst (λ (g : Grown). AreStyled low high ss b2 g b3 k) c.new.ensures c.in_ok-inside.ensures in
     style_made c.args.low s ss (rest_segments c.args.now.rest) (rest_segments c.in_ok-children.rest) b2 b3 (rest_segments c.in_ok-closing.rest)
-    (grown c.args.now.children) (grown c.in_ok-children.children) k (grown c.in_ok-children-2.children) (item_tree c.style_node-node.result) (items c.in_ok-opening.opening) (items c.in_ok-closing.closing)
+    (grown c.args.now.children) (grown c.in_ok-children.children) k (grown c.in_ok-children-2.children) (item_tree c.style_node-node.result)
+    (items c.in_ok-opening.opening) (items c.in_ok-closing.closing)
     c.requires.start c.requires.closing (fill_le low high (forest_of ss) c.requires.inside)
-    c.in_ok-children.ensures.front c.in_ok-children.ensures.back c.in_ok-opening.ensures.front c.in_ok-opening.ensures.back within c.in_ok-closing.ensures.front c.in_ok-closing.ensures.back
-    (c.style_node-node.ensures ∙ ap (λ ts. inner_tree (plain (style_kind s.bold)) (items c.in_ok-opening.opening) (forest ts) (items c.in_ok-closing.closing)) c.in_ok-within.ensures)
+    c.in_ok-children.ensures.front c.in_ok-children.ensures.back c.in_ok-opening.ensures.front c.in_ok-opening.ensures.back within
+    c.in_ok-closing.ensures.front c.in_ok-closing.ensures.back
+    (c.style_node-node.ensures ∙ ap
+    (λ ts. inner_tree (plain (style_kind s.bold)) (items c.in_ok-opening.opening) (forest ts) (items c.in_ok-closing.closing)) c.in_ok-within.ensures)
     c.in_ok-children-2.ensures

@@ -1,4 +1,4 @@
-use Rattle.std.proofs.Common.{◌≡◌, ◌+◌, refl, sym, ap, ◌∙◌, subst, arith, length}
+use Rattle.std.proofs.Common.{◌+◌, refl, sym, ap, ◌∙◌, subst, arith}
 use Rattle.std.proofs.lemmas.Result.{IfOk-weaker}
 use Rattle.wt_span.specs.Items.{items, items_of}
 use Rattle.wt_context.specs.declared.token.Token.{Token}
@@ -14,13 +14,15 @@ returns-in-Quotes-clause-value c =
     let q = c.in-Quotes.quotes in
     let n = c.with_quotes.ensures.quotes in
     subst (λ (t : Token). IsChunked c.args.self (token_segments t) c.with_quotes.result) (sym c.in-Quotes.is)
-    (quotes_more c.args.self c.with_quotes.result (items_of q.piece) q.quotes c.with_quotes.ensures.chunks c.with_quotes.ensures.seen (n ∙ ap (λ m. c.args.self.quotes + m) c.len.ensures.value))
+    (quotes_more c.args.self c.with_quotes.result (items_of q.piece) q.quotes c.with_quotes.ensures.chunks c.with_quotes.ensures.seen
+    (n ∙ ap (λ m. c.args.self.quotes + m) c.len.ensures.value))
 
 pub returns-in-Stretch-clause-value : goal.returns-in-Stretch-clause-value
 returns-in-Stretch-clause-value c =
     let s = c.in-Stretch.stretch in
     IfOk-weaker c.with_pieces.result _ _
-    (λ d h. subst (λ (t : Token). IsChunked c.args.self (token_segments t) d) (sym c.in-Stretch.is) (h (loose_segment (items s.pieces)) (plain_first (items s.pieces) s.plain) (ap items (sym c.as_slice.ensures))))
+    (λ d h. subst (λ (t : Token). IsChunked c.args.self (token_segments t) d) (sym c.in-Stretch.is)
+    (h (loose_segment (items s.pieces)) (plain_first (items s.pieces) s.plain) (ap items (sym c.as_slice.ensures))))
     c.with_pieces.ensures.value
 
 pub returns-in-Stretch-clause-few : goal.returns-in-Stretch-clause-few
@@ -30,7 +32,8 @@ pub returns-in-Tile-clause-value : goal.returns-in-Tile-clause-value
 returns-in-Tile-clause-value c =
     let s = c.in-Tile.tile in
     IfOk-weaker c.with_pieces-in-Tile.result _ _
-    (λ d h. subst (λ (t : Token). IsChunked c.args.self (token_segments t) d) (sym c.in-Tile.is) (h (tree_segment (items s.pieces) (item_tree s.tree)) refl (ap items (sym c.as_slice-in-Tile.ensures))))
+    (λ d h. subst (λ (t : Token). IsChunked c.args.self (token_segments t) d) (sym c.in-Tile.is)
+    (h (tree_segment (items s.pieces) (item_tree s.tree)) refl (ap items (sym c.as_slice-in-Tile.ensures))))
     c.with_pieces-in-Tile.ensures.value
 
 pub returns-in-Tile-clause-few : goal.returns-in-Tile-clause-few

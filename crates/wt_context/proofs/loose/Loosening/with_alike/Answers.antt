@@ -8,4 +8,5 @@ pub of-requires-clause-quotes : goal.of-requires-clause-quotes
 of-requires-clause-quotes c = alike_quotes _ (bytes_of c.args.text) c.args.quotes c.if-quotes.true c.requires.alike
 
 pub with_plain-requires-clause-plain : goal.with_plain-requires-clause-plain
-with_plain-requires-clause-plain c = ap are_plain c.chars_piece.ensures.items ∙ alike_plain _ (bytes_of c.args.text) c.args.quotes c.if-quotes.false c.requires.alike
+with_plain-requires-clause-plain c = ap are_plain c.chars_piece.ensures.items
+    ∙ alike_plain _ (bytes_of c.args.text) c.args.quotes c.if-quotes.false c.requires.alike

@@ -1,4 +1,4 @@
-use Rattle.std.proofs.Common.{◌≡◌, ◌≤◌, ◌-◌, ◌++◌, [], length, ap}
+use Rattle.std.proofs.Common.{◌-◌, [], ap}
 use Rattle.wt_span.specs.Items.{items}
 use Rattle.wt_context.specs.Tokens.{token_segments, rest_segments}
 use Rattle.wt_context.proofs.Resting.{at_some, cut_step}
@@ -10,5 +10,7 @@ loop-left-preserved c =
     let left = c.loop-left.left in
     let o = c.take-token.result.0 in
     let after = rest_segments c.take-token.result.1 in
-    cut_step [] (items c.loop-left.pieces) (items c.push_pieces.new.out) c.args.n left (left - c.len-left.result) (rest_segments c.args.self) (rest_segments c.loop-left.rest) (token_segments t) after
-    (at_some o t _ _ c.in-Some.is c.take-token.ensures.value) (at_some o t _ _ c.in-Some.is c.take-token.ensures.few) (ap (λ k. left - k) c.len-left.ensures.value) c.in_ok-push_pieces.ensures c.loop-left.invariant
+    cut_step [] (items c.loop-left.pieces) (items c.push_pieces.new.out) c.args.n left (left - c.len-left.result) (rest_segments c.args.self)
+    (rest_segments c.loop-left.rest) (token_segments t) after
+    (at_some o t _ _ c.in-Some.is c.take-token.ensures.value) (at_some o t _ _ c.in-Some.is c.take-token.ensures.few)
+    (ap (λ k. left - k) c.len-left.ensures.value) c.in_ok-push_pieces.ensures c.loop-left.invariant

@@ -1,11 +1,8 @@
-use Rattle.std.proofs.Common.{◌≡◌, Option, List, [], ◌++◌, subst}
-use Rattle.std.specs.Prelude.{MatchOption}
-use Rattle.wt_context.specs.declared.token.Token.{Token}
-use Rattle.wt_context.specs.Tokens.{token_segments, rest_segments}
 use Rattle.wt_context.proofs.Resting.{rest_cut}
 use Rattle.wt_context.proofs.rest.Rest.take.Goals as goal
 
 pub returns-clause-value : goal.returns-clause-value
 returns-clause-value c =
     let r = c.next-token.result.1 in
-    rest_cut c.args.self r c.in-Some.token c.split_at-front.result.0 c.split_at-front.result.1 c.args.n c.next-token.result.0 c.in-Some.is c.next-token.ensures.value c.next-token.ensures.none c.split_at-front.ensures.front c.split_at-front.ensures.back
+    rest_cut c.args.self r c.in-Some.token c.split_at-front.result.0 c.split_at-front.result.1 c.args.n c.next-token.result.0 c.in-Some.is
+    c.next-token.ensures.value c.next-token.ensures.none c.split_at-front.ensures.front c.split_at-front.ensures.back

@@ -1,4 +1,4 @@
-use Rattle.std.proofs.Common.{◌≡◌, ◌+◌, ◌-◌, ◌<◌, ◌≤◌, ℕ, take, drop, length, sym, ap, ◌∙◌, subst, arith}
+use Rattle.std.proofs.Common.{◌≡◌, ◌+◌, ◌-◌, take, drop, sym, ap, ◌∙◌, subst, arith}
 use Rattle.std.specs.Str.{IsCharBoundary}
 use Rattle.wt_span.specs.Slice.{bytes_of, start_of}
 use Rattle.wt_span.specs.Items.{call_of_origin}
@@ -22,10 +22,14 @@ pub returns-clause-front : goal.returns-clause-front
 returns-clause-front c =
     let p = c.args.self.piece in
     let z : c.range.result.start + c.args.n - start_of p.text ≡ c.args.n = omega (arith, c.range.ensures.start) in
-    c.of.ensures ∙ cut_front p c.args.n (bytes_of c.split_at.result.0) c.requires.some (omega (arith, c.requires.within, count_is p.form (call_of_origin p.origin) (bytes_of p.text))) (c.split_at.ensures.front ∙ ap (λ n. take n (bytes_of p.text)) z)
+    c.of.ensures ∙ cut_front p c.args.n (bytes_of c.split_at.result.0) c.requires.some
+    (omega (arith, c.requires.within, count_is p.form (call_of_origin p.origin) (bytes_of p.text)))
+    (c.split_at.ensures.front ∙ ap (λ n. take n (bytes_of p.text)) z)
 
 pub returns-clause-back : goal.returns-clause-back
 returns-clause-back c =
     let p = c.args.self.piece in
     let z : c.range.result.start + c.args.n - start_of p.text ≡ c.args.n = omega (arith, c.range.ensures.start) in
-    c.of-2.ensures ∙ cut_back p c.args.n (bytes_of c.split_at.result.1) c.requires.some (omega (arith, c.requires.within, count_is p.form (call_of_origin p.origin) (bytes_of p.text))) (c.split_at.ensures.back ∙ ap (λ n. drop n (bytes_of p.text)) z)
+    c.of-2.ensures ∙ cut_back p c.args.n (bytes_of c.split_at.result.1) c.requires.some
+    (omega (arith, c.requires.within, count_is p.form (call_of_origin p.origin) (bytes_of p.text)))
+    (c.split_at.ensures.back ∙ ap (λ n. drop n (bytes_of p.text)) z)

@@ -12,5 +12,6 @@ pub returns-in-Quotes : goal.returns-in-Quotes
 returns-in-Quotes c =
     let g = grown c.args.children in
     IfOk-weaker c.with_chars.result _ _
-    (λ h a. subst (λ (t : Token). Grows g (segment_parts (token_segments t)) (grown h)) (sym c.in-Quotes.is) (grows_quotes g (grown h) (items_of c.in-Quotes.quotes.piece) a))
+    (λ h a. subst (λ (t : Token). Grows g (segment_parts (token_segments t)) (grown h)) (sym c.in-Quotes.is)
+    (grows_quotes g (grown h) (items_of c.in-Quotes.quotes.piece) a))
     c.with_chars.ensures

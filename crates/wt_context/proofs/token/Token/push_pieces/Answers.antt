@@ -1,4 +1,4 @@
-use Rattle.std.proofs.Common.{◌≡◌, ◌++◌, List, sym, ap, ◌∙◌}
+use Rattle.std.proofs.Common.{◌++◌, sym, ap, ◌∙◌}
 use Rattle.std.proofs.lemmas.Result.{on_ok_weaker}
 use Rattle.wt_span.specs.Items.{items, items_of}
 use Rattle.wt_inline.proofs.Trees.{items_more}
@@ -11,5 +11,6 @@ pub returns-in-Quotes : goal.returns-in-Quotes
 returns-in-Quotes c =
     let p = c.in-Quotes.quotes.piece in
     on_ok_weaker c.push.result
-    (λ e. items_more c.args.out.now c.push.new.self p e ∙ ap (λ xs. items c.args.out.now ++ xs) (sym (quote_items (items_of p)) ∙ ap (λ t. segment_items (token_segments t)) (sym c.in-Quotes.is)))
+    (λ e. items_more c.args.out.now c.push.new.self p e
+    ∙ ap (λ xs. items c.args.out.now ++ xs) (sym (quote_items (items_of p)) ∙ ap (λ t. segment_items (token_segments t)) (sym c.in-Quotes.is)))
     c.push.ensures.ok
