@@ -10,6 +10,9 @@ pub mod RunCuts
 pub mod Seen
 pub mod Segments
 pub mod Styled
+pub mod StyledPlaces
 pub mod Styling
+pub mod Targets
 pub mod TileParts
 pub mod Tokens
+pub mod Unstyled
