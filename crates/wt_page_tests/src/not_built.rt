@@ -7,12 +7,7 @@ use wt_span::NoMemory;
 use wt_tree::Kind;
 
 /// The place, where the page's tree has a bold node of this range in its body.
-fn place_beside(
-    alloc: Global,
-    page: &str,
-    start: u32,
-    end: u32,
-) -> Result<Option<u32>, NoMemory> {
+fn place_beside(alloc: Global, page: &str, start: u32, end: u32) -> Result<Option<u32>, NoMemory> {
     if page.len() > 1000 {
         return Ok(None);
     }
@@ -29,7 +24,13 @@ fn place(alloc: Global, page: &str) -> Result<Option<u32>, NoMemory> {
 
 #[test]
 fn finds_the_first_form(rt: HostRuntime) -> Result<(), Fail> {
-    assert_eq!(rt; place(rt.alloc(), "a\n\n== b ==\n- c &lt; [[d|e]] <s>f</s> __TOC__ }]")?, None);
+    assert_eq!(rt;
+        place(
+            rt.alloc(),
+            "a\n\n== b ==\n- c &lt; [[d|e]] <s>f</s> __TOC__ }]"
+        )?,
+        None
+    );
     assert_eq!(rt; place(rt.alloc(), "a*b {")?, Some(4));
     assert_eq!(rt;
         place(rt.alloc(), "<!-- { -->&#123;<nowiki>{</nowiki>x\u{e9}{")?,

@@ -284,10 +284,7 @@ pub const RANGES: [(&str, &str); 18] = [
     (",\n== &  ==\n\n", "mw1 p 0 1 0 0\nmw2 h2 2 10 3 4\n"),
     ("\n1bé\n&nbsp;\n", "mw1 p 1 12 0 0\nmw2 entity 6 12 6 0\n"),
     (",, &#x5B;Opava", "mw1 p 0 14 0 0\nmw2 entity 3 9 6 0\n"),
-    (
-        "l'''amour'' x",
-        "mw1 p 0 13 0 0\nmw2 i 2 11 2 2\n",
-    ),
+    ("l'''amour'' x", "mw1 p 0 13 0 0\nmw2 i 2 11 2 2\n"),
     (
         "''a'''b''c'''",
         "mw1 p 0 13 0 0\nmw2 i 0 9 2 2\nmw3 b 3 7 3 0\nmw4 b 9 13 0 3\n",
@@ -333,7 +330,10 @@ pub const NOT_BUILT: [(&str, &str); 14] = [
     (": a", "wtround: not built at 0\n"),
     ("[[a]]\n;b", "wtround: not built at 6\n"),
     ("a\n<!-- c --> b", "wtround: not built at 12\n"),
-    ("<!-- { -->&#123;<nowiki>{</nowiki>x\u{e9}{", "wtround: not built at 37\n"),
+    (
+        "<!-- { -->&#123;<nowiki>{</nowiki>x\u{e9}{",
+        "wtround: not built at 37\n",
+    ),
     ("''a'''b''", "wtround: not built at 9\n"),
     ("''a'''b''\n{", "wtround: not built at 9\n"),
     ("{ ''a'''b''", "wtround: not built at 0\n"),
