@@ -127,16 +127,21 @@ class Commands(unittest.TestCase):
         return done.stdout.decode(), done.stderr.decode()
 
     def test_a_page(self) -> None:
-        (self.root / "Opava.wiki").write_text("The town\nlies on [[Opava (river)|the Opava]].\n")
+        (self.root / "Opava.wiki").write_text("The town\nlies on {{river|the Opava}}.\n")
         shown, _ = self.run_tool("Opava.wiki", stdin="wtround: proving ..\nwtround: not built at 17\n")
         self.assertEqual(
             shown,
             "Opava.wiki:2:9: not built at 17\n"
-            "    lies on [[Opava (river)|the Opava]].\n"
+            "    lies on {{river|the Opava}}.\n"
             "            ^\n"
-            "Here stands the sign [ of links, which this version of wtround does not read: "
+            "Here stands the sign { of template calls and tables, which this version of wtround does not read: "
             "take it out of the page, or use a later version.\n",
         )
+
+    def test_a_style_with_nothing_in_it(self) -> None:
+        (self.root / "Main.wiki").write_text("''a'''b''")
+        shown, _ = self.run_tool("Main.wiki", stdin="wtround: not built at 9\n")
+        self.assertIn("Here stands a bold or italic text with nothing in it, which this version", shown)
 
     def test_a_template_is_shown_in_its_own_file(self) -> None:
         (self.root / "Main.wiki").write_text("{{a b}}")
