@@ -1,26 +1,24 @@
 -- Where nothing is refused and no node may hold other children, the edited tree is the page's but for
 -- what may differ.
-use Rattle.std.proofs.Common.{◌≡◌, ℕ, Bool, true, false, List, [], ◌∷◌, ◌++◌, map, refl, sym, ap, ◌∙◌, length, subst, inl, inr, ◌⊎◌}
-use Rattle.std.specs.Prelude.{◌==◌, ◌&&◌, ◌||◌, not, if◌then◌else◌, Option, Some, None, filter}
+use Rattle.std.proofs.Common.{◌≡◌, Bool, true, false, List, [], ◌∷◌, refl, sym, ap, ◌∙◌}
+use Rattle.std.specs.Prelude.{◌==◌, ◌||◌, not, Option, Some, None}
 use Rattle.std.specs.List.{AllByRecursion}
 use Rattle.wt_tree.specs.declared.kind.Kind.{Kind}
 use Rattle.wt_tree.specs.declared.kind.Kind.TheVariants as kind
 use Rattle.wt_tree.specs.Kinds.{showing}
 use Rattle.wt_tree.specs.Plain.{plain}
-use Rattle.wt_tree.specs.Tiling.{is_group, InPreorder, numbers}
+use Rattle.wt_tree.specs.Tiling.{is_group, InPreorder}
 use Rattle.wt_tree.specs.Tree.{Tree, tree, label}
 use Rattle.wt_checks.specs.Checked.{checked}
 use Rattle.wt_checks.specs.Gist.{gist}
-use Rattle.wt_checks.specs.Groups.{is_in_template}
 use Rattle.wt_checks.specs.Ids.{is_there, is_unknown}
-use Rattle.wt_checks.specs.Kept.{Kept, children, GroupAsItWas, NodeAsItWas}
-use Rattle.wt_checks.specs.Marks.{is_wrongly_marked}
-use Rattle.wt_checks.specs.Places.{Place, placed, places, number, kind_at, is_kept, is_body, is_content, Page, page_of}
-use Rattle.wt_checks.specs.PutBack.{original, inside, put_back, all_put_back, NoNewChildren, IsOneBody, AreAsRead, IsThePage}
+use Rattle.wt_checks.specs.Kept.{Kept, GroupAsItWas, NodeAsItWas}
+use Rattle.wt_checks.specs.Places.{Place, places, kind_at, is_kept, is_body, Page, page_of}
+use Rattle.wt_checks.specs.PutBack.{original, inside_back, put_back, all_put_back, NoNewChildren, IsOneBody, AreAsRead, IsThePage}
 use Rattle.wt_checks.specs.Unmarked.{is_compared}
-use Rattle.wt_checks.proofs.Found.{Found, IsKnown, PageNodes, page_nodes, body_no_group}
-use Rattle.wt_checks.proofs.InOrder.{Nowhere, none_of_them, Increasing, range_increasing, not_false, zero_of, not_zero_kept}
-use Rattle.wt_checks.proofs.Lookups.{page_numbers, all_page_numbers}
+use Rattle.wt_checks.proofs.Found.{PageNodes, page_nodes, body_no_group}
+use Rattle.wt_checks.proofs.InOrder.{Nowhere, none_of_them, not_false, zero_of}
+use Rattle.wt_checks.proofs.Lookups.{all_page_numbers}
 use Rattle.wt_checks.proofs.AsItWas.{NodeKept}
 use Rattle.wt_checks.proofs.OnlyThePage.{HiddenKept, all_given, gist_number, node_kept}
 use Rattle.wt_checks.proofs.Parents.{edited_free}
@@ -89,12 +87,12 @@ root_for page u b n r z e =
     (body_no_group (label page).kind b.root) n.root_found n.known
 
 pub same_gist : (values : Bool) (page edited : Tree) → IsOneBody page → InPreorder page → is_body (label edited).kind ≡ true
-    → NoNewChildren edited → checked values page edited ≡ None → gist (put_back values (page_of page) edited) ≡ gist page
-same_gist values page edited b h r c e =
+    → checked values page edited ≡ None → gist (put_back values (page_of page) edited) ≡ gist page
+same_gist values page edited b h r e =
     let k : (label page).kind ≡ kind.Body = body_is (label page).kind b.root in
     let a : Kept values page edited = kept values page edited k h e in
     let n : PageNodes page = nodes_of page b h in
-    let s = all_stay values (page_of page) (places edited) a.groups a.nodes a.marks c in
+    let s = all_stay values (page_of page) (places edited) a.groups a.nodes a.marks in
     let u = none_of_them (places page) (places edited) (increasing page k h) a.order in
     let z : (label edited).id ≡ 0 = root_zero values page edited n r (first_place (Stays values (page_of page)) edited s)
     (root_known (page_of page) edited u.unknown) in
@@ -105,17 +103,17 @@ put_back_kind : (values : Bool) (page : Page) (t : Tree) → (label (put_back va
 put_back_kind values page (tree l ts) = refl
 
 pub same_view : (values : Bool) (page edited : Tree) → IsOneBody page → InPreorder page → is_body (label edited).kind ≡ true
-    → NoNewChildren edited → checked values page edited ≡ None → plain (put_back values (page_of page) edited) ≡ plain page
-same_view values page edited b h r c e =
+    → checked values page edited ≡ None → plain (put_back values (page_of page) edited) ≡ plain page
+same_view values page edited b h r e =
     same_plain (put_back values (page_of page) edited) page
     (ap (λ j. is_compared (showing j)) (put_back_kind values (page_of page) edited) ∙ body_compared (label edited).kind r)
-    (body_compared (label page).kind b.root) (same_gist values page edited b h r c e)
+    (body_compared (label page).kind b.root) (same_gist values page edited b h r e)
 
 -- ---- and back
 
 root_number : (values : Bool) (page : Page) (u t : Tree) → is_body (label u).kind ≡ true → gist (put_back values page u) ≡ gist t → (label u).id ≡ (label t).id
 root_number values page (tree m us) t b e =
-    gist_number values (original page m) m (if is_content m.mark || is_group m.kind then inside (original page m) else all_put_back values page us) t
+    gist_number values (original page m) m (inside_back m.mark (is_group m.kind) (original page m) (all_put_back values page us)) t
     (body_element m.kind b) e
 
 hidden_kept : (page : Page) (ps : List Place) → AllByRecursion (NodeKept page) ps → AllByRecursion (HiddenKept page) ps
@@ -123,11 +121,11 @@ hidden_kept page [] h = tt
 hidden_kept page (p ∷ ps) h = ((λ o c s. h.0 o c), hidden_kept page ps h.1)
 
 pub is_page : (values : Bool) (page edited : Tree) → IsOneBody page → InPreorder page → is_body (label edited).kind ≡ true
-    → NoNewChildren edited → checked values page edited ≡ None → IsThePage values page edited
-is_page values page edited b h r c e =
+    → checked values page edited ≡ None → IsThePage values page edited
+is_page values page edited b h r e =
     let a : Kept values page edited = kept values page edited (body_is (label page).kind b.root) h e in
     record {
-      compared = same_gist values page edited b h r c e;
+      compared = same_gist values page edited b h r e;
       order = a.order;
       groups = a.groups;
       hidden = hidden_kept (page_of page) (places edited) a.nodes;
@@ -135,13 +133,13 @@ is_page values page edited b h r c e =
     }
 
 pub page_is : (values : Bool) (page edited : Tree) → IsOneBody page → InPreorder page → IsOneBody edited → AreAsRead edited
-    → IsThePage values page edited → checked values page edited ≡ None
-page_is values page edited b h r d a =
+    → NoNewChildren edited → IsThePage values page edited → checked values page edited ≡ None
+page_is values page edited b h r d c a =
     let k : (label page).kind ≡ kind.Body = body_is (label page).kind b.root in
     let i = all_page_numbers page k h in
     let n : PageNodes page = nodes_of page b h in
     let z : (label edited).id ≡ 0 = root_number values (page_of page) edited page r.root a.compared ∙ i.root in
-    let g = all_given (page_of page) (places edited) a.hidden d (edited_free page edited b n i.unnumbered (increasing page k h) a.order) in
+    let g = all_given (page_of page) (places edited) a.hidden d (edited_free page edited b n i.unnumbered (increasing page k h) a.order) c in
     unrefused values page edited k h (record {
       order = a.order;
       groups = a.groups;

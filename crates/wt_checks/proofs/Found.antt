@@ -1,19 +1,17 @@
 -- Each child of a page's node is found by its number, and only texts and separators have none.
-use Rattle.std.proofs.Common.{◌≡◌, ◌≢◌, ◌<◌, ◌+◌, ℕ, Bool, true, false, List, [], ◌∷◌, ◌++◌, map, refl, sym, ap, ◌∙◌, subst, arith, inl, inr, ◌⊎◌}
-use Rattle.std.specs.Prelude.{◌==◌, ◌||◌, not, if◌then◌else◌, filter, Option, Some, None}
+use Rattle.std.proofs.Common.{◌≡◌, ◌≢◌, ◌<◌, ℕ, Bool, true, false, List, [], ◌∷◌, ◌++◌, map, refl, sym, ap, ◌∙◌, subst, arith}
+use Rattle.std.specs.Prelude.{◌==◌, ◌||◌, not, if◌then◌else◌, filter, Option, Some}
 use Rattle.std.specs.List.{AllByRecursion}
-use Rattle.std.proofs.lemmas.Bool.{cases_eq}
-use Rattle.std.proofs.lemmas.Bool.Decides.{nat_tests}
-use Rattle.std.proofs.lemmas.List.Elements.{recursion_from_All}
 use Rattle.wt_tree.specs.declared.kind.Kind.{Kind}
 use Rattle.wt_tree.specs.declared.kind.Kind.TheVariants as kind
-use Rattle.wt_tree.specs.Kinds.{is_numbered}
-use Rattle.wt_tree.specs.Tiling.{is_group, numbers, numbers_of_all, ids, ids_of_all, others, others_of_all, InPreorder}
+use Rattle.wt_tree.specs.Kinds.{is_numbered, writing}
+use Rattle.wt_tree.specs.Tiling.{is_group, numbers, numbers_of_all, ids, ids_of_all, others, others_of_all}
 use Rattle.wt_tree.specs.Tree.{Tree, tree, Trees, none, more, label, listed}
 use Rattle.wt_checks.specs.Kept.{children}
 use Rattle.wt_checks.specs.Places.{Place, placed, all_placed, places, number, kind_at, is_kept, is_body, is_content, numbered, Page, page_of, parent_below}
 use Rattle.wt_checks.specs.PutBack.{has_body, have_body, IsOneBody}
-use Rattle.wt_checks.proofs.InOrder.{Increasing, Above, kept_not_zero, not_zero_kept, zero_of, test_equal, test_other, same_by, not_false}
+use Rattle.wt_checks.specs.Tokens.{is_text}
+use Rattle.wt_checks.proofs.InOrder.{Increasing, Above, kept_not_zero, not_zero_kept, zero_of, test_equal, test_other, same_by}
 use Rattle.wt_checks.proofs.Lookups.{each_split, each_join, AllZero, NoZero}
 use Rattle.wt_checks.proofs.Repeated.{or_false}
 
@@ -210,16 +208,69 @@ mutual
 all_no_body : (t : Tree) → (label t).id ≡ 0 → have_body (children t) ≡ false → AllByRecursion NoBody (places t)
 all_no_body (tree l ts) e b = (λ k. absurd (kept_not_zero l.id k e), no_bodies (parent_below 0 l.id) (is_content l.mark) ts b)
 
+-- a place with a number is no text
+abbrev pub NoText : Place → Type 0
+NoText q = is_kept q ≡ true → is_text (writing (kind_at q)) ≡ false
+
+mutual
+  text_unkept : (parent : ℕ) (within : Bool) (t : Tree) → AllZero (ids t) → AllByRecursion NoText (placed parent within t)
+  text_unkept parent within (tree l ts) z = (
+    λ k. absurd (kept_not_zero l.id k z.0),
+    texts_unkept (parent_below parent l.id) (within || is_content l.mark) ts z.1,
+  )
+
+  texts_unkept : (parent : ℕ) (within : Bool) (ts : Trees) → AllZero (ids_of_all ts) → AllByRecursion NoText (all_placed parent within ts)
+  texts_unkept parent within none z = tt
+  texts_unkept parent within (more t ts) z =
+      let y = each_split (λ n. n ≡ 0) (ids t) (ids_of_all ts) z in
+      each_join NoText (placed parent within t) (all_placed parent within ts) (text_unkept parent within t y.0) (texts_unkept parent within ts y.1)
+
+numbered_element : (k : Kind) → is_numbered k ≡ true → is_text (writing k) ≡ false
+numbered_element kind.Body n = absurd (cc)
+numbered_element kind.Sep n = absurd (cc)
+numbered_element kind.Text n = absurd (cc)
+numbered_element k n = refl
+
+own_element : (n : Bool) (k : Kind) (id : ℕ) (ms : List ℕ) → is_numbered k ≡ n → AllZero ((if n then [] else id ∷ []) ++ ms) → not (id == 0) ≡ true
+    → is_text (writing k) ≡ false
+own_element true k id ms e z h = numbered_element k e
+own_element false k id ms e z h = absurd (kept_not_zero id h z.0)
+
+inner_zero : (n : Bool) (id : ℕ) (ms : List ℕ) → AllZero ((if n then [] else id ∷ []) ++ ms) → AllZero ms
+inner_zero true id ms z = z
+inner_zero false id ms z = z.1
+
+texts_by : (g : Bool) (parent : ℕ) (within : Bool) (ts : Trees) → AllZero (if g then ids_of_all ts else others_of_all ts)
+    → (AllZero (others_of_all ts) → AllByRecursion NoText (all_placed parent within ts)) → AllByRecursion NoText (all_placed parent within ts)
+texts_by true parent within ts z f = texts_unkept parent within ts z
+texts_by false parent within ts z f = f z
+
+mutual
+  no_text : (parent : ℕ) (within : Bool) (t : Tree) → AllZero (others t) → AllByRecursion NoText (placed parent within t)
+  no_text parent within (tree l ts) z = (
+    λ k. own_element (is_numbered l.kind) l.kind l.id (if is_group l.kind then ids_of_all ts else others_of_all ts) refl z k,
+    texts_by (is_group l.kind) (parent_below parent l.id) (within || is_content l.mark) ts
+        (inner_zero (is_numbered l.kind) l.id (if is_group l.kind then ids_of_all ts else others_of_all ts) z)
+        (λ y. no_texts (parent_below parent l.id) (within || is_content l.mark) ts y),
+  )
+
+  no_texts : (parent : ℕ) (within : Bool) (ts : Trees) → AllZero (others_of_all ts) → AllByRecursion NoText (all_placed parent within ts)
+  no_texts parent within none z = tt
+  no_texts parent within (more t ts) z =
+      let y = each_split (λ n. n ≡ 0) (others t) (others_of_all ts) z in
+      each_join NoText (placed parent within t) (all_placed parent within ts) (no_text parent within t y.0) (no_texts parent within ts y.1)
+
 -- what is known of a place of the page
 pub record PageNode (page : Page) (q : Place) : Type 0 where
   pub found : AllByRecursion (Found page) (listed (children q.node))
   pub known : KnownChildren q
   pub other : NoBody q
+  pub element : NoText q
 
 all_hold : (page : Page) (ps : List Place) → AllByRecursion (λ q. AllByRecursion (Found page) (listed (children q.node))) ps
-    → AllByRecursion KnownChildren ps → AllByRecursion NoBody ps → AllByRecursion (PageNode page) ps
-all_hold page [] f k n = tt
-all_hold page (p ∷ ps) f k n = (record { found = f.0; known = k.0; other = n.0 }, all_hold page ps f.1 k.1 n.1)
+    → AllByRecursion KnownChildren ps → AllByRecursion NoBody ps → AllByRecursion NoText ps → AllByRecursion (PageNode page) ps
+all_hold page [] f k n t = tt
+all_hold page (p ∷ ps) f k n t = (record { found = f.0; known = k.0; other = n.0; element = t.0 }, all_hold page ps f.1 k.1 n.1 t.1)
 
 root_known : (t : Tree) → IsOneBody t → AllZero (others t) → NoZero (numbers t)
     → AllByRecursion KnownChildren (places t) × AllByRecursion IsKnown (listed (children t))
@@ -251,5 +302,6 @@ page_nodes t b e z o inc =
     let r = root_known t b z o in
     let f = children_found (page_of t) 0 false t (each_itself (places t) inc) in
     let all = all_hold (page_of t) (places t) f r.0
-    (all_no_body t e b.alone) in
+    (all_no_body t e b.alone)
+    (no_text 0 false t z) in
     record { each = λ n q s. found_has (PageNode (page_of t)) n q (places t) all s; root = found_root t e; known = r.1; root_found = first_found t f }

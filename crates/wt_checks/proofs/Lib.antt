@@ -17,6 +17,7 @@ pub mod OnlyThePage
 pub mod Parents
 pub mod PlainGist
 pub mod PutBack
+pub mod PutBackCases
 pub mod Repeated
 pub mod Shows
 pub mod Signs

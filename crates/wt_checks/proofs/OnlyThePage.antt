@@ -1,11 +1,10 @@
 -- Where the edited tree with what may differ put back is the page's, each of its nodes is as it was.
-use Rattle.std.proofs.Common.{◌≡◌, ◌≢◌, ℕ, Bool, true, false, List, [], ◌∷◌, ◌++◌, map, refl, sym, ap, ◌∙◌, subst, arith, inl, inr, ◌⊎◌}
+use Rattle.std.proofs.Common.{◌≡◌, ◌≢◌, ℕ, Bool, true, false, List, [], ◌∷◌, refl, sym, ap, ◌∙◌, subst, arith, inl, inr, ◌⊎◌}
 use Rattle.std.specs.Prelude.{◌==◌, ◌&&◌, ◌||◌, not, if◌then◌else◌, MatchOption, Option, Some, None}
 use Rattle.std.specs.List.{AllByRecursion}
 use Rattle.std.proofs.lemmas.Bool.Decides.{nat_tests}
-use Rattle.wt_tree.specs.declared.kind.Kind.{Kind}
-use Rattle.wt_tree.specs.declared.kind.Kind.TheVariants as kind
 use Rattle.wt_tree.specs.declared.kind.Mark.{Mark}
+use Rattle.wt_tree.specs.declared.kind.Mark.TheVariants as marks
 use Rattle.wt_tree.specs.declared.node.DataMw.{DataMw}
 use Rattle.wt_tree.specs.declared.row.Writing.{Writing}
 use Rattle.wt_tree.specs.declared.row.Writing.TheVariants.{AsText, AsVoid, RoundCharacter, RoundChildren, Unwritten}
@@ -15,8 +14,9 @@ use Rattle.wt_tree.specs.Tree.{Label, Tree, tree, Trees, none, more, label, list
 use Rattle.wt_checks.specs.Gist.{Features, features, Gist, text, node, Gists, ended, along, gist_by, gist, gists}
 use Rattle.wt_checks.specs.Groups.{is_marked}
 use Rattle.wt_checks.specs.Kept.{children, is_of_page, HoldsTheSame, NodeAsItWas}
-use Rattle.wt_checks.specs.Places.{Place, placed, all_placed, number, kind_at, is_kept, is_body, is_content, Page, parent_below}
-use Rattle.wt_checks.specs.PutBack.{original, inside, page_data, data_back, label_back, put_back, all_put_back, IsAsRead, has_body, have_body}
+use Rattle.wt_checks.specs.Marks.{is_children}
+use Rattle.wt_checks.specs.Places.{Place, placed, all_placed, number, kind_at, is_body, is_content, Page, parent_below}
+use Rattle.wt_checks.specs.PutBack.{original, page_data, data_back, label_back, inside_back, put_back, all_put_back, IsAsRead, has_body, have_body}
 use Rattle.wt_checks.specs.Tokens.{is_text}
 use Rattle.wt_checks.specs.Unmarked.{Entry, is_compared, entry, entries, own_character}
 use Rattle.wt_checks.specs.Unmarked as unmarked
@@ -25,7 +25,7 @@ use Rattle.wt_checks.proofs.Found.{Found, IsKnown}
 use Rattle.wt_checks.proofs.InOrder.{kept_not_zero, zero_of}
 use Rattle.wt_checks.proofs.Lookups.{each_split, each_join}
 use Rattle.wt_checks.proofs.Parents.{ParentFree}
-use Rattle.wt_checks.proofs.PutBack.{at_some, not_both, and_false, content_marked, gist_node, gist_text, gist_list, shown_children, gists_shown, each_shown, numbered_kind, PageOf, IsFor, kept_for}
+use Rattle.wt_checks.proofs.PutBack.{not_both, and_false, content_marked, gist_node, gist_text, gist_list, shown_children, gists_shown, each_shown, numbered_kind, PageOf, IsFor, kept_for}
 use Rattle.wt_checks.proofs.Repeated.{or_false}
 
 -- ---- what is given of a place of the edited tree
@@ -38,11 +38,12 @@ pub record Given (page : Page) (p : Place) : Type 0 where
   pub hidden : HiddenKept page p
   pub read : IsAsRead p
   pub free : ParentFree page p
+  pub no_children : is_children (label p.node).mark ≡ false
 
 pub all_given : (page : Page) (ps : List Place) → AllByRecursion (HiddenKept page) ps → AllByRecursion IsAsRead ps → AllByRecursion (ParentFree page) ps
-    → AllByRecursion (Given page) ps
-all_given page [] h r f = tt
-all_given page (p ∷ ps) h r f = (record { hidden = h.0; read = r.0; free = f.0 }, all_given page ps h.1 r.1 f.1)
+    → AllByRecursion (λ p. is_children (label p.node).mark ≡ false) ps → AllByRecursion (Given page) ps
+all_given page [] h r f c = tt
+all_given page (p ∷ ps) h r f c = (record { hidden = h.0; read = r.0; free = f.0; no_children = c.0 }, all_given page ps h.1 r.1 f.1 c.1)
 
 -- ---- nodes that aren't compared with the page's
 
@@ -138,7 +139,7 @@ back_entries values page none = refl
 back_entries values page (more (tree m vs) us) =
     entries_step (is_compared (showing m.kind)) (entry m) (entries us) (gist (put_back values page (tree m vs))) (gists (all_put_back values page us))
     (gist_entry_back (writing m.kind) values (original page m) m
-    (gists (if is_content m.mark || is_group m.kind then inside (original page m) else all_put_back values page vs)))
+    (gists (inside_back m.mark (is_group m.kind) (original page m) (all_put_back values page vs))))
     (back_entries values page us)
 
 record Parts (values : Bool) (o : Option Place) (m : Label) (xs : Trees) (t : Tree) : Type 0 where
@@ -161,20 +162,24 @@ data_of : (c d : Option DataMw) → page_data false c d ≡ c → (c ≡ None) �
 data_of None d e = inl refl
 data_of (Some c) d e = inr (sym e)
 
-inside_parts : (c g : Bool) (o : Option Place) (ys : Trees) (gs : Gists) → c ≡ false → g ≡ false → gists (if c || g then inside o else ys) ≡ gs → gists ys ≡ gs
-inside_parts true g o ys gs e f h = absurd (cc)
-inside_parts false true o ys gs e f h = absurd (cc)
-inside_parts false false o ys gs e f h = h
+inside_parts : (m : Mark) (g : Bool) (o : Option Place) (ys : Trees) (gs : Gists) → is_content m ≡ false → is_children m ≡ false → g ≡ false
+    → gists (inside_back m g o ys) ≡ gs → gists ys ≡ gs
+inside_parts marks.Nothing true o ys gs c d e h = absurd (cc)
+inside_parts marks.Nothing false o ys gs c d e h = h
+inside_parts marks.Content g o ys gs c d e h = absurd (cc)
+inside_parts marks.Children g o ys gs c d e h = absurd (cc)
+inside_parts marks.Other true o ys gs c d e h = absurd (cc)
+inside_parts marks.Other false o ys gs c d e h = h
 
 unmarked_content : (b : Bool) (m : Mark) → is_content m ≡ b → is_marked m ≡ false → is_content m ≡ false
 unmarked_content true m e f = absurd (not_both (is_marked m) (content_marked m e) f)
 unmarked_content false m e f = e
 
 -- a node with the page's features and entries is as it was
-node_as : (values : Bool) (page : Page) (o : Option Place) (q : Place) (m : Label) (us : Trees) → o ≡ Some q → is_group (kind_at q) ≡ false
-    → Parts values o m (if is_content m.mark || is_group m.kind then inside o else all_put_back values page us) q.node
+node_as : (values : Bool) (page : Page) (o : Option Place) (q : Place) (m : Label) (us : Trees) → o ≡ Some q → is_group (kind_at q) ≡ false → is_children m.mark ≡ false
+    → Parts values o m (inside_back m.mark (is_group m.kind) o (all_put_back values page us)) q.node
     → NodeAsItWas q.node (tree m us)
-node_as values page o q m us oe g p =
+node_as values page o q m us oe g d p =
     let k : m.kind ≡ kind_at q = ap (λ (f : Features). f.kind) p.features in
     let n : is_group m.kind ≡ false = ap is_group k ∙ g in
     record {
@@ -193,8 +198,8 @@ node_as values page o q m us oe g p =
       character = sym (ap (λ (f : Features). f.character) p.features);
       held =
           gists_entries (children q.node)
-          ∙ ap entries_of (sym (inside_parts (is_content m.mark) (is_group m.kind) o (all_put_back values page us) (gists (children q.node))
-          (unmarked_content (is_content m.mark) m.mark refl e) n p.held))
+          ∙ ap entries_of (sym (inside_parts m.mark (is_group m.kind) o (all_put_back values page us) (gists (children q.node))
+          (unmarked_content (is_content m.mark) m.mark refl e) d n p.held))
           ∙ sym (back_entries values page us);
     })
 
@@ -275,15 +280,15 @@ mutual
   node_kept values page parent (tree m us) q H f b s e =
       let o : Option Place = original page m in
       let oe : o ≡ Some q = ap (λ z. if z then page m.id else None) f.old ∙ f.there in
-      let xs : Trees = if is_content m.mark || is_group m.kind then inside o else all_put_back values page us in
+      let xs : Trees = inside_back m.mark (is_group m.kind) o (all_put_back values page us) in
       let p = parts_by (is_text (writing (kind_at q))) values o m xs q.node refl f.element e in
       let k : m.kind ≡ kind_at q = ap (λ (x : Features). x.kind) p.features in (
         λ old out. of_some (λ r. is_group (kind_at r) ≡ false → NodeAsItWas r.node (tree m us)) (page m.id) q f.there
-            (λ g. node_as values page o q m us oe g p),
+            (λ g. node_as values page o q m us oe g s.0.no_children p),
         below_by (is_content m.mark) (is_group m.kind) page m parent q us refl f.there (λ g. ap is_group (sym k) ∙ g)
             (λ g. kept_below parent m.id (f.kept g)) b s.1
             (λ c g. nodes_kept values page (parent_below parent m.id) us (shown_children (children q.node)) H
-            (inside_parts (is_content m.mark) (is_group m.kind) o (all_put_back values page us) (gists (children q.node)) c g p.held
+            (inside_parts m.mark (is_group m.kind) o (all_put_back values page us) (gists (children q.node)) c s.0.no_children g p.held
             ∙ gists_shown (children q.node))
             (each_shown (Found page) (λ t. is_compared (showing (label t).kind)) (listed (children q.node)) f.found)
             (each_shown IsKnown (λ t. is_compared (showing (label t).kind)) (listed (children q.node)) (f.known (ap is_group (sym k) ∙ g))) b
@@ -304,7 +309,7 @@ mutual
       (λ h. child_kept (is_compared (showing m.kind)) (is_text (writing m.kind)) page parent m vs refl refl d.0 w.0.0
       (λ c i. let t = h c in
       let a = element_found values page (original page m) m
-      (if is_content m.mark || is_group m.kind then inside (original page m) else all_put_back values page vs) t.0 i t.1 t.2 t.3 in
+      (inside_back m.mark (is_group m.kind) (original page m) (all_put_back values page vs)) t.0 i t.1 t.2 t.3 in
       node_kept values page parent (tree m vs) a.0 H (kept_for page m a.0 H i a.3 a.1) d.1 w.0 (t.1 ∙ ap gist (sym a.2))))
       (λ rs x y z. nodes_kept values page parent us rs H x y z n.1 w.1) in
       each_join (NodeKept page) (placed parent false (tree m vs)) (all_placed parent false us) r.0 r.1

@@ -3,14 +3,14 @@ use Rattle.std.proofs.Common.{◌≡◌, ℕ, Bool, true, false, List, [], ◌�
 use Rattle.std.specs.Prelude.{◌==◌, ◌||◌, not, if◌then◌else◌, filter, Option, Some, None}
 use Rattle.std.specs.List.{AllByRecursion}
 use Rattle.wt_tree.specs.Kinds.{is_numbered}
-use Rattle.wt_tree.specs.Tiling.{is_group, numbers, ids, ids_of_all, others, others_of_all}
-use Rattle.wt_tree.specs.Tree.{Label, Tree, tree, Trees, none, more, label}
+use Rattle.wt_tree.specs.Tiling.{is_group, ids, ids_of_all, others, others_of_all}
+use Rattle.wt_tree.specs.Tree.{Tree, tree, Trees, none, more, label}
 use Rattle.wt_checks.specs.Ids.{has_parent}
 use Rattle.wt_checks.specs.Kept.{InOrder}
-use Rattle.wt_checks.specs.Places.{Place, placed, all_placed, places, number, kind_at, is_kept, is_content, numbered, Page, page_of, parent_below}
+use Rattle.wt_checks.specs.Places.{Place, placed, all_placed, places, number, kind_at, is_kept, is_content, Page, page_of, parent_below}
 use Rattle.wt_checks.specs.PutBack.{IsOneBody}
 use Rattle.wt_checks.proofs.Found.{Itself, each_itself, found_has, body_no_group, PageNodes}
-use Rattle.wt_checks.proofs.InOrder.{Increasing, Right, all_right, kept_not_zero, zero_of, same_by}
+use Rattle.wt_checks.proofs.InOrder.{Increasing, Right, all_right, kept_not_zero, same_by}
 use Rattle.wt_checks.proofs.Lookups.{each_split, each_join, AllZero}
 
 -- what the page has for this number is no group

@@ -1,7 +1,8 @@
 -- Where nothing is refused, the edited tree with what may differ put back is the page's.
-use Rattle.std.proofs.Common.{◌≡◌, ◌≢◌, ℕ, Bool, true, false, List, [], ◌∷◌, ◌++◌, map, refl, sym, ap, ◌∙◌, subst, inl, inr, ◌⊎◌}
+use Rattle.std.proofs.Common.{◌≡◌, ◌≢◌, ℕ, Bool, true, false, List, [], ◌∷◌, map, refl, sym, ap, ◌∙◌, subst, arith, inl, inr, ◌⊎◌}
 use Rattle.std.specs.Prelude.{◌==◌, ◌&&◌, ◌||◌, not, if◌then◌else◌, filter, MatchOption, Option, Some, None}
 use Rattle.std.specs.List.{AllByRecursion}
+use Rattle.std.proofs.lemmas.Bool.Decides.{nat_tests}
 use Rattle.wt_tree.specs.declared.kind.Kind.{Kind}
 use Rattle.wt_tree.specs.declared.kind.Kind.TheVariants as kind
 use Rattle.wt_tree.specs.declared.kind.Mark.{Mark}
@@ -14,12 +15,12 @@ use Rattle.wt_tree.specs.Tiling.{is_group}
 use Rattle.wt_tree.specs.Tree.{Label, Tree, tree, Trees, none, more, label, listed}
 use Rattle.wt_checks.specs.declared.editing.Editing.{Editing}
 use Rattle.wt_checks.specs.declared.editing.Editing.TheVariants.{Never, Content, InlineContent, Children, TopChildren}
-use Rattle.wt_checks.specs.Gist.{Features, features, Gist, text, node, Gists, ended, along, gist_by, gist, gists}
+use Rattle.wt_checks.specs.Gist.{features, Gist, text, node, Gists, ended, along, gist_by, gist, gists}
 use Rattle.wt_checks.specs.Groups.{is_marked}
 use Rattle.wt_checks.specs.Kept.{children, is_of_page, GroupAsItWas, HoldsTheSame, NodeAsItWas}
 use Rattle.wt_checks.specs.Marks.{editing, allows, is_children}
 use Rattle.wt_checks.specs.Places.{Place, placed, all_placed, number, kind_at, is_kept, is_body, is_content, Page, parent_below}
-use Rattle.wt_checks.specs.PutBack.{original, inside, page_data, data_back, label_back, put_back, all_put_back}
+use Rattle.wt_checks.specs.PutBack.{original, inside, page_data, data_back, label_back, numbered_or, as_they_stand, inside_back, put_back, all_put_back}
 use Rattle.wt_checks.specs.Tokens.{is_text}
 use Rattle.wt_checks.specs.Unmarked.{Entry, is_compared, entry, entries, own_character}
 use Rattle.wt_checks.specs.Unmarked as unmarked
@@ -34,12 +35,11 @@ pub record Stays (values : Bool) (page : Page) (p : Place) : Type 0 where
   pub group : GroupKept values page p
   pub node : NodeKept page p
   pub mark : MarkKept page p
-  pub no_children : is_children (label p.node).mark ≡ false
 
 pub all_stay : (values : Bool) (page : Page) (ps : List Place) → AllByRecursion (GroupKept values page) ps → AllByRecursion (NodeKept page) ps
-    → AllByRecursion (MarkKept page) ps → AllByRecursion (λ p. is_children (label p.node).mark ≡ false) ps → AllByRecursion (Stays values page) ps
-all_stay values page [] g n m c = tt
-all_stay values page (p ∷ ps) g n m c = (record { group = g.0; node = n.0; mark = m.0; no_children = c.0 }, all_stay values page ps g.1 n.1 m.1 c.1)
+    → AllByRecursion (MarkKept page) ps → AllByRecursion (Stays values page) ps
+all_stay values page [] g n m = tt
+all_stay values page (p ∷ ps) g n m = (record { group = g.0; node = n.0; mark = m.0 }, all_stay values page ps g.1 n.1 m.1)
 
 -- ---- marks
 
@@ -50,11 +50,17 @@ allowed_marks InlineContent m o h = inl (both (is_content m) _ h).0
 allowed_marks Children m o h = inr h
 allowed_marks TopChildren m o h = inr (both (is_children m) _ h).0
 
-no_mark : (m : Mark) → is_children m ≡ false → (is_marked m ≡ true → (is_content m ≡ true) ⊎ (is_children m ≡ true)) → is_content m ≡ false → is_marked m ≡ false
-no_mark marks.Nothing c f e = refl
-no_mark marks.Content c f e = absurd (cc)
-no_mark marks.Children c f e = absurd (cc)
-no_mark marks.Other c f e = elim (f refl) [ inl h ↦ absurd (cc) | inr h ↦ absurd (cc) ]
+children_outside : (m : Mark) → is_children m ≡ true → is_content m ≡ false
+children_outside marks.Nothing e = refl
+children_outside marks.Content e = absurd (cc)
+children_outside marks.Children e = refl
+children_outside marks.Other e = refl
+
+unmarked_outside : (m : Mark) → is_marked m ≡ false → is_content m ≡ false
+unmarked_outside marks.Nothing e = refl
+unmarked_outside marks.Content e = absurd (cc)
+unmarked_outside marks.Children e = refl
+unmarked_outside marks.Other e = refl
 
 pub content_marked : (m : Mark) → is_content m ≡ true → is_marked m ≡ true
 content_marked marks.Nothing e = e
@@ -85,7 +91,7 @@ record Same (values : Bool) (o : Option Place) (t u : Tree) : Type 0 where
   attrs : (label u).attrs ≡ (label t).attrs
   mw : data_back (values && is_group (label u).kind) o (label u).mw ≡ (label t).mw
   character : own_character (writing (label u).kind) (label u).shown ≡ own_character (writing (label t).kind) (label t).shown
-  held : is_content (label u).mark ≡ false → is_group (label u).kind ≡ false → entries (children u) ≡ entries (children t)
+  held : is_marked (label u).mark ≡ false → is_group (label u).kind ≡ false → entries (children u) ≡ entries (children t)
 
 group_is : (k : Kind) → is_group k ≡ true → k ≡ kind.Group
 group_is kind.Group e = refl
@@ -129,8 +135,8 @@ group_same values o q u oe g h =
       held = λ c e. absurd (not_both (is_group (label u).kind) h.group e);
     }
 
-character_by : (c : Bool) (m : Mark) (k j : Kind) (bs cs : List ℕ) → is_content m ≡ c → k ≡ j → (is_content m ≡ true → writing k ≡ RoundChildren)
-    → (is_content m ≡ false → own_character (writing k) bs ≡ own_character (writing j) cs) → own_character (writing k) bs ≡ own_character (writing j) cs
+character_by : (c : Bool) (m : Mark) (k j : Kind) (bs cs : List ℕ) → is_marked m ≡ c → k ≡ j → (is_marked m ≡ true → writing k ≡ RoundChildren)
+    → (is_marked m ≡ false → own_character (writing k) bs ≡ own_character (writing j) cs) → own_character (writing k) bs ≡ own_character (writing j) cs
 character_by true m k j bs cs e s w f = ap (λ x. own_character x bs) (w e) ∙ sym (ap (λ x. own_character x cs) (ap writing (sym s) ∙ w e))
 character_by false m k j bs cs e s w f = f e
 
@@ -139,9 +145,8 @@ holding t u (inl e) f = absurd (not_both (is_marked (label u).mark) e f)
 holding t u (inr h) f = h
 
 node_same : (values : Bool) (o : Option Place) (q : Place) (u : Tree) → o ≡ Some q → is_group (kind_at q) ≡ false
-    → NodeAsItWas q.node u → (is_content (label u).mark ≡ false → is_marked (label u).mark ≡ false)
-    → (is_content (label u).mark ≡ true → writing (label u).kind ≡ RoundChildren) → Same values o q.node u
-node_same values o q u oe g h f w =
+    → NodeAsItWas q.node u → (is_marked (label u).mark ≡ true → writing (label u).kind ≡ RoundChildren) → Same values o q.node u
+node_same values o q u oe g h w =
     let n : is_group (label u).kind ≡ false = ap is_group (sym h.kind) ∙ g in
     record {
       kind = sym h.kind;
@@ -151,9 +156,9 @@ node_same values o q u oe g h f w =
           ∙ ap (λ b. page_data (values && b) (label q.node).mw (label u).mw) n
           ∙ ap (λ b. page_data b (label q.node).mw (label u).mw) (and_false values)
           ∙ data_kept (label q.node).mw (label u).mw h.mw;
-      character = character_by (is_content (label u).mark) (label u).mark (label u).kind (label q.node).kind (label u).shown (label q.node).shown
-          refl (sym h.kind) w (λ c. sym (holding q.node u h.holds (f c)).character);
-      held = λ c e. sym (holding q.node u h.holds (f c)).held;
+      character = character_by (is_marked (label u).mark) (label u).mark (label u).kind (label q.node).kind (label u).shown (label q.node).shown
+          refl (sym h.kind) w (λ c. sym (holding q.node u h.holds c).character);
+      held = λ c e. sym (holding q.node u h.holds c).held;
     }
 
 pub at_some : (P : Place → Type 0) (o : Option Place) (q : Place) → o ≡ Some q → MatchOption o (Unit {0}) P → P q
@@ -169,9 +174,7 @@ same_by true values page p q o g oe e old out k s =
 same_by false values page p q o g oe e old out k s =
     node_same values o q p.node oe g
     (at_some (λ r. is_group (kind_at r) ≡ false → NodeAsItWas r.node p.node) (page (number p)) q e (s.node old out) g)
-    (no_mark (label p.node).mark s.no_children
-    (λ m. allowed_marks (editing (kind_at p)) (label p.node).mark (page (number p)) (s.mark m).allowed))
-    (λ c. marked_element (kind_at p) (label p.node).mark (page (number p)) (s.mark (content_marked (label p.node).mark c)).allowed)
+    (λ m. marked_element (kind_at p) (label p.node).mark (page (number p)) (s.mark m).allowed)
 
 pub gist_node : (w : Writing) (l : Label) (held : Gists) → is_text w ≡ false → gist_by w l held ≡ node (features l) held
 gist_node AsText l held e = absurd (cc)
@@ -199,11 +202,15 @@ gist_same values o m us xs (tree l ts) w n s h =
     ∙ (λ i. node (features_same values o (tree l ts) (tree m us) n s i) (h i))
     ∙ sym (gist_node (writing l.kind) l (gists ts) (ap (λ k. is_text (writing k)) (sym s.kind) ∙ w))
 
-inside_same : (c g : Bool) (o : Option Place) (q : Place) (ys : Trees) → o ≡ Some q → (c ≡ false → g ≡ false → gists ys ≡ gists (children q.node))
-    → gists (if c || g then inside o else ys) ≡ gists (children q.node)
-inside_same true g o q ys e f = ap (λ x. gists (inside x)) e
-inside_same false true o q ys e f = ap (λ x. gists (inside x)) e
-inside_same false false o q ys e f = f refl refl
+inside_same : (m : Mark) (g : Bool) (o : Option Place) (q : Place) (ys : Trees) → o ≡ Some q
+    → (is_marked m ≡ true → (is_content m ≡ true) ⊎ (is_children m ≡ true)) → (is_marked m ≡ false → g ≡ false → gists ys ≡ gists (children q.node))
+    → (is_children m ≡ true → gists (as_they_stand (children q.node) ys) ≡ gists (children q.node))
+    → gists (inside_back m g o ys) ≡ gists (children q.node)
+inside_same marks.Nothing true o q ys e a f h = ap (λ x. gists (inside x)) e
+inside_same marks.Nothing false o q ys e a f h = f refl refl
+inside_same marks.Content g o q ys e a f h = ap (λ x. gists (inside x)) e
+inside_same marks.Children g o q ys e a f h = ap (λ x. gists (as_they_stand (inside x) ys)) e ∙ h refl
+inside_same marks.Other g o q ys e a f h = elim (a refl) [ inl i ↦ absurd (cc) | inr i ↦ absurd (cc) ]
 
 -- ---- lists of children, without what isn't compared
 
@@ -242,6 +249,58 @@ each_shown P f (t ∷ ts) h = by_test (f t) (each_shown P f ts h.1)
     by_test : (b : Bool) → AllByRecursion P (filter f ts) → AllByRecursion P (if b then t ∷ filter f ts else filter f ts)
     by_test true r = (h.0, r)
     by_test false r = r
+
+-- ---- the page's children, as they stand
+
+-- a tree with a number is the page's
+abbrev Back : Page → Tree → Type 0
+Back page v = (label v).id ≢ 0 → (r : Place) → page (label v).id ≡ Some r → ((label v).kind ≡ kind_at r) × (gist v ≡ gist r.node)
+
+record IsLike (t v : Tree) : Type 0 where
+  kind : (label v).kind ≡ (label t).kind
+  gist : gist v ≡ gist t
+
+same_number : (m n : ℕ) → (m == n) ≡ true → m ≡ n
+same_number m n e = grind (arith, nat_tests)
+
+no_zero : (n : ℕ) → (n == 0) ≡ false → n ≢ 0
+no_zero n e z = let h : (n == 0) ≡ true = grind (arith, nat_tests) in absurd (cc)
+
+numbered_like : (page : Page) (t : Tree) (r : Place) (vs : Trees) → (label t).id ≢ 0 → page (label t).id ≡ Some r → r.node ≡ t
+    → AllByRecursion (Back page) (listed vs) → IsLike t (numbered_or t (label t).id vs)
+numbered_like page t r none z e n h = record { kind = refl; gist = refl }
+numbered_like page t r (more v vs) z e n h =
+    by_number ((label v).id == (label t).id) refl (numbered_like page t r vs z e n h.1)
+  where
+    by_number : (b : Bool) → ((label v).id == (label t).id) ≡ b → IsLike t (numbered_or t (label t).id vs)
+        → IsLike t (if b then v else numbered_or t (label t).id vs)
+    by_number true s f =
+        let d : (label v).id ≡ (label t).id = same_number (label v).id (label t).id s in
+        let a = h.0 (λ i. z (sym d ∙ i)) r (ap page d ∙ e) in
+        record { kind = a.0 ∙ ap (λ x. (label x).kind) n; gist = a.1 ∙ ap gist n }
+    by_number false s f = f
+
+stands_like : (page : Page) (t : Tree) (vs : Trees) → Found page t → AllByRecursion (Back page) (listed vs)
+    → IsLike t (if (label t).id == 0 then t else numbered_or t (label t).id vs)
+stands_like page t vs f h = by_zero ((label t).id == 0) refl
+  where
+    by_zero : (b : Bool) → ((label t).id == 0) ≡ b → IsLike t (if b then t else numbered_or t (label t).id vs)
+    by_zero true s = record { kind = refl; gist = refl }
+    by_zero false s = let z = no_zero (label t).id s in let r = f z in numbered_like page t r.0 vs z r.1 r.2 h
+
+like_more : (t v : Tree) (gs hs : Gists) → IsLike t v → gs ≡ hs → (if is_compared (showing (label v).kind) then along (gist v) gs else gs)
+    ≡ (if is_compared (showing (label t).kind) then along (gist t) hs else hs)
+like_more t v gs hs l e =
+    ap (λ k. if is_compared (showing k) then along (gist v) gs else gs) l.kind
+    ∙ ap (λ g. if is_compared (showing (label t).kind) then along g gs else gs) l.gist
+    ∙ ap (λ xs. if is_compared (showing (label t).kind) then along (gist t) xs else xs) e
+
+stand_like : (page : Page) (ts vs : Trees) → AllByRecursion (Found page) (listed ts) → AllByRecursion (Back page) (listed vs)
+    → gists (as_they_stand ts vs) ≡ gists ts
+stand_like page none vs f h = refl
+stand_like page (more t ts) vs f h =
+    like_more t (if (label t).id == 0 then t else numbered_or t (label t).id vs) (gists (as_they_stand ts vs)) (gists ts)
+    (stands_like page t vs f.0 h) (stand_like page ts vs f.1 h)
 
 -- ---- a child and the page's in its place
 
@@ -333,6 +392,15 @@ kept_for page m q H w z e =
       known = h.0.known (not_zero_kept (number q) (λ i. z (sym h.1 ∙ i)));
     }
 
+-- a kept node has the page's kind
+kind_back : (values : Bool) (page : Page) (parent : ℕ) (m : Label) (vs : Trees) (r : Place) → m.id ≢ 0 → page m.id ≡ Some r
+    → Stays values page (record { node = tree m vs; parent = parent; in_content = false }) → m.kind ≡ kind_at r
+kind_back values page parent m vs r z e s =
+    let k : not (m.id == 0) ≡ true = not_zero_kept m.id z in
+    let o : is_old m ≡ true = kept_old m k in
+    (same_by (is_group (kind_at r)) values page (record { node = tree m vs; parent = parent; in_content = false }) r (original page m) refl
+    (ap (λ b. if b then page m.id else None) o ∙ e) e o refl (λ g. k) s).kind
+
 mutual
   pub same_node : (values : Bool) (page : Page) (parent : ℕ) (u : Tree) (q : Place) → PageOf page → IsFor page (label u) q
       → AllByRecursion (Stays values page) (placed parent false u) → gist (put_back values page u) ≡ gist q.node
@@ -341,14 +409,18 @@ mutual
       let oe : o ≡ Some q = ap (λ b. if b then page m.id else None) f.old ∙ f.there in
       let p : Place = record { node = tree m us; parent = parent; in_content = false } in
       let a = same_by (is_group (kind_at q)) values page p q o refl oe f.there f.old refl f.kept s.0 in
-      gist_same values o m us (if is_content m.mark || is_group m.kind then inside o else all_put_back values page us) q.node f.element (sym f.number) a
-      (inside_same (is_content m.mark) (is_group m.kind) o q (all_put_back values page us) oe
+      let out = λ (c : is_content m.mark ≡ false). subst (λ (b : Bool). AllByRecursion (Stays values page) (all_placed (parent_below parent m.id) b us)) c s.1 in
+      gist_same values o m us (inside_back m.mark (is_group m.kind) o (all_put_back values page us)) q.node f.element (sym f.number) a
+      (inside_same m.mark (is_group m.kind) o q (all_put_back values page us) oe
+      (λ h. allowed_marks (editing m.kind) m.mark (page m.id) (s.0.mark h).allowed)
       (λ c g. same_nodes values page (parent_below parent m.id) us (shown_children (children q.node)) H
       (a.held c g ∙ entries_shown (children q.node))
       (each_shown (Found page) (λ t. is_compared (showing (label t).kind)) (listed (children q.node)) f.found)
       (each_shown IsKnown (λ t. is_compared (showing (label t).kind)) (listed (children q.node)) (f.known (ap is_group (sym a.kind) ∙ g)))
-      (subst (λ (b : Bool). AllByRecursion (Stays values page) (all_placed (parent_below parent m.id) b us)) c s.1)
-      ∙ sym (gists_shown (children q.node))))
+      (out (unmarked_outside m.mark c))
+      ∙ sym (gists_shown (children q.node)))
+      (λ h. stand_like page (children q.node) (all_put_back values page us) f.found
+      (back_nodes values page (parent_below parent m.id) us H (out (children_outside m.mark h)))))
 
   same_nodes : (values : Bool) (page : Page) (parent : ℕ) (us : Trees) (ts : List Tree) → PageOf page → entries us ≡ entry_list ts
       → AllByRecursion (Found page) ts → AllByRecursion IsKnown ts → AllByRecursion (Stays values page) (all_placed parent false us)
@@ -359,10 +431,24 @@ mutual
       let w = each_split (Stays values page) (placed parent false (tree m vs)) (all_placed parent false us) s in
       nodes_by (is_compared (showing m.kind)) m (gist (put_back values page (tree m vs))) (entries us) (gists (all_put_back values page us)) page ts e f k
       (λ t d x y. child_by (is_text (writing m.kind)) (is_text (writing (label t).kind)) m page (gist (put_back values page (tree m vs))) t refl refl d x y
-      (λ i. gist_text (writing m.kind) (label_back values (original page m) m) (gists (if is_content m.mark || is_group m.kind then
-      inside (original page m) else all_put_back values page vs)) i)
+      (λ i. gist_text (writing m.kind) (label_back values (original page m) m)
+      (gists (inside_back m.mark (is_group m.kind) (original page m) (all_put_back values page vs))) i)
       (λ r i z j n. same_node values page parent (tree m vs) r H (kept_for page m r H i z j) w.0 ∙ ap gist n))
       (λ rs d x y. same_nodes values page parent us rs H d x y w.1)
+
+  -- each child with a number is the page's node
+  back_nodes : (values : Bool) (page : Page) (parent : ℕ) (us : Trees) → PageOf page → AllByRecursion (Stays values page) (all_placed parent false us)
+      → AllByRecursion (Back page) (listed (all_put_back values page us))
+  back_nodes values page parent none H s = tt
+  back_nodes values page parent (more (tree m vs) us) H s =
+      let w = each_split (Stays values page) (placed parent false (tree m vs)) (all_placed parent false us) s in (
+        λ z r e. let k = kind_back values page parent m vs r z e w.0.0 in
+            let h = H m.id r e in
+            let c : is_kept r ≡ true = not_zero_kept (number r) (λ i. z (sym h.1 ∙ i)) in
+            let x : is_text (writing m.kind) ≡ false = ap (λ j. is_text (writing j)) k ∙ h.0.element c in
+            (k, same_node values page parent (tree m vs) r H (kept_for page m r H x z e) w.0),
+        back_nodes values page parent us H w.1,
+      )
 
 -- ---- the body
 

@@ -33,17 +33,16 @@ pub fn first_refusal()
     ensures { (values : Bool) (page edited : Tree) (c : Check) → checked values page edited ≡ Some c → IsFirstRefusal values page edited c }
 {}
 
-/// Where nothing is refused and no node is marked `children`, the edited tree is the page's but for
-/// the insides of marked nodes and of groups: with these put back to the page's, it has the same nodes
-/// by their numbers, kinds, attributes and data, with the same texts and children in the same order,
-/// and so the same plain view.
+/// Where nothing is refused, the edited tree is the page's but for the insides of marked nodes and of
+/// groups: with these put back to the page's, it has the same nodes by their numbers, kinds, attributes
+/// and data, with the same texts and children in the same order, and so the same plain view.
 pub fn edited_is_the_page()
-    ensures compared { (values : Bool) (page edited : Tree) → IsOneBody page → InPreorder page → is_body (label edited).kind ≡ true → NoNewChildren edited → checked values page edited ≡ None → gist (put_back values (page_of page) edited) ≡ gist page }
-    ensures shown { (values : Bool) (page edited : Tree) → IsOneBody page → InPreorder page → is_body (label edited).kind ≡ true → NoNewChildren edited → checked values page edited ≡ None → plain (put_back values (page_of page) edited) ≡ plain page }
+    ensures compared { (values : Bool) (page edited : Tree) → IsOneBody page → InPreorder page → is_body (label edited).kind ≡ true → checked values page edited ≡ None → gist (put_back values (page_of page) edited) ≡ gist page }
+    ensures shown { (values : Bool) (page edited : Tree) → IsOneBody page → InPreorder page → is_body (label edited).kind ≡ true → checked values page edited ≡ None → plain (put_back values (page_of page) edited) ≡ plain page }
 {}
 
-/// And nothing else is taken. Of a tree whose only body is the root, and in which texts and what shows
-/// nothing hold nothing, nothing is refused exactly where with all put back that may differ it is the
+/// And nothing else is taken, where no node is marked `children`. Of a tree whose only body is the root,
+/// and in which texts and what shows nothing hold nothing, nothing is refused exactly where with all put back that may differ it is the
 /// page's, kept nodes stand in their order, groups and hidden nodes are as they were, and marks stand
 /// where they may.
 pub fn only_the_page_is_taken()
