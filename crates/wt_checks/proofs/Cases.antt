@@ -16,42 +16,42 @@ use Rattle.wt_checks.specs.Checked.{checked}
 
 -- ---- trees
 
-abbrev blank : Kind → ℕ → Label
+abbrev pub blank : Kind → ℕ → Label
 blank k id = record { kind = k; id = id; ranges = None; opening = []; closing = []; own = []; shown = []; attrs = []; mark = marks.Nothing; mw = None; origin = None }
 
-abbrev node : Kind → ℕ → List Tree → Tree
+abbrev pub node : Kind → ℕ → List Tree → Tree
 node k id ts = tree (blank k id) (trees ts)
 
-abbrev marked : Mark → Kind → ℕ → List Tree → Tree
+abbrev pub marked : Mark → Kind → ℕ → List Tree → Tree
 marked m k id ts = tree (record (blank k id) { mark = m }) (trees ts)
 
 abbrev with_attrs : List (AttrName × List ℕ) → Kind → ℕ → List Tree → Tree
 with_attrs xs k id ts = tree (record (blank k id) { attrs = xs }) (trees ts)
 
-abbrev words : List ℕ → Tree
+abbrev pub words : List ℕ → Tree
 words bs = tree (record (blank kind.Text 0) { own = bs; shown = bs }) none
 
-abbrev gap : List ℕ → Tree
+abbrev pub gap : List ℕ → Tree
 gap bs = tree (record (blank kind.Sep 0) { own = bs }) none
 
-abbrev entity : ℕ → List ℕ → Tree
+abbrev pub entity : ℕ → List ℕ → Tree
 entity id bs = tree (record (blank kind.Entity id) { shown = bs }) none
 
-abbrev body : List Tree → Tree
+abbrev pub body : List Tree → Tree
 body ts = node kind.Body 0 ts
 
-abbrev content : Mark
+abbrev pub content : Mark
 content = marks.Content
 
-abbrev children : Mark
+abbrev pub children : Mark
 children = marks.Children
 
 -- the page `a`
-abbrev one_letter : Tree
+abbrev pub one_letter : Tree
 one_letter = body (node kind.Para 1 (words (codes "a") ∷ []) ∷ [])
 
 -- the page `a`, an empty line, `b`
-abbrev two_lines : Tree
+abbrev pub two_lines : Tree
 two_lines = body (node kind.Para 1 (words (codes "a") ∷ []) ∷ gap (codes "\n\n") ∷ node kind.Para 2 (words (codes "b") ∷ []) ∷ [])
 
 -- ---- what is accepted
@@ -100,7 +100,7 @@ exchanged = refl
 
 -- ---- a page with styles: the paragraph 1 holds the bold node 2, with the italic node 3 in it, and the comment 4
 
-abbrev styles : Tree
+abbrev pub styles : Tree
 styles =
     body (node kind.Para 1 (words (codes "a") ∷ node kind.Bold 2 (node kind.Italic 3 (words (codes "b") ∷ []) ∷ [])
     ∷ words (codes "c") ∷ node kind.Comment 4 [] ∷ words (codes "d") ∷ []) ∷ [])
@@ -176,7 +176,7 @@ unfolding checked same_kind same_data
 text_in_entity = refl
 
 -- an extension's data is compared, by its value; other nodes' isn't
-abbrev extension : List ℕ → Tree
+abbrev pub extension : List ℕ → Tree
 extension inside = tree (record (blank kind.Island 2) { mw = Some (data_mw.Extension (codes "ref") (Some inside)) }) none
 
 data_changed : checked false (body (node kind.Para 1 (extension (codes "a") ∷ []) ∷ []))
@@ -208,7 +208,7 @@ unfolding checked same_kind same_data
 other_mark = refl
 
 -- an item that holds a list has no inline children only, nor one with a group that shows a block
-abbrev group : ℕ → List Tree → Tree
+abbrev pub group : ℕ → List Tree → Tree
 group id ts = tree (record (blank kind.Group id) {
   attrs = (attr.Typeof, codes "mw:Transclusion") ∷ [];
   mw =
@@ -238,19 +238,19 @@ inner_list = refl
 
 -- ---- groups: the paragraph 1 holds the group 2, which shows a text, a comment and bold
 
-abbrev shows : Tree
+abbrev pub shows : Tree
 shows = body (node kind.Para 1 (words (codes "a ")
     ∷ group 2 (words (codes "b") ∷ entity 0 (codes "&") ∷ node kind.Comment 0 [] ∷ node kind.Bold 0 (words (codes "c") ∷ []) ∷ [])
     ∷ []) ∷ [])
 
 -- its texts and entities in one `span`, without the comment
-abbrev read_as : List Tree → Tree
+abbrev pub read_as : List Tree → Tree
 read_as ts = body (node kind.Para 1 (words (codes "a ") ∷ group 2 ts ∷ []) ∷ [])
 
-abbrev text_span : List ℕ → Tree
+abbrev pub text_span : List ℕ → Tree
 text_span bs = node (kind.Tag tag.Span) 0 (words bs ∷ [])
 
-abbrev bold : List ℕ → Tree
+abbrev pub bold : List ℕ → Tree
 bold bs = node kind.Bold 0 (words bs ∷ [])
 
 group_kept : checked false shows (read_as (text_span (codes "b&") ∷ bold (codes "c") ∷ [])) ≡ None

@@ -33,7 +33,7 @@ none_first C before (p ∷ after) h = ap (λ b. if b then Some (number p) else f
 
 -- ---- increasing lists of numbers
 
-abbrev Above : ℕ → List ℕ → Type 0
+abbrev pub Above : ℕ → List ℕ → Type 0
 Above m ns = AllByRecursion (λ k. m < k) ns
 
 abbrev pub Increasing : List ℕ → Type 0
@@ -153,10 +153,10 @@ passed_last n before p e f k g s =
     let b = (or_false (stands k before) (number p == k) (sym (any_push (λ r. number r == k) before p) ∙ s)).1 in
     less_by (number p) k (ap (λ t. t && (true && nat_lt k (number p))) (sym e) ∙ ap (λ t. is_kept p && (t && nat_lt k (number p))) (sym f) ∙ a) b
 
-same_by : (a b : ℕ) → (a == b) ≡ true → a ≡ b
+pub same_by : (a b : ℕ) → (a == b) ≡ true → a ≡ b
 same_by a b e = grind (arith, nat_tests)
 
-not_false : (b : Bool) → not b ≡ false → b ≡ true
+pub not_false : (b : Bool) → not b ≡ false → b ≡ true
 not_false true e = refl
 not_false false e = absurd (cc)
 
@@ -200,10 +200,10 @@ increasing_under page n before (p ∷ ps) a b =
 
 -- ---- what the page has, and the kept nodes under a parent
 
-kept_not_zero : (n : ℕ) → not (n == 0) ≡ true → n ≢ 0
+pub kept_not_zero : (n : ℕ) → not (n == 0) ≡ true → n ≢ 0
 kept_not_zero n e z = let f : not (n == 0) ≡ false = grind (arith, nat_tests) in absurd (cc)
 
-not_zero_kept : (n : ℕ) → n ≢ 0 → not (n == 0) ≡ true
+pub not_zero_kept : (n : ℕ) → n ≢ 0 → not (n == 0) ≡ true
 not_zero_kept n e = grind (arith, nat_tests)
 
 member_more : (b : Bool) (k i : ℕ) (ns : List ℕ) → Member k ns → Member k (if b then i ∷ ns else ns)
@@ -295,16 +295,16 @@ member_parent k n (p ∷ ps) z inc m =
 -- ---- and no condition holds
 
 -- what is known of a kept node of the edited tree
-abbrev Right : Page → Place → Type 0
+abbrev pub Right : Page → Place → Type 0
 Right page p = is_kept p ≡ true → has_parent p.parent (page (number p)) ≡ true
 
 member_later : (b : Bool) (k i : ℕ) (ns : List ℕ) → Member k ns → Member k (if b then i ∷ ns else ns)
 member_later b k i ns m = member_more b k i ns m
 
-test_equal : (a b : ℕ) → a ≡ b → (a == b) ≡ true
+pub test_equal : (a b : ℕ) → a ≡ b → (a == b) ≡ true
 test_equal a b e = grind (arith, nat_tests)
 
-all_right : (page : List Place) (all ps : List Place) → Increasing (kept_numbers page) → InOrder page all
+pub all_right : (page : List Place) (all ps : List Place) → Increasing (kept_numbers page) → InOrder page all
     → ((n k : ℕ) → Member k (kept_under n ps) → Member k (kept_under n all)) → AllByRecursion (Right (λ k. numbered k page)) ps
 all_right page all [] inc o h = tt
 all_right page all (p ∷ ps) inc o h = (
@@ -357,7 +357,7 @@ or_both : (a b : Bool) → a ≡ false → b ≡ false → (a || b) ≡ false
 or_both false b e f = f
 or_both true b e f = absurd (cc)
 
-test_other : (a b : ℕ) → a ≢ b → (a == b) ≡ false
+pub test_other : (a b : ℕ) → a ≢ b → (a == b) ≡ false
 test_other a b e = grind (arith, nat_tests)
 
 test_greater : (a b : ℕ) → a < b → nat_lt b a ≡ false
@@ -368,7 +368,7 @@ greater_test true true l f = f refl refl
 greater_test true false l f = refl
 greater_test false t l f = refl
 
-zero_of : (n : ℕ) → not (n == 0) ≡ false → n ≡ 0
+pub zero_of : (n : ℕ) → not (n == 0) ≡ false → n ≡ 0
 zero_of n e = grind (arith, nat_tests)
 
 free_push : (before : List Place) (p q : Place) → (is_kept p ≡ true → is_kept q ≡ true → Behind p q) → Free before q → Free (before ++ p ∷ []) q

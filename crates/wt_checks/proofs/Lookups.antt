@@ -22,10 +22,10 @@ use Rattle.wt_checks.proofs.Firsts.{number_seen}
 abbrev kept_ids : List ℕ → List ℕ
 kept_ids ns = filter (λ n. not (n == 0)) ns
 
-abbrev AllZero : List ℕ → Type 0
+abbrev pub AllZero : List ℕ → Type 0
 AllZero ns = AllByRecursion (λ n. n ≡ 0) ns
 
-abbrev NoZero : List ℕ → Type 0
+abbrev pub NoZero : List ℕ → Type 0
 NoZero ns = AllByRecursion (λ n. n ≢ 0) ns
 
 pub each_split : {X : Type 0} (P : X → Type 0) (xs ys : List X) → AllByRecursion P (xs ++ ys) → AllByRecursion P xs × AllByRecursion P ys
@@ -211,3 +211,18 @@ index_is t vs b h e = λ i n. index_at t vs n b h e i
 -- the numbers of the kept nodes of a page
 pub page_numbers : (t : Tree) → (label t).kind ≡ kind.Body → InPreorder t → map number (filter is_kept (places t)) ≡ range_with_len 1 (length (numbers t))
 page_numbers t b h = (ordered t b h).kept
+
+-- the number of its root, and of all its nodes
+pub record PageNumbers (t : Tree) : Type 0 where
+  pub root : (label t).id ≡ 0
+  pub unnumbered : AllZero (others t)
+  pub counted : NoZero (numbers t)
+
+pub all_page_numbers : (t : Tree) → (label t).kind ≡ kind.Body → InPreorder t → PageNumbers t
+all_page_numbers t b h =
+    let z : AllZero (others t) = recursion_from_All (λ n. n ≡ 0) (others t) h.unnumbered in
+    record {
+      root = body_others t b z;
+      unnumbered = z;
+      counted = subst NoZero (sym h.counted) (range_no_zero (length (numbers t)) 1 (omega arith));
+    }

@@ -25,7 +25,7 @@ none_or : (o : Option ℕ) (f : ℕ → Check) (rest : Option Check) → o ≡ N
 none_or None f rest e h = h
 none_or (Some n) f rest e h = absurd (cc)
 
-increasing : (page : Tree) → (label page).kind ≡ kind.Body → InPreorder page → Increasing (map number (filter is_kept (places page)))
+pub increasing : (page : Tree) → (label page).kind ≡ kind.Body → InPreorder page → Increasing (map number (filter is_kept (places page)))
 increasing page b h = subst Increasing (sym (page_numbers page b h)) (range_increasing (length (numbers page)) 1)
 
 pub kept : (values : Bool) (page edited : Tree) → (label page).kind ≡ kind.Body → InPreorder page → checked values page edited ≡ None → Kept values page edited

@@ -52,7 +52,7 @@ fn check_visits(
 
 fn page_index<'t, 'a>(alloc: Global, page: &'t Node<'a>) -> Result<Vec<Visit<'t, 'a>>, NoMemory>
     requires body { (label (view page.now)).kind ≡ kind.Body }
-    requires numbered { InPreorder (view page.now) }
+    requires numbered { ∥ InPreorder (view page.now) ∥₁ }
     ensures same { IfOk result (λ vs. indexed vs.items ≡ page_of (view page.now)) }
     ensures some { IfOk result (λ vs. 0 < length vs.items) }
 {
@@ -72,7 +72,7 @@ pub fn check(
     values: bool,
 ) -> Result<Option<Check>, NoMemory>
     requires body { (label (view page.now)).kind ≡ kind.Body }
-    requires numbered { InPreorder (view page.now) }
+    requires numbered { ∥ InPreorder (view page.now) ∥₁ }
     ensures { IfOk result (λ r. r ≡ checked values (view page.now) (view edited.now)) }
 {
     let index = page_index(alloc, page)?;

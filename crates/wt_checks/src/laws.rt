@@ -1,4 +1,4 @@
-ghost use Rattle.std.specs.Prelude.{◌≡◌, ◌↔◌, ℕ, List, Option, None, Bool};
+ghost use Rattle.std.specs.Prelude.{◌≡◌, ◌↔◌, ℕ, List, Option, Some, None, Bool, true};
 ghost use Rattle.std.specs.Bool.{Decides};
 ghost use Rattle.wt_tree.specs.declared.kind.AttrName.{AttrName};
 ghost use Rattle.wt_tree.specs.declared.kind.Kind.{Kind};
@@ -10,8 +10,14 @@ ghost use Rattle.wt_checks.specs.Unmarked.{Entry, same_entries};
 ghost use Rattle.wt_tree.specs.Tiling.{InPreorder};
 ghost use Rattle.wt_tree.specs.Tree.{Tree, label};
 ghost use Rattle.wt_tree.specs.declared.kind.Kind.TheVariants as kind;
+ghost use Rattle.wt_checks.specs.declared.refusal.Check.{Check};
 ghost use Rattle.wt_checks.specs.Checked.{checked};
+ghost use Rattle.wt_checks.specs.FirstRefusal.{IsFirstRefusal};
 ghost use Rattle.wt_checks.specs.Kept.{Kept};
+ghost use Rattle.wt_checks.specs.Gist.{gist};
+ghost use Rattle.wt_checks.specs.Places.{is_body, page_of};
+ghost use Rattle.wt_checks.specs.PutBack.{put_back, NoNewChildren, IsOneBody, AreAsRead, IsThePage};
+ghost use Rattle.wt_tree.specs.Plain.{plain};
 
 /// Nothing is refused exactly where all that isn't marked is kept: under each kept parent the kept
 /// nodes are some of the page's in their order, each node of the page has its kind, attributes and
@@ -19,6 +25,28 @@ ghost use Rattle.wt_checks.specs.Kept.{Kept};
 /// where they may.
 pub fn what_is_kept()
     ensures { (values : Bool) (page edited : Tree) → (label page).kind ≡ kind.Body → InPreorder page → (checked values page edited ≡ None) ↔ Kept values page edited }
+{}
+
+/// A refusal that is answered is the first of their order that holds at any place, and it names the
+/// first place in preorder where it holds.
+pub fn first_refusal()
+    ensures { (values : Bool) (page edited : Tree) (c : Check) → checked values page edited ≡ Some c → IsFirstRefusal values page edited c }
+{}
+
+/// Where nothing is refused, the edited tree is the page's but for the insides of marked nodes and of
+/// groups: with these put back to the page's, it has the same nodes by their numbers, kinds, attributes
+/// and data, with the same texts and children in the same order, and so the same plain view.
+pub fn edited_is_the_page()
+    ensures compared { (values : Bool) (page edited : Tree) → IsOneBody page → InPreorder page → is_body (label edited).kind ≡ true → checked values page edited ≡ None → gist (put_back values (page_of page) edited) ≡ gist page }
+    ensures shown { (values : Bool) (page edited : Tree) → IsOneBody page → InPreorder page → is_body (label edited).kind ≡ true → checked values page edited ≡ None → plain (put_back values (page_of page) edited) ≡ plain page }
+{}
+
+/// And nothing else is taken, where no node is marked `children`. Of a tree whose only body is the root,
+/// and in which texts and what shows nothing hold nothing, nothing is refused exactly where with all put back that may differ it is the
+/// page's, kept nodes stand in their order, groups and hidden nodes are as they were, and marks stand
+/// where they may.
+pub fn only_the_page_is_taken()
+    ensures { (values : Bool) (page edited : Tree) → IsOneBody page → InPreorder page → IsOneBody edited → AreAsRead edited → NoNewChildren edited → (checked values page edited ≡ None) ↔ IsThePage values page edited }
 {}
 
 /// The tests of two kinds, lists of attributes, values of `data-mw`, lists of texts and children, and

@@ -18,5 +18,7 @@ mod written;
 
 pub use checking::check;
 pub use editing::Editing;
-pub use laws::{comparisons, what_is_kept};
+pub use laws::{
+    comparisons, edited_is_the_page, first_refusal, only_the_page_is_taken, what_is_kept,
+};
 pub use refusal::Check;
