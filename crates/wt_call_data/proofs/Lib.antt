@@ -1,0 +1,5 @@
+pub mod CallTexts
+mod Cases
+pub mod Params
+pub mod ReadParams
+pub mod SoundParts

@@ -1,0 +1,2 @@
+pub mod CallData
+pub mod CallParts
