@@ -20,7 +20,7 @@ use Rattle.wt_build.specs.declared.block.BlockKind.TheVariants.{Between, Heading
 use Rattle.wt_blocks.specs.Headings.{opening, inside, closing}
 use Rattle.wt_blocks.proofs.HeadingLaws.{joined as heading_joined}
 use Rattle.wt_build.specs.Rows.{Row, rows, same_block, ending}
-use Rattle.wt_build.specs.Blocks.{joined, full_line_parts, para, heading, block, lead_len, lead, without_lead, last_ending, without_ending, around, parts_by}
+use Rattle.wt_build.specs.Blocks.{joined, full_line_parts, para, heading, block, lead_len, lead, without_lead, last_ending, without_ending, with_separators, parts_by}
 use Rattle.wt_build.specs.Meaning.{row_items, run_parts, body_parts, meaning}
 use Rattle.wt_build.proofs.Ends.{content_ending}
 use Rattle.wt_build.proofs.MeaningLaws.{row_items_are}
@@ -92,7 +92,7 @@ end_joined [] = refl
 end_joined (l ∷ []) = ap (λ ys. ys ++ ending l) (append-nil (content l)) ∙ content_ending l ∙ sym (append-nil l)
 end_joined (l ∷ m ∷ ls) = append_assoc l (joined (without_ending (m ∷ ls))) (last_ending (m ∷ ls)) ∙ ap (λ ys. l ++ ys) (end_joined (m ∷ ls))
 
-around_count : (k : BlockKind) (ls : List (List Item)) → counts (around k ls) ≤ 1 + length (joined ls) + makes_all (joined ls)
+around_count : (k : BlockKind) (ls : List (List Item)) → counts (with_separators k ls) ≤ 1 + length (joined ls) + makes_all (joined ls)
 around_count k ls =
     let rest = without_lead ls in
     let b = block k (without_ending rest) in

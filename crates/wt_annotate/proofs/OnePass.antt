@@ -7,7 +7,7 @@ use Rattle.wt_tree.specs.Kinds.{is_leaf, is_numbered}
 use Rattle.wt_tree.specs.Tree.{tree, Trees, more}
 use Rattle.wt_tree.specs.Tiling.{is_group}
 use Rattle.wt_span.specs.Items.{Item}
-use Rattle.wt_inline.specs.ItemTree.{ItemTree, inner, ItemTrees, nothing, further, held, held_by_all}
+use Rattle.wt_inline.specs.ItemTree.{ItemTree, inner, ItemTrees, nothing, further, tree_items, held_by_all}
 use Rattle.wt_annotate.specs.Labels.{width, label_at}
 use Rattle.wt_annotate.specs.Numbering.{number_of, next_after, count, count_all, with_numbers, all_with_numbers}
 use Rattle.wt_annotate.specs.Annotated.{inside_by, count_by, numbered, numbered_in_all, placed, all_placed, annotated}
@@ -38,7 +38,7 @@ mutual
 
   pub count_all_placed : (before : List Item) (ts : ItemTrees) → count_all (all_placed before ts) ≡ numbered_in_all ts
   count_all_placed before nothing = refl
-  count_all_placed before (further t ts) = ap₂ (λ m n. m + n) (count_placed before t) (count_all_placed (before ++ held t) ts)
+  count_all_placed before (further t ts) = ap₂ (λ m n. m + n) (count_placed before t) (count_all_placed (before ++ tree_items t) ts)
 
 -- ---- the same tree
 
@@ -65,9 +65,9 @@ mutual
   all_numbers_placed before next nothing = refl
   all_numbers_placed before next (further t ts) =
       ap₂ more (numbers_placed before next t)
-      (ap (λ n. all_with_numbers (next + n) (all_placed (before ++ held t) ts)) (count_placed before t)
-      ∙ all_numbers_placed (before ++ held t) (next + numbered t) ts
-      ∙ ap (λ at. all_annotated_at at (next + numbered t) ts) (width_append before (held t)))
+      (ap (λ n. all_with_numbers (next + n) (all_placed (before ++ tree_items t) ts)) (count_placed before t)
+      ∙ all_numbers_placed (before ++ tree_items t) (next + numbered t) ts
+      ∙ ap (λ at. all_annotated_at at (next + numbered t) ts) (width_append before (tree_items t)))
 
 pub annotated_is : (t : ItemTree) → annotated t ≡ annotated_at 0 1 t
 unfolding annotated

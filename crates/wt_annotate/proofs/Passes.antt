@@ -11,7 +11,7 @@ use Rattle.wt_span.specs.Items.{Item, items}
 use Rattle.wt_inline.specs.View.{head_of, item_tree, item_trees}
 use Rattle.wt_inline.specs.declared.tree.PieceTree.{PieceTree, out-PieceTree}
 use Rattle.wt_annotate.proofs.Pieces.{item_tree_out}
-use Rattle.wt_inline.specs.ItemTree.{Head, ItemTree, inner, ItemTrees, nothing, further, forest, held, held_by_all}
+use Rattle.wt_inline.specs.ItemTree.{Head, ItemTree, inner, ItemTrees, nothing, further, forest, tree_items, held_by_all}
 use Rattle.wt_annotate.specs.Labels.{width, label_at}
 use Rattle.wt_annotate.specs.Numbering.{number_of, next_after}
 use Rattle.wt_annotate.specs.Annotated.{count_by, inside_by, numbered, numbered_in_all}
@@ -46,11 +46,11 @@ leaf_by true at next k o own c us e = refl
 leaf_by false at next k o own c us e = cc
 
 pub leaf_made : (at next place number : ℕ) (k : Head) (o c : List Item) (ts : ItemTrees) (u : Tree) → is_leaf k.kind ≡ true
-    → u ≡ tree (leaf_label at next k (held (inner k o ts c))) none → place ≡ at + width (held (inner k o ts c))
+    → u ≡ tree (leaf_label at next k (tree_items (inner k o ts c))) none → place ≡ at + width (tree_items (inner k o ts c))
     → number ≡ next_after k.kind next
     → IsMade at next (inner k o ts c) u place number
 leaf_made at next place number k o c ts u e f p n = record {
-  tree_is = f ∙ sym (leaf_by (is_leaf k.kind) at next k o (held (inner k o ts c)) c (all_annotated_at (at + width o) (next_after k.kind next) ts) e);
+  tree_is = f ∙ sym (leaf_by (is_leaf k.kind) at next k o (tree_items (inner k o ts c)) c (all_annotated_at (at + width o) (next_after k.kind next) ts) e);
   place_is = p;
   number_is = n ∙ number_leaf k o c ts next e;
 }
@@ -65,20 +65,20 @@ pub inner_made : (at next place number mid after : ℕ) (k : Head) (o c : List I
     → is_leaf k.kind ≡ false → AreMade (at + width o) (next_after k.kind next) ts us mid after
     → u ≡ tree (inner_label at next k (mid + width c) o c) us → place ≡ mid + width c → number ≡ after → IsMade at next (inner k o ts c) u place number
 inner_made at next place number mid after k o c ts us u e a f p n =
-    let end : mid + width c ≡ at + width (held (inner k o ts c)) = omega (arith, a.place_is, width_three o (held_by_all ts) c) in
+    let end : mid + width c ≡ at + width (tree_items (inner k o ts c)) = omega (arith, a.place_is, width_three o (held_by_all ts) c) in
     record {
       tree_is =
           f
           ∙ ap (λ m. tree (inner_label at next k m o c) us) end
-          ∙ ap (tree (inner_label at next k (at + width (held (inner k o ts c))) o c)) a.trees_are
-          ∙ sym (inner_by (is_leaf k.kind) at next k o (held (inner k o ts c)) c (all_annotated_at (at + width o) (next_after k.kind next) ts) e);
+          ∙ ap (tree (inner_label at next k (at + width (tree_items (inner k o ts c))) o c)) a.trees_are
+          ∙ sym (inner_by (is_leaf k.kind) at next k o (tree_items (inner k o ts c)) c (all_annotated_at (at + width o) (next_after k.kind next) ts) e);
       place_is = p ∙ end;
       number_is = n ∙ a.number_is ∙ number_inner k o c ts next e;
     }
 
 -- the same of nodes of pieces
 pub leaf_done : (n : PieceTree) (at next place number w : ℕ) (ps qs rs : List Piece) (u : Tree)
-    → is_leaf (out-PieceTree n).head.kind ≡ true → items ps ≡ held (item_tree n) → qs ≡ ps → rs ≡ ps
+    → is_leaf (out-PieceTree n).head.kind ≡ true → items ps ≡ tree_items (item_tree n) → qs ≡ ps → rs ≡ ps
     → u ≡ tree (leaf_label at next (head_of (out-PieceTree n).head) (items qs)) none → w ≡ width (items rs) → place ≡ at + w
     → number ≡ next_after (out-PieceTree n).head.kind next → IsMade at next (item_tree n) u place number
 leaf_done n at next place number w ps qs rs u e h i j f v p m =
@@ -86,7 +86,7 @@ leaf_done n at next place number w ps qs rs u e h i j f v p m =
     let o = items (out-PieceTree n).opening in
     let c = items (out-PieceTree n).closing in
     let ts = forest (item_trees (out-PieceTree n).children) in
-    let own : items ps ≡ held (inner k o ts c) = h ∙ ap held (item_tree_out n) in
+    let own : items ps ≡ tree_items (inner k o ts c) = h ∙ ap tree_items (item_tree_out n) in
     let made = leaf_made at next place number k o c ts u e (f ∙ ap (λ xs. tree (leaf_label at next k xs) none) (ap items i ∙ own))
     (p ∙ ap (λ x. at + x) (v ∙ ap width (ap items j ∙ own))) m in
     subst (λ (t : ItemTree). IsMade at next t u place number) (sym (item_tree_out n)) made
@@ -109,11 +109,11 @@ inner_done n at next place number mid after us u e a f p m =
 
 abbrev pub annotated_list : ℕ → ℕ → List ItemTree → List Tree
 annotated_list at next [] = []
-annotated_list at next (t ∷ ts) = annotated_at at next t ∷ annotated_list (at + width (held t)) (next + numbered t) ts
+annotated_list at next (t ∷ ts) = annotated_at at next t ∷ annotated_list (at + width (tree_items t)) (next + numbered t) ts
 
 forest_list : (at next : ℕ) (ts : List ItemTree) → all_annotated_at at next (forest ts) ≡ trees (annotated_list at next ts)
 forest_list at next [] = refl
-forest_list at next (t ∷ ts) = ap (more (annotated_at at next t)) (forest_list (at + width (held t)) (next + numbered t) ts)
+forest_list at next (t ∷ ts) = ap (more (annotated_at at next t)) (forest_list (at + width (tree_items t)) (next + numbered t) ts)
 
 -- a measure of trees, by which one is smaller than the children that it is among, and these are smaller than their node
 abbrev mutual
@@ -144,9 +144,9 @@ so_far_more done new u place number place2 number2 at next t ts all s m e = reco
       ∙ append_assoc done (u ∷ []) (annotated_list place2 number2 ts)
       ∙ ap (λ v. done ++ v ∷ annotated_list place2 number2 ts) m.tree_is
       ∙ ap (λ p. done ++ annotated_at place number t ∷ annotated_list p number2 ts) m.place_is
-      ∙ ap (λ n. done ++ annotated_at place number t ∷ annotated_list (place + width (held t)) n ts) m.number_is
+      ∙ ap (λ n. done ++ annotated_at place number t ∷ annotated_list (place + width (tree_items t)) n ts) m.number_is
       ∙ s.trees_are;
-  place_is = omega (arith, s.place_is, m.place_is, width_append (held t) (held_by_all (forest ts)));
+  place_is = omega (arith, s.place_is, m.place_is, width_append (tree_items t) (held_by_all (forest ts)));
   number_is = omega (arith, s.number_is, m.number_is);
   fewer = omega (arith, s.fewer);
 }
@@ -170,10 +170,10 @@ so_far_init ns at next ts e = subst (λ (ms : List Node). MadeSoFar (map view ms
 
 pub room_place : (done : List Tree) (place number at next m : ℕ) (n : PieceTree) (ns rs ys bs : List PieceTree)
     → MadeSoFar done place number (item_trees rs) at next (item_trees ys) → rs ≡ n ∷ ns → ys ≡ bs
-    → at + width (held_by_all (forest (item_trees bs))) < m → place + width (held (item_tree n)) < m
+    → at + width (held_by_all (forest (item_trees bs))) < m → place + width (tree_items (item_tree n)) < m
 room_place done place number at next m n ns rs ys bs s r e h =
-    let f : width (held_by_all (forest (item_trees rs))) ≡ width (held (item_tree n)) + width (held_by_all (forest (item_trees ns))) =
-    ap (λ xs. width (held_by_all (forest (item_trees xs)))) r ∙ width_append (held (item_tree n)) (held_by_all (forest (item_trees ns))) in
+    let f : width (held_by_all (forest (item_trees rs))) ≡ width (tree_items (item_tree n)) + width (held_by_all (forest (item_trees ns))) =
+    ap (λ xs. width (held_by_all (forest (item_trees xs)))) r ∙ width_append (tree_items (item_tree n)) (held_by_all (forest (item_trees ns))) in
     let g : width (held_by_all (forest (item_trees ys))) ≡ width (held_by_all (forest (item_trees bs))) =
     ap (λ xs. width (held_by_all (forest (item_trees xs)))) e in
     omega (arith, s.place_is, f, g, h)
@@ -218,13 +218,13 @@ smaller_children n =
     omega (arith, e)
 
 pub room_inside : (n : PieceTree) (at inside w m : ℕ) (qs : List Piece) → inside ≡ at + w → w ≡ width (items qs)
-    → qs ≡ (out-PieceTree n).opening → at + width (held (item_tree n)) < m
+    → qs ≡ (out-PieceTree n).opening → at + width (tree_items (item_tree n)) < m
     → inside + width (held_by_all (forest (item_trees (out-PieceTree n).children))) < m
 room_inside n at inside w m qs i v e h =
     let o = items (out-PieceTree n).opening in
     let c = items (out-PieceTree n).closing in
     let ts = forest (item_trees (out-PieceTree n).children) in
-    let f : width (held (item_tree n)) ≡ width o + width (held_by_all ts) + width c = ap (λ t. width (held t)) (item_tree_out n)
+    let f : width (tree_items (item_tree n)) ≡ width o + width (held_by_all ts) + width c = ap (λ t. width (tree_items t)) (item_tree_out n)
     ∙ width_three o (held_by_all ts) c in
     let g : width (items qs) ≡ width o = ap (λ xs. width (items xs)) e in
     omega (arith, i, v, f, g, h)
@@ -243,12 +243,12 @@ number_inside n first next m e i h =
 
 pub room_closing : (n : PieceTree) (at place inside w next mid after m : ℕ) (qs : List Piece) (us : Trees)
     → AreMade inside next (forest (item_trees (out-PieceTree n).children)) us mid after → inside ≡ at + w → w ≡ width (items qs)
-    → qs ≡ (out-PieceTree n).opening → at + width (held (item_tree n)) < m → mid + width (items (out-PieceTree n).closing) < m
+    → qs ≡ (out-PieceTree n).opening → at + width (tree_items (item_tree n)) < m → mid + width (items (out-PieceTree n).closing) < m
 room_closing n at place inside w next mid after m qs us a i v e h =
     let o = items (out-PieceTree n).opening in
     let c = items (out-PieceTree n).closing in
     let ts = forest (item_trees (out-PieceTree n).children) in
-    let f : width (held (item_tree n)) ≡ width o + width (held_by_all ts) + width c = ap (λ t. width (held t)) (item_tree_out n)
+    let f : width (tree_items (item_tree n)) ≡ width o + width (held_by_all ts) + width c = ap (λ t. width (tree_items t)) (item_tree_out n)
     ∙ width_three o (held_by_all ts) c in
     let g : width (items qs) ≡ width o = ap (λ xs. width (items xs)) e in
     omega (arith, a.place_is, i, v, f, g, h)

@@ -11,7 +11,7 @@ use Rattle.wt_span.specs.declared.form.Form.TheVariants as form
 use Rattle.wt_span.specs.Slice.{bytes_of}
 use Rattle.wt_span.specs.Items.{char, items_by, items_of, items, sources}
 use Rattle.wt_inline.specs.declared.tree.PieceTree.{PieceTree, out-PieceTree, fold_out-PieceTree}
-use Rattle.wt_inline.specs.ItemTree.{ItemTree, inner, forest, held, held_by_all}
+use Rattle.wt_inline.specs.ItemTree.{ItemTree, inner, forest, tree_items, held_by_all}
 use Rattle.wt_inline.specs.View.{head_of, view_step, item_tree, item_trees}
 use Rattle.wt_annotate.specs.Labels.{width}
 use Rattle.wt_annotate.proofs.Widths.{sources_append, width_append}
@@ -80,28 +80,28 @@ pub item_tree_out : (n : PieceTree) → item_tree n ≡ inner (head_of (out-Piec
     (forest (item_trees (out-PieceTree n).children)) (items (out-PieceTree n).closing)
 item_tree_out n = fold_out-PieceTree ItemTree view_step n
 
-pub held_list : (ns : List PieceTree) → held_by_all (forest (item_trees ns)) ≡ flat_map (λ n. held (item_tree n)) ns
+pub held_list : (ns : List PieceTree) → held_by_all (forest (item_trees ns)) ≡ flat_map (λ n. tree_items (item_tree n)) ns
 held_list [] = refl
-held_list (n ∷ ns) = ap (λ xs. held (item_tree n) ++ xs) (held_list ns)
+held_list (n ∷ ns) = ap (λ xs. tree_items (item_tree n) ++ xs) (held_list ns)
 
-pub held_out : (n : PieceTree) → held (item_tree n) ≡ items (out-PieceTree n).opening
-    ++ (flat_map (λ m. held (item_tree m)) (out-PieceTree n).children ++ items (out-PieceTree n).closing)
+pub held_out : (n : PieceTree) → tree_items (item_tree n) ≡ items (out-PieceTree n).opening
+    ++ (flat_map (λ m. tree_items (item_tree m)) (out-PieceTree n).children ++ items (out-PieceTree n).closing)
 held_out n =
-    ap held (item_tree_out n)
+    ap tree_items (item_tree_out n)
     ∙ ap (λ xs. items (out-PieceTree n).opening ++ (xs ++ items (out-PieceTree n).closing)) (held_list (out-PieceTree n).children)
 
 pub own_held : (n : PieceTree) (own closing : List Piece) (children : List PieceTree)
     → items own ≡ items (out-PieceTree n).opening ++ (held_by_all (forest (item_trees children)) ++ items closing)
-    → children ≡ (out-PieceTree n).children → closing ≡ (out-PieceTree n).closing → items own ≡ held (item_tree n)
+    → children ≡ (out-PieceTree n).children → closing ≡ (out-PieceTree n).closing → items own ≡ tree_items (item_tree n)
 own_held n own closing children e i j =
     let o = items (out-PieceTree n).opening in
     e
     ∙ ap (λ ns. o ++ (held_by_all (forest (item_trees ns)) ++ items closing)) i
     ∙ ap (λ ps. o ++ (held_by_all (forest (item_trees (out-PieceTree n).children)) ++ items ps)) j
-    ∙ sym (ap held (item_tree_out n))
+    ∙ sym (ap tree_items (item_tree_out n))
 
-pub own_fits : (at w : ℕ) (own rs : List Piece) (t : ItemTree) → items own ≡ held t → rs ≡ own → w ≡ width (items rs)
-    → at + width (held t) < 2 ^ 32 → at + w < 2 ^ 32
+pub own_fits : (at w : ℕ) (own rs : List Piece) (t : ItemTree) → items own ≡ tree_items t → rs ≡ own → w ≡ width (items rs)
+    → at + width (tree_items t) < 2 ^ 32 → at + w < 2 ^ 32
 own_fits at w own rs t e i f h =
-    let same : w ≡ width (held t) = f ∙ ap (λ ps. width (items ps)) i ∙ ap width e in
+    let same : w ≡ width (tree_items t) = f ∙ ap (λ ps. width (items ps)) i ∙ ap width e in
     omega (arith, same, h)

@@ -7,7 +7,7 @@ use Rattle.std.proofs.lemmas.List.Elements.{All-nil, All-cons}
 use Rattle.wt_tree.specs.Kinds.{is_leaf, is_numbered}
 use Rattle.wt_tree.specs.Tree.{Tree, Trees}
 use Rattle.wt_tree.specs.Tiling.{is_group, numbers, numbers_of_all, ids_of_all, others, others_of_all, InPreorder}
-use Rattle.wt_inline.specs.ItemTree.{ItemTree, inner, ItemTrees, nothing, further, held}
+use Rattle.wt_inline.specs.ItemTree.{ItemTree, inner, ItemTrees, nothing, further, tree_items}
 use Rattle.wt_annotate.specs.Labels.{width, label_at}
 use Rattle.wt_annotate.specs.Numbering.{next_after}
 use Rattle.wt_annotate.specs.Annotated.{inside_by, count_by, numbered, numbered_in_all, annotated}
@@ -51,8 +51,8 @@ mutual
   pub all_numbers_at : (at next : ℕ) (ts : ItemTrees) → numbers_of_all (all_annotated_at at next ts) ≡ range_with_len next (numbered_in_all ts)
   all_numbers_at at next nothing = refl
   all_numbers_at at next (further t ts) =
-      ap (λ ns. ns ++ numbers_of_all (all_annotated_at (at + width (held t)) (next + numbered t) ts)) (numbers_at at next t)
-      ∙ ap (λ ns. range_with_len next (numbered t) ++ ns) (all_numbers_at (at + width (held t)) (next + numbered t) ts)
+      ap (λ ns. ns ++ numbers_of_all (all_annotated_at (at + width (tree_items t)) (next + numbered t) ts)) (numbers_at at next t)
+      ∙ ap (λ ns. range_with_len next (numbered t) ++ ns) (all_numbers_at (at + width (tree_items t)) (next + numbered t) ts)
       ∙ range_join next (numbered t) (numbered_in_all ts)
 
 -- ---- all others
@@ -91,8 +91,8 @@ mutual
   all_others_at at next nothing = tt
   all_others_at at next (further t ts) =
       zeros_append (others (annotated_at at next t))
-      (others_of_all (all_annotated_at (at + width (held t)) (next + numbered t) ts)) (others_at at next t)
-      (all_others_at (at + width (held t)) (next + numbered t) ts)
+      (others_of_all (all_annotated_at (at + width (tree_items t)) (next + numbered t) ts)) (others_at at next t)
+      (all_others_at (at + width (tree_items t)) (next + numbered t) ts)
 
 pub counted : (t : ItemTree) → length (numbers (annotated t)) ≡ numbered t
 counted t = ap (λ u. length (numbers u)) (annotated_is t) ∙ ap length (numbers_at 0 1 t) ∙ length-range_with_len 1 (numbered t)

@@ -6,7 +6,7 @@ use Rattle.wt_tree.specs.declared.kind.Kind.TheVariants as kind
 use Rattle.wt_tree.specs.Kinds.{is_leaf}
 use Rattle.wt_tree.specs.Tree.{Tree, Trees, subtrees, subtrees_of_all}
 use Rattle.wt_span.specs.Items.{Item, sources}
-use Rattle.wt_inline.specs.ItemTree.{Head, ItemTree, inner, ItemTrees, nothing, further, held, held_by_all}
+use Rattle.wt_inline.specs.ItemTree.{Head, ItemTree, inner, ItemTrees, nothing, further, tree_items, held_by_all}
 use Rattle.wt_annotate.specs.Labels.{width, leaf_open, open_width, close_width, if_inner, label_at}
 use Rattle.wt_annotate.specs.Numbering.{number_of, next_after}
 use Rattle.wt_annotate.specs.Annotated.{inside_by, numbered, annotated}
@@ -57,7 +57,7 @@ slice_between page before source after start end p s e =
     ∙ ap (λ m. drop m (before ++ source)) s
     ∙ drop_front before source
 
-node_slice : (page before after : List ℕ) (at next : ℕ) (t : ItemTree) → page ≡ before ++ (sources (held t) ++ after)
+node_slice : (page before after : List ℕ) (at next : ℕ) (t : ItemTree) → page ≡ before ++ (sources (tree_items t) ++ after)
     → at ≡ length before → IsSlice page (annotated_at at next t)
 unfolding label_at
 node_slice page before after at next (inner h opening ts closing) p a =
@@ -84,7 +84,7 @@ inside_slices true page us h = tt
 inside_slices false page us h = h
 
 mutual
-  pub slices_at : (page before after : List ℕ) (at next : ℕ) (t : ItemTree) → page ≡ before ++ (sources (held t) ++ after)
+  pub slices_at : (page before after : List ℕ) (at next : ℕ) (t : ItemTree) → page ≡ before ++ (sources (tree_items t) ++ after)
       → at ≡ length before → AreSlices page (annotated_at at next t)
   slices_at page before after at next (inner h opening ts closing) p a =
       let inside : List ℕ = sources (held_by_all ts) in
@@ -107,15 +107,15 @@ mutual
   all_slices page before after at next nothing p a = tt
   all_slices page before after at next (further t ts) p a =
       let others : List ℕ = sources (held_by_all ts) in
-      let first : page ≡ before ++ (sources (held t) ++ (others ++ after)) =
-      p ∙ ap (λ xs. before ++ (xs ++ after)) (sources_append (held t) (held_by_all ts))
-      ∙ ap (λ xs. before ++ xs) (append_assoc (sources (held t)) others after) in
-      all_both (IsSlice page) (subtrees (annotated_at at next t)) (subtrees_of_all (all_annotated_at (at + width (held t)) (next + numbered t) ts))
+      let first : page ≡ before ++ (sources (tree_items t) ++ (others ++ after)) =
+      p ∙ ap (λ xs. before ++ (xs ++ after)) (sources_append (tree_items t) (held_by_all ts))
+      ∙ ap (λ xs. before ++ xs) (append_assoc (sources (tree_items t)) others after) in
+      all_both (IsSlice page) (subtrees (annotated_at at next t)) (subtrees_of_all (all_annotated_at (at + width (tree_items t)) (next + numbered t) ts))
       (slices_at page before (others ++ after) at next t first a)
-      (all_slices page (before ++ sources (held t)) after (at + width (held t)) (next + numbered t) ts
-      (first ∙ sym (append_assoc before (sources (held t)) (others ++ after)))
-      (omega (arith, a, length-append before (sources (held t)))))
+      (all_slices page (before ++ sources (tree_items t)) after (at + width (tree_items t)) (next + numbered t) ts
+      (first ∙ sym (append_assoc before (sources (tree_items t)) (others ++ after)))
+      (omega (arith, a, length-append before (sources (tree_items t)))))
 
-pub annotated_slices : (t : ItemTree) → AreSlices (sources (held t)) (annotated t)
-annotated_slices t = subst (AreSlices (sources (held t))) (sym (annotated_is t))
-    (slices_at (sources (held t)) [] [] 0 1 t (sym (append-nil (sources (held t)))) refl)
+pub annotated_slices : (t : ItemTree) → AreSlices (sources (tree_items t)) (annotated t)
+annotated_slices t = subst (AreSlices (sources (tree_items t))) (sym (annotated_is t))
+    (slices_at (sources (tree_items t)) [] [] 0 1 t (sym (append-nil (sources (tree_items t)))) refl)

@@ -5,7 +5,7 @@ use Rattle.wt_tree.specs.Kinds.{is_leaf}
 use Rattle.wt_tree.specs.Tree.{Trees}
 use Rattle.wt_tree.specs.Source.{flat, flat_of_all}
 use Rattle.wt_span.specs.Items.{Item, sources}
-use Rattle.wt_inline.specs.ItemTree.{ItemTree, inner, ItemTrees, nothing, further, held, held_by_all}
+use Rattle.wt_inline.specs.ItemTree.{ItemTree, inner, ItemTrees, nothing, further, tree_items, held_by_all}
 use Rattle.wt_annotate.specs.Labels.{if_leaf, if_inner, width, label_at}
 use Rattle.wt_annotate.specs.Numbering.{next_after}
 use Rattle.wt_annotate.specs.Annotated.{inside_by, numbered, annotated}
@@ -27,7 +27,7 @@ flat_by false opening inside closing ts e =
 mutual
   unfolding label_at
 
-  pub flat_at : (at next : ℕ) (t : ItemTree) → flat (annotated_at at next t) ≡ sources (held t)
+  pub flat_at : (at next : ℕ) (t : ItemTree) → flat (annotated_at at next t) ≡ sources (tree_items t)
   flat_at at next (inner h opening ts closing) =
       flat_by (is_leaf h.kind) opening (held_by_all ts) closing
       (all_annotated_at (at + width opening) (next_after h.kind next) ts) (flat_all_at (at + width opening) (next_after h.kind next) ts)
@@ -35,9 +35,9 @@ mutual
   pub flat_all_at : (at next : ℕ) (ts : ItemTrees) → flat_of_all (all_annotated_at at next ts) ≡ sources (held_by_all ts)
   flat_all_at at next nothing = refl
   flat_all_at at next (further t ts) =
-      ap (λ bs. bs ++ flat_of_all (all_annotated_at (at + width (held t)) (next + numbered t) ts)) (flat_at at next t)
-      ∙ ap (λ bs. sources (held t) ++ bs) (flat_all_at (at + width (held t)) (next + numbered t) ts)
-      ∙ sym (sources_append (held t) (held_by_all ts))
+      ap (λ bs. bs ++ flat_of_all (all_annotated_at (at + width (tree_items t)) (next + numbered t) ts)) (flat_at at next t)
+      ∙ ap (λ bs. sources (tree_items t) ++ bs) (flat_all_at (at + width (tree_items t)) (next + numbered t) ts)
+      ∙ sym (sources_append (tree_items t) (held_by_all ts))
 
-pub flat_annotated : (t : ItemTree) → flat (annotated t) ≡ sources (held t)
+pub flat_annotated : (t : ItemTree) → flat (annotated t) ≡ sources (tree_items t)
 flat_annotated t = ap flat (annotated_is t) ∙ flat_at 0 1 t

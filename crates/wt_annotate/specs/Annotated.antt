@@ -4,7 +4,7 @@ use Rattle.std.specs.Prelude.{ℕ, ◌+◌, Bool, true, false, List, [], ◌++�
 use Rattle.wt_tree.specs.Kinds.{is_leaf, is_numbered}
 use Rattle.wt_tree.specs.Tree.{Tree, tree, Trees, none, more}
 use Rattle.wt_span.specs.Items.{Item}
-use Rattle.wt_inline.specs.ItemTree.{ItemTree, inner, ItemTrees, nothing, further, held, held_by_all}
+use Rattle.wt_inline.specs.ItemTree.{ItemTree, inner, ItemTrees, nothing, further, tree_items, held_by_all}
 use Rattle.wt_annotate.specs.Labels.{width, label_at}
 use Rattle.wt_annotate.specs.Numbering.{with_numbers}
 
@@ -20,7 +20,7 @@ abbrev mutual
 
   pub all_placed : List Item → ItemTrees → Trees
   all_placed before nothing = none
-  all_placed before (further t ts) = more (placed before t) (all_placed (before ++ held t) ts)
+  all_placed before (further t ts) = more (placed before t) (all_placed (before ++ tree_items t) ts)
 
 unfoldable pub annotated : ItemTree → Tree
 annotated t = with_numbers 1 (placed [] t)

@@ -3,7 +3,7 @@
 use Rattle.std.specs.Prelude.{◌≡◌, ℕ, ◌+◌, ◌++◌}
 use Rattle.wt_tree.specs.Kinds.{is_leaf}
 use Rattle.wt_tree.specs.Tree.{Tree, tree, Trees, none, more}
-use Rattle.wt_inline.specs.ItemTree.{ItemTree, inner, ItemTrees, nothing, further, held, held_by_all}
+use Rattle.wt_inline.specs.ItemTree.{ItemTree, inner, ItemTrees, nothing, further, tree_items, held_by_all}
 use Rattle.wt_annotate.specs.Labels.{width, label_at}
 use Rattle.wt_annotate.specs.Numbering.{number_of, next_after}
 use Rattle.wt_annotate.specs.Annotated.{inside_by, numbered, numbered_in_all}
@@ -16,11 +16,11 @@ abbrev mutual
 
   pub all_annotated_at : ℕ → ℕ → ItemTrees → Trees
   all_annotated_at at next nothing = none
-  all_annotated_at at next (further t ts) = more (annotated_at at next t) (all_annotated_at (at + width (held t)) (next + numbered t) ts)
+  all_annotated_at at next (further t ts) = more (annotated_at at next t) (all_annotated_at (at + width (tree_items t)) (next + numbered t) ts)
 
 pub record IsMade (at next : ℕ) (t : ItemTree) (u : Tree) (place number : ℕ) : Type 0 where
   pub tree_is : u ≡ annotated_at at next t
-  pub place_is : place ≡ at + width (held t)
+  pub place_is : place ≡ at + width (tree_items t)
   pub number_is : number ≡ next + numbered t
 
 pub record AreMade (at next : ℕ) (ts : ItemTrees) (us : Trees) (place number : ℕ) : Type 0 where

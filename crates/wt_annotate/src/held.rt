@@ -1,20 +1,19 @@
 ghost use Rattle.std.specs.Prelude.{◌≡◌, ◌++◌, IfOk, OnOk};
 ghost use Rattle.wt_span.specs.Items.{items};
-ghost use Rattle.wt_inline.specs.ItemTree.{forest, held, held_by_all};
+ghost use Rattle.wt_inline.specs.ItemTree.{forest, tree_items, held_by_all};
 ghost use Rattle.wt_inline.specs.View.{item_tree, item_trees};
 
-use crate::piece::push_pieces;
 use wt_inline::PieceTree;
 use wt_span::{List, NoMemory, Piece};
 
 fn push_held<'a>(out: &mut List<Piece<'a>>, tree: &PieceTree<'a>) -> Result<(), NoMemory>
-    ensures { OnOk result (items out.new ≡ items out.old ++ held (item_tree tree.now)) }
+    ensures { OnOk result (items out.new ≡ items out.old ++ tree_items (item_tree tree.now)) }
 {
-    push_pieces(out, tree.opening.as_slice())?;
+    out.extend_from_slice(tree.opening.as_slice())?;
     for child in tree.children.as_slice() {
         push_held(out, child)?;
     }
-    push_pieces(out, tree.closing.as_slice())?;
+    out.extend_from_slice(tree.closing.as_slice())?;
     Ok(())
 }
 
@@ -30,6 +29,6 @@ pub fn own_pieces<'a>(
     for child in children {
         push_held(&mut own, child)?;
     }
-    push_pieces(&mut own, closing)?;
+    own.extend_from_slice(closing)?;
     Ok(own)
 }

@@ -1,6 +1,6 @@
 ghost use Rattle.std.specs.Prelude.{◌≡◌, ◌+◌, ◌^◌, ◌<◌, IfOk};
 ghost use Rattle.wt_tree.specs.View.{view};
-ghost use Rattle.wt_inline.specs.ItemTree.{held};
+ghost use Rattle.wt_inline.specs.ItemTree.{tree_items};
 ghost use Rattle.wt_inline.specs.View.{item_tree};
 ghost use Rattle.wt_annotate.specs.Labels.{width};
 ghost use Rattle.wt_annotate.specs.Annotated.{numbered, annotated};
@@ -16,7 +16,7 @@ use wt_tree::Annotated;
 /// source and what its element carries.
 #[tactic(auto, using(crate::proofs::TreeRanges::tiled_at, crate::proofs::OnePass::annotated_is))]
 pub fn annotate<'a>(alloc: Global, tree: PieceTree<'a>) -> Result<Annotated<'a>, NoMemory>
-    requires bytes { width (held (item_tree tree)) < 2 ^ 32 }
+    requires bytes { width (tree_items (item_tree tree)) < 2 ^ 32 }
     requires numbers { 1 + numbered (item_tree tree) < 2 ^ 32 }
     ensures { IfOk result (λ a. view a.body ≡ annotated (item_tree tree.entry)) }
 {

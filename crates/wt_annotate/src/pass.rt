@@ -5,7 +5,7 @@ ghost use Rattle.wt_span.specs.Items.{items};
 ghost use Rattle.wt_tree.specs.Kinds.{is_leaf};
 ghost use Rattle.wt_tree.specs.Tree.{tree};
 ghost use Rattle.wt_tree.specs.View.{view, views};
-ghost use Rattle.wt_inline.specs.ItemTree.{inner, forest, held, held_by_all};
+ghost use Rattle.wt_inline.specs.ItemTree.{inner, forest, tree_items, held_by_all};
 ghost use Rattle.wt_inline.specs.View.{head_of, item_tree, item_trees};
 ghost use Rattle.wt_inline.specs.declared.tree.PieceTree.{out-PieceTree};
 ghost use Rattle.wt_annotate.specs.Labels.{width};
@@ -39,7 +39,7 @@ struct AllMade<'a> {
 
 fn leaf<'a>(alloc: Global, tree: PieceTree<'a>, at: Cursor) -> Result<Made<'a>, NoMemory>
     requires leaf { is_leaf (out-PieceTree tree).head.kind ≡ true }
-    requires place { at.place + width (held (item_tree tree)) < 2 ^ 32 }
+    requires place { at.place + width (tree_items (item_tree tree)) < 2 ^ 32 }
     requires number { at.next + numbered (item_tree tree) < 2 ^ 32 }
     ensures { IfOk result (λ m. IsMade at.place at.next (item_tree tree.entry) (view m.node) m.behind.place m.behind.next) }
 {
@@ -56,7 +56,7 @@ fn leaf<'a>(alloc: Global, tree: PieceTree<'a>, at: Cursor) -> Result<Made<'a>, 
 }
 
 /// A node round the children that are made.
-fn around<'a>(
+fn node_round<'a>(
     alloc: Global,
     head: NodeHead,
     at: Cursor,
@@ -118,7 +118,7 @@ pub fn annotated_node<'a>(
     tree: PieceTree<'a>,
     at: Cursor,
 ) -> Result<Made<'a>, NoMemory>
-    requires place { at.place + width (held (item_tree tree)) < 2 ^ 32 }
+    requires place { at.place + width (tree_items (item_tree tree)) < 2 ^ 32 }
     requires number { at.next + numbered (item_tree tree) < 2 ^ 32 }
     ensures { IfOk result (λ m. IsMade at.place at.next (item_tree tree.entry) (view m.node) m.behind.place m.behind.next) }
 {
@@ -133,5 +133,5 @@ pub fn annotated_node<'a>(
     } = tree;
     let inside = at.after(head.kind, width(opening.as_slice()));
     let children = annotated_all(alloc, children, inside)?;
-    around(alloc, head, at, opening, children, closing)
+    node_round(alloc, head, at, opening, children, closing)
 }

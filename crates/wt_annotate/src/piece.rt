@@ -37,12 +37,3 @@ pub fn texts<'a>(alloc: Global, pieces: &[Piece<'a>]) -> Result<List<Text<'a>>, 
     Ok(texts)
 }
 
-/// Appends pieces.
-pub fn push_pieces<'a>(out: &mut List<Piece<'a>>, pieces: &[Piece<'a>]) -> Result<(), NoMemory>
-    ensures { OnOk result (out.new ≡ out.old ++ pieces.now) }
-{
-    for piece in pieces {
-        out.push(*piece)?;
-    }
-    Ok(())
-}

@@ -5,7 +5,7 @@ use Rattle.std.proofs.lemmas.Grind.{flat_map-append}
 use Rattle.wt_span.specs.Items.{Item}
 use Rattle.wt_inline.specs.declared.loose.Loose.TheVariants.{Sep}
 use Rattle.wt_inline.specs.Inside.{opened_all}
-use Rattle.wt_inline.specs.ItemTree.{Head, ItemTree, inner, forest, held, held_by_all}
+use Rattle.wt_inline.specs.ItemTree.{Head, ItemTree, inner, forest, tree_items, held_by_all}
 use Rattle.wt_inline.specs.Parts.{Part, node, parts, children}
 use Rattle.wt_inline.proofs.HeldLaws.{held_children, opened_append}
 use Rattle.wt_body.specs.Stretches.{Stretch, gap, block, stretch_parts, stretches_parts, front_len, front_gaps, past_front, block_len, before_end, end_gaps, tree_block, node_of, opened_by, enclosed}
@@ -16,7 +16,7 @@ abbrev pub kept : List Stretch → List Item
 kept ss = kept_parts (stretches_parts ss)
 
 abbrev pub kept_tree : ItemTree → List Item
-kept_tree t = opened_all (held t)
+kept_tree t = opened_all (tree_items t)
 
 pub kept_append : (ss ts : List Stretch) → kept (ss ++ ts) ≡ kept ss ++ kept ts
 kept_append ss ts = ap kept_parts (flat_map-append stretch_parts ss ts) ∙ parts_append (stretches_parts ss) (stretches_parts ts)
@@ -28,7 +28,7 @@ pub of_block : (ps : List Part) (ss : List Stretch) → kept (block ps ∷ ss) �
 of_block ps ss = parts_append ps (stretches_parts ss)
 
 pub of_tree : (t : ItemTree) (ss : List Stretch) → kept (tree_block t ∷ ss) ≡ kept_tree t ++ kept ss
-of_tree t ss = of_block (node t ∷ []) ss ∙ ap (λ ys. opened_all ys ++ kept ss) (append-nil (held t))
+of_tree t ss = of_block (node t ∷ []) ss ∙ ap (λ ys. opened_all ys ++ kept ss) (append-nil (tree_items t))
 
 -- a node with these parts between its delimiters
 pub of_inner : (h : Head) (o : List Item) (ps : List Part) (c : List Item)

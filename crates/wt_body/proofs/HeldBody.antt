@@ -12,7 +12,7 @@ use Rattle.wt_lines.specs.Lines.{full_lines, goes_on}
 use Rattle.wt_tables.specs.Extents.{inner_len}
 use Rattle.wt_tables.specs.Parts.{joined, taken_len, put_first, units_from, units, unit_kind}
 use Rattle.wt_inline.specs.Inside.{opened_all}
-use Rattle.wt_inline.specs.ItemTree.{plain, ItemTree, inner, forest, held}
+use Rattle.wt_inline.specs.ItemTree.{plain, ItemTree, inner, forest, tree_items}
 use Rattle.wt_inline.specs.Parts.{children}
 use Rattle.wt_inline.proofs.HeldLaws.{opened_append, sources_opened, are_children, only_children}
 use Rattle.wt_build.specs.Blocks.{heading}
@@ -95,12 +95,12 @@ pub of_blocks : Reads blocks
 unfolding blocks
 of_blocks rs = of_within most_tables rs
 
-pub held_meaning : (xs : List Item) → opened_all (held (meaning xs)) ≡ opened_all xs
+pub held_meaning : (xs : List Item) → opened_all (tree_items (meaning xs)) ≡ opened_all xs
 unfolding meaning
 held_meaning xs = of_node (plain kind.Body) [] (blocks (rows xs)) [] ∙ append-nil (kept (blocks (rows xs))) ∙ of_blocks (rows xs) ∙ ap opened_all (rows_join xs)
 
-pub sources_meaning : (xs : List Item) → sources (held (meaning xs)) ≡ sources xs
-sources_meaning xs = sym (sources_opened (held (meaning xs))) ∙ ap sources (held_meaning xs) ∙ sources_opened xs
+pub sources_meaning : (xs : List Item) → sources (tree_items (meaning xs)) ≡ sources xs
+sources_meaning xs = sym (sources_opened (tree_items (meaning xs))) ∙ ap sources (held_meaning xs) ∙ sources_opened xs
 
 -- ---- one meaning
 

@@ -7,19 +7,19 @@ use Rattle.wt_blocks.specs.Headings.{opening, inside, closing}
 use Rattle.wt_blocks.proofs.HeadingLaws.{joined as heading_joined}
 use Rattle.wt_inline.specs.declared.loose.Loose.TheVariants.{Text}
 use Rattle.wt_inline.specs.Inside.{opened_all}
-use Rattle.wt_inline.specs.ItemTree.{plain, ItemTree, forest, held, held_by_all}
+use Rattle.wt_inline.specs.ItemTree.{plain, ItemTree, forest, tree_items, held_by_all}
 use Rattle.wt_inline.specs.Parts.{Part, node, parts}
 use Rattle.wt_inline.proofs.HeldLaws.{opened_append}
 use Rattle.wt_context.specs.Line.{line_parts, line_trees}
 use Rattle.wt_body.specs.Rows.{Row, row_items, all_items, first_lead, last_ending}
 use Rattle.wt_body.specs.Stretches.{gap, tree_block}
-use Rattle.wt_body.specs.Texts.{around, later_parts, later_line, para_parts, para, skipped, later_pre, pre_opening, pre_parts, pre, rule}
+use Rattle.wt_body.specs.Texts.{with_separators, later_parts, later_line, para_parts, para, skipped, later_pre, pre_opening, pre_parts, pre, rule}
 use Rattle.wt_build.specs.Blocks.{heading}
 use Rattle.wt_context.proofs.LineHolding.{line_holds, trees_hold}
 use Rattle.wt_body.proofs.Opened.{kept_parts, parts_append, parts_of}
 use Rattle.wt_body.proofs.Held.{kept, kept_tree, of_gap, of_tree, of_inner}
 
-pub of_around : (t : ItemTree) (rs : List Row) → kept (around t rs) ≡ opened_all (first_lead rs) ++ (kept_tree t ++ opened_all (last_ending rs))
+pub of_around : (t : ItemTree) (rs : List Row) → kept (with_separators t rs) ≡ opened_all (first_lead rs) ++ (kept_tree t ++ opened_all (last_ending rs))
 of_around t rs =
     of_gap (first_lead rs) (tree_block t ∷ gap (last_ending rs) ∷ [])
     ∙ ap (λ ys. opened_all (first_lead rs) ++ ys) (of_tree t (gap (last_ending rs) ∷ [])
@@ -66,7 +66,7 @@ para_reads r = line_holds (r.lead ++ r.items)
 -- a block whose first line holds these items, with its rows
 of_lines : (read : Row → List Part) (reads : (r : Row) → kept_parts (read r) ≡ opened_all (r.lead ++ r.items)) (t : ItemTree) (r : Row) (rs : List Row)
     → kept_tree t ≡ opened_all r.items ++ kept_parts (later_parts read r.ending rs)
-    → kept (around t (r ∷ rs)) ≡ opened_all (all_items (r ∷ rs))
+    → kept (with_separators t (r ∷ rs)) ≡ opened_all (all_items (r ∷ rs))
 of_lines read reads t r rs h =
     of_around t (r ∷ rs)
     ∙ ap (λ ys. opened_all r.lead ++ ys) (ap (λ ys. ys ++ opened_all (last_ending (r ∷ rs))) h
@@ -79,7 +79,7 @@ para_tree : (rs : List Row) → kept_tree (para rs) ≡ kept_parts (para_parts r
 unfolding para
 para_tree rs = of_inner (plain kind.Para) [] (para_parts rs) [] ∙ append-nil (kept_parts (para_parts rs))
 
-pub of_para : (rs : List Row) → kept (around (para rs) rs) ≡ opened_all (all_items rs)
+pub of_para : (rs : List Row) → kept (with_separators (para rs) rs) ≡ opened_all (all_items rs)
 of_para [] = of_around (para []) [] ∙ append-nil (kept_tree (para [])) ∙ para_tree []
 of_para (r ∷ rs) = of_lines later_line para_reads (para (r ∷ rs)) r rs
     (para_tree (r ∷ rs) ∙ parts_append (line_parts r.items) (later_parts later_line r.ending rs)
@@ -88,7 +88,7 @@ of_para (r ∷ rs) = of_lines later_line para_reads (para (r ∷ rs)) r rs
 -- ---- preformatted text
 
 skipped_holds : (r : Row) → kept_parts (node (skipped r) ∷ []) ≡ opened_all (take 1 r.items)
-skipped_holds r = ap opened_all (append-nil (held (skipped r)) ∙ append-nil (take 1 r.items))
+skipped_holds r = ap opened_all (append-nil (tree_items (skipped r)) ∙ append-nil (take 1 r.items))
 
 pre_reads : (r : Row) → kept_parts (later_pre r) ≡ opened_all (r.lead ++ r.items)
 pre_reads r =
@@ -104,7 +104,7 @@ unfolding pre
 pre_tree rs = of_inner (plain kind.Pre) (pre_opening rs) (pre_parts rs) []
     ∙ ap (λ ys. opened_all (pre_opening rs) ++ ys) (append-nil (kept_parts (pre_parts rs)))
 
-pub of_pre : (rs : List Row) → kept (around (pre rs) rs) ≡ opened_all (all_items rs)
+pub of_pre : (rs : List Row) → kept (with_separators (pre rs) rs) ≡ opened_all (all_items rs)
 of_pre [] = of_around (pre []) [] ∙ append-nil (kept_tree (pre [])) ∙ pre_tree []
 of_pre (r ∷ rs) =
     let more = later_parts later_pre r.ending rs in
@@ -117,7 +117,7 @@ of_pre (r ∷ rs) =
 -- ---- headings and rules
 
 -- of one row whose node holds its items
-pub of_row : (t : ItemTree) (r : Row) → kept_tree t ≡ opened_all r.items → kept (around t (r ∷ [])) ≡ opened_all (row_items r)
+pub of_row : (t : ItemTree) (r : Row) → kept_tree t ≡ opened_all r.items → kept (with_separators t (r ∷ [])) ≡ opened_all (row_items r)
 of_row t r h = of_around t (r ∷ []) ∙ ap (λ ys. opened_all r.lead ++ (ys ++ opened_all r.ending)) h ∙ sym (opened_row r)
 
 pub of_heading : (xs : List Item) → kept_tree (heading xs) ≡ opened_all xs

@@ -14,7 +14,7 @@ use Rattle.wt_inline.specs.Parts.{Part, AreChildren}
 use Rattle.wt_build.specs.Blocks.{heading}
 use Rattle.wt_body.specs.Rows.{Row, kind_of, rows_from, rows}
 use Rattle.wt_body.specs.Stretches.{Stretch, stretches_parts, node_of}
-use Rattle.wt_body.specs.Texts.{around, para, pre, rule}
+use Rattle.wt_body.specs.Texts.{with_separators, para, pre, rule}
 use Rattle.wt_body.specs.Lists.{lists}
 use Rattle.wt_body.specs.Tables.{Reading, gaps, table}
 
@@ -57,26 +57,26 @@ same_block u v = one_block (unit_kind kind_of u) (unit_kind kind_of v)
 -- ---- blocks
 
 abbrev pub rule_row : Row → List Stretch
-rule_row r = around (rule r.items) (r ∷ [])
+rule_row r = with_separators (rule r.items) (r ∷ [])
 
 abbrev pub heading_row : Row → List Stretch
-heading_row r = around (heading r.items) (r ∷ [])
+heading_row r = with_separators (heading r.items) (r ∷ [])
 
 -- The table of blocks, where blocks in cells are read so. The lines that a table is made of stand in tables alone, so those that
 -- would be left over are read as text.
 abbrev pub block_stretches : Reading → LineKind → List Row → List Stretch
 block_stretches read line.Blank rs = gaps rs
 block_stretches read line.TableOpen rs = table read rs
-block_stretches read line.TableEnd rs = around (para rs) rs
-block_stretches read line.Caption rs = around (para rs) rs
-block_stretches read line.Row rs = around (para rs) rs
-block_stretches read line.Cell rs = around (para rs) rs
-block_stretches read line.Header rs = around (para rs) rs
+block_stretches read line.TableEnd rs = with_separators (para rs) rs
+block_stretches read line.Caption rs = with_separators (para rs) rs
+block_stretches read line.Row rs = with_separators (para rs) rs
+block_stretches read line.Cell rs = with_separators (para rs) rs
+block_stretches read line.Header rs = with_separators (para rs) rs
 block_stretches read line.Heading rs = flat_map heading_row rs
 block_stretches read line.Rule rs = flat_map rule_row rs
 block_stretches read line.List rs = lists rs
-block_stretches read line.Pre rs = around (pre rs) rs
-block_stretches read line.Text rs = around (para rs) rs
+block_stretches read line.Pre rs = with_separators (pre rs) rs
+block_stretches read line.Text rs = with_separators (para rs) rs
 
 abbrev pub run_stretches : Reading → List (List Row) → List Stretch
 run_stretches read us = block_stretches read (unit_kind kind_of (joined us)) (joined us)

@@ -10,8 +10,8 @@ use Rattle.wt_body.specs.Rows.{Row, first_lead, last_ending}
 use Rattle.wt_body.specs.Stretches.{Stretch, gap, tree_block}
 
 -- a block of rows: what stands before the first and what ends the last lie outside it
-abbrev pub around : ItemTree → List Row → List Stretch
-around t rs = gap (first_lead rs) ∷ tree_block t ∷ gap (last_ending rs) ∷ []
+abbrev pub with_separators : ItemTree → List Row → List Stretch
+with_separators t rs = gap (first_lead rs) ∷ tree_block t ∷ gap (last_ending rs) ∷ []
 
 -- what later lines of a block hold, each read so, with the line break before each as text
 abbrev pub later_parts : (Row → List Part) → List Item → List Row → List Part

@@ -3,7 +3,7 @@
 ghost use Rattle.std.specs.Prelude.{◌≡◌, List};
 ghost use Rattle.wt_span.specs.Items.{Item, sources};
 ghost use Rattle.wt_inline.specs.Inside.{opened_all};
-ghost use Rattle.wt_inline.specs.ItemTree.{ItemTree, held};
+ghost use Rattle.wt_inline.specs.ItemTree.{ItemTree, tree_items};
 ghost use Rattle.wt_inline.specs.Parts.{held_parts};
 ghost use Rattle.wt_body.specs.Rows.{Row as RowOf, all_items, rows};
 ghost use Rattle.wt_body.specs.Body.{body_parts, meaning, IsMeaning};
@@ -22,8 +22,8 @@ pub fn blocks_hold_their_rows()
 /// The meaning of items holds them in their order, but that a `nowiki` may be opened in it; joined,
 /// its sources are theirs.
 pub fn meaning_holds_its_items()
-    ensures items { (xs : List Item) → opened_all (held (meaning xs)) ≡ opened_all xs }
-    ensures source { (xs : List Item) → sources (held (meaning xs)) ≡ sources xs }
+    ensures items { (xs : List Item) → opened_all (tree_items (meaning xs)) ≡ opened_all xs }
+    ensures source { (xs : List Item) → sources (tree_items (meaning xs)) ≡ sources xs }
 {}
 
 /// The meaning is found by cuts that exist, into lines, units of rows, blocks and leaves, and no

@@ -16,7 +16,7 @@ use Rattle.wt_inline.specs.Parts.{node, parts, children}
 use Rattle.wt_build.specs.declared.block.BlockKind.{BlockKind}
 use Rattle.wt_build.specs.declared.block.BlockKind.TheVariants.{Between, Heading, Para}
 use Rattle.wt_build.specs.Rows.{ending}
-use Rattle.wt_build.specs.Blocks.{joined, full_line_parts, para, heading, block, lead_len, last_ending, without_ending, around}
+use Rattle.wt_build.specs.Blocks.{joined, full_line_parts, para, heading, block, lead_len, last_ending, without_ending, with_separators}
 use Rattle.wt_build.specs.Cuts.{IsAround}
 use Rattle.wt_build.proofs.Ends.{content_onto, ending_onto}
 use Rattle.wt_tiles.specs.Tiles.{closed, shapes, tiles}
@@ -164,7 +164,7 @@ full_without m (n ∷ ns) a h = (goes_other m (joined (n ∷ ns)) (joined (witho
 
 abbrev AroundIs : BlockKind → List (List Item) → List Item → Type 0
 AroundIs k ls xs =
-    around k ls ≡ parts Sep (take (lead_len xs) xs)
+    with_separators k ls ≡ parts Sep (take (lead_len xs) xs)
     ++ (node (block k (full_lines (content (drop (lead_len xs) xs)))) ∷ parts Sep (ending (drop (lead_len xs) xs)))
 
 three : (k : BlockKind) (a b : List Item) (t u : ItemTree) (c d : List Item) → a ≡ b → t ≡ u → c ≡ d
@@ -193,7 +193,7 @@ around_lines k (l ∷ ms) xs h =
     (block_filled k (without_ending (m ∷ ms)) ∙ ap (block k) inside) (ending_lines m ms some ∙ ap ending back))
 
 pub around_is : (k : BlockKind) (xs before mid after : List Item) → IsAround xs before mid after
-    → around k (full_lines xs) ≡ parts Sep before ++ (node (block k (full_lines mid)) ∷ parts Sep after)
+    → with_separators k (full_lines xs) ≡ parts Sep before ++ (node (block k (full_lines mid)) ∷ parts Sep after)
 around_is k xs before mid after a =
     around_lines k (full_lines xs) xs (runs_are goes_on xs)
     ∙ three k _ before _ (block k (full_lines mid)) _ after a.lead (ap (λ ys. block k (full_lines ys)) a.block) a.end

@@ -15,14 +15,14 @@ use Rattle.wt_inline.specs.Grown.{Grown, Grows, made}
 use Rattle.wt_build.specs.declared.block.BlockKind.{BlockKind}
 use Rattle.wt_context.specs.Line.{line_parts}
 use Rattle.wt_build.specs.Rows.{rows, ending}
-use Rattle.wt_build.specs.Blocks.{full_line_parts, block, around, parts_by}
+use Rattle.wt_build.specs.Blocks.{full_line_parts, block, with_separators, parts_by}
 use Rattle.wt_build.specs.Meaning.{body_parts}
 use Rattle.wt_build.specs.Cuts.{IsAround, IsBlockCut, parts_from, paragraph_parts}
 use Rattle.wt_build.proofs.Around.{around_is}
 
 pub grows_around : (k : BlockKind) (xs before mid after : List Item) (t : ItemTree) (g h i j : Grown)
     → IsAround xs before mid after → t ≡ block k (full_lines mid) → Grows g (parts Sep before) h → Grows h (node t ∷ []) i
-    → Grows i (parts Sep after) j → Grows g (around k (full_lines xs)) j
+    → Grows i (parts Sep after) j → Grows g (with_separators k (full_lines xs)) j
 grows_around k xs before mid after t g h i j a e p q r ps =
     let b = parts Sep before in
     let c = parts Sep after in

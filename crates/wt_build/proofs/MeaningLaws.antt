@@ -10,7 +10,7 @@ use Rattle.wt_span.proofs.RunLaws.{runs_are, runs_only, runs_joined}
 use Rattle.wt_lines.specs.Lines.{content, goes_on, full_lines}
 use Rattle.wt_inline.specs.declared.loose.Loose.TheVariants.{Text, Sep}
 use Rattle.wt_inline.specs.Inside.{opened_all}
-use Rattle.wt_inline.specs.ItemTree.{plain, ItemTree, inner, forest, held, held_by_all}
+use Rattle.wt_inline.specs.ItemTree.{plain, ItemTree, inner, forest, tree_items, held_by_all}
 use Rattle.wt_inline.specs.Parts.{node, held_parts, parts, children}
 use Rattle.wt_context.specs.Line.{line_parts, line_trees}
 use Rattle.wt_context.proofs.Opening.{opened_twice}
@@ -22,7 +22,7 @@ use Rattle.wt_blocks.specs.Headings.{opening, inside, closing}
 use Rattle.wt_blocks.proofs.HeadingLaws.{joined as heading_joined}
 use Rattle.wt_tables.specs.Extents.{behind, kinds}
 use Rattle.wt_build.specs.Rows.{Row, block_of, kind_at, line_rows, rows_from, rows, RowsHaveKinds, same_block, ending}
-use Rattle.wt_build.specs.Blocks.{joined, full_line_parts, para, heading, block, lead_len, lead, without_lead, last_ending, without_ending, around, parts_by}
+use Rattle.wt_build.specs.Blocks.{joined, full_line_parts, para, heading, block, lead_len, lead, without_lead, last_ending, without_ending, with_separators, parts_by}
 use Rattle.wt_build.specs.Meaning.{row_items, run_parts, body_parts, meaning, IsMeaning}
 use Rattle.wt_build.proofs.Ends.{content_ending}
 
@@ -47,12 +47,12 @@ opened_lines (l ∷ ls) =
     ∙ ap (λ ys. opened_all l ++ ys) (opened_lines ls)
     ∙ sym (opened_append l (joined ls))
 
-held_para : (ls : List (List Item)) → opened_all (held (para ls)) ≡ opened_all (joined ls)
+held_para : (ls : List (List Item)) → opened_all (tree_items (para ls)) ≡ opened_all (joined ls)
 unfolding para
 held_para ls = ap opened_all (append-nil (held_by_all (forest (children (flat_map full_line_parts ls))))
     ∙ held_children (flat_map full_line_parts ls)) ∙ opened_lines ls
 
-held_heading : (xs : List Item) → opened_all (held (heading xs)) ≡ opened_all xs
+held_heading : (xs : List Item) → opened_all (tree_items (heading xs)) ≡ opened_all xs
 unfolding heading
 held_heading xs =
     let a = opening xs in
@@ -65,7 +65,7 @@ held_heading xs =
     ∙ sym (opened_append a (b ++ c))
     ∙ ap opened_all (heading_joined xs)
 
-held_block : (k : BlockKind) (ls : List (List Item)) → opened_all (held (block k ls)) ≡ opened_all (joined ls)
+held_block : (k : BlockKind) (ls : List (List Item)) → opened_all (tree_items (block k ls)) ≡ opened_all (joined ls)
 unfolding block
 held_block Between ls = held_para ls
 held_block Heading ls = held_heading (joined ls)
@@ -80,18 +80,18 @@ end_joined [] = refl
 end_joined (l ∷ []) = ap (λ ys. ys ++ ending l) (append-nil (content l)) ∙ content_ending l ∙ sym (append-nil l)
 end_joined (l ∷ m ∷ ls) = append_assoc l (joined (without_ending (m ∷ ls))) (last_ending (m ∷ ls)) ∙ ap (λ ys. l ++ ys) (end_joined (m ∷ ls))
 
-held_around : (k : BlockKind) (ls : List (List Item)) → opened_all (held_parts (around k ls)) ≡ opened_all (joined ls)
+held_around : (k : BlockKind) (ls : List (List Item)) → opened_all (held_parts (with_separators k ls)) ≡ opened_all (joined ls)
 held_around k ls =
     let rest = without_lead ls in
     let b = block k (without_ending rest) in
     let c = parts Sep (last_ending rest) in
     ap opened_all (held_append (parts Sep (lead ls)) (node b ∷ c)
-    ∙ ap (λ ys. ys ++ (held b ++ held_parts c)) (held_of_parts Sep (lead ls))
-    ∙ ap (λ ys. opened_all (lead ls) ++ (held b ++ ys)) (held_of_parts Sep (last_ending rest)))
-    ∙ opened_append (opened_all (lead ls)) (held b ++ opened_all (last_ending rest))
-    ∙ ap (λ ys. ys ++ opened_all (held b ++ opened_all (last_ending rest))) (opened_twice (lead ls))
+    ∙ ap (λ ys. ys ++ (tree_items b ++ held_parts c)) (held_of_parts Sep (lead ls))
+    ∙ ap (λ ys. opened_all (lead ls) ++ (tree_items b ++ ys)) (held_of_parts Sep (last_ending rest)))
+    ∙ opened_append (opened_all (lead ls)) (tree_items b ++ opened_all (last_ending rest))
+    ∙ ap (λ ys. ys ++ opened_all (tree_items b ++ opened_all (last_ending rest))) (opened_twice (lead ls))
     ∙ ap (λ ys. opened_all (lead ls) ++ ys)
-    (opened_append (held b) (opened_all (last_ending rest)) ∙ ap (λ ys. ys ++ opened_all (opened_all (last_ending rest)))
+    (opened_append (tree_items b) (opened_all (last_ending rest)) ∙ ap (λ ys. ys ++ opened_all (opened_all (last_ending rest)))
     (held_block k (without_ending rest)) ∙ ap (λ ys. opened_all (joined (without_ending rest)) ++ ys)
     (opened_twice (last_ending rest)) ∙ sym (opened_append (joined (without_ending rest)) (last_ending rest))
     ∙ ap opened_all (end_joined rest))
@@ -137,15 +137,15 @@ kinds_are t (l ∷ ls) = ap (λ ks. block_of (kind_at t l) ∷ ks) (kinds_are (b
 pub rows_have_kinds : (xs : List Item) → RowsHaveKinds xs
 rows_have_kinds xs = kinds_are 0 (full_lines xs)
 
-pub held_meaning : (xs : List Item) → opened_all (held (meaning xs)) ≡ opened_all xs
+pub held_meaning : (xs : List Item) → opened_all (tree_items (meaning xs)) ≡ opened_all xs
 unfolding meaning
 held_meaning xs =
     ap opened_all (append-nil (held_by_all (forest (children (body_parts (rows xs))))) ∙ held_children (body_parts (rows xs)))
     ∙ held_blocks (runs same_block (rows xs))
     ∙ ap opened_all (ap (λ rs. joined (row_items rs)) (runs_joined same_block (rows xs)) ∙ ap joined (row_items_are 0 (full_lines xs)) ∙ runs_joined goes_on xs)
 
-pub sources_meaning : (xs : List Item) → sources (held (meaning xs)) ≡ sources xs
-sources_meaning xs = sym (sources_opened (held (meaning xs))) ∙ ap sources (held_meaning xs) ∙ sources_opened xs
+pub sources_meaning : (xs : List Item) → sources (tree_items (meaning xs)) ≡ sources xs
+sources_meaning xs = sym (sources_opened (tree_items (meaning xs))) ∙ ap sources (held_meaning xs) ∙ sources_opened xs
 
 -- ---- one meaning
 

@@ -63,13 +63,13 @@ without_ending (l ∷ []) = content l ∷ []
 without_ending (l ∷ m ∷ ls) = l ∷ without_ending (m ∷ ls)
 
 -- A block begins at its first visible item: the marks before it are no part of it, and neither is its last line break.
-abbrev pub around : BlockKind → List (List Item) → List Part
-around k ls =
+abbrev pub with_separators : BlockKind → List (List Item) → List Part
+with_separators k ls =
     let rest = without_lead ls in
     parts Sep (lead ls) ++ (node (block k (without_ending rest)) ∷ parts Sep (last_ending rest))
 
 -- the parts that the lines of a block give
 abbrev pub parts_by : BlockKind → List (List Item) → List Part
 parts_by Between ls = parts Sep (joined ls)
-parts_by Heading ls = around Heading ls
-parts_by Para ls = around Para ls
+parts_by Heading ls = with_separators Heading ls
+parts_by Para ls = with_separators Para ls

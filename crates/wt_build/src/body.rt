@@ -3,9 +3,9 @@ ghost use Rattle.wt_span.specs.Items.{items, sources};
 ghost use Rattle.wt_lines.specs.Lines.{full_lines};
 ghost use Rattle.wt_inline.specs.Parts.{children};
 ghost use Rattle.wt_inline.specs.View.{item_tree, item_trees};
-ghost use Rattle.wt_inline.specs.Grown.{grown, Grows};
+ghost use Rattle.wt_inline.specs.Grown.{growth, Grows};
 ghost use Rattle.wt_build.specs.Rows.{rows};
-ghost use Rattle.wt_build.specs.Blocks.{around, parts_by};
+ghost use Rattle.wt_build.specs.Blocks.{with_separators, parts_by};
 ghost use Rattle.wt_build.specs.Meaning.{body_parts, meaning};
 ghost use Rattle.wt_build.specs.Cuts.{AreReady};
 
@@ -27,7 +27,7 @@ fn with_around<'a>(
     lines: &[Piece<'a>],
 ) -> Result<Children<'a>, NoMemory>
     requires { AreReady lines.now }
-    ensures { IfOk result (λ c. Grows (grown children.entry) (around kind (full_lines (items lines.now))) (grown c)) }
+    ensures { IfOk result (λ c. Grows (growth children.entry) (with_separators kind (full_lines (items lines.now))) (growth c)) }
 {
     let cut = cut_block(lines);
     let tree = block_tree(alloc, kind, cut.inside)?;
@@ -44,7 +44,7 @@ fn with_lines<'a>(
     lines: &[Piece<'a>],
 ) -> Result<Children<'a>, NoMemory>
     requires { AreReady lines.now }
-    ensures { IfOk result (λ c. Grows (grown children.entry) (parts_by kind (full_lines (items lines.now))) (grown c)) }
+    ensures { IfOk result (λ c. Grows (growth children.entry) (parts_by kind (full_lines (items lines.now))) (growth c)) }
 {
     match kind {
         BlockKind::Between => children.with_pieces(alloc, Loose::Sep, lines),

@@ -19,15 +19,6 @@ fn copied<'a>(alloc: Global, pieces: &[Piece<'a>]) -> Result<List<Piece<'a>>, No
     Ok(List::from_vec(Vec::from_slice(alloc, pieces)?))
 }
 
-fn push_all<'a>(out: &mut List<Piece<'a>>, pieces: &[Piece<'a>]) -> Result<(), NoMemory>
-    ensures { OnOk result (out.new ≡ out.old ++ pieces.now) }
-{
-    for piece in pieces {
-        out.push(*piece)?;
-    }
-    Ok(())
-}
-
 /// Whether characters follow the first one of a piece.
 fn has_more(piece: &Piece<'_>) -> bool
     ensures { result ≡ (is_chars piece.now.form && nat_lt 1 (length (bytes_of piece.now.text))) }
@@ -90,7 +81,7 @@ fn split_first<'a>(
     ensures sound_rest { IfOk result (λ r. All IsSoundPiece r.1) }
 {
     let (first, mut rest) = split_sign(alloc, pieces[0])?;
-    push_all(&mut rest, rest_of(pieces, 1))?;
+    rest.extend_from_slice(rest_of(pieces, 1))?;
     Ok((first, rest))
 }
 

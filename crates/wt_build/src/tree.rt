@@ -8,7 +8,7 @@ ghost use Rattle.wt_tree.specs.declared.kind.Kind.TheVariants as node_kind;
 ghost use Rattle.wt_inline.specs.ItemTree.{plain, inner, forest};
 ghost use Rattle.wt_inline.specs.Parts.{children};
 ghost use Rattle.wt_inline.specs.View.{item_tree, item_trees};
-ghost use Rattle.wt_inline.specs.Grown.{grown, Grows};
+ghost use Rattle.wt_inline.specs.Grown.{growth, Grows};
 ghost use Rattle.wt_context.specs.Line.{line_parts};
 ghost use Rattle.wt_build.specs.Blocks.{full_line_parts, heading, block};
 ghost use Rattle.wt_build.specs.Cuts.{AreReady, IsOpenCut, IsInsideCut, paragraph_parts, heading_by};
@@ -33,7 +33,7 @@ fn with_content<'a>(
     content: &[Piece<'a>],
 ) -> Result<Children<'a>, NoMemory>
     requires { All IsSoundPiece content.now }
-    ensures { IfOk result (λ c. Grows (grown children.entry) (line_parts (items content.now)) (grown c)) }
+    ensures { IfOk result (λ c. Grows (growth children.entry) (line_parts (items content.now)) (growth c)) }
 {
     if is_plain_line(content) {
         return children.with_pieces(alloc, Loose::Text, content);
@@ -49,7 +49,7 @@ fn with_full_line<'a>(
     line: &[Piece<'a>],
 ) -> Result<Children<'a>, NoMemory>
     requires { AreReady line.now }
-    ensures { IfOk result (λ c. Grows (grown children.entry) (full_line_parts (items line.now)) (grown c)) }
+    ensures { IfOk result (λ c. Grows (growth children.entry) (full_line_parts (items line.now)) (growth c)) }
 {
     let n = content_len(line);
     let children = with_content(alloc, children, front_of(line, n))?;

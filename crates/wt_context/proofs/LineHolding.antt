@@ -18,7 +18,7 @@ use Rattle.wt_tiles.specs.Cutting.{joined}
 use Rattle.wt_tiles.proofs.Joining.{tiles_join}
 use Rattle.wt_inline.specs.declared.loose.Loose.TheVariants.{Text}
 use Rattle.wt_inline.specs.Inside.{opened_all}
-use Rattle.wt_inline.specs.ItemTree.{ItemTree, plain, held, forest, held_by_all}
+use Rattle.wt_inline.specs.ItemTree.{ItemTree, plain, tree_items, forest, held_by_all}
 use Rattle.wt_inline.specs.Parts.{Part, node, held_parts}
 use Rattle.wt_inline.proofs.HeldLaws.{held_children, held_append, opened_append, sources_opened}
 use Rattle.wt_context.specs.Segments.{Segment, one_stretch, loose_segment, loose_segments, segment_items, segment_parts}
@@ -81,7 +81,7 @@ loose_items (r ∷ rs) = ap (λ ys. r ++ ys) (loose_items rs)
 by_hold : (o : Option ItemTree) (xs : List Item) → OptHolds o xs → AreHolding (segments_by o xs)
 unfolding loose_segments
 by_hold None xs f = loose_hold (runs one_stretch xs)
-by_hold (Some t) xs f = (ap opened_all (append-nil (held t)) ∙ f, tt)
+by_hold (Some t) xs f = (ap opened_all (append-nil (tree_items t)) ∙ f, tt)
 
 pub by_items : (o : Option ItemTree) (xs : List Item) → segment_items (segments_by o xs) ≡ xs
 unfolding loose_segments
@@ -132,7 +132,7 @@ between_holds low high us f = all_hold (between low high us) (first_hold (high -
 
 style_holds : (s : Style) (ps : List Part) (us : List Segment) → s.from + s.open_w ≤ s.to - s.close_w → s.close_w ≤ s.to
     → Hold ps (segment_items (between (s.from + s.open_w) (s.to - s.close_w) us))
-    → opened_all (held (style_node s ps us)) ≡ opened_all (segment_items (between s.from s.to us))
+    → opened_all (tree_items (style_node s ps us)) ≡ opened_all (segment_items (between s.from s.to us))
 style_holds s ps us l c f =
     let inner = s.from + s.open_w in
     let outer = s.to - s.close_w in
@@ -143,9 +143,9 @@ style_holds s ps us l c f =
     ∙ ap (λ ys. opened_all (segment_items (between s.from inner us) ++ ys)) (items_both inner outer s.to us l p)
     ∙ ap opened_all (items_both s.from inner s.to us o (omega (arith, l)))
 
-node_holds : (t : ItemTree) (ps : List Part) (xs ys : List Item) → opened_all (held t) ≡ opened_all xs → Hold ps ys → Hold (node t ∷ ps) (xs ++ ys)
+node_holds : (t : ItemTree) (ps : List Part) (xs ys : List Item) → opened_all (tree_items t) ≡ opened_all xs → Hold ps ys → Hold (node t ∷ ps) (xs ++ ys)
 node_holds t ps xs ys f g =
-    opened_append (held t) (held_parts ps) ∙ ap (λ zs. zs ++ opened_all (held_parts ps)) f ∙ ap (λ zs. opened_all xs ++ zs) g ∙ sym (opened_append xs ys)
+    opened_append (tree_items t) (held_parts ps) ∙ ap (λ zs. zs ++ opened_all (held_parts ps)) f ∙ ap (λ zs. opened_all xs ++ zs) g ∙ sym (opened_append xs ys)
 
 styled_holds : (low high : ℕ) (f : Forest) (us : List Segment) → AreHolding us → Fill low high f
     → Hold (styled low high f us) (segment_items (between low high us))

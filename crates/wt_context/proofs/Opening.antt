@@ -7,7 +7,7 @@ use Rattle.wt_span.specs.Items.{Item, char, whole}
 use Rattle.wt_inline.specs.declared.loose.Loose.{Loose}
 use Rattle.wt_inline.specs.RawTag.{opening_of, inside_of, closing_of}
 use Rattle.wt_inline.specs.Inside.{read_with, inside_items, opened_whole, opened, opened_all}
-use Rattle.wt_inline.specs.ItemTree.{Head, held, held_by_all, forest}
+use Rattle.wt_inline.specs.ItemTree.{Head, tree_items, held_by_all, forest}
 use Rattle.wt_inline.specs.Parts.{Part, held_parts, parts, children}
 use Rattle.wt_inline.proofs.HeldLaws.{held_children, held_of_parts, opened_append}
 use Rattle.wt_context.specs.Nodes.{round_parts}
@@ -70,7 +70,7 @@ parts_hold k xs = ap opened_all (held_of_parts k xs) ∙ opened_twice xs
 
 -- a node holds its delimiters and what stands between them
 pub round_holds : (h : Head) (opening closing inside : List Item) (ps : List Part) → Hold ps inside
-    → opened_all (held (round_parts h opening ps closing)) ≡ opened_all (opening ++ (inside ++ closing))
+    → opened_all (tree_items (round_parts h opening ps closing)) ≡ opened_all (opening ++ (inside ++ closing))
 round_holds h opening closing inside ps e =
     opened_append opening (held_by_all (forest (children ps)) ++ closing)
     ∙ ap (λ ys. opened_all opening ++ ys) (opened_append (held_by_all (forest (children ps))) closing

@@ -12,7 +12,7 @@ use Rattle.wt_tiles.specs.Contexts.{in_text, in_pair}
 use Rattle.wt_tiles.specs.Tiles.{size}
 use Rattle.wt_inline.specs.declared.loose.Loose.TheVariants.{Text}
 use Rattle.wt_inline.specs.Inside.{opened_all}
-use Rattle.wt_inline.specs.ItemTree.{ItemTree, held, Head}
+use Rattle.wt_inline.specs.ItemTree.{ItemTree, tree_items, Head}
 use Rattle.wt_inline.specs.Parts.{Part, held_parts, parts}
 use Rattle.wt_inline.proofs.HeldLaws.{held_append, opened_append}
 use Rattle.wt_context.specs.declared.node.Nested.{Nested}
@@ -43,7 +43,7 @@ three_parts w xs e z =
 
 -- the tree holds the items
 abbrev pub Holds : ItemTree → List Item → Type 0
-Holds t xs = opened_all (held t) ≡ opened_all xs
+Holds t xs = opened_all (tree_items t) ≡ opened_all xs
 
 abbrev pub OptHolds : Option ItemTree → List Item → Type 0
 OptHolds None xs = Unit {0}

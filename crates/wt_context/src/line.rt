@@ -4,7 +4,7 @@ ghost use Rattle.std.specs.Prelude.{◌≡◌, All, IfOk};
 ghost use Rattle.wt_span.specs.Items.{items};
 ghost use Rattle.wt_span.specs.Origins.{IsSoundPiece};
 ghost use Rattle.wt_inline.specs.View.{item_trees};
-ghost use Rattle.wt_inline.specs.Grown.{grown, Grows};
+ghost use Rattle.wt_inline.specs.Grown.{growth, Grows};
 ghost use Rattle.wt_context.specs.Line.{line_parts, line_trees};
 
 use crate::reading::with_context;
@@ -25,7 +25,7 @@ pub fn with_line<'a>(
     pieces: &[Piece<'a>],
 ) -> Result<Children<'a>, NoMemory>
     requires { All IsSoundPiece pieces.now }
-    ensures { IfOk result (λ c. Grows (grown children.entry) (line_parts (items pieces.now)) (grown c)) }
+    ensures { IfOk result (λ c. Grows (growth children.entry) (line_parts (items pieces.now)) (growth c)) }
 {
     with_context(alloc, children, MOST_CONTEXTS, Context::line(), pieces)
 }

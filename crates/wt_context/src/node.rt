@@ -5,7 +5,7 @@ ghost use Rattle.wt_span.specs.Items.{items};
 ghost use Rattle.wt_span.specs.Origins.{IsSoundPiece};
 ghost use Rattle.wt_inline.specs.ItemTree.{leaf, inner, forest};
 ghost use Rattle.wt_inline.specs.View.{head_of, item_tree, item_trees};
-ghost use Rattle.wt_inline.specs.Grown.{grown, Grows, made};
+ghost use Rattle.wt_inline.specs.Grown.{growth, Grows, made};
 ghost use Rattle.wt_context.specs.Nodes.{trail_parts, leaf_head, leaf_tree, link_by, nested_head, nested_by, bare_url};
 ghost use Rattle.wt_context.specs.TileParts.{shape_of, HasCuts};
 ghost use Rattle.wt_context.specs.Made.{Inside, IsMade};
@@ -49,16 +49,6 @@ fn leaf_of<'a>(alloc: Global, head: NodeHead, own: List<Piece<'a>>) -> PieceTree
     }
 }
 
-fn copied<'a>(alloc: Global, pieces: &[Piece<'a>]) -> Result<List<Piece<'a>>, NoMemory>
-    ensures { IfOk result (λ l. items l ≡ items pieces.now) }
-{
-    let mut out = List::new(alloc);
-    for piece in pieces {
-        out.push(*piece)?;
-    }
-    Ok(out)
-}
-
 fn leaf_head(alloc: Global, kind: Leaf, pieces: &[Piece<'_>]) -> Result<NodeHead, NoMemory>
     requires { All IsSoundPiece pieces.now }
     ensures { IfOk result (λ h. head_of h ≡ leaf_head kind (items pieces.now)) }
@@ -81,7 +71,7 @@ pub fn leaf_tree<'a>(
     ensures { IfOk result (λ t. item_tree t ≡ leaf_tree kind (items pieces.now)) }
 {
     let head = leaf_head(alloc, kind, pieces)?;
-    let own = copied(alloc, pieces)?;
+    let own = List::from_vec(Vec::from_slice(alloc, pieces)?);
     Ok(leaf_of(alloc, head, own))
 }
 
@@ -111,7 +101,7 @@ fn round<'a>(
     children: Children<'a>,
     closing: List<Piece<'a>>,
 ) -> Result<PieceTree<'a>, NoMemory>
-    ensures { IfOk result (λ t. item_tree t ≡ inner (head_of head) (items opening.entry) (forest (made (grown children.entry) [])) (items closing.entry)) }
+    ensures { IfOk result (λ t. item_tree t ≡ inner (head_of head) (items opening.entry) (forest (made (growth children.entry) [])) (items closing.entry)) }
 {
     Ok(PieceTree {
         head,
@@ -128,7 +118,7 @@ fn with_trail<'a>(
     closing: List<Piece<'a>>,
     trail: &[Piece<'a>],
 ) -> Result<Children<'a>, NoMemory>
-    ensures { IfOk result (λ c. Grows (grown children.entry) (trail_parts (items closing.entry) (items trail.now)) (grown c)) }
+    ensures { IfOk result (λ c. Grows (growth children.entry) (trail_parts (items closing.entry) (items trail.now)) (growth c)) }
 {
     let skip = leaf_of(alloc, NodeHead::plain(alloc, Kind::Skip), closing);
     let children = children.with_tree(alloc, skip)?;
@@ -143,7 +133,7 @@ fn link<'a>(
     parts: TileParts<'a>,
     children: Children<'a>,
 ) -> Result<PieceTree<'a>, NoMemory>
-    ensures { IfOk result (λ t. (ps : Inside) → IsMade (grown children.entry) ps → item_tree t ≡ link_by (head_of head) trail (items parts.entry.opening) (items parts.entry.closing) (items parts.entry.trail) ps) }
+    ensures { IfOk result (λ t. (ps : Inside) → IsMade (growth children.entry) ps → item_tree t ≡ link_by (head_of head) trail (items parts.entry.opening) (items parts.entry.closing) (items parts.entry.trail) ps) }
 {
     let TileParts {
         opening,
@@ -183,7 +173,7 @@ pub fn nested_tree<'a>(
     children: Children<'a>,
 ) -> Result<PieceTree<'a>, NoMemory>
     requires { All IsSoundPiece parts.opening }
-    ensures { IfOk result (λ t. (ps : Inside) → IsMade (grown children.entry) ps → item_tree t ≡ nested_by kind tile.now.trail (items tile.now.pieces) (items parts.entry.opening) (items parts.entry.closing) (items parts.entry.trail) ps) }
+    ensures { IfOk result (λ t. (ps : Inside) → IsMade (growth children.entry) ps → item_tree t ≡ nested_by kind tile.now.trail (items tile.now.pieces) (items parts.entry.opening) (items parts.entry.closing) (items parts.entry.trail) ps) }
 {
     let head = nested_head(
         alloc,

@@ -7,7 +7,7 @@ ghost use Rattle.wt_span.specs.Origins.{IsSoundPiece};
 ghost use Rattle.wt_tiles.specs.Contexts.{in_pair};
 ghost use Rattle.wt_tiles.specs.Cutting.{tile_of};
 ghost use Rattle.wt_inline.specs.View.{item_tree};
-ghost use Rattle.wt_inline.specs.Grown.{grown, Grows};
+ghost use Rattle.wt_inline.specs.Grown.{growth, Grows};
 ghost use Rattle.wt_context.specs.Line.{within};
 ghost use Rattle.wt_context.specs.Nodes.{inside_of, nested_tree, tile_tree, tile_segments};
 ghost use Rattle.wt_context.specs.TileParts.{shape_of, HasCuts, IsCutTile};
@@ -162,7 +162,7 @@ pub fn with_context<'a>(
 ) -> Result<Children<'a>, NoMemory>
     requires sound { All IsSoundPiece pieces.now }
     requires room { context.pairs + levels < 2 ^ 32 }
-    ensures { IfOk result (λ c. Grows (grown children.entry) (within levels context (items pieces.now)) (grown c)) }
+    ensures { IfOk result (λ c. Grows (growth children.entry) (within levels context (items pieces.now)) (growth c)) }
 {
     if levels == 0 {
         return children.with_line(alloc, pieces);

@@ -2,7 +2,7 @@
 
 ghost use Rattle.std.specs.Prelude.{◌≡◌, ◌<◌, ◌≤◌, ◌-◌, ◌++◌, [], None, length, take, drop, MatchOption, IfOk};
 ghost use Rattle.wt_span.specs.Items.{items};
-ghost use Rattle.wt_inline.specs.Grown.{grown, Grows};
+ghost use Rattle.wt_inline.specs.Grown.{growth, Grows};
 ghost use Rattle.wt_context.specs.Segments.{segment_items, segment_parts};
 ghost use Rattle.wt_context.specs.Tokens.{token_segments, segments_of, rest_segments};
 
@@ -78,7 +78,7 @@ impl<'a> Rest<'a> {
         children: Children<'a>,
         n: usize,
     ) -> Result<(Children<'a>, Rest<'a>), NoMemory>
-        ensures front { IfOk result (λ r. Grows (grown children.entry) (segment_parts (take n (rest_segments self.entry))) (grown r.0)) }
+        ensures front { IfOk result (λ r. Grows (growth children.entry) (segment_parts (take n (rest_segments self.entry))) (growth r.0)) }
         ensures back { IfOk result (λ r. rest_segments r.1 ≡ drop n (rest_segments self.entry)) }
     {
         let mut children = children;

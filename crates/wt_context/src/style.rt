@@ -7,7 +7,7 @@ ghost use Rattle.wt_tree.specs.declared.kind.Kind.{Kind as NodeKind};
 ghost use Rattle.wt_quotes.specs.Forest.{lies_in, forest_of};
 ghost use Rattle.wt_inline.specs.ItemTree.{plain, inner, forest};
 ghost use Rattle.wt_inline.specs.View.{item_tree, item_trees};
-ghost use Rattle.wt_inline.specs.Grown.{grown, Grows};
+ghost use Rattle.wt_inline.specs.Grown.{growth, Grows};
 ghost use Rattle.wt_context.specs.Styled.{style_kind, with_styles};
 ghost use Rattle.wt_context.specs.Styling.{Fill, IsStyle, AreStyled};
 ghost use Rattle.wt_context.specs.Tokens.{segments_of, rest_segments};
@@ -87,7 +87,7 @@ fn with_style<'a>(
     requires opening { style.now.from + style.now.open_w < 2 ^ 32 }
     requires closing { style.now.close_w ≤ style.now.to }
     requires inside { Fill (style.now.from + style.now.open_w) (style.now.to - style.now.close_w) (forest_of inner.now) }
-    ensures { IfOk result (λ s. IsStyle low style.now inner.now (rest_segments now.entry.rest) (grown now.entry.children) (rest_segments s.rest) (grown s.children)) }
+    ensures { IfOk result (λ s. IsStyle low style.now inner.now (rest_segments now.entry.rest) (growth now.entry.children) (rest_segments s.rest) (growth s.children)) }
 {
     let Styling { children, rest } = now;
     let (children, rest) = rest.onto(alloc, children, (style.from - low) as usize)?;
@@ -115,7 +115,7 @@ fn styled<'a>(
     styles: &[Style],
 ) -> Result<Styling<'a>, NoMemory>
     requires { Fill low high (forest_of styles.now) }
-    ensures { IfOk result (λ s. AreStyled low high styles.now (rest_segments now.entry.rest) (grown now.entry.children) (rest_segments s.rest) (grown s.children)) }
+    ensures { IfOk result (λ s. AreStyled low high styles.now (rest_segments now.entry.rest) (growth now.entry.children) (rest_segments s.rest) (growth s.children)) }
 {
     let mut now = now;
     let mut place = low;
@@ -140,7 +140,7 @@ pub fn with_styles<'a>(
     children: Children<'a>,
     tokens: List<Token<'a>>,
 ) -> Result<Children<'a>, NoMemory>
-    ensures { IfOk result (λ c. Grows (grown children.entry) (with_styles (segments_of tokens.entry)) (grown c)) }
+    ensures { IfOk result (λ c. Grows (growth children.entry) (with_styles (segments_of tokens.entry)) (growth c)) }
 {
     let Some(count) = segment_count(tokens.as_slice()) else {
         return Err(NoMemory);

@@ -2,7 +2,7 @@
 
 ghost use Rattle.std.specs.Prelude.{◌≡◌, ◌<◌, ◌-◌, ◌++◌, ◌∷◌, [], true, length, take, drop, IfOk, OnOk};
 ghost use Rattle.wt_span.specs.Items.{items, items_of};
-ghost use Rattle.wt_inline.specs.Grown.{grown, Grows};
+ghost use Rattle.wt_inline.specs.Grown.{growth, Grows};
 ghost use Rattle.wt_context.specs.Segments.{segment_items, segment_parts};
 ghost use Rattle.wt_context.specs.Tokens.{token_segments, quotes_left};
 
@@ -59,7 +59,7 @@ impl<'a> Token<'a> {
 
     /// The children of a node with it.
     pub fn onto(self, alloc: Global, children: Children<'a>) -> Result<Children<'a>, NoMemory>
-        ensures { IfOk result (λ c. Grows (grown children.entry) (segment_parts (token_segments self.entry)) (grown c)) }
+        ensures { IfOk result (λ c. Grows (growth children.entry) (segment_parts (token_segments self.entry)) (growth c)) }
     {
         match self {
             Token::Quotes(quotes) => children.with_chars(alloc, Loose::Text, quotes.piece),
@@ -76,17 +76,9 @@ impl<'a> Token<'a> {
     {
         match self {
             Token::Quotes(quotes) => out.push(quotes.piece),
-            Token::Stretch(stretch) => push_all(out, stretch.pieces.as_slice()),
-            Token::Tile(tile) => push_all(out, tile.pieces.as_slice()),
+            Token::Stretch(stretch) => out.extend_from_slice(stretch.pieces.as_slice()),
+            Token::Tile(tile) => out.extend_from_slice(tile.pieces.as_slice()),
         }
     }
 }
 
-fn push_all<'a>(out: &mut List<Piece<'a>>, pieces: &[Piece<'a>]) -> Result<(), NoMemory>
-    ensures { OnOk result (items out.new ≡ items out.old ++ items pieces.now) }
-{
-    for piece in pieces {
-        out.push(*piece)?;
-    }
-    Ok(())
-}

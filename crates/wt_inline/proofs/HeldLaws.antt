@@ -11,15 +11,15 @@ use Rattle.wt_span.proofs.RunLaws.{runs_are, runs_only, runs_alone}
 use Rattle.wt_inline.specs.declared.loose.Loose.{Loose}
 use Rattle.wt_inline.specs.RawTag.{opening_len, inside_len, behind, opening_of, inside_of, closing_of}
 use Rattle.wt_inline.specs.Inside.{read_with, inside_items, opened_whole, opened, opened_all}
-use Rattle.wt_inline.specs.ItemTree.{ItemTree, forest, held, held_by_all}
+use Rattle.wt_inline.specs.ItemTree.{ItemTree, forest, tree_items, held_by_all}
 use Rattle.wt_inline.specs.Parts.{Part, loose, node, held_part, held_parts, one_leaf, child, children, AreChildren, inside_part, nowiki, whole_tree, part, parts}
 
 -- ---- children
 
-held_child : (r others : List Part) → IsRun one_leaf r others → held (child r) ≡ held_parts r
+held_child : (r others : List Part) → IsRun one_leaf r others → tree_items (child r) ≡ held_parts r
 held_child [] others h = absurd h
 held_child (loose k o b ∷ ps) others h = ap (λ xs. char o b ∷ xs) (append-nil (held_parts ps))
-held_child (node t ∷ []) others h = sym (append-nil (held t))
+held_child (node t ∷ []) others h = sym (append-nil (tree_items t))
 held_child (node t ∷ p ∷ ps) others h = let no = h.0 in cc
 
 held_runs : (rs : List (List Part)) (ps : List Part) → AreRuns one_leaf rs ps → held_by_all (forest (map child rs)) ≡ held_parts ps
@@ -62,13 +62,13 @@ held_inside_parts : (xs : List Item) → held_parts (map inside_part xs) ≡ xs
 held_inside_parts [] = refl
 held_inside_parts (x ∷ xs) = ap (λ ys. ys ++ held_parts (map inside_part xs)) (held_inside_part x) ∙ ap (λ ys. x ∷ ys) (held_inside_parts xs)
 
-held_nowiki : (o : Option ℕ) (bs : List ℕ) → held (nowiki o bs) ≡ opened_whole form.Nowiki o bs
+held_nowiki : (o : Option ℕ) (bs : List ℕ) → tree_items (nowiki o bs) ≡ opened_whole form.Nowiki o bs
 unfolding nowiki
 held_nowiki o bs =
     let xs = inside_items o 0 (inside_of bs) in
     ap (λ ys. map (char o) (opening_of bs) ++ (ys ++ map (char o) (closing_of bs))) (held_children (map inside_part xs) ∙ held_inside_parts xs)
 
-held_whole : (f : Form) (o : Option ℕ) (bs : List ℕ) → held (whole_tree f o bs) ≡ opened_whole f o bs
+held_whole : (f : Form) (o : Option ℕ) (bs : List ℕ) → tree_items (whole_tree f o bs) ≡ opened_whole f o bs
 held_whole form.Chars o bs = refl
 held_whole (form.Entity c) o bs = refl
 held_whole form.Nowiki o bs = held_nowiki o bs

@@ -26,8 +26,8 @@ abbrev pub open_parts : Option OpenRun → List Part
 open_parts None = []
 open_parts (Some r) = parts r.loose r.items
 
-abbrev pub grown : Children → Grown
-grown c = record { trees = item_trees c.trees; run = option_map open_run c.run }
+abbrev pub growth : Children → Grown
+growth c = record { trees = item_trees c.trees; run = option_map open_run c.run }
 
 -- the children where these parts come next
 abbrev pub made : Grown → List Part → List ItemTree

@@ -35,9 +35,9 @@ forest (t ∷ ts) = further t (forest ts)
 
 -- the items that a tree holds, in their order
 abbrev mutual
-  pub held : ItemTree → List Item
-  held (inner h opening ts closing) = opening ++ (held_by_all ts ++ closing)
+  pub tree_items : ItemTree → List Item
+  tree_items (inner h opening ts closing) = opening ++ (held_by_all ts ++ closing)
 
   pub held_by_all : ItemTrees → List Item
   held_by_all nothing = []
-  held_by_all (further t ts) = held t ++ held_by_all ts
+  held_by_all (further t ts) = tree_items t ++ held_by_all ts

@@ -13,7 +13,7 @@ use Rattle.wt_inline.specs.declared.loose.Loose.TheVariants.{Text, Sep}
 use Rattle.wt_inline.specs.RawTag.{opening_of, inside_of, closing_of}
 use Rattle.wt_inline.specs.Inside.{inside_items}
 use Rattle.wt_inline.specs.Carried.{shown_whole, shown_item, attrs_whole, data_whole}
-use Rattle.wt_inline.specs.ItemTree.{Head, plain, ItemTree, leaf, inner, forest, held}
+use Rattle.wt_inline.specs.ItemTree.{Head, plain, ItemTree, leaf, inner, forest, tree_items}
 
 -- a byte of a character of a text or a separator, with the call that it comes from; or a node
 pub data Part : Type 0 where
@@ -22,7 +22,7 @@ pub data Part : Type 0 where
 
 abbrev pub held_part : Part → List Item
 held_part (loose k o b) = char o b ∷ []
-held_part (node t) = held t
+held_part (node t) = tree_items t
 
 abbrev pub held_parts : List Part → List Item
 held_parts ps = flat_map held_part ps

@@ -31,11 +31,11 @@ fn roomed<'a>(alloc: Global, trees: List<PieceTree<'a>>) -> Result<List<PieceTre
 }
 
 impl<'a> Children<'a> {
-    ghost use Rattle.wt_inline.specs.Grown.{Grows, Ends, made, grown, open_run};
+    ghost use Rattle.wt_inline.specs.Grown.{Grows, Ends, made, growth, open_run};
 
     /// No children so far.
     pub fn new(alloc: Global) -> Children<'a>
-        ensures { grown result ≡ record { trees = []; run = None } }
+        ensures { growth result ≡ record { trees = []; run = None } }
     {
         Children {
             trees: List::new(alloc),
@@ -45,7 +45,7 @@ impl<'a> Children<'a> {
 
     /// The trees, the run made a leaf, where no more characters of it follow.
     fn closed(self, alloc: Global) -> Result<List<PieceTree<'a>>, NoMemory>
-        ensures { IfOk result (λ l. Ends (grown self.entry) (item_trees l)) }
+        ensures { IfOk result (λ l. Ends (growth self.entry) (item_trees l)) }
     {
         let Children { trees, run } = self;
         match run {
@@ -68,7 +68,7 @@ impl<'a> Children<'a> {
     ) -> Result<Children<'a>, NoMemory>
         requires chars { is_chars piece.form ≡ true }
         requires some { 0 < length (items_of piece) }
-        ensures { IfOk result (λ c. Grows (record { trees = item_trees trees.entry; run = None }) (parts loose (items_of piece.entry)) (grown c)) }
+        ensures { IfOk result (λ c. Grows (record { trees = item_trees trees.entry; run = None }) (parts loose (items_of piece.entry)) (growth c)) }
     {
         let run = Run::begun(alloc, loose, piece)?;
         Ok(Children {
@@ -85,7 +85,7 @@ impl<'a> Children<'a> {
     ) -> Result<Children<'a>, NoMemory>
         requires chars { is_chars piece.form ≡ true }
         requires same { same_origin (call_of_origin run.origin) (call_of_origin piece.origin) ≡ true }
-        ensures { IfOk result (λ c. Grows (record { trees = item_trees trees.entry; run = Some (open_run run.entry) }) (parts run.entry.loose (items_of piece.entry)) (grown c)) }
+        ensures { IfOk result (λ c. Grows (record { trees = item_trees trees.entry; run = Some (open_run run.entry) }) (parts run.entry.loose (items_of piece.entry)) (growth c)) }
     {
         let run = run.with(piece)?;
         Ok(Children {
@@ -104,7 +104,7 @@ impl<'a> Children<'a> {
     ) -> Result<Children<'a>, NoMemory>
         requires chars { is_chars piece.form ≡ true }
         requires some { 0 < length (items_of piece) }
-        ensures { IfOk result (λ c. Grows (record { trees = item_trees trees.entry; run = Some (open_run run.entry) }) (parts loose (items_of piece.entry)) (grown c)) }
+        ensures { IfOk result (λ c. Grows (record { trees = item_trees trees.entry; run = Some (open_run run.entry) }) (parts loose (items_of piece.entry)) (growth c)) }
     {
         if run.takes(loose, piece.origin) {
             Children::continued(trees, run, piece)
@@ -124,7 +124,7 @@ impl<'a> Children<'a> {
         piece: Piece<'a>,
     ) -> Result<Children<'a>, NoMemory>
         requires { is_chars piece.form ≡ true }
-        ensures { IfOk result (λ c. Grows (grown self.entry) (parts loose (items_of piece.entry)) (grown c)) }
+        ensures { IfOk result (λ c. Grows (growth self.entry) (parts loose (items_of piece.entry)) (growth c)) }
     {
         if piece.text.as_str().is_empty() {
             return Ok(self);
@@ -138,7 +138,7 @@ impl<'a> Children<'a> {
 
     /// These and a node.
     pub fn with_tree(self, alloc: Global, tree: PieceTree<'a>) -> Result<Children<'a>, NoMemory>
-        ensures { IfOk result (λ c. Grows (grown self.entry) (node (item_tree tree.entry) ∷ []) (grown c)) }
+        ensures { IfOk result (λ c. Grows (growth self.entry) (node (item_tree tree.entry) ∷ []) (growth c)) }
     {
         let mut trees = self.closed(alloc)?;
         trees.push(tree)?;
@@ -147,7 +147,7 @@ impl<'a> Children<'a> {
 
     /// The children, where no more parts come.
     pub fn finish(self, alloc: Global) -> Result<List<PieceTree<'a>>, NoMemory>
-        ensures { IfOk result (λ l. item_trees l ≡ made (grown self.entry) []) }
+        ensures { IfOk result (λ l. item_trees l ≡ made (growth self.entry) []) }
     {
         self.closed(alloc)
     }

@@ -4,7 +4,7 @@ ghost use Rattle.wt_span.specs.Items.{items, items_of, char, call_of_origin};
 ghost use Rattle.wt_inline.specs.Inside.{inside_items};
 ghost use Rattle.wt_inline.specs.Parts.{form_head, inside_part, children, nowiki};
 ghost use Rattle.wt_inline.specs.ItemTree.{leaf};
-ghost use Rattle.wt_inline.specs.Grown.{grown, Grows};
+ghost use Rattle.wt_inline.specs.Grown.{growth, Grows};
 ghost use Rattle.wt_inline.specs.View.{item_tree, item_trees};
 
 use crate::carried::form_head;
@@ -47,7 +47,7 @@ fn with_inside<'a>(
     children: Children<'a>,
     piece: Piece<'a>,
 ) -> Result<Children<'a>, NoMemory>
-    ensures { IfOk result (λ c. Grows (grown children.entry) (map inside_part (items_of piece.entry)) (grown c)) }
+    ensures { IfOk result (λ c. Grows (growth children.entry) (map inside_part (items_of piece.entry)) (growth c)) }
 {
     if is_chars(piece.form) {
         children.with_chars(alloc, Loose::Text, piece)

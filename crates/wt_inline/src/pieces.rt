@@ -2,7 +2,7 @@ ghost use Rattle.std.specs.Prelude.{◌≡◌, IfOk};
 ghost use Rattle.wt_span.specs.Items.{items, items_of};
 ghost use Rattle.wt_inline.specs.Parts.{parts};
 ghost use Rattle.wt_inline.specs.Inline.{inline_parts};
-ghost use Rattle.wt_inline.specs.Grown.{grown, Grows};
+ghost use Rattle.wt_inline.specs.Grown.{growth, Grows};
 
 use crate::children::Children;
 use crate::loose::Loose;
@@ -19,7 +19,7 @@ impl<'a> Children<'a> {
         loose: Loose,
         piece: Piece<'a>,
     ) -> Result<Children<'a>, NoMemory>
-        ensures { IfOk result (λ c. Grows (grown self.entry) (parts loose (items_of piece.entry)) (grown c)) }
+        ensures { IfOk result (λ c. Grows (growth self.entry) (parts loose (items_of piece.entry)) (growth c)) }
     {
         if is_chars(piece.form) {
             self.with_chars(alloc, loose, piece)
@@ -37,7 +37,7 @@ impl<'a> Children<'a> {
         loose: Loose,
         pieces: &[Piece<'a>],
     ) -> Result<Children<'a>, NoMemory>
-        ensures { IfOk result (λ c. Grows (grown self.entry) (parts loose (items pieces.now)) (grown c)) }
+        ensures { IfOk result (λ c. Grows (growth self.entry) (parts loose (items pieces.now)) (growth c)) }
     {
         let mut children = self;
         for piece in pieces {
@@ -48,7 +48,7 @@ impl<'a> Children<'a> {
 
     /// These and what stands on a line, or in another context that is read alone.
     pub fn with_line(self, alloc: Global, pieces: &[Piece<'a>]) -> Result<Children<'a>, NoMemory>
-        ensures { IfOk result (λ c. Grows (grown self.entry) (inline_parts (items pieces.now)) (grown c)) }
+        ensures { IfOk result (λ c. Grows (growth self.entry) (inline_parts (items pieces.now)) (growth c)) }
     {
         self.with_pieces(alloc, Loose::Text, pieces)
     }

@@ -13,7 +13,7 @@ use Rattle.wt_tables.specs.Extents.{behind}
 use Rattle.wt_build.specs.declared.block.BlockKind.{BlockKind}
 use Rattle.wt_build.specs.declared.block.BlockKind.TheVariants.{Between, Heading, Para}
 use Rattle.wt_build.specs.Rows.{Row, kind_at, line_rows, rows_from, rows, block_of, one_block, same_block}
-use Rattle.wt_build.specs.Blocks.{joined, block, lead_len, without_lead, without_ending, around, parts_by}
+use Rattle.wt_build.specs.Blocks.{joined, block, lead_len, without_lead, without_ending, with_separators, parts_by}
 use Rattle.wt_build.specs.Meaning.{row_items, run_parts, body_parts}
 use Rattle.wt_page_round_trip.proofs.TextItems.{AreTexts}
 use Rattle.wt_page_round_trip.proofs.OfPage.{AreOfPage, ArePageItems}
@@ -47,13 +47,13 @@ between_good tables l h e =
     let b : AllByRecursion IsBetween l = blank_line tables l (texts_small l h.texts) e in
     subst (λ xs. AllByRecursion IsBodyPart (parts Sep xs)) (sym (append-nil l)) (between_parts l h.page b)
 
-heading_good : (tables : ℕ) (l : List Item) → ArePageItems l → line_kind tables (content l) ≡ line.Heading → AllByRecursion IsBodyPart (around Heading (l ∷ []))
+heading_good : (tables : ℕ) (l : List Item) → ArePageItems l → line_kind tables (content l) ≡ line.Heading → AllByRecursion IsBodyPart (with_separators Heading (l ∷ []))
 unfolding block
 heading_good tables l h e =
     let b = block_parts (l ∷ []) (joined_line (l ∷ []) (h, tt)) in
     around_parts Heading (l ∷ []) b (heading_node (content (drop (lead_len l) l) ++ []) b.line (heading_line tables l h e))
 
-para_good : (ls : List (List Item)) → AllByRecursion ArePageItems ls → AllByRecursion IsBodyPart (around Para ls)
+para_good : (ls : List (List Item)) → AllByRecursion ArePageItems ls → AllByRecursion IsBodyPart (with_separators Para ls)
 unfolding block
 para_good ls h = around_parts Para ls (block_parts ls (joined_line ls h)) (para_node (without_ending (without_lead ls)) (block_lines ls h))
 
@@ -71,7 +71,7 @@ by_block Between r rs others e h g =
     (between_good g.0.tables r.items g.0.line (block_blank _ (sym g.0.kind ∙ e)))
 by_block Heading r rs others e h g =
     let a : rs ≡ [] = alone r rs others h (none_heading r.block e) in
-    subst (λ (ss : List Row). AllByRecursion IsBodyPart (around Heading (row_items (r ∷ ss)))) (sym a)
+    subst (λ (ss : List Row). AllByRecursion IsBodyPart (with_separators Heading (row_items (r ∷ ss)))) (sym a)
     (heading_good g.0.tables r.items g.0.line (block_heading _ (sym g.0.kind ∙ e)))
 by_block Para r rs others e h g = para_good (row_items (r ∷ rs)) (lines_good (r ∷ rs) g)
 

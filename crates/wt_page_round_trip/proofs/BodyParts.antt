@@ -22,7 +22,7 @@ use Rattle.wt_build.specs.declared.block.BlockKind.{BlockKind}
 use Rattle.wt_blocks.specs.Headings.{level as heading_level, opening, inside, closing}
 use Rattle.wt_blocks.proofs.HeadingLaws.{joined as heading_joined}
 use Rattle.wt_build.specs.Rows.{ending}
-use Rattle.wt_build.specs.Blocks.{full_line_parts, para, heading, block, lead, without_lead, last_ending, without_ending, around}
+use Rattle.wt_build.specs.Blocks.{full_line_parts, para, heading, block, lead, without_lead, last_ending, without_ending, with_separators}
 use Rattle.wt_annotate.specs.Labels.{width, label_at}
 use Rattle.wt_page_round_trip.proofs.TextItems.{AreTexts, BeginsLow, EndsLow, cut_after, cut_items_before}
 use Rattle.wt_page_round_trip.proofs.OfPage.{IsPageItem, AreOfPage, ArePageItems, texts_utf8}
@@ -175,7 +175,7 @@ between_parts (whole f o bs ∷ xs) p h =
 
 -- a block with what stands before and behind it
 pub around_parts : (k : BlockKind) (ls : List (List Item)) → AreBlockParts ls
-    → IsWrittenNode 2 kind.Body (block k (without_ending (without_lead ls))) → AllByRecursion IsBodyPart (around k ls)
+    → IsWrittenNode 2 kind.Body (block k (without_ending (without_lead ls))) → AllByRecursion IsBodyPart (with_separators k ls)
 around_parts k ls h n =
     let rest : List (List Item) = without_lead ls in
     all_both IsBodyPart (parts Sep (lead ls)) (node (block k (without_ending rest)) ∷ parts Sep (last_ending rest))

@@ -13,7 +13,7 @@ use Rattle.wt_tree.specs.declared.kind.AttrName.TheVariants as attr
 use Rattle.wt_tree.specs.Values.{placeholder as placeholder_type, extension_prefix}
 use Rattle.wt_round_trip.specs.Written.{HasAttributes}
 use Rattle.wt_inline.specs.Carried.{placeholder_typeof}
-use Rattle.wt_inline.specs.ItemTree.{Head, ItemTree, ItemTrees, nothing, leaf, inner, forest, held, held_by_all}
+use Rattle.wt_inline.specs.ItemTree.{Head, ItemTree, ItemTrees, nothing, leaf, inner, forest, tree_items, held_by_all}
 use Rattle.wt_inline.specs.Parts.{Part, held_parts, children}
 use Rattle.wt_inline.proofs.HeldLaws.{held_children, sources_append}
 use Rattle.wt_annotate.specs.Labels.{width, label_at}
@@ -41,7 +41,7 @@ or_right true c e = refl
 or_right false c e = e
 
 held_utf8 : (most : ℕ) (h : Head) (opening closing : List Item) (ps : List Part) → IsFilled most opening ps closing
-    → IsUtf8 (sources (held (round h opening ps closing)))
+    → IsUtf8 (sources (tree_items (round h opening ps closing)))
 held_utf8 most h opening closing ps f =
     subst IsUtf8 (sym (sources_append opening (held_by_all (forest (children ps)) ++ closing)
     ∙ ap (λ bs. sources opening ++ bs) (sources_append (held_by_all (forest (children ps))) closing)))

@@ -14,7 +14,7 @@ use Rattle.wt_lex.specs.Reading.{AreLexemes}
 use Rattle.wt_lex.proofs.Readings.{words_are}
 use Rattle.wt_expand.specs.PageItems.{form_of, items_of_word, items_of_words, page_items}
 use Rattle.wt_expand.proofs.PageLaws.{page_sources}
-use Rattle.wt_inline.specs.ItemTree.{ItemTree, forest, held}
+use Rattle.wt_inline.specs.ItemTree.{ItemTree, forest, tree_items}
 use Rattle.wt_inline.specs.Parts.{children}
 use Rattle.wt_build.specs.Rows.{rows}
 use Rattle.wt_build.specs.Meaning.{body_parts, meaning}
@@ -40,7 +40,7 @@ few_numbers page =
 
 -- ---- the tree
 
-meaning_sources : (page : List ℕ) → sources (held (meaning (page_items page))) ≡ page
+meaning_sources : (page : List ℕ) → sources (tree_items (meaning (page_items page))) ≡ page
 meaning_sources page = sources_meaning (page_items page) ∙ page_sources page
 
 pub flat_page : (page : List ℕ) → flat (page_tree page) ≡ page
@@ -49,7 +49,7 @@ flat_page page = flat_annotated (meaning (page_items page)) ∙ meaning_sources 
 pub page_tiled : (page : List ℕ) → Tiled (page_tree page)
 page_tiled page = tiled_annotated (meaning (page_items page))
 
-covers_width : (xs : List Item) → Covers (width (held (meaning xs))) (annotated (meaning xs))
+covers_width : (xs : List Item) → Covers (width (tree_items (meaning xs))) (annotated (meaning xs))
 unfolding meaning
 covers_width xs = body_covers (forest (children (body_parts (rows xs))))
 
@@ -72,9 +72,9 @@ small_items page xs room items =
     let len : length (sources xs) ≡ length page = ap (λ ys. length (sources ys)) items ∙ ap length (page_sources page) in
     omega arith
 
-pub small_width : (page : List ℕ) (xs : List Item) (t : ItemTree) → length page ≤ 2097152 → t ≡ meaning xs → xs ≡ page_items page → width (held t) < 2 ^ 32
+pub small_width : (page : List ℕ) (xs : List Item) (t : ItemTree) → length page ≤ 2097152 → t ≡ meaning xs → xs ≡ page_items page → width (tree_items t) < 2 ^ 32
 small_width page xs t room is items =
-    let len : length (sources (held t)) ≡ length page = ap (λ u. length (sources (held u))) (is ∙ ap meaning items) ∙ ap length (meaning_sources page) in
+    let len : length (sources (tree_items t)) ≡ length page = ap (λ u. length (sources (tree_items u))) (is ∙ ap meaning items) ∙ ap length (meaning_sources page) in
     omega arith
 
 pub small_numbers : (page : List ℕ) (xs : List Item) (t : ItemTree) → length page ≤ 2097152 → t ≡ meaning xs → xs ≡ page_items page → 1 + numbered t < 2 ^ 32

@@ -16,7 +16,7 @@ use Rattle.wt_round_trip.specs.Written.{leaf_kind, may_stand, HasLeafKind, joins
 use Rattle.wt_inline.specs.declared.loose.Loose.{Loose}
 use Rattle.wt_inline.specs.declared.loose.Loose.TheVariants.{Text, Sep}
 use Rattle.wt_inline.specs.Carried.{shown_item}
-use Rattle.wt_inline.specs.ItemTree.{ItemTree, forest, held, held_by_all}
+use Rattle.wt_inline.specs.ItemTree.{ItemTree, forest, tree_items, held_by_all}
 use Rattle.wt_inline.specs.Parts.{Part, loose, node, held_parts, same_loose, same_origin, one_leaf, loose_kind, loose_leaf, child, children}
 use Rattle.wt_inline.proofs.HeldLaws.{sources_append}
 use Rattle.wt_annotate.specs.Labels.{width, label_at}
@@ -30,7 +30,7 @@ IsTextRun parent run = IsUtf8 run × (may_stand parent run ≡ true)
 -- a node that is written as an element, within k elements, wherever it stands
 pub record IsWrittenNode (k : ℕ) (parent : Kind) (t : ItemTree) : Type 0 where
   pub element : (at next : ℕ) → is_text (annotated_at at next t) ≡ false
-  pub written : (at next : ℕ) → at + width (held t) < 2 ^ 32 → 0 < next → next + numbered t ≤ 2 ^ 32 → WrittenIn k parent (annotated_at at next t)
+  pub written : (at next : ℕ) → at + width (tree_items t) < 2 ^ 32 → 0 < next → next + numbered t ≤ 2 ^ 32 → WrittenIn k parent (annotated_at at next t)
 
 -- these bytes, and then what parts hold
 abbrev pub AreWrittenParts : ℕ → Kind → List ℕ → List Part → Type 0
@@ -177,24 +177,24 @@ runs_written k parent ([] ∷ rs) ps at next h w room some few = absurd h.2
 runs_written k parent ((node t ∷ p ∷ r) ∷ rs) ps at next h w room some few = absurd (let e = h.2.0 in cc)
 runs_written k parent ((node t ∷ []) ∷ rs) ps at next h w room some few =
     let v : AreWrittenParts k parent [] (node t ∷ h.0) = subst (AreWrittenParts k parent []) h.1 w in
-    let a : width (held t ++ held_by_all (forest (map child rs))) ≡ width (held t) + width (held_by_all (forest (map child rs))) =
-    wide_append (held t) (held_by_all (forest (map child rs))) in (
+    let a : width (tree_items t ++ held_by_all (forest (map child rs))) ≡ width (tree_items t) + width (held_by_all (forest (map child rs))) =
+    wide_append (tree_items t) (held_by_all (forest (map child rs))) in (
       v.1.written at next (omega arith) some (omega arith),
       none_joins (texts_of_kind parent) _ (ap (λ x. x
-          && begins_with_text (all_annotated_at (at + width (held t)) (next + numbered t) (forest (map child rs)))) (v.1.element at next)),
-      runs_written k parent rs h.0 (at + width (held t)) (next + numbered t) h.3 v.2 (omega arith) (omega arith) (omega arith),
+          && begins_with_text (all_annotated_at (at + width (tree_items t)) (next + numbered t) (forest (map child rs)))) (v.1.element at next)),
+      runs_written k parent rs h.0 (at + width (tree_items t)) (next + numbered t) h.3 v.2 (omega arith) (omega arith) (omega arith),
     )
 runs_written k parent ((loose j o b ∷ r) ∷ rs) ps at next h w room some few =
     let v : AreWrittenParts k parent [] ((loose j o b ∷ r) ++ h.0) = subst (AreWrittenParts k parent []) h.1 w in
     let q : IsLeafRun k parent [] (loose j o b ∷ r) h.0 = leaf_run k parent [] j o b r h.0 h.2 v in
     let t : ItemTree = child (loose j o b ∷ r) in
-    let a : width (held t ++ held_by_all (forest (map child rs))) ≡ width (held t) + width (held_by_all (forest (map child rs))) =
-    wide_append (held t) (held_by_all (forest (map child rs))) in
-    let n : begins_with_text (all_annotated_at (at + width (held t)) (next + numbered t) (forest (map child rs))) ≡ false =
-    no_text_first k parent rs h.0 (at + width (held t)) (next + numbered t) h.3 q.rest q.stops in (
+    let a : width (tree_items t ++ held_by_all (forest (map child rs))) ≡ width (tree_items t) + width (held_by_all (forest (map child rs))) =
+    wide_append (tree_items t) (held_by_all (forest (map child rs))) in
+    let n : begins_with_text (all_annotated_at (at + width (tree_items t)) (next + numbered t) (forest (map child rs))) ≡ false =
+    no_text_first k parent rs h.0 (at + width (tree_items t)) (next + numbered t) h.3 q.rest q.stops in (
       subst (λ xs. WrittenIn k parent (annotated_at at next (loose_leaf j xs))) (sym q.items) (leaf_written k parent at next j q.first q.more v.0 q.good),
       none_joins (texts_of_kind parent) _ (none_next (is_text (annotated_at at next t)) _ n),
-      runs_written k parent rs h.0 (at + width (held t)) (next + numbered t) h.3 q.rest (omega arith) (omega arith) (omega arith),
+      runs_written k parent rs h.0 (at + width (tree_items t)) (next + numbered t) h.3 q.rest (omega arith) (omega arith) (omega arith),
     )
   where
     none_next : (x y : Bool) → y ≡ false → (x && y) ≡ false

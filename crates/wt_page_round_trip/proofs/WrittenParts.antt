@@ -5,7 +5,7 @@ use Rattle.wt_span.specs.Items.{Item, sources}
 use Rattle.wt_tree.specs.declared.kind.Kind.{Kind}
 use Rattle.wt_fitting.specs.Rows.{holds_text}
 use Rattle.wt_inline.specs.declared.loose.Loose.TheVariants.{Text}
-use Rattle.wt_inline.specs.ItemTree.{ItemTree, held}
+use Rattle.wt_inline.specs.ItemTree.{ItemTree, tree_items}
 use Rattle.wt_inline.specs.Parts.{Part, loose, node, held_parts, parts}
 use Rattle.wt_inline.proofs.HeldLaws.{held_of_parts, held_append, sources_append, sources_opened}
 use Rattle.wt_page_round_trip.proofs.TextItems.{AreTexts}
@@ -61,7 +61,7 @@ pub record NodeFits (most : ℕ) (t : ItemTree) : Type 0 where
 pub fits_node : (most : ℕ) (t : ItemTree) → NodeFits most t → FitsIn most (node t ∷ [])
 fits_node most t f = record {
   written = λ k parent le p. (no_run parent, f.written k parent le p, no_run parent);
-  held = subst (λ xs. IsUtf8 (sources xs)) (sym (append-nil (held t))) f.held;
+  held = subst (λ xs. IsUtf8 (sources xs)) (sym (append-nil (tree_items t))) f.held;
 }
 
 pub fits_text : (most : ℕ) (xs : List Item) → most < 199 → AreTexts [] xs → AreOfPage xs → FitsIn most (parts Text xs)

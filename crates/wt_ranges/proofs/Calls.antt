@@ -7,7 +7,7 @@ use Rattle.wt_span.specs.Items.{Item, call_of}
 use Rattle.wt_span.specs.Cuts.{call_of_item, is_free}
 use Rattle.wt_span.specs.Runs.{runs, AreRuns}
 use Rattle.wt_span.proofs.RunLaws.{runs_are}
-use Rattle.wt_inline.specs.ItemTree.{Head, ItemTree, inner, ItemTrees, nothing, further, held, held_by_all}
+use Rattle.wt_inline.specs.ItemTree.{Head, ItemTree, inner, ItemTrees, nothing, further, tree_items, held_by_all}
 use Rattle.wt_ranges.specs.Clean.{is_no_call, is_page, is_body, own_by, is_clean}
 use Rattle.wt_ranges.specs.Grouped.{group, Child, is_tied, size_of_all, of_runs, grouped, children}
 use Rattle.wt_ranges.specs.GroupParts.{Begun, begun_by, begun_at, begun}
@@ -130,7 +130,7 @@ runs_calls all i ((c ∷ d ∷ ds) ∷ rs) cs h k =
 
 pub children_size : (all : List Item) (n : ℕ) (ts : ItemTrees) → size_of_all (children all n ts) ≡ length (held_by_all ts)
 children_size all n nothing = refl
-children_size all n (further t ts) = omega (arith, children_size all (n + length (held t)) ts, length-append (held t) (held_by_all ts))
+children_size all n (further t ts) = omega (arith, children_size all (n + length (tree_items t)) ts, length-append (tree_items t) (held_by_all ts))
 
 -- a node by its three parts, of which the first and the last begin no call
 node_by : (all : List Item) (is : Bool) (n : ℕ) (opening inside closing after : List Item) (bs : List Begun)
@@ -160,8 +160,8 @@ node_by all false n opening inside closing after bs e p g =
     ∙ ap (begun all n) (sym m)
 
 mutual
-  pub calls_at : (all : List Item) (n : ℕ) (t : ItemTree) (after : List Item) → drop n all ≡ held t ++ after → is_clean all n t ≡ true
-      → calls_in_groups all (grouped all n t) ≡ begun all n (length (held t))
+  pub calls_at : (all : List Item) (n : ℕ) (t : ItemTree) (after : List Item) → drop n all ≡ tree_items t ++ after → is_clean all n t ≡ true
+      → calls_in_groups all (grouped all n t) ≡ begun all n (length (tree_items t))
   calls_at all n (inner h o ts c) after e q =
       let cs : List Child = children all (n + length o) ts in
       let one : drop n all ≡ o ++ ((held_by_all ts ++ c) ++ after) = e ∙ append_assoc o (held_by_all ts ++ c) after in
@@ -175,12 +175,12 @@ mutual
   pub chained : (all : List Item) (n : ℕ) (ts : ItemTrees) (after : List Item) → drop n all ≡ held_by_all ts ++ after → Chain all n (children all n ts)
   chained all n nothing after e = tt
   chained all n (further t ts) after e =
-      let one : drop n all ≡ held t ++ (held_by_all ts ++ after) = e ∙ append_assoc (held t) (held_by_all ts) after in (
+      let one : drop n all ≡ tree_items t ++ (held_by_all ts ++ after) = e ∙ append_assoc (tree_items t) (held_by_all ts) after in (
         refl,
         λ q. calls_at all n t (held_by_all ts ++ after) one q,
-        chained all (n + length (held t)) ts after
-            (behind all n (held t) (held_by_all ts ++ after) one),
+        chained all (n + length (tree_items t)) ts after
+            (behind all n (tree_items t) (held_by_all ts ++ after) one),
       )
 
-pub all_calls : (t : ItemTree) → is_clean (held t) 0 t ≡ true → calls_in_groups (held t) (grouped (held t) 0 t) ≡ begun (held t) 0 (length (held t))
-all_calls t q = calls_at (held t) 0 t [] (sym (append-nil (held t))) q
+pub all_calls : (t : ItemTree) → is_clean (tree_items t) 0 t ≡ true → calls_in_groups (tree_items t) (grouped (tree_items t) 0 t) ≡ begun (tree_items t) 0 (length (tree_items t))
+all_calls t q = calls_at (tree_items t) 0 t [] (sym (append-nil (tree_items t))) q

@@ -9,7 +9,7 @@ use Rattle.wt_tree.specs.Tree.{label}
 use Rattle.wt_span.specs.declared.form.Form.TheVariants as form
 use Rattle.wt_span.specs.Items.{Item, char, whole}
 use Rattle.wt_span.specs.Origins.{OuterCall}
-use Rattle.wt_inline.specs.ItemTree.{plain, ItemTree, inner, leaf, forest, held}
+use Rattle.wt_inline.specs.ItemTree.{plain, ItemTree, inner, leaf, forest, tree_items}
 use Rattle.wt_annotate.specs.Labels.{label_at}
 use Rattle.wt_ranges.specs.GroupParts.{Part, called, between, parts}
 use Rattle.wt_ranges.specs.Annotated.{annotated}
@@ -84,7 +84,7 @@ table : lines_of table_calls table_page ≡ line 0 kind.Body 0 17 0 0 ∷ line 1
 unfolding annotated label_at
 table = refl
 
-table_parts : parts table_calls (held table_page) 0 9 ≡ called 0 ∷ between (codes "\n| a\n") ∷ called 1 ∷ []
+table_parts : parts table_calls (tree_items table_page) 0 9 ≡ called 0 ∷ between (codes "\n| a\n") ∷ called 1 ∷ []
 table_parts = refl
 
 -- X = `''`, page `a {{x}} b`

@@ -7,7 +7,7 @@ use Rattle.wt_span.specs.Items.{Item}
 use Rattle.wt_span.specs.Origins.{OuterCall}
 use Rattle.wt_span.specs.Runs.{runs, AreRuns}
 use Rattle.wt_span.proofs.RunLaws.{runs_are}
-use Rattle.wt_inline.specs.ItemTree.{ItemTree, inner, ItemTrees, nothing, further, held}
+use Rattle.wt_inline.specs.ItemTree.{ItemTree, inner, ItemTrees, nothing, further, tree_items}
 use Rattle.wt_annotate.specs.Numbering.{count, count_all}
 use Rattle.wt_annotate.specs.Annotated.{inside_by}
 use Rattle.wt_ranges.specs.Counted.{nodes, nodes_of_all}
@@ -67,7 +67,7 @@ runs_counted calls carried all ((c ∷ d ∷ ds) ∷ rs) cs h k =
 
 children_nodes : (all : List Item) (n : ℕ) (ts : ItemTrees) → child_nodes (children all n ts) ≡ nodes_of_all ts
 children_nodes all n nothing = refl
-children_nodes all n (further t ts) = ap (λ m. nodes t + m) (children_nodes all (n + length (held t)) ts)
+children_nodes all n (further t ts) = ap (λ m. nodes t + m) (children_nodes all (n + length (tree_items t)) ts)
 
 mutual
   pub few : (calls : List OuterCall) (carried : Carried) (all : List Item) (n : ℕ) (t : ItemTree)
@@ -83,4 +83,4 @@ mutual
 
   all_few : (calls : List OuterCall) (carried : Carried) (all : List Item) (n : ℕ) (ts : ItemTrees) → Counted calls carried all (children all n ts)
   all_few calls carried all n nothing = tt
-  all_few calls carried all n (further t ts) = (few calls carried all n t, all_few calls carried all (n + length (held t)) ts)
+  all_few calls carried all n (further t ts) = (few calls carried all n t, all_few calls carried all (n + length (tree_items t)) ts)

@@ -9,7 +9,7 @@ use Rattle.wt_span.specs.Origins.{same_call}
 use Rattle.wt_span.specs.Cuts.{call_of_item, is_free}
 use Rattle.wt_span.specs.Runs.{runs, IsRun, AreRuns}
 use Rattle.wt_span.proofs.RunLaws.{runs_are}
-use Rattle.wt_inline.specs.ItemTree.{Head, plain, ItemTree, inner, ItemTrees, nothing, further, held, held_by_all}
+use Rattle.wt_inline.specs.ItemTree.{Head, plain, ItemTree, inner, ItemTrees, nothing, further, tree_items, held_by_all}
 use Rattle.wt_ranges.specs.Clean.{is_page, is_body, own_by, is_clean}
 use Rattle.wt_ranges.specs.Grouped.{group, GroupedAll, along, Child, is_tied, size_of_all, of_runs, grouped, children}
 use Rattle.wt_ranges.specs.Reached.{start_of, size_of, AtFreeCuts, AllAtFreeCuts, Fills, FillFrom}
@@ -109,7 +109,7 @@ runs_done all i j ((c ∷ d ∷ ds) ∷ rs) cs h k f e =
 pub start_is : (all : List Item) (n : ℕ) (t : ItemTree) → start_of (grouped all n t) ≡ n
 start_is all n (inner h o ts c) = refl
 
-pub size_is : (all : List Item) (n : ℕ) (t : ItemTree) → size_of (grouped all n t) ≡ length (held t)
+pub size_is : (all : List Item) (n : ℕ) (t : ItemTree) → size_of (grouped all n t) ≡ length (tree_items t)
 size_is all n (inner h o ts c) = omega (arith, length-append o (held_by_all ts ++ c), length-append (held_by_all ts) c)
 
 mutual
@@ -124,12 +124,12 @@ mutual
   pub chained : (all : List Item) (n : ℕ) (ts : ItemTrees) → Chain all n (children all n ts) (n + length (held_by_all ts))
   chained all n nothing = omega arith
   chained all n (further t ts) =
-      let e : n + length (held t) + length (held_by_all ts) ≡ n + length (held t ++ held_by_all ts) =
-      omega (arith, length-append (held t) (held_by_all ts)) in (
+      let e : n + length (tree_items t) + length (held_by_all ts) ≡ n + length (tree_items t ++ held_by_all ts) =
+      omega (arith, length-append (tree_items t) (held_by_all ts)) in (
         refl,
         λ q. (start_is all n t, size_is all n t, (stand all n t q).0, (stand all n t q).1),
         subst
-            (λ (m : ℕ). Chain all (n + length (held t)) (children all (n + length (held t)) ts) m) e (chained all (n + length (held t)) ts),
+            (λ (m : ℕ). Chain all (n + length (tree_items t)) (children all (n + length (tree_items t)) ts) m) e (chained all (n + length (tree_items t)) ts),
       )
 
 -- ---- the body of a page is clean
@@ -149,7 +149,7 @@ before_none all (suc n) e = ap (λ x. not (same_call (call_of_item (slice_get al
 end_free : (all : List Item) (n : ℕ) → n ≡ length all → is_free all n ≡ true
 end_free all n e = before_none all n (ap (slice_get all) e ∙ none_after all)
 
-pub body_clean : (ts : ItemTrees) → is_clean (held (inner (plain kind.Body) [] ts [])) 0 (inner (plain kind.Body) [] ts []) ≡ true
+pub body_clean : (ts : ItemTrees) → is_clean (tree_items (inner (plain kind.Body) [] ts [])) 0 (inner (plain kind.Body) [] ts []) ≡ true
 body_clean ts =
     let all : List Item = held_by_all ts ++ [] in
     let m : 0 + 0 + length (held_by_all ts) ≡ length all = omega (arith, length-append (held_by_all ts) []) in

@@ -8,7 +8,7 @@ use Rattle.wt_tree.specs.View.{view, views}
 use Rattle.wt_span.specs.Cuts.{page_of}
 use Rattle.wt_span.specs.Items.{Item}
 use Rattle.wt_span.specs.Origins.{OuterCall}
-use Rattle.wt_inline.specs.ItemTree.{ItemTree, inner, ItemTrees, nothing, further, forest, held, held_by_all}
+use Rattle.wt_inline.specs.ItemTree.{ItemTree, inner, ItemTrees, nothing, further, forest, tree_items, held_by_all}
 use Rattle.wt_inline.specs.View.{item_tree, item_trees}
 use Rattle.wt_inline.specs.declared.tree.PieceTree.{PieceTree, out-PieceTree}
 use Rattle.wt_ranges.specs.declared.child.Child.{Child}
@@ -64,7 +64,7 @@ child_near calls (c ∷ cs) = ap (λ n. nodes_in (item_tree c.tree) + n) (child_
 near_is : (calls : List OuterCall) (o : Option ℕ) (at : ℕ) (p : Option ℕ) (ts : ItemTrees)
     → near_size (near calls (group_data calls) o at p ts) ≡ nodes_in_all ts
 near_is calls o at p nothing = refl
-near_is calls o at p (further t ts) = ap (λ n. nodes_in t + n) (near_is calls (last_of o (held t)) (at + length (text_from calls o (held t))) p ts)
+near_is calls o at p (further t ts) = ap (λ n. nodes_in t + n) (near_is calls (last_of o (tree_items t)) (at + length (text_from calls o (tree_items t))) p ts)
 
 pub fewer : (calls : List OuterCall) (n : PieceTree) (o : Option ℕ) (at : ℕ) (p : Option ℕ) (cs : List Child) (rs : List Run)
     → nears_of calls cs ≡ children_at calls o at p (item_trees (out-PieceTree n).children) → AreRunsOf rs cs → 2 + runs_size rs < nodes_in (item_tree n)
@@ -78,20 +78,20 @@ fewer calls n o at p cs rs e a =
 
 abbrev Sits : List OuterCall → Option ℕ → ℕ → List Near → Type 0
 Sits calls o at [] = Unit {0}
-Sits calls o at (c ∷ cs) = (c.before ≡ o) × (c.byte ≡ at) × Sits calls (last_of o (held c.tree)) (at + length (text_from calls o (held c.tree))) cs
+Sits calls o at (c ∷ cs) = (c.before ≡ o) × (c.byte ≡ at) × Sits calls (last_of o (tree_items c.tree)) (at + length (text_from calls o (tree_items c.tree))) cs
 
 nears_sit : (calls : List OuterCall) (o : Option ℕ) (at : ℕ) (p : Option ℕ) (ts : ItemTrees) → Sits calls o at (near calls (group_data calls) o at p ts)
 nears_sit calls o at p nothing = tt
-nears_sit calls o at p (further t ts) = (refl, refl, nears_sit calls (last_of o (held t)) (at + length (text_from calls o (held t))) p ts)
+nears_sit calls o at p (further t ts) = (refl, refl, nears_sit calls (last_of o (tree_items t)) (at + length (text_from calls o (tree_items t))) p ts)
 
 nears_held : (calls : List OuterCall) (o : Option ℕ) (at : ℕ) (p : Option ℕ) (ts : ItemTrees) → near_nodes (near calls (group_data calls) o at p ts) ≡ ts
 nears_held calls o at p nothing = refl
-nears_held calls o at p (further t ts) = ap (further t) (nears_held calls (last_of o (held t)) (at + length (text_from calls o (held t))) p ts)
+nears_held calls o at p (further t ts) = ap (further t) (nears_held calls (last_of o (tree_items t)) (at + length (text_from calls o (tree_items t))) p ts)
 
 held_append : (cs ds : List Near) → held_by_all (near_nodes (cs ++ ds)) ≡ held_by_all (near_nodes cs) ++ held_by_all (near_nodes ds)
 held_append [] ds = refl
-held_append (c ∷ cs) ds = ap (λ xs. held c.tree ++ xs) (held_append cs ds)
-    ∙ sym (append_assoc (held c.tree) (held_by_all (near_nodes cs)) (held_by_all (near_nodes ds)))
+held_append (c ∷ cs) ds = ap (λ xs. tree_items c.tree ++ xs) (held_append cs ds)
+    ∙ sym (append_assoc (tree_items c.tree) (held_by_all (near_nodes cs)) (held_by_all (near_nodes ds)))
 
 -- the bytes and the call behind some of them
 abbrev bytes_of_all : List OuterCall → Option ℕ → List Near → ℕ
@@ -105,13 +105,13 @@ sits_rest : (calls : List OuterCall) (o : Option ℕ) (at : ℕ) (cs ds : List N
     → Sits calls (last_of o (held_by_all (near_nodes cs))) (at + bytes_of_all calls o cs) ds
 sits_rest calls o at [] ds s = let e : at ≡ at + 0 = omega arith in subst (λ (n : ℕ). Sits calls o n ds) e s
 sits_rest calls o at (c ∷ cs) ds s =
-    let r = sits_rest calls (last_of o (held c.tree)) (at + length (text_from calls o (held c.tree))) cs ds s.2 in
-    let a : last_of (last_of o (held c.tree)) (held_by_all (near_nodes cs)) ≡ last_of o (held_by_all (near_nodes (c ∷ cs))) =
-    sym (last_append o (held c.tree) (held_by_all (near_nodes cs))) in
-    let b : at + length (text_from calls o (held c.tree)) + bytes_of_all calls (last_of o (held c.tree)) cs ≡ at + bytes_of_all calls o (c ∷ cs) =
-    omega (arith, bytes_more calls o (held c.tree) (held_by_all (near_nodes cs))) in
+    let r = sits_rest calls (last_of o (tree_items c.tree)) (at + length (text_from calls o (tree_items c.tree))) cs ds s.2 in
+    let a : last_of (last_of o (tree_items c.tree)) (held_by_all (near_nodes cs)) ≡ last_of o (held_by_all (near_nodes (c ∷ cs))) =
+    sym (last_append o (tree_items c.tree) (held_by_all (near_nodes cs))) in
+    let b : at + length (text_from calls o (tree_items c.tree)) + bytes_of_all calls (last_of o (tree_items c.tree)) cs ≡ at + bytes_of_all calls o (c ∷ cs) =
+    omega (arith, bytes_more calls o (tree_items c.tree) (held_by_all (near_nodes cs))) in
     subst (λ (n : ℕ). Sits calls (last_of o (held_by_all (near_nodes (c ∷ cs)))) n ds) b
-    (subst (λ (q : Option ℕ). Sits calls q (at + length (text_from calls o (held c.tree)) + bytes_of_all calls (last_of o (held c.tree)) cs) ds) a r)
+    (subst (λ (q : Option ℕ). Sits calls q (at + length (text_from calls o (tree_items c.tree)) + bytes_of_all calls (last_of o (tree_items c.tree)) cs) ds) a r)
 
 bytes_parts : (calls : List OuterCall) (o : Option ℕ) (cs ds : List Near)
     → bytes_of_all calls o (cs ++ ds) ≡ bytes_of_all calls o cs + bytes_of_all calls (last_of o (held_by_all (near_nodes cs))) ds
@@ -160,8 +160,8 @@ inside_fits calls c f h g =
 -- a child that is a run by itself
 pub alone_fits : (calls : List OuterCall) (c : Child) → NearsFit calls (nears_of calls (c ∷ [])) → Fits calls c
 alone_fits calls c h =
-    let e : length (text_from calls c.before (held (item_tree c.tree) ++ [])) ≡ length (text_from calls c.before (held (item_tree c.tree))) =
-    ap (λ xs. length (text_from calls c.before xs)) (append-nil (held (item_tree c.tree))) in
+    let e : length (text_from calls c.before (tree_items (item_tree c.tree) ++ [])) ≡ length (text_from calls c.before (tree_items (item_tree c.tree))) =
+    ap (λ xs. length (text_from calls c.before xs)) (append-nil (tree_items (item_tree c.tree))) in
     omega (arith, h, e)
 
 -- ---- runs, one after another

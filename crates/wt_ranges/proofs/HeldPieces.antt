@@ -11,7 +11,7 @@ use Rattle.wt_span.specs.Slice.{bytes_of}
 use Rattle.wt_span.specs.Items.{Item, char, source, sources, items_by, call_of_origin, items_of, items}
 use Rattle.std.specs.Prelude.{Option}
 use Rattle.wt_tree.specs.View.{texts_of}
-use Rattle.wt_inline.specs.ItemTree.{ItemTree, inner, forest, held, held_by_all}
+use Rattle.wt_inline.specs.ItemTree.{ItemTree, inner, forest, tree_items, held_by_all}
 use Rattle.wt_inline.specs.View.{head_of, view_step, item_tree, item_trees}
 use Rattle.wt_inline.specs.declared.tree.PieceTree.{PieceTree, out-PieceTree, fold_out-PieceTree}
 use Rattle.wt_ranges.proofs.PieceWalks.{items_more}
@@ -62,13 +62,13 @@ pub item_tree_out : (n : PieceTree)
     (items (out-PieceTree n).closing)
 item_tree_out n = fold_out-PieceTree ItemTree view_step n
 
-pub held_list : (ns : List PieceTree) → held_by_all (forest (item_trees ns)) ≡ flat_map (λ n. held (item_tree n)) ns
+pub held_list : (ns : List PieceTree) → held_by_all (forest (item_trees ns)) ≡ flat_map (λ n. tree_items (item_tree n)) ns
 held_list [] = refl
-held_list (n ∷ ns) = ap (λ xs. held (item_tree n) ++ xs) (held_list ns)
+held_list (n ∷ ns) = ap (λ xs. tree_items (item_tree n) ++ xs) (held_list ns)
 
 pub held_out : (n : PieceTree)
-    → held (item_tree n) ≡ items (out-PieceTree n).opening
-    ++ (flat_map (λ m. held (item_tree m)) (out-PieceTree n).children ++ items (out-PieceTree n).closing)
+    → tree_items (item_tree n) ≡ items (out-PieceTree n).opening
+    ++ (flat_map (λ m. tree_items (item_tree m)) (out-PieceTree n).children ++ items (out-PieceTree n).closing)
 held_out n =
-    ap held (item_tree_out n)
+    ap tree_items (item_tree_out n)
     ∙ ap (λ xs. items (out-PieceTree n).opening ++ (xs ++ items (out-PieceTree n).closing)) (held_list (out-PieceTree n).children)

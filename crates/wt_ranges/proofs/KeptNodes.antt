@@ -9,7 +9,7 @@ use Rattle.wt_span.specs.declared.form.Piece.{Piece}
 use Rattle.wt_span.specs.declared.text.Text.{Text}
 use Rattle.wt_span.specs.Items.{Item, items}
 use Rattle.wt_span.specs.Origins.{OuterCall}
-use Rattle.wt_inline.specs.ItemTree.{Head, ItemTree, inner, ItemTrees, forest, held, held_by_all}
+use Rattle.wt_inline.specs.ItemTree.{Head, ItemTree, inner, ItemTrees, forest, tree_items, held_by_all}
 use Rattle.wt_inline.specs.View.{head_of, item_tree, item_trees}
 use Rattle.wt_inline.specs.declared.tree.PieceTree.{PieceTree, out-PieceTree}
 use Rattle.wt_annotate.specs.Labels.{leaf_open}
@@ -42,8 +42,8 @@ pub leaf_kept : (calls : List OuterCall) (c : Child) (u : Tree) (s : Sources) (o
     → is_leaf (out-PieceTree c.tree).head.kind ≡ true
     → u ≡ tree (node_label (head_of (out-PieceTree c.tree).head) (Some r) (texts_of s.opening) (texts_of s.closing) (texts_of s.own)) (views ns)
     → s ≡ record { opening = []; closing = []; own = own } → ns ≡ []
-    → texts_of own ≡ text_from calls c.before (items qs) → items qs ≡ items ps → items ps ≡ held (item_tree c.tree)
-    → w ≡ length (text_from calls c.before (held (item_tree c.tree)))
+    → texts_of own ≡ text_from calls c.before (items qs) → items qs ≡ items ps → items ps ≡ tree_items (item_tree c.tree)
+    → w ≡ length (text_from calls c.before (tree_items (item_tree c.tree)))
     → r ≡ record { start = c.byte; end = c.byte + w; open_w = leaf_open (out-PieceTree c.tree).head.kind w; close_w = 0 } → u ≡ (near_of calls c).whole
 leaf_kept calls c u s own ps qs ns r w e f g m t i h x y =
     let n : PieceTree = c.tree in
@@ -51,8 +51,8 @@ leaf_kept calls c u s own ps qs ns r w e f g m t i h x y =
     let o : List Item = items (out-PieceTree n).opening in
     let d : List Item = items (out-PieceTree n).closing in
     let ts : ItemTrees = forest (item_trees (out-PieceTree n).children) in
-    let all : held (item_tree n) ≡ held (inner k o ts d) = ap held (item_tree_out n) in
-    let source : List ℕ = text_from calls c.before (held (inner k o ts d)) in
+    let all : tree_items (item_tree n) ≡ tree_items (inner k o ts d) = ap tree_items (item_tree_out n) in
+    let source : List ℕ = text_from calls c.before (tree_items (inner k o ts d)) in
     let own_is : texts_of own ≡ source = t ∙ ap (text_from calls c.before) (i ∙ h ∙ all) in
     let w_is : w ≡ length source = x ∙ ap (λ xs. length (text_from calls c.before xs)) all in
     f
@@ -95,9 +95,9 @@ inner_kept calls c f ns u e g h v =
     → Trees = λ b at a. trees (near_runs calls (group_data calls) (children_at calls b at a (item_trees (out-PieceTree n).children))) in
     let inside : views ns ≡ us (opened c.before n) (c.byte + length front) (first_of d c.after) = v ∙ ap (λ b. us b f.byte f.after) g.before
     ∙ ap (λ at. us (opened c.before n) at f.after) g.byte ∙ ap (λ a. us (opened c.before n) (c.byte + length front) a) g.after in
-    let source : List ℕ = text_from calls c.before (held (inner k o ts d)) in
+    let source : List ℕ = text_from calls c.before (tree_items (inner k o ts d)) in
     let r : frame_ranges calls c ≡ record { start = c.byte; end = c.byte + length source; open_w = length front; close_w = length back } =
-    ap (λ (x : ItemTree). record { start = c.byte; end = c.byte + length (text_from calls c.before (held x)); open_w = length front; close_w = length back })
+    ap (λ (x : ItemTree). record { start = c.byte; end = c.byte + length (text_from calls c.before (tree_items x)); open_w = length front; close_w = length back })
     (item_tree_out n) in
     h
     ∙ ap (λ (x : Ranges). tree (node_label k (Some x) (texts_of f.sources.opening) (texts_of f.sources.closing) (texts_of f.sources.own)) (views ns))
@@ -118,13 +118,13 @@ inner_kept calls c f ns u e g h v =
 -- the opening, the inside and the closing of a tree take no more bytes than all of it
 pub parts_fit : (calls : List OuterCall) (o : Option ℕ) (n : PieceTree) → length (text_from calls o (items (out-PieceTree n).opening))
     + (length (text_from calls (opened o n) (held_by_all (forest (item_trees (out-PieceTree n).children))))
-    + length (text_from calls (filled o n) (items (out-PieceTree n).closing))) ≡ length (text_from calls o (held (item_tree n)))
+    + length (text_from calls (filled o n) (items (out-PieceTree n).closing))) ≡ length (text_from calls o (tree_items (item_tree n)))
 parts_fit calls o n =
     let a : List Item = items (out-PieceTree n).opening in
     let i : List Item = held_by_all (forest (item_trees (out-PieceTree n).children)) in
     let d : List Item = items (out-PieceTree n).closing in
-    let e : text_from calls o (held (item_tree n)) ≡ text_from calls o a ++ (text_from calls (last_of o a) i ++ text_from calls (last_of (last_of o a) i) d) =
-    ap (λ t. text_from calls o (held t)) (item_tree_out n) ∙ text_append_from calls o a (i ++ d)
+    let e : text_from calls o (tree_items (item_tree n)) ≡ text_from calls o a ++ (text_from calls (last_of o a) i ++ text_from calls (last_of (last_of o a) i) d) =
+    ap (λ t. text_from calls o (tree_items t)) (item_tree_out n) ∙ text_append_from calls o a (i ++ d)
     ∙ ap (λ bs. text_from calls o a ++ bs) (text_append_from calls (last_of o a) i d) in
     omega (
       arith,

@@ -9,7 +9,7 @@ use Rattle.wt_tree.specs.Tree.{Tree, tree, Trees, none, more}
 use Rattle.wt_tree.specs.Tiling.{is_group, numbers, numbers_of_all, ids, ids_of_all, others, others_of_all, InPreorder}
 use Rattle.wt_span.specs.Items.{Item}
 use Rattle.wt_span.specs.Origins.{OuterCall}
-use Rattle.wt_inline.specs.ItemTree.{ItemTree, inner, ItemTrees, nothing, further, held}
+use Rattle.wt_inline.specs.ItemTree.{ItemTree, inner, ItemTrees, nothing, further, tree_items}
 use Rattle.wt_annotate.specs.Labels.{label_at}
 use Rattle.wt_annotate.specs.Numbering.{next_after, count, count_all, with_numbers, all_with_numbers}
 use Rattle.wt_annotate.specs.Annotated.{inside_by}
@@ -135,4 +135,4 @@ in_preorder t h =
 pub annotated_numbered : (calls : List OuterCall) (carried : Carried) (t : ItemTree) → InPreorder (annotated calls carried t)
 unfolding annotated
 annotated_numbered calls carried t =
-    in_preorder (placed calls carried (held t) (grouped (held t) 0 t)) (placed_none calls carried (held t) (grouped (held t) 0 t))
+    in_preorder (placed calls carried (tree_items t) (grouped (tree_items t) 0 t)) (placed_none calls carried (tree_items t) (grouped (tree_items t) 0 t))

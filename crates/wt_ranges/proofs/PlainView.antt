@@ -11,7 +11,7 @@ use Rattle.wt_span.specs.Origins.{OuterCall}
 use Rattle.wt_span.specs.Cuts.{place, text_between}
 use Rattle.wt_span.specs.Runs.{runs, AreRuns}
 use Rattle.wt_span.proofs.RunLaws.{runs_are}
-use Rattle.wt_inline.specs.ItemTree.{ItemTree, inner, ItemTrees, nothing, further, held, held_by_all}
+use Rattle.wt_inline.specs.ItemTree.{ItemTree, inner, ItemTrees, nothing, further, tree_items, held_by_all}
 use Rattle.wt_annotate.specs.Labels.{label_at}
 use Rattle.wt_annotate.specs.Numbering.{number_of, next_after, count, with_id, with_numbers, all_with_numbers}
 use Rattle.wt_annotate.specs.Annotated.{inside_by}
@@ -42,7 +42,7 @@ all_unplaced_joined (c ∷ cs) ds rest = ap (plain_before (unplaced c.tree)) (al
 
 pub children_nodes : (all : List Item) (n : ℕ) (ts : ItemTrees) → nodes_of (children all n ts) ≡ ts
 children_nodes all n nothing = refl
-children_nodes all n (further t ts) = ap (further t) (children_nodes all (n + length (held t)) ts)
+children_nodes all n (further t ts) = ap (further t) (children_nodes all (n + length (tree_items t)) ts)
 
 -- each child shows, where it is kept, what its tree shows
 abbrev Same : List OuterCall → Carried → List Item → List Child → Type 0
@@ -99,7 +99,7 @@ mutual
   children_shown : (calls : List OuterCall) (carried : Carried) (all : List Item) (n : ℕ) (ts : ItemTrees) → Same calls carried all (children all n ts)
   children_shown calls carried all n nothing = tt
   children_shown calls carried all n (further t ts) =
-      (λ rest. placed_shown calls carried all n t rest, children_shown calls carried all (n + length (held t)) ts)
+      (λ rest. placed_shown calls carried all n t rest, children_shown calls carried all (n + length (tree_items t)) ts)
 
 -- ---- numbers
 
@@ -123,4 +123,4 @@ mutual
 
 pub annotated_plain : (calls : List OuterCall) (carried : Carried) (t : ItemTree) → plain (annotated calls carried t) ≡ plain (unplaced t)
 unfolding annotated
-annotated_plain calls carried t = shown_numbered 1 (placed calls carried (held t) (grouped (held t) 0 t)) end ∙ placed_shown calls carried (held t) 0 t end
+annotated_plain calls carried t = shown_numbered 1 (placed calls carried (tree_items t) (grouped (tree_items t) 0 t)) end ∙ placed_shown calls carried (tree_items t) 0 t end

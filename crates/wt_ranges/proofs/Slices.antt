@@ -10,7 +10,7 @@ use Rattle.wt_tree.specs.Tree.{Label, Tree, tree, Trees, none, more}
 use Rattle.wt_span.specs.Items.{Item}
 use Rattle.wt_span.specs.Origins.{OuterCall}
 use Rattle.wt_span.specs.Cuts.{place, text_between, page_of}
-use Rattle.wt_inline.specs.ItemTree.{Head, ItemTree, held}
+use Rattle.wt_inline.specs.ItemTree.{Head, ItemTree, tree_items}
 use Rattle.wt_annotate.specs.Labels.{leaf_open}
 use Rattle.wt_annotate.specs.Numbering.{number_of, next_after, count, with_id, with_numbers, all_with_numbers}
 use Rattle.wt_annotate.specs.Annotated.{inside_by}
@@ -165,10 +165,10 @@ mutual
       all_both (IsSlice page) (reached (with_numbers next t)) (reached_in_all (all_with_numbers (next + count t) ts)) (reached_numbered page next t r.0)
       (all_reached_numbered page (next + count t) ts r.1)
 
-pub annotated_slices : (calls : List OuterCall) (carried : Carried) (t : ItemTree) → is_clean (held t) 0 t ≡ true
-    → AreReachedSlices (page_of calls (held t)) (annotated calls carried t)
+pub annotated_slices : (calls : List OuterCall) (carried : Carried) (t : ItemTree) → is_clean (tree_items t) 0 t ≡ true
+    → AreReachedSlices (page_of calls (tree_items t)) (annotated calls carried t)
 unfolding annotated
 annotated_slices calls carried t q =
-    let g : Grouped = grouped (held t) 0 t in
-    let w : start_of g + size_of g ≤ length (held t) = omega (arith, start_is (held t) 0 t, size_is (held t) 0 t) in
-    reached_numbered (page_of calls (held t)) 1 (placed calls carried (held t) g) (slices calls carried (held t) g (stand (held t) 0 t q).0 w)
+    let g : Grouped = grouped (tree_items t) 0 t in
+    let w : start_of g + size_of g ≤ length (tree_items t) = omega (arith, start_is (tree_items t) 0 t, size_is (tree_items t) 0 t) in
+    reached_numbered (page_of calls (tree_items t)) 1 (placed calls carried (tree_items t) g) (slices calls carried (tree_items t) g (stand (tree_items t) 0 t q).0 w)

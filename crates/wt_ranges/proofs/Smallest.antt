@@ -5,7 +5,7 @@ use Rattle.wt_span.specs.Items.{Item}
 use Rattle.wt_span.specs.Cuts.{is_free}
 use Rattle.wt_span.specs.Runs.{runs, IsRun, AreRuns}
 use Rattle.wt_span.proofs.RunLaws.{runs_are}
-use Rattle.wt_inline.specs.ItemTree.{ItemTree, inner, ItemTrees, nothing, further, held}
+use Rattle.wt_inline.specs.ItemTree.{ItemTree, inner, ItemTrees, nothing, further, tree_items}
 use Rattle.wt_ranges.specs.Clean.{is_clean}
 use Rattle.wt_ranges.specs.Grouped.{group, Child, is_tied, size_of_all, nodes_of, of_runs, grouped, children}
 use Rattle.wt_ranges.specs.Reached.{NoFreeCut, AreSmallest, AllSmallest}
@@ -13,7 +13,7 @@ use Rattle.wt_ranges.proofs.Ends.{false_true}
 
 abbrev Chain : List Item → ℕ → List Child → Type 0
 Chain all i [] = Unit {0}
-Chain all i (c ∷ cs) = (c.from ≡ i) × (c.size ≡ length (held c.tree)) × (c.clean ≡ is_clean all c.from c.tree) × AreSmallest all c.whole
+Chain all i (c ∷ cs) = (c.from ≡ i) × (c.size ≡ length (tree_items c.tree)) × (c.clean ≡ is_clean all c.from c.tree) × AreSmallest all c.whole
     × Chain all (c.from + c.size) cs
 
 chain_rest : (all : List Item) (i : ℕ) (c : Child) (cs others : List Child) → Chain all i (c ∷ cs ++ others)
@@ -35,7 +35,7 @@ no_free : (all : List Item) (i : ℕ) (c : Child) (cs others : List Child) → I
 no_free all i c [] others h l = tt
 no_free all i c (d ∷ ds) others h l =
     let s : d.from ≡ c.from + c.size = l.4.0 in
-    let e : d.from ≡ c.from + length (held c.tree) = omega (arith, s, l.1) in (
+    let e : d.from ≡ c.from + length (tree_items c.tree) = omega (arith, s, l.1) in (
       subst (λ (m : ℕ). is_free all m ≡ false) e (not_true (is_free all d.from) h.0),
       subst (λ (m : ℕ). NoFreeCut all m (nodes_of (d ∷ ds))) e (no_free all (c.from + c.size) d ds others h.1 l.4),
     )
@@ -64,4 +64,4 @@ mutual
 
   chained : (all : List Item) (n : ℕ) (ts : ItemTrees) → Chain all n (children all n ts)
   chained all n nothing = tt
-  chained all n (further t ts) = (refl, refl, refl, smallest all n t, chained all (n + length (held t)) ts)
+  chained all n (further t ts) = (refl, refl, refl, smallest all n t, chained all (n + length (tree_items t)) ts)

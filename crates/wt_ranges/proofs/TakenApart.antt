@@ -3,7 +3,7 @@ use Rattle.std.proofs.Common.{◌≡◌, ℕ, ◌+◌, Bool, true, false, List, 
 use Rattle.wt_span.specs.Items.{Item}
 use Rattle.wt_span.specs.Runs.{runs, AreRuns}
 use Rattle.wt_span.proofs.RunLaws.{runs_are}
-use Rattle.wt_inline.specs.ItemTree.{ItemTree, inner, ItemTrees, nothing, further, held, held_by_all}
+use Rattle.wt_inline.specs.ItemTree.{ItemTree, inner, ItemTrees, nothing, further, tree_items, held_by_all}
 use Rattle.wt_ranges.specs.Grouped.{group, Child, is_tied, nodes_of, of_runs, grouped, children}
 use Rattle.wt_ranges.specs.Ungrouped.{joined, ungrouped, all_ungrouped}
 use Rattle.wt_ranges.proofs.Calls.{behind}
@@ -47,7 +47,7 @@ runs_given all ((c ∷ d ∷ ds) ∷ rs) cs h g =
     ∙ sym (ap nodes_of h.1)
 
 mutual
-  given_back : (all : List Item) (n : ℕ) (t : ItemTree) (after : List Item) (rest : ItemTrees) → drop n all ≡ held t ++ after
+  given_back : (all : List Item) (n : ℕ) (t : ItemTree) (after : List Item) (rest : ItemTrees) → drop n all ≡ tree_items t ++ after
       → ungrouped all (grouped all n t) rest ≡ further t rest
   given_back all n (inner h o ts c) after rest e =
       let i : List Item = held_by_all ts in
@@ -68,11 +68,11 @@ mutual
   all_given : (all : List Item) (n : ℕ) (ts : ItemTrees) (after : List Item) → drop n all ≡ held_by_all ts ++ after → Given all (children all n ts)
   all_given all n nothing after e = tt
   all_given all n (further t ts) after e =
-      let one : drop n all ≡ held t ++ (held_by_all ts ++ after) = e ∙ append_assoc (held t) (held_by_all ts) after in (
+      let one : drop n all ≡ tree_items t ++ (held_by_all ts ++ after) = e ∙ append_assoc (tree_items t) (held_by_all ts) after in (
         λ rest. given_back all n t (held_by_all ts ++ after) rest one,
-        all_given all (n + length (held t)) ts after
-            (behind all n (held t) (held_by_all ts ++ after) one),
+        all_given all (n + length (tree_items t)) ts after
+            (behind all n (tree_items t) (held_by_all ts ++ after) one),
       )
 
-pub taken_apart : (t : ItemTree) → ungrouped (held t) (grouped (held t) 0 t) nothing ≡ further t nothing
-taken_apart t = given_back (held t) 0 t [] nothing (sym (append-nil (held t)))
+pub taken_apart : (t : ItemTree) → ungrouped (tree_items t) (grouped (tree_items t) 0 t) nothing ≡ further t nothing
+taken_apart t = given_back (tree_items t) 0 t [] nothing (sym (append-nil (tree_items t)))

@@ -11,7 +11,7 @@ use Rattle.wt_tree.specs.Tiling.{BeginsAt, end_of, TiledBy, Tiled, TiledFrom, is
 use Rattle.wt_span.specs.Items.{Item}
 use Rattle.wt_span.specs.Origins.{OuterCall}
 use Rattle.wt_span.specs.Cuts.{place, text_between, page_of}
-use Rattle.wt_inline.specs.ItemTree.{Head, ItemTree, held}
+use Rattle.wt_inline.specs.ItemTree.{Head, ItemTree, tree_items}
 use Rattle.wt_annotate.specs.Labels.{if_leaf, if_inner}
 use Rattle.wt_annotate.specs.Numbering.{next_after, count, with_numbers, all_with_numbers}
 use Rattle.wt_annotate.specs.Annotated.{inside_by}
@@ -155,17 +155,17 @@ mutual
 
 -- ---- the annotated tree
 
-pub annotated_tiles : (calls : List OuterCall) (carried : Carried) (t : ItemTree) → is_clean (held t) 0 t ≡ true → Tiled (annotated calls carried t)
+pub annotated_tiles : (calls : List OuterCall) (carried : Carried) (t : ItemTree) → is_clean (tree_items t) 0 t ≡ true → Tiled (annotated calls carried t)
 unfolding annotated
 annotated_tiles calls carried t q =
-    tiled_numbered 1 (placed calls carried (held t) (grouped (held t) 0 t)) (tiled calls carried (held t) (grouped (held t) 0 t) (stand (held t) 0 t q).0)
+    tiled_numbered 1 (placed calls carried (tree_items t) (grouped (tree_items t) 0 t)) (tiled calls carried (tree_items t) (grouped (tree_items t) 0 t) (stand (tree_items t) 0 t q).0)
 
-pub annotated_source : (calls : List OuterCall) (carried : Carried) (t : ItemTree) → is_clean (held t) 0 t ≡ true
-    → flat (annotated calls carried t) ≡ page_of calls (held t)
+pub annotated_source : (calls : List OuterCall) (carried : Carried) (t : ItemTree) → is_clean (tree_items t) 0 t ≡ true
+    → flat (annotated calls carried t) ≡ page_of calls (tree_items t)
 unfolding annotated
 annotated_source calls carried t q =
-    let g : Grouped = grouped (held t) 0 t in
-    flat_numbered 1 (placed calls carried (held t) g)
-    ∙ source calls carried (held t) g (stand (held t) 0 t q).0
-    ∙ ap (λ n. text_between calls (held t) n (size_of g)) (start_is (held t) 0 t)
-    ∙ ap (text_between calls (held t) 0) (size_is (held t) 0 t)
+    let g : Grouped = grouped (tree_items t) 0 t in
+    flat_numbered 1 (placed calls carried (tree_items t) g)
+    ∙ source calls carried (tree_items t) g (stand (tree_items t) 0 t q).0
+    ∙ ap (λ n. text_between calls (tree_items t) n (size_of g)) (start_is (tree_items t) 0 t)
+    ∙ ap (text_between calls (tree_items t) 0) (size_is (tree_items t) 0 t)

@@ -7,7 +7,7 @@ use Rattle.wt_tree.specs.declared.node.Node.{Node}
 use Rattle.wt_span.specs.declared.form.Piece.{Piece}
 use Rattle.wt_span.specs.declared.text.Text.{Text}
 use Rattle.wt_span.specs.Items.{Item, items, sources}
-use Rattle.wt_inline.specs.ItemTree.{Head, inner, ItemTrees, forest, held}
+use Rattle.wt_inline.specs.ItemTree.{Head, inner, ItemTrees, forest, tree_items}
 use Rattle.wt_inline.specs.View.{head_of, item_tree, item_trees}
 use Rattle.wt_inline.specs.declared.tree.PieceTree.{PieceTree, out-PieceTree}
 use Rattle.wt_annotate.specs.Labels.{label_at}
@@ -36,18 +36,18 @@ pub leaf_unplaced : (n : PieceTree) (u : Tree) (s : Sources) (own : List Text) (
     → is_leaf (out-PieceTree n).head.kind ≡ true
     → u ≡ tree (node_label (head_of (out-PieceTree n).head) None (texts_of s.opening) (texts_of s.closing) (texts_of s.own)) (views ns)
     → s ≡ record { opening = []; closing = []; own = own } → ns ≡ []
-    → texts_of own ≡ sources (items qs) → qs ≡ ps → items ps ≡ held (item_tree n) → u ≡ unplaced (item_tree n)
+    → texts_of own ≡ sources (items qs) → qs ≡ ps → items ps ≡ tree_items (item_tree n) → u ≡ unplaced (item_tree n)
 leaf_unplaced n u s own ps qs ns e f g m t i h =
     let k : Head = head_of (out-PieceTree n).head in
     let o : List Item = items (out-PieceTree n).opening in
     let c : List Item = items (out-PieceTree n).closing in
     let ts : ItemTrees = forest (item_trees (out-PieceTree n).children) in
-    let w : texts_of own ≡ sources (held (inner k o ts c)) = t ∙ ap (λ xs. sources (items xs)) i ∙ ap sources (h ∙ ap held (item_tree_out n)) in
+    let w : texts_of own ≡ sources (tree_items (inner k o ts c)) = t ∙ ap (λ xs. sources (items xs)) i ∙ ap sources (h ∙ ap tree_items (item_tree_out n)) in
     f
     ∙ ap (λ (x : Sources). made k x ns) g
     ∙ ap (λ (x : List Node). tree (node_label k None [] [] (texts_of own)) (views x)) m
     ∙ ap (λ (x : List ℕ). tree (node_label k None [] [] x) none) w
-    ∙ sym (leaf_by (is_leaf k.kind) k o (held (inner k o ts c)) c (all_unplaced ts) e)
+    ∙ sym (leaf_by (is_leaf k.kind) k o (tree_items (inner k o ts c)) c (all_unplaced ts) e)
     ∙ sym (ap unplaced (item_tree_out n))
 
 pub inner_unplaced : (n : PieceTree) (u : Tree) (us : Trees) (os cs : List Piece) → is_leaf (out-PieceTree n).head.kind ≡ false
@@ -62,7 +62,7 @@ inner_unplaced n u us os cs e f p q m =
     ∙ ap (λ (x : List Piece). tree (node_label k None (sources (items x)) (sources (items cs)) []) us) p
     ∙ ap (λ (x : List Piece). tree (node_label k None (sources o) (sources (items x)) []) us) q
     ∙ ap (tree (node_label k None (sources o) (sources c) [])) m
-    ∙ sym (inner_by (is_leaf k.kind) k o (held (inner k o ts c)) c (all_unplaced ts) e)
+    ∙ sym (inner_by (is_leaf k.kind) k o (tree_items (inner k o ts c)) c (all_unplaced ts) e)
     ∙ sym (ap unplaced (item_tree_out n))
 
 -- the nodes of a list

@@ -9,7 +9,7 @@ use Rattle.wt_span.specs.Origins.{OuterCall}
 use Rattle.wt_span.specs.Cuts.{call_of_item, is_free, place, text_between}
 use Rattle.wt_span.specs.Runs.{put, runs, AreRuns}
 use Rattle.wt_span.proofs.RunLaws.{runs_are}
-use Rattle.wt_inline.specs.ItemTree.{ItemTree, inner, ItemTrees, nothing, further, held, held_by_all}
+use Rattle.wt_inline.specs.ItemTree.{ItemTree, inner, ItemTrees, nothing, further, tree_items, held_by_all}
 use Rattle.wt_annotate.specs.Annotated.{inside_by}
 use Rattle.wt_ranges.specs.Clean.{is_page, is_body, own_by, is_clean}
 use Rattle.wt_ranges.specs.Grouped.{group, Child, is_tied, size_of_all, nodes_of, of_run, of_runs, grouped, children}
@@ -36,8 +36,8 @@ and_four false b c d w = refl
 clean_by : (a b c d e f g h w : Bool) → a ≡ e → b ≡ f → c ≡ g → d ≡ h → ((a && (b && (c && d))) && w) ≡ (e && (f && (g && (h && w))))
 clean_by a b c d e f g h w p q r s = rw (p, q, r, s) (and_four e f g h w)
 
-clean_is : (all : List Item) (n : ℕ) (t : ItemTree) (after : List Item) → drop n all ≡ held t ++ after
-    → clean_at (before_call all n) (after_call all (n + length (held t))) t ≡ is_clean all n t
+clean_is : (all : List Item) (n : ℕ) (t : ItemTree) (after : List Item) → drop n all ≡ tree_items t ++ after
+    → clean_at (before_call all n) (after_call all (n + length (tree_items t))) t ≡ is_clean all n t
 clean_is all n (inner h o ts c) after e =
     let i : List Item = held_by_all ts in
     let one : drop n all ≡ o ++ ((i ++ c) ++ after) = e ∙ append_assoc o (i ++ c) after in
@@ -106,16 +106,16 @@ seen_nodes calls carried all (c ∷ cs) = ap (further c.tree) (seen_nodes calls 
 -- they follow one another from this cut on, each as long as its items
 abbrev Follow : ℕ → List Child → Type 0
 Follow i [] = Unit {0}
-Follow i (c ∷ cs) = (c.from ≡ i) × (c.size ≡ length (held c.tree)) × Follow (c.from + c.size) cs
+Follow i (c ∷ cs) = (c.from ≡ i) × (c.size ≡ length (tree_items c.tree)) × Follow (c.from + c.size) cs
 
 held_append : (cs ds : List Child) → held_by_all (nodes_of (cs ++ ds)) ≡ held_by_all (nodes_of cs) ++ held_by_all (nodes_of ds)
 held_append [] ds = refl
-held_append (c ∷ cs) ds = ap (λ xs. held c.tree ++ xs) (held_append cs ds)
-    ∙ sym (append_assoc (held c.tree) (held_by_all (nodes_of cs)) (held_by_all (nodes_of ds)))
+held_append (c ∷ cs) ds = ap (λ xs. tree_items c.tree ++ xs) (held_append cs ds)
+    ∙ sym (append_assoc (tree_items c.tree) (held_by_all (nodes_of cs)) (held_by_all (nodes_of ds)))
 
 size_held : (i : ℕ) (cs : List Child) (ds : List Child) → Follow i (cs ++ ds) → size_of_all cs ≡ length (held_by_all (nodes_of cs))
 size_held i [] ds f = refl
-size_held i (c ∷ cs) ds f = omega (arith, f.1, size_held (c.from + c.size) cs ds f.2, length-append (held c.tree) (held_by_all (nodes_of cs)))
+size_held i (c ∷ cs) ds f = omega (arith, f.1, size_held (c.from + c.size) cs ds f.2, length-append (tree_items c.tree) (held_by_all (nodes_of cs)))
 
 follow_rest : (i : ℕ) (cs ds : List Child) → Follow i (cs ++ ds) → Follow (i + size_of_all cs) ds
 follow_rest i [] ds f = let e : i ≡ i + 0 = omega arith in subst (λ (m : ℕ). Follow m ds) e f
@@ -134,13 +134,13 @@ group_is calls carried all n k ts us after e l m =
     ∙ ap (λ ps. tree (group_label (place calls all n) (text_between calls all n k) (carried ps)) (all_unplaced ts))
     (sym (parts_are calls all n (held_by_all ts) after e) ∙ ap (parts calls all n) (sym l))
 
-one_is : (calls : List OuterCall) (carried : Carried) (all : List Item) (c : Child) (after : List Item) (v : Bool) → drop c.from all ≡ held c.tree ++ after
-    → c.size ≡ length (held c.tree)
+one_is : (calls : List OuterCall) (carried : Carried) (all : List Item) (c : Child) (after : List Item) (v : Bool) → drop c.from all ≡ tree_items c.tree ++ after
+    → c.size ≡ length (tree_items c.tree)
     → cond v (placed calls carried all c.whole) (group_at calls carried (before_call all c.from) (place calls all c.from) (further c.tree nothing))
     ≡ placed calls carried all (cond v c.whole (group c.from c.size (further c.tree nothing)))
 one_is calls carried all c after true e l = refl
 one_is calls carried all c after false e l =
-    let m : held c.tree ++ [] ≡ held c.tree = append-nil (held c.tree) in
+    let m : tree_items c.tree ++ [] ≡ tree_items c.tree = append-nil (tree_items c.tree) in
     group_is calls carried all c.from c.size (further c.tree nothing) (further c.tree nothing) after (e ∙ ap (λ xs. xs ++ after) (sym m))
     (l ∙ ap length (sym m)) refl
 
@@ -151,11 +151,11 @@ runs_placed calls carried all i [] cs after h f e = refl
 runs_placed calls carried all i ([] ∷ rs) cs after h f e = absurd h.2
 runs_placed calls carried all i ((c ∷ []) ∷ rs) cs after h f e =
     let g : Follow i (c ∷ h.0) = subst (λ (ds : List Child). Follow i ds) h.1 f in
-    let d : drop i all ≡ held c.tree ++ (held_by_all (nodes_of h.0) ++ after) = e ∙ ap (λ ds. held_by_all (nodes_of ds) ++ after) h.1
-    ∙ append_assoc (held c.tree) (held_by_all (nodes_of h.0)) after in
-    let here : drop c.from all ≡ held c.tree ++ (held_by_all (nodes_of h.0) ++ after) = ap (λ m. drop m all) g.0 ∙ d in
+    let d : drop i all ≡ tree_items c.tree ++ (held_by_all (nodes_of h.0) ++ after) = e ∙ ap (λ ds. held_by_all (nodes_of ds) ++ after) h.1
+    ∙ append_assoc (tree_items c.tree) (held_by_all (nodes_of h.0)) after in
+    let here : drop c.from all ≡ tree_items c.tree ++ (held_by_all (nodes_of h.0) ++ after) = ap (λ m. drop m all) g.0 ∙ d in
     let there : drop (c.from + c.size) all ≡ held_by_all (nodes_of h.0) ++ after = ap (λ m. drop (c.from + m) all) g.1
-    ∙ behind all c.from (held c.tree) (held_by_all (nodes_of h.0) ++ after) here in
+    ∙ behind all c.from (tree_items c.tree) (held_by_all (nodes_of h.0) ++ after) here in
     ap (λ u. more u (trees (map (near_run calls carried) (map (map (seen calls carried all)) rs))))
     (one_is calls carried all c (held_by_all (nodes_of h.0) ++ after) c.clean here g.1)
     ∙ ap (more (placed calls carried all (of_run (c ∷ [])))) (runs_placed calls carried all (c.from + c.size) rs h.0 after h.3 g.2 there)
@@ -176,7 +176,7 @@ runs_placed calls carried all i ((c ∷ d ∷ ds) ∷ rs) cs after h f e =
 
 children_follow : (all : List Item) (n : ℕ) (ts : ItemTrees) → Follow n (children all n ts)
 children_follow all n nothing = tt
-children_follow all n (further t ts) = (refl, refl, children_follow all (n + length (held t)) ts)
+children_follow all n (further t ts) = (refl, refl, children_follow all (n + length (tree_items t)) ts)
 
 -- ---- trees
 
@@ -188,21 +188,21 @@ near_one calls carried o at p t =
       before = o;
       after = p;
       byte = at;
-      free = parted o (first_of (held t) p);
+      free = parted o (first_of (tree_items t) p);
       clean = clean_at o p t;
       whole =
           walked calls carried o at p t;
     }
 
 near_is : (calls : List OuterCall) (carried : Carried) (all : List Item) (n : ℕ) (t : ItemTree)
-    → parted (before_call all n) (first_of (held t) (after_call all (n + length (held t)))) ≡ is_free all n
-    → clean_at (before_call all n) (after_call all (n + length (held t))) t ≡ is_clean all n t
-    → walked calls carried (before_call all n) (place calls all n) (after_call all (n + length (held t))) t ≡ placed calls carried all (grouped all n t)
-    → near_one calls carried (before_call all n) (place calls all n) (after_call all (n + length (held t))) t
-    ≡ seen calls carried all (record { from = n; size = length (held t); tree = t; clean = is_clean all n t; whole = grouped all n t })
+    → parted (before_call all n) (first_of (tree_items t) (after_call all (n + length (tree_items t)))) ≡ is_free all n
+    → clean_at (before_call all n) (after_call all (n + length (tree_items t))) t ≡ is_clean all n t
+    → walked calls carried (before_call all n) (place calls all n) (after_call all (n + length (tree_items t))) t ≡ placed calls carried all (grouped all n t)
+    → near_one calls carried (before_call all n) (place calls all n) (after_call all (n + length (tree_items t))) t
+    ≡ seen calls carried all (record { from = n; size = length (tree_items t); tree = t; clean = is_clean all n t; whole = grouped all n t })
 near_is calls carried all n t f c w =
     let o : Option ℕ = before_call all n in
-    let p : Option ℕ = after_call all (n + length (held t)) in
+    let p : Option ℕ = after_call all (n + length (tree_items t)) in
     let at : ℕ = place calls all n in
     ap (λ (v : Bool). record { tree = t; before = o; after = p; byte = at; free = v; clean = clean_at o p t; whole = walked calls carried o at p t }) f
     ∙ ap (λ (v : Bool). record { tree = t; before = o; after = p; byte = at; free = is_free all n; clean = v; whole = walked calls carried o at p t }) c
@@ -212,8 +212,8 @@ none_is : (all : List Item) → after_call all (length all) ≡ None
 none_is all = ap call_of_item (none_after all)
 
 mutual
-  pub walk : (calls : List OuterCall) (carried : Carried) (all : List Item) (n : ℕ) (t : ItemTree) (after : List Item) → drop n all ≡ held t ++ after
-      → walked calls carried (before_call all n) (place calls all n) (after_call all (n + length (held t))) t ≡ placed calls carried all (grouped all n t)
+  pub walk : (calls : List OuterCall) (carried : Carried) (all : List Item) (n : ℕ) (t : ItemTree) (after : List Item) → drop n all ≡ tree_items t ++ after
+      → walked calls carried (before_call all n) (place calls all n) (after_call all (n + length (tree_items t))) t ≡ placed calls carried all (grouped all n t)
   walk calls carried all n (inner h o ts c) after e =
       let is : Bool = is_leaf h.kind in
       let i : List Item = held_by_all ts in
@@ -262,36 +262,36 @@ mutual
       ≡ map (seen calls carried all) (children all n ts)
   nears calls carried all n nothing after e = refl
   nears calls carried all n (further t ts) after e =
-      let one : drop n all ≡ held t ++ (held_by_all ts ++ after) = e ∙ append_assoc (held t) (held_by_all ts) after in
-      let two : drop (n + length (held t)) all ≡ held_by_all ts ++ after = behind all n (held t) (held_by_all ts ++ after) one in
-      let end : n + length (held t) + length (held_by_all ts) ≡ n + length (held t ++ held_by_all ts) =
-      omega (arith, length-append (held t) (held_by_all ts)) in
-      let a2 : first_of (held_by_all ts) (after_call all (n + length (held t ++ held_by_all ts))) ≡ after_call all (n + length (held t)) =
-      ap (λ m. first_of (held_by_all ts) (after_call all m)) (sym end) ∙ sym (after_first all (n + length (held t)) (held_by_all ts) after two) in
-      let free : parted (before_call all n) (first_of (held t) (after_call all (n + length (held t)))) ≡ is_free all n =
-      ap (parted (before_call all n)) (sym (after_first all n (held t) (held_by_all ts ++ after) one)) ∙ sym (free_is all n) in
-      let b2 : last_of (before_call all n) (held t) ≡ before_call all (n + length (held t)) =
-      sym (before_more all n (held t) (held_by_all ts ++ after) one) in
-      let at2 : place calls all n + length (text_from calls (before_call all n) (held t)) ≡ place calls all (n + length (held t)) =
-      ap (λ bs. place calls all n + length bs) (sym (text_is calls all n (held t) (held_by_all ts ++ after) one))
-      ∙ sym (place_between calls all (length (held t)) n) in
-      let p : Option ℕ = after_call all (n + length (held t ++ held_by_all ts)) in
+      let one : drop n all ≡ tree_items t ++ (held_by_all ts ++ after) = e ∙ append_assoc (tree_items t) (held_by_all ts) after in
+      let two : drop (n + length (tree_items t)) all ≡ held_by_all ts ++ after = behind all n (tree_items t) (held_by_all ts ++ after) one in
+      let end : n + length (tree_items t) + length (held_by_all ts) ≡ n + length (tree_items t ++ held_by_all ts) =
+      omega (arith, length-append (tree_items t) (held_by_all ts)) in
+      let a2 : first_of (held_by_all ts) (after_call all (n + length (tree_items t ++ held_by_all ts))) ≡ after_call all (n + length (tree_items t)) =
+      ap (λ m. first_of (held_by_all ts) (after_call all m)) (sym end) ∙ sym (after_first all (n + length (tree_items t)) (held_by_all ts) after two) in
+      let free : parted (before_call all n) (first_of (tree_items t) (after_call all (n + length (tree_items t)))) ≡ is_free all n =
+      ap (parted (before_call all n)) (sym (after_first all n (tree_items t) (held_by_all ts ++ after) one)) ∙ sym (free_is all n) in
+      let b2 : last_of (before_call all n) (tree_items t) ≡ before_call all (n + length (tree_items t)) =
+      sym (before_more all n (tree_items t) (held_by_all ts ++ after) one) in
+      let at2 : place calls all n + length (text_from calls (before_call all n) (tree_items t)) ≡ place calls all (n + length (tree_items t)) =
+      ap (λ bs. place calls all n + length bs) (sym (text_is calls all n (tree_items t) (held_by_all ts ++ after) one))
+      ∙ sym (place_between calls all (length (tree_items t)) n) in
+      let p : Option ℕ = after_call all (n + length (tree_items t ++ held_by_all ts)) in
       ap (λ q. near_one calls carried (before_call all n) (place calls all n) q t
-      ∷ near calls carried (last_of (before_call all n) (held t)) (place calls all n + length (text_from calls (before_call all n) (held t))) p ts) a2
-      ∙ ap (λ q. near_one calls carried (before_call all n) (place calls all n) (after_call all (n + length (held t))) t
-      ∷ near calls carried q (place calls all n + length (text_from calls (before_call all n) (held t))) p ts) b2
-      ∙ ap (λ m. near_one calls carried (before_call all n) (place calls all n) (after_call all (n + length (held t))) t
-      ∷ near calls carried (before_call all (n + length (held t))) m p ts) at2
-      ∙ ap (λ m. near_one calls carried (before_call all n) (place calls all n) (after_call all (n + length (held t))) t
-      ∷ near calls carried (before_call all (n + length (held t))) (place calls all (n + length (held t))) (after_call all m) ts) (sym end)
-      ∙ ap (λ ns. near_one calls carried (before_call all n) (place calls all n) (after_call all (n + length (held t))) t ∷ ns)
-      (nears calls carried all (n + length (held t)) ts after two)
-      ∙ ap (λ c. c ∷ map (seen calls carried all) (children all (n + length (held t)) ts))
+      ∷ near calls carried (last_of (before_call all n) (tree_items t)) (place calls all n + length (text_from calls (before_call all n) (tree_items t))) p ts) a2
+      ∙ ap (λ q. near_one calls carried (before_call all n) (place calls all n) (after_call all (n + length (tree_items t))) t
+      ∷ near calls carried q (place calls all n + length (text_from calls (before_call all n) (tree_items t))) p ts) b2
+      ∙ ap (λ m. near_one calls carried (before_call all n) (place calls all n) (after_call all (n + length (tree_items t))) t
+      ∷ near calls carried (before_call all (n + length (tree_items t))) m p ts) at2
+      ∙ ap (λ m. near_one calls carried (before_call all n) (place calls all n) (after_call all (n + length (tree_items t))) t
+      ∷ near calls carried (before_call all (n + length (tree_items t))) (place calls all (n + length (tree_items t))) (after_call all m) ts) (sym end)
+      ∙ ap (λ ns. near_one calls carried (before_call all n) (place calls all n) (after_call all (n + length (tree_items t))) t ∷ ns)
+      (nears calls carried all (n + length (tree_items t)) ts after two)
+      ∙ ap (λ c. c ∷ map (seen calls carried all) (children all (n + length (tree_items t)) ts))
       (near_is calls carried all n t free (clean_is all n t (held_by_all ts ++ after) one) (walk calls carried all n t (held_by_all ts ++ after) one))
 
 pub walk_all : (calls : List OuterCall) (carried : Carried) (t : ItemTree)
-    → walked calls carried None 0 None t ≡ placed calls carried (held t) (grouped (held t) 0 t)
+    → walked calls carried None 0 None t ≡ placed calls carried (tree_items t) (grouped (tree_items t) 0 t)
 walk_all calls carried t =
-    let end : after_call (held t) (0 + length (held t)) ≡ None = let z : 0 + length (held t) ≡ length (held t) = omega arith in ap (after_call (held t)) z
-    ∙ none_is (held t) in
-    ap (λ p. walked calls carried None 0 p t) (sym end) ∙ walk calls carried (held t) 0 t [] (sym (append-nil (held t)))
+    let end : after_call (tree_items t) (0 + length (tree_items t)) ≡ None = let z : 0 + length (tree_items t) ≡ length (tree_items t) = omega arith in ap (after_call (tree_items t)) z
+    ∙ none_is (tree_items t) in
+    ap (λ p. walked calls carried None 0 p t) (sym end) ∙ walk calls carried (tree_items t) 0 t [] (sym (append-nil (tree_items t)))

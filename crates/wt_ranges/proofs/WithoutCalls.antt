@@ -8,7 +8,7 @@ use Rattle.wt_span.specs.Items.{Item, source, sources, call_of}
 use Rattle.wt_span.specs.Origins.{OuterCall, same_call}
 use Rattle.wt_span.specs.Cuts.{call_of_item, is_free, text_by, origin_text, text_at, text_between, place}
 use Rattle.wt_span.specs.Runs.{put, runs}
-use Rattle.wt_inline.specs.ItemTree.{Head, ItemTree, inner, ItemTrees, nothing, further, held, held_by_all}
+use Rattle.wt_inline.specs.ItemTree.{Head, ItemTree, inner, ItemTrees, nothing, further, tree_items, held_by_all}
 use Rattle.wt_annotate.specs.Labels.{width, label_at}
 use Rattle.wt_annotate.specs.Numbering.{with_numbers}
 use Rattle.wt_annotate.specs.Annotated.{inside_by, placed as placed_behind, all_placed as all_placed_behind, annotated as annotated_plainly}
@@ -94,7 +94,7 @@ or_true : (v : Bool) → (v || true) ≡ true
 or_true true = refl
 or_true false = refl
 
-all_clean : (all : List Item) (n : ℕ) (t : ItemTree) → OfPage all → OfPage (held t) → 0 < length (held t) → is_clean all n t ≡ true
+all_clean : (all : List Item) (n : ℕ) (t : ItemTree) → OfPage all → OfPage (tree_items t) → 0 < length (tree_items t) → is_clean all n t ≡ true
 all_clean all n (inner h o ts c) p q l =
     let r = all_split o (held_by_all ts ++ c) q in
     let s = all_split (held_by_all ts) c r.1 in
@@ -130,7 +130,7 @@ label_by false h at o own c = refl
 -- ---- trees
 
 mutual
-  same_placed : (calls : List OuterCall) (carried : Carried) (all before after : List Item) (t : ItemTree) → all ≡ before ++ (held t ++ after) → OfPage all
+  same_placed : (calls : List OuterCall) (carried : Carried) (all before after : List Item) (t : ItemTree) → all ≡ before ++ (tree_items t ++ after) → OfPage all
       → NoneEmpty t
       → placed calls carried all (grouped all (length before) t) ≡ placed_behind before t
   same_placed calls carried all before after (inner h o ts c) e p m =
@@ -150,7 +150,7 @@ mutual
       let front : text_between calls all n (length o) ≡ sources o = text_page calls all before o ((i ++ c) ++ after) first p in
       let back : text_between calls all (n + length o + length i) (length c) ≡ sources c = ap (λ x. text_between calls all x (length c)) (sym j)
       ∙ text_page calls all ((before ++ o) ++ i) c after last p in
-      let at : place calls all n ≡ width before = page_place calls all before (held (inner h o ts c) ++ after) e p in
+      let at : place calls all n ≡ width before = page_place calls all before (tree_items (inner h o ts c) ++ after) e p in
       let cs : List Child = children all (n + length o) ts in
       let us : Trees = all_placed calls carried all (of_runs (runs (is_tied all) cs)) in
       let inside : us ≡ all_placed_behind (before ++ o) ts =
@@ -173,17 +173,17 @@ mutual
   all_same calls carried all before after nothing e p m = refl
   all_same calls carried all before after (further t ts) e p m =
       let n : ℕ = length before in
-      let first : all ≡ before ++ (held t ++ (held_by_all ts ++ after)) = e ∙ ap (λ xs. before ++ xs) (append_assoc (held t) (held_by_all ts) after) in
-      let rest : all ≡ (before ++ held t) ++ (held_by_all ts ++ after) = first ∙ sym (append_assoc before (held t) (held_by_all ts ++ after)) in
-      let k : length (before ++ held t) ≡ n + length (held t) = length-append before (held t) in
-      let clean : is_clean all n t ≡ true = all_clean all n t p (part_page all before (held t) (held_by_all ts ++ after) first p) m.0 in
-      let us : Trees = all_placed calls carried all (of_runs (map (λ d. d ∷ []) (children all (n + length (held t)) ts))) in
-      ap (λ v. more (placed calls carried all (cond v (grouped all n t) (group n (length (held t)) (further t nothing)))) us) clean
+      let first : all ≡ before ++ (tree_items t ++ (held_by_all ts ++ after)) = e ∙ ap (λ xs. before ++ xs) (append_assoc (tree_items t) (held_by_all ts) after) in
+      let rest : all ≡ (before ++ tree_items t) ++ (held_by_all ts ++ after) = first ∙ sym (append_assoc before (tree_items t) (held_by_all ts ++ after)) in
+      let k : length (before ++ tree_items t) ≡ n + length (tree_items t) = length-append before (tree_items t) in
+      let clean : is_clean all n t ≡ true = all_clean all n t p (part_page all before (tree_items t) (held_by_all ts ++ after) first p) m.0 in
+      let us : Trees = all_placed calls carried all (of_runs (map (λ d. d ∷ []) (children all (n + length (tree_items t)) ts))) in
+      ap (λ v. more (placed calls carried all (cond v (grouped all n t) (group n (length (tree_items t)) (further t nothing)))) us) clean
       ∙ ap (λ u. more u us) (same_placed calls carried all before (held_by_all ts ++ after) t first p m.1)
       ∙ ap (λ x. more (placed_behind before t) (all_placed calls carried all (of_runs (map (λ d. d ∷ []) (children all x ts))))) (sym k)
-      ∙ ap (more (placed_behind before t)) (all_same calls carried all (before ++ held t) after ts rest p m.2)
+      ∙ ap (more (placed_behind before t)) (all_same calls carried all (before ++ tree_items t) after ts rest p m.2)
 
-pub without_calls : (calls : List OuterCall) (carried : Carried) (t : ItemTree) → list_all is_page (held t) ≡ true → NoneEmpty t
+pub without_calls : (calls : List OuterCall) (carried : Carried) (t : ItemTree) → list_all is_page (tree_items t) ≡ true → NoneEmpty t
     → annotated calls carried t ≡ annotated_plainly t
 unfolding annotated annotated_plainly
-without_calls calls carried t p m = ap (with_numbers 1) (same_placed calls carried (held t) [] [] t (sym (append-nil (held t))) p m)
+without_calls calls carried t p m = ap (with_numbers 1) (same_placed calls carried (tree_items t) [] [] t (sym (append-nil (tree_items t))) p m)

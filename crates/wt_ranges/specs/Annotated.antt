@@ -10,7 +10,7 @@ use Rattle.wt_tree.specs.Tree.{Label, Tree, tree, Trees, none, more}
 use Rattle.wt_span.specs.Items.{Item}
 use Rattle.wt_span.specs.Origins.{OuterCall}
 use Rattle.wt_span.specs.Cuts.{place, text_between}
-use Rattle.wt_inline.specs.ItemTree.{Head, ItemTree, inner, ItemTrees, nothing, further, held, held_by_all}
+use Rattle.wt_inline.specs.ItemTree.{Head, ItemTree, inner, ItemTrees, nothing, further, tree_items, held_by_all}
 use Rattle.wt_annotate.specs.Labels.{leaf_open, if_leaf, if_inner, label_at}
 use Rattle.wt_annotate.specs.Numbering.{with_numbers}
 use Rattle.wt_annotate.specs.Annotated.{inside_by}
@@ -91,4 +91,4 @@ abbrev mutual
 
 -- The annotated tree, in which neighbouring texts and separators of an item or a cell aren't cut anew.
 unfoldable pub annotated : List OuterCall → (List Part → Option DataMw) → ItemTree → Tree
-annotated calls carried t = with_numbers 1 (placed calls carried (held t) (grouped (held t) 0 t))
+annotated calls carried t = with_numbers 1 (placed calls carried (tree_items t) (grouped (tree_items t) 0 t))

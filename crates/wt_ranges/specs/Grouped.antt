@@ -4,7 +4,7 @@ use Rattle.std.specs.Prelude.{ℕ, ◌+◌, Bool, not, List, [], ◌∷◌, leng
 use Rattle.wt_span.specs.Items.{Item}
 use Rattle.wt_span.specs.Cuts.{is_free}
 use Rattle.wt_span.specs.Runs.{runs}
-use Rattle.wt_inline.specs.ItemTree.{Head, ItemTree, inner, ItemTrees, nothing, further, held, held_by_all}
+use Rattle.wt_inline.specs.ItemTree.{Head, ItemTree, inner, ItemTrees, nothing, further, tree_items, held_by_all}
 use Rattle.wt_ranges.specs.Clean.{is_clean}
 
 -- A tree with groups. A node that is kept has a head, the number of items before it, those of its opening, of its inside and of
@@ -60,9 +60,9 @@ abbrev mutual
   children all n (further t ts) =
       record {
         from = n;
-        size = length (held t);
+        size = length (tree_items t);
         tree = t;
         clean = is_clean all n t;
         whole = grouped all n t;
       }
-      ∷ children all (n + length (held t)) ts
+      ∷ children all (n + length (tree_items t)) ts

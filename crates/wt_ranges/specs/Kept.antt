@@ -4,7 +4,7 @@ use Rattle.wt_tree.specs.declared.kind.Ranges.{Ranges}
 use Rattle.wt_tree.specs.View.{texts_of}
 use Rattle.wt_span.specs.Items.{items}
 use Rattle.wt_span.specs.Origins.{OuterCall}
-use Rattle.wt_inline.specs.ItemTree.{forest, held, held_by_all}
+use Rattle.wt_inline.specs.ItemTree.{forest, tree_items, held_by_all}
 use Rattle.wt_inline.specs.View.{item_tree, item_trees}
 use Rattle.wt_inline.specs.declared.tree.PieceTree.{PieceTree, out-PieceTree}
 use Rattle.wt_ranges.specs.declared.child.Child.{Child}
@@ -18,7 +18,7 @@ use Rattle.wt_ranges.specs.Walked.{Near, near_nodes}
 
 -- a child ends below 2^32
 abbrev pub Fits : List OuterCall → Child → Type 0
-Fits calls c = c.byte + length (text_from calls c.before (held (item_tree c.tree))) < 2 ^ 32
+Fits calls c = c.byte + length (text_from calls c.before (tree_items (item_tree c.tree))) < 2 ^ 32
 
 abbrev pub NearsFit : List OuterCall → List Near → Type 0
 NearsFit calls [] = Unit {0}
@@ -39,7 +39,7 @@ filled o n = last_of (opened o n) (held_by_all (forest (item_trees (out-PieceTre
 abbrev pub frame_ranges : List OuterCall → Child → Ranges
 frame_ranges calls c = record {
   start = c.byte;
-  end = c.byte + length (text_from calls c.before (held (item_tree c.tree)));
+  end = c.byte + length (text_from calls c.before (tree_items (item_tree c.tree)));
   open_w = length (text_from calls c.before (items (out-PieceTree c.tree).opening));
   close_w = length (text_from calls (filled c.before c.tree) (items (out-PieceTree c.tree).closing));
 }

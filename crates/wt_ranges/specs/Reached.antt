@@ -6,7 +6,7 @@ use Rattle.wt_tree.specs.Tree.{Tree, tree, Trees, none, more}
 use Rattle.wt_tree.specs.Tiling.{is_group}
 use Rattle.wt_span.specs.Items.{Item}
 use Rattle.wt_span.specs.Cuts.{is_free}
-use Rattle.wt_inline.specs.ItemTree.{ItemTrees, nothing, further, held}
+use Rattle.wt_inline.specs.ItemTree.{ItemTrees, nothing, further, tree_items}
 use Rattle.wt_annotate.specs.Slices.{IsSlice}
 use Rattle.wt_ranges.specs.Clean.{is_clean}
 use Rattle.wt_ranges.specs.Grouped.{Grouped, kept, group, GroupedAll, ended, along}
@@ -75,7 +75,7 @@ abbrev pub NoFreeCut : List Item → ℕ → ItemTrees → Type 0
 NoFreeCut all n nothing = Unit {0}
 NoFreeCut all n (further t nothing) = Unit {0}
 NoFreeCut all n (further t (further u ts)) =
-    (is_free all (n + length (held t)) ≡ false) × NoFreeCut all (n + length (held t)) (further u ts)
+    (is_free all (n + length (tree_items t)) ≡ false) × NoFreeCut all (n + length (tree_items t)) (further u ts)
 
 -- a group holds one unclean node, or more between which no cut is free
 abbrev pub IsGroup : List Item → ℕ → ItemTrees → Type 0

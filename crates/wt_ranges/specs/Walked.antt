@@ -8,7 +8,7 @@ use Rattle.wt_tree.specs.Tree.{Tree, tree, trees}
 use Rattle.wt_span.specs.Items.{Item, source, call_of}
 use Rattle.wt_span.specs.Origins.{OuterCall}
 use Rattle.wt_span.specs.Runs.{runs}
-use Rattle.wt_inline.specs.ItemTree.{ItemTree, inner, ItemTrees, nothing, further, held, held_by_all}
+use Rattle.wt_inline.specs.ItemTree.{ItemTree, inner, ItemTrees, nothing, further, tree_items, held_by_all}
 use Rattle.wt_annotate.specs.Annotated.{inside_by}
 use Rattle.wt_ranges.specs.Clean.{is_page, is_body, own_by}
 use Rattle.wt_ranges.specs.GroupParts.{Part, called, slice_part}
@@ -110,8 +110,8 @@ abbrev mutual
         before = o;
         after = first_of (held_by_all ts) p;
         byte = at;
-        free = parted o (first_of (held t) (first_of (held_by_all ts) p));
+        free = parted o (first_of (tree_items t) (first_of (held_by_all ts) p));
         clean = clean_at o (first_of (held_by_all ts) p) t;
         whole = walked calls carried o at (first_of (held_by_all ts) p) t;
       }
-      ∷ near calls carried (last_of o (held t)) (at + length (text_from calls o (held t))) p ts
+      ∷ near calls carried (last_of o (tree_items t)) (at + length (text_from calls o (tree_items t))) p ts

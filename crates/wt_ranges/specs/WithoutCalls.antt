@@ -1,6 +1,6 @@
 -- Trees in which a node that holds nothing stands nowhere.
 use Rattle.std.specs.Prelude.{◌<◌, length}
-use Rattle.wt_inline.specs.ItemTree.{ItemTree, inner, ItemTrees, nothing, further, held}
+use Rattle.wt_inline.specs.ItemTree.{ItemTree, inner, ItemTrees, nothing, further, tree_items}
 
 -- each node below this one holds an item
 abbrev mutual
@@ -9,4 +9,4 @@ abbrev mutual
 
   pub AllNonEmpty : ItemTrees → Type 0
   AllNonEmpty nothing = Unit {0}
-  AllNonEmpty (further t ts) = (0 < length (held t)) × NoneEmpty t × AllNonEmpty ts
+  AllNonEmpty (further t ts) = (0 < length (tree_items t)) × NoneEmpty t × AllNonEmpty ts

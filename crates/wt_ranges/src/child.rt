@@ -16,7 +16,7 @@ ghost use Rattle.std.specs.Prelude.{
 };
 ghost use Rattle.std.specs.List.{list_all, list_any};
 ghost use Rattle.wt_span.specs.Items.{items};
-ghost use Rattle.wt_inline.specs.ItemTree.{forest, held, held_by_all};
+ghost use Rattle.wt_inline.specs.ItemTree.{forest, tree_items, held_by_all};
 ghost use Rattle.wt_inline.specs.View.{item_tree, item_trees};
 ghost use Rattle.wt_inline.specs.declared.tree.PieceTree.{out-PieceTree};
 ghost use Rattle.wt_ranges.specs.Children.{children_at, nears_of, tree_after, trees_after};
@@ -119,7 +119,7 @@ fn is_clean<'a>(
     whole: &[Piece<'a>],
 ) -> bool
     requires inside { items inside.now ≡ held_by_all (forest (item_trees (out-PieceTree tree.now).children)) }
-    requires whole { items whole.now ≡ held (item_tree tree.now) }
+    requires whole { items whole.now ≡ tree_items (item_tree tree.now) }
     ensures { result ≡ clean_at before after (item_tree tree.now) }
 {
     let opening = tree.opening.as_slice();
@@ -141,10 +141,10 @@ fn read_child<'a>(
     before: Option<u32>,
     after: Option<u32>,
 ) -> Result<Findings, NoMemory>
-    requires { length (text_from (outer_calls calls.now) before (held (item_tree tree.now))) < 2 ^ 32 }
-    ensures last { IfOk result (λ f. f.last ≡ last_of before (held (item_tree tree.now))) }
-    ensures width { IfOk result (λ f. f.width ≡ length (text_from (outer_calls calls.now) before (held (item_tree tree.now)))) }
-    ensures free { IfOk result (λ f. f.free ≡ parted before (first_of (held (item_tree tree.now)) after)) }
+    requires { length (text_from (outer_calls calls.now) before (tree_items (item_tree tree.now))) < 2 ^ 32 }
+    ensures last { IfOk result (λ f. f.last ≡ last_of before (tree_items (item_tree tree.now))) }
+    ensures width { IfOk result (λ f. f.width ≡ length (text_from (outer_calls calls.now) before (tree_items (item_tree tree.now)))) }
+    ensures free { IfOk result (λ f. f.free ≡ parted before (first_of (tree_items (item_tree tree.now)) after)) }
     ensures clean { IfOk result (λ f. f.clean ≡ clean_at before after (item_tree tree.now)) }
 {
     let inside = pieces_of_all(alloc, tree.children.as_slice())?;

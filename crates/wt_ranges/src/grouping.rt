@@ -6,7 +6,7 @@ ghost use Rattle.wt_span.specs.Cuts.{page_of};
 ghost use Rattle.wt_tree.specs.Kinds.{is_leaf};
 ghost use Rattle.wt_tree.specs.View.{view};
 ghost use Rattle.wt_annotate.specs.Numbering.{count};
-ghost use Rattle.wt_inline.specs.ItemTree.{held};
+ghost use Rattle.wt_inline.specs.ItemTree.{tree_items};
 ghost use Rattle.wt_inline.specs.View.{item_tree};
 ghost use Rattle.wt_inline.specs.declared.tree.PieceTree.{out-PieceTree};
 ghost use Rattle.wt_ranges.specs.Annotated.{annotated, placed};
@@ -128,8 +128,8 @@ pub fn group<'a>(
     calls: &[Outer<'a>],
     tree: PieceTree<'a>,
 ) -> Result<Node<'a>, NoMemory>
-    requires bytes { length (page_of (outer_calls calls.now) (held (item_tree tree))) < 2 ^ 32 }
-    requires numbers { 1 + count (placed (outer_calls calls.now) (group_data (outer_calls calls.now)) (held (item_tree tree)) (grouped (held (item_tree tree)) 0 (item_tree tree))) < 2 ^ 32 }
+    requires bytes { length (page_of (outer_calls calls.now) (tree_items (item_tree tree))) < 2 ^ 32 }
+    requires numbers { 1 + count (placed (outer_calls calls.now) (group_data (outer_calls calls.now)) (tree_items (item_tree tree)) (grouped (tree_items (item_tree tree)) 0 (item_tree tree))) < 2 ^ 32 }
     ensures { IfOk result (λ n. view n ≡ annotated (outer_calls calls.now) (group_data (outer_calls calls.now)) (item_tree tree.entry)) }
 {
     let body = Child {

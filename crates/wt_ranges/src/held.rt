@@ -3,36 +3,27 @@
 ghost use Rattle.std.specs.Prelude.{◌≡◌, ◌++◌, IfOk, OnOk};
 ghost use Rattle.wt_span.specs.Items.{items, sources};
 ghost use Rattle.wt_tree.specs.View.{texts_of};
-ghost use Rattle.wt_inline.specs.ItemTree.{forest, held, held_by_all};
+ghost use Rattle.wt_inline.specs.ItemTree.{forest, tree_items, held_by_all};
 ghost use Rattle.wt_inline.specs.View.{item_tree, item_trees};
 
 use std::alloc::Global;
 use wt_inline::PieceTree;
 use wt_span::{List, NoMemory, Piece, Text};
 
-fn push_pieces<'a>(out: &mut List<Piece<'a>>, pieces: &[Piece<'a>]) -> Result<(), NoMemory>
-    ensures { OnOk result (out.new ≡ out.old ++ pieces.now) }
-{
-    for piece in pieces {
-        out.push(*piece)?;
-    }
-    Ok(())
-}
-
 fn push_held<'a>(out: &mut List<Piece<'a>>, tree: &PieceTree<'a>) -> Result<(), NoMemory>
-    ensures { OnOk result (items out.new ≡ items out.old ++ held (item_tree tree.now)) }
+    ensures { OnOk result (items out.new ≡ items out.old ++ tree_items (item_tree tree.now)) }
 {
-    push_pieces(out, tree.opening.as_slice())?;
+    out.extend_from_slice(tree.opening.as_slice())?;
     for child in tree.children.as_slice() {
         push_held(out, child)?;
     }
-    push_pieces(out, tree.closing.as_slice())?;
+    out.extend_from_slice(tree.closing.as_slice())?;
     Ok(())
 }
 
 /// All pieces that a tree holds, in their order.
 pub fn held_pieces<'a>(alloc: Global, tree: &PieceTree<'a>) -> Result<List<Piece<'a>>, NoMemory>
-    ensures { IfOk result (λ l. items l ≡ held (item_tree tree.now)) }
+    ensures { IfOk result (λ l. items l ≡ tree_items (item_tree tree.now)) }
 {
     let mut out = List::new(alloc);
     push_held(&mut out, tree)?;

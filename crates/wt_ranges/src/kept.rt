@@ -6,7 +6,7 @@ ghost use Rattle.wt_tree.specs.Kinds.{is_leaf};
 ghost use Rattle.wt_tree.specs.Tree.{tree};
 ghost use Rattle.wt_tree.specs.View.{texts_of, view, views};
 ghost use Rattle.wt_annotate.specs.Labels.{leaf_open};
-ghost use Rattle.wt_inline.specs.ItemTree.{held};
+ghost use Rattle.wt_inline.specs.ItemTree.{tree_items};
 ghost use Rattle.wt_inline.specs.View.{head_of, item_tree};
 ghost use Rattle.wt_inline.specs.declared.tree.PieceTree.{out-PieceTree};
 ghost use Rattle.wt_ranges.specs.Children.{near_of};
@@ -85,7 +85,7 @@ fn inner_ranges<'a>(
     filled: Option<u32>,
 ) -> Ranges
     requires fits { Fits (outer_calls calls.now) child.now }
-    requires whole { items whole.now ≡ held (item_tree child.now.tree) }
+    requires whole { items whole.now ≡ tree_items (item_tree child.now.tree) }
     requires filled { filled ≡ filled_by child.now.before child.now.tree }
     ensures { result ≡ frame_ranges (outer_calls calls.now) child.now }
 {

@@ -10,7 +10,7 @@ ghost use Rattle.wt_tree.specs.declared.node.DataMw.{DataMw};
 ghost use Rattle.wt_tree.specs.declared.kind.Kind.TheVariants as node_kind;
 ghost use Rattle.std.specs.List.{list_all};
 ghost use Rattle.wt_tree.specs.Plain.{plain as plain_view};
-ghost use Rattle.wt_inline.specs.ItemTree.{plain, ItemTree, inner, ItemTrees, nothing, further, held};
+ghost use Rattle.wt_inline.specs.ItemTree.{plain, ItemTree, inner, ItemTrees, nothing, further, tree_items};
 ghost use Rattle.wt_annotate.specs.Annotated.{annotated as annotated_plainly};
 ghost use Rattle.wt_ranges.specs.Annotated.{annotated, placed, unplaced};
 ghost use Rattle.wt_annotate.specs.Numbering.{count};
@@ -25,7 +25,7 @@ ghost use Rattle.wt_ranges.specs.WithoutCalls.{NoneEmpty};
 
 /// The body of a page is clean, whatever it holds.
 pub fn body_is_clean()
-    ensures { (ts : ItemTrees) → is_clean (held (inner (plain node_kind.Body) [] ts [])) 0 (inner (plain node_kind.Body) [] ts []) ≡ true }
+    ensures { (ts : ItemTrees) → is_clean (tree_items (inner (plain node_kind.Body) [] ts [])) 0 (inner (plain node_kind.Body) [] ts []) ≡ true }
 {}
 
 /// The four places of each node that is reached and both ends of each group are free cuts, and
@@ -44,15 +44,15 @@ pub fn groups_are_smallest()
 /// The calls that begin in groups, group after group, are all calls, in their order: each lies in
 /// one group.
 pub fn each_call_in_one_group()
-    ensures { (t : ItemTree) → is_clean (held t) 0 t ≡ true → calls_in_groups (held t) (grouped (held t) 0 t) ≡ begun (held t) 0 (length (held t)) }
+    ensures { (t : ItemTree) → is_clean (tree_items t) 0 t ≡ true → calls_in_groups (tree_items t) (grouped (tree_items t) 0 t) ≡ begun (tree_items t) 0 (length (tree_items t)) }
 {}
 
 /// The ranges of the annotated tree tile it, each range of a node that is reached is a slice of the
 /// page, the tree's source is the page, and its numbers are in preorder.
 pub fn annotated_page()
-    ensures tiled { (calls : List OuterCall) (carried : List Part → Option DataMw) (t : ItemTree) → is_clean (held t) 0 t ≡ true → Tiled (annotated calls carried t) }
-    ensures slices { (calls : List OuterCall) (carried : List Part → Option DataMw) (t : ItemTree) → is_clean (held t) 0 t ≡ true → AreReachedSlices (page_of calls (held t)) (annotated calls carried t) }
-    ensures source { (calls : List OuterCall) (carried : List Part → Option DataMw) (t : ItemTree) → is_clean (held t) 0 t ≡ true → flat (annotated calls carried t) ≡ page_of calls (held t) }
+    ensures tiled { (calls : List OuterCall) (carried : List Part → Option DataMw) (t : ItemTree) → is_clean (tree_items t) 0 t ≡ true → Tiled (annotated calls carried t) }
+    ensures slices { (calls : List OuterCall) (carried : List Part → Option DataMw) (t : ItemTree) → is_clean (tree_items t) 0 t ≡ true → AreReachedSlices (page_of calls (tree_items t)) (annotated calls carried t) }
+    ensures source { (calls : List OuterCall) (carried : List Part → Option DataMw) (t : ItemTree) → is_clean (tree_items t) 0 t ≡ true → flat (annotated calls carried t) ≡ page_of calls (tree_items t) }
     ensures numbered { (calls : List OuterCall) (carried : List Part → Option DataMw) (t : ItemTree) → InPreorder (annotated calls carried t) }
 {}
 
@@ -64,13 +64,13 @@ pub fn plain_view_stays()
 /// Where no item comes from a call and each node below the root holds an item, there is no group:
 /// the annotated tree is that of a page without calls.
 pub fn annotated_without_calls()
-    ensures { (calls : List OuterCall) (carried : List Part → Option DataMw) (t : ItemTree) → list_all is_page (held t) ≡ true → NoneEmpty t → annotated calls carried t ≡ annotated_plainly t }
+    ensures { (calls : List OuterCall) (carried : List Part → Option DataMw) (t : ItemTree) → list_all is_page (tree_items t) ≡ true → NoneEmpty t → annotated calls carried t ≡ annotated_plainly t }
 {}
 
 /// A walk over the tree that knows only the calls of the items beside it, and the byte at which it
 /// stands, makes the tree with its groups.
 pub fn groups_by_walking()
-    ensures { (calls : List OuterCall) (carried : List Part → Option DataMw) (t : ItemTree) → walked calls carried None 0 None t ≡ placed calls carried (held t) (grouped (held t) 0 t) }
+    ensures { (calls : List OuterCall) (carried : List Part → Option DataMw) (t : ItemTree) → walked calls carried None 0 None t ≡ placed calls carried (tree_items t) (grouped (tree_items t) 0 t) }
 {}
 
 /// At most as many nodes and groups have a number as the tree has nodes.
@@ -81,5 +81,5 @@ pub fn few_numbers_with_groups()
 /// A tree with groups gives back the tree that it comes from: each group has its own nodes in their
 /// order, and each kept node its own head and delimiters.
 pub fn groups_taken_apart()
-    ensures { (t : ItemTree) → ungrouped (held t) (grouped (held t) 0 t) nothing ≡ further t nothing }
+    ensures { (t : ItemTree) → ungrouped (tree_items t) (grouped (tree_items t) 0 t) nothing ≡ further t nothing }
 {}

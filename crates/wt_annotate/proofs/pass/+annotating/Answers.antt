@@ -57,8 +57,8 @@ annotated_node-annotated_all-requires t c = (
   ),
 )
 
-pub annotated_node-around-requires-clause-closing : goal.annotated_node-around-requires-clause-closing
-annotated_node-around-requires-clause-closing t c =
+pub annotated_node-node_round-requires-clause-closing : goal.annotated_node-node_round-requires-clause-closing
+annotated_node-node_round-requires-clause-closing t c =
     let made = c.in_ok-children.children in
     room_closing c.args.tree c.args.at.place 0 c.after-inside.result.place c.width.result c.after-inside.result.next
     made.behind.place made.behind.next 4294967296 c.as_slice.result.now
@@ -72,7 +72,7 @@ annotated_node-returns t c =
     c.as_slice.result.now n.opening (head_of n.head) c.args.at.next (forest (item_trees n.children))
     (views made.nodes) made.behind.place made.behind.next
     c.in_ok-children.ensures c.after-inside.ensures.place c.width.ensures c.as_slice.ensures c.after-inside.ensures.number in
-    three_ok c.around.result _ _ _ _
+    three_ok c.node_round.result _ _ _ _
     (λ m e f g. inner_done c.args.tree c.args.at.place c.args.at.next m.behind.place m.behind.next made.behind.place
     made.behind.next (views made.nodes) (view m.node) (sym c.is_leaf.ensures ∙ c.if-is_leaf.false) inside e f g)
-    c.around.ensures.node c.around.ensures.place c.around.ensures.number
+    c.node_round.ensures.node c.node_round.ensures.place c.node_round.ensures.number

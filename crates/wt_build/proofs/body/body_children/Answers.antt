@@ -2,7 +2,7 @@ use Rattle.std.proofs.Common.{◌<◌, ◌≤◌, ◌+◌, length, arith}
 use Rattle.std.proofs.lemmas.Result.{IfOk-weaker}
 use Rattle.std.proofs.lemmas.List.{drop_all}
 use Rattle.wt_inline.specs.View.{item_trees}
-use Rattle.wt_inline.specs.Grown.{grown}
+use Rattle.wt_inline.specs.Grown.{growth}
 use Rattle.wt_build.specs.Cuts.{parts_from}
 use Rattle.wt_build.proofs.RowRuns.{within_by, rest_some}
 use Rattle.wt_build.proofs.Pieces.{ready_rest, ready_front}
@@ -36,13 +36,13 @@ loop-at-preserved c =
           c.rest_of-rest.ensures c.first_block-block.ensures.within;
       few = c.first_block-block.ensures.few_behind;
       rest = body_step (parts_from 0 c.args.pieces.now) c.args.pieces.now c.rest_of-rest.result.now c.front_of.result.now
-          c.loop-at.at block.len c.loop-at.tables block.tables block.kind (grown c.loop-at.children)
-          (grown c.in_ok-children.children) c.rest_of-rest.ensures c.front_of.ensures c.first_block-block.ensures.cut
+          c.loop-at.at block.len c.loop-at.tables block.tables block.kind (growth c.loop-at.children)
+          (growth c.in_ok-children.children) c.rest_of-rest.ensures c.front_of.ensures c.first_block-block.ensures.cut
           c.in_ok-children.ensures c.loop-at.invariant.rest;
     }
 
 pub returns : goal.returns
 returns c =
     IfOk-weaker c.finish.result _ _
-    (λ l e. body_done c.args.pieces.now c.loop-at.at c.loop-at.tables (grown c.loop-at.children) (item_trees l)
+    (λ l e. body_done c.args.pieces.now c.loop-at.at c.loop-at.tables (growth c.loop-at.children) (item_trees l)
     (drop_all c.loop-at.at c.args.pieces.now (omega arith)) c.loop-at.invariant.rest e) c.finish.ensures

@@ -7,7 +7,7 @@ use Rattle.wt_tiles.specs.declared.tile.Tile.{Tile}
 use Rattle.wt_span.specs.Items.{items}
 use Rattle.wt_inline.specs.Parts.{Part}
 use Rattle.wt_inline.specs.View.{item_tree}
-use Rattle.wt_inline.specs.Grown.{grown, Grows}
+use Rattle.wt_inline.specs.Grown.{growth, Grows}
 use Rattle.wt_context.specs.Line.{within}
 use Rattle.wt_context.specs.TileParts.{shape_of, IsCutTile}
 use Rattle.wt_context.specs.Tokens.{segments_of}
@@ -23,7 +23,7 @@ nested-returns t c =
     IfOk-weaker c.nested_tree.result _ _
     (λ tree f. nested_made c.args.kind (item_tree tree) (shape_of c.args.tile.now) xs (items ps.opening) (items ps.inside) (items ps.closing)
     (items ps.trail) (items c.as_slice.result.now) (λ ys. within c.args.levels c.args.context ys)
-    (grown c.new.result) (grown c.in_ok-children.children) c.in_ok-parts.ensures.opening c.in_ok-parts.ensures.inside c.in_ok-parts.ensures.closing
+    (growth c.new.result) (growth c.in_ok-children.children) c.in_ok-parts.ensures.opening c.in_ok-parts.ensures.inside c.in_ok-parts.ensures.closing
     c.in_ok-parts.ensures.trail (ap items c.as_slice.ensures) c.new.ensures c.in_ok-children.ensures f)
     c.nested_tree.ensures
 
@@ -53,7 +53,7 @@ pub with_context-returns : goal.with_context-returns
 with_context-returns t c =
     let some = c.if-levels-eq0.false in
     let xs = items c.args.pieces.now in
-    let g = grown c.args.children in
+    let g = growth c.args.children in
     let is = context_read c.args.levels c.args.context xs c.in_ok-tiles.tiles (segments_of c.in_ok-tokens.tokens)
     (omega (arith, some)) c.in_ok-tiles.ensures.value c.in_ok-tokens.ensures in
-    IfOk-weaker c.with_styles.result _ _ (λ d a. subst (λ (ps : List Part). Grows g ps (grown d)) is a) c.with_styles.ensures
+    IfOk-weaker c.with_styles.result _ _ (λ d a. subst (λ (ps : List Part). Grows g ps (growth d)) is a) c.with_styles.ensures

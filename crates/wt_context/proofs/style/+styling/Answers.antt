@@ -4,7 +4,7 @@ use Rattle.wt_span.specs.Items.{items}
 use Rattle.wt_quotes.specs.Forest.{forest_of}
 use Rattle.wt_inline.specs.ItemTree.{plain, inner as inner_tree, forest}
 use Rattle.wt_inline.specs.View.{item_tree}
-use Rattle.wt_inline.specs.Grown.{Grown, grown}
+use Rattle.wt_inline.specs.Grown.{Grown, growth}
 use Rattle.wt_context.specs.Styled.{style_kind}
 use Rattle.wt_context.specs.Styling.{AreStyled}
 use Rattle.wt_context.specs.Tokens.{rest_segments}
@@ -44,7 +44,7 @@ styled-loop-at-preserved t c =
       fill = fill.3;
       left = left_step c.args.low c.args.high c.loop-at.place ss (drop at ss) more ins s (rest_segments c.args.now.rest) (rest_segments c.loop-at.now.rest)
           (rest_segments c.in_ok-now.now.rest)
-          (grown c.args.now.children) (grown c.loop-at.now.children) (grown c.in_ok-now.now.children) fo c.in_ok-now.ensures c.loop-at.invariant.left;
+          (growth c.args.now.children) (growth c.loop-at.now.children) (growth c.in_ok-now.now.children) fo c.in_ok-now.ensures c.loop-at.invariant.left;
     }
 
 pub styled-returns : goal.styled-returns
@@ -54,7 +54,7 @@ styled-returns t c =
     let end : length ss ≤ at = omega (arith, c.loop-at-test.false) in
     left_done c.args.low c.args.high c.loop-at.place ss (drop at ss) (rest_segments c.args.now.rest) (rest_segments c.loop-at.now.rest)
     (rest_segments c.in_ok-children.rest)
-    (grown c.args.now.children) (grown c.loop-at.now.children) (grown c.in_ok-children.children) (drop_all at ss end)
+    (growth c.args.now.children) (growth c.loop-at.now.children) (growth c.in_ok-children.children) (drop_all at ss end)
     (fill_le c.loop-at.place c.args.high (forest_of (drop at ss)) c.loop-at.invariant.fill)
     c.in_ok-children.ensures.front c.in_ok-children.ensures.back c.loop-at.invariant.left
 
@@ -62,14 +62,14 @@ pub with_style-returns : goal.with_style-returns
 with_style-returns t c =
     let s = c.args.style.now in
     let ss = c.args.inner.now in
-    let k = grown c.in_ok-inside.inside.children in
+    let k = growth c.in_ok-inside.inside.children in
     let b2 = rest_segments c.in_ok-opening.rest in
     let b3 = rest_segments c.in_ok-inside.inside.rest in
     let low = s.from + s.open_w in
     let high = s.to - s.close_w in
     let within = subst (λ (g : Grown). AreStyled low high ss b2 g b3 k) c.new.ensures c.in_ok-inside.ensures in
     style_made c.args.low s ss (rest_segments c.args.now.rest) (rest_segments c.in_ok-children.rest) b2 b3 (rest_segments c.in_ok-closing.rest)
-    (grown c.args.now.children) (grown c.in_ok-children.children) k (grown c.in_ok-children-2.children) (item_tree c.style_node-node.result)
+    (growth c.args.now.children) (growth c.in_ok-children.children) k (growth c.in_ok-children-2.children) (item_tree c.style_node-node.result)
     (items c.in_ok-opening.opening) (items c.in_ok-closing.closing)
     c.requires.start c.requires.closing (fill_le low high (forest_of ss) c.requires.inside)
     c.in_ok-children.ensures.front c.in_ok-children.ensures.back c.in_ok-opening.ensures.front c.in_ok-opening.ensures.back within

@@ -1,6 +1,6 @@
 use Rattle.std.proofs.Common.{length, ap, ◌∙◌, arith}
 use Rattle.wt_quotes.specs.Runs.{bytes_of, are_apart}
-use Rattle.wt_inline.specs.Grown.{grown}
+use Rattle.wt_inline.specs.Grown.{growth}
 use Rattle.wt_context.specs.Chunks.{chunks}
 use Rattle.wt_context.specs.Tokens.{segments_of, rest_segments}
 use Rattle.wt_context.proofs.ChunkLaws.{chunk_bytes_are, few_chunks, chunks_apart}
@@ -38,5 +38,5 @@ returns c =
     let is = c.as_slice-3.ensures ∙ c.in_ok-chunks.ensures ∙ ap (λ ts. chunks (segments_of ts)) c.as_slice-2.ensures in
     let n = c.in-Some.ensures ∙ ap (λ ts. length (segments_of ts)) c.as_slice.ensures in
     all_styled (segments_of c.args.tokens) c.as_slice-3.result.now c.as_slice-4.result.now c.in-Some.count (rest_segments c.of.result) _
-    (grown c.args.children) (grown c.in_ok-children.field-0.children) is
+    (growth c.args.children) (growth c.in_ok-children.field-0.children) is
     (c.as_slice-4.ensures ∙ c.in_ok-styles.ensures) n c.of.ensures c.in_ok-children.ensures

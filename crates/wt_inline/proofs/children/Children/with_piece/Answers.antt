@@ -3,7 +3,7 @@ use Rattle.std.proofs.lemmas.Result.{IfOk-weaker}
 use Rattle.wt_span.specs.Slice.{bytes_of}
 use Rattle.wt_span.specs.Items.{call_of_origin}
 use Rattle.wt_inline.specs.Parts.{Part, node}
-use Rattle.wt_inline.specs.Grown.{grown, Grows}
+use Rattle.wt_inline.specs.Grown.{growth, Grows}
 use Rattle.wt_inline.proofs.Trees.{whole_parts}
 use Rattle.wt_inline.proofs.children.Children.with_piece.Goals as goal
 
@@ -12,4 +12,4 @@ returns-in_ok-tree c =
     let p = c.args.piece in
     let e = ap (λ t. node t ∷ []) c.in_ok-tree.ensures
     ∙ sym (whole_parts c.args.loose p.form (call_of_origin p.origin) (bytes_of p.text) (sym c.if-is_chars.ensures)) in
-    IfOk-weaker c.with_tree.result _ _ (λ h g. subst (λ (ps : List Part). Grows (grown c.args.self) ps (grown h)) e g) c.with_tree.ensures
+    IfOk-weaker c.with_tree.result _ _ (λ h g. subst (λ (ps : List Part). Grows (growth c.args.self) ps (growth h)) e g) c.with_tree.ensures

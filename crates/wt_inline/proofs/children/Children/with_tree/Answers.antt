@@ -1,9 +1,9 @@
 use Rattle.wt_inline.specs.View.{item_tree, item_trees}
-use Rattle.wt_inline.specs.Grown.{grown}
+use Rattle.wt_inline.specs.Grown.{growth}
 use Rattle.wt_inline.proofs.Growing.{grows_node}
 use Rattle.wt_inline.proofs.Trees.{pushed}
 use Rattle.wt_inline.proofs.children.Children.with_tree.Goals as goal
 
 pub returns : goal.returns
-returns c = grows_node (grown c.args.self) (item_trees c.in_ok-trees.trees) (item_trees c.push.new.self)
+returns c = grows_node (growth c.args.self) (item_trees c.in_ok-trees.trees) (item_trees c.push.new.self)
     (item_tree c.args.tree) c.in_ok-trees.ensures (pushed c.in_ok-trees.trees c.push.new.self c.args.tree c.in_ok-push.ensures.ok)
