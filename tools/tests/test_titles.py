@@ -1,25 +1,19 @@
-"""The titles and file names of import-export-xml, by the stored cases of the crate wt_names."""
-import re
+"""The titles and file names of import-export-xml, by cases whose answers two independent programs gave."""
 import unittest
+from pathlib import Path
 
 from loading import REPOSITORY, load
 
 tool = load("import-export-xml")
-STORED = REPOSITORY / "crates/wt_page_tests/src/names.rt"
+STORED = Path(__file__).with_name("titles.tsv")
 OUTSIDE = REPOSITORY.parent / "shared/vectors/titles.tsv"
 
 
 def stored_cases() -> list:
-    """Text and file name (None for no title) of each line of CASES."""
-    source = STORED.read_text(encoding="utf-8")
-    lines = source.split('static CASES: &str = "\\\n', 1)[1].split('\n";\n', 1)[0].split("\n")
-    cases = []
-    for line in lines:
-        line = line[: -len("\\n\\")]
-        line = re.sub(r"\\x([0-9a-f]{2})", lambda found: chr(int(found[1], 16)), line.replace("\\t", "\t"))
-        fields = line.split("\t")
-        cases.append((fields[0], fields[2] if len(fields) == 3 else None))
-    return cases
+    """Text and file name (None for no title) of each line: a text, and of a title its link and its file."""
+    lines = STORED.read_text(encoding="utf-8").removesuffix("\n").split("\n")
+    fields = [line.split("\t") for line in lines]
+    return [(line[0], line[2] if len(line) == 3 else None) for line in fields]
 
 
 def file_of(text: str):

@@ -1,25 +1,30 @@
 //! The answer to a case.
 
 use crate::case::Case;
+use crate::device::Devices;
 use std::alloc::{AllocError, Global};
-use wt_outer::{MemFolder, MemSink, NeverFailsSource};
+use wt_outer::{MemFolder, MemSink, MemSource};
 use wt_pagetool::run;
-use wt_span::List;
 
-/// Runs the words of a case over devices in memory that never fail, and tells in a line what came of it.
+/// Runs the words of a case over its devices in memory, and tells in a line what came of it.
 pub fn answer(alloc: Global, case: Case) -> Result<String, AllocError> {
-    let mut input = NeverFailsSource::new(case.input, usize::MAX);
-    let mut folder = MemFolder::new(alloc, case.pages.into_entries(), List::new(alloc));
-    let mut out = MemSink::new(alloc, usize::MAX, List::new(alloc));
-    let mut err = MemSink::new(alloc, usize::MAX, List::new(alloc));
-    let status = run(
-        alloc,
-        &case.words,
-        &mut input,
-        &mut folder,
-        &mut out,
-        &mut err,
-    );
+    let Case {
+        words,
+        input,
+        pages,
+        devices,
+    } = case;
+    let Devices {
+        input: source,
+        folder,
+        out,
+        err,
+    } = devices;
+    let mut input = MemSource::new(input, source.most, source.failing);
+    let mut folder = MemFolder::new(alloc, pages.into_entries(), folder.failing);
+    let mut out = MemSink::new(alloc, out.most, out.failing);
+    let mut err = MemSink::new(alloc, err.most, err.failing);
+    let status = run(alloc, &words, &mut input, &mut folder, &mut out, &mut err);
     let written = hex::encode(alloc, out.taken())?;
     let told = hex::encode(alloc, err.taken())?;
     format!(in alloc; "{status}\t{written}\t{told}\n")

@@ -3,8 +3,10 @@
 ghost use Rattle.std.specs.Prelude.{◌≡◌, ◌≢◌, false, AllPairs};
 ghost use Rattle.std.specs.List.{All};
 
+use crate::device::Devices;
 use hex::FromHexError;
 use std::alloc::{AllocError, Global};
+use std::str::FromStr;
 use wt_span::{List, NoMemory, Str};
 
 /// Why a line isn't answered.
@@ -71,12 +73,14 @@ impl Pages {
     }
 }
 
-/// The words of a call, what its standard input holds, and the pages of its folder.
+/// The words of a call, what its standard input holds, the pages of its folder, and how its devices
+/// behave.
 #[derive(Debug, Drop)]
 pub struct Case {
     pub words: List<Str>,
     pub input: List<u8>,
     pub pages: Pages,
+    pub devices: Devices,
 }
 
 fn bytes_of(alloc: Global, digits: &str) -> Result<Vec<u8>, CaseRefusal> {
@@ -85,6 +89,20 @@ fn bytes_of(alloc: Global, digits: &str) -> Result<Vec<u8>, CaseRefusal> {
         Err(FromHexError::OutOfMemory) => Err(CaseRefusal::NoMemory),
         Err(_) => Err(CaseRefusal::Malformed),
     }
+}
+
+/// The bytes of a field: digits, or `DIGITS*COUNT` for so many times the same.
+fn repeated(alloc: Global, field: &str) -> Result<Vec<u8>, CaseRefusal> {
+    let Some((digits, count)) = field.split_once('*') else {
+        return bytes_of(alloc, field);
+    };
+    let bytes = bytes_of(alloc, digits)?;
+    let count = u32::from_str(count).map_err(|_| CaseRefusal::Malformed)?;
+    let mut out = Vec::new(alloc);
+    for _ in 0..count {
+        out.extend_from_slice(&bytes)?;
+    }
+    Ok(out)
 }
 
 fn text_of(alloc: Global, digits: &str) -> Result<Str, CaseRefusal> {
@@ -112,7 +130,7 @@ fn pages_of(alloc: Global, field: &str) -> Result<Pages, CaseRefusal> {
     }
     for entry in field.split(',') {
         let (name, page) = entry.split_once('=').ok_or(CaseRefusal::Malformed)?;
-        let bytes = List::from_vec(bytes_of(alloc, page)?);
+        let bytes = List::from_vec(repeated(alloc, page)?);
         pages.add(text_of(alloc, name)?, bytes)?;
     }
     Ok(pages)
@@ -125,11 +143,13 @@ impl Case {
             return Err(CaseRefusal::Malformed);
         };
         let (words, rest) = line.split_once('\t').ok_or(CaseRefusal::Malformed)?;
-        let (input, pages) = rest.split_once('\t').ok_or(CaseRefusal::Malformed)?;
+        let (input, rest) = rest.split_once('\t').ok_or(CaseRefusal::Malformed)?;
+        let (pages, devices) = rest.split_once('\t').unwrap_or((rest, ""));
         Ok(Case {
             words: words_of(alloc, words)?,
-            input: List::from_vec(bytes_of(alloc, input)?),
+            input: List::from_vec(repeated(alloc, input)?),
             pages: pages_of(alloc, pages)?,
+            devices: Devices::read(alloc, devices)?,
         })
     }
 }

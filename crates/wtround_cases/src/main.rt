@@ -1,15 +1,19 @@
 //! `wtround_cases` answers many cases of the commands, a line each: it reads them from standard input and
 //! writes each answer to standard output.
 //!
-//! A case has three fields between tabs: the words of the call (in hex, joined by `,`), the bytes of its
-//! standard input (in hex), and its pages (`NAME=BYTES`, both in hex, joined by `,`, no name twice). An
-//! answer has the status, the bytes of standard output and those of standard error, both in hex. A line
-//! that isn't a case is answered `malformed`, and one for which no memory is found `no memory`.
+//! A case has three or four fields between tabs: the words of the call (in hex, joined by `,`), the
+//! bytes of its standard input (in hex, or `HEX*COUNT` for so many times the same), its pages
+//! (`NAME=BYTES`, alike, joined by `,`, no name twice), and how its devices behave: words
+//! `DEVICE:MOST:CALL`, joined by `,`, for `input`, `folder`, `out` and `err`, where a call gives or
+//! takes at most so many bytes and the one of this number fails. An answer has the status, the bytes
+//! of standard output and those of standard error, both in hex. A line that isn't a case is answered
+//! `malformed`, and one for which no memory is found `no memory`.
 //! The status is 0 once all lines are answered, and 7 where a standard stream failed.
 #![tactic(auto)]
 
 mod answer;
 mod case;
+mod device;
 
 use crate::answer::answer;
 use crate::case::{Case, CaseRefusal};

@@ -1,10 +1,8 @@
-//! Texts of both attributes against cases whose answers two independent programs gave, and each
-//! call once on its happy path.
+//! Texts of both attributes against cases whose answers two independent programs gave.
 use std::alloc::Global;
 use std::test::Fail;
-use wt_datamw::{DataRefusal, DataWhy, Sync, read, read_sync, sync_to_text, to_text};
-use wt_span::{List, NoMemory, Str};
-use wt_tree::{DataMw, Part, Ranges};
+use wt_datamw::{DataRefusal, DataWhy, read, read_sync, sync_to_text, to_text};
+use wt_span::{NoMemory, Str};
 
 /// A line each: a text of `data-mw`, and after an arrow what is written of the value that it gives,
 /// or why it is refused.
@@ -107,56 +105,5 @@ fn texts_are_read_and_written_again(rt: HostRuntime) -> Result<(), Fail> {
         let (text, wanted) = line.split_once(" => ").ok_or("no arrow")?;
         assert_eq!(rt; sync_answer(alloc, text)?.as_str(), wanted, "{text}");
     }
-    Ok(())
-}
-
-fn text(alloc: Global, of: &str) -> Result<Str, NoMemory> {
-    Str::copy_of(alloc, of)
-}
-
-/// A transclusion with a name that comes twice, and names that do not stand in order.
-fn transclusion(alloc: Global) -> Result<Part, NoMemory> {
-    let mut params = List::new(alloc);
-    for (name, value) in [("b", "1"), ("a", "2"), ("b", "3")] {
-        params.push((text(alloc, name)?, text(alloc, value)?))?;
-    }
-    Ok(Part::Template {
-        target: text(alloc, "x")?,
-        href: text(alloc, "./Template:X")?,
-        params,
-        i: 0,
-    })
-}
-
-#[test]
-fn values_are_written(rt: HostRuntime) -> Result<(), Fail> {
-    let alloc = rt.alloc();
-    let mut parts = List::new(alloc);
-    parts.push(transclusion(alloc)?)?;
-    parts.push(Part::Literal(text(alloc, "é'")?))?;
-    parts.push(Part::Param {
-        wt: text(alloc, "{{{1}}}")?,
-    })?;
-    let written = to_text(alloc, &DataMw::Parts(parts))?;
-    assert_eq!(rt;
-        written.as_str(),
-        r#"{"parts":[{"template":{"i":0,"params":{"a":{"wt":"2"},"b":{"wt":"3"}},"target":{"href":"./Template:X","wt":"x"}}},"é'",{"param":{"wt":"{{{1}}}"}}]}"#
-    );
-    let heading = Sync {
-        dsr: Ranges {
-            start: 0,
-            end: 7,
-            open_w: 3,
-            close_w: 3,
-        },
-        opening: text(alloc, "== ")?,
-        closing: text(alloc, " ==")?,
-        src: None,
-    };
-    let written = sync_to_text(alloc, &heading)?;
-    assert_eq!(rt;
-        written.as_str(),
-        r#"{"c":" ==","dsr":[0,7,3,3],"o":"== "}"#
-    );
     Ok(())
 }

@@ -1,0 +1,15 @@
+//! Tests of public calls that no command makes so far, each once with ample memory: what no contract says of them.
+#![tactic(auto)]
+
+#[cfg(test)]
+mod braces;
+#[cfg(test)]
+mod checks;
+#[cfg(test)]
+mod datamw;
+#[cfg(test)]
+mod expanded;
+#[cfg(test)]
+mod titles;
+#[cfg(test)]
+mod tree;
