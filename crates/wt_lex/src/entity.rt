@@ -167,6 +167,9 @@ pub fn read_entity(bytes: &[u8]) -> Option<(char, usize)>
     ensures value { result ≡ entity_at bytes.now }
     ensures within { IfSome result (λ e. (0 < e.1) × (e.1 ≤ 10) × (e.1 ≤ length bytes.now)) }
 {
+    if byte_at(bytes, 0) != b'&' {
+        return None;
+    }
     named_entity(bytes)
         .or(decimal_entity(bytes))
         .or(hex_entity(bytes))
