@@ -49,14 +49,16 @@ split_some : (later : Bool) (at : ℕ) (before after : List Member) → SomePart
 split_some later at before [] = tt
 split_some later at before (x ∷ after) =
     let ss = if in_link before after then [] else sign_of x at in
-    signed_some later x ss (split_members (later_after later ss) (at + width x) (x ∷ before) after) (split_some (later_after later ss) (at + width x) (x ∷ before) after)
+    signed_some later x ss (split_members (later_after later ss) (at + width x) (x ∷ before) after)
+        (split_some (later_after later ss) (at + width x) (x ∷ before) after)
 
 -- one more member in the first part
 last_joins : (x : Member) (name : Option (List Member × ℕ)) (v : List Member) (b : ℕ) → rejoined (put_first x name v b ∷ []) ≡ x ∷ joined name v
 last_joins x None v b = refl
 last_joins x (Some (xs, n)) v b = refl
 
-first_joins : (x : Member) (name : Option (List Member × ℕ)) (v : List Member) (b : ℕ) (q : PartMembers) (ps : List PartMembers) → rejoined (put_first x name v b ∷ q ∷ ps) ≡ x ∷ (joined name v ++ lexeme (Pipe, b) ∷ rejoined (q ∷ ps))
+first_joins : (x : Member) (name : Option (List Member × ℕ)) (v : List Member) (b : ℕ) (q : PartMembers) (ps : List PartMembers)
+    → rejoined (put_first x name v b ∷ q ∷ ps) ≡ x ∷ (joined name v ++ lexeme (Pipe, b) ∷ rejoined (q ∷ ps))
 first_joins x None v b q ps = refl
 first_joins x (Some (xs, n)) v b q ps = refl
 
@@ -65,7 +67,8 @@ member_joins x [] h = absurd h
 member_joins x (p ∷ []) h = last_joins x p.name p.value p.bar
 member_joins x (p ∷ q ∷ ps) h = first_joins x p.name p.value p.bar q ps
 
-sign_joins : (later : Bool) (x : Member) (ss : List Sign) (ps : List PartMembers) → Fits x ss → SomePart ps → rejoined (with_sign_of later x ss ps) ≡ x ∷ rejoined ps
+sign_joins : (later : Bool) (x : Member) (ss : List Sign) (ps : List PartMembers) → Fits x ss → SomePart ps
+    → rejoined (with_sign_of later x ss ps) ≡ x ∷ rejoined ps
 sign_joins later x [] ps f h = member_joins x ps h
 sign_joins later x (pipe at n ∷ ss) [] f h = absurd h
 sign_joins later x (pipe at n ∷ ss) (p ∷ ps) f h = ap (λ y. y ∷ rejoined (p ∷ ps)) (sym f)
@@ -80,7 +83,8 @@ split_joins later at before (x ∷ after) =
     let t = in_link before after in
     let ss = if t then [] else sign_of x at in
     let ps = split_members (later_after later ss) (at + width x) (x ∷ before) after in
-    sign_joins later x ss ps (fits_if t x at) (split_some (later_after later ss) (at + width x) (x ∷ before) after) ∙ ap (λ xs. x ∷ xs) (split_joins (later_after later ss) (at + width x) (x ∷ before) after)
+    sign_joins later x ss ps (fits_if t x at) (split_some (later_after later ss) (at + width x) (x ∷ before) after)
+        ∙ ap (λ xs. x ∷ xs) (split_joins (later_after later ss) (at + width x) (x ∷ before) after)
 
 pub parts_join : (from : ℕ) (ms : Members) → rejoined (part_members from ms) ≡ listed ms
 parts_join from ms = split_joins false from [] (listed ms)

@@ -132,7 +132,8 @@ entries_step false e es g gs h k = k
 gists_entries : (ts : Trees) → entries ts ≡ entries_of (gists ts)
 gists_entries none = refl
 gists_entries (more (tree l us) ts) =
-    entries_step (is_compared (showing l.kind)) (entry l) (entries ts) (gist (tree l us)) (gists ts) (gist_entry (writing l.kind) l (gists us)) (gists_entries ts)
+    entries_step (is_compared (showing l.kind)) (entry l) (entries ts) (gist (tree l us)) (gists ts) (gist_entry (writing l.kind) l (gists us))
+        (gists_entries ts)
 
 back_entries : (values : Bool) (page : Page) (us : Trees) → entries us ≡ entries_of (gists (all_put_back values page us))
 back_entries values page none = refl
@@ -176,7 +177,8 @@ unmarked_content true m e f = absurd (not_both (is_marked m) (content_marked m e
 unmarked_content false m e f = e
 
 -- a node with the page's features and entries is as it was
-node_as : (values : Bool) (page : Page) (o : Option Place) (q : Place) (m : Label) (us : Trees) → o ≡ Some q → is_group (kind_at q) ≡ false → is_children m.mark ≡ false
+node_as : (values : Bool) (page : Page) (o : Option Place) (q : Place) (m : Label) (us : Trees) → o ≡ Some q → is_group (kind_at q) ≡ false
+    → is_children m.mark ≡ false
     → Parts values o m (inside_back m.mark (is_group m.kind) o (all_put_back values page us)) q.node
     → NodeAsItWas q.node (tree m us)
 node_as values page o q m us oe g d p =

@@ -27,7 +27,8 @@ mutual
     all_in_group page (parent_below parent l.id) (within || is_content l.mark) ts z.1,
   )
 
-  all_in_group : (page : Page) (parent : ℕ) (within : Bool) (ts : Trees) → AllZero (ids_of_all ts) → AllByRecursion (ParentFree page) (all_placed parent within ts)
+  all_in_group : (page : Page) (parent : ℕ) (within : Bool) (ts : Trees) → AllZero (ids_of_all ts)
+      → AllByRecursion (ParentFree page) (all_placed parent within ts)
   all_in_group page parent within none z = tt
   all_in_group page parent within (more t ts) z =
       let y = each_split (λ n. n ≡ 0) (ids t) (ids_of_all ts) z in
@@ -95,7 +96,8 @@ root_group page q b n e =
     ap (λ r. is_group (kind_at r)) (sym d) ∙ body_no_group (label page).kind b.root
 
 pub edited_free : (page edited : Tree) → IsOneBody page → PageNodes page → AllZero (others page)
-    → Increasing (map number (filter is_kept (places page))) → InOrder (places page) (places edited) → AllByRecursion (ParentFree (page_of page)) (places edited)
+    → Increasing (map number (filter is_kept (places page))) → InOrder (places page) (places edited)
+        → AllByRecursion (ParentFree (page_of page)) (places edited)
 edited_free page edited b n z inc o =
     let root : NoGroup (page_of page) 0 = λ q e. root_group page q b n e in
     let all = free_below (page_of page) 0 false page root (each_itself (places page) inc) z in

@@ -15,7 +15,8 @@ content_back : put_back false (page_of two_lines) (body (marked content kind.Par
 content_back = refl
 
 -- new children of a node that is marked `children` are gone, and missing ones are there again
-children_back : put_back false (page_of two_lines) (marked children kind.Body 0 (node kind.Para 0 (words (codes "x") ∷ []) ∷ node kind.Para 2 (words (codes "c") ∷ []) ∷ []))
+children_back : put_back false (page_of two_lines)
+    (marked children kind.Body 0 (node kind.Para 0 (words (codes "x") ∷ []) ∷ node kind.Para 2 (words (codes "c") ∷ []) ∷ []))
     ≡ marked children kind.Body 0 (node kind.Para 1 (words (codes "a") ∷ []) ∷ gap (codes "\n\n") ∷ node kind.Para 2 (words (codes "c") ∷ []) ∷ [])
 children_back = refl
 

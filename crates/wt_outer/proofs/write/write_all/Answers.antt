@@ -9,5 +9,7 @@ loop-done-preserved g c =
     record {
       within = grind (arith, common_steps, c.in-Ok.ensures.bound, c.loop-done.invariant.within, c.rest_of.ensures);
       kept = c.in-Ok.ensures.cause.kept some ∙ c.loop-done.invariant.kept;
-      front = front_grows (g.W.Sink.taken c.args.out.now) (g.W.Sink.taken c.loop-done.out) (g.W.Sink.taken c.write.new.self) c.args.bytes.now c.rest_of.result.now c.loop-done.done c.in-Ok.count c.rest_of.ensures c.loop-done.invariant.front c.in-Ok.ensures.bytes;
+      front = front_grows (g.W.Sink.taken c.args.out.now) (g.W.Sink.taken c.loop-done.out)
+          (g.W.Sink.taken c.write.new.self) c.args.bytes.now c.rest_of.result.now c.loop-done.done c.in-Ok.count c.rest_of.ensures
+          c.loop-done.invariant.front c.in-Ok.ensures.bytes;
     }

@@ -29,7 +29,8 @@ read_cells-requires-clause-signs_are c =
     let sg = ap numbers c.as_slice-2.ensures ∙ c.in_ok-signs.ensures ∙ ap (map sign) (ap items c.as_slice.ensures) in
     let lead = c.idle_len-lead.ensures.value ∙ ap (prefix_len is_idle) sg in
     let all = ap numbers c.as_slice-3.ensures ∙ c.in_ok-signs.ensures ∙ ap (map sign) (ap items c.as_slice.ensures) in
-    left_is xs c.idle_len-lead.result (numbers c.as_slice-3.result.now) (numbers c.rest_of-rest.result.now) lead all (numbers_from c.idle_len-lead.result _ _ c.rest_of-rest.ensures)
+    left_is xs c.idle_len-lead.result (numbers c.as_slice-3.result.now) (numbers c.rest_of-rest.result.now) lead all
+        (numbers_from c.idle_len-lead.result _ _ c.rest_of-rest.ensures)
     ∙ ap (map sign) (sym (items_left xs (waiting c.of.result) (waiting c.skip-cursor.result) c.idle_len-lead.result lead
     (c.of.ensures.items ∙ ap items c.as_slice-4.ensures) c.skip-cursor.ensures.back))
 
@@ -39,7 +40,8 @@ read_cells-requires-clause-sign c =
     let sg = ap numbers c.as_slice-2.ensures ∙ c.in_ok-signs.ensures ∙ ap (map sign) (ap items c.as_slice.ensures) in
     let lead = c.idle_len-lead.ensures.value ∙ ap (prefix_len is_idle) sg in
     let all = ap numbers c.as_slice-3.ensures ∙ c.in_ok-signs.ensures ∙ ap (map sign) (ap items c.as_slice.ensures) in
-    let rest = left_is xs c.idle_len-lead.result (numbers c.as_slice-3.result.now) (numbers c.rest_of-rest.result.now) lead all (numbers_from c.idle_len-lead.result _ _ c.rest_of-rest.ensures) in
+    let rest = left_is xs c.idle_len-lead.result (numbers c.as_slice-3.result.now) (numbers c.rest_of-rest.result.now) lead all
+        (numbers_from c.idle_len-lead.result _ _ c.rest_of-rest.ensures) in
     subst (λ (n : ℕ). HasSign n (numbers c.rest_of-rest.result.now)) (sym c.mode-by.ensures.len)
     (subst (HasSign _) (sym rest) (first_sign c.args.caption xs c.requires.sign))
 
@@ -49,7 +51,8 @@ returns-clause-value c =
     let sg = ap numbers c.as_slice-2.ensures ∙ c.in_ok-signs.ensures ∙ ap (map sign) (ap items c.as_slice.ensures) in
     let lead = c.idle_len-lead.ensures.value ∙ ap (prefix_len is_idle) sg in
     let all = ap numbers c.as_slice-3.ensures ∙ c.in_ok-signs.ensures ∙ ap (map sign) (ap items c.as_slice.ensures) in
-    let rest = left_is xs c.idle_len-lead.result (numbers c.as_slice-3.result.now) (numbers c.rest_of-rest.result.now) lead all (numbers_from c.idle_len-lead.result _ _ c.rest_of-rest.ensures) in
+    let rest = left_is xs c.idle_len-lead.result (numbers c.as_slice-3.result.now) (numbers c.rest_of-rest.result.now) lead all
+        (numbers_from c.idle_len-lead.result _ _ c.rest_of-rest.ensures) in
     let now = items_left xs (waiting c.of.result) (waiting c.skip-cursor.result) c.idle_len-lead.result lead
     (c.of.ensures.items ∙ ap items c.as_slice-4.ensures) c.skip-cursor.ensures.back in
     cells_are c.args.caption xs (waiting c.skip-cursor.result) c.mode-by.result.0 c.mode-by.result.1 c.mode-by.result.2
@@ -61,7 +64,8 @@ returns-clause-joined c =
     let sg = ap numbers c.as_slice-2.ensures ∙ c.in_ok-signs.ensures ∙ ap (map sign) (ap items c.as_slice.ensures) in
     let lead = c.idle_len-lead.ensures.value ∙ ap (prefix_len is_idle) sg in
     let all = ap numbers c.as_slice-3.ensures ∙ c.in_ok-signs.ensures ∙ ap (map sign) (ap items c.as_slice.ensures) in
-    let rest = left_is xs c.idle_len-lead.result (numbers c.as_slice-3.result.now) (numbers c.rest_of-rest.result.now) lead all (numbers_from c.idle_len-lead.result _ _ c.rest_of-rest.ensures) in
+    let rest = left_is xs c.idle_len-lead.result (numbers c.as_slice-3.result.now) (numbers c.rest_of-rest.result.now) lead all
+        (numbers_from c.idle_len-lead.result _ _ c.rest_of-rest.ensures) in
     let now = items_left xs (waiting c.of.result) (waiting c.skip-cursor.result) c.idle_len-lead.result lead
     (c.of.ensures.items ∙ ap items c.as_slice-4.ensures) c.skip-cursor.ensures.back in
     let value = cells_are c.args.caption xs (waiting c.skip-cursor.result) c.mode-by.result.0 c.mode-by.result.1
