@@ -9,9 +9,11 @@ mod parse;
 mod refusal;
 mod sync;
 mod sync_read;
+mod sync_write;
 
 pub use mw::to_text;
 pub use mw_read::read;
 pub use refusal::{DataRefusal, DataWhy};
 pub use sync::{Sync, sync_to_text};
 pub use sync_read::read_sync;
+pub use sync_write::push_sync_text;

@@ -1,0 +1,31 @@
+-- The text of `data-parsoid`, piece by piece as it is written.
+use Rattle.std.specs.Prelude.{List, [], ◌∷◌, ◌++◌, Option, Some, None, ℕ, codes, decimal}
+use Rattle.json.specs.Print.{quoted}
+use Rattle.wt_tree.specs.declared.kind.Ranges.{Ranges}
+use Rattle.wt_datamw.specs.declared.sync.Sync.{Sync}
+
+-- a delimiter before the places under the key `c`, left out where it is empty
+abbrev pub closing_text : List ℕ → List ℕ
+closing_text [] = []
+closing_text (b ∷ bs) = quoted (codes "c") ++ (58 ∷ (quoted (b ∷ bs) ++ codes ","))
+
+-- the four places under the key `dsr`
+abbrev pub dsr_text : Ranges → List ℕ
+dsr_text r =
+    quoted (codes "dsr")
+    ++ (codes ":[" ++ (decimal r.start ++ (codes "," ++ (decimal r.end ++ (codes "," ++ (decimal r.open_w ++ (codes "," ++ (decimal r.close_w ++ codes "]"))))))))
+
+-- a text behind the places under a key
+abbrev pub later_text : List ℕ → List ℕ → List ℕ
+later_text key text = codes "," ++ (quoted key ++ (58 ∷ quoted text))
+
+abbrev pub opening_text : List ℕ → List ℕ
+opening_text [] = []
+opening_text (b ∷ bs) = later_text (codes "o") (b ∷ bs)
+
+abbrev pub source_text : Option (List ℕ) → List ℕ
+source_text None = []
+source_text (Some text) = later_text (codes "src") text
+
+abbrev pub sync_pieces : Sync → List ℕ
+sync_pieces s = codes "{" ++ (closing_text s.closing ++ (dsr_text s.dsr ++ (opening_text s.opening ++ (source_text s.src ++ codes "}"))))

@@ -1,0 +1,139 @@
+//! The text of `data-parsoid`, written piece by piece.
+
+ghost use Rattle.std.specs.Prelude.{◌≡◌, ◌++◌, ◌<◌, OnOk, codes, decimal};
+ghost use Rattle.std.specs.Char.{digit_char};
+ghost use Rattle.json.specs.Print.{escape_byte, quoted};
+ghost use Rattle.wt_datamw.specs.Sync.{sync_text};
+ghost use Rattle.wt_datamw.specs.SyncPieces.{closing_text, dsr_text, later_text, opening_text, source_text};
+
+use crate::sync::Sync;
+use wt_span::{NoMemory, Str};
+use wt_tree::Ranges;
+
+fn push(out: &mut Vec<u8>, bytes: &[u8]) -> Result<(), NoMemory>
+    ensures { OnOk result (out.new.items ≡ out.old.items ++ bytes.now) }
+{
+    out.extend_from_slice(bytes)?;
+    Ok(())
+}
+
+fn push_number(out: &mut Vec<u8>, number: u32) -> Result<(), NoMemory>
+    ensures { OnOk result (out.new.items ≡ out.old.items ++ decimal number) }
+{
+    let mut buffer = itoa::Buffer::new();
+    push(out, buffer.format(number).as_bytes())?;
+    Ok(())
+}
+
+/// The hexadecimal digit of a number.
+fn hex_digit(number: u8) -> u8
+    requires { number < 16 }
+    ensures { result ≡ digit_char number }
+{
+    if number < 10 {
+        b'0' + number
+    } else {
+        b'a' + (number - 10)
+    }
+}
+
+/// What stands in a string of JSON for a byte.
+#[tactic(auto, unfolding(json::specs::Print::escape_byte))]
+fn push_byte(out: &mut Vec<u8>, byte: u8) -> Result<(), NoMemory>
+    ensures { OnOk result (out.new.items ≡ out.old.items ++ escape_byte byte) }
+{
+    match byte {
+        b'"' => push(out, b"\\\"")?,
+        b'\\' => push(out, b"\\\\")?,
+        8 => push(out, b"\\b")?,
+        12 => push(out, b"\\f")?,
+        b'\n' => push(out, b"\\n")?,
+        b'\r' => push(out, b"\\r")?,
+        b'\t' => push(out, b"\\t")?,
+        0..=31 => {
+            let digits = [hex_digit(byte / 16), hex_digit(byte % 16)];
+            push(out, b"\\u00")?;
+            push(out, &digits)?;
+        }
+        _ => out.push(byte)?,
+    }
+    Ok(())
+}
+
+/// A string of JSON.
+fn push_quoted(out: &mut Vec<u8>, text: &[u8]) -> Result<(), NoMemory>
+    ensures { OnOk result (out.new.items ≡ out.old.items ++ quoted text.now) }
+{
+    push(out, b"\"")?;
+    for byte in text {
+        push_byte(out, *byte)?;
+    }
+    push(out, b"\"")?;
+    Ok(())
+}
+
+fn push_closing(out: &mut Vec<u8>, text: &str) -> Result<(), NoMemory>
+    ensures { OnOk result (out.new.items ≡ out.old.items ++ closing_text text.now) }
+{
+    match text.as_bytes() {
+        [] => Ok(()),
+        bytes => {
+            push(out, b"\"c\":")?;
+            push_quoted(out, bytes)?;
+            push(out, b",")
+        }
+    }
+}
+
+fn push_dsr(out: &mut Vec<u8>, dsr: Ranges) -> Result<(), NoMemory>
+    ensures { OnOk result (out.new.items ≡ out.old.items ++ dsr_text dsr) }
+{
+    push(out, b"\"dsr\":[")?;
+    push_number(out, dsr.start)?;
+    push(out, b",")?;
+    push_number(out, dsr.end)?;
+    push(out, b",")?;
+    push_number(out, dsr.open_w)?;
+    push(out, b",")?;
+    push_number(out, dsr.close_w)?;
+    push(out, b"]")
+}
+
+fn push_opening(out: &mut Vec<u8>, text: &str) -> Result<(), NoMemory>
+    ensures { OnOk result (out.new.items ≡ out.old.items ++ opening_text text.now) }
+{
+    match text.as_bytes() {
+        [] => Ok(()),
+        bytes => {
+            push(out, b",\"o\":")?;
+            push_quoted(out, bytes)
+        }
+    }
+}
+
+fn push_source(out: &mut Vec<u8>, source: &Option<Str>) -> Result<(), NoMemory>
+    ensures { OnOk result (out.new.items ≡ out.old.items ++ source_text source.now) }
+{
+    match source {
+        None => Ok(()),
+        Some(text) => {
+            push(out, b",\"src\":")?;
+            push_quoted(out, text.as_str().as_bytes())
+        }
+    }
+}
+
+/// Appends the text of `data-parsoid`, as compact JSON with its keys in byte order. (It is not
+/// escaped for the attribute.)
+#[tactic(auto, using(crate::proofs::SyncPieces::sync_text_pieces))]
+pub fn push_sync_text(out: &mut Vec<u8>, sync: &Sync) -> Result<(), NoMemory>
+    ensures { OnOk result (out.new.items ≡ out.old.items ++ sync_text sync.now) }
+{
+    push(out, b"{")?;
+    push_closing(out, sync.closing.as_str())?;
+    push_dsr(out, sync.dsr)?;
+    push_opening(out, sync.opening.as_str())?;
+    push_source(out, &sync.src)?;
+    push(out, b"}")?;
+    Ok(())
+}
