@@ -2,6 +2,8 @@ pub mod MwBack
 pub mod MwCases
 pub mod Mws
 pub mod ReadsBack
+pub mod Same
 pub mod Shapes
 pub mod SyncPieces
+pub mod SyncTold
 pub mod Syncs

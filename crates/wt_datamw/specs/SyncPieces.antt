@@ -9,11 +9,14 @@ abbrev pub closing_text : List ℕ → List ℕ
 closing_text [] = []
 closing_text (b ∷ bs) = quoted (codes "c") ++ (58 ∷ (quoted (b ∷ bs) ++ codes ","))
 
+-- a number behind another one
+abbrev pub next_text : ℕ → List ℕ
+next_text n = codes "," ++ decimal n
+
 -- the four places under the key `dsr`
-abbrev pub dsr_text : Ranges → List ℕ
+unfoldable pub dsr_text : Ranges → List ℕ
 dsr_text r =
-    quoted (codes "dsr")
-    ++ (codes ":[" ++ (decimal r.start ++ (codes "," ++ (decimal r.end ++ (codes "," ++ (decimal r.open_w ++ (codes "," ++ (decimal r.close_w ++ codes "]"))))))))
+    quoted (codes "dsr") ++ (codes ":[" ++ (decimal r.start ++ (next_text r.end ++ (next_text r.open_w ++ (next_text r.close_w ++ codes "]")))))
 
 -- a text behind the places under a key
 abbrev pub later_text : List ℕ → List ℕ → List ℕ

@@ -8,6 +8,7 @@ mod mw_shape;
 mod parse;
 mod refusal;
 mod sync;
+mod sync_guess;
 mod sync_read;
 mod sync_write;
 

@@ -82,7 +82,7 @@ fn place(n: u32) -> u32
 }
 
 /// The places of an element.
-fn places_of(sync: &Sync) -> Ranges
+pub fn places_of(sync: &Sync) -> Ranges
     ensures { IsSmall sync.now }
 {
     Ranges {

@@ -10,6 +10,7 @@ use crate::parse::{
 };
 use crate::refusal::{DataRefusal, DataWhy};
 use crate::sync::Sync;
+use crate::sync_guess::read_as_written;
 use serde_json::Value;
 use std::alloc::Global;
 use wt_span::{NoMemory, Str};
@@ -117,15 +118,25 @@ fn sync_of_value(alloc: Global, value: &Value) -> Result<Sync, DataRefusal>
     }
 }
 
-/// What a text of `data-parsoid` says. Its keys may stand in any order, and `o` and `c` may be empty
-/// or missing; other keys make the shape bad. Of a key that comes twice the last one counts.
 #[tactic(auto, unfolding(crate::specs::SyncRead::sync_told))]
-pub fn read_sync(alloc: Global, text: &str) -> Result<Sync, DataRefusal>
+fn read_json(alloc: Global, text: &str) -> Result<Sync, DataRefusal>
     ensures { ReadsAs (sync_told text.now) result }
 {
     match parsed(alloc, text) {
         Err(NoMemory) => Err(DataRefusal::NoMemory),
         Ok(None) => Err(DataRefusal::BadData(DataWhy::Json)),
         Ok(Some(value)) => sync_of_value(alloc, &value),
+    }
+}
+
+/// What a text of `data-parsoid` says. Its keys may stand in any order, and `o` and `c` may be empty
+/// or missing; other keys make the shape bad. Of a key that comes twice the last one counts.
+pub fn read_sync(alloc: Global, text: &str) -> Result<Sync, DataRefusal>
+    ensures { ReadsAs (sync_told text.now) result }
+{
+    match read_as_written(alloc, text) {
+        Err(NoMemory) => Err(DataRefusal::NoMemory),
+        Ok(Some(sync)) => Ok(sync),
+        Ok(None) => read_json(alloc, text),
     }
 }

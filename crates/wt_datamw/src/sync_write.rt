@@ -2,9 +2,9 @@
 
 ghost use Rattle.std.specs.Prelude.{◌≡◌, ◌++◌, ◌<◌, OnOk, codes, decimal};
 ghost use Rattle.std.specs.Char.{digit_char};
-ghost use Rattle.json.specs.Print.{escape_byte, quoted};
+ghost use Rattle.json.specs.Print.{escape, escape_byte, quoted};
 ghost use Rattle.wt_datamw.specs.Sync.{sync_text};
-ghost use Rattle.wt_datamw.specs.SyncPieces.{closing_text, dsr_text, later_text, opening_text, source_text};
+ghost use Rattle.wt_datamw.specs.SyncPieces.{closing_text, next_text, dsr_text, opening_text, source_text, sync_pieces};
 
 use crate::sync::Sync;
 use wt_span::{NoMemory, Str};
@@ -60,18 +60,27 @@ fn push_byte(out: &mut Vec<u8>, byte: u8) -> Result<(), NoMemory>
     Ok(())
 }
 
+/// What stands in a string of JSON for a text.
+fn push_escaped(out: &mut Vec<u8>, text: &[u8]) -> Result<(), NoMemory>
+    ensures { OnOk result (out.new.items ≡ out.old.items ++ escape text.now) }
+{
+    for byte in text {
+        push_byte(out, *byte)?;
+    }
+    Ok(())
+}
+
 /// A string of JSON.
 fn push_quoted(out: &mut Vec<u8>, text: &[u8]) -> Result<(), NoMemory>
     ensures { OnOk result (out.new.items ≡ out.old.items ++ quoted text.now) }
 {
     push(out, b"\"")?;
-    for byte in text {
-        push_byte(out, *byte)?;
-    }
+    push_escaped(out, text)?;
     push(out, b"\"")?;
     Ok(())
 }
 
+#[tactic(auto, unfolding(json::specs::Print::escape_byte))]
 fn push_closing(out: &mut Vec<u8>, text: &str) -> Result<(), NoMemory>
     ensures { OnOk result (out.new.items ≡ out.old.items ++ closing_text text.now) }
 {
@@ -80,25 +89,35 @@ fn push_closing(out: &mut Vec<u8>, text: &str) -> Result<(), NoMemory>
         bytes => {
             push(out, b"\"c\":")?;
             push_quoted(out, bytes)?;
-            push(out, b",")
+            push(out, b",")?;
+            Ok(())
         }
     }
 }
 
+/// A number behind another one.
+fn push_next(out: &mut Vec<u8>, number: u32) -> Result<(), NoMemory>
+    ensures { OnOk result (out.new.items ≡ out.old.items ++ next_text number) }
+{
+    push(out, b",")?;
+    push_number(out, number)?;
+    Ok(())
+}
+
+#[tactic(auto, unfolding(json::specs::Print::escape_byte, crate::specs::SyncPieces::dsr_text))]
 fn push_dsr(out: &mut Vec<u8>, dsr: Ranges) -> Result<(), NoMemory>
     ensures { OnOk result (out.new.items ≡ out.old.items ++ dsr_text dsr) }
 {
     push(out, b"\"dsr\":[")?;
     push_number(out, dsr.start)?;
-    push(out, b",")?;
-    push_number(out, dsr.end)?;
-    push(out, b",")?;
-    push_number(out, dsr.open_w)?;
-    push(out, b",")?;
-    push_number(out, dsr.close_w)?;
-    push(out, b"]")
+    push_next(out, dsr.end)?;
+    push_next(out, dsr.open_w)?;
+    push_next(out, dsr.close_w)?;
+    push(out, b"]")?;
+    Ok(())
 }
 
+#[tactic(auto, unfolding(json::specs::Print::escape_byte))]
 fn push_opening(out: &mut Vec<u8>, text: &str) -> Result<(), NoMemory>
     ensures { OnOk result (out.new.items ≡ out.old.items ++ opening_text text.now) }
 {
@@ -106,11 +125,13 @@ fn push_opening(out: &mut Vec<u8>, text: &str) -> Result<(), NoMemory>
         [] => Ok(()),
         bytes => {
             push(out, b",\"o\":")?;
-            push_quoted(out, bytes)
+            push_quoted(out, bytes)?;
+            Ok(())
         }
     }
 }
 
+#[tactic(auto, unfolding(json::specs::Print::escape_byte))]
 fn push_source(out: &mut Vec<u8>, source: &Option<Str>) -> Result<(), NoMemory>
     ensures { OnOk result (out.new.items ≡ out.old.items ++ source_text source.now) }
 {
@@ -118,16 +139,14 @@ fn push_source(out: &mut Vec<u8>, source: &Option<Str>) -> Result<(), NoMemory>
         None => Ok(()),
         Some(text) => {
             push(out, b",\"src\":")?;
-            push_quoted(out, text.as_str().as_bytes())
+            push_quoted(out, text.as_str().as_bytes())?;
+            Ok(())
         }
     }
 }
 
-/// Appends the text of `data-parsoid`, as compact JSON with its keys in byte order. (It is not
-/// escaped for the attribute.)
-#[tactic(auto, using(crate::proofs::SyncPieces::sync_text_pieces))]
-pub fn push_sync_text(out: &mut Vec<u8>, sync: &Sync) -> Result<(), NoMemory>
-    ensures { OnOk result (out.new.items ≡ out.old.items ++ sync_text sync.now) }
+fn push_pieces(out: &mut Vec<u8>, sync: &Sync) -> Result<(), NoMemory>
+    ensures { OnOk result (out.new.items ≡ out.old.items ++ sync_pieces sync.now) }
 {
     push(out, b"{")?;
     push_closing(out, sync.closing.as_str())?;
@@ -136,4 +155,13 @@ pub fn push_sync_text(out: &mut Vec<u8>, sync: &Sync) -> Result<(), NoMemory>
     push_source(out, &sync.src)?;
     push(out, b"}")?;
     Ok(())
+}
+
+/// Appends the text of `data-parsoid`, as compact JSON with its keys in byte order. (It is not
+/// escaped for the attribute.)
+#[tactic(auto, using(crate::proofs::SyncPieces::sync_text_pieces))]
+pub fn push_sync_text(out: &mut Vec<u8>, sync: &Sync) -> Result<(), NoMemory>
+    ensures { OnOk result (out.new.items ≡ out.old.items ++ sync_text sync.now) }
+{
+    push_pieces(out, sync)
 }

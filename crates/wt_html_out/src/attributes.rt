@@ -7,7 +7,7 @@ ghost use Rattle.wt_tree.specs.declared.node.Node.{out-Node};
 
 use crate::bytes::{push, push_escaped_double, push_escaped_single, push_number};
 use std::alloc::Global;
-use wt_datamw::{Sync, sync_to_text, to_text};
+use wt_datamw::{Sync, push_sync_text, to_text};
 use wt_span::{NoMemory, Str, Text};
 use wt_tree::{Attr, AttrName, DataMw, Fixed, Kind, Node, Ranges};
 
@@ -122,11 +122,12 @@ fn sync_of(alloc: Global, node: &Node<'_>, dsr: Ranges) -> Result<Sync, NoMemory
     sync_of_inner(alloc, node, dsr)
 }
 
-fn sync_text_of(alloc: Global, node: &Node<'_>, dsr: Ranges) -> Result<Str, NoMemory>
-    ensures { IfOk result (λ s. s ≡ sync_text (sync_of (label_of (out-Node node.now)) dsr)) }
+fn sync_text_of(alloc: Global, node: &Node<'_>, dsr: Ranges) -> Result<Vec<u8>, NoMemory>
+    ensures { IfOk result (λ s. s.items ≡ sync_text (sync_of (label_of (out-Node node.now)) dsr)) }
 {
     let sync = sync_of(alloc, node, dsr)?;
-    let text = sync_to_text(alloc, &sync)?;
+    let mut text = Vec::new(alloc);
+    push_sync_text(&mut text, &sync)?;
     Ok(text)
 }
 
@@ -139,11 +140,11 @@ fn push_sync_start(out: &mut Vec<u8>) -> Result<(), NoMemory>
 }
 
 #[tactic(auto, unfolding(wt_markup::specs::Html::sync_value))]
-fn push_sync_value(out: &mut Vec<u8>, text: &str) -> Result<(), NoMemory>
+fn push_sync_value(out: &mut Vec<u8>, text: &[u8]) -> Result<(), NoMemory>
     ensures { OnOk result (out.new.items ≡ out.old.items ++ sync_value text.now) }
 {
     push_sync_start(out)?;
-    push_escaped_single(out, text.as_bytes())?;
+    push_escaped_single(out, text)?;
     push(out, b"'")?;
     Ok(())
 }
@@ -156,7 +157,7 @@ fn push_sync(alloc: Global, out: &mut Vec<u8>, node: &Node<'_>) -> Result<(), No
         return Ok(());
     };
     let text = sync_text_of(alloc, node, dsr)?;
-    push_sync_value(out, text.as_str())?;
+    push_sync_value(out, &text)?;
     Ok(())
 }
 

@@ -28,7 +28,8 @@ use Rattle.wt_fitting.specs.Data.{Data, is_for, sync_for, some_sync, sync_fits, 
 use Rattle.wt_fitting.specs.Fit.{source_of, label_for}
 use Rattle.wt_fitting.specs.Unsourced.{is_marked, is_unsourced}
 use Rattle.wt_round_trip.specs.Written.{label_read, HasPlaces, IsNumber, IsLeafSource, IsInnerSource, HasSource, IsUtf8IfAny, HasData, value_at, is_extension_label, IsElementLabel}
-use Rattle.wt_round_trip.proofs.Json.{ascii_then, sync_utf8, sync_read, extension_utf8, extension_read}
+use Rattle.wt_datamw.proofs.SyncTold.{sync_read}
+use Rattle.wt_round_trip.proofs.Json.{ascii_then, sync_utf8, extension_utf8, extension_read}
 use Rattle.wt_round_trip.proofs.Said.{Said, double, single, own_said, id_said, mw_said, sync_said, whole, said_of, AreGood}
 use Rattle.wt_round_trip.proofs.Order.{pairs, look, Rise, good_from, value_is, no_edit, look_before, look_of, look_past, Rising, whole_rising, rising_said, value_before, value_behind, own_read}
 use Rattle.wt_round_trip.proofs.Numbers.{number_told}
