@@ -36,4 +36,3 @@ pub fn texts<'a>(alloc: Global, pieces: &[Piece<'a>]) -> Result<List<Text<'a>>, 
     }
     Ok(texts)
 }
-

@@ -50,7 +50,7 @@ split_some later at before [] = tt
 split_some later at before (x ∷ after) =
     let ss = if in_link before after then [] else sign_of x at in
     signed_some later x ss (split_members (later_after later ss) (at + width x) (x ∷ before) after)
-        (split_some (later_after later ss) (at + width x) (x ∷ before) after)
+    (split_some (later_after later ss) (at + width x) (x ∷ before) after)
 
 -- one more member in the first part
 last_joins : (x : Member) (name : Option (List Member × ℕ)) (v : List Member) (b : ℕ) → rejoined (put_first x name v b ∷ []) ≡ x ∷ joined name v
@@ -84,7 +84,7 @@ split_joins later at before (x ∷ after) =
     let ss = if t then [] else sign_of x at in
     let ps = split_members (later_after later ss) (at + width x) (x ∷ before) after in
     sign_joins later x ss ps (fits_if t x at) (split_some (later_after later ss) (at + width x) (x ∷ before) after)
-        ∙ ap (λ xs. x ∷ xs) (split_joins (later_after later ss) (at + width x) (x ∷ before) after)
+    ∙ ap (λ xs. x ∷ xs) (split_joins (later_after later ss) (at + width x) (x ∷ before) after)
 
 pub parts_join : (from : ℕ) (ms : Members) → rejoined (part_members from ms) ≡ listed ms
 parts_join from ms = split_joins false from [] (listed ms)

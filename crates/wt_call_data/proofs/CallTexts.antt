@@ -33,7 +33,7 @@ tail_by bs (suc k) e =
     let s : length bs - 1 - k ≡ length bs - suc k = omega arith in
     let m : length bs - suc k < length bs = omega (arith, l) in
     let p : is_white (get_or bs (length bs - suc k) 0) ≡ true = ap (λ i. is_white (get_or bs i 0)) (sym s) ∙ ap is_white (sym (get_or-reverse bs k 0 l))
-        ∙ prefix_len_passes is_white (reverse bs) k 0 w in
+    ∙ prefix_len_passes is_white (reverse bs) k 0 w in
     IsCharBoundary-before_ascii bs (length bs - suc k) m (white_small (get_or bs (length bs - suc k) 0) p)
 
 pub tail_border : (bs : List ℕ) → IsCharBoundary bs (length bs - prefix_len is_white (reverse bs))

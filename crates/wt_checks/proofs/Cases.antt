@@ -17,8 +17,19 @@ use Rattle.wt_checks.specs.Checked.{checked}
 -- ---- trees
 
 abbrev pub blank : Kind → ℕ → Label
-blank k id = record { kind = k; id = id; ranges = None; opening = []; closing = []; own = []; shown = []; attrs = []; mark = marks.Nothing; mw = None;
-    origin = None }
+blank k id = record {
+  kind = k;
+  id = id;
+  ranges = None;
+  opening = [];
+  closing = [];
+  own = [];
+  shown = [];
+  attrs = [];
+  mark = marks.Nothing;
+  mw = None;
+  origin = None;
+}
 
 abbrev pub node : Kind → ℕ → List Tree → Tree
 node k id ts = tree (blank k id) (trees ts)

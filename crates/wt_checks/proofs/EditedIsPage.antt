@@ -66,7 +66,7 @@ no_number values page u n b s t k =
         not_both (is_group (label u).kind) a.group (body_no_group (label u).kind b)
     other_kind false q g e f =
         let a = at_some (λ r. is_group (kind_at r) ≡ false → NodeAsItWas r.node u) (page_of page (label u).id) q e
-            (s.node (ap (λ x. x || is_body (label u).kind) k) refl) g in
+        (s.node (ap (λ x. x || is_body (label u).kind) k) refl) g in
         not_both (is_body (label u).kind) b (ap is_body (sym a.kind) ∙ f)
 
 root_zero : (values : Bool) (page : Tree) (u : Tree) → PageNodes page → is_body (label u).kind ≡ true

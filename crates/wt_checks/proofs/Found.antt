@@ -290,7 +290,7 @@ pub record PageNodes (t : Tree) : Type 0 where
 found_root : (t : Tree) → (label t).id ≡ 0 → page_of t 0 ≡ Some (record { node = t; parent = 0; in_content = false })
 found_root (tree l ts) e =
     ap (λ b. if b then Some (record { node = tree l ts; parent = 0; in_content = false }) else numbered 0
-        (all_placed (parent_below 0 l.id) (is_content l.mark) ts))
+    (all_placed (parent_below 0 l.id) (is_content l.mark) ts))
     (test_equal l.id 0 e)
 
 first_found : (t : Tree) → AllByRecursion (λ q. AllByRecursion (Found (page_of t)) (listed (children q.node))) (places t)

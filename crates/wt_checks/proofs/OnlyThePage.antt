@@ -133,7 +133,7 @@ gists_entries : (ts : Trees) → entries ts ≡ entries_of (gists ts)
 gists_entries none = refl
 gists_entries (more (tree l us) ts) =
     entries_step (is_compared (showing l.kind)) (entry l) (entries ts) (gist (tree l us)) (gists ts) (gist_entry (writing l.kind) l (gists us))
-        (gists_entries ts)
+    (gists_entries ts)
 
 back_entries : (values : Bool) (page : Page) (us : Trees) → entries us ≡ entries_of (gists (all_put_back values page us))
 back_entries values page none = refl

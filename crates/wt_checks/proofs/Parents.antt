@@ -97,7 +97,7 @@ root_group page q b n e =
 
 pub edited_free : (page edited : Tree) → IsOneBody page → PageNodes page → AllZero (others page)
     → Increasing (map number (filter is_kept (places page))) → InOrder (places page) (places edited)
-        → AllByRecursion (ParentFree (page_of page)) (places edited)
+    → AllByRecursion (ParentFree (page_of page)) (places edited)
 edited_free page edited b n z inc o =
     let root : NoGroup (page_of page) 0 = λ q e. root_group page q b n e in
     let all = free_below (page_of page) 0 false page root (each_itself (places page) inc) z in

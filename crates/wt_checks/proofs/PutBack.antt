@@ -333,11 +333,11 @@ child_by true true m page g (tree l ts) b c e f k x y =
     x b ∙ ap text d ∙ sym (gist_text (writing l.kind) l (gists ts) c)
 child_by true false m page g t b c e f k x y =
     let s : unmarked.text m.shown ≡ unmarked.child (label t).id = sym (text_entry (writing m.kind) m b) ∙ e
-        ∙ child_entry (writing (label t).kind) (label t) c in
+    ∙ child_entry (writing (label t).kind) (label t) c in
     absurd (cc)
 child_by false true m page g t b c e f k x y =
     let s : unmarked.child m.id ≡ unmarked.text (label t).shown = sym (child_entry (writing m.kind) m b) ∙ e
-        ∙ text_entry (writing (label t).kind) (label t) c in
+    ∙ text_entry (writing (label t).kind) (label t) c in
     absurd (cc)
 child_by false false m page g t b c e f k x y =
     let s : unmarked.child m.id ≡ unmarked.child (label t).id =
@@ -412,7 +412,7 @@ mutual
       let p : Place = record { node = tree m us; parent = parent; in_content = false } in
       let a = same_by (is_group (kind_at q)) values page p q o refl oe f.there f.old refl f.kept s.0 in
       let out = λ (c : is_content m.mark ≡ false). subst
-          (λ (b : Bool). AllByRecursion (Stays values page) (all_placed (parent_below parent m.id) b us)) c s.1 in
+      (λ (b : Bool). AllByRecursion (Stays values page) (all_placed (parent_below parent m.id) b us)) c s.1 in
       gist_same values o m us (inside_back m.mark (is_group m.kind) o (all_put_back values page us)) q.node f.element (sym f.number) a
       (inside_same m.mark (is_group m.kind) o q (all_put_back values page us) oe
       (λ h. allowed_marks (editing m.kind) m.mark (page m.id) (s.0.mark h).allowed)

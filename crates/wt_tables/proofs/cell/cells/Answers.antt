@@ -30,7 +30,7 @@ read_cells-requires-clause-signs_are c =
     let lead = c.idle_len-lead.ensures.value ∙ ap (prefix_len is_idle) sg in
     let all = ap numbers c.as_slice-3.ensures ∙ c.in_ok-signs.ensures ∙ ap (map sign) (ap items c.as_slice.ensures) in
     left_is xs c.idle_len-lead.result (numbers c.as_slice-3.result.now) (numbers c.rest_of-rest.result.now) lead all
-        (numbers_from c.idle_len-lead.result _ _ c.rest_of-rest.ensures)
+    (numbers_from c.idle_len-lead.result _ _ c.rest_of-rest.ensures)
     ∙ ap (map sign) (sym (items_left xs (waiting c.of.result) (waiting c.skip-cursor.result) c.idle_len-lead.result lead
     (c.of.ensures.items ∙ ap items c.as_slice-4.ensures) c.skip-cursor.ensures.back))
 
@@ -41,7 +41,7 @@ read_cells-requires-clause-sign c =
     let lead = c.idle_len-lead.ensures.value ∙ ap (prefix_len is_idle) sg in
     let all = ap numbers c.as_slice-3.ensures ∙ c.in_ok-signs.ensures ∙ ap (map sign) (ap items c.as_slice.ensures) in
     let rest = left_is xs c.idle_len-lead.result (numbers c.as_slice-3.result.now) (numbers c.rest_of-rest.result.now) lead all
-        (numbers_from c.idle_len-lead.result _ _ c.rest_of-rest.ensures) in
+    (numbers_from c.idle_len-lead.result _ _ c.rest_of-rest.ensures) in
     subst (λ (n : ℕ). HasSign n (numbers c.rest_of-rest.result.now)) (sym c.mode-by.ensures.len)
     (subst (HasSign _) (sym rest) (first_sign c.args.caption xs c.requires.sign))
 
@@ -52,7 +52,7 @@ returns-clause-value c =
     let lead = c.idle_len-lead.ensures.value ∙ ap (prefix_len is_idle) sg in
     let all = ap numbers c.as_slice-3.ensures ∙ c.in_ok-signs.ensures ∙ ap (map sign) (ap items c.as_slice.ensures) in
     let rest = left_is xs c.idle_len-lead.result (numbers c.as_slice-3.result.now) (numbers c.rest_of-rest.result.now) lead all
-        (numbers_from c.idle_len-lead.result _ _ c.rest_of-rest.ensures) in
+    (numbers_from c.idle_len-lead.result _ _ c.rest_of-rest.ensures) in
     let now = items_left xs (waiting c.of.result) (waiting c.skip-cursor.result) c.idle_len-lead.result lead
     (c.of.ensures.items ∙ ap items c.as_slice-4.ensures) c.skip-cursor.ensures.back in
     cells_are c.args.caption xs (waiting c.skip-cursor.result) c.mode-by.result.0 c.mode-by.result.1 c.mode-by.result.2
@@ -65,7 +65,7 @@ returns-clause-joined c =
     let lead = c.idle_len-lead.ensures.value ∙ ap (prefix_len is_idle) sg in
     let all = ap numbers c.as_slice-3.ensures ∙ c.in_ok-signs.ensures ∙ ap (map sign) (ap items c.as_slice.ensures) in
     let rest = left_is xs c.idle_len-lead.result (numbers c.as_slice-3.result.now) (numbers c.rest_of-rest.result.now) lead all
-        (numbers_from c.idle_len-lead.result _ _ c.rest_of-rest.ensures) in
+    (numbers_from c.idle_len-lead.result _ _ c.rest_of-rest.ensures) in
     let now = items_left xs (waiting c.of.result) (waiting c.skip-cursor.result) c.idle_len-lead.result lead
     (c.of.ensures.items ∙ ap items c.as_slice-4.ensures) c.skip-cursor.ensures.back in
     let value = cells_are c.args.caption xs (waiting c.skip-cursor.result) c.mode-by.result.0 c.mode-by.result.1

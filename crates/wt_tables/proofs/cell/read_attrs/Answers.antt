@@ -14,7 +14,7 @@ pub returns-then-len-body-clause-len : goal.returns-then-len-body-clause-len
 returns-then-len-body-clause-len c =
     let xs = drop c.args.n (items c.args.part.now) in
     let b = body_is c.args.n (items c.args.part.now) (numbers c.args.signs.now) (numbers c.rest_of-body.result.now) c.requires.signs_are
-        (numbers_from c.args.n _ _ c.rest_of-body.ensures) in
+    (numbers_from c.args.n _ _ c.rest_of-body.ensures) in
     let k = c.single_at-len.ensures.value ∙ ap single_at b in
     let l : length xs ≤ c.single_at-len.result = omega (arith, c.if-len-body.true, ap length b, length-map xs sign, numbers_len c.rest_of-body.result.now) in
     let e = no_bar xs c.single_at-len.result k l in
@@ -25,7 +25,7 @@ pub returns-then-len-body-clause-attrs : goal.returns-then-len-body-clause-attrs
 returns-then-len-body-clause-attrs c =
     let xs = drop c.args.n (items c.args.part.now) in
     let b = body_is c.args.n (items c.args.part.now) (numbers c.args.signs.now) (numbers c.rest_of-body.result.now) c.requires.signs_are
-        (numbers_from c.args.n _ _ c.rest_of-body.ensures) in
+    (numbers_from c.args.n _ _ c.rest_of-body.ensures) in
     let k = c.single_at-len.ensures.value ∙ ap single_at b in
     let l : length xs ≤ c.single_at-len.result = omega (arith, c.if-len-body.true, ap length b, length-map xs sign, numbers_len c.rest_of-body.result.now) in
     let e = no_bar xs c.single_at-len.result k l in
@@ -40,7 +40,7 @@ pub is_plain-requires : goal.is_plain-requires
 is_plain-requires c =
     let xs = drop c.args.n (items c.args.part.now) in
     let b = body_is c.args.n (items c.args.part.now) (numbers c.args.signs.now) (numbers c.rest_of-body.result.now) c.requires.signs_are
-        (numbers_from c.args.n _ _ c.rest_of-body.ensures) in
+    (numbers_from c.args.n _ _ c.rest_of-body.ensures) in
     numbers_front c.single_at-len.result _ _ c.front_of.ensures ∙ ap (take c.single_at-len.result) b ∙ take-map sign c.single_at-len.result xs
     ∙ ap (map sign) (sym (ap items c.as_slice.ensures ∙ c.in_ok-front.ensures.items))
 
@@ -48,7 +48,7 @@ pub returns-then-not-is_plain-clause-len : goal.returns-then-not-is_plain-clause
 returns-then-not-is_plain-clause-len c =
     let xs = drop c.args.n (items c.args.part.now) in
     let b = body_is c.args.n (items c.args.part.now) (numbers c.args.signs.now) (numbers c.rest_of-body.result.now) c.requires.signs_are
-        (numbers_from c.args.n _ _ c.rest_of-body.ensures) in
+    (numbers_from c.args.n _ _ c.rest_of-body.ensures) in
     let k = c.single_at-len.ensures.value ∙ ap single_at b in
     let front = ap items c.as_slice.ensures ∙ c.in_ok-front.ensures.items in
     let e = rough_bar xs c.single_at-len.result k (ap is_plain (sym front) ∙ sym c.is_plain.ensures ∙ c.if-not-is_plain.true) in
@@ -59,7 +59,7 @@ pub returns-then-not-is_plain-clause-attrs : goal.returns-then-not-is_plain-clau
 returns-then-not-is_plain-clause-attrs c =
     let xs = drop c.args.n (items c.args.part.now) in
     let b = body_is c.args.n (items c.args.part.now) (numbers c.args.signs.now) (numbers c.rest_of-body.result.now) c.requires.signs_are
-        (numbers_from c.args.n _ _ c.rest_of-body.ensures) in
+    (numbers_from c.args.n _ _ c.rest_of-body.ensures) in
     let k = c.single_at-len.ensures.value ∙ ap single_at b in
     let front = ap items c.as_slice.ensures ∙ c.in_ok-front.ensures.items in
     let e = rough_bar xs c.single_at-len.result k (ap is_plain (sym front) ∙ sym c.is_plain.ensures ∙ c.if-not-is_plain.true) in
@@ -69,11 +69,11 @@ pub returns-clause-len : goal.returns-clause-len
 returns-clause-len c =
     let xs = drop c.args.n (items c.args.part.now) in
     let b = body_is c.args.n (items c.args.part.now) (numbers c.args.signs.now) (numbers c.rest_of-body.result.now) c.requires.signs_are
-        (numbers_from c.args.n _ _ c.rest_of-body.ensures) in
+    (numbers_from c.args.n _ _ c.rest_of-body.ensures) in
     let k = c.single_at-len.ensures.value ∙ ap single_at b in
     let front = ap items c.as_slice.ensures ∙ c.in_ok-front.ensures.items in
     let l : c.single_at-len.result < length xs = omega
-        (arith, c.if-len-body.false, c.single_at-len.ensures.within, ap length b, length-map xs sign, numbers_len c.rest_of-body.result.now) in
+    (arith, c.if-len-body.false, c.single_at-len.ensures.within, ap length b, length-map xs sign, numbers_len c.rest_of-body.result.now) in
     let e = some_bar xs c.single_at-len.result k l (ap is_plain (sym front) ∙ sym c.is_plain.ensures ∙ c.if-not-is_plain.false) in
     let size : length c.rest_of-body.result.now ≡ length c.args.signs.now - c.args.n = ap length c.rest_of-body.ensures
     ∙ length-drop c.args.n c.args.signs.now in
@@ -86,10 +86,10 @@ pub returns-clause-attrs : goal.returns-clause-attrs
 returns-clause-attrs c =
     let xs = drop c.args.n (items c.args.part.now) in
     let b = body_is c.args.n (items c.args.part.now) (numbers c.args.signs.now) (numbers c.rest_of-body.result.now) c.requires.signs_are
-        (numbers_from c.args.n _ _ c.rest_of-body.ensures) in
+    (numbers_from c.args.n _ _ c.rest_of-body.ensures) in
     let k = c.single_at-len.ensures.value ∙ ap single_at b in
     let front = ap items c.as_slice.ensures ∙ c.in_ok-front.ensures.items in
     let l : c.single_at-len.result < length xs = omega
-        (arith, c.if-len-body.false, c.single_at-len.ensures.within, ap length b, length-map xs sign, numbers_len c.rest_of-body.result.now) in
+    (arith, c.if-len-body.false, c.single_at-len.ensures.within, ap length b, length-map xs sign, numbers_len c.rest_of-body.result.now) in
     let e = some_bar xs c.single_at-len.result k l (ap is_plain (sym front) ∙ sym c.is_plain.ensures ∙ c.if-not-is_plain.false) in
     c.in_ok-attrs.ensures ∙ ap attributes (ap items c.as_slice-2.ensures ∙ c.in_ok-front.ensures.items) ∙ ap (λ o. attributes_by o xs) (sym e)

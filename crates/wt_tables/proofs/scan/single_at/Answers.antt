@@ -15,7 +15,7 @@ pub loop-i-preserved : goal.loop-i-preserved
 loop-i-preserved c =
     let l = c.loop-i in
     single_goes l.behind_bar _ l.i _ (numbers c.args.signs.now) (omega (arith, c.loop-i-test.true, numbers_len c.args.signs.now))
-        (number_at l.i c.args.signs.now _ c.loop-i-test.true) (c.is_byte-behind_bar.ensures ∙ turned _)
+    (number_at l.i c.args.signs.now _ c.loop-i-test.true) (c.is_byte-behind_bar.ensures ∙ turned _)
     (ap (begins_single l.behind_bar) (sym (numbers_from l.i _ _ c.rest_of.ensures)) ∙ sym c.begins_single.ensures ∙ c.if-begins_single.false) l.invariant
 
 pub returns-clause-value : goal.returns-clause-value

@@ -6,8 +6,12 @@ use Rattle.wt_tables.proofs.Scans.{first_begins, first_goes, first_stops}
 use Rattle.wt_tables.proofs.scan.Splits.first_len.Goals as goal
 
 pub loop-at-init : goal.loop-at-init
-loop-at-init c = record { within = c.requires; behind = omega arith; rest = first_begins c.args.self c.args.from (numbers c.args.signs.now)
-    (omega (arith, c.requires, numbers_len c.args.signs.now)) }
+loop-at-init c = record {
+  within = c.requires;
+  behind = omega arith;
+  rest = first_begins c.args.self c.args.from (numbers c.args.signs.now)
+      (omega (arith, c.requires, numbers_len c.args.signs.now));
+}
 
 pub loop-at-preserved : goal.loop-at-preserved
 loop-at-preserved c =
