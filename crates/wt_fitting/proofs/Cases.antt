@@ -71,8 +71,7 @@ cut = refl
 
 -- an entity by its character, nowiki round a text, a comment and an include tag
 few_rows : read (codes
-    "<html><body><p><span typeof='mw:Entity'>&lt;</span><span typeof='mw:Nowiki'>''</span><meta typeof='mw:Comment'/></p><meta
-        typeof='mw:Includes/NoInclude'/></body></html>")
+    "<html><body><p><span typeof='mw:Entity'>&lt;</span><span typeof='mw:Nowiki'>''</span><meta typeof='mw:Comment'/></p><meta typeof='mw:Includes/NoInclude'/></body></html>")
     ≡ page (bare kind.Body 0 (one_more (bare kind.Para 0
     (one_more (tree (record (label_with kind.Entity 0 mark.Nothing) { shown = codes "<" }) no_trees)
     (one_more (bare kind.Nowiki 0 (one_more (text_leaf None (codes "''")) no_trees))

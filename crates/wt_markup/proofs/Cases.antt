@@ -41,8 +41,7 @@ empty_page = refl
 
 -- the page `a`
 one_letter : html_text (body 1 (more (tree (blank kind.Para 1 0 1) (more (text_leaf 0 1 (codes "a")) none)) none))
-    ≡ codes "<!DOCTYPE html><html><head><meta charset=\"utf-8\"/></head><body data-parsoid='{\"dsr\":[0,1,0,0]}'><p id=\"mw1\"
-        data-parsoid='{\"dsr\":[0,1,0,0]}'>a</p></body></html>"
+    ≡ codes "<!DOCTYPE html><html><head><meta charset=\"utf-8\"/></head><body data-parsoid='{\"dsr\":[0,1,0,0]}'><p id=\"mw1\" data-parsoid='{\"dsr\":[0,1,0,0]}'>a</p></body></html>"
 unfolding html_text frame_start frame_end start_tag end_tag attributes_of id_attribute mw_attribute sync_of sync_start sync_value
     sync_attribute spelling sync_text sync_members escape escape_single serde_json_on_literals digits
 one_letter = refl
@@ -50,8 +49,7 @@ one_letter = refl
 -- a heading has its delimiters in the attribute, and texts are escaped
 heading : html_text (body 9 (more (tree (record (blank (kind.Heading 2) 1 0 9) { opening = codes "== "; closing = codes " =='" })
     (more (text_leaf 3 6 (codes "<&>")) none)) none))
-    ≡ codes "<!DOCTYPE html><html><head><meta charset=\"utf-8\"/></head><body data-parsoid='{\"dsr\":[0,9,0,0]}'><h2 id=\"mw1\"
-        data-parsoid='{\"c\":\" ==&#39;\",\"dsr\":[0,9,0,0],\"o\":\"== \"}'>&lt;&amp;&gt;</h2></body></html>"
+    ≡ codes "<!DOCTYPE html><html><head><meta charset=\"utf-8\"/></head><body data-parsoid='{\"dsr\":[0,9,0,0]}'><h2 id=\"mw1\" data-parsoid='{\"c\":\" ==&#39;\",\"dsr\":[0,9,0,0],\"o\":\"== \"}'>&lt;&amp;&gt;</h2></body></html>"
 unfolding html_text frame_start frame_end start_tag end_tag attributes_of id_attribute mw_attribute sync_of sync_start sync_value
     sync_attribute spelling sync_text sync_members escape escape_single serde_json_on_literals digits
 heading = refl
