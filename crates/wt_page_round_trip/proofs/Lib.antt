@@ -20,6 +20,11 @@ pub mod Idle
 pub mod Delimiters
 pub mod HeadingLines
 pub mod Body
+pub mod Separated
+pub mod Boxes
+pub mod Stretched
+pub mod Bordered
+pub mod Unbroken
 pub mod Counts
 pub mod Pages
 pub mod PageTrees

@@ -56,7 +56,7 @@ fits_fewer most less ps le f = record { written = λ k parent h p. f.written k p
 -- a node that is written so
 pub record NodeFits (most : ℕ) (t : ItemTree) : Type 0 where
   pub written : (k : ℕ) (parent : Kind) → k ≤ most → IsInlineParent parent → IsWrittenNode k parent t
-  pub held : IsUtf8 (sources (held t))
+  pub held : IsUtf8 (sources (tree_items t))
 
 pub fits_node : (most : ℕ) (t : ItemTree) → NodeFits most t → FitsIn most (node t ∷ [])
 fits_node most t f = record {

@@ -1,3 +1,7 @@
+use Rattle.wt_page_round_trip.proofs.Unbroken.{line_is}
+use Rattle.wt_page_round_trip.proofs.Stretched.{holder_opened}
+use Rattle.wt_page_round_trip.proofs.Bordered.{IsBehind}
+use Rattle.wt_page_round_trip.proofs.Boxes.{box_written}
 use Rattle.wt_page_round_trip.proofs.Pages.{page_written, page_is_read, same_page}
 use Rattle.wt_page_round_trip.proofs.laws.page_is_read.Goals as goal
 
