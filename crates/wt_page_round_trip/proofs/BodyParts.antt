@@ -44,14 +44,14 @@ lines_fit most (l ∷ ls) small h =
     (fits_text most (ending l) (omega (arith, small)) c.1.texts c.1.page))
     (lines_fit most ls small h.1)
 
-inline_held : (b c : Bool) → c ≡ true → (b || c) ≡ true
+pub inline_held : (b c : Bool) → c ≡ true → (b || c) ≡ true
 inline_held true c e = refl
 inline_held false c e = e
 
-para_parent : IsInlineParent kind.Para
+pub para_parent : IsInlineParent kind.Para
 para_parent = record { text = refl; elements = λ k h. inline_held (is_anywhere (shape k).class) _ h }
 
-heading_parent : (n : ℕ) → IsInlineParent (kind.Heading n)
+pub heading_parent : (n : ℕ) → IsInlineParent (kind.Heading n)
 heading_parent n = record { text = refl; elements = λ k h. inline_held (is_anywhere (shape k).class) _ h }
 
 pub para_node : (ls : List (List Item)) → AllByRecursion ArePageItems ls → IsWrittenNode 2 kind.Body (para ls)

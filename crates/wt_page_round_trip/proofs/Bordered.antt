@@ -54,7 +54,7 @@ kind_is : (at next : ℕ) (t : ItemTree) → (label (annotated_at at next t)).ki
 unfolding label_at
 kind_is at next (inner h opening ts closing) = refl
 
-text_is : (at next : ℕ) (t : ItemTree) → is_text (annotated_at at next t) ≡ is_as_text (writing (head_of t).kind)
+pub text_is : (at next : ℕ) (t : ItemTree) → is_text (annotated_at at next t) ≡ is_as_text (writing (head_of t).kind)
 text_is at next t = ap (λ q. is_as_text (writing q)) (kind_is at next t)
 
 shows_none : (at next : ℕ) (t : ItemTree) → IsInlineKind (head_of t).kind → shows_block (annotated_at at next t) ≡ false
@@ -135,7 +135,7 @@ text_run_of j o b (loose i p c ∷ r) others h a =
       stops = q.stops;
     }
 
-lines_behind : (r others : List Part) → AllByRecursion IsLinePart (r ++ others) → AllByRecursion IsLinePart others
+pub lines_behind : (r others : List Part) → AllByRecursion IsLinePart (r ++ others) → AllByRecursion IsLinePart others
 lines_behind [] others a = a
 lines_behind (p ∷ r) others a = lines_behind r others a.1
 
@@ -153,7 +153,7 @@ no_text_next k q ([] ∷ rs) ps at next h a e = absurd h.2
 no_text_next k q ((loose j o b ∷ r) ∷ rs) ps at next h a e = absurd (let f = ap begins_loose (sym h.1) ∙ e in cc)
 no_text_next k q ((node t ∷ r) ∷ rs) ps at next h a e = (subst (λ (ts : List Part). AllByRecursion (IsPartIn k q) ts) h.1 a).0.0.element at next
 
-behind_cut : (k : ℕ) (q : Kind) (rs : List (List Part)) (ps : List Part) (at next : ℕ) → AreRuns one_leaf rs ps → AllByRecursion (IsPartIn k q) ps
+pub behind_cut : (k : ℕ) (q : Kind) (rs : List (List Part)) (ps : List Part) (at next : ℕ) → AreRuns one_leaf rs ps → AllByRecursion (IsPartIn k q) ps
     → AreCut true (all_annotated_at at next (forest (map child rs)))
 behind_cut k q [] ps at next h a = tt
 behind_cut k q ([] ∷ rs) ps at next h a = absurd h.2
@@ -228,7 +228,7 @@ border_leads : (at b : ℕ) (bs : List ℕ) (ts : Trees) → b ≡ 10 → leads_
 border_leads at b bs ts e = ap (λ x. (is_space x && are_spaces bs) && leads_to_block ts) e
 
 -- what stands behind a line, by its parts
-behind_by : (k : ℕ) (q : Kind) (rs : List (List Part)) (ps : List Part) → AreRuns one_leaf rs ps → AllByRecursion (IsPartIn k q) ps → BreaksFirst ps
+pub behind_by : (k : ℕ) (q : Kind) (rs : List (List Part)) (ps : List Part) → AreRuns one_leaf rs ps → AllByRecursion (IsPartIn k q) ps → BreaksFirst ps
     → IsBehind (map child rs)
 behind_by k q [] ps h a b = record { cut = λ at next. tt; leads = λ at next. refl; begins = inl refl }
 behind_by k q ([] ∷ rs) ps h a b = absurd h.2
@@ -339,7 +339,7 @@ text_last at next b bs us e h = elim h.begins [
 
 -- ---- a line and what stands behind it
 
-abbrev IsCutBefore : Trees → Type 0
+abbrev pub IsCutBefore : Trees → Type 0
 IsCutBefore ts = AreCut false ts × (leads_to_block ts ≡ false)
 
 no_text_then : (rs : List (List Part)) (ps : List Part) (r : List Part) (us : List ItemTree) (at next : ℕ) → AreRuns one_leaf (r ∷ rs) ps
@@ -351,7 +351,7 @@ no_text_then rs ps (node t ∷ r) us at next h a e =
     let v = subst (λ (ts : List Part). AllByRecursion IsLinePart ts) h.1 a in
     text_is at next t ∙ v.0.text
 
-runs_cut : (rs : List (List Part)) (ps : List Part) (us : List ItemTree) → AreRuns one_leaf rs ps → AllByRecursion IsLinePart ps → IsBehind us
+pub runs_cut : (rs : List (List Part)) (ps : List Part) (us : List ItemTree) → AreRuns one_leaf rs ps → AllByRecursion IsLinePart ps → IsBehind us
     → (at next : ℕ) → IsCutBefore (all_annotated_at at next (forest (map child rs ++ us)))
 runs_cut [] ps us h a b at next = (b.cut at next, b.leads at next)
 runs_cut ([] ∷ rs) ps us h a b at next = absurd h.2
@@ -381,7 +381,7 @@ runs_cut ((loose j o b ∷ r) ∷ []) ps us h a f at next =
         (all_annotated_at (at + n) (next + numbered t) (forest us)))) (sym wide)
     (text_last at (next + numbered t) b s.more us s.unbroken f) in
     subst (λ u. IsCutBefore (more u (all_annotated_at (at + width (tree_items t)) (next + numbered t) (forest us)))) (sym is)
-    (cut, text_leads at (b ∷ s.more) _ (f.leads (at + width (tree_items t)) (next + numbered t)))
+    (cut, text_leads at (b ∷ s.more) (all_annotated_at (at + width (tree_items t)) (next + numbered t) (forest us)) (f.leads (at + width (tree_items t)) (next + numbered t)))
 runs_cut ((loose j o b ∷ r) ∷ w ∷ rs) ps us h a f at next =
     let v = subst (λ (ts : List Part). AllByRecursion IsLinePart ts) h.1 a in
     let s : IsTextRunOf b (loose j o b ∷ r) h.0 = text_run_of j o b r h.0 h.2 v in
@@ -398,17 +398,17 @@ runs_cut ((loose j o b ∷ r) ∷ w ∷ rs) ps us h a f at next =
 
 -- ---- their order
 
-abbrev NoInline : ItemTree → Type 0
+abbrev pub NoInline : ItemTree → Type 0
 NoInline t = is_inline (head_of t).kind ≡ false
 
-abbrev NoBlock : ItemTree → Type 0
+abbrev pub NoBlock : ItemTree → Type 0
 NoBlock t = is_block (head_of t).kind ≡ false
 
 loose_order : (j : Loose) (xs : List Item) → NoInline (loose_leaf j xs) × NoBlock (loose_leaf j xs)
 loose_order Text xs = (refl, refl)
 loose_order Sep xs = (refl, refl)
 
-runs_no_inline : (k : ℕ) (q : Kind) (rs : List (List Part)) (ps : List Part) → AreRuns one_leaf rs ps → AllByRecursion (IsPartIn k q) ps
+pub runs_no_inline : (k : ℕ) (q : Kind) (rs : List (List Part)) (ps : List Part) → AreRuns one_leaf rs ps → AllByRecursion (IsPartIn k q) ps
     → AllByRecursion NoInline (map child rs)
 runs_no_inline k q [] ps h a = tt
 runs_no_inline k q ([] ∷ rs) ps h a = absurd h.2
@@ -419,7 +419,7 @@ runs_no_inline k q ((loose j o b ∷ r) ∷ rs) ps h a =
     let v = subst (λ (ts : List Part). AllByRecursion (IsPartIn k q) ts) h.1 a in
     ((loose_order j (char o b ∷ held_parts r)).0, runs_no_inline k q rs h.0 h.3 (all_behind k q (loose j o b ∷ r) h.0 v))
 
-runs_no_block : (rs : List (List Part)) (ps : List Part) → AreRuns one_leaf rs ps → AllByRecursion IsLinePart ps → AllByRecursion NoBlock (map child rs)
+pub runs_no_block : (rs : List (List Part)) (ps : List Part) → AreRuns one_leaf rs ps → AllByRecursion IsLinePart ps → AllByRecursion NoBlock (map child rs)
 runs_no_block [] ps h a = tt
 runs_no_block ([] ∷ rs) ps h a = absurd h.2
 runs_no_block ((node t ∷ r) ∷ rs) ps h a =
@@ -429,16 +429,16 @@ runs_no_block ((loose j o b ∷ r) ∷ rs) ps h a =
     let v = subst (λ (ts : List Part). AllByRecursion IsLinePart ts) h.1 a in
     ((loose_order j (char o b ∷ held_parts r)).1, runs_no_block rs h.0 h.3 (lines_behind (loose j o b ∷ r) h.0 v))
 
-behind_ordered : (b : Bool) (us : List ItemTree) (at next : ℕ) → AllByRecursion NoInline us → are_ordered b (all_annotated_at at next (forest us)) ≡ true
-behind_ordered b [] at next a = refl
-behind_ordered b (u ∷ us) at next a =
+pub behind_ordered : (us : List ItemTree) (b : Bool) (at next : ℕ) → AllByRecursion NoInline us → are_ordered b (all_annotated_at at next (forest us)) ≡ true
+behind_ordered [] b at next a = refl
+behind_ordered (u ∷ us) b at next a =
     let may : may_follow b (label (annotated_at at next u)).kind ≡ true =
     ap (may_follow b) (kind_is at next u) ∙ ap (λ x. not (b && x)) a.0 ∙ ap not (and_none b) in
-    ap₂ (λ x y. x && y) may (behind_ordered _ us (at + width (tree_items u)) (next + numbered u) a.1)
+    ap₂ (λ x y. x && y) may (behind_ordered us (b || is_block (label (annotated_at at next u)).kind) (at + width (tree_items u)) (next + numbered u) a.1)
 
-all_ordered : (ts us : List ItemTree) (at next : ℕ) → AllByRecursion NoBlock ts → AllByRecursion NoInline us
+pub all_ordered : (ts us : List ItemTree) (at next : ℕ) → AllByRecursion NoBlock ts → AllByRecursion NoInline us
     → are_ordered false (all_annotated_at at next (forest (ts ++ us))) ≡ true
-all_ordered [] us at next a b = behind_ordered false us at next b
+all_ordered [] us at next a b = behind_ordered us false at next b
 all_ordered (t ∷ ts) us at next a b =
     let rest : Trees = all_annotated_at (at + width (tree_items t)) (next + numbered t) (forest (ts ++ us)) in
     let no_block : is_block (label (annotated_at at next t)).kind ≡ false = ap is_block (kind_is at next t) ∙ a.0 in
@@ -446,7 +446,7 @@ all_ordered (t ∷ ts) us at next a b =
 
 -- ---- both are written
 
-both_written : (k : ℕ) (q : Kind) → texts_of_kind q ≡ Bordered → (ts us : List ItemTree) (at next : ℕ)
+pub both_written : (k : ℕ) (q : Kind) → texts_of_kind q ≡ Bordered → (ts us : List ItemTree) (at next : ℕ)
     → AllWrittenIn k q (all_annotated_at at next (forest ts))
     → ((place number : ℕ) → place ≡ at + width (held_by_all (forest ts)) → number ≡ next + numbered_in_all (forest ts)
     → AllWrittenIn k q (all_annotated_at place number (forest us)))
@@ -456,7 +456,8 @@ both_written k q b (t ∷ ts) us at next w f =
     let wide : width (tree_items t ++ held_by_all (forest ts)) ≡ width (tree_items t) + width (held_by_all (forest ts)) =
     wide_append (tree_items t) (held_by_all (forest ts)) in (
       w.0,
-      ap (λ x. joins x _) b,
+      ap (λ (x : Texts). joins x (is_text (annotated_at at next t)
+          && begins_with_text (all_annotated_at (at + width (tree_items t)) (next + numbered t) (forest (ts ++ us))))) b,
       both_written k q b ts us (at + width (tree_items t)) (next + numbered t) w.2
           (λ place number e g. f place number (omega (arith, e, wide)) (omega (arith, g))),
     )

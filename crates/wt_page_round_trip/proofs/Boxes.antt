@@ -43,10 +43,10 @@ pub record IsRound (q : Kind) : Type 0 where
   pub shows : shows_text q ≡ false
 
 -- an element of this kind with its delimiters
-pub record IsBox (q : Kind) (attrs : List (AttrName × List ℕ)) (opening closing : List Item) : Type 0 where
-  pub attrs : HasAttributes q attrs
-  pub opening : IsUtf8 (sources opening)
-  pub closing : IsUtf8 (sources closing)
+pub record IsBox (q : Kind) (named : List (AttrName × List ℕ)) (front back : List Item) : Type 0 where
+  pub attrs : HasAttributes q named
+  pub opening : IsUtf8 (sources front)
+  pub closing : IsUtf8 (sources back)
 
 box_label : (q : Kind) → (r : IsRound q) → (attrs : List (AttrName × List ℕ)) (opening own closing : List Item)
     → IsBox q attrs opening closing → (at next : ℕ) → 0 < next → next < 2 ^ 32 → at + width own < 2 ^ 32 → width opening ≤ width own

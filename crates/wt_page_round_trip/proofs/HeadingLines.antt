@@ -32,7 +32,7 @@ form_high : (b : Bool) → (if b then 257 else 256) < 128 → ⊥
 form_high true h = omega arith
 form_high false h = omega arith
 
-ends_low : (xs : List Item) (k : ℕ) → k < length xs → get_or (map sign xs) k 0 < 128 → EndsLow (take (suc k) xs)
+pub ends_low : (xs : List Item) (k : ℕ) → k < length xs → get_or (map sign xs) k 0 < 128 → EndsLow (take (suc k) xs)
 ends_low [] k h l = absurd (omega arith)
 ends_low (char o b ∷ []) zero h l = l
 ends_low (char o b ∷ y ∷ ys) zero h l = l
@@ -41,7 +41,7 @@ ends_low (whole f o bs ∷ y ∷ ys) zero h l = tt
 ends_low (x ∷ []) (suc k) h l = absurd (omega arith)
 ends_low (x ∷ y ∷ ys) (suc k) h l = ends_low (y ∷ ys) k (omega arith) l
 
-begins_low : (xs : List Item) (k : ℕ) → (k < length xs → get_or (map sign xs) k 0 < 128) → BeginsLow (drop k xs)
+pub begins_low : (xs : List Item) (k : ℕ) → (k < length xs → get_or (map sign xs) k 0 < 128) → BeginsLow (drop k xs)
 begins_low [] zero f = tt
 begins_low [] (suc k) f = tt
 begins_low (char o b ∷ xs) zero f = f (omega arith)
@@ -105,7 +105,7 @@ past_front : (x : Item) (ss : List ℕ) (b : Bool) → IsSmallItem x → is_mark
     → past is_mark_sign (sign x ∷ ss) ≡ (if b then past is_mark_sign ss else sign x ∷ ss)
 past_front x ss b h e = ap (λ t. if t then past is_mark_sign ss else sign x ∷ ss) (small_sign x h ∙ e)
 
-past_lead : (l : List Item) → AllByRecursion IsSmallItem l → past is_mark_sign (map sign (content l)) ≡ map sign (content (drop (lead_len l) l))
+pub past_lead : (l : List Item) → AllByRecursion IsSmallItem l → past is_mark_sign (map sign (content l)) ≡ map sign (content (drop (lead_len l) l))
 past_lead [] h = refl
 past_lead (x ∷ []) h = by_test (is_mark x) refl
   where

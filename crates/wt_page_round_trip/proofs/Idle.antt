@@ -122,11 +122,11 @@ idle_form : (b : Bool) → is_idle (if b then 257 else 256) ≡ true → b ≡ t
 idle_form true e = refl
 idle_form false e = absurd cc
 
-idle_item : (x : Item) → IsSmallItem x → is_idle (sign x) ≡ true → IsBetween x
+pub idle_item : (x : Item) → IsSmallItem x → is_idle (sign x) ≡ true → IsBetween x
 idle_item (char o b) l e = idle_char b l e
 idle_item (whole f o bs) l e = idle_form (is_mark_form f) e
 
-idle_items : (xs : List Item) → AllByRecursion IsSmallItem xs → (length (past is_idle (map sign xs)) == 0) ≡ true → AllByRecursion IsBetween xs
+pub idle_items : (xs : List Item) → AllByRecursion IsSmallItem xs → (length (past is_idle (map sign xs)) == 0) ≡ true → AllByRecursion IsBetween xs
 idle_items [] l e = tt
 idle_items (x ∷ xs) l e = by_test (is_idle (sign x)) refl e (λ f. idle_items xs l.1 f)
   where

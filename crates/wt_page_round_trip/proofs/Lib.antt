@@ -19,12 +19,16 @@ pub mod BodyParts
 pub mod Idle
 pub mod Delimiters
 pub mod HeadingLines
+pub mod KindTests
+pub mod GoodRows
+pub mod TextNodes
 pub mod Body
 pub mod Separated
 pub mod Boxes
 pub mod Stretched
 pub mod Bordered
 pub mod Unbroken
+pub mod Contents
 pub mod Counts
 pub mod Pages
 pub mod PageTrees

@@ -41,7 +41,7 @@ texts_behind run s [] u t = IsUtf8-append run s u t
 texts_behind run s (char o b ∷ ys) u t = subst (λ r. AreTexts r ys) (sym (append_assoc run s (b ∷ []))) (texts_behind run (s ++ b ∷ []) ys u t)
 texts_behind run s (whole f o bs ∷ ys) u t = (IsUtf8-append run s u t.0, t.1)
 
-texts_both : (run : List ℕ) (xs ys : List Item) → AreTexts run xs → AreTexts [] ys → AreTexts run (xs ++ ys)
+pub texts_both : (run : List ℕ) (xs ys : List Item) → AreTexts run xs → AreTexts [] ys → AreTexts run (xs ++ ys)
 texts_both run [] ys h t = subst (λ r. AreTexts r ys) (append-nil run) (texts_behind run [] ys h t)
 texts_both run (char o b ∷ xs) ys h t = texts_both (run ++ b ∷ []) xs ys h t
 texts_both run (whole f o bs ∷ xs) ys h t = (h.0, texts_both [] xs ys h.1 t)
@@ -92,7 +92,7 @@ abbrev pub IsBetween : Item → Type 0
 IsBetween (char o b) = is_white_byte b ≡ true
 IsBetween (whole f o bs) = is_mark_form f ≡ true
 
-abbrev IsMark : Item → Type 0
+abbrev pub IsMark : Item → Type 0
 IsMark x = is_mark x ≡ true
 
 marks_low : (xs : List Item) → AllByRecursion IsMark xs → EndsLow xs
@@ -101,12 +101,12 @@ marks_low (char o b ∷ []) h = absurd (let e = h.0 in cc)
 marks_low (whole f o bs ∷ []) h = tt
 marks_low (x ∷ y ∷ xs) h = marks_low (y ∷ xs) h.1
 
-marks_between : (xs : List Item) → AllByRecursion IsMark xs → AllByRecursion IsBetween xs
+pub marks_between : (xs : List Item) → AllByRecursion IsMark xs → AllByRecursion IsBetween xs
 marks_between [] h = tt
 marks_between (char o b ∷ xs) h = absurd (let e = h.0 in cc)
 marks_between (whole f o bs ∷ xs) h = (h.0, marks_between xs h.1)
 
-taken_marks : (l : List Item) → AllByRecursion IsMark (take (prefix_len is_mark l) l)
+pub taken_marks : (l : List Item) → AllByRecursion IsMark (take (prefix_len is_mark l) l)
 taken_marks [] = tt
 taken_marks (x ∷ xs) = by_test (is_mark x) refl (taken_marks xs)
   where

@@ -12,7 +12,8 @@ use Rattle.wt_html_grammar.proofs.Steps.{if_true, if_false}
 use Rattle.wt_span.specs.Items.{Item}
 use Rattle.wt_tree.specs.declared.kind.AttrName.{AttrName}
 use Rattle.wt_tree.specs.declared.kind.Kind.{Kind}
-use Rattle.wt_tree.specs.Kinds.{is_inline, is_anywhere, may_hold, shape}
+use Rattle.wt_tree.specs.declared.row.Texts.TheVariants.{Bordered}
+use Rattle.wt_tree.specs.Kinds.{texts_of_kind, is_inline, is_block, may_hold}
 use Rattle.wt_inline.specs.declared.loose.Loose.TheVariants.{Sep}
 use Rattle.wt_inline.specs.ItemTree.{Head, ItemTree, forest}
 use Rattle.wt_inline.specs.Parts.{Part, loose, node, parts, children}
@@ -23,9 +24,13 @@ use Rattle.wt_page_round_trip.proofs.PageLines.{IsBetween, all_both, all_taken, 
 use Rattle.wt_page_round_trip.proofs.Separated.{head_of, IsNodeIn, IsPartIn, gap_parts}
 use Rattle.wt_page_round_trip.proofs.Boxes.{IsRound, IsBox, HoldsSeparators, box_written, separated_inside}
 
--- a node that is written there, and is no mark
+-- a kind of element that may stand there, in an item or a cell as a block
+pub record StandsIn (parent q : Kind) : Type 0 where
+  pub held : may_hold parent q ≡ true
+  pub shows : texts_of_kind parent ≡ Bordered → is_block q ≡ true
+
 abbrev pub IsBlockIn : ℕ → Kind → ItemTree → Type 0
-IsBlockIn k parent t = IsNodeIn k parent t × (is_anywhere (shape (head_of t).kind).class ≡ false)
+IsBlockIn k parent t = IsNodeIn k parent t × (texts_of_kind parent ≡ Bordered → is_block (head_of t).kind ≡ true)
 
 abbrev pub IsOneBlock : ℕ → Kind → List Part → Type 0
 IsOneBlock k parent [] = ⊥
@@ -125,6 +130,10 @@ end_are_gaps (gap xs ∷ ss) = elim (gap_first xs ss) [
   | inr q ↦ subst (λ n. AreGaps (drop n (gap xs ∷ ss))) (sym q.0) (end_are_gaps ss)
 ]
 
+-- gaps behind the last block may stand anywhere
+pub gaps_behind : (k j : ℕ) (parent other : Kind) (ss : List Stretch) → ArePlaced j other ss → ArePlaced k parent (end_gaps ss)
+gaps_behind k j parent other ss a = gaps_move j k other parent (end_gaps ss) (end_are_gaps ss) (all_dropped (IsPlaced j other) (block_len ss) ss a)
+
 -- ---- a node with what it holds
 
 pub opened_placed : (k j : ℕ) (parent other : Kind) (h : Head) (opening : List Item) (ss : List Stretch)
@@ -145,29 +154,28 @@ pub record IsHolder (q : Kind) : Type 0 where
   pub round : IsRound q
   pub holds : HoldsSeparators q
   pub block : is_inline q ≡ false
-  pub apart : is_anywhere (shape q).class ≡ false
 
 pub holder_node : (k : ℕ) (parent q : Kind) → IsHolder q → (attrs : List (AttrName × List ℕ)) (opening closing : List Item)
-    → IsBox q attrs opening closing → (ss : List Stretch) → k < 199 → may_hold parent q ≡ true → ArePlaced (suc k) q ss
+    → IsBox q attrs opening closing → (ss : List Stretch) → k < 199 → StandsIn parent q → ArePlaced (suc k) q ss
     → IsBlockIn k parent (node_of (with_attrs q attrs) opening ss closing)
 holder_node k parent q r attrs opening closing b ss small holds a = (
   (
-    box_written k parent q r.round attrs opening closing b (forest (children (stretches_parts ss))) small holds
+    box_written k parent q r.round attrs opening closing b (forest (children (stretches_parts ss))) small holds.held
         (separated_inside (suc k) q r.holds (stretches_parts ss) (placed_parts (suc k) q (omega (arith, small)) ss a)),
     r.block,
   ),
-  r.apart,
+  holds.shows,
 )
 
 pub holder_opened : (k : ℕ) (parent q : Kind) → IsHolder q → (attrs : List (AttrName × List ℕ)) (opening : List Item)
-    → IsBox q attrs opening [] → (ss : List Stretch) → k < 199 → may_hold parent q ≡ true → ArePlaced (suc k) q ss
+    → IsBox q attrs opening [] → (ss : List Stretch) → k < 199 → StandsIn parent q → ArePlaced (suc k) q ss
     → ArePlaced k parent (opened_by (with_attrs q attrs) opening ss)
 holder_opened k parent q r attrs opening b ss small holds a =
     opened_placed k (suc k) parent q (with_attrs q attrs) opening ss
     (holder_node k parent q r attrs opening [] b (before_end ss) small holds (all_taken (IsPlaced (suc k) q) (block_len ss) ss a))
     (all_dropped (IsPlaced (suc k) q) (block_len ss) ss a)
 
-pub holder_enclosed : (k : ℕ) (parent q : Kind) → IsHolder q → IsBox q [] [] [] → (ss : List Stretch) → k < 199 → may_hold parent q ≡ true
+pub holder_enclosed : (k : ℕ) (parent q : Kind) → IsHolder q → IsBox q [] [] [] → (ss : List Stretch) → k < 199 → StandsIn parent q
     → ArePlaced (suc k) q ss → ArePlaced k parent (enclosed (with_attrs q []) ss)
 holder_enclosed k parent q r b ss small holds a =
     let behind : ArePlaced (suc k) q (past_front ss) = all_dropped (IsPlaced (suc k) q) (front_len ss) ss a in

@@ -17,7 +17,7 @@ use Rattle.wt_tiles.specs.declared.tag.Name.{Name}
 use Rattle.wt_tiles.specs.declared.tag.Name.TheVariants.{Paired, Break, Island}
 use Rattle.wt_tiles.specs.declared.tag.Tag.{Tag}
 use Rattle.wt_tiles.specs.Glyphs.{glyph_of}
-use Rattle.wt_tiles.specs.Contexts.{in_line}
+use Rattle.wt_tiles.specs.Contexts.{in_line, in_text}
 use Rattle.wt_tiles.specs.Tags.{tag_at}
 use Rattle.wt_tiles.specs.Tiles.{size, shapes, parts as tile_parts, tiles}
 use Rattle.wt_tiles.proofs.Joining.{tiles_are}
@@ -78,9 +78,6 @@ loose_line : (xs : List Item) → AreLineItems xs → AllByRecursion IsLineSegme
 unfolding loose_segments
 loose_line xs h = stretches_line (runs one_stretch xs) xs (runs_are one_stretch xs) h
 
-one_node : (xs : List Item) (t : ItemTree) → IsInlineKind (head_of t).kind → AllByRecursion IsLineSegment (tree_segment xs t ∷ [])
-one_node xs t i = ((i, tt), tt)
-
 link_line : (n : ℕ) (xs opening closing trail : List Item) (ps : List Part) → IsInlineKind (head_of (link_by (link_head xs) n opening closing trail ps)).kind
 unfolding link_head
 link_line n xs opening closing trail ps = by_test (n == 0)
@@ -103,15 +100,15 @@ pair_line (Some t) opening = pair_named t.name opening
 tile_line : (read : Reading) (cx : Context) (w : Shape) (xs : List Item) → AreLineItems xs → (k : TileKind)
     → AllByRecursion IsLineSegment (segments_by (tile_tree read cx k w xs) xs)
 unfolding nested_tree category_head switch_head placeholder bare_url bare_url_head ext_link_head pair_head
-tile_line read cx w xs h kind.Link = one_node xs _ (link_line w.trail xs (opening_of w xs) (closing_of w xs) (trail_of w xs) _)
-tile_line read cx w xs h kind.Category = one_node xs _ (record { block = refl; group = refl; text = refl })
-tile_line read cx w xs h kind.Media = one_node xs _ (record { block = refl; group = refl; text = refl })
-tile_line read cx w xs h kind.ExtLink = one_node xs _ (record { block = refl; group = refl; text = refl })
-tile_line read cx w xs h kind.BareUrl = one_node xs _ (record { block = refl; group = refl; text = refl })
-tile_line read cx w xs h kind.Br = one_node xs _ (record { block = refl; group = refl; text = refl })
-tile_line read cx w xs h kind.Pair = one_node xs _ (pair_line (tag_at (glyphs (opening_of w xs))) (opening_of w xs))
-tile_line read cx w xs h kind.TagIsland = one_node xs _ (record { block = refl; group = refl; text = refl })
-tile_line read cx w xs h kind.Switch = one_node xs _ (record { block = refl; group = refl; text = refl })
+tile_line read cx w xs h kind.Link = ((link_line w.trail xs (opening_of w xs) (closing_of w xs) (trail_of w xs) (read (in_text cx) (inside_of w xs)), tt), tt)
+tile_line read cx w xs h kind.Category = ((record { block = refl; group = refl; text = refl }, tt), tt)
+tile_line read cx w xs h kind.Media = ((record { block = refl; group = refl; text = refl }, tt), tt)
+tile_line read cx w xs h kind.ExtLink = ((record { block = refl; group = refl; text = refl }, tt), tt)
+tile_line read cx w xs h kind.BareUrl = ((record { block = refl; group = refl; text = refl }, tt), tt)
+tile_line read cx w xs h kind.Br = ((record { block = refl; group = refl; text = refl }, tt), tt)
+tile_line read cx w xs h kind.Pair = ((pair_line (tag_at (glyphs (opening_of w xs))) (opening_of w xs), tt), tt)
+tile_line read cx w xs h kind.TagIsland = ((record { block = refl; group = refl; text = refl }, tt), tt)
+tile_line read cx w xs h kind.Switch = ((record { block = refl; group = refl; text = refl }, tt), tt)
 tile_line read cx w xs h kind.Atom = loose_line xs h
 tile_line read cx w xs h kind.Mark = loose_line xs h
 tile_line read cx w xs h kind.Chars = loose_line xs h

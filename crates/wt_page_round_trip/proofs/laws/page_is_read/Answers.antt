@@ -1,3 +1,6 @@
+use Rattle.wt_page_round_trip.proofs.GoodRows.{page_rows}
+use Rattle.wt_page_round_trip.proofs.TextNodes.{para_placed}
+use Rattle.wt_page_round_trip.proofs.Contents.{line_opened}
 use Rattle.wt_page_round_trip.proofs.Unbroken.{line_is}
 use Rattle.wt_page_round_trip.proofs.Stretched.{holder_opened}
 use Rattle.wt_page_round_trip.proofs.Bordered.{IsBehind}
