@@ -56,7 +56,7 @@ AreGoodRows rs = AllByRecursion IsGoodRow rs
 
 -- ---- items that end low
 
-abbrev IsLowItem : Item → Type 0
+abbrev pub IsLowItem : Item → Type 0
 IsLowItem (char o b) = b < 128
 IsLowItem (whole f o bs) = Unit {0}
 
@@ -65,7 +65,7 @@ ends_on (char o b) [] l e = l
 ends_on (whole f o bs) [] l e = tt
 ends_on x (y ∷ xs) l e = e
 
-low_ends : (xs : List Item) → AllByRecursion IsLowItem xs → EndsLow xs
+pub low_ends : (xs : List Item) → AllByRecursion IsLowItem xs → EndsLow xs
 low_ends [] a = tt
 low_ends (x ∷ xs) a = ends_on x xs a.0 (low_ends xs a.1)
 
@@ -77,12 +77,12 @@ between_low [] a = tt
 between_low (char o b ∷ xs) a = (white_low b a.0, between_low xs a.1)
 between_low (whole f o bs ∷ xs) a = (tt, between_low xs a.1)
 
-low_item : (x : Item) → sign x < 128 → IsLowItem x
+pub low_item : (x : Item) → sign x < 128 → IsLowItem x
 low_item (char o b) l = l
 low_item (whole f o bs) l = tt
 
 -- a run of low signs
-passing_low : (p : ℕ → Bool) → ((s : ℕ) → p s ≡ true → s < 128) → (xs : List Item) → AllByRecursion IsLowItem (take (prefix_len p (map sign xs)) xs)
+pub passing_low : (p : ℕ → Bool) → ((s : ℕ) → p s ≡ true → s < 128) → (xs : List Item) → AllByRecursion IsLowItem (take (prefix_len p (map sign xs)) xs)
 passing_low p low [] = tt
 passing_low p low (x ∷ xs) = by_test (p (sign x)) refl (passing_low p low xs)
   where
@@ -168,7 +168,8 @@ run_unbroken (x ∷ []) others h = by_test (is_break_item x) refl
 run_unbroken (x ∷ y ∷ ys) others h = (not_goes (is_break_item x) h.0, run_unbroken (y ∷ ys) others h.1)
 
 dropped_line : (n : ℕ) (l : List Item) → IsOneLine l → IsOneLine (drop n l)
-dropped_line n [] h = tt
+dropped_line zero [] h = tt
+dropped_line (suc n) [] h = tt
 dropped_line zero (x ∷ xs) h = h
 dropped_line (suc n) (x ∷ []) h = dropped_line n [] tt
 dropped_line (suc n) (x ∷ y ∷ ys) h = dropped_line n (y ∷ ys) h.1
@@ -203,8 +204,7 @@ signs_good k n m l h g e s = by_test (is_unseen (behind_sign n m l)) refl
     by_test true f = (record { lead = g; items = parts.0; ending = unseen_gap (behind_sign n m l) parts.1 f; seen = s _ }, tt)
     by_test false f = (
       record { lead = g; items = parts.0; ending = (tt, tt); seen = s _ },
-      whole_good line.Text (marks_len (behind_sign n m l)) (behind_sign n m l) parts.1 (marks_gap (behind_sign n m l) parts.1) tt,
-      tt,
+      (whole_good line.Text (marks_len (behind_sign n m l)) (behind_sign n m l) parts.1 (marks_gap (behind_sign n m l) parts.1) tt, tt),
     )
 
 -- ---- the rows of a line

@@ -22,6 +22,8 @@ pub mod HeadingLines
 pub mod KindTests
 pub mod GoodRows
 pub mod TextNodes
+pub mod ListOpenings
+pub mod ListNodes
 pub mod Body
 pub mod Separated
 pub mod Boxes

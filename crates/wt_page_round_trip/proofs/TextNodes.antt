@@ -70,7 +70,7 @@ last_gap (r ∷ []) g = g.0.ending
 last_gap (r ∷ s ∷ rs) g = last_gap (s ∷ rs) g.1
 
 pub around : (k : ℕ) (parent : Kind) (t : ItemTree) (rs : List Row) → AreGoodRows rs → IsBlockIn k parent t → ArePlaced k parent (with_separators t rs)
-around k parent t rs g b = (first_gap rs g, b, last_gap rs g, tt)
+around k parent t rs g b = (first_gap rs g, (b, (last_gap rs g, tt)))
 
 -- rows of which nothing is seen
 pub gaps_placed : (k : ℕ) (parent : Kind) (rs : List Row) → AreGoodRows rs → AllByRecursion (λ r. AllByRecursion IsBetween r.items) rs
@@ -224,7 +224,7 @@ pub headings_placed : (k : ℕ) (parent : Kind) → ((n : ℕ) → StandsIn pare
     → AllByRecursion (λ r. IsHeadingLine r.items) rs → ArePlaced k parent (flat_map heading_row rs)
 headings_placed k parent s small [] g e = tt
 headings_placed k parent s small (r ∷ rs) g e =
-    (g.0.lead, heading_in k parent r.items g.0.items e.0 small (s (heading_level r.items)), g.0.ending, headings_placed k parent s small rs g.1 e.1)
+    (g.0.lead, (heading_in k parent r.items g.0.items e.0 small (s (heading_level r.items)), (g.0.ending, headings_placed k parent s small rs g.1 e.1)))
 
 -- ---- rules
 
@@ -233,5 +233,5 @@ unfolding rule
 rules_placed k parent s small [] g = tt
 rules_placed k parent s small (r ∷ rs) g =
     (g.0.lead,
-    ((rule_written k parent r.items small s.held (texts_utf8 [] r.items g.0.items.texts g.0.items.page), refl), s.shows),
-    g.0.ending, rules_placed k parent s small rs g.1)
+    (((rule_written k parent r.items small s.held (texts_utf8 [] r.items g.0.items.texts g.0.items.page), refl), s.shows),
+    (g.0.ending, rules_placed k parent s small rs g.1)))

@@ -1,3 +1,4 @@
+use Rattle.wt_page_round_trip.proofs.ListNodes.{lists_placed}
 use Rattle.wt_page_round_trip.proofs.GoodRows.{page_rows}
 use Rattle.wt_page_round_trip.proofs.TextNodes.{para_placed}
 use Rattle.wt_page_round_trip.proofs.Contents.{line_opened}
