@@ -121,7 +121,7 @@ idle_gap l h = (all_taken IsPageItem (idle_len l) l h.page, taken_idle l (texts_
 break_shown : (b : ℕ) → is_idle b ≡ true → (b == 10) ≡ false
 break_shown b h = grind (arith, nat_tests)
 
-idle_no_break : (x : Item) → is_idle (sign x) ≡ true → is_break_item x ≡ false
+pub idle_no_break : (x : Item) → is_idle (sign x) ≡ true → is_break_item x ≡ false
 idle_no_break (char o b) e = break_shown b e
 idle_no_break (whole f o bs) e = refl
 

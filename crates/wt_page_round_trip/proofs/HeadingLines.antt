@@ -97,7 +97,7 @@ small_sign (whole f o bs) h = by_test (is_mark_form f)
     by_test true = refl
     by_test false = refl
 
-mark_is_none : (x : Item) → is_mark x ≡ true → is_break_item x ≡ false
+pub mark_is_none : (x : Item) → is_mark x ≡ true → is_break_item x ≡ false
 mark_is_none (char o b) e = absurd cc
 mark_is_none (whole f o bs) e = refl
 

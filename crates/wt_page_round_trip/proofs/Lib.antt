@@ -24,6 +24,9 @@ pub mod GoodRows
 pub mod TextNodes
 pub mod ListOpenings
 pub mod ListNodes
+pub mod CellNodes
+pub mod RowUnits
+pub mod EndedRows
 pub mod Body
 pub mod Separated
 pub mod Boxes

@@ -11,10 +11,10 @@ use Rattle.wt_span.specs.Runs.{put, runs, IsRun, AreRuns}
 use Rattle.wt_span.proofs.RunLaws.{runs_are}
 use Rattle.wt_tree.specs.declared.kind.Kind.{Kind}
 use Rattle.wt_tree.specs.declared.kind.Kind.TheVariants as kind
-use Rattle.wt_tree.specs.declared.row.Class.TheVariants.{List as ListClass, Item as ItemClass, Term}
+use Rattle.wt_tree.specs.declared.row.Class.TheVariants.{List as ListClass, Item as ItemClass, Term, Inline, Character}
 use Rattle.wt_tree.specs.declared.row.Holding.TheVariants.{Items, Terms, InlinesThenLists}
 use Rattle.wt_tree.specs.declared.row.Texts.TheVariants.{Separators, Bordered}
-use Rattle.wt_tree.specs.Kinds.{texts_of_kind, may_hold, shape, is_anywhere, spelling}
+use Rattle.wt_tree.specs.Kinds.{is_class, texts_of_kind, may_hold, shape, is_anywhere, spelling}
 use Rattle.wt_lex.proofs.Begins.{begins_get}
 use Rattle.wt_html_grammar.proofs.Steps.{if_true}
 use Rattle.wt_span.specs.Bytes.{begins}
@@ -81,7 +81,7 @@ li_bordered = record {
   round = record { class = ItemClass; holding = InlinesThenLists; texts = Bordered; shape_is = refl; level = refl; shows = refl };
   texts = refl;
   takes = record { kind = inr refl; stands = λ bs e. refl };
-  parent = record { text = refl; elements = λ k h. inline_held (is_anywhere (shape k).class) _ (or_more _ _ _ h) };
+  parent = record { text = refl; elements = λ k h. inline_held (is_anywhere (shape k).class) _ (or_more (is_class (shape k).class Inline) (is_class (shape k).class Character) (is_class (shape k).class ListClass) h) };
   block = refl;
 }
 
@@ -91,7 +91,7 @@ dt_bordered = record {
   round = record { class = Term; holding = InlinesThenLists; texts = Bordered; shape_is = refl; level = refl; shows = refl };
   texts = refl;
   takes = record { kind = inr refl; stands = λ bs e. refl };
-  parent = record { text = refl; elements = λ k h. inline_held (is_anywhere (shape k).class) _ (or_more _ _ _ h) };
+  parent = record { text = refl; elements = λ k h. inline_held (is_anywhere (shape k).class) _ (or_more (is_class (shape k).class Inline) (is_class (shape k).class Character) (is_class (shape k).class ListClass) h) };
   block = refl;
 }
 
@@ -101,7 +101,7 @@ dd_bordered = record {
   round = record { class = Term; holding = InlinesThenLists; texts = Bordered; shape_is = refl; level = refl; shows = refl };
   texts = refl;
   takes = record { kind = inr refl; stands = λ bs e. refl };
-  parent = record { text = refl; elements = λ k h. inline_held (is_anywhere (shape k).class) _ (or_more _ _ _ h) };
+  parent = record { text = refl; elements = λ k h. inline_held (is_anywhere (shape k).class) _ (or_more (is_class (shape k).class Inline) (is_class (shape k).class Character) (is_class (shape k).class ListClass) h) };
   block = refl;
 }
 
@@ -200,7 +200,7 @@ same_kind c d e = by_test (c == d) (is_definition c) (is_definition d) refl refl
 
 -- ---- an item with what stands on its line
 
-line_items : (xs : List Item) → ArePageItems xs → IsUnbroken xs → AreLineItems xs
+pub line_items : (xs : List Item) → ArePageItems xs → IsUnbroken xs → AreLineItems xs
 line_items xs h u = both xs h.page u
   where
     both : (ys : List Item) → AllByRecursion IsPageItem ys → IsUnbroken ys → AreLineItems ys

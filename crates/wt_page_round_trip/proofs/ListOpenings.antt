@@ -24,15 +24,18 @@ use Rattle.wt_page_round_trip.proofs.GoodRows.{IsLowItem, low_ends, low_item, pa
 -- ---- the first items of a list
 
 pub fewer_taken : {A : Type 0} (P : A → Type 0) (n m : ℕ) (xs : List A) → n ≤ m → AllByRecursion P (take m xs) → AllByRecursion P (take n xs)
-fewer_taken P n m [] le a = tt
-fewer_taken P zero m (x ∷ xs) le a = tt
+fewer_taken P zero m xs le a = tt
+fewer_taken P (suc n) m [] le a = tt
 fewer_taken P (suc n) zero (x ∷ xs) le a = absurd (omega arith)
 fewer_taken P (suc n) (suc m) (x ∷ xs) le a = (a.0, fewer_taken P n m xs (omega arith) a.1)
 
 pub more_taken : {A : Type 0} (P : A → Type 0) (n m : ℕ) (xs : List A) → AllByRecursion P (take n xs) → AllByRecursion P (take m (drop n xs))
     → AllByRecursion P (take (n + m) xs)
-more_taken P n m [] a b = tt
-more_taken {A} P zero m (x ∷ xs) a b = let z : 0 + m ≡ m = omega arith in subst (λ k. AllByRecursion P (take k (x ∷ xs))) (sym z) b
+more_taken {A} P zero m xs a b = let z : 0 + m ≡ m = omega arith in subst (λ k. AllByRecursion P (take k xs)) (sym z) b
+more_taken {A} P (suc n) m [] a b =
+    let none : List A = [] in
+    let z : suc n + m ≡ suc (n + m) = omega arith in
+    subst (λ k. AllByRecursion P (take k none)) (sym z) tt
 more_taken {A} P (suc n) m (x ∷ xs) a b =
     let z : suc n + m ≡ suc (n + m) = omega arith in
     subst (λ k. AllByRecursion P (take k (x ∷ xs))) (sym z) (a.0, more_taken P n m xs a.1 b)
@@ -67,7 +70,11 @@ opening_cut xs h =
 
 -- ---- the `:` behind a term
 
-atom_sign : (n i : ℕ) → i < n → get_or (replicate n 256) i 0 ≡ 256
+-- the sign of an atom
+abbrev atom : ℕ
+atom = 256
+
+atom_sign : (n i : ℕ) → i < n → get_or (replicate n atom) i 0 ≡ atom
 atom_sign zero i h = absurd (omega arith)
 atom_sign (suc n) zero h = refl
 atom_sign (suc n) (suc i) h = atom_sign n i (omega arith)
@@ -76,16 +83,16 @@ signs_wide : (xs : List Item) → length (signs xs) ≡ length xs
 signs_wide [] = refl
 signs_wide (x ∷ xs) = ap suc (signs_wide xs)
 
-atoms_wide : (n : ℕ) → length (replicate n 256) ≡ n
+atoms_wide : (n : ℕ) → length (replicate n atom) ≡ n
 atoms_wide zero = refl
 atoms_wide (suc n) = ap suc (atoms_wide n)
 
 -- what is seen of a tile
-seen_by : (t : Bool) (xs : List Item) → length (if t then signs xs else replicate (length xs) 256) ≡ length xs
+seen_by : (t : Bool) (xs : List Item) → length (if t then signs xs else replicate (length xs) atom) ≡ length xs
 seen_by true xs = signs_wide xs
 seen_by false xs = atoms_wide (length xs)
 
-seen_colon : (t : Bool) (xs : List Item) (i : ℕ) → i < length xs → get_or (if t then signs xs else replicate (length xs) 256) i 0 ≡ 58
+seen_colon : (t : Bool) (xs : List Item) (i : ℕ) → i < length xs → get_or (if t then signs xs else replicate (length xs) atom) i 0 ≡ 58
     → get_or (signs xs) i 0 ≡ 58
 seen_colon true xs i h e = e
 seen_colon false xs i h e = absurd (let f = atom_sign (length xs) i h in omega (arith, e, f))
@@ -135,19 +142,16 @@ colon_sign xs h =
     not_colon _ (prefix_len_stops (λ s. not (s == 58)) ss 0 (omega (arith, h, wide))) in
     sym (ap (λ (ys : List Item). get_or (signs ys) (prefix_len (λ s. not (s == 58)) ss) 0) join) ∙ seen_at ps (prefix_len (λ s. not (s == 58)) ss) stops
 
-sign_begins : (xs : List Item) (n : ℕ) → get_or (signs xs) n 0 < 128 → BeginsLow (drop n xs)
-sign_begins [] n l = tt
+pub sign_begins : (xs : List Item) (n : ℕ) → get_or (signs xs) n 0 < 128 → BeginsLow (drop n xs)
+sign_begins [] zero l = tt
+sign_begins [] (suc n) l = tt
 sign_begins (char o b ∷ xs) zero l = l
 sign_begins (whole f o bs ∷ xs) zero l = tt
 sign_begins (x ∷ xs) (suc n) l = sign_begins xs n l
 
 first_low : (xs : List Item) → get_or (signs xs) 0 0 < 128 → AllByRecursion IsLowItem (take 1 xs)
 first_low [] l = tt
-first_low (x ∷ xs) l = (low_item x l, no_more xs)
-  where
-    no_more : (ys : List Item) → AllByRecursion IsLowItem (take 0 ys)
-    no_more [] = tt
-    no_more (y ∷ ys) = tt
+first_low (x ∷ xs) l = (low_item x l, tt)
 
 -- a term, the `:` behind it with the blanks, and what follows
 pub record AreTermParts (xs : List Item) (n : ℕ) : Type 0 where
@@ -156,11 +160,8 @@ pub record AreTermParts (xs : List Item) (n : ℕ) : Type 0 where
   pub rest : ArePageItems (drop (with_blanks 1 (drop n xs)) (drop n xs))
 
 sign_dropped : (xs : List Item) (n : ℕ) → get_or (signs (drop n xs)) 0 0 ≡ get_or (signs xs) n 0
-sign_dropped [] n = none_at n
-  where
-    none_at : (n : ℕ) → get_or (signs (drop n [])) 0 0 ≡ get_or (signs []) n 0
-    none_at zero = refl
-    none_at (suc n) = refl
+sign_dropped [] zero = refl
+sign_dropped [] (suc n) = refl
 sign_dropped (x ∷ xs) zero = refl
 sign_dropped (x ∷ xs) (suc n) = sign_dropped xs n
 

@@ -1,3 +1,6 @@
+use Rattle.wt_page_round_trip.proofs.EndedRows.{page_chained}
+use Rattle.wt_page_round_trip.proofs.RowUnits.{page_walk}
+use Rattle.wt_page_round_trip.proofs.CellNodes.{row_cells}
 use Rattle.wt_page_round_trip.proofs.ListNodes.{lists_placed}
 use Rattle.wt_page_round_trip.proofs.GoodRows.{page_rows}
 use Rattle.wt_page_round_trip.proofs.TextNodes.{para_placed}
