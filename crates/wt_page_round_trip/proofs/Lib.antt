@@ -27,6 +27,10 @@ pub mod ListNodes
 pub mod CellNodes
 pub mod RowUnits
 pub mod EndedRows
+pub mod TableRows
+pub mod TableNodes
+pub mod TableParts
+pub mod BlockNodes
 pub mod Body
 pub mod Separated
 pub mod Boxes

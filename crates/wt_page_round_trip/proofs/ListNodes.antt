@@ -461,13 +461,14 @@ RowsEnd (r ∷ []) = Unit {0}
 RowsEnd (r ∷ s ∷ rs) = IsBreakGap r.ending × RowsEnd (s ∷ rs)
 
 front_all : (p : ℕ → Bool) (n : ℕ) (ss : List ℕ) → n ≤ prefix_len p ss → list_all p (take n ss) ≡ true
-front_all p n [] le = refl
-front_all p zero (s ∷ ss) le = refl
-front_all p (suc n) (s ∷ ss) le = by_test (p s) refl le
+front_all p zero ss le = refl
+front_all p (suc n) [] le = refl
+front_all p (suc n) (s ∷ ss) le = by_test (p s) refl le (λ few. front_all p n ss few)
   where
-    by_test : (t : Bool) → p s ≡ t → suc n ≤ (if t then 1 + prefix_len p ss else 0) → (p s && list_all p (take n ss)) ≡ true
-    by_test true e le = ap (λ x. x && list_all p (take n ss)) e ∙ front_all p n ss (omega (arith, le))
-    by_test false e le = absurd (omega (arith, le))
+    by_test : (t : Bool) → p s ≡ t → suc n ≤ (if t then 1 + prefix_len p ss else 0) → (n ≤ prefix_len p ss → list_all p (take n ss) ≡ true)
+        → (p s && list_all p (take n ss)) ≡ true
+    by_test true e le more = ap (λ x. x && list_all p (take n ss)) e ∙ more (omega (arith, le))
+    by_test false e le more = absurd (omega (arith, le))
 
 list_first : (ss : List ℕ) → is_list ss ≡ true → is_list_sign (get_or ss 0 0) ≡ true
 list_first ss e = by_test (begins (codes "*") ss) (begins (codes "#") ss) (begins (codes ":") ss) (begins (codes ";") ss) refl refl refl refl e

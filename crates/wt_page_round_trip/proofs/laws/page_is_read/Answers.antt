@@ -1,3 +1,6 @@
+use Rattle.wt_page_round_trip.proofs.BlockNodes.{body_placed}
+use Rattle.wt_page_round_trip.proofs.TableNodes.{Reads}
+use Rattle.wt_page_round_trip.proofs.TableRows.{rows_good}
 use Rattle.wt_page_round_trip.proofs.EndedRows.{page_chained}
 use Rattle.wt_page_round_trip.proofs.RowUnits.{page_walk}
 use Rattle.wt_page_round_trip.proofs.CellNodes.{row_cells}
