@@ -1,8 +1,6 @@
 -- All blocks of rows are written, wherever blocks may stand: the body, and with it the page.
-use Rattle.std.proofs.Common.{◌≡◌, ℕ, zero, suc, ◌+◌, ◌*◌, ◌<◌, ◌≤◌, ◌⊎◌, Bool, true, false, List, [], ◌∷◌, ◌++◌, map, inl, inr, refl, sym, ap, ◌∙◌, subst, arith, append-nil}
-use Rattle.std.specs.Prelude.{◌&&◌, ◌||◌, codes}
+use Rattle.std.proofs.Common.{◌≡◌, ℕ, zero, suc, ◌+◌, ◌*◌, ◌<◌, true, false, List, [], ◌∷◌, ◌++◌, inl, inr, refl, sym, ap, ◌∙◌, subst, arith, append-nil}
 use Rattle.std.specs.List.{flat_map, AllByRecursion}
-use Rattle.wt_span.specs.Bytes.{begins}
 use Rattle.wt_span.specs.Items.{Item}
 use Rattle.wt_span.specs.Runs.{runs, IsRun, AreRuns}
 use Rattle.wt_span.proofs.RunLaws.{runs_are}
@@ -10,25 +8,22 @@ use Rattle.wt_tree.specs.declared.kind.Kind.{Kind}
 use Rattle.wt_tree.specs.declared.kind.Kind.TheVariants as kind
 use Rattle.wt_lines.specs.declared.kind.LineKind.{LineKind}
 use Rattle.wt_lines.specs.declared.kind.LineKind.TheVariants as line
-use Rattle.wt_lines.specs.Kinds.{is_list}
-use Rattle.wt_lines.specs.Lines.{IsUnbroken}
 use Rattle.wt_tables.specs.Extents.{is_open, is_end}
 use Rattle.wt_tables.specs.Parts.{joined, units, unit_kind}
-use Rattle.wt_body.specs.Rows.{Row, kind_of, signs, rows}
+use Rattle.wt_body.specs.Rows.{Row, kind_of, rows}
 use Rattle.wt_body.specs.Tables.{Reading, gaps}
-use Rattle.wt_body.specs.Body.{is_list_line, is_pre_line, one_block, same_block, block_stretches, run_stretches, blocks_by, within, most_tables, blocks}
+use Rattle.wt_body.specs.Body.{one_block, same_block, block_stretches, run_stretches, blocks_by, within, blocks}
 use Rattle.wt_page_round_trip.proofs.TextItems.{AreTexts}
 use Rattle.wt_page_round_trip.proofs.OfPage.{AreOfPage}
 use Rattle.wt_page_round_trip.proofs.PageLines.{all_left, all_right, all_both}
-use Rattle.wt_page_round_trip.proofs.BodyParts.{IsHeadingLine}
 use Rattle.wt_page_round_trip.proofs.Contents.{IsBreakGap}
 use Rattle.wt_page_round_trip.proofs.Stretched.{IsPlaced, ArePlaced}
 use Rattle.wt_page_round_trip.proofs.GoodRows.{IsSeen, IsGoodRow, AreGoodRows, page_rows}
-use Rattle.wt_page_round_trip.proofs.TextNodes.{gaps_placed, para_placed, ArePreRows, pre_placed, headings_placed, rules_placed}
-use Rattle.wt_page_round_trip.proofs.ListNodes.{IsListRow, RowsEnd, lists_placed}
-use Rattle.wt_page_round_trip.proofs.RowUnits.{Walk, UnitBy, IsUnit, IsTable, units_good, page_walk}
+use Rattle.wt_page_round_trip.proofs.TextNodes.{gaps_placed, para_placed, pre_placed, headings_placed, rules_placed}
+use Rattle.wt_page_round_trip.proofs.ListNodes.{RowsEnd, lists_placed}
+use Rattle.wt_page_round_trip.proofs.RowUnits.{UnitBy, IsUnit, units_good, page_walk}
 use Rattle.wt_page_round_trip.proofs.EndedRows.{needs_end, EndsBefore, AreChained, chained_front, chained_back, page_chained}
-use Rattle.wt_page_round_trip.proofs.TableRows.{rows_apart, rows_together, joined_more}
+use Rattle.wt_page_round_trip.proofs.TableRows.{joined_more}
 use Rattle.wt_page_round_trip.proofs.TableNodes.{HoldsBlocks, body_blocks, Reads, IsReading}
 use Rattle.wt_page_round_trip.proofs.TableParts.{units_joined, table_placed}
 

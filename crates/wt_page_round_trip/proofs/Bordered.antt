@@ -1,14 +1,12 @@
 -- What stands in an item or a cell: the text and inline elements of a line, and behind them separators and blocks. They are cut at
 -- the border already, which is the line break behind the line.
-use Rattle.std.proofs.Common.{◌≡◌, ℕ, suc, ◌+◌, ◌-◌, ◌<◌, ◌≤◌, ◌^◌, ◌⊎◌, Bool, true, false, Option, Some, None, List, [], ◌∷◌, ◌++◌, length, map, nat_lt, refl, sym, ap, ap₂, ◌∙◌, subst, arith, append_assoc, inl, inr}
-use Rattle.std.specs.Prelude.{◌==◌, ◌&&◌, ◌||◌, not, if◌then◌else◌}
-use Rattle.std.specs.List.{AllByRecursion, flat_map, list_any}
+use Rattle.std.proofs.Common.{◌≡◌, ℕ, ◌+◌, ◌-◌, ◌<◌, ◌⊎◌, Bool, true, false, Option, Some, None, List, [], ◌∷◌, ◌++◌, length, map, nat_lt, refl, sym, ap, ap₂, ◌∙◌, subst, arith, inl, inr}
+use Rattle.std.specs.Prelude.{◌==◌, ◌&&◌, ◌||◌, not}
+use Rattle.std.specs.List.{AllByRecursion}
 use Rattle.std.proofs.lemmas.Bool.Decides.{nat_tests}
-use Rattle.std.proofs.lemmas.List.{map-append}
 use Rattle.wt_html_grammar.proofs.Steps.{if_true, if_false}
-use Rattle.wt_span.specs.Items.{Item, char, sources}
-use Rattle.wt_span.specs.Runs.{runs, IsRun, AreRuns}
-use Rattle.wt_span.proofs.RunLaws.{runs_are, runs_only}
+use Rattle.wt_span.specs.Items.{Item, char}
+use Rattle.wt_span.specs.Runs.{IsRun, AreRuns}
 use Rattle.wt_tree.specs.declared.kind.Kind.{Kind}
 use Rattle.wt_tree.specs.declared.kind.Kind.TheVariants as kind
 use Rattle.wt_tree.specs.declared.kind.Mark.TheVariants as marks
@@ -18,21 +16,19 @@ use Rattle.wt_tree.specs.declared.row.Texts.TheVariants.{Bordered}
 use Rattle.wt_tree.specs.Tiling.{is_group}
 use Rattle.wt_tree.specs.Tree.{Tree, tree, Trees, none, more, label}
 use Rattle.wt_tree.specs.Kinds.{texts_of_kind, writing, is_block, is_inline, may_follow}
-use Rattle.wt_tree.specs.Recut.{is_break, is_space, is_blank as is_white, are_spaces, has_break, from_break, is_as_text, is_text, shows_block, is_border, is_passed, leads_to_block, place_in, front_ranges, rest_ranges, joined_ranges, text_leaf, sep_leaf, recut}
+use Rattle.wt_tree.specs.Recut.{is_break, is_space, is_blank as is_white, are_spaces, has_break, from_break, is_as_text, is_text, shows_block, is_border, is_passed, leads_to_block, place_in, text_leaf, sep_leaf}
 use Rattle.wt_tree.specs.Recutting.{is_empty}
-use Rattle.wt_tree.specs.Cutting.{begins_with_text, begins_with_break, is_sep_at, has_tail, IsWholeBy, IsWhole, IsFront, StandsBy, AreCut}
-use Rattle.wt_tree.proofs.CutOnly.{and_none, or_true, only_cut}
-use Rattle.wt_round_trip.specs.Written.{joins, are_ordered, IsCutIn, AllWrittenIn}
+use Rattle.wt_tree.specs.Cutting.{begins_with_text, begins_with_break, is_sep_at, IsWholeBy, IsWhole, IsFront, StandsBy, AreCut}
+use Rattle.wt_tree.proofs.CutOnly.{and_none, or_true}
+use Rattle.wt_round_trip.specs.Written.{joins, are_ordered, AllWrittenIn}
 use Rattle.wt_inline.specs.declared.loose.Loose.{Loose}
 use Rattle.wt_inline.specs.declared.loose.Loose.TheVariants.{Text, Sep}
-use Rattle.wt_inline.specs.Carried.{shown_item}
-use Rattle.wt_inline.specs.ItemTree.{ItemTree, inner, ItemTrees, forest, tree_items, held_by_all}
-use Rattle.wt_inline.specs.Parts.{Part, loose, node, held_parts, same_loose, same_origin, one_leaf, loose_kind, loose_leaf, child, children}
+use Rattle.wt_inline.specs.ItemTree.{ItemTree, inner, forest, tree_items, held_by_all}
+use Rattle.wt_inline.specs.Parts.{Part, loose, node, held_parts, same_loose, same_origin, one_leaf, loose_leaf, child}
 use Rattle.wt_annotate.specs.Labels.{width, label_at}
 use Rattle.wt_annotate.specs.Annotated.{numbered, numbered_in_all}
 use Rattle.wt_annotate.specs.Made.{annotated_at, all_annotated_at}
 use Rattle.wt_page_round_trip.proofs.Parts.{wide_append, own_chars, shown_chars}
-use Rattle.wt_page_round_trip.proofs.PageLines.{all_left, all_right}
 use Rattle.wt_page_round_trip.proofs.Separated.{head_of, IsPartIn, IsSeparatorRun, begins_loose, all_behind, separator_run}
 
 -- ---- what a line gives

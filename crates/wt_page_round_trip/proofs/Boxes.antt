@@ -1,6 +1,6 @@
 -- Elements round what stands in them, whatever their kind; and rules.
-use Rattle.std.proofs.Common.{◌≡◌, ℕ, suc, ◌+◌, ◌<◌, ◌≤◌, ◌^◌, Bool, true, false, Option, None, List, [], ◌∷◌, ◌++◌, length, IsUtf8, refl, sym, ap, ◌∙◌, subst, arith, append-nil, inl, inr}
-use Rattle.std.specs.Prelude.{◌&&◌, ◌||◌, not, if◌then◌else◌}
+use Rattle.std.proofs.Common.{◌≡◌, ℕ, suc, ◌+◌, ◌<◌, ◌≤◌, ◌^◌, true, false, None, List, [], ◌++◌, IsUtf8, refl, sym, ap, subst, arith, append-nil}
+use Rattle.std.specs.Prelude.{◌||◌, not, if◌then◌else◌}
 use Rattle.std.specs.List.{AllByRecursion}
 use Rattle.wt_span.specs.Items.{Item, sources}
 use Rattle.wt_tree.specs.declared.kind.AttrName.{AttrName}
@@ -15,15 +15,15 @@ use Rattle.wt_tree.specs.declared.row.Texts.TheVariants.{Separators}
 use Rattle.wt_tree.specs.declared.row.Payload.TheVariants.{NoData}
 use Rattle.wt_tree.specs.declared.row.Shape.{Shape}
 use Rattle.wt_tree.specs.Tree.{Label, Trees}
-use Rattle.wt_tree.specs.Kinds.{row, shape, texts_of_kind, is_leaf, is_numbered, may_hold, is_inline, spelling}
+use Rattle.wt_tree.specs.Kinds.{row, shape, texts_of_kind, is_leaf, is_numbered, may_hold, spelling}
 use Rattle.wt_tree.specs.Recut.{is_as_text}
 use Rattle.wt_fitting.specs.Rows.{shows_text}
 use Rattle.wt_round_trip.specs.Written.{has_level, IsNumber, HasSource, IsShown, HasAttributes, HasData, is_extension_label, IsElementLabel, NodeIsWritten, is_childless, IsCutIn, AllWrittenIn}
-use Rattle.wt_inline.specs.ItemTree.{plain, ItemTree, ItemTrees, inner, leaf, forest, held_by_all}
+use Rattle.wt_inline.specs.ItemTree.{plain, ItemTrees, inner, leaf, forest, held_by_all}
 use Rattle.wt_inline.specs.Parts.{Part, children}
 use Rattle.wt_annotate.specs.Labels.{width, label_at}
 use Rattle.wt_annotate.specs.Annotated.{numbered, numbered_in_all, count_by, inside_by}
-use Rattle.wt_annotate.specs.Made.{annotated_at, all_annotated_at}
+use Rattle.wt_annotate.specs.Made.{all_annotated_at}
 use Rattle.wt_page_round_trip.proofs.InlineNodes.{with_attrs}
 use Rattle.wt_page_round_trip.proofs.Parts.{IsWrittenNode, wide_append}
 use Rattle.wt_page_round_trip.proofs.Separated.{IsPartIn, TakesSeparators, separated_written}

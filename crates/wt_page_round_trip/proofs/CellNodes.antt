@@ -1,6 +1,6 @@
 -- Cells and captions with what stands in them.
-use Rattle.std.proofs.Common.{◌≡◌, ℕ, zero, suc, ◌+◌, ◌-◌, ◌<◌, ◌≤◌, ◌⊎◌, Bool, true, false, Option, Some, None, List, [], ◌∷◌, ◌++◌, length, map, take, drop, get_or, inl, inr, IsUtf8, refl, sym, ap, ◌∙◌, subst, arith, length-append}
-use Rattle.std.specs.Prelude.{◌||◌, slice_index, codes, if◌then◌else◌}
+use Rattle.std.proofs.Common.{◌≡◌, ℕ, zero, suc, ◌+◌, ◌-◌, ◌<◌, ◌≤◌, ◌⊎◌, Bool, true, false, Option, Some, None, List, [], ◌∷◌, ◌++◌, length, map, take, drop, get_or, inl, inr, IsUtf8, refl, sym, ap, ◌∙◌, subst, arith}
+use Rattle.std.specs.Prelude.{◌||◌, slice_index}
 use Rattle.std.specs.List.{AllByRecursion}
 use Rattle.std.proofs.lemmas.Bool.{cases_lt}
 use Rattle.std.proofs.lemmas.List.{take_all, drop_all, take-append-drop, get_or_append_left, map-append, length-map}
@@ -14,34 +14,32 @@ use Rattle.wt_tree.specs.declared.row.Class.TheVariants.{Cell as CellClass, Tabl
 use Rattle.wt_tree.specs.declared.row.Holding.TheVariants.{InlinesThenBlocks}
 use Rattle.wt_tree.specs.declared.row.Texts.TheVariants.{Bordered}
 use Rattle.wt_tree.specs.Kinds.{is_class, shape, is_anywhere, styles, spelling}
-use Rattle.wt_lex.proofs.Begins.{begins_get, begins_len}
 use Rattle.wt_lines.specs.Lines.{IsUnbroken, is_break_item}
-use Rattle.wt_attributes.specs.Attributes.{Named, attributes}
+use Rattle.wt_attributes.specs.Attributes.{attributes}
 use Rattle.wt_round_trip.specs.Written.{AreOwn}
-use Rattle.wt_context.specs.Line.{line_parts}
 use Rattle.wt_tables.specs.declared.scan.Splits.{Splits}
-use Rattle.wt_tables.specs.Cells.{Cell, splits, parts, bar_at, past_bar, attributes_by, opening_len, cell_of, split_by, header_by, sign_len, cells_in, cells_from}
+use Rattle.wt_tables.specs.Cells.{Cell, parts, bar_at, past_bar, attributes_by, opening_len, cell_of, split_by, header_by, sign_len, cells_in, cells_from}
 use Rattle.wt_tables.specs.CutLaws.{AreCut}
 use Rattle.wt_tables.specs.Views.{IsLowCut, HasSign}
 use Rattle.wt_tables.proofs.CellReads.{bar_some, low_opening}
 use Rattle.wt_tables.proofs.CellSteps.{split_low}
 use Rattle.wt_tables.proofs.Cuts.{cut_are}
 use Rattle.wt_body.specs.Rows.{Row, signs}
-use Rattle.wt_body.specs.Stretches.{Stretch, gap, block, block_len, before_end, stretches_parts, opened_by}
+use Rattle.wt_body.specs.Stretches.{Stretch, gap, block, block_len, before_end, stretches_parts}
 use Rattle.wt_body.specs.Tables.{cell_kind, cell_by, cells_by}
 use Rattle.wt_page_round_trip.proofs.TextItems.{AreTexts, BeginsLow, cut_items_before}
-use Rattle.wt_page_round_trip.proofs.OfPage.{IsPageItem, AreOfPage, ArePageItems}
+use Rattle.wt_page_round_trip.proofs.OfPage.{IsPageItem, ArePageItems}
 use Rattle.wt_page_round_trip.proofs.PageLines.{all_left, all_right, all_both, all_taken, all_dropped}
 use Rattle.wt_page_round_trip.proofs.ContextParts.{items_utf8}
 use Rattle.wt_page_round_trip.proofs.BodyParts.{inline_held}
 use Rattle.wt_page_round_trip.proofs.TileTexts.{no_page_items}
 use Rattle.wt_page_round_trip.proofs.SpanAttributes.{span_has}
 use Rattle.wt_page_round_trip.proofs.HeadingLines.{ends_low}
-use Rattle.wt_page_round_trip.proofs.Boxes.{IsRound, IsBox}
+use Rattle.wt_page_round_trip.proofs.Boxes.{IsBox}
 use Rattle.wt_page_round_trip.proofs.Stretched.{StandsIn, IsPlaced, ArePlaced}
 use Rattle.wt_page_round_trip.proofs.Bordered.{BreaksFirst}
 use Rattle.wt_page_round_trip.proofs.Contents.{IsBordered, IsBreakGap, line_opened, breaks_first}
-use Rattle.wt_page_round_trip.proofs.GoodRows.{IsGap, IsGoodRow, behind_items}
+use Rattle.wt_page_round_trip.proofs.GoodRows.{IsGoodRow, behind_items}
 use Rattle.wt_page_round_trip.proofs.ListOpenings.{sign_begins}
 use Rattle.wt_page_round_trip.proofs.ListNodes.{line_items}
 
@@ -78,7 +76,7 @@ pub styles_of : (xs : List Item) → ArePageItems xs → AreStyles (attributes x
 unfolding spelling
 styles_of xs h = span_has xs h
 
-no_styles : AreStyles []
+pub no_styles : AreStyles []
 no_styles = inr (refl, inr (refl, inr (refl, inr (refl, inr (refl, inr (refl, refl))))))
 
 -- ---- the cells of a line

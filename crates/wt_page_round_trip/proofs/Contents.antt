@@ -1,6 +1,6 @@
 -- Items and cells: a line with what stands behind it, or blocks alone.
-use Rattle.std.proofs.Common.{◌≡◌, ℕ, zero, suc, ◌+◌, ◌<◌, ◌≤◌, ◌^◌, ◌⊎◌, Bool, true, false, Option, List, [], ◌∷◌, ◌++◌, length, map, take, drop, refl, sym, ap, ap₂, ◌∙◌, subst, arith, append_assoc, inl, inr}
-use Rattle.std.specs.Prelude.{◌==◌, ◌&&◌, if◌then◌else◌}
+use Rattle.std.proofs.Common.{◌≡◌, ℕ, suc, ◌+◌, ◌<◌, ◌⊎◌, true, false, List, [], ◌∷◌, ◌++◌, map, take, drop, refl, sym, ap, ap₂, ◌∙◌, subst, arith, append_assoc, inl, inr}
+use Rattle.std.specs.Prelude.{◌&&◌}
 use Rattle.std.specs.List.{AllByRecursion, prefix_len}
 use Rattle.std.proofs.lemmas.List.{map-append}
 use Rattle.wt_html_grammar.proofs.Steps.{if_false}
@@ -14,29 +14,29 @@ use Rattle.wt_tree.specs.declared.row.Texts.TheVariants.{Bordered}
 use Rattle.wt_tree.specs.Tiling.{is_group}
 use Rattle.wt_tree.specs.Tree.{Tree, Trees}
 use Rattle.wt_tree.specs.Kinds.{texts_of_kind, is_block, is_inline}
-use Rattle.wt_tree.specs.Recut.{has_break, is_text, shows_block, is_border, leads_to_block}
+use Rattle.wt_tree.specs.Recut.{is_text, shows_block, is_border, leads_to_block}
 use Rattle.wt_tree.specs.Cutting.{begins_with_text, IsWhole, IsFront, StandsBy, AreCut}
 use Rattle.wt_tree.proofs.CutOnly.{only_cut}
 use Rattle.wt_round_trip.specs.Written.{are_ordered, IsCutIn, AllWrittenIn}
 use Rattle.wt_inline.specs.declared.loose.Loose.{Loose}
-use Rattle.wt_inline.specs.declared.loose.Loose.TheVariants.{Text, Sep}
+use Rattle.wt_inline.specs.declared.loose.Loose.TheVariants.{Sep}
 use Rattle.wt_inline.specs.ItemTree.{plain, ItemTree, inner, forest, tree_items, held_by_all}
 use Rattle.wt_inline.specs.Parts.{Part, loose, node, parts, same_loose, same_origin, one_leaf, child, children}
 use Rattle.wt_context.specs.Line.{line_parts}
 use Rattle.wt_annotate.specs.Labels.{width, label_at}
 use Rattle.wt_annotate.specs.Annotated.{numbered, numbered_in_all}
 use Rattle.wt_annotate.specs.Made.{annotated_at, all_annotated_at}
-use Rattle.wt_body.specs.Stretches.{Stretch, gap, block, is_gap, stretch_parts, stretches_parts, front_len, past_front, block_len, before_end, end_gaps, tree_block, node_of, opened_by, enclosed}
+use Rattle.wt_body.specs.Stretches.{Stretch, gap, block, is_gap, stretches_parts, front_len, past_front, block_len, before_end, tree_block, node_of, opened_by, enclosed}
 use Rattle.wt_page_round_trip.proofs.InlineNodes.{with_attrs}
 use Rattle.wt_page_round_trip.proofs.OfPage.{ArePageItems}
 use Rattle.wt_page_round_trip.proofs.PageLines.{all_taken, all_dropped}
 use Rattle.wt_page_round_trip.proofs.Parts.{wide_append, children_written}
 use Rattle.wt_page_round_trip.proofs.Inline.{IsInlineParent}
 use Rattle.wt_page_round_trip.proofs.ContextParts.{line_fits}
-use Rattle.wt_page_round_trip.proofs.Separated.{head_of, IsPartIn, TakesSeparators, separated_written, all_behind}
+use Rattle.wt_page_round_trip.proofs.Separated.{head_of, IsPartIn, TakesSeparators, separated_written}
 use Rattle.wt_page_round_trip.proofs.Boxes.{IsInside, IsRound, IsBox, box_written}
 use Rattle.wt_page_round_trip.proofs.Stretched.{StandsIn, IsBlockIn, IsPlaced, ArePlaced, placed_parts, block_first, gap_first, gaps_behind, enclosed_placed}
-use Rattle.wt_page_round_trip.proofs.Bordered.{IsLinePart, BreaksFirst, IsBehind, text_is, lines_behind, behind_cut, behind_by, runs_cut, runs_no_inline, runs_no_block, behind_ordered, all_ordered, both_written}
+use Rattle.wt_page_round_trip.proofs.Bordered.{IsLinePart, BreaksFirst, lines_behind, behind_cut, behind_by, runs_cut, runs_no_inline, runs_no_block, behind_ordered, all_ordered, both_written}
 use Rattle.wt_page_round_trip.proofs.Unbroken.{AreLineItems, line_is}
 
 -- an item, a cell or a caption

@@ -1,30 +1,30 @@
 -- The rows of a page: gaps round items in UTF-8, which begin with the sign of their kind.
-use Rattle.std.proofs.Common.{◌≡◌, ℕ, zero, suc, ◌+◌, ◌<◌, ◌≤◌, ◌⊎◌, Bool, true, false, List, [], ◌∷◌, ◌++◌, length, map, take, drop, get_or, replicate, IsUtf8, refl, sym, ap, ◌∙◌, subst, arith, append-nil, inl, inr, length-append}
+use Rattle.std.proofs.Common.{◌≡◌, ℕ, zero, suc, ◌+◌, ◌<◌, ◌≤◌, Bool, true, false, List, [], ◌∷◌, ◌++◌, length, map, take, drop, get_or, replicate, refl, sym, ap, ◌∙◌, subst, arith, append-nil, length-append}
 use Rattle.std.specs.Prelude.{◌==◌, not, codes, if◌then◌else◌}
 use Rattle.std.specs.List.{AllByRecursion, prefix_len}
-use Rattle.std.proofs.lemmas.Bool.{eqb-true, true≢false}
+use Rattle.std.proofs.lemmas.Bool.{eqb-true}
 use Rattle.std.proofs.lemmas.List.{take-append-drop, get_or_append_left, map-append}
 use Rattle.std.proofs.lemmas.Str.{IsUtf8-nil}
 use Rattle.std.proofs.lemmas.Bool.Decides.{nat_tests}
 use Rattle.wt_span.specs.Bytes.{begins}
-use Rattle.wt_span.specs.Items.{Item, char, whole, sign, is_mark}
+use Rattle.wt_span.specs.Items.{Item, char, whole, sign}
 use Rattle.wt_span.specs.Runs.{IsRun, AreRuns}
 use Rattle.wt_span.proofs.RunLaws.{runs_are}
 use Rattle.wt_lex.proofs.Begins.{begins_get, begins_len}
 use Rattle.wt_lines.specs.declared.kind.LineKind.{LineKind}
 use Rattle.wt_lines.specs.declared.kind.LineKind.TheVariants as line
-use Rattle.wt_lines.specs.Kinds.{past, is_idle, is_idle_all, is_mark_sign, is_list}
+use Rattle.wt_lines.specs.Kinds.{past, is_idle, is_list}
 use Rattle.wt_lines.specs.Lines.{IsUnbroken, content, full_lines, goes_on, is_break_item}
 use Rattle.wt_tables.specs.Extents.{behind}
 use Rattle.wt_build.specs.Rows.{kind_at, ending}
 use Rattle.wt_body.specs.Rows.{Row, signs, marks_len, idle_len, whole_row, sign_row, behind_sign, is_unseen, sign_rows, dashes, line_rows, unwritten_end, rows_from, rows}
 use Rattle.wt_page_round_trip.proofs.TextItems.{AreTexts, EndsLow, cut_after}
 use Rattle.wt_page_round_trip.proofs.OfPage.{IsPageItem, AreOfPage, ArePageItems}
-use Rattle.wt_page_round_trip.proofs.PageLines.{IsBetween, is_white_byte, all_left, all_right, all_both, all_taken, all_dropped, taken_marks, marks_between, ending_between, content_ending, content_page, page_lines}
+use Rattle.wt_page_round_trip.proofs.PageLines.{IsBetween, is_white_byte, all_both, all_taken, all_dropped, taken_marks, marks_between, ending_between, content_ending, content_page, page_lines}
 use Rattle.wt_page_round_trip.proofs.Idle.{IsSmallItem, texts_small, idle_item, idle_items, blank_line}
 use Rattle.wt_page_round_trip.proofs.BodyParts.{IsHeadingLine}
 use Rattle.wt_page_round_trip.proofs.HeadingLines.{ends_low, past_lead, heading_line}
-use Rattle.wt_page_round_trip.proofs.KindTests.{IsTested, line_tests, kind_told}
+use Rattle.wt_page_round_trip.proofs.KindTests.{kind_told}
 
 -- what may stand between blocks
 abbrev pub IsGap : List Item → Type 0

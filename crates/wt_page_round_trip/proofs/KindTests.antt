@@ -5,7 +5,7 @@ use Rattle.std.specs.Option.{unwrap_or}
 use Rattle.wt_span.specs.Bytes.{begins}
 use Rattle.wt_lines.specs.declared.kind.LineKind.{LineKind}
 use Rattle.wt_lines.specs.declared.kind.LineKind.TheVariants as line
-use Rattle.wt_lines.specs.Kinds.{past, is_idle, is_mark_sign, is_heading, is_list, first_of, open_kind, table_rows, text_rows, kind_of_signs}
+use Rattle.wt_lines.specs.Kinds.{past, is_idle, is_mark_sign, is_heading, is_list, first_of, kind_of_signs}
 
 -- the tests of a line: blank, `{|`, `|}`, `|+`, `|-`, `|`, `!`, heading, rule, list, preformatted
 pub record Tests : Type 0 where

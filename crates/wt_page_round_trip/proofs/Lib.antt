@@ -31,6 +31,7 @@ pub mod TableRows
 pub mod TableNodes
 pub mod TableParts
 pub mod BlockNodes
+pub mod BlockPages
 pub mod Body
 pub mod Separated
 pub mod Boxes

@@ -1,7 +1,7 @@
 -- Lists and their items are written wherever lists may stand.
 use Rattle.std.proofs.Common.{◌≡◌, ℕ, zero, suc, ◌+◌, ◌-◌, ◌*◌, ◌<◌, ◌≤◌, ◌⊎◌, Bool, true, false, min, Option, Some, None, List, [], ◌∷◌, ◌++◌, length, map, take, drop, get_or, nat_lt, codes, cond, inl, inr, IsUtf8, refl, sym, ap, ◌∙◌, subst, arith, append_assoc, append-nil, length-append, length-drop, length-take}
 use Rattle.std.specs.Prelude.{◌==◌, ◌&&◌, ◌||◌, slice_index, if◌then◌else◌}
-use Rattle.std.specs.List.{flat_map, filter, prefix_len, list_all, AllByRecursion}
+use Rattle.std.specs.List.{filter, prefix_len, list_all, AllByRecursion}
 use Rattle.std.proofs.lemmas.Bool.{eqb-true, ltb-true, and_parts}
 use Rattle.std.proofs.lemmas.Bool.Decides.{nat_tests}
 use Rattle.std.proofs.lemmas.Str.{IsUtf8-nil}
@@ -14,7 +14,7 @@ use Rattle.wt_tree.specs.declared.kind.Kind.TheVariants as kind
 use Rattle.wt_tree.specs.declared.row.Class.TheVariants.{List as ListClass, Item as ItemClass, Term, Inline, Character}
 use Rattle.wt_tree.specs.declared.row.Holding.TheVariants.{Items, Terms, InlinesThenLists}
 use Rattle.wt_tree.specs.declared.row.Texts.TheVariants.{Separators, Bordered}
-use Rattle.wt_tree.specs.Kinds.{is_class, texts_of_kind, may_hold, shape, is_anywhere, spelling}
+use Rattle.wt_tree.specs.Kinds.{is_class, may_hold, shape, is_anywhere, spelling}
 use Rattle.wt_lex.proofs.Begins.{begins_get}
 use Rattle.wt_html_grammar.proofs.Steps.{if_true}
 use Rattle.wt_span.specs.Bytes.{begins}
@@ -22,20 +22,19 @@ use Rattle.wt_lines.specs.Lines.{IsUnbroken, is_break_item}
 use Rattle.wt_lines.specs.Kinds.{is_list}
 use Rattle.wt_blocks.specs.ListTree.{ListTree, forest as list_forest}
 use Rattle.wt_blocks.specs.Nesting.{ListLine, numbered, is_definition, same_list, is_list_sign, sign_of, one_list, goes_on, one_item, without_sign, node_of, item_by as nested_item, items_by, list_by, lists as nested_lists, nested}
-use Rattle.wt_inline.specs.ItemTree.{plain, ItemTree, forest}
+use Rattle.wt_inline.specs.ItemTree.{plain, forest}
 use Rattle.wt_inline.specs.Parts.{Part, children}
 use Rattle.wt_context.specs.Line.{line_parts}
 use Rattle.wt_body.specs.Rows.{Row, unwritten_end, signs}
-use Rattle.wt_body.specs.Stretches.{Stretch, gap, block, block_len, before_end, stretches_parts, opened_by, enclosed}
+use Rattle.wt_body.specs.Stretches.{Stretch, gap, block, block_len, enclosed}
 use Rattle.wt_body.specs.Lists.{prefix_of, with_blanks, item_opening_len, term_len, colon_at, item_kind, list_kind, term, item_by, line_item, begins_at, row_at, list_stretches, all_lists, prefixes, lists}
-use Rattle.wt_page_round_trip.proofs.OfPage.{IsPageItem, ArePageItems, texts_utf8}
+use Rattle.wt_page_round_trip.proofs.OfPage.{IsPageItem, ArePageItems}
 use Rattle.wt_page_round_trip.proofs.PageLines.{all_left, all_right, all_both, all_taken, all_dropped}
-use Rattle.wt_page_round_trip.proofs.Inline.{IsInlineParent}
-use Rattle.wt_page_round_trip.proofs.ContextParts.{items_utf8, line_fits}
+use Rattle.wt_page_round_trip.proofs.ContextParts.{items_utf8}
 use Rattle.wt_page_round_trip.proofs.BodyParts.{inline_held}
-use Rattle.wt_page_round_trip.proofs.Boxes.{IsInside, IsRound, IsBox, box_written}
+use Rattle.wt_page_round_trip.proofs.Boxes.{IsInside, IsBox, box_written}
 use Rattle.wt_page_round_trip.proofs.Stretched.{StandsIn, IsBlockIn, IsPlaced, ArePlaced, IsHolder, holder_enclosed}
-use Rattle.wt_page_round_trip.proofs.Unbroken.{AreLineItems, IsLineItem}
+use Rattle.wt_page_round_trip.proofs.Unbroken.{AreLineItems}
 use Rattle.wt_page_round_trip.proofs.Contents.{IsBordered, IsBreakGap, line_inside, line_opened, breaks_first, blocks_enclosed}
 use Rattle.wt_page_round_trip.proofs.GoodRows.{IsGap, IsGoodRow, AreGoodRows}
 use Rattle.wt_page_round_trip.proofs.ListOpenings.{opening_cut, colon_sign, AreTermParts, term_parts}

@@ -1,11 +1,11 @@
 -- Where the open delimiters of items end: behind signs of lists and blanks, and at the `:` behind a term.
-use Rattle.std.proofs.Common.{◌≡◌, ℕ, zero, suc, ◌+◌, ◌-◌, ◌<◌, ◌≤◌, Bool, true, false, min, Option, Some, None, List, [], ◌∷◌, ◌++◌, length, map, take, drop, get_or, replicate, nat_lt, inl, inr, refl, sym, ap, ◌∙◌, subst, arith, length-append, length-take}
-use Rattle.std.specs.Prelude.{◌==◌, ◌||◌, not, if◌then◌else◌}
+use Rattle.std.proofs.Common.{◌≡◌, ℕ, zero, suc, ◌+◌, ◌-◌, ◌<◌, ◌≤◌, Bool, true, false, min, List, [], ◌∷◌, ◌++◌, length, take, drop, get_or, replicate, inl, inr, refl, sym, ap, ◌∙◌, subst, arith, length-append, length-take}
+use Rattle.std.specs.Prelude.{◌==◌, not, if◌then◌else◌}
 use Rattle.std.specs.List.{flat_map, prefix_len, AllByRecursion}
-use Rattle.std.proofs.lemmas.Bool.{eqb-true, true≢false, cases_lt}
+use Rattle.std.proofs.lemmas.Bool.{eqb-true, cases_lt}
 use Rattle.std.proofs.lemmas.Bool.Decides.{nat_tests}
-use Rattle.std.proofs.lemmas.List.{map-append, drop-map, take-append-drop, get_or_append_left, get_or-append_right, length-map}
-use Rattle.std.proofs.lemmas.List.Sums.{prefix_len-le-length, prefix_len_stops}
+use Rattle.std.proofs.lemmas.List.{map-append, drop-map, take-append-drop, get_or_append_left, get_or-append_right}
+use Rattle.std.proofs.lemmas.List.Sums.{prefix_len_stops}
 use Rattle.wt_span.specs.Bytes.{is_blank}
 use Rattle.wt_span.specs.Items.{Item, char, whole, sign}
 use Rattle.wt_blocks.specs.Nesting.{is_list_sign}

@@ -1,5 +1,5 @@
 -- Rows and the tables that open and end among them: units, each a row or all rows of a table.
-use Rattle.std.proofs.Common.{◌≡◌, ℕ, zero, suc, ◌+◌, ◌-◌, ◌<◌, ◌≤◌, Bool, true, false, List, [], ◌∷◌, ◌++◌, length, map, drop, replicate, refl, sym, ap, ap₂, ◌∙◌, subst, arith, append_assoc, append-nil, length-append}
+use Rattle.std.proofs.Common.{◌≡◌, ℕ, zero, suc, ◌+◌, ◌-◌, ◌<◌, ◌≤◌, Bool, true, false, List, [], ◌∷◌, ◌++◌, length, map, drop, replicate, refl, sym, ap, ap₂, ◌∙◌, subst, arith, append_assoc, length-append}
 use Rattle.std.specs.Prelude.{if◌then◌else◌}
 use Rattle.std.specs.List.{AllByRecursion}
 use Rattle.wt_span.specs.Items.{Item}
@@ -11,7 +11,7 @@ use Rattle.wt_tables.specs.Parts.{joined, taken_len, put_first, units_from, unit
 use Rattle.wt_tables.proofs.Ends.{after_line, depth_len, inner_is}
 use Rattle.wt_tables.proofs.Opens.{open_few, end_inside}
 use Rattle.wt_build.specs.Rows.{kind_at}
-use Rattle.wt_body.specs.Rows.{Row, kind_of, whole_row, sign_row, behind_sign, is_unseen, sign_rows, marks_len, idle_len, dashes, line_rows, unwritten_end, rows_from, rows}
+use Rattle.wt_body.specs.Rows.{Row, kind_of, whole_row, sign_row, behind_sign, is_unseen, marks_len, idle_len, dashes, line_rows, unwritten_end, rows_from, rows}
 
 -- ---- rows in which tables open and end
 

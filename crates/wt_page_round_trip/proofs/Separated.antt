@@ -1,6 +1,6 @@
 -- Separators and nodes that stand in a node, as they are written: the children of what holds no text of its own, and what stands
 -- behind the text of an item or a cell.
-use Rattle.std.proofs.Common.{◌≡◌, ℕ, ◌+◌, ◌<◌, ◌≤◌, ◌^◌, Bool, true, false, Option, None, List, [], ◌∷◌, ◌++◌, length, map, IsUtf8, refl, sym, ap, ap₂, ◌∙◌, subst, arith}
+use Rattle.std.proofs.Common.{◌≡◌, ℕ, ◌+◌, ◌<◌, ◌≤◌, ◌^◌, Bool, true, false, Option, None, List, [], ◌∷◌, ◌++◌, map, IsUtf8, refl, sym, ap, ap₂, ◌∙◌, subst, arith}
 use Rattle.std.specs.Prelude.{◌==◌, ◌&&◌, ◌||◌}
 use Rattle.std.specs.List.{AllByRecursion}
 use Rattle.std.proofs.lemmas.Str.{IsUtf8-nil}
@@ -19,9 +19,9 @@ use Rattle.wt_tree.specs.Cutting.{begins_with_text}
 use Rattle.wt_round_trip.specs.Written.{leaf_kind, may_stand, HasLeafKind, WrittenIn, AllWrittenIn}
 use Rattle.wt_round_trip.proofs.Json.{ascii_then}
 use Rattle.wt_inline.specs.declared.loose.Loose.{Loose}
-use Rattle.wt_inline.specs.declared.loose.Loose.TheVariants.{Text, Sep}
+use Rattle.wt_inline.specs.declared.loose.Loose.TheVariants.{Sep}
 use Rattle.wt_inline.specs.ItemTree.{Head, ItemTree, inner, forest, tree_items, held_by_all}
-use Rattle.wt_inline.specs.Parts.{Part, loose, node, parts, part, whole_tree, held_parts, same_loose, same_origin, one_leaf, loose_leaf, child, children}
+use Rattle.wt_inline.specs.Parts.{Part, loose, node, parts, whole_tree, held_parts, same_loose, same_origin, one_leaf, loose_leaf, child, children}
 use Rattle.wt_annotate.specs.Labels.{width, label_at}
 use Rattle.wt_annotate.specs.Annotated.{numbered, numbered_in_all}
 use Rattle.wt_annotate.specs.Made.{annotated_at, all_annotated_at}

@@ -1,6 +1,6 @@
 -- Tables with their captions, rows and cells, where what is read in cells is written.
-use Rattle.std.proofs.Common.{◌≡◌, ℕ, zero, suc, ◌+◌, ◌-◌, ◌*◌, ◌<◌, ◌≤◌, ◌⊎◌, Bool, true, false, List, [], ◌∷◌, ◌++◌, length, map, take, drop, get_or, inl, inr, IsUtf8, refl, sym, ap, ap₂, ◌∙◌, subst, arith}
-use Rattle.std.specs.Prelude.{◌==◌, ◌||◌, slice_index, reverse, codes, if◌then◌else◌}
+use Rattle.std.proofs.Common.{◌≡◌, ℕ, suc, ◌+◌, ◌-◌, ◌*◌, ◌<◌, ◌≤◌, ◌⊎◌, Bool, true, false, List, [], ◌∷◌, ◌++◌, length, take, drop, get_or, inl, inr, IsUtf8, refl, sym, ap, ap₂, ◌∙◌, subst, arith}
+use Rattle.std.specs.Prelude.{◌==◌, ◌||◌, reverse, codes, if◌then◌else◌}
 use Rattle.std.specs.List.{flat_map, prefix_len, AllByRecursion}
 use Rattle.std.proofs.lemmas.Bool.{eqb-true}
 use Rattle.std.proofs.lemmas.Bool.Decides.{nat_tests}
@@ -24,13 +24,12 @@ use Rattle.wt_lines.specs.declared.kind.LineKind.TheVariants as line
 use Rattle.wt_lines.specs.Kinds.{is_idle}
 use Rattle.wt_lines.specs.Lines.{content}
 use Rattle.wt_attributes.specs.Attributes.{attributes}
-use Rattle.wt_tables.specs.Cells.{lead_len, from_sign as from_first, is_dash, row_sign_len, table_attributes, row_attributes}
-use Rattle.wt_tables.specs.Parts.{RowOf, TableOf, is_blank_kind, table_of, joined, units, plain_len, groups, captions_len}
-use Rattle.wt_inline.specs.ItemTree.{plain}
+use Rattle.wt_tables.specs.Cells.{lead_len, is_dash, row_sign_len, table_attributes, row_attributes}
+use Rattle.wt_tables.specs.Parts.{RowOf, TableOf, is_blank_kind, table_of}
 use Rattle.wt_build.specs.Rows.{ending}
-use Rattle.wt_body.specs.Rows.{Row, row_items, all_items, kind_of, signs, first_lead}
-use Rattle.wt_body.specs.Stretches.{Stretch, gap, block_len, enclosed}
-use Rattle.wt_body.specs.Tables.{Reading, gaps, cell_kind, cell_stretches, is_blank_row, stray_len, from_sign, delimiter, behind_delimiter, delimiter_lead, first_items, row_by, row_stretches, rows_stretches, table_inside, table_by, last_of, without_last, table}
+use Rattle.wt_body.specs.Rows.{Row, row_items, all_items, kind_of, signs}
+use Rattle.wt_body.specs.Stretches.{Stretch, gap, block_len}
+use Rattle.wt_body.specs.Tables.{Reading, cell_kind, cell_stretches, is_blank_row, stray_len, from_sign, delimiter, behind_delimiter, delimiter_lead, first_items, row_by, row_stretches, rows_stretches, table_inside, table_by, last_of, without_last, table}
 use Rattle.wt_page_round_trip.proofs.OfPage.{IsPageItem, ArePageItems}
 use Rattle.wt_page_round_trip.proofs.PageLines.{IsBetween, all_both, all_taken, all_dropped, texts_both, ending_between, content_page}
 use Rattle.wt_page_round_trip.proofs.TileTexts.{no_page_items}
@@ -41,10 +40,10 @@ use Rattle.wt_page_round_trip.proofs.GoodRows.{IsGap, IsSeen, IsGoodRow, AreGood
 use Rattle.wt_page_round_trip.proofs.TextNodes.{first_gap, gap_items, gaps_placed}
 use Rattle.wt_page_round_trip.proofs.ListOpenings.{more_taken}
 use Rattle.wt_page_round_trip.proofs.ListNodes.{HoldsLists}
-use Rattle.wt_page_round_trip.proofs.CellNodes.{AreStyles, styles_of, low_items, row_cells}
-use Rattle.wt_page_round_trip.proofs.RowUnits.{Walk, IsTable, units_good}
+use Rattle.wt_page_round_trip.proofs.CellNodes.{AreStyles, styles_of, no_styles, low_items, row_cells}
+use Rattle.wt_page_round_trip.proofs.RowUnits.{Walk}
 use Rattle.wt_page_round_trip.proofs.EndedRows.{AreChained}
-use Rattle.wt_page_round_trip.proofs.TableRows.{AreCellRows, OpensRow, IsTableRow, rows_apart, rows_together, table_groups, captions_good, rows_good}
+use Rattle.wt_page_round_trip.proofs.TableRows.{AreCellRows, OpensRow, IsTableRow}
 
 -- ---- blank rows at the end
 
@@ -311,7 +310,7 @@ cell_groups read m i k parent caption s small (g ∷ gs) a =
 row_by_placed : (k : ℕ) (rs : List Row) → OpensRow rs → (cells : List Stretch) → k < 190 → ArePlaced (suc k) kind.Tr cells
     → ArePlaced k kind.Tbody (row_by rs cells)
 row_by_placed k [] o cells small a =
-    holder_enclosed k kind.Tbody kind.Tr row_holder (row_box [] [] (styles_of [] no_page_items) IsUtf8-nil) cells (omega (arith, small)) rows_stand a
+    holder_enclosed k kind.Tbody kind.Tr row_holder (row_box [] [] no_styles IsUtf8-nil) cells (omega (arith, small)) rows_stand a
 row_by_placed k (r ∷ rs) o cells small a =
     let open_items : ArePageItems r.items = o.1.0.items in
     (lead_gap (r ∷ rs) o.1,

@@ -6,14 +6,14 @@ use Rattle.wt_span.specs.Bytes.{begins}
 use Rattle.wt_tree.specs.declared.kind.Kind.{Kind}
 use Rattle.wt_tree.specs.declared.kind.Kind.TheVariants as kind
 use Rattle.wt_tables.specs.Extents.{inner_len}
-use Rattle.wt_tables.specs.Parts.{joined, taken_len, put_first, units_from, units, TableOf, table_of, plain_len, groups, captions_len}
+use Rattle.wt_tables.specs.Parts.{joined, taken_len, put_first, units_from, units, table_of, plain_len, groups, captions_len}
 use Rattle.wt_body.specs.Rows.{Row, kind_of, signs}
 use Rattle.wt_body.specs.Tables.{Reading, first_items, table}
 use Rattle.wt_page_round_trip.proofs.OfPage.{ArePageItems}
 use Rattle.wt_page_round_trip.proofs.PageLines.{all_left, all_right, all_taken, all_dropped}
 use Rattle.wt_page_round_trip.proofs.Stretched.{StandsIn, ArePlaced}
 use Rattle.wt_page_round_trip.proofs.GoodRows.{IsGoodRow, AreGoodRows}
-use Rattle.wt_page_round_trip.proofs.RowUnits.{Walk, IsUnit, IsTable, units_good}
+use Rattle.wt_page_round_trip.proofs.RowUnits.{Walk, IsTable, units_good}
 use Rattle.wt_page_round_trip.proofs.EndedRows.{AreChained, chained_front, chained_behind}
 use Rattle.wt_page_round_trip.proofs.TableRows.{IsGroup, rows_apart, rows_together, table_groups, captions_good, rows_good, stray_rows}
 use Rattle.wt_page_round_trip.proofs.TableNodes.{IsReading, AreTableParts, table_by_placed, table_is}

@@ -1,7 +1,7 @@
 -- The parts of a table, by the units of the rows in it: groups that begin with a caption, a row or cells.
-use Rattle.std.proofs.Common.{◌≡◌, ℕ, zero, suc, ◌+◌, ◌-◌, ◌<◌, ◌≤◌, ◌⊎◌, Bool, true, false, List, [], ◌∷◌, ◌++◌, length, map, take, drop, get_or, inl, inr, refl, sym, ap, ◌∙◌, subst, arith, append_assoc}
+use Rattle.std.proofs.Common.{◌≡◌, ℕ, suc, ◌+◌, ◌-◌, ◌<◌, ◌≤◌, ◌⊎◌, Bool, true, false, List, [], ◌∷◌, ◌++◌, length, map, take, drop, get_or, inl, inr, refl, sym, ap, ◌∙◌, subst, arith, append_assoc}
 use Rattle.std.specs.Prelude.{not, codes, if◌then◌else◌}
-use Rattle.std.specs.List.{AllByRecursion, prefix_len}
+use Rattle.std.specs.List.{AllByRecursion}
 use Rattle.std.proofs.lemmas.List.{take-append-drop}
 use Rattle.wt_span.specs.Bytes.{begins}
 use Rattle.wt_span.specs.Items.{Item}
@@ -13,14 +13,14 @@ use Rattle.wt_lines.specs.declared.kind.LineKind.TheVariants as line
 use Rattle.wt_lines.specs.Lines.{IsUnbroken}
 use Rattle.wt_tables.specs.Cells.{sign_len}
 use Rattle.wt_tables.specs.Extents.{is_open, is_end}
-use Rattle.wt_tables.specs.Parts.{joined, unit_kind, begins_part, begins_group, groups, group_kind, stray_len, with_stray, past_stray, RowOf, is_row, row_by, row_of, rows_of, is_caption, plain_len, captions_len}
+use Rattle.wt_tables.specs.Parts.{joined, begins_part, begins_group, groups, group_kind, stray_len, with_stray, past_stray, RowOf, is_row, row_by, row_of, rows_of, is_caption, plain_len, captions_len}
 use Rattle.wt_tables.specs.Views.{HasSign}
 use Rattle.wt_body.specs.Rows.{Row, kind_of, signs}
-use Rattle.wt_page_round_trip.proofs.PageLines.{all_left, all_right, all_both, all_taken, all_dropped}
+use Rattle.wt_page_round_trip.proofs.PageLines.{all_left, all_right, all_both, all_dropped}
 use Rattle.wt_page_round_trip.proofs.Contents.{IsBreakGap}
 use Rattle.wt_page_round_trip.proofs.GoodRows.{IsSeen, IsGoodRow, AreGoodRows}
 use Rattle.wt_page_round_trip.proofs.RowUnits.{Walk, UnitBy, IsUnit, walk_units}
-use Rattle.wt_page_round_trip.proofs.EndedRows.{needs_end, EndsBefore, AreChained, chained_front, chained_back, chained_behind}
+use Rattle.wt_page_round_trip.proofs.EndedRows.{needs_end, AreChained, chained_front, chained_back, chained_behind}
 
 -- ---- rows of several units
 

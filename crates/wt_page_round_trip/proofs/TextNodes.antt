@@ -1,35 +1,33 @@
 -- Paragraphs, preformatted text, headings and rules, wherever blocks may stand.
-use Rattle.std.proofs.Common.{◌≡◌, ℕ, suc, ◌+◌, ◌<◌, ◌≤◌, Bool, true, false, None, List, [], ◌∷◌, ◌++◌, length, map, take, drop, get_or, IsUtf8, refl, sym, ap, ◌∙◌, subst, arith}
-use Rattle.std.specs.Prelude.{◌||◌, codes}
+use Rattle.std.proofs.Common.{◌≡◌, ℕ, suc, ◌+◌, ◌<◌, ◌≤◌, true, List, [], ◌∷◌, ◌++◌, length, take, drop, get_or, IsUtf8, refl, sym, ap, subst, arith}
+use Rattle.std.specs.Prelude.{codes}
 use Rattle.std.specs.List.{AllByRecursion, flat_map}
 use Rattle.std.proofs.lemmas.Bool.Decides.{nat_tests}
 use Rattle.std.proofs.lemmas.Str.{IsUtf8-nil, IsUtf8-append}
 use Rattle.wt_span.specs.Bytes.{begins}
-use Rattle.wt_span.specs.Items.{Item, char, whole, sources, sign}
+use Rattle.wt_span.specs.Items.{Item, char, whole, sources}
 use Rattle.wt_tree.specs.declared.kind.Kind.{Kind}
 use Rattle.wt_tree.specs.declared.kind.Kind.TheVariants as kind
 use Rattle.wt_tree.specs.declared.row.Class.TheVariants.{Block}
 use Rattle.wt_tree.specs.declared.row.Holding.TheVariants.{Inlines}
-use Rattle.wt_tree.specs.declared.row.Texts.TheVariants.{Page, Bordered}
-use Rattle.wt_tree.specs.Kinds.{texts_of_kind, shape, is_anywhere, may_hold, spelling}
+use Rattle.wt_tree.specs.declared.row.Texts.TheVariants.{Page}
+use Rattle.wt_tree.specs.Kinds.{texts_of_kind, shape, is_anywhere, spelling}
 use Rattle.wt_lex.proofs.Begins.{begins_get, begins_len}
-use Rattle.wt_lines.specs.declared.kind.LineKind.TheVariants as line
 use Rattle.wt_round_trip.specs.Written.{has_level, IsCutIn}
 use Rattle.wt_round_trip.proofs.Json.{ascii_then}
 use Rattle.wt_inline.specs.declared.loose.Loose.TheVariants.{Text}
-use Rattle.wt_inline.specs.ItemTree.{plain, ItemTree, leaf, inner, forest}
+use Rattle.wt_inline.specs.ItemTree.{plain, ItemTree, inner, forest}
 use Rattle.wt_inline.specs.Parts.{Part, node, parts, children}
 use Rattle.wt_context.specs.Line.{line_parts, line_trees}
 use Rattle.wt_blocks.specs.Headings.{level as heading_level, opening, inside, closing}
 use Rattle.wt_blocks.proofs.HeadingLaws.{joined as heading_joined}
 use Rattle.wt_build.specs.Blocks.{heading}
 use Rattle.wt_annotate.specs.Made.{all_annotated_at}
-use Rattle.wt_body.specs.Rows.{Row, row_items, signs, kind_of, first_lead, last_ending}
-use Rattle.wt_body.specs.Stretches.{Stretch, gap, tree_block}
+use Rattle.wt_body.specs.Rows.{Row, signs, first_lead, last_ending}
 use Rattle.wt_body.specs.Texts.{with_separators, later_parts, later_line, para_parts, para, skipped, later_pre, pre_opening, pre_parts, pre, rule}
 use Rattle.wt_body.specs.Tables.{gaps}
 use Rattle.wt_body.specs.Body.{rule_row, heading_row}
-use Rattle.wt_page_round_trip.proofs.TextItems.{AreTexts, EndsLow, cut_after, cut_items_before}
+use Rattle.wt_page_round_trip.proofs.TextItems.{AreTexts, cut_after, cut_items_before}
 use Rattle.wt_page_round_trip.proofs.OfPage.{IsPageItem, AreOfPage, ArePageItems, texts_utf8}
 use Rattle.wt_page_round_trip.proofs.PageLines.{IsBetween, is_white_byte, all_left, all_right, all_both, texts_both}
 use Rattle.wt_page_round_trip.proofs.Parts.{children_written}
@@ -41,7 +39,7 @@ use Rattle.wt_page_round_trip.proofs.BodyParts.{IsHeadingLine, heading_parent, p
 use Rattle.wt_page_round_trip.proofs.HeadingLines.{ends_low}
 use Rattle.wt_page_round_trip.proofs.Boxes.{IsInside, IsRound, IsBox, box_written, rule_written}
 use Rattle.wt_page_round_trip.proofs.Stretched.{StandsIn, IsBlockIn, ArePlaced}
-use Rattle.wt_page_round_trip.proofs.GoodRows.{IsGap, IsSeen, IsGoodRow, AreGoodRows, behind_items}
+use Rattle.wt_page_round_trip.proofs.GoodRows.{IsGap, IsGoodRow, AreGoodRows, behind_items}
 
 -- ---- gaps round blocks
 

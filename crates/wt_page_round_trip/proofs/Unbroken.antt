@@ -7,7 +7,6 @@ use Rattle.wt_span.specs.declared.form.Form.TheVariants as form
 use Rattle.wt_span.specs.Items.{Item, char, whole}
 use Rattle.wt_span.specs.Runs.{runs, AreRuns}
 use Rattle.wt_span.proofs.RunLaws.{runs_are}
-use Rattle.wt_tree.specs.declared.kind.Kind.TheVariants as node_kind
 use Rattle.wt_lines.specs.Lines.{is_break_item}
 use Rattle.wt_tiles.specs.declared.context.Context.{Context}
 use Rattle.wt_tiles.specs.declared.shape.Shape.{Shape}
@@ -19,20 +18,19 @@ use Rattle.wt_tiles.specs.declared.tag.Tag.{Tag}
 use Rattle.wt_tiles.specs.Glyphs.{glyph_of}
 use Rattle.wt_tiles.specs.Contexts.{in_line, in_text}
 use Rattle.wt_tiles.specs.Tags.{tag_at}
-use Rattle.wt_tiles.specs.Tiles.{size, shapes, parts as tile_parts, tiles}
+use Rattle.wt_tiles.specs.Tiles.{size, shapes, parts as tile_parts}
 use Rattle.wt_tiles.proofs.Joining.{tiles_are}
 use Rattle.wt_quotes.specs.Styles.{style_tree_of}
 use Rattle.wt_quotes.specs.Forest.{Forest, bare, grown, forest_of}
 use Rattle.wt_inline.specs.declared.loose.Loose.TheVariants.{Text}
-use Rattle.wt_inline.specs.ItemTree.{ItemTree}
 use Rattle.wt_inline.specs.Parts.{Part, node, parts, whole_tree, nowiki}
 use Rattle.wt_context.specs.Heads.{glyphs, placeholder, link_head, category_head, ext_link_head, bare_url_head, pair_by_name, pair_by, pair_head, switch_head}
-use Rattle.wt_context.specs.Segments.{Segment, one_stretch, loose_segment, loose_segments, tree_segment, segment_parts}
+use Rattle.wt_context.specs.Segments.{Segment, one_stretch, loose_segment, loose_segments, segment_parts}
 use Rattle.wt_context.specs.Chunks.{chunks}
 use Rattle.wt_context.specs.Styled.{style_kind, between, style_node, styled, with_styles}
 use Rattle.wt_context.specs.Nodes.{Reading, opening_of, inside_of, closing_of, trail_of, link_by, bare_url, nested_tree, tile_tree, segments_by, tile_segments, segments}
 use Rattle.wt_context.specs.Line.{within, context_parts, line_parts}
-use Rattle.wt_page_round_trip.proofs.OfPage.{IsPageItem, IsPageForm, AreOfPage}
+use Rattle.wt_page_round_trip.proofs.OfPage.{IsPageItem, IsPageForm}
 use Rattle.wt_page_round_trip.proofs.PageLines.{all_left, all_right, all_both, all_taken, all_dropped}
 use Rattle.wt_page_round_trip.proofs.Separated.{head_of}
 use Rattle.wt_page_round_trip.proofs.Bordered.{IsInlineKind, IsLinePart}

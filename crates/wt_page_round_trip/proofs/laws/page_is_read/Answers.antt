@@ -1,3 +1,4 @@
+use Rattle.wt_page_round_trip.proofs.BlockPages.{page_written}
 use Rattle.wt_page_round_trip.proofs.BlockNodes.{body_placed}
 use Rattle.wt_page_round_trip.proofs.TableNodes.{Reads}
 use Rattle.wt_page_round_trip.proofs.TableRows.{rows_good}

@@ -1,0 +1,77 @@
+-- The annotated tree of a page with all its blocks is written, and its source is the page.
+use Rattle.std.proofs.Common.{◌≡◌, ℕ, ◌+◌, ◌*◌, ◌<◌, ◌≤◌, ◌^◌, List, [], ◌++◌, length, IsUtf8, refl, sym, ap, ◌∙◌, subst, arith}
+use Rattle.std.specs.Prelude.{None}
+use Rattle.std.proofs.lemmas.Str.{IsUtf8-nil}
+use Rattle.wt_span.specs.Items.{Item}
+use Rattle.wt_tree.specs.declared.kind.Kind.TheVariants as kind
+use Rattle.wt_tree.specs.Source.{flat}
+use Rattle.wt_markup.specs.Html.{html_text}
+use Rattle.wt_tree.specs.Kinds.{spelling}
+use Rattle.wt_fitting.specs.Read.{read, page as read_page}
+use Rattle.wt_round_trip.specs.Written.{unranged, IsWritten}
+use Rattle.wt_round_trip.proofs.Again.{same_source}
+use Rattle.wt_round_trip.proofs.Whole.{written_read}
+use Rattle.wt_expand.specs.PageItems.{page_items}
+use Rattle.wt_expand.proofs.PageLaws.{page_sources}
+use Rattle.wt_inline.specs.ItemTree.{ItemTrees, forest, held_by_all}
+use Rattle.wt_inline.specs.Parts.{Part, children}
+use Rattle.wt_body.specs.Rows.{rows}
+use Rattle.wt_body.specs.Stretches.{stretches_parts}
+use Rattle.wt_body.specs.Body.{blocks, meaning}
+use Rattle.wt_body.proofs.HeldBody.{sources_meaning}
+use Rattle.wt_annotate.specs.Labels.{width, label_at}
+use Rattle.wt_annotate.specs.Annotated.{numbered, numbered_in_all, annotated}
+use Rattle.wt_annotate.specs.Made.{annotated_at}
+use Rattle.wt_annotate.proofs.OnePass.{annotated_is}
+use Rattle.wt_annotate.proofs.TreeSource.{flat_annotated}
+use Rattle.wt_page_round_trip.proofs.OfPage.{page_texts, page_of_page}
+use Rattle.wt_page_round_trip.proofs.Parts.{wide_append}
+use Rattle.wt_page_round_trip.proofs.Separated.{TakesSeparators, separated_written}
+use Rattle.wt_page_round_trip.proofs.Stretched.{placed_parts}
+use Rattle.wt_page_round_trip.proofs.BlockNodes.{body_placed}
+
+body_takes : TakesSeparators kind.Body
+body_takes = record { kind = refl; stands = λ bs e. e }
+
+-- where it has at most two numbers for each byte
+written_at : (page : List ℕ) → IsUtf8 page → length page < 2 ^ 31 → numbered (meaning (page_items page)) ≤ 2 * length page
+    → IsWritten (annotated_at 0 1 (meaning (page_items page)))
+unfolding meaning label_at spelling
+written_at page u room few =
+    let xs : List Item = page_items page in
+    let ps : List Part = stretches_parts (blocks (rows xs)) in
+    let ts : ItemTrees = forest (children ps) in
+    let a : width xs ≡ length page = ap length (page_sources page) in
+    let b : width (held_by_all ts ++ []) ≡ width xs = ap length (sources_meaning xs) in
+    let c : width (held_by_all ts ++ []) ≡ width (held_by_all ts) + 0 = wide_append (held_by_all ts) [] in
+    let e : 0 + numbered_in_all ts ≤ 2 * length page = few in (
+      refl,
+      record {
+        level = refl;
+        number = refl;
+        places = (omega arith, omega arith, omega arith, omega arith);
+        source = record { own = refl; opening = IsUtf8-nil; closing = IsUtf8-nil };
+        shown = refl;
+        attrs = refl;
+        origin = refl;
+        mark = refl;
+        mw = refl;
+      },
+      separated_written 2 kind.Body body_takes ps 0 1
+          (placed_parts 2 kind.Body (omega arith) (blocks (rows xs)) (body_placed xs (page_texts page u) (page_of_page page u)))
+          (omega arith) (omega arith) (omega arith),
+    )
+
+pub page_written : (page : List ℕ) → IsUtf8 page → length page < 2 ^ 31 → numbered (meaning (page_items page)) ≤ 2 * length page
+    → IsWritten (annotated (meaning (page_items page)))
+page_written page u room few = subst IsWritten (sym (annotated_is (meaning (page_items page)))) (written_at page u room few)
+
+pub page_is_read : (page : List ℕ) → IsUtf8 page → length page < 2 ^ 31 → numbered (meaning (page_items page)) ≤ 2 * length page
+    → read (html_text (annotated (meaning (page_items page)))) ≡ read_page (unranged (annotated (meaning (page_items page)))) None
+page_is_read page u room few = written_read (annotated (meaning (page_items page))) (page_written page u room few)
+
+-- ---- its source
+
+pub same_page : (page : List ℕ) → flat (unranged (annotated (meaning (page_items page)))) ≡ page
+same_page page = same_source (annotated (meaning (page_items page))) ∙ flat_annotated (meaning (page_items page))
+    ∙ sources_meaning (page_items page) ∙ page_sources page
