@@ -318,19 +318,19 @@ text_last : (at next b : ℕ) (bs : List ℕ) (us : List ItemTree) → has_break
     → AreCut false (more (text_leaf (span at (length (b ∷ bs))) (b ∷ bs)) (all_annotated_at (at + length (b ∷ bs)) next (forest us)))
 text_last at next b bs us e h = elim h.begins [
   | inl none_behind ↦ subst (λ (vs : List ItemTree). AreCut false (more (text_leaf (span at (length (b ∷ bs))) (b ∷ bs))
-        (all_annotated_at (at + length (b ∷ bs)) next (forest vs)))) (sym none_behind)
-        (text_alone at (b ∷ bs) none refl e refl refl tt)
+      (all_annotated_at (at + length (b ∷ bs)) next (forest vs)))) (sym none_behind)
+      (text_alone at (b ∷ bs) none refl e refl refl tt)
   | inr s ↦
-        let here : ItemTree = loose_leaf Sep (map (char None) (10 ∷ s.more)) in
-        let place : ℕ = at + length (b ∷ bs) in
-        let ts : Trees = all_annotated_at (place + width (tree_items here)) (next + numbered here) (forest s.rest) in
-        let is : annotated_at place next here ≡ sep_leaf (span place (length (10 ∷ s.more))) (10 ∷ s.more) = separator_tree place next 10 s.more in
-        let cut : AreCut false (more (sep_leaf (span place (length (10 ∷ s.more))) (10 ∷ s.more)) ts) =
-        subst (λ u. AreCut false (more u ts)) is (subst (λ (vs : List ItemTree). AreCut false (all_annotated_at place next (forest vs))) s.are (h.cut place next)) in
-        subst (λ (vs : List ItemTree). AreCut false (more (text_leaf (span at (length (b ∷ bs))) (b ∷ bs)) (all_annotated_at place next (forest vs))))
-        (sym s.are)
-        (subst (λ u. AreCut false (more (text_leaf (span at (length (b ∷ bs))) (b ∷ bs)) (more u ts))) (sym is)
-        (text_before at 10 (b ∷ bs) s.more ts refl e refl s.white cut))
+      let here : ItemTree = loose_leaf Sep (map (char None) (10 ∷ s.more)) in
+      let place : ℕ = at + length (b ∷ bs) in
+      let ts : Trees = all_annotated_at (place + width (tree_items here)) (next + numbered here) (forest s.rest) in
+      let is : annotated_at place next here ≡ sep_leaf (span place (length (10 ∷ s.more))) (10 ∷ s.more) = separator_tree place next 10 s.more in
+      let cut : AreCut false (more (sep_leaf (span place (length (10 ∷ s.more))) (10 ∷ s.more)) ts) =
+      subst (λ u. AreCut false (more u ts)) is (subst (λ (vs : List ItemTree). AreCut false (all_annotated_at place next (forest vs))) s.are (h.cut place next)) in
+      subst (λ (vs : List ItemTree). AreCut false (more (text_leaf (span at (length (b ∷ bs))) (b ∷ bs)) (all_annotated_at place next (forest vs))))
+      (sym s.are)
+      (subst (λ u. AreCut false (more (text_leaf (span at (length (b ∷ bs))) (b ∷ bs)) (more u ts))) (sym is)
+      (text_before at 10 (b ∷ bs) s.more ts refl e refl s.white cut))
 ]
 
 -- ---- a line and what stands behind it
@@ -374,7 +374,7 @@ runs_cut ((loose j o b ∷ r) ∷ []) ps us h a f at next =
     run_tree at next j Text _ _ v.0.0 s.items ∙ text_tree at next b s.more in
     let wide : width (tree_items t) ≡ length (b ∷ s.more) = ap (λ xs. width (xs ++ [])) s.items ∙ run_wide b s.more in
     let cut = subst (λ n. AreCut false (more (text_leaf (span at (length (b ∷ s.more))) (b ∷ s.more))
-        (all_annotated_at (at + n) (next + numbered t) (forest us)))) (sym wide)
+    (all_annotated_at (at + n) (next + numbered t) (forest us)))) (sym wide)
     (text_last at (next + numbered t) b s.more us s.unbroken f) in
     subst (λ u. IsCutBefore (more u (all_annotated_at (at + width (tree_items t)) (next + numbered t) (forest us)))) (sym is)
     (cut, text_leads at (b ∷ s.more) (all_annotated_at (at + width (tree_items t)) (next + numbered t) (forest us)) (f.leads (at + width (tree_items t)) (next + numbered t)))

@@ -101,7 +101,7 @@ box_written k parent q r attrs opening closing b ts small holds inside = record 
     written_box : (k at next : ℕ) (own : List Item) (us : Trees) → k < 199
         → IsElementLabel (label_at at next false (with_attrs q attrs) opening own closing) → IsCutIn r.texts us → AllWrittenIn (suc k) q us
         → NodeIsWritten RoundChildren k parent (label_at at next false (with_attrs q attrs) opening own closing) (is_childless us)
-            (IsCutIn r.texts us × AllWrittenIn (suc k) q us)
+        (IsCutIn r.texts us × AllWrittenIn (suc k) q us)
     written_box k at next own us small l i w =
         (omega (arith, small), holds, l, ap (λ (y : Shape). not y.is_leaf || is_childless us) r.shape_is, (i, w))
 

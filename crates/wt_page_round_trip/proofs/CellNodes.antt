@@ -59,11 +59,11 @@ pub low_items : (w : ℕ) (xs : List Item) → ArePageItems xs → IsLowCut w xs
 low_items zero xs h c = zero_cut xs h
 low_items (suc w) xs h c = elim (cases_lt (suc w) (length xs)) [
   | inl lt ↦ elim (c (omega arith) lt) [
-        | inl l ↦
-              let z : suc w - 1 ≡ w = omega arith in
-              behind_items (suc w) xs h (ends_low xs w (omega (arith, lt)) (subst (λ n. slice_index (signs xs) n < 128) z l))
-        | inr l ↦ before_low (suc w) xs h l
-      ]
+    | inl l ↦
+        let z : suc w - 1 ≡ w = omega arith in
+        behind_items (suc w) xs h (ends_low xs w (omega (arith, lt)) (subst (λ n. slice_index (signs xs) n < 128) z l))
+    | inr l ↦ before_low (suc w) xs h l
+  ]
   | inr ge ↦ (subst ArePageItems (sym (take_all (suc w) xs ge)) h, subst ArePageItems (sym (drop_all (suc w) xs ge)) no_page_items)
 ]
 
@@ -189,8 +189,11 @@ td_bordered = record {
   round = record { class = CellClass; holding = InlinesThenBlocks; texts = Bordered; shape_is = refl; level = refl; shows = refl };
   texts = refl;
   takes = record { kind = inr refl; stands = λ bs e. refl };
-  parent = record { text = refl; elements = λ k h. inline_held (is_anywhere (shape k).class) _ (or_more (is_class (shape k).class Inline) (is_class (shape k).class Character) (is_class (shape k).class Block)
-      (is_class (shape k).class ListClass) h) };
+  parent = record {
+    text = refl;
+    elements = λ k h. inline_held (is_anywhere (shape k).class) _ (or_more (is_class (shape k).class Inline) (is_class (shape k).class Character) (is_class (shape k).class Block)
+        (is_class (shape k).class ListClass) h);
+  };
   block = refl;
 }
 
@@ -200,8 +203,11 @@ th_bordered = record {
   round = record { class = CellClass; holding = InlinesThenBlocks; texts = Bordered; shape_is = refl; level = refl; shows = refl };
   texts = refl;
   takes = record { kind = inr refl; stands = λ bs e. refl };
-  parent = record { text = refl; elements = λ k h. inline_held (is_anywhere (shape k).class) _ (or_more (is_class (shape k).class Inline) (is_class (shape k).class Character) (is_class (shape k).class Block)
-      (is_class (shape k).class ListClass) h) };
+  parent = record {
+    text = refl;
+    elements = λ k h. inline_held (is_anywhere (shape k).class) _ (or_more (is_class (shape k).class Inline) (is_class (shape k).class Character) (is_class (shape k).class Block)
+        (is_class (shape k).class ListClass) h);
+  };
   block = refl;
 }
 
@@ -211,8 +217,11 @@ caption_bordered = record {
   round = record { class = TablePart; holding = InlinesThenBlocks; texts = Bordered; shape_is = refl; level = refl; shows = refl };
   texts = refl;
   takes = record { kind = inr refl; stands = λ bs e. refl };
-  parent = record { text = refl; elements = λ k h. inline_held (is_anywhere (shape k).class) _ (or_more (is_class (shape k).class Inline) (is_class (shape k).class Character) (is_class (shape k).class Block)
-      (is_class (shape k).class ListClass) h) };
+  parent = record {
+    text = refl;
+    elements = λ k h. inline_held (is_anywhere (shape k).class) _ (or_more (is_class (shape k).class Inline) (is_class (shape k).class Character) (is_class (shape k).class Block)
+        (is_class (shape k).class ListClass) h);
+  };
   block = refl;
 }
 
@@ -257,6 +266,8 @@ pub row_cells : (k : ℕ) (parent : Kind) (caption : Bool) → ((header : Bool) 
     → IsUnbroken r.items → HasSign (sign_len caption) (signs r.items) → (ss : List Stretch)
     → ((header : Bool) → ArePlaced (suc k) (cell_kind caption header) ss) → IsBreakGap r.ending ⊎ (block_len ss ≡ 0) → k < 141
     → ArePlaced k parent (gap r.lead ∷ cells_by caption (cells_from caption r.items) (gap r.ending ∷ ss))
-row_cells k parent caption s r g u sign ss a f small =
-    (g.lead, some_cells k parent caption s (cells_from caption r.items) (cells_good caption r.items sign g.items u) (gap r.ending ∷ ss)
-    (λ header. (g.ending, a header)) (breaks_first r.ending ss f) small)
+row_cells k parent caption s r g u sign ss a f small = (
+  g.lead,
+  some_cells k parent caption s (cells_from caption r.items) (cells_good caption r.items sign g.items u) (gap r.ending ∷ ss)
+      (λ header. (g.ending, a header)) (breaks_first r.ending ss f) small,
+)

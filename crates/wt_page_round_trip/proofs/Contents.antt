@@ -160,9 +160,10 @@ unfolding children
 blocks_inside k q b qs a f at next room some few =
     let all : Trees = all_annotated_at at next (forest (children qs)) in
     let rs : List (List Part) = runs one_leaf qs in (
-      subst (λ x. IsCutIn x all) (sym b.texts)
-          (only_cut all false (blocks_cut k q rs qs at next (runs_are one_leaf qs) a f),
-          behind_ordered (map child rs) false at next (runs_no_inline k q rs qs (runs_are one_leaf qs) a)),
+      subst (λ x. IsCutIn x all) (sym b.texts) (
+        only_cut all false (blocks_cut k q rs qs at next (runs_are one_leaf qs) a f),
+        behind_ordered (map child rs) false at next (runs_no_inline k q rs qs (runs_are one_leaf qs) a),
+      ),
       separated_written k q b.takes qs at next a room some few,
     )
 
@@ -177,9 +178,10 @@ line_opened k parent q b attrs opening x xs h l ss a f small s =
     let placed : ArePlaced (suc k) q front = all_taken (IsPlaced (suc k) q) (block_len ss) ss a in
     let inside : IsInside (suc k) q (forest (children (line_parts xs ++ stretches_parts front))) =
     line_inside (suc k) q b (omega (arith, small)) xs h l (stretches_parts front) (placed_parts (suc k) q (omega (arith, small)) front placed) f in
-    let n : IsBlockIn k parent (node_of (with_attrs q attrs) opening (block (line_parts xs) ∷ front) []) =
-    ((box_written k parent q b.round attrs opening [] x (forest (children (line_parts xs ++ stretches_parts front))) (omega (arith, small)) s.held inside, b.block),
-    s.shows) in
+    let n : IsBlockIn k parent (node_of (with_attrs q attrs) opening (block (line_parts xs) ∷ front) []) = (
+      (box_written k parent q b.round attrs opening [] x (forest (children (line_parts xs ++ stretches_parts front))) (omega (arith, small)) s.held inside, b.block),
+      s.shows,
+    ) in
     subst (λ m. ArePlaced k parent (tree_block (node_of (with_attrs q attrs) opening (take m (block (line_parts xs) ∷ ss)) []) ∷ drop m (block (line_parts xs) ∷ ss)))
     (sym (block_first (line_parts xs) ss)) (n, gaps_behind k (suc k) parent q ss a)
 
@@ -199,9 +201,9 @@ pub breaks_first : (e : List Item) (ss : List Stretch) → IsBreakGap e ⊎ (blo
 breaks_first e ss h = elim (gap_first e ss) [
   | inl q ↦ subst (λ n. BreaksFirst (stretches_parts (take n (gap e ∷ ss)))) (sym q.0) tt
   | inr q ↦ subst (λ n. BreaksFirst (stretches_parts (take n (gap e ∷ ss)))) (sym q.0) (elim h [
-        | inl g ↦ break_parts e (stretches_parts (take (block_len ss) ss)) g
-        | inr z ↦ absurd (let y = q.1 in omega (arith, y, z))
-      ])
+    | inl g ↦ break_parts e (stretches_parts (take (block_len ss) ss)) g
+    | inr z ↦ absurd (let y = q.1 in omega (arith, y, z))
+  ])
 ]
 
 first_block : (k : ℕ) (q : Kind) → texts_of_kind q ≡ Bordered → (ss : List Stretch) → ArePlaced k q ss

@@ -185,9 +185,11 @@ whole_good k n l h g s =
 -- nothing but blanks and marks
 unseen_gap : (l : List Item) → ArePageItems l → is_unseen l ≡ true → IsGap l
 unseen_gap l h e =
-    let small : AllByRecursion IsSmallItem (content l) = texts_small (content l) (content_page l h).0.texts in
-    (h.page, subst (λ xs. AllByRecursion IsBetween xs) (content_ending l)
-    (all_both IsBetween (content l) (ending l) (idle_items (content l) small e) (ending_between l)))
+    let small : AllByRecursion IsSmallItem (content l) = texts_small (content l) (content_page l h).0.texts in (
+      h.page,
+      subst (λ xs. AllByRecursion IsBetween xs) (content_ending l)
+          (all_both IsBetween (content l) (ending l) (idle_items (content l) small e) (ending_between l)),
+    )
 
 signs_good : (k : LineKind) (n m : ℕ) (l : List Item) → ArePageItems l → IsGap (take n l) → EndsLow (take m (drop n l)) → ((xs : List Item) → IsSeen k xs)
     → AreGoodRows (sign_rows k n m l)
@@ -239,30 +241,40 @@ line_good tables l h o line.TableEnd e =
     signs_good line.TableEnd (idle_len l) 2 l h (idle_gap l h) (two_low (drop (idle_len l) l) (subst (λ ss. begins (codes "|}") ss ≡ true) (past_idle l) t))
     (λ xs. tt)
 line_good tables l h o line.Caption e =
-    let t = kind_told tables (signs (content l)) line.Caption e in
-    (whole_good line.Caption (idle_len l) l h (idle_gap l h)
-    (dropped_line (idle_len l) l o, subst (λ ss. begins (codes "|+") ss ≡ true) (past_idle l) t), tt)
+    let t = kind_told tables (signs (content l)) line.Caption e in (
+      whole_good line.Caption (idle_len l) l h (idle_gap l h)
+          (dropped_line (idle_len l) l o, subst (λ ss. begins (codes "|+") ss ≡ true) (past_idle l) t),
+      tt,
+    )
 line_good tables l h o line.Row e =
     let t = kind_told tables (signs (content l)) line.Row e in
     (whole_good line.Row (idle_len l) l h (idle_gap l h) (subst (λ ss. begins (codes "|-") ss ≡ true) (past_idle l) t), tt)
 line_good tables l h o line.Cell e =
-    let t = kind_told tables (signs (content l)) line.Cell e in
-    (whole_good line.Cell (idle_len l) l h (idle_gap l h)
-    (dropped_line (idle_len l) l o, subst (λ ss. begins (codes "|") ss ≡ true) (past_idle l) t), tt)
+    let t = kind_told tables (signs (content l)) line.Cell e in (
+      whole_good line.Cell (idle_len l) l h (idle_gap l h)
+          (dropped_line (idle_len l) l o, subst (λ ss. begins (codes "|") ss ≡ true) (past_idle l) t),
+      tt,
+    )
 line_good tables l h o line.Header e =
-    let t = kind_told tables (signs (content l)) line.Header e in
-    (whole_good line.Header (idle_len l) l h (idle_gap l h)
-    (dropped_line (idle_len l) l o, subst (λ ss. begins (codes "!") ss ≡ true) (past_idle l) t), tt)
-line_good tables l h o line.Heading e =
-    (whole_good line.Heading (marks_len l) l h (marks_gap l h)
-    (subst IsHeadingLine (append-nil (content (drop (marks_len l) l))) (heading_line tables l h e)), tt)
+    let t = kind_told tables (signs (content l)) line.Header e in (
+      whole_good line.Header (idle_len l) l h (idle_gap l h)
+          (dropped_line (idle_len l) l o, subst (λ ss. begins (codes "!") ss ≡ true) (past_idle l) t),
+      tt,
+    )
+line_good tables l h o line.Heading e = (
+  whole_good line.Heading (marks_len l) l h (marks_gap l h)
+      (subst IsHeadingLine (append-nil (content (drop (marks_len l) l))) (heading_line tables l h e)),
+  tt,
+)
 line_good tables l h o line.Rule e =
     signs_good line.Rule (marks_len l) (dashes (drop (marks_len l) l)) l h (marks_gap l h)
     (low_ends (take (dashes (drop (marks_len l) l)) (drop (marks_len l) l)) (passing_low (λ s. s == 45) dash_low (drop (marks_len l) l))) (λ xs. tt)
 line_good tables l h o line.List e =
-    let t = kind_told tables (signs (content l)) line.List e in
-    (whole_good line.List (marks_len l) l h (marks_gap l h)
-    (dropped_line (marks_len l) l o, subst (λ ss. is_list ss ≡ true) (past_lead l (texts_small l h.texts)) t), tt)
+    let t = kind_told tables (signs (content l)) line.List e in (
+      whole_good line.List (marks_len l) l h (marks_gap l h)
+          (dropped_line (marks_len l) l o, subst (λ ss. is_list ss ≡ true) (past_lead l (texts_small l h.texts)) t),
+      tt,
+    )
 line_good tables l h o line.Pre e =
     let t = kind_told tables (signs (content l)) line.Pre e in
     (whole_good line.Pre (marks_len l) l h (marks_gap l h) (subst (λ ss. begins (codes " ") ss ≡ true) (past_lead l (texts_small l h.texts)) t), tt)

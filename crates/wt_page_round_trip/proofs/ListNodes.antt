@@ -223,9 +223,14 @@ term_in : (k : ℕ) (parent : Kind) (opening xs : List Item) → ArePageItems op
 term_in k parent opening xs o h u small s =
     let inside : IsInside (suc k) kind.Dt (forest (children (line_parts xs))) =
     subst (λ (ps : List Part). IsInside (suc k) kind.Dt (forest (children ps))) (append-nil (line_parts xs))
-    (line_inside (suc k) kind.Dt dt_bordered (omega (arith, small)) xs h (line_items xs h u) [] tt tt) in
-    ((box_written k parent kind.Dt dt_bordered.round [] opening [] (item_box 59 opening (items_utf8 opening o)) (forest (children (line_parts xs)))
-    (omega (arith, small)) s.held inside, refl), s.shows)
+    (line_inside (suc k) kind.Dt dt_bordered (omega (arith, small)) xs h (line_items xs h u) [] tt tt) in (
+      (
+        box_written k parent kind.Dt dt_bordered.round [] opening [] (item_box 59 opening (items_utf8 opening o)) (forest (children (line_parts xs)))
+            (omega (arith, small)) s.held inside,
+        refl,
+      ),
+      s.shows,
+    )
 
 -- an item, by where its term ends, with lists behind its line
 item_placed : (k : ℕ) (c d : ℕ) → is_list_sign d ≡ true → list_kind d ≡ list_kind c → (n : Option ℕ) (opening xs : List Item) → ArePageItems opening
@@ -240,10 +245,11 @@ item_placed k c d l same (Some n) opening xs o h u is e ss g f a small =
     let definitions : list_kind 59 ≡ list_kind c = subst (λ x. list_kind x ≡ list_kind c) q.0 same in
     let rest : List Item = drop n xs in
     let m : ℕ = with_blanks 1 rest in
-    let unbroken : IsUnbroken (drop m rest) = all_dropped (λ x. is_break_item x ≡ false) m rest (all_dropped (λ x. is_break_item x ≡ false) n xs u) in
-    (term_in k (list_kind c) opening (take n xs) o t.term (all_taken (λ x. is_break_item x ≡ false) n xs u) small (item_stands c 59 refl definitions),
-    line_opened k (list_kind c) kind.Dd dd_bordered [] (take m rest) (item_box 58 (take m rest) (items_utf8 (take m rest) t.colon)) (drop m rest) t.rest
-    (line_items (drop m rest) t.rest unbroken) (gap e ∷ ss) (g, a kind.Dd (item_lists 58)) (breaks_first e ss f) small (item_stands c 58 refl definitions))
+    let unbroken : IsUnbroken (drop m rest) = all_dropped (λ x. is_break_item x ≡ false) m rest (all_dropped (λ x. is_break_item x ≡ false) n xs u) in (
+      term_in k (list_kind c) opening (take n xs) o t.term (all_taken (λ x. is_break_item x ≡ false) n xs u) small (item_stands c 59 refl definitions),
+      line_opened k (list_kind c) kind.Dd dd_bordered [] (take m rest) (item_box 58 (take m rest) (items_utf8 (take m rest) t.colon)) (drop m rest) t.rest
+          (line_items (drop m rest) t.rest unbroken) (gap e ∷ ss) (g, a kind.Dd (item_lists 58)) (breaks_first e ss f) small (item_stands c 58 refl definitions),
+    )
 
 line_placed : (k c d : ℕ) → is_list_sign d ≡ true → list_kind d ≡ list_kind c → (r : Row) → IsGoodRow r → IsUnbroken r.items → (ss : List Stretch)
     → IsBreakGap r.ending ⊎ (block_len ss ≡ 0) → ((q : Kind) → HoldsLists q → ArePlaced (suc k) q ss) → k < 141
@@ -252,9 +258,11 @@ unfolding line_item
 line_placed k c d l same r g u ss f a small =
     let n : ℕ = item_opening_len r.items in
     let xs : List Item = drop n r.items in
-    let cut : ArePageItems (take n r.items) × ArePageItems xs = opening_cut r.items g.items in
-    (g.lead, item_placed k c d l same (term_len d xs) (take n r.items) xs cut.0 cut.1 (all_dropped (λ x. is_break_item x ≡ false) n r.items u) refl
-    r.ending ss g.ending f a small)
+    let cut : ArePageItems (take n r.items) × ArePageItems xs = opening_cut r.items g.items in (
+      g.lead,
+      item_placed k c d l same (term_len d xs) (take n r.items) xs cut.0 cut.1 (all_dropped (λ x. is_break_item x ≡ false) n r.items u) refl
+          r.ending ss g.ending f a small,
+    )
 
 -- ---- lines of lists
 
@@ -369,7 +377,7 @@ lists_behind rs n l (m ∷ ms) h = inl h.0
 item_by_lines : (rs : List Row) (n : ℕ) → IsNest rs n → (k c : ℕ) → suc k + 2 * n < 142 → (l : ListLine) (ms : List ListLine) (v : Bool) → goes_on l ≡ v
     → AllGoOn ms → AreListLines rs (l ∷ ms) → AreShort (suc n) (l ∷ ms) → AreEnded rs (l ∷ ms) → list_kind (sign_of l) ≡ list_kind c
     → ArePlaced k (list_kind c)
-        (list_stretches rs (node_of true (l ∷ ms) (nested_lists n (map without_sign (cond v (l ∷ filter goes_on ms) (filter goes_on ms))))))
+    (list_stretches rs (node_of true (l ∷ ms) (nested_lists n (map without_sign (cond v (l ∷ filter goes_on ms) (filter goes_on ms))))))
 item_by_lines rs n h k c small l ms true e g a f w same =
     let ls : List ListLine = map without_sign (l ∷ ms) in
     let sign : is_list_sign (sign_of l) ≡ true = first_sign l.prefix a.0.some a.0.signs in

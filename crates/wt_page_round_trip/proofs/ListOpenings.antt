@@ -106,13 +106,13 @@ seen_at ((w, xs) ∷ ps) i e =
     let both : signs (xs ++ joined ps) ≡ signs xs ++ signs (joined ps) = map-append sign xs (joined ps) in
     elim (cases_lt i (length xs)) [
       | inl h ↦
-            let here : get_or a i 0 ≡ 58 = sym (get_or_append_left a rest 0 i (omega (arith, n, h))) ∙ e in
-            ap (λ (ss : List ℕ). get_or ss i 0) both ∙ get_or_append_left (signs xs) (signs (joined ps)) 0 i (omega (arith, h, signs_wide xs))
-            ∙ seen_colon (is_bare w.kind) xs i h here
+          let here : get_or a i 0 ≡ 58 = sym (get_or_append_left a rest 0 i (omega (arith, n, h))) ∙ e in
+          ap (λ (ss : List ℕ). get_or ss i 0) both ∙ get_or_append_left (signs xs) (signs (joined ps)) 0 i (omega (arith, h, signs_wide xs))
+          ∙ seen_colon (is_bare w.kind) xs i h here
       | inr h ↦
-            let later : get_or rest (i - length xs) 0 ≡ 58 = sym (get_or-append_right a rest (length xs) i 0 n h) ∙ e in
-            ap (λ (ss : List ℕ). get_or ss i 0) both ∙ get_or-append_right (signs xs) (signs (joined ps)) (length xs) i 0 (signs_wide xs) h
-            ∙ seen_at ps (i - length xs) later
+          let later : get_or rest (i - length xs) 0 ≡ 58 = sym (get_or-append_right a rest (length xs) i 0 n h) ∙ e in
+          ap (λ (ss : List ℕ). get_or ss i 0) both ∙ get_or-append_right (signs xs) (signs (joined ps)) (length xs) i 0 (signs_wide xs) h
+          ∙ seen_at ps (i - length xs) later
     ]
 
 seen_wide : (ps : List (Shape × List Item)) → length (flat_map seen_signs ps) ≡ length (joined ps)

@@ -126,7 +126,7 @@ end_are_gaps [] = tt
 end_are_gaps (block ps ∷ ss) = subst (λ n. AreGaps (drop n (block ps ∷ ss))) (sym (block_first ps ss)) (end_are_gaps ss)
 end_are_gaps (gap xs ∷ ss) = elim (gap_first xs ss) [
   | inl q ↦ subst (λ n. AreGaps (drop n (gap xs ∷ ss))) (sym q.0)
-        (refl, subst (λ (ts : List Stretch). AreGaps ts) (none_dropped ss) (subst (λ n. AreGaps (drop n ss)) q.1 (end_are_gaps ss)))
+      (refl, subst (λ (ts : List Stretch). AreGaps ts) (none_dropped ss) (subst (λ n. AreGaps (drop n ss)) q.1 (end_are_gaps ss)))
   | inr q ↦ subst (λ n. AreGaps (drop n (gap xs ∷ ss))) (sym q.0) (end_are_gaps ss)
 ]
 

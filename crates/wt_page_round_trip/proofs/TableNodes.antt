@@ -312,12 +312,13 @@ row_by_placed : (k : ℕ) (rs : List Row) → OpensRow rs → (cells : List Stre
 row_by_placed k [] o cells small a =
     holder_enclosed k kind.Tbody kind.Tr row_holder (row_box [] [] no_styles IsUtf8-nil) cells (omega (arith, small)) rows_stand a
 row_by_placed k (r ∷ rs) o cells small a =
-    let open_items : ArePageItems r.items = o.1.0.items in
-    (lead_gap (r ∷ rs) o.1,
-    holder_opened k kind.Tbody kind.Tr row_holder (row_attributes r.items) (delimiter (r ∷ rs))
-    (row_box (row_attributes r.items) (delimiter (r ∷ rs)) (row_styles r.items open_items o.0) (delimiter_utf8 (r ∷ rs) o.1))
-    (behind_delimiter (r ∷ rs) ++ cells) (omega (arith, small)) rows_stand
-    (all_both (IsPlaced (suc k) kind.Tr) (behind_delimiter (r ∷ rs)) cells (behind_placed (suc k) kind.Tr (r ∷ rs) o.1) a))
+    let open_items : ArePageItems r.items = o.1.0.items in (
+      lead_gap (r ∷ rs) o.1,
+      holder_opened k kind.Tbody kind.Tr row_holder (row_attributes r.items) (delimiter (r ∷ rs))
+          (row_box (row_attributes r.items) (delimiter (r ∷ rs)) (row_styles r.items open_items o.0) (delimiter_utf8 (r ∷ rs) o.1))
+          (behind_delimiter (r ∷ rs) ++ cells) (omega (arith, small)) rows_stand
+          (all_both (IsPlaced (suc k) kind.Tr) (behind_delimiter (r ∷ rs)) cells (behind_placed (suc k) kind.Tr (r ∷ rs) o.1) a),
+    )
 
 row_placed : (read : Reading) (m : ℕ) → IsReading read m → (k : ℕ) → k + 2 + 4 * m < 78 → (x : RowOf Row) → IsTableRow m x
     → ArePlaced k kind.Tbody (row_stretches read x)
@@ -362,12 +363,15 @@ table_by_placed read m i k parent s small t h end g =
     (rows_placed read m i (suc k) (omega (arith, small)) t.rows h.rows) in
     let all : ArePlaced (suc k) kind.Table (behind_delimiter rs ++ (table_inside read t ++ (gap end.lead ∷ []))) =
     all_both (IsPlaced (suc k) kind.Table) (behind_delimiter rs) (table_inside read t ++ (gap end.lead ∷ [])) (behind_placed (suc k) kind.Table rs h.delimiter)
-    (all_both (IsPlaced (suc k) kind.Table) (table_inside read t) (gap end.lead ∷ []) inside (g.lead, tt)) in
-    (lead_gap rs h.delimiter,
-    (holder_node k parent kind.Table table_holder attrs (delimiter rs) end.items
-    (table_box attrs (delimiter rs) end.items (open_styles (first_items rs) h.first h.opens) (delimiter_utf8 rs h.delimiter) (items_utf8 end.items g.items))
-    (behind_delimiter rs ++ (table_inside read t ++ (gap end.lead ∷ []))) (omega (arith, small)) s all,
-    (g.ending, tt)))
+    (all_both (IsPlaced (suc k) kind.Table) (table_inside read t) (gap end.lead ∷ []) inside (g.lead, tt)) in (
+      lead_gap rs h.delimiter,
+      (
+        holder_node k parent kind.Table table_holder attrs (delimiter rs) end.items
+            (table_box attrs (delimiter rs) end.items (open_styles (first_items rs) h.first h.opens) (delimiter_utf8 rs h.delimiter) (items_utf8 end.items g.items))
+            (behind_delimiter rs ++ (table_inside read t ++ (gap end.lead ∷ []))) (omega (arith, small)) s all,
+        (g.ending, tt),
+      ),
+    )
 
 without_is : (x : Row) (xs : List Row) (last : Row) → without_last x (xs ++ (last ∷ [])) ≡ x ∷ xs
 without_is x [] last = refl

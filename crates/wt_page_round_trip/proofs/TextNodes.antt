@@ -80,9 +80,10 @@ gaps_placed k parent (r ∷ rs) g a =
 -- ---- what holds text
 
 text_inside : (k : ℕ) (q : Kind) → texts_of_kind q ≡ Page → IsInlineParent q → (ps : List Part) → FitsIn k ps → IsInside k q (forest (children ps))
-text_inside k q e p ps f at next room some few =
-    (subst (λ x. IsCutIn x (all_annotated_at at next (forest (children ps)))) (sym e) tt,
-    children_written k q ps at next (f.written k q (omega arith) p) room some few)
+text_inside k q e p ps f at next room some few = (
+  subst (λ x. IsCutIn x (all_annotated_at at next (forest (children ps)))) (sym e) tt,
+  children_written k q ps at next (f.written k q (omega arith) p) room some few,
+)
 
 later_fit : (most : ℕ) → most < 199 → (read : Row → List Part) → ((r : Row) → IsGoodRow r → FitsIn most (read r)) → (b : List Item) → ArePageItems b
     → (rs : List Row) → AreGoodRows rs → FitsIn most (later_parts read b rs)
@@ -121,9 +122,14 @@ pub para_placed : (k : ℕ) (parent : Kind) (rs : List Row) → AreGoodRows rs �
     → ArePlaced k parent (with_separators (para rs) rs)
 unfolding para
 para_placed k parent rs g small s =
-    around k parent (inner (plain kind.Para) [] (forest (children (para_parts rs))) []) rs g
-    ((box_written k parent kind.Para para_round [] [] [] para_box (forest (children (para_parts rs))) (omega (arith, small)) s.held
-    (text_inside (suc k) kind.Para refl para_parent (para_parts rs) (para_fits (suc k) (omega (arith, small)) rs g)), refl), s.shows)
+    around k parent (inner (plain kind.Para) [] (forest (children (para_parts rs))) []) rs g (
+      (
+        box_written k parent kind.Para para_round [] [] [] para_box (forest (children (para_parts rs))) (omega (arith, small)) s.held
+            (text_inside (suc k) kind.Para refl para_parent (para_parts rs) (para_fits (suc k) (omega (arith, small)) rs g)),
+        refl,
+      ),
+      s.shows,
+    )
 
 -- ---- preformatted text
 
@@ -184,10 +190,15 @@ pub pre_placed : (k : ℕ) (parent : Kind) (rs : List Row) → AreGoodRows rs �
     → ArePlaced k parent (with_separators (pre rs) rs)
 unfolding pre
 pre_placed k parent rs g e small s =
-    around k parent (inner (plain kind.Pre) (pre_opening rs) (forest (children (pre_parts rs))) []) rs g
-    ((box_written k parent kind.Pre pre_round [] (pre_opening rs) [] (pre_box (pre_opening rs) (opening_utf8 rs g e)) (forest (children (pre_parts rs)))
-    (omega (arith, small)) s.held
-    (text_inside (suc k) kind.Pre refl pre_parent (pre_parts rs) (pre_fits (suc k) (omega (arith, small)) rs g e)), refl), s.shows)
+    around k parent (inner (plain kind.Pre) (pre_opening rs) (forest (children (pre_parts rs))) []) rs g (
+      (
+        box_written k parent kind.Pre pre_round [] (pre_opening rs) [] (pre_box (pre_opening rs) (opening_utf8 rs g e)) (forest (children (pre_parts rs)))
+            (omega (arith, small)) s.held
+            (text_inside (suc k) kind.Pre refl pre_parent (pre_parts rs) (pre_fits (suc k) (omega (arith, small)) rs g e)),
+        refl,
+      ),
+      s.shows,
+    )
 
 -- ---- headings
 
@@ -214,9 +225,14 @@ heading_in k parent xs l c small s =
     let ps : List Part = line_parts is in
     let f : FitsIn (suc k) ps = line_fits (suc k) (omega (arith, small)) is (record { texts = r.0; page = all_left IsPageItem is cs v }) in
     let b : IsBox (kind.Heading n) [] os cs = heading_box n os cs (texts_utf8 [] os q.0 (all_left IsPageItem os (is ++ cs) p))
-    (texts_utf8 [] cs r.1 (all_right IsPageItem is cs v)) in
-    ((box_written k parent (kind.Heading n) (heading_round n c.level) [] os cs b (forest (children ps)) (omega (arith, small)) s.held
-    (text_inside (suc k) (kind.Heading n) refl (heading_parent n) ps f), refl), s.shows)
+    (texts_utf8 [] cs r.1 (all_right IsPageItem is cs v)) in (
+      (
+        box_written k parent (kind.Heading n) (heading_round n c.level) [] os cs b (forest (children ps)) (omega (arith, small)) s.held
+            (text_inside (suc k) (kind.Heading n) refl (heading_parent n) ps f),
+        refl,
+      ),
+      s.shows,
+    )
 
 pub headings_placed : (k : ℕ) (parent : Kind) → ((n : ℕ) → StandsIn parent (kind.Heading n)) → k < 141 → (rs : List Row) → AreGoodRows rs
     → AllByRecursion (λ r. IsHeadingLine r.items) rs → ArePlaced k parent (flat_map heading_row rs)
@@ -229,7 +245,10 @@ headings_placed k parent s small (r ∷ rs) g e =
 pub rules_placed : (k : ℕ) (parent : Kind) → StandsIn parent kind.Rule → k < 200 → (rs : List Row) → AreGoodRows rs → ArePlaced k parent (flat_map rule_row rs)
 unfolding rule
 rules_placed k parent s small [] g = tt
-rules_placed k parent s small (r ∷ rs) g =
-    (g.0.lead,
-    (((rule_written k parent r.items small s.held (texts_utf8 [] r.items g.0.items.texts g.0.items.page), refl), s.shows),
-    (g.0.ending, rules_placed k parent s small rs g.1)))
+rules_placed k parent s small (r ∷ rs) g = (
+  g.0.lead,
+  (
+    ((rule_written k parent r.items small s.held (texts_utf8 [] r.items g.0.items.texts g.0.items.page), refl), s.shows),
+    (g.0.ending, rules_placed k parent s small rs g.1),
+  ),
+)
