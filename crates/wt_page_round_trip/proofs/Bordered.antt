@@ -29,7 +29,7 @@ use Rattle.wt_annotate.specs.Labels.{width, label_at}
 use Rattle.wt_annotate.specs.Annotated.{numbered, numbered_in_all}
 use Rattle.wt_annotate.specs.Made.{annotated_at, all_annotated_at}
 use Rattle.wt_page_round_trip.proofs.Parts.{wide_append, own_chars, shown_chars}
-use Rattle.wt_page_round_trip.proofs.Separated.{head_of, IsPartIn, IsSeparatorRun, begins_loose, all_behind, separator_run}
+use Rattle.wt_page_round_trip.proofs.Separated.{head_of, IsPartIn, IsSeparatorRun, begins_loose, all_behind, separator_run, no_text_first}
 
 -- ---- what a line gives
 
@@ -141,14 +141,6 @@ separator_whole : (behind leads : Bool) (r : Option Ranges) (own : List ℕ) →
     → IsWhole behind leads (sep_leaf r own)
 separator_whole behind leads r own e f = (e, subst (λ x. IsWholeBy x behind r own (sep_leaf r own)) (sym f) refl)
 
-no_text_next : (k : ℕ) (q : Kind) (rs : List (List Part)) (ps : List Part) (at next : ℕ) → AreRuns one_leaf rs ps
-    → AllByRecursion (IsPartIn k q) ps → begins_loose ps ≡ false
-    → begins_with_text (all_annotated_at at next (forest (map child rs))) ≡ false
-no_text_next k q [] ps at next h a e = refl
-no_text_next k q ([] ∷ rs) ps at next h a e = absurd h.2
-no_text_next k q ((loose j o b ∷ r) ∷ rs) ps at next h a e = absurd (let f = ap begins_loose (sym h.1) ∙ e in cc)
-no_text_next k q ((node t ∷ r) ∷ rs) ps at next h a e = (subst (λ (ts : List Part). AllByRecursion (IsPartIn k q) ts) h.1 a).0.0.element at next
-
 pub behind_cut : (k : ℕ) (q : Kind) (rs : List (List Part)) (ps : List Part) (at next : ℕ) → AreRuns one_leaf rs ps → AllByRecursion (IsPartIn k q) ps
     → AreCut true (all_annotated_at at next (forest (map child rs)))
 behind_cut k q [] ps at next h a = tt
@@ -167,7 +159,7 @@ behind_cut k q ((loose j o b ∷ r) ∷ rs) ps at next h a =
     let t : ItemTree = child (loose j o b ∷ r) in
     let rest : AllByRecursion (IsPartIn k q) h.0 = all_behind k q (loose j o b ∷ r) h.0 v in
     let ts : Trees = all_annotated_at (at + width (tree_items t)) (next + numbered t) (forest (map child rs)) in
-    let n : begins_with_text ts ≡ false = no_text_next k q rs h.0 (at + width (tree_items t)) (next + numbered t) h.3 rest s.stops in
+    let n : begins_with_text ts ≡ false = no_text_first k q rs h.0 (at + width (tree_items t)) (next + numbered t) h.3 rest s.stops in
     let is : annotated_at at next t ≡ sep_leaf (span at (length (b ∷ s.more))) (b ∷ s.more) =
     run_tree at next j Sep _ _ v.0.0 s.items ∙ separator_tree at next b s.more in (
       subst (λ u. StandsBy (is_text u) (begins_with_text ts) (IsWhole true (leads_to_block ts) u) (IsFront true u ts)) (sym is)
@@ -241,7 +233,7 @@ behind_by k q ((loose j o b ∷ r) ∷ rs) ps h a f =
       cut = λ at next.
           let ts : Trees = all_annotated_at (at + width (tree_items t)) (next + numbered t) (forest (map child rs)) in
           subst (λ u. AreCut false (more u ts)) (sym (is at next))
-          (border_cut at next b s.more ts ten s.white (no_text_next k q rs h.0 (at + width (tree_items t)) (next + numbered t) h.3 rest s.stops)
+          (border_cut at next b s.more ts ten s.white (no_text_first k q rs h.0 (at + width (tree_items t)) (next + numbered t) h.3 rest s.stops)
           (behind_cut k q rs h.0 (at + width (tree_items t)) (next + numbered t) h.3 rest));
       leads = λ at next.
           let ts : Trees = all_annotated_at (at + width (tree_items t)) (next + numbered t) (forest (map child rs)) in

@@ -128,9 +128,9 @@ free : (r : Row) (rs : List Row) → needs_end r.kind ≡ false → AreChained r
 free r [] e h = tt
 free r (s ∷ rs) e h = (inl e, h)
 
-ended : (r : Row) (l : List Item) (rs : List Row) → (IsBreakGap (ending l) → IsBreakGap r.ending) → IsFollowed l rs → AreChained rs → AreChained (r ∷ rs)
-ended r l [] f g h = tt
-ended r l (s ∷ rs) f g h = (inr (elim g [ inl b ↦ inl (f b) | inr e ↦ inr e ]), h)
+line_ends : (r : Row) (l : List Item) (rs : List Row) → (IsBreakGap (ending l) → IsBreakGap r.ending) → IsFollowed l rs → AreChained rs → AreChained (r ∷ rs)
+line_ends r l [] f g h = tt
+line_ends r l (s ∷ rs) f g h = (inr (elim g [ inl b ↦ inl (f b) | inr e ↦ inr e ]), h)
 
 line_chained : (l : List Item) (rest : List Row) (k : LineKind) → IsFollowed l rest → AreChained rest → AreChained (line_rows k l ++ rest)
 line_chained l rest line.Blank f h = free (record { kind = line.Blank; lead = []; items = l; ending = [] }) rest refl h
@@ -144,10 +144,10 @@ line_chained l rest line.TableEnd f h = by_test (is_unseen (behind_sign (idle_le
         else sign_row line.TableEnd n 2 l [] ∷ whole_row line.Text (marks_len (behind_sign n 2 l)) (behind_sign n 2 l) ∷ []) ++ rest)
     by_test true = free (sign_row line.TableEnd n 2 l (behind_sign n 2 l)) rest refl h
     by_test false = (inl refl, free (whole_row line.Text (marks_len (behind_sign n 2 l)) (behind_sign n 2 l)) rest refl h)
-line_chained l rest line.Caption f h = ended (whole_row line.Caption (idle_len l) l) l rest (idle_end l) f h
+line_chained l rest line.Caption f h = line_ends (whole_row line.Caption (idle_len l) l) l rest (idle_end l) f h
 line_chained l rest line.Row f h = free (whole_row line.Row (idle_len l) l) rest refl h
-line_chained l rest line.Cell f h = ended (whole_row line.Cell (idle_len l) l) l rest (idle_end l) f h
-line_chained l rest line.Header f h = ended (whole_row line.Header (idle_len l) l) l rest (idle_end l) f h
+line_chained l rest line.Cell f h = line_ends (whole_row line.Cell (idle_len l) l) l rest (idle_end l) f h
+line_chained l rest line.Header f h = line_ends (whole_row line.Header (idle_len l) l) l rest (idle_end l) f h
 line_chained l rest line.Heading f h = free (whole_row line.Heading (marks_len l) l) rest refl h
 line_chained l rest line.Rule f h = by_test (is_unseen (behind_sign n m l))
   where
@@ -161,7 +161,7 @@ line_chained l rest line.Rule f h = by_test (is_unseen (behind_sign n m l))
         else sign_row line.Rule n m l [] ∷ whole_row line.Text (marks_len (behind_sign n m l)) (behind_sign n m l) ∷ []) ++ rest)
     by_test true = free (sign_row line.Rule n m l (behind_sign n m l)) rest refl h
     by_test false = (inl refl, free (whole_row line.Text (marks_len (behind_sign n m l)) (behind_sign n m l)) rest refl h)
-line_chained l rest line.List f h = ended (whole_row line.List (marks_len l) l) l rest (marks_end l) f h
+line_chained l rest line.List f h = line_ends (whole_row line.List (marks_len l) l) l rest (marks_end l) f h
 line_chained l rest line.Pre f h = free (whole_row line.Pre (marks_len l) l) rest refl h
 line_chained l rest line.Text f h = free (whole_row line.Text (marks_len l) l) rest refl h
 
@@ -173,9 +173,9 @@ followed_by_ends : (l : List Item) (n : ℕ) → IsFollowed l (replicate n unwri
 followed_by_ends l zero = tt
 followed_by_ends l (suc n) = inr refl
 
-followed : (l : List Item) (rs : List Row) → IsBreakGap (ending l) → IsFollowed l rs
-followed l [] h = tt
-followed l (r ∷ rs) h = inl h
+line_follows : (l : List Item) (rs : List Row) → IsBreakGap (ending l) → IsFollowed l rs
+line_follows l [] h = tt
+line_follows l (r ∷ rs) h = inl h
 
 from_chained : (tables : ℕ) (ls : List (List Item)) → LinesEnd ls → AreChained (rows_from tables ls)
 from_chained tables [] h = ends_chained tables
@@ -184,7 +184,7 @@ from_chained tables (l ∷ []) h =
     line_chained l (rows_from (behind tables k) []) k (followed_by_ends l (behind tables k)) (from_chained (behind tables k) [] tt)
 from_chained tables (l ∷ m ∷ ls) h =
     let k : LineKind = kind_at tables l in
-    line_chained l (rows_from (behind tables k) (m ∷ ls)) k (followed l (rows_from (behind tables k) (m ∷ ls)) h.0)
+    line_chained l (rows_from (behind tables k) (m ∷ ls)) k (line_follows l (rows_from (behind tables k) (m ∷ ls)) h.0)
     (from_chained (behind tables k) (m ∷ ls) h.1)
 
 pub page_chained : (xs : List Item) → AreChained (rows xs)

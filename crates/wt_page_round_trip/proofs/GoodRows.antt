@@ -20,11 +20,12 @@ use Rattle.wt_build.specs.Rows.{kind_at, ending}
 use Rattle.wt_body.specs.Rows.{Row, signs, marks_len, idle_len, whole_row, sign_row, behind_sign, is_unseen, sign_rows, dashes, line_rows, unwritten_end, rows_from, rows}
 use Rattle.wt_page_round_trip.proofs.TextItems.{AreTexts, EndsLow, cut_after}
 use Rattle.wt_page_round_trip.proofs.OfPage.{IsPageItem, AreOfPage, ArePageItems}
-use Rattle.wt_page_round_trip.proofs.PageLines.{IsBetween, is_white_byte, all_both, all_taken, all_dropped, taken_marks, marks_between, ending_between, content_ending, content_page, page_lines}
+use Rattle.wt_page_round_trip.proofs.PageLines.{IsBetween, all_both, all_taken, all_dropped, taken_marks, marks_between, ending_between, content_ending, content_page, page_lines}
 use Rattle.wt_page_round_trip.proofs.Idle.{IsSmallItem, texts_small, idle_item, idle_items, blank_line}
 use Rattle.wt_page_round_trip.proofs.BodyParts.{IsHeadingLine}
-use Rattle.wt_page_round_trip.proofs.HeadingLines.{ends_low, past_lead, heading_line}
+use Rattle.wt_page_round_trip.proofs.HeadingLines.{ends_low, past_lead, heading_line, signs_len}
 use Rattle.wt_page_round_trip.proofs.KindTests.{kind_told}
+use Rattle.wt_page_round_trip.proofs.Separated.{white_low}
 
 -- what may stand between blocks
 abbrev pub IsGap : List Item → Type 0
@@ -68,9 +69,6 @@ ends_on x (y ∷ xs) l e = e
 pub low_ends : (xs : List Item) → AllByRecursion IsLowItem xs → EndsLow xs
 low_ends [] a = tt
 low_ends (x ∷ xs) a = ends_on x xs a.0 (low_ends xs a.1)
-
-white_low : (b : ℕ) → is_white_byte b ≡ true → b < 128
-white_low b e = grind (arith, nat_tests)
 
 between_low : (xs : List Item) → AllByRecursion IsBetween xs → AllByRecursion IsLowItem xs
 between_low [] a = tt
@@ -211,7 +209,7 @@ signs_good k n m l h g e s = by_test (is_unseen (behind_sign n m l)) refl
 
 -- ---- the rows of a line
 
-dash_low : (s : ℕ) → (s == 45) ≡ true → s < 128
+pub dash_low : (s : ℕ) → (s == 45) ≡ true → s < 128
 dash_low s e = let f : s ≡ 45 = eqb-true s 45 e in omega (arith, f)
 
 -- two low signs
@@ -225,10 +223,6 @@ two_low xs e =
     let at : get_or (signs xs) 1 0 ≡ 125 = ap (λ ss. get_or ss 1 0) (sym all)
     ∙ get_or_append_left (signs (content xs)) (signs (ending xs)) 0 1 (omega (arith, n)) ∙ begins_get (codes "|}") (signs (content xs)) e 1 (omega arith) in
     ends_low xs 1 (omega (arith, n, len, m)) (omega (arith, at))
-  where
-    signs_len : (xs : List Item) → length (signs xs) ≡ length xs
-    signs_len [] = refl
-    signs_len (x ∷ xs) = ap suc (signs_len xs)
 
 pub line_good : (tables : ℕ) (l : List Item) → ArePageItems l → IsOneLine l → (k : LineKind) → kind_at tables l ≡ k → AreGoodRows (line_rows k l)
 line_good tables l h o line.Blank e =

@@ -16,10 +16,10 @@ pub mod SwitchHeads
 pub mod StyleDepth
 pub mod ContextParts
 pub mod BodyParts
+pub mod KindTests
 pub mod Idle
 pub mod Delimiters
 pub mod HeadingLines
-pub mod KindTests
 pub mod GoodRows
 pub mod TextNodes
 pub mod ListOpenings

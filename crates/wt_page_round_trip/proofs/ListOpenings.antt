@@ -20,6 +20,8 @@ use Rattle.wt_page_round_trip.proofs.OfPage.{IsPageItem, ArePageItems}
 use Rattle.wt_page_round_trip.proofs.PageLines.{all_taken, all_dropped}
 use Rattle.wt_page_round_trip.proofs.TextItems.{BeginsLow, cut_items_before, AreTexts}
 use Rattle.wt_page_round_trip.proofs.GoodRows.{IsLowItem, low_ends, low_item, passing_low, behind_items}
+use Rattle.wt_page_round_trip.proofs.Delimiters.{blank_low}
+use Rattle.wt_page_round_trip.proofs.HeadingLines.{signs_len}
 
 -- ---- the first items of a list
 
@@ -41,9 +43,6 @@ more_taken {A} P (suc n) m (x ∷ xs) a b =
     subst (λ k. AllByRecursion P (take k (x ∷ xs))) (sym z) (a.0, more_taken P n m xs a.1 b)
 
 -- ---- blanks
-
-blank_low : (s : ℕ) → is_blank s ≡ true → s < 128
-blank_low s e = grind (arith, nat_tests)
 
 list_sign_low : (s : ℕ) → is_list_sign s ≡ true → s < 128
 list_sign_low s e = grind (arith, nat_tests)
@@ -79,17 +78,13 @@ atom_sign zero i h = absurd (omega arith)
 atom_sign (suc n) zero h = refl
 atom_sign (suc n) (suc i) h = atom_sign n i (omega arith)
 
-signs_wide : (xs : List Item) → length (signs xs) ≡ length xs
-signs_wide [] = refl
-signs_wide (x ∷ xs) = ap suc (signs_wide xs)
-
 atoms_wide : (n : ℕ) → length (replicate n atom) ≡ n
 atoms_wide zero = refl
 atoms_wide (suc n) = ap suc (atoms_wide n)
 
 -- what is seen of a tile
 seen_by : (t : Bool) (xs : List Item) → length (if t then signs xs else replicate (length xs) atom) ≡ length xs
-seen_by true xs = signs_wide xs
+seen_by true xs = signs_len xs
 seen_by false xs = atoms_wide (length xs)
 
 seen_colon : (t : Bool) (xs : List Item) (i : ℕ) → i < length xs → get_or (if t then signs xs else replicate (length xs) atom) i 0 ≡ 58
@@ -107,11 +102,11 @@ seen_at ((w, xs) ∷ ps) i e =
     elim (cases_lt i (length xs)) [
       | inl h ↦
           let here : get_or a i 0 ≡ 58 = sym (get_or_append_left a rest 0 i (omega (arith, n, h))) ∙ e in
-          ap (λ (ss : List ℕ). get_or ss i 0) both ∙ get_or_append_left (signs xs) (signs (joined ps)) 0 i (omega (arith, h, signs_wide xs))
+          ap (λ (ss : List ℕ). get_or ss i 0) both ∙ get_or_append_left (signs xs) (signs (joined ps)) 0 i (omega (arith, h, signs_len xs))
           ∙ seen_colon (is_bare w.kind) xs i h here
       | inr h ↦
           let later : get_or rest (i - length xs) 0 ≡ 58 = sym (get_or-append_right a rest (length xs) i 0 n h) ∙ e in
-          ap (λ (ss : List ℕ). get_or ss i 0) both ∙ get_or-append_right (signs xs) (signs (joined ps)) (length xs) i 0 (signs_wide xs) h
+          ap (λ (ss : List ℕ). get_or ss i 0) both ∙ get_or-append_right (signs xs) (signs (joined ps)) (length xs) i 0 (signs_len xs) h
           ∙ seen_at ps (i - length xs) later
     ]
 
@@ -149,7 +144,7 @@ sign_begins (char o b ∷ xs) zero l = l
 sign_begins (whole f o bs ∷ xs) zero l = tt
 sign_begins (x ∷ xs) (suc n) l = sign_begins xs n l
 
-first_low : (xs : List Item) → get_or (signs xs) 0 0 < 128 → AllByRecursion IsLowItem (take 1 xs)
+pub first_low : (xs : List Item) → get_or (signs xs) 0 0 < 128 → AllByRecursion IsLowItem (take 1 xs)
 first_low [] l = tt
 first_low (x ∷ xs) l = (low_item x l, tt)
 

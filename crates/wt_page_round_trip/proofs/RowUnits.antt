@@ -218,7 +218,7 @@ units_good rs n w = units_within (length rs) rs n (omega arith) w
 
 -- ---- rows of units
 
-end_no_open : (k : LineKind) → is_end k ≡ true → is_open k ≡ false
+pub end_no_open : (k : LineKind) → is_end k ≡ true → is_open k ≡ false
 end_no_open line.TableEnd e = refl
 end_no_open k e = absurd cc
 

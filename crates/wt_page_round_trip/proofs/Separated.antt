@@ -56,7 +56,7 @@ white_front b bs h e = by_test ((b == 32 || b == 9) || b == 10) h
     by_test true g = e
     by_test false g = absurd cc
 
-white_low : (b : ℕ) → is_white_byte b ≡ true → b < 128
+pub white_low : (b : ℕ) → is_white_byte b ≡ true → b < 128
 white_low b e = grind (arith, nat_tests)
 
 white_parts : (t u : Bool) → (t && u) ≡ true → ((t && true) ≡ true) × (u ≡ true)
@@ -129,7 +129,7 @@ separator_run k parent j o b (loose i p c ∷ r) others h a =
 
 -- ---- all children
 
-no_text_first : (k : ℕ) (parent : Kind) (rs : List (List Part)) (ps : List Part) (at next : ℕ) → AreRuns one_leaf rs ps
+pub no_text_first : (k : ℕ) (parent : Kind) (rs : List (List Part)) (ps : List Part) (at next : ℕ) → AreRuns one_leaf rs ps
     → AllByRecursion (IsPartIn k parent) ps → begins_loose ps ≡ false
     → begins_with_text (all_annotated_at at next (forest (map child rs))) ≡ false
 no_text_first k parent [] ps at next h a e = refl

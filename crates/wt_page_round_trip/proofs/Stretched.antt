@@ -76,9 +76,9 @@ front_are_gaps (gap xs ∷ ss) =
     subst (λ n. AreGaps (take n (gap xs ∷ ss))) (sym z) (refl, front_are_gaps ss)
 front_are_gaps (block ps ∷ ss) = tt
 
-counted : (s : Stretch) (ss : List Stretch) → prefix_len is_gap (reverse (s ∷ ss))
+gap_count : (s : Stretch) (ss : List Stretch) → prefix_len is_gap (reverse (s ∷ ss))
     ≡ (if prefix_len is_gap (reverse ss) == length (reverse ss) then length (reverse ss) + prefix_len is_gap (s ∷ []) else prefix_len is_gap (reverse ss))
-counted s ss = ap (prefix_len is_gap) (reverse-append (s ∷ []) ss) ∙ prefix_len-append is_gap (reverse ss) (s ∷ [])
+gap_count s ss = ap (prefix_len is_gap) (reverse-append (s ∷ []) ss) ∙ prefix_len-append is_gap (reverse ss) (s ∷ [])
 
 pub block_first : (ps : List Part) (ss : List Stretch) → block_len (block ps ∷ ss) ≡ suc (block_len ss)
 block_first ps ss = by_test (prefix_len is_gap (reverse ss) == length (reverse ss)) refl
@@ -87,11 +87,11 @@ block_first ps ss = by_test (prefix_len is_gap (reverse ss) == length (reverse s
     by_test true e =
         let f : prefix_len is_gap (reverse ss) ≡ length (reverse ss) = eqb-true _ _ e in
         let n : length (reverse ss) ≡ length ss = length-reverse ss in
-        let c : prefix_len is_gap (reverse (block ps ∷ ss)) ≡ length (reverse ss) + 0 = counted (block ps) ss ∙ if_true _ _ _ e in
+        let c : prefix_len is_gap (reverse (block ps ∷ ss)) ≡ length (reverse ss) + 0 = gap_count (block ps) ss ∙ if_true _ _ _ e in
         omega (arith, f, n, c)
     by_test false e =
         let n : length (reverse ss) ≡ length ss = length-reverse ss in
-        let c : prefix_len is_gap (reverse (block ps ∷ ss)) ≡ prefix_len is_gap (reverse ss) = counted (block ps) ss ∙ if_false _ _ _ e in
+        let c : prefix_len is_gap (reverse (block ps ∷ ss)) ≡ prefix_len is_gap (reverse ss) = gap_count (block ps) ss ∙ if_false _ _ _ e in
         let le : prefix_len is_gap (reverse ss) ≤ length (reverse ss) = prefix_len-le-length is_gap (reverse ss) in
         omega (arith, n, c, le)
 
@@ -108,25 +108,21 @@ gap_first xs ss = by_test (prefix_len is_gap (reverse ss) == length (reverse ss)
     by_test true e =
         let f : prefix_len is_gap (reverse ss) ≡ length (reverse ss) = eqb-true _ _ e in
         let n : length (reverse ss) ≡ length ss = length-reverse ss in
-        let c : prefix_len is_gap (reverse (gap xs ∷ ss)) ≡ length (reverse ss) + 1 = counted (gap xs) ss ∙ if_true _ _ _ e in
+        let c : prefix_len is_gap (reverse (gap xs ∷ ss)) ≡ length (reverse ss) + 1 = gap_count (gap xs) ss ∙ if_true _ _ _ e in
         inl (omega (arith, f, n, c), omega (arith, f, n))
     by_test false e =
         let n : length (reverse ss) ≡ length ss = length-reverse ss in
-        let c : prefix_len is_gap (reverse (gap xs ∷ ss)) ≡ prefix_len is_gap (reverse ss) = counted (gap xs) ss ∙ if_false _ _ _ e in
+        let c : prefix_len is_gap (reverse (gap xs ∷ ss)) ≡ prefix_len is_gap (reverse ss) = gap_count (gap xs) ss ∙ if_false _ _ _ e in
         let le : prefix_len is_gap (reverse ss) ≤ length (reverse ss) = prefix_len-le-length is_gap (reverse ss) in
         let lt : prefix_len is_gap (reverse ss) < length (reverse ss) = less _ _ le e in
         inr (omega (arith, n, c, le), omega (arith, n, lt))
-
-none_dropped : (ss : List Stretch) → drop 0 ss ≡ ss
-none_dropped [] = refl
-none_dropped (s ∷ ss) = refl
 
 end_are_gaps : (ss : List Stretch) → AreGaps (end_gaps ss)
 end_are_gaps [] = tt
 end_are_gaps (block ps ∷ ss) = subst (λ n. AreGaps (drop n (block ps ∷ ss))) (sym (block_first ps ss)) (end_are_gaps ss)
 end_are_gaps (gap xs ∷ ss) = elim (gap_first xs ss) [
   | inl q ↦ subst (λ n. AreGaps (drop n (gap xs ∷ ss))) (sym q.0)
-      (refl, subst (λ (ts : List Stretch). AreGaps ts) (none_dropped ss) (subst (λ n. AreGaps (drop n ss)) q.1 (end_are_gaps ss)))
+      (refl, subst (λ n. AreGaps (drop n ss)) q.1 (end_are_gaps ss))
   | inr q ↦ subst (λ n. AreGaps (drop n (gap xs ∷ ss))) (sym q.0) (end_are_gaps ss)
 ]
 

@@ -36,9 +36,9 @@ use Rattle.wt_page_round_trip.proofs.TileTexts.{no_page_items}
 use Rattle.wt_page_round_trip.proofs.ContextParts.{items_utf8}
 use Rattle.wt_page_round_trip.proofs.Boxes.{IsBox}
 use Rattle.wt_page_round_trip.proofs.Stretched.{StandsIn, IsPlaced, ArePlaced, IsHolder, holder_node, holder_opened, holder_enclosed}
-use Rattle.wt_page_round_trip.proofs.GoodRows.{IsGap, IsSeen, IsGoodRow, AreGoodRows, IsLowItem, low_ends, low_item, passing_low, behind_items}
+use Rattle.wt_page_round_trip.proofs.GoodRows.{IsGap, IsSeen, IsGoodRow, AreGoodRows, IsLowItem, low_ends, passing_low, behind_items, dash_low}
 use Rattle.wt_page_round_trip.proofs.TextNodes.{first_gap, gap_items, gaps_placed}
-use Rattle.wt_page_round_trip.proofs.ListOpenings.{more_taken}
+use Rattle.wt_page_round_trip.proofs.ListOpenings.{more_taken, first_low}
 use Rattle.wt_page_round_trip.proofs.ListNodes.{HoldsLists}
 use Rattle.wt_page_round_trip.proofs.CellNodes.{AreStyles, styles_of, no_styles, low_items, row_cells}
 use Rattle.wt_page_round_trip.proofs.RowUnits.{Walk}
@@ -47,10 +47,10 @@ use Rattle.wt_page_round_trip.proofs.TableRows.{AreCellRows, OpensRow, IsTableRo
 
 -- ---- blank rows at the end
 
-counted : (r : Row) (rs : List Row) → prefix_len is_blank_row (reverse (r ∷ rs))
+blank_count : (r : Row) (rs : List Row) → prefix_len is_blank_row (reverse (r ∷ rs))
     ≡ (if prefix_len is_blank_row (reverse rs) == length (reverse rs) then length (reverse rs) + prefix_len is_blank_row (r ∷ [])
     else prefix_len is_blank_row (reverse rs))
-counted r rs = ap (prefix_len is_blank_row) (reverse-append (r ∷ []) rs) ∙ prefix_len-append is_blank_row (reverse rs) (r ∷ [])
+blank_count r rs = ap (prefix_len is_blank_row) (reverse-append (r ∷ []) rs) ∙ prefix_len-append is_blank_row (reverse rs) (r ∷ [])
 
 abbrev IsStray : Row → List Row → Type 0
 IsStray r rs = ((stray_len (r ∷ rs) ≡ 0) × (stray_len rs ≡ 0) × (is_blank_row r ≡ true)) ⊎ (stray_len (r ∷ rs) ≡ suc (stray_len rs))
@@ -66,17 +66,17 @@ stray_first r rs = by_test (prefix_len is_blank_row (reverse rs) == length (reve
         let f : prefix_len is_blank_row (reverse rs) ≡ length (reverse rs) = eqb-true _ _ e in
         let n : length (reverse rs) ≡ length rs = length-reverse rs in
         let one : prefix_len is_blank_row (r ∷ []) ≡ 1 + 0 = if_true (is_blank_row r) _ _ b in
-        let c : prefix_len is_blank_row (reverse (r ∷ rs)) ≡ length (reverse rs) + prefix_len is_blank_row (r ∷ []) = counted r rs ∙ if_true _ _ _ e in
+        let c : prefix_len is_blank_row (reverse (r ∷ rs)) ≡ length (reverse rs) + prefix_len is_blank_row (r ∷ []) = blank_count r rs ∙ if_true _ _ _ e in
         inl (omega (arith, f, n, one, c), omega (arith, f, n), b)
     by_test true false e b =
         let f : prefix_len is_blank_row (reverse rs) ≡ length (reverse rs) = eqb-true _ _ e in
         let n : length (reverse rs) ≡ length rs = length-reverse rs in
         let none : prefix_len is_blank_row (r ∷ []) ≡ 0 = if_false (is_blank_row r) _ _ b in
-        let c : prefix_len is_blank_row (reverse (r ∷ rs)) ≡ length (reverse rs) + prefix_len is_blank_row (r ∷ []) = counted r rs ∙ if_true _ _ _ e in
+        let c : prefix_len is_blank_row (reverse (r ∷ rs)) ≡ length (reverse rs) + prefix_len is_blank_row (r ∷ []) = blank_count r rs ∙ if_true _ _ _ e in
         inr (omega (arith, f, n, none, c))
     by_test false u e b =
         let n : length (reverse rs) ≡ length rs = length-reverse rs in
-        let c : prefix_len is_blank_row (reverse (r ∷ rs)) ≡ prefix_len is_blank_row (reverse rs) = counted r rs ∙ if_false _ _ _ e in
+        let c : prefix_len is_blank_row (reverse (r ∷ rs)) ≡ prefix_len is_blank_row (reverse rs) = blank_count r rs ∙ if_false _ _ _ e in
         let le : prefix_len is_blank_row (reverse rs) ≤ length (reverse rs) = prefix_len-le-length is_blank_row (reverse rs) in
         let lt : prefix_len is_blank_row (reverse rs) < length (reverse rs) = less _ _ le e in
         inr (omega (arith, n, c, lt))
@@ -84,9 +84,9 @@ stray_first r rs = by_test (prefix_len is_blank_row (reverse rs) == length (reve
 abbrev AreBlankRows : List Row → Type 0
 AreBlankRows rs = AllByRecursion (λ r. is_blank_row r ≡ true) rs
 
-trailing : (rs : List Row) → AreBlankRows (drop (stray_len rs) rs)
-trailing [] = tt
-trailing (r ∷ rs) = by_stray (stray_first r rs) (trailing rs)
+blank_at_end : (rs : List Row) → AreBlankRows (drop (stray_len rs) rs)
+blank_at_end [] = tt
+blank_at_end (r ∷ rs) = by_stray (stray_first r rs) (blank_at_end rs)
   where
     by_stray : IsStray r rs → AreBlankRows (drop (stray_len rs) rs) → AreBlankRows (drop (stray_len (r ∷ rs)) (r ∷ rs))
     by_stray (inl q) a = subst (λ n. AreBlankRows (drop n (r ∷ rs))) (sym q.0) (q.2, subst (λ n. AreBlankRows (drop n rs)) q.1 a)
@@ -142,7 +142,7 @@ behind_placed k q rs g =
     let front : List Row = take n rs in
     let rest : AreGoodRows (drop n rs) = all_dropped IsGoodRow n rs g in
     let e : ArePageItems (ending (from_sign front)) = (content_page (from_sign front) (sign_items front (all_taken IsGoodRow n rs g))).1 in
-    ((e.page, ending_between (from_sign front)), gaps_placed k q (drop n rs) rest (blanks_between (drop n rs) rest (trailing rs)))
+    ((e.page, ending_between (from_sign front)), gaps_placed k q (drop n rs) rest (blanks_between (drop n rs) rest (blank_at_end rs)))
 
 -- ---- attributes
 
@@ -159,13 +159,6 @@ open_styles xs h e =
     let at : get_or (signs xs) 1 0 ≡ 124 = begins_get (codes "{|") (signs xs) e 1 (omega arith) in
     let behind : ArePageItems (drop 2 xs) = (low_items 2 xs h (λ some less. inl (omega (arith, at)))).1 in
     subst (λ m. AreStyles (attributes (drop 2 (drop m xs)))) (sym (first_seen (codes "{|") xs e (omega arith) refl)) (styles_of (drop 2 xs) behind)
-
-dash_low : (s : ℕ) → is_dash s ≡ true → s < 128
-dash_low s e = let f : s ≡ 45 = eqb-true s 45 e in omega (arith, f)
-
-first_low : (xs : List Item) → get_or (signs xs) 0 0 < 128 → AllByRecursion IsLowItem (take 1 xs)
-first_low [] l = tt
-first_low (x ∷ xs) l = (low_item x l, tt)
 
 row_styles : (xs : List Item) → ArePageItems xs → begins (codes "|-") (signs xs) ≡ true → AreStyles (row_attributes xs)
 unfolding row_attributes

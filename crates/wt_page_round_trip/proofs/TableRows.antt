@@ -19,7 +19,7 @@ use Rattle.wt_body.specs.Rows.{Row, kind_of, signs}
 use Rattle.wt_page_round_trip.proofs.PageLines.{all_left, all_right, all_both, all_dropped}
 use Rattle.wt_page_round_trip.proofs.Contents.{IsBreakGap}
 use Rattle.wt_page_round_trip.proofs.GoodRows.{IsSeen, IsGoodRow, AreGoodRows}
-use Rattle.wt_page_round_trip.proofs.RowUnits.{Walk, UnitBy, IsUnit, walk_units}
+use Rattle.wt_page_round_trip.proofs.RowUnits.{Walk, UnitBy, IsUnit, walk_units, end_no_open}
 use Rattle.wt_page_round_trip.proofs.EndedRows.{needs_end, AreChained, chained_front, chained_back, chained_behind}
 
 -- ---- rows of several units
@@ -172,11 +172,7 @@ caption_seen line.Caption xs s e = (s.0, word_sign (codes "|+") (signs xs) (omeg
 caption_seen k xs s e = absurd cc
 
 no_end : (n : ℕ) (r : Row) (ms : List Row) → IsUnit n (r ∷ ms) → is_end r.kind ≡ true → ⊥
-no_end n r ms u e = subst (λ x. UnitBy false x n ms) e (subst (λ x. UnitBy x (is_end r.kind) n ms) (end_closed r.kind e) u)
-  where
-    end_closed : (k : LineKind) → is_end k ≡ true → is_open k ≡ false
-    end_closed line.TableEnd e = refl
-    end_closed k e = absurd cc
+no_end n r ms u e = subst (λ x. UnitBy false x n ms) e (subst (λ x. UnitBy x (is_end r.kind) n ms) (end_no_open r.kind e) u)
 
 group_ended : (n : ℕ) (r : Row) (us : List (List Row)) → needs_end r.kind ≡ true → AllByRecursion (IsUnit n) us → AreChained (r ∷ joined us)
     → IsBreakGap r.ending ⊎ (joined us ≡ [])

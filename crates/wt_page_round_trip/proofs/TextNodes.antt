@@ -1,8 +1,7 @@
 -- Paragraphs, preformatted text, headings and rules, wherever blocks may stand.
-use Rattle.std.proofs.Common.{◌≡◌, ℕ, suc, ◌+◌, ◌<◌, ◌≤◌, true, List, [], ◌∷◌, ◌++◌, length, take, drop, get_or, IsUtf8, refl, sym, ap, subst, arith}
+use Rattle.std.proofs.Common.{◌≡◌, ℕ, suc, ◌+◌, ◌<◌, ◌≤◌, true, List, [], ◌∷◌, ◌++◌, length, take, drop, get_or, IsUtf8, refl, sym, subst, arith}
 use Rattle.std.specs.Prelude.{codes}
 use Rattle.std.specs.List.{AllByRecursion, flat_map}
-use Rattle.std.proofs.lemmas.Bool.Decides.{nat_tests}
 use Rattle.std.proofs.lemmas.Str.{IsUtf8-nil, IsUtf8-append}
 use Rattle.wt_span.specs.Bytes.{begins}
 use Rattle.wt_span.specs.Items.{Item, char, whole, sources}
@@ -29,22 +28,20 @@ use Rattle.wt_body.specs.Tables.{gaps}
 use Rattle.wt_body.specs.Body.{rule_row, heading_row}
 use Rattle.wt_page_round_trip.proofs.TextItems.{AreTexts, cut_after, cut_items_before}
 use Rattle.wt_page_round_trip.proofs.OfPage.{IsPageItem, AreOfPage, ArePageItems, texts_utf8}
-use Rattle.wt_page_round_trip.proofs.PageLines.{IsBetween, is_white_byte, all_left, all_right, all_both, texts_both}
+use Rattle.wt_page_round_trip.proofs.PageLines.{IsBetween, all_left, all_right, all_both, texts_both}
 use Rattle.wt_page_round_trip.proofs.Parts.{children_written}
 use Rattle.wt_page_round_trip.proofs.WrittenParts.{FitsIn, no_parts, fits_both, fits_text, fits_node}
 use Rattle.wt_page_round_trip.proofs.Inline.{IsInlineParent}
 use Rattle.wt_page_round_trip.proofs.InlineNodes.{skip_leaf}
 use Rattle.wt_page_round_trip.proofs.ContextParts.{line_fits}
 use Rattle.wt_page_round_trip.proofs.BodyParts.{IsHeadingLine, heading_parent, para_parent, inline_held}
-use Rattle.wt_page_round_trip.proofs.HeadingLines.{ends_low}
+use Rattle.wt_page_round_trip.proofs.HeadingLines.{ends_low, signs_len}
 use Rattle.wt_page_round_trip.proofs.Boxes.{IsInside, IsRound, IsBox, box_written, rule_written}
 use Rattle.wt_page_round_trip.proofs.Stretched.{StandsIn, IsBlockIn, ArePlaced}
 use Rattle.wt_page_round_trip.proofs.GoodRows.{IsGap, IsGoodRow, AreGoodRows, behind_items}
+use Rattle.wt_page_round_trip.proofs.Separated.{white_low}
 
 -- ---- gaps round blocks
-
-white_low : (b : ℕ) → is_white_byte b ≡ true → b < 128
-white_low b e = grind (arith, nat_tests)
 
 between_texts : (run : List ℕ) (xs : List Item) → IsUtf8 run → AllByRecursion IsBetween xs → AreTexts run xs
 between_texts run [] u a = u
@@ -142,10 +139,6 @@ space_cut r g e =
     let n : 1 ≤ length (signs r.items) = begins_len (codes " ") (signs r.items) e in
     let at : get_or (signs r.items) 0 0 ≡ 32 = begins_get (codes " ") (signs r.items) e 0 (omega arith) in
     behind_items 1 r.items g.items (ends_low r.items 0 (omega (arith, n, signs_len r.items)) (omega (arith, at)))
-  where
-    signs_len : (xs : List Item) → length (signs xs) ≡ length xs
-    signs_len [] = refl
-    signs_len (x ∷ xs) = ap suc (signs_len xs)
 
 pre_line : (most : ℕ) → most < 142 → (r : Row) → IsGoodRow r → begins (codes " ") (signs r.items) ≡ true → FitsIn most (later_pre r)
 pre_line most small r g e =
