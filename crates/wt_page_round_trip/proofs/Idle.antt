@@ -8,12 +8,10 @@ use Rattle.std.proofs.lemmas.Str.{encodes-chars, scalars-chars}
 use lib.Utf8.{scalar, scalars, encode, encodes}
 use Rattle.wt_html_grammar.proofs.Steps.{if_case}
 use Rattle.wt_span.specs.Items.{Item, char, whole, sign, is_mark_form}
-use Rattle.wt_lines.specs.declared.kind.LineKind.{LineKind}
 use Rattle.wt_lines.specs.declared.kind.LineKind.TheVariants as line
 use Rattle.wt_lines.specs.Kinds.{kind_of_signs, past, is_idle}
 use Rattle.wt_lines.specs.Lines.{content}
-use Rattle.wt_build.specs.declared.block.BlockKind.TheVariants.{Between, Heading}
-use Rattle.wt_build.specs.Rows.{block_of, ending}
+use Rattle.wt_build.specs.Rows.{ending}
 use Rattle.wt_page_round_trip.proofs.TextItems.{AreTexts}
 use Rattle.wt_page_round_trip.proofs.PageLines.{IsBetween, is_white_byte, all_left, all_right, all_both, content_ending, ending_between}
 use Rattle.wt_page_round_trip.proofs.KindTests.{kind_told}
@@ -59,14 +57,6 @@ pub texts_small : (xs : List Item) → AreTexts [] xs → AllByRecursion IsSmall
 texts_small xs t = (small_texts [] xs t).1
 
 -- ---- the kind of a line
-
-pub block_blank : (k : LineKind) → block_of k ≡ Between → k ≡ line.Blank
-block_blank line.Blank e = refl
-block_blank k e = absurd cc
-
-pub block_heading : (k : LineKind) → block_of k ≡ Heading → k ≡ line.Heading
-block_heading line.Heading e = refl
-block_heading k e = absurd cc
 
 blank_signs : (tables : ℕ) (ss : List ℕ) → kind_of_signs tables ss ≡ line.Blank → (length (past is_idle ss) == 0) ≡ true
 blank_signs tables ss h = kind_told tables ss line.Blank h

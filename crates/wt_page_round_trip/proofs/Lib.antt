@@ -31,8 +31,7 @@ pub mod TableRows
 pub mod TableNodes
 pub mod TableParts
 pub mod BlockNodes
-pub mod BlockPages
-pub mod Body
+pub mod Pages
 pub mod Separated
 pub mod Boxes
 pub mod Stretched
@@ -40,5 +39,4 @@ pub mod Bordered
 pub mod Unbroken
 pub mod Contents
 pub mod Counts
-pub mod Pages
 pub mod PageTrees
