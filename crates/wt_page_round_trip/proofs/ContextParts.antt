@@ -59,7 +59,7 @@ pub record SegmentFits (most : ℕ) (u : Segment) : Type 0 where
   pub parts : FitsIn most u.parts
   pub items : IsUtf8 (sources u.items)
 
-items_utf8 : (xs : List Item) → ArePageItems xs → IsUtf8 (sources xs)
+pub items_utf8 : (xs : List Item) → ArePageItems xs → IsUtf8 (sources xs)
 items_utf8 xs h = texts_utf8 [] xs h.texts h.page
 
 loose_fits : (most : ℕ) (xs : List Item) → most < 199 → ArePageItems xs → SegmentFits most (loose_segment xs)

@@ -37,7 +37,7 @@ last_equals c s e =
 
 -- ---- blanks
 
-blank_at : (c : List ℕ) (l i : ℕ) → l ≤ i → i < l + blank_len (drop l c) → is_blank (get_or c i 0) ≡ true
+pub blank_at : (c : List ℕ) (l i : ℕ) → l ≤ i → i < l + blank_len (drop l c) → is_blank (get_or c i 0) ≡ true
 blank_at c l i le lt =
     let z : l + (i - l) ≡ i = omega arith in
     let a : get_or (drop l c) (i - l) 0 ≡ get_or c (l + (i - l)) 0 = get_or-drop l c (i - l) 0 in

@@ -1,8 +1,7 @@
 -- The line of a heading: its level, and where its delimiters end.
-use Rattle.std.proofs.Common.{◌≡◌, ℕ, zero, suc, ◌+◌, ◌-◌, ◌<◌, ◌≤◌, Bool, true, false, List, [], ◌∷◌, ◌++◌, length, take, drop, map, get_or, nat_lt, inl, inr, refl, sym, ap, ap₂, ◌∙◌, subst, arith, append-nil, length-take, length-drop}
+use Rattle.std.proofs.Common.{◌≡◌, ℕ, zero, suc, ◌+◌, ◌-◌, ◌<◌, ◌≤◌, Bool, true, false, List, [], ◌∷◌, ◌++◌, length, take, drop, map, get_or, inl, inr, refl, sym, ap, ap₂, ◌∙◌, subst, arith, append-nil, length-take, length-drop}
 use Rattle.std.specs.Prelude.{◌==◌, ◌&&◌, ◌||◌, not, reverse, codes, if◌then◌else◌}
 use Rattle.std.specs.List.{AllByRecursion, prefix_len}
-use Rattle.std.specs.Option.{unwrap_or}
 use Rattle.std.proofs.lemmas.Bool.{true≢false, and_parts, cases_lt}
 use Rattle.std.proofs.lemmas.Bool.Decides.{nat_tests}
 use Rattle.std.proofs.lemmas.List.Folds.{prefix_len-append}
@@ -15,16 +14,17 @@ use Rattle.wt_tree.specs.declared.kind.Kind.TheVariants as kind
 use Rattle.wt_tree.specs.Kinds.{spelling}
 use Rattle.wt_lex.proofs.Begins.{begins_get, begins_len}
 use Rattle.wt_lines.specs.declared.kind.LineKind.TheVariants as line
-use Rattle.wt_lines.specs.Kinds.{is_mark_sign, is_idle, past, is_idle_all, is_alone, is_heading, is_list, first_of, open_kind, table_rows, text_rows, kind_of_signs}
+use Rattle.wt_lines.specs.Kinds.{is_mark_sign, is_idle, past, is_idle_all, is_alone, is_heading, kind_of_signs}
 use Rattle.wt_lines.specs.Lines.{content, is_break_item}
 use Rattle.wt_round_trip.specs.Written.{has_level}
 use Rattle.wt_blocks.specs.Headings.{core, level_of, open_len, trimmed_len, level, opening, closing}
 use Rattle.wt_build.specs.Blocks.{lead_len}
 use Rattle.wt_page_round_trip.proofs.TextItems.{BeginsLow, EndsLow}
 use Rattle.wt_page_round_trip.proofs.OfPage.{ArePageItems}
-use Rattle.wt_page_round_trip.proofs.Idle.{IsSmallItem, texts_small, past_table, opens}
+use Rattle.wt_page_round_trip.proofs.Idle.{IsSmallItem, texts_small}
 use Rattle.wt_page_round_trip.proofs.BodyParts.{IsHeadingLine}
 use Rattle.wt_page_round_trip.proofs.Delimiters.{IsLevel, level_is, open_sign, middle, close_sign}
+use Rattle.wt_page_round_trip.proofs.KindTests.{kind_told}
 
 -- ---- items by their signs
 
@@ -32,7 +32,7 @@ form_high : (b : Bool) → (if b then 257 else 256) < 128 → ⊥
 form_high true h = omega arith
 form_high false h = omega arith
 
-ends_low : (xs : List Item) (k : ℕ) → k < length xs → get_or (map sign xs) k 0 < 128 → EndsLow (take (suc k) xs)
+pub ends_low : (xs : List Item) (k : ℕ) → k < length xs → get_or (map sign xs) k 0 < 128 → EndsLow (take (suc k) xs)
 ends_low [] k h l = absurd (omega arith)
 ends_low (char o b ∷ []) zero h l = l
 ends_low (char o b ∷ y ∷ ys) zero h l = l
@@ -41,48 +41,21 @@ ends_low (whole f o bs ∷ y ∷ ys) zero h l = tt
 ends_low (x ∷ []) (suc k) h l = absurd (omega arith)
 ends_low (x ∷ y ∷ ys) (suc k) h l = ends_low (y ∷ ys) k (omega arith) l
 
-begins_low : (xs : List Item) (k : ℕ) → (k < length xs → get_or (map sign xs) k 0 < 128) → BeginsLow (drop k xs)
+pub begins_low : (xs : List Item) (k : ℕ) → (k < length xs → get_or (map sign xs) k 0 < 128) → BeginsLow (drop k xs)
 begins_low [] zero f = tt
 begins_low [] (suc k) f = tt
 begins_low (char o b ∷ xs) zero f = f (omega arith)
 begins_low (whole g o bs ∷ xs) zero f = tt
 begins_low (x ∷ xs) (suc k) f = begins_low xs k (λ h. f (omega arith))
 
-signs_len : (xs : List Item) → length (map sign xs) ≡ length xs
+pub signs_len : (xs : List Item) → length (map sign xs) ≡ length xs
 signs_len [] = refl
 signs_len (x ∷ xs) = ap suc (signs_len xs)
 
 -- ---- the kind of the line
 
-heading_test : (b c d e : Bool) → unwrap_or (first_of ((b, line.Heading) ∷ (c, line.Rule) ∷ (d, line.List) ∷ (e, line.Pre) ∷ []))
-    line.Text ≡ line.Heading → b ≡ true
-heading_test true c d e h = refl
-heading_test false true d e h = absurd cc
-heading_test false false true e h = absurd cc
-heading_test false false false true h = absurd cc
-heading_test false false false false h = absurd cc
-
 heading_signs : (tables : ℕ) (ss : List ℕ) → kind_of_signs tables ss ≡ line.Heading → is_heading (past is_mark_sign ss) (past is_idle (reverse ss)) ≡ true
-unfolding kind_of_signs
-heading_signs tables ss h = by_test (length (past is_idle ss) == 0) (begins (codes "{|") s) h
-  where
-    s : List ℕ
-    s = past is_idle ss
-
-    first : List ℕ
-    first = past is_mark_sign ss
-
-    last : List ℕ
-    last = past is_idle (reverse ss)
-
-    by_test : (t o : Bool) → unwrap_or (first_of ((t, line.Blank) ∷ (o, open_kind tables)
-        ∷ ((if nat_lt 0 tables then table_rows s else []) ++ text_rows first last))) line.Text ≡ line.Heading → is_heading first last ≡ true
-    by_test true o e = absurd cc
-    by_test false true e = absurd (opens line.Heading (nat_lt tables 16) (λ x. cc) (λ x. cc) e)
-    by_test false false e =
-        heading_test (is_heading first last) (begins (codes "----") first) (is_list first) (begins (codes " ") first)
-        (past_table line.Heading (nat_lt 0 tables) (begins (codes "|}") s) (begins (codes "|+") s) (begins (codes "|-") s)
-        (begins (codes "|") s) (begins (codes "!") s) (text_rows first last) (λ x. cc) (λ x. cc) (λ x. cc) (λ x. cc) (λ x. cc) e)
+heading_signs tables ss h = kind_told tables ss line.Heading h
 
 -- ---- the marks before the first visible item
 
@@ -97,7 +70,7 @@ small_sign (whole f o bs) h = by_test (is_mark_form f)
     by_test true = refl
     by_test false = refl
 
-mark_is_none : (x : Item) → is_mark x ≡ true → is_break_item x ≡ false
+pub mark_is_none : (x : Item) → is_mark x ≡ true → is_break_item x ≡ false
 mark_is_none (char o b) e = absurd cc
 mark_is_none (whole f o bs) e = refl
 
@@ -105,7 +78,7 @@ past_front : (x : Item) (ss : List ℕ) (b : Bool) → IsSmallItem x → is_mark
     → past is_mark_sign (sign x ∷ ss) ≡ (if b then past is_mark_sign ss else sign x ∷ ss)
 past_front x ss b h e = ap (λ t. if t then past is_mark_sign ss else sign x ∷ ss) (small_sign x h ∙ e)
 
-past_lead : (l : List Item) → AllByRecursion IsSmallItem l → past is_mark_sign (map sign (content l)) ≡ map sign (content (drop (lead_len l) l))
+pub past_lead : (l : List Item) → AllByRecursion IsSmallItem l → past is_mark_sign (map sign (content l)) ≡ map sign (content (drop (lead_len l) l))
 past_lead [] h = refl
 past_lead (x ∷ []) h = by_test (is_mark x) refl
   where

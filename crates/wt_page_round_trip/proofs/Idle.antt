@@ -1,23 +1,20 @@
 -- Blank lines hold spaces, tabs and marks alone.
 use Rattle.std.proofs.Common.{◌≡◌, ℕ, suc, ◌<◌, Bool, true, false, List, [], ◌∷◌, ◌++◌, length, map, IsUtf8, chars, nat_lt, refl, sym, subst, arith}
-use Rattle.std.specs.Prelude.{◌==◌, reverse, codes, if◌then◌else◌}
+use Rattle.std.specs.Prelude.{◌==◌, if◌then◌else◌}
 use Rattle.std.specs.List.{AllByRecursion}
-use Rattle.std.specs.Option.{unwrap_or}
 use Rattle.std.proofs.lemmas.Bool.{eqb-true, ltb-true, and_parts}
 use Rattle.std.proofs.lemmas.Bool.Decides.{nat_tests}
 use Rattle.std.proofs.lemmas.Str.{encodes-chars, scalars-chars}
 use lib.Utf8.{scalar, scalars, encode, encodes}
 use Rattle.wt_html_grammar.proofs.Steps.{if_case}
-use Rattle.wt_span.specs.Bytes.{begins}
 use Rattle.wt_span.specs.Items.{Item, char, whole, sign, is_mark_form}
-use Rattle.wt_lines.specs.declared.kind.LineKind.{LineKind}
 use Rattle.wt_lines.specs.declared.kind.LineKind.TheVariants as line
-use Rattle.wt_lines.specs.Kinds.{first_of, open_kind, table_rows, text_rows, kind_of_signs, past, is_idle, is_mark_sign}
+use Rattle.wt_lines.specs.Kinds.{kind_of_signs, past, is_idle}
 use Rattle.wt_lines.specs.Lines.{content}
-use Rattle.wt_build.specs.declared.block.BlockKind.TheVariants.{Between, Heading}
-use Rattle.wt_build.specs.Rows.{block_of, ending}
+use Rattle.wt_build.specs.Rows.{ending}
 use Rattle.wt_page_round_trip.proofs.TextItems.{AreTexts}
 use Rattle.wt_page_round_trip.proofs.PageLines.{IsBetween, is_white_byte, all_left, all_right, all_both, content_ending, ending_between}
+use Rattle.wt_page_round_trip.proofs.KindTests.{kind_told}
 
 -- ---- bytes
 
@@ -61,59 +58,8 @@ texts_small xs t = (small_texts [] xs t).1
 
 -- ---- the kind of a line
 
-pub block_blank : (k : LineKind) → block_of k ≡ Between → k ≡ line.Blank
-block_blank line.Blank e = refl
-block_blank k e = absurd cc
-
-pub block_heading : (k : LineKind) → block_of k ≡ Heading → k ≡ line.Heading
-block_heading line.Heading e = refl
-block_heading k e = absurd cc
-
--- the rows of a table's lines, which count where one is open
-abbrev pub in_table : (v a b c d e : Bool) → List (Bool × LineKind)
-in_table v a b c d e = if v then (a, line.TableEnd) ∷ (b, line.Caption) ∷ (c, line.Row) ∷ (d, line.Cell) ∷ (e, line.Header) ∷ [] else []
-
--- a kind that is none of these is given by no row of a table's line
-pub past_table : (k : LineKind) (v a b c d e : Bool) (rs : List (Bool × LineKind)) → (k ≡ line.TableEnd → ⊥)
-    → (k ≡ line.Caption → ⊥) → (k ≡ line.Row → ⊥) → (k ≡ line.Cell → ⊥) → (k ≡ line.Header → ⊥)
-    → unwrap_or (first_of (in_table v a b c d e ++ rs)) line.Text ≡ k → unwrap_or (first_of rs) line.Text ≡ k
-past_table k false a b c d e rs f g h i j is = is
-past_table k true true b c d e rs f g h i j is = absurd (f (sym is))
-past_table k true false true c d e rs f g h i j is = absurd (g (sym is))
-past_table k true false false true d e rs f g h i j is = absurd (h (sym is))
-past_table k true false false false true e rs f g h i j is = absurd (i (sym is))
-past_table k true false false false false true rs f g h i j is = absurd (j (sym is))
-past_table k true false false false false false rs f g h i j is = is
-
--- the kind of a line that opens a table
-pub opens : (k : LineKind) (v : Bool) → (k ≡ line.TableOpen → ⊥) → (k ≡ line.Text → ⊥) → (if v then line.TableOpen else line.Text) ≡ k → ⊥
-opens k true f g e = f (sym e)
-opens k false f g e = g (sym e)
-
-not_blank : (b c d e : Bool) → unwrap_or (first_of ((b, line.Heading) ∷ (c, line.Rule) ∷ (d, line.List) ∷ (e, line.Pre) ∷ [])) line.Text ≡ line.Blank → ⊥
-not_blank true c d e h = cc
-not_blank false true d e h = cc
-not_blank false false true e h = cc
-not_blank false false false true h = cc
-not_blank false false false false h = cc
-
 blank_signs : (tables : ℕ) (ss : List ℕ) → kind_of_signs tables ss ≡ line.Blank → (length (past is_idle ss) == 0) ≡ true
-unfolding kind_of_signs
-blank_signs tables ss h = by_test (length (past is_idle ss) == 0) (begins (codes "{|") s) h
-  where
-    s : List ℕ
-    s = past is_idle ss
-
-    rest : List (Bool × LineKind)
-    rest = text_rows (past is_mark_sign ss) (past is_idle (reverse ss))
-
-    by_test : (t o : Bool) → unwrap_or (first_of ((t, line.Blank) ∷ (o, open_kind tables)
-        ∷ ((if nat_lt 0 tables then table_rows s else []) ++ rest))) line.Text ≡ line.Blank → t ≡ true
-    by_test true o e = refl
-    by_test false true e = absurd (opens line.Blank (nat_lt tables 16) (λ x. cc) (λ x. cc) e)
-    by_test false false e =
-        absurd (not_blank _ _ _ _ (past_table line.Blank (nat_lt 0 tables) (begins (codes "|}") s) (begins (codes "|+") s)
-        (begins (codes "|-") s) (begins (codes "|") s) (begins (codes "!") s) rest (λ x. cc) (λ x. cc) (λ x. cc) (λ x. cc) (λ x. cc) e))
+blank_signs tables ss h = kind_told tables ss line.Blank h
 
 idle_char : (b : ℕ) → b < 256 → is_idle b ≡ true → is_white_byte b ≡ true
 idle_char b l e = grind (arith, nat_tests)
@@ -122,11 +68,11 @@ idle_form : (b : Bool) → is_idle (if b then 257 else 256) ≡ true → b ≡ t
 idle_form true e = refl
 idle_form false e = absurd cc
 
-idle_item : (x : Item) → IsSmallItem x → is_idle (sign x) ≡ true → IsBetween x
+pub idle_item : (x : Item) → IsSmallItem x → is_idle (sign x) ≡ true → IsBetween x
 idle_item (char o b) l e = idle_char b l e
 idle_item (whole f o bs) l e = idle_form (is_mark_form f) e
 
-idle_items : (xs : List Item) → AllByRecursion IsSmallItem xs → (length (past is_idle (map sign xs)) == 0) ≡ true → AllByRecursion IsBetween xs
+pub idle_items : (xs : List Item) → AllByRecursion IsSmallItem xs → (length (past is_idle (map sign xs)) == 0) ≡ true → AllByRecursion IsBetween xs
 idle_items [] l e = tt
 idle_items (x ∷ xs) l e = by_test (is_idle (sign x)) refl e (λ f. idle_items xs l.1 f)
   where

@@ -1,5 +1,5 @@
 -- The lines of a page: texts in UTF-8 and whole forms.
-use Rattle.std.proofs.Common.{◌≡◌, ℕ, suc, ◌+◌, Bool, true, false, List, [], ◌∷◌, ◌++◌, take, drop, IsUtf8, refl, sym, ap, ◌∙◌, subst, arith, append_assoc, append-nil}
+use Rattle.std.proofs.Common.{◌≡◌, ℕ, suc, ◌+◌, Bool, true, false, List, [], ◌∷◌, ◌++◌, take, drop, IsUtf8, refl, sym, ap, subst, arith, append_assoc, append-nil}
 use Rattle.std.specs.Prelude.{◌==◌, not, if◌then◌else◌}
 use Rattle.std.specs.List.{AllByRecursion, prefix_len}
 use Rattle.std.proofs.lemmas.Bool.{eqb-true}
@@ -10,7 +10,6 @@ use Rattle.wt_span.specs.Items.{Item, char, whole, is_mark, is_mark_form}
 use Rattle.wt_span.specs.Runs.{IsRun, AreRuns}
 use Rattle.wt_lines.specs.Lines.{is_break_item, goes_on, content}
 use Rattle.wt_build.specs.Rows.{ending}
-use Rattle.wt_build.specs.Blocks.{joined, lead_len, lead, without_lead, last_ending, without_ending}
 use Rattle.wt_page_round_trip.proofs.TextItems.{AreTexts, BeginsLow, EndsLow, cut_after, cut_items_before}
 use Rattle.wt_page_round_trip.proofs.OfPage.{IsPageItem, AreOfPage, ArePageItems}
 
@@ -41,7 +40,7 @@ texts_behind run s [] u t = IsUtf8-append run s u t
 texts_behind run s (char o b ∷ ys) u t = subst (λ r. AreTexts r ys) (sym (append_assoc run s (b ∷ []))) (texts_behind run (s ++ b ∷ []) ys u t)
 texts_behind run s (whole f o bs ∷ ys) u t = (IsUtf8-append run s u t.0, t.1)
 
-texts_both : (run : List ℕ) (xs ys : List Item) → AreTexts run xs → AreTexts [] ys → AreTexts run (xs ++ ys)
+pub texts_both : (run : List ℕ) (xs ys : List Item) → AreTexts run xs → AreTexts [] ys → AreTexts run (xs ++ ys)
 texts_both run [] ys h t = subst (λ r. AreTexts r ys) (append-nil run) (texts_behind run [] ys h t)
 texts_both run (char o b ∷ xs) ys h t = texts_both (run ++ b ∷ []) xs ys h t
 texts_both run (whole f o bs ∷ xs) ys h t = (h.0, texts_both [] xs ys h.1 t)
@@ -76,12 +75,6 @@ page_lines (r ∷ rs) xs h t p =
     let v : AreOfPage (r ++ h.0) = subst AreOfPage h.1 p in
     (record { texts = q.0; page = all_left IsPageItem r h.0 v }, page_lines rs h.0 h.3 q.1 (all_right IsPageItem r h.0 v))
 
-pub joined_line : (ls : List (List Item)) → AllByRecursion ArePageItems ls → ArePageItems (joined ls)
-joined_line [] h = record { texts = IsUtf8-nil; page = tt }
-joined_line (l ∷ ls) h =
-    let q : ArePageItems (joined ls) = joined_line ls h.1 in
-    record { texts = texts_both [] l (joined ls) h.0.texts q.texts; page = all_both IsPageItem l (joined ls) h.0.page q.page }
-
 -- ---- marks and line breaks
 
 abbrev pub is_white_byte : ℕ → Bool
@@ -92,21 +85,15 @@ abbrev pub IsBetween : Item → Type 0
 IsBetween (char o b) = is_white_byte b ≡ true
 IsBetween (whole f o bs) = is_mark_form f ≡ true
 
-abbrev IsMark : Item → Type 0
+abbrev pub IsMark : Item → Type 0
 IsMark x = is_mark x ≡ true
 
-marks_low : (xs : List Item) → AllByRecursion IsMark xs → EndsLow xs
-marks_low [] h = tt
-marks_low (char o b ∷ []) h = absurd (let e = h.0 in cc)
-marks_low (whole f o bs ∷ []) h = tt
-marks_low (x ∷ y ∷ xs) h = marks_low (y ∷ xs) h.1
-
-marks_between : (xs : List Item) → AllByRecursion IsMark xs → AllByRecursion IsBetween xs
+pub marks_between : (xs : List Item) → AllByRecursion IsMark xs → AllByRecursion IsBetween xs
 marks_between [] h = tt
 marks_between (char o b ∷ xs) h = absurd (let e = h.0 in cc)
 marks_between (whole f o bs ∷ xs) h = (h.0, marks_between xs h.1)
 
-taken_marks : (l : List Item) → AllByRecursion IsMark (take (prefix_len is_mark l) l)
+pub taken_marks : (l : List Item) → AllByRecursion IsMark (take (prefix_len is_mark l) l)
 taken_marks [] = tt
 taken_marks (x ∷ xs) = by_test (is_mark x) refl (taken_marks xs)
   where
@@ -115,10 +102,6 @@ taken_marks (x ∷ xs) = by_test (is_mark x) refl (taken_marks xs)
     by_test true e h = let z : 1 + prefix_len is_mark xs ≡ suc (prefix_len is_mark xs) = omega arith in
         subst (λ n. AllByRecursion IsMark (take n (x ∷ xs))) (sym z) (e, h)
     by_test false e h = tt
-
-lead_marks : (ls : List (List Item)) → AllByRecursion IsMark (lead ls)
-lead_marks [] = tt
-lead_marks (l ∷ ls) = taken_marks l
 
 break_between : (x : Item) → AllByRecursion IsBetween (if is_break_item x then x ∷ [] else [])
 break_between (char o b) = by_test (b == 10) refl
@@ -133,11 +116,6 @@ ending_between [] = tt
 ending_between (x ∷ []) = break_between x
 ending_between (x ∷ y ∷ ys) = ending_between (y ∷ ys)
 
-pub last_between : (ls : List (List Item)) → AllByRecursion IsBetween (last_ending ls)
-last_between [] = tt
-last_between (l ∷ []) = ending_between l
-last_between (l ∷ m ∷ ls) = last_between (m ∷ ls)
-
 break_begins : (x : Item) → BeginsLow (if is_break_item x then x ∷ [] else [])
 break_begins (char o b) = by_test (b == 10) refl
   where
@@ -151,12 +129,7 @@ ending_begins [] = tt
 ending_begins (x ∷ []) = break_begins x
 ending_begins (x ∷ y ∷ ys) = ending_begins (y ∷ ys)
 
-last_begins : (ls : List (List Item)) → BeginsLow (last_ending ls)
-last_begins [] = tt
-last_begins (l ∷ []) = ending_begins l
-last_begins (l ∷ m ∷ ls) = last_begins (m ∷ ls)
-
--- ---- the parts of a block's lines
+-- ---- a line and its line break
 
 ending_by : (x : Item) (v : Bool) → (if v then [] else x ∷ []) ++ (if v then x ∷ [] else []) ≡ x ∷ []
 ending_by x true = refl
@@ -167,24 +140,6 @@ content_ending [] = refl
 content_ending (x ∷ []) = ending_by x (is_break_item x)
 content_ending (x ∷ y ∷ ys) = ap (λ zs. x ∷ zs) (content_ending (y ∷ ys))
 
-pub lead_joined : (ls : List (List Item)) → lead ls ++ joined (without_lead ls) ≡ joined ls
-lead_joined [] = refl
-lead_joined (l ∷ ls) = sym (append_assoc (take (lead_len l) l) (drop (lead_len l) l) (joined ls)) ∙ ap (λ ys. ys ++ joined ls) (take-append-drop (lead_len l) l)
-
-pub end_joined : (ls : List (List Item)) → joined (without_ending ls) ++ last_ending ls ≡ joined ls
-end_joined [] = refl
-end_joined (l ∷ []) = ap (λ ys. ys ++ ending l) (append-nil (content l)) ∙ content_ending l ∙ sym (append-nil l)
-end_joined (l ∷ m ∷ ls) = append_assoc l (joined (without_ending (m ∷ ls))) (last_ending (m ∷ ls)) ∙ ap (λ ys. l ++ ys) (end_joined (m ∷ ls))
-
--- ---- each line of a block
-
-lead_dropped : (l : List Item) → ArePageItems l → ArePageItems (drop (lead_len l) l)
-lead_dropped l h = record {
-  texts = (cut_after (take (lead_len l) l) (drop (lead_len l) l) (marks_low (take (lead_len l) l) (taken_marks l))
-      (subst (AreTexts []) (sym (take-append-drop (lead_len l) l)) h.texts)).1;
-  page = all_dropped IsPageItem (lead_len l) l h.page;
-}
-
 -- a line and its line break
 pub content_page : (l : List Item) → ArePageItems l → ArePageItems (content l) × ArePageItems (ending l)
 content_page l h =
@@ -192,38 +147,3 @@ content_page l h =
     (subst (AreTexts []) (sym (content_ending l)) h.texts) in
     let p : AreOfPage (content l ++ ending l) = subst AreOfPage (sym (content_ending l)) h.page in
     (record { texts = t.0; page = all_left IsPageItem (content l) (ending l) p }, record { texts = t.1; page = all_right IsPageItem (content l) (ending l) p })
-
-unended_lines : (ls : List (List Item)) → AllByRecursion ArePageItems ls → AllByRecursion ArePageItems (without_ending ls)
-unended_lines [] h = tt
-unended_lines (l ∷ []) h = ((content_page l h.0).0, tt)
-unended_lines (l ∷ m ∷ ls) h = (h.0, unended_lines (m ∷ ls) h.1)
-
-pub block_lines : (ls : List (List Item)) → AllByRecursion ArePageItems ls → AllByRecursion ArePageItems (without_ending (without_lead ls))
-block_lines [] h = tt
-block_lines (l ∷ ls) h = unended_lines (drop (lead_len l) l ∷ ls) (lead_dropped l h.0, h.1)
-
--- what stands before a block, the block and what stands behind it
-pub record AreBlockParts (ls : List (List Item)) : Type 0 where
-  pub before : AllByRecursion IsBetween (lead ls)
-  pub before_page : AreOfPage (lead ls)
-  pub line : ArePageItems (joined (without_ending (without_lead ls)))
-  pub behind_page : AreOfPage (last_ending (without_lead ls))
-
-pub block_parts : (ls : List (List Item)) → ArePageItems (joined ls) → AreBlockParts ls
-block_parts ls h =
-    let rest : List (List Item) = without_lead ls in
-    let a : AreTexts [] (lead ls ++ joined rest) = subst (AreTexts []) (sym (lead_joined ls)) h.texts in
-    let p : AreOfPage (lead ls ++ joined rest) = subst AreOfPage (sym (lead_joined ls)) h.page in
-    let b : AreTexts [] (joined (without_ending rest) ++ last_ending rest) =
-    subst (AreTexts []) (sym (end_joined rest)) (cut_after (lead ls) (joined rest) (marks_low (lead ls) (lead_marks ls)) a).1 in
-    let q : AreOfPage (joined (without_ending rest) ++ last_ending rest) =
-    subst AreOfPage (sym (end_joined rest)) (all_right IsPageItem (lead ls) (joined rest) p) in
-    record {
-      before = marks_between (lead ls) (lead_marks ls);
-      before_page = all_left IsPageItem (lead ls) (joined rest) p;
-      line = record {
-        texts = (cut_items_before [] (joined (without_ending rest)) (last_ending rest) (last_begins rest) b).0;
-        page = all_left IsPageItem (joined (without_ending rest)) (last_ending rest) q;
-      };
-      behind_page = all_right IsPageItem (joined (without_ending rest)) (last_ending rest) q;
-    }

@@ -1,4 +1,4 @@
--- The annotated tree of a page is written, and its source is the page.
+-- The annotated tree of a page with all its blocks is written, and its source is the page.
 use Rattle.std.proofs.Common.{◌≡◌, ℕ, ◌+◌, ◌*◌, ◌<◌, ◌≤◌, ◌^◌, List, [], ◌++◌, length, IsUtf8, refl, sym, ap, ◌∙◌, subst, arith}
 use Rattle.std.specs.Prelude.{None}
 use Rattle.std.proofs.lemmas.Str.{IsUtf8-nil}
@@ -15,34 +15,36 @@ use Rattle.wt_expand.specs.PageItems.{page_items}
 use Rattle.wt_expand.proofs.PageLaws.{page_sources}
 use Rattle.wt_inline.specs.ItemTree.{ItemTrees, forest, held_by_all}
 use Rattle.wt_inline.specs.Parts.{Part, children}
-use Rattle.wt_build.specs.Rows.{rows}
-use Rattle.wt_build.specs.Meaning.{body_parts, meaning}
-use Rattle.wt_build.proofs.MeaningLaws.{sources_meaning}
+use Rattle.wt_body.specs.Rows.{rows}
+use Rattle.wt_body.specs.Stretches.{stretches_parts}
+use Rattle.wt_body.specs.Body.{blocks, meaning}
+use Rattle.wt_body.proofs.HeldBody.{sources_meaning}
 use Rattle.wt_annotate.specs.Labels.{width, label_at}
-use Rattle.wt_annotate.specs.Annotated.{numbered_in_all, annotated}
+use Rattle.wt_annotate.specs.Annotated.{numbered, numbered_in_all, annotated}
 use Rattle.wt_annotate.specs.Made.{annotated_at}
 use Rattle.wt_annotate.proofs.OnePass.{annotated_is}
 use Rattle.wt_annotate.proofs.TreeSource.{flat_annotated}
-use Rattle.wt_page_round_trip.proofs.OfPage.{AreOfPage, page_texts, page_of_page}
-use Rattle.wt_page_round_trip.proofs.Parts.{AreWrittenParts, wide_append, children_written}
-use Rattle.wt_page_round_trip.proofs.BodyParts.{body_parts_written}
-use Rattle.wt_page_round_trip.proofs.Body.{body_good}
-use Rattle.wt_page_round_trip.proofs.Counts.{page_few}
+use Rattle.wt_page_round_trip.proofs.OfPage.{page_texts, page_of_page}
+use Rattle.wt_page_round_trip.proofs.Parts.{wide_append}
+use Rattle.wt_page_round_trip.proofs.Separated.{TakesSeparators, separated_written}
+use Rattle.wt_page_round_trip.proofs.Stretched.{placed_parts}
+use Rattle.wt_page_round_trip.proofs.BlockNodes.{body_placed}
 
--- ---- the page
+body_takes : TakesSeparators kind.Body
+body_takes = record { kind = refl; stands = λ bs e. e }
 
-written_at : (page : List ℕ) → IsUtf8 page → length page < 2 ^ 31 → IsWritten (annotated_at 0 1 (meaning (page_items page)))
+-- where it has at most two numbers for each byte
+written_at : (page : List ℕ) → IsUtf8 page → length page < 2 ^ 31 → numbered (meaning (page_items page)) ≤ 2 * length page
+    → IsWritten (annotated_at 0 1 (meaning (page_items page)))
 unfolding meaning label_at spelling
-written_at page u room =
+written_at page u room few =
     let xs : List Item = page_items page in
-    let p : AreOfPage xs = page_of_page page u in
-    let ps : List Part = body_parts (rows xs) in
+    let ps : List Part = stretches_parts (blocks (rows xs)) in
     let ts : ItemTrees = forest (children ps) in
-    let w : AreWrittenParts 2 kind.Body [] ps = body_parts_written ps (body_good xs (page_texts page u) p) in
     let a : width xs ≡ length page = ap length (page_sources page) in
     let b : width (held_by_all ts ++ []) ≡ width xs = ap length (sources_meaning xs) in
     let c : width (held_by_all ts ++ []) ≡ width (held_by_all ts) + 0 = wide_append (held_by_all ts) [] in
-    let e : 0 + numbered_in_all ts ≤ 2 * width xs = page_few xs p in (
+    let e : 0 + numbered_in_all ts ≤ 2 * length page = few in (
       refl,
       record {
         level = refl;
@@ -55,15 +57,18 @@ written_at page u room =
         mark = refl;
         mw = refl;
       },
-      children_written 2 kind.Body ps 0 1 w (omega arith) (omega arith) (omega arith),
+      separated_written 2 kind.Body body_takes ps 0 1
+          (placed_parts 2 kind.Body (omega arith) (blocks (rows xs)) (body_placed xs (page_texts page u) (page_of_page page u)))
+          (omega arith) (omega arith) (omega arith),
     )
 
-pub page_written : (page : List ℕ) → IsUtf8 page → length page < 2 ^ 31 → IsWritten (annotated (meaning (page_items page)))
-page_written page u room = subst IsWritten (sym (annotated_is (meaning (page_items page)))) (written_at page u room)
+pub page_written : (page : List ℕ) → IsUtf8 page → length page < 2 ^ 31 → numbered (meaning (page_items page)) ≤ 2 * length page
+    → IsWritten (annotated (meaning (page_items page)))
+page_written page u room few = subst IsWritten (sym (annotated_is (meaning (page_items page)))) (written_at page u room few)
 
-pub page_is_read : (page : List ℕ) → IsUtf8 page → length page < 2 ^ 31 → read (html_text (annotated (meaning (page_items page))))
-    ≡ read_page (unranged (annotated (meaning (page_items page)))) None
-page_is_read page u room = written_read (annotated (meaning (page_items page))) (page_written page u room)
+pub page_is_read : (page : List ℕ) → IsUtf8 page → length page < 2 ^ 31 → numbered (meaning (page_items page)) ≤ 2 * length page
+    → read (html_text (annotated (meaning (page_items page)))) ≡ read_page (unranged (annotated (meaning (page_items page)))) None
+page_is_read page u room few = written_read (annotated (meaning (page_items page))) (page_written page u room few)
 
 -- ---- its source
 

@@ -47,11 +47,11 @@ no_run parent = (IsUtf8-nil, by_test (holds_text parent))
 
 -- ---- a run of characters
 
-shown_chars : (bs : List ℕ) → flat_map shown_item (map (char None) bs) ≡ bs
+pub shown_chars : (bs : List ℕ) → flat_map shown_item (map (char None) bs) ≡ bs
 shown_chars [] = refl
 shown_chars (b ∷ bs) = ap (λ cs. b ∷ cs) (shown_chars bs)
 
-own_chars : (bs : List ℕ) → sources (map (char None) bs ++ []) ≡ bs
+pub own_chars : (bs : List ℕ) → sources (map (char None) bs ++ []) ≡ bs
 own_chars [] = refl
 own_chars (b ∷ bs) = ap (λ cs. b ∷ cs) (own_chars bs)
 
@@ -63,7 +63,7 @@ leaf_has Bordered parent Text e = inl refl
 leaf_has Bordered parent Sep e = inr refl
 leaf_has OwnCharacter parent j e = e
 
-none_joins : (x : Texts) (b : Bool) → b ≡ false → joins x b ≡ false
+pub none_joins : (x : Texts) (b : Bool) → b ≡ false → joins x b ≡ false
 none_joins Separators b e = e
 none_joins Page b e = e
 none_joins Bordered b e = refl

@@ -189,7 +189,7 @@ all_own : (ns : List AttrName) (rs : List Named) → AreNamed rs → AreOwn (any
 all_own [] rs h = refl
 all_own (n ∷ ns) rs h = one_own n ns (value_of n rs) (filter_map (named_in rs) ns) (value_utf8 n rs h) (all_own ns rs h)
 
-span_has : (xs : List Item) → ArePageItems xs → HasAttributes (kind.Tag name.Span) (attributes xs)
+pub span_has : (xs : List Item) → ArePageItems xs → HasAttributes (kind.Tag name.Span) (attributes xs)
 unfolding spelling attributes
 span_has xs p =
     let u : IsUtf8 (text_of xs) = subst IsUtf8 (sym (same_text xs)) (shown_utf8 xs p) in
