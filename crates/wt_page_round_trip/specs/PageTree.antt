@@ -2,7 +2,7 @@
 use Rattle.std.specs.Prelude.{ℕ, List}
 use Rattle.wt_tree.specs.Tree.{Tree}
 use Rattle.wt_expand.specs.PageItems.{page_items}
-use Rattle.wt_build.specs.Meaning.{meaning}
+use Rattle.wt_body.specs.Body.{meaning}
 use Rattle.wt_annotate.specs.Annotated.{annotated}
 
 abbrev pub page_tree : List ℕ → Tree

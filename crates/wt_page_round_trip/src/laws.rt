@@ -5,7 +5,7 @@ ghost use Rattle.wt_markup.specs.Html.{html_text};
 ghost use Rattle.wt_fitting.specs.Read.{read, page};
 ghost use Rattle.wt_round_trip.specs.Written.{unranged, IsWritten};
 ghost use Rattle.wt_expand.specs.PageItems.{page_items};
-ghost use Rattle.wt_build.specs.Meaning.{meaning};
+ghost use Rattle.wt_body.specs.Body.{meaning};
 ghost use Rattle.wt_annotate.specs.Annotated.{numbered};
 ghost use Rattle.wt_annotate.specs.Slices.{AreSlices};
 ghost use Rattle.wt_page_round_trip.specs.PageTree.{page_tree};
