@@ -27,26 +27,24 @@ fn finds_the_first_form(rt: HostRuntime) -> Result<(), Fail> {
     assert_eq!(rt;
         place(
             rt.alloc(),
-            "a\n\n== b ==\n- c &lt; [[d|e]] <s>f</s> __TOC__ }]"
+            "* a\n\n== b ==\n- c &lt; [[d|e]] <s>f</s> __TOC__ }]\n{|\n|}\n b {c}"
         )?,
         None
     );
-    assert_eq!(rt; place(rt.alloc(), "a*b {")?, Some(4));
+    assert_eq!(rt; place(rt.alloc(), "a*b {{")?, Some(4));
     assert_eq!(rt;
-        place(rt.alloc(), "<!-- { -->&#123;<nowiki>{</nowiki>x\u{e9}{")?,
-        Some(37)
+        place(rt.alloc(), "<!-- {{ -->&#123;{<nowiki>{{</nowiki>x\u{e9}{{{")?,
+        Some(40)
     );
-    assert_eq!(rt; place(rt.alloc(), "a\n;b")?, Some(2));
-    assert_eq!(rt; place(rt.alloc(), "a\n<!-- c --> b")?, Some(12));
-    assert_eq!(rt; place(rt.alloc(), "a b\n-<!-- c -->---")?, Some(4));
-    assert_eq!(rt; place(rt.alloc(), "---\n-")?, None);
+    assert_eq!(rt; place(rt.alloc(), "a\n{<!-- c -->{")?, None);
+    assert_eq!(rt; place(rt.alloc(), "{a{\n{{")?, Some(4));
     Ok(())
 }
 
 #[test]
 fn finds_a_style_without_items(rt: HostRuntime) -> Result<(), Fail> {
     assert_eq!(rt; place_beside(rt.alloc(), "''a'''b''", 9, 9)?, Some(9));
-    assert_eq!(rt; place_beside(rt.alloc(), "{", 9, 9)?, Some(0));
-    assert_eq!(rt; place_beside(rt.alloc(), "abc {", 3, 3)?, Some(3));
+    assert_eq!(rt; place_beside(rt.alloc(), "{{", 9, 9)?, Some(0));
+    assert_eq!(rt; place_beside(rt.alloc(), "abc {{", 3, 3)?, Some(3));
     Ok(())
 }

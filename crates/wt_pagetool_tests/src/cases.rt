@@ -319,24 +319,18 @@ pub const NOT_UTF8: [(&[u8], &str); 6] = [
 
 /// A page that holds a form that isn't built or a style without an item, and the line that tells
 /// where.
-pub const NOT_BUILT: [(&str, &str); 14] = [
-    ("a{b", "wtround: not built at 1\n"),
-    (" a", "wtround: not built at 0\n"),
-    ("a\n b", "wtround: not built at 2\n"),
-    ("-----", "wtround: not built at 0\n"),
-    ("a\n---- x", "wtround: not built at 2\n"),
+pub const NOT_BUILT: [(&str, &str); 8] = [
+    ("a{{b", "wtround: not built at 1\n"),
     ("{{a}}", "wtround: not built at 0\n"),
-    ("# a", "wtround: not built at 0\n"),
-    (": a", "wtround: not built at 0\n"),
-    ("[[a]]\n;b", "wtround: not built at 6\n"),
-    ("a\n<!-- c --> b", "wtround: not built at 12\n"),
+    ("* a\n{{{b", "wtround: not built at 4\n"),
+    ("{a{\n{{", "wtround: not built at 4\n"),
     (
-        "<!-- { -->&#123;<nowiki>{</nowiki>x\u{e9}{",
-        "wtround: not built at 37\n",
+        "<!-- {{ -->&#123;{<nowiki>{{</nowiki>x\u{e9}{{{",
+        "wtround: not built at 40\n",
     ),
     ("''a'''b''", "wtround: not built at 9\n"),
-    ("''a'''b''\n{", "wtround: not built at 9\n"),
-    ("{ ''a'''b''", "wtround: not built at 0\n"),
+    ("''a'''b''\n{{", "wtround: not built at 9\n"),
+    ("{{ ''a'''b''", "wtround: not built at 0\n"),
 ];
 
 /// HTML that isn't well-formed, holds an element that fits nowhere, or one without a source; and the
