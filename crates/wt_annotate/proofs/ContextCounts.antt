@@ -52,11 +52,11 @@ by_at_most : (b : Bool) (n : ℕ) → count_by b n ≤ n
 by_at_most true n = omega arith
 by_at_most false n = omega arith
 
-node_count : (h : Head) (opening closing : List Item) (ps : List Part) → numbered (inner h opening (forest (children ps)) closing) ≤ 1 + counts ps
+pub node_count : (h : Head) (opening closing : List Item) (ps : List Part) → numbered (inner h opening (forest (children ps)) closing) ≤ 1 + counts ps
 node_count h opening closing ps =
     omega (arith, one_at_most (is_numbered h.kind), by_at_most (is_leaf h.kind) (numbered_in_all (forest (children ps))), children_count ps)
 
-leaf_count : (h : Head) (own : List Item) → numbered (leaf h own) ≤ 1
+pub leaf_count : (h : Head) (own : List Item) → numbered (leaf h own) ≤ 1
 leaf_count h own = omega (arith, one_at_most (is_numbered h.kind), by_at_most (is_leaf h.kind) 0)
 
 -- ---- styles

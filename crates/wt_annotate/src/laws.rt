@@ -6,7 +6,7 @@ ghost use Rattle.wt_tree.specs.declared.kind.Kind.TheVariants as node_kind;
 ghost use Rattle.wt_tree.specs.Source.{flat};
 ghost use Rattle.wt_tree.specs.Tiling.{Tiled, Covers, numbers, InPreorder};
 ghost use Rattle.wt_inline.specs.ItemTree.{plain, ItemTree, inner, ItemTrees, tree_items};
-ghost use Rattle.wt_build.specs.Meaning.{meaning};
+ghost use Rattle.wt_body.specs.Body.{meaning};
 ghost use Rattle.wt_annotate.specs.Labels.{width};
 ghost use Rattle.wt_annotate.specs.Annotated.{numbered, annotated};
 ghost use Rattle.wt_annotate.specs.Numbers.{makes_all};
@@ -28,8 +28,9 @@ pub fn ranges_are_slices()
     ensures { (t : ItemTree) → AreSlices (sources (tree_items t)) (annotated t) }
 {}
 
-/// At most two nodes for each item have a number, a block and a tile or a style, beside those that
-/// forms make, and a form makes at most one node more than it has bytes.
+/// At most two nodes for each item have a number: a list and an item by a sign of a prefix, or a block
+/// and a tile or a style, beside those that forms make. A form makes at most one node more than it has
+/// bytes.
 pub fn few_numbers()
     ensures blocks { (xs : List Item) → numbered (meaning xs) ≤ 2 * length xs + makes_all xs }
     ensures forms { (xs : List Item) → makes_all xs ≤ length xs + width xs }

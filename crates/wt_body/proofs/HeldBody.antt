@@ -40,7 +40,7 @@ from_joined kind_of zero (l ∷ ls) =
     let n = taken_len (kind_of l) (inner_len (map kind_of ls)) in
     put_joined l (units_from kind_of n ls) ∙ ap (λ ks. l ∷ ks) (from_joined kind_of n ls)
 
-units_joined : {A : Type 0} (kind_of : A → LineKind) (ls : List A) → joined (units kind_of ls) ≡ ls
+pub units_joined : {A : Type 0} (kind_of : A → LineKind) (ls : List A) → joined (units kind_of ls) ≡ ls
 units_joined kind_of [] = refl
 units_joined kind_of (l ∷ ls) = from_joined kind_of 0 (l ∷ ls)
 

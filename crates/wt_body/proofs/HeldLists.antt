@@ -64,7 +64,7 @@ of_line_item sign r ss =
 
 -- ---- lines of lists: their prefixes, and that their numbers rise
 
-abbrev Fits : ℕ → List ListLine → Type 0
+abbrev pub Fits : ℕ → List ListLine → Type 0
 Fits n [] = Unit {0}
 Fits n (l ∷ ls) = (length l.prefix ≤ n) × (0 < n) × Fits n ls
 
@@ -72,11 +72,11 @@ abbrev Climb : ℕ → List ListLine → Type 0
 Climb k [] = Unit {0}
 Climb k (l ∷ ls) = (k ≤ l.number) × Climb (suc l.number) ls
 
-fits_front : (n : ℕ) (ls ms : List ListLine) → Fits n (ls ++ ms) → Fits n ls
+pub fits_front : (n : ℕ) (ls ms : List ListLine) → Fits n (ls ++ ms) → Fits n ls
 fits_front n [] ms f = tt
 fits_front n (l ∷ ls) ms f = (f.0, f.1, fits_front n ls ms f.2)
 
-fits_back : (n : ℕ) (ls ms : List ListLine) → Fits n (ls ++ ms) → Fits n ms
+pub fits_back : (n : ℕ) (ls ms : List ListLine) → Fits n (ls ++ ms) → Fits n ms
 fits_back n [] ms f = f
 fits_back n (l ∷ ls) ms f = fits_back n ls ms f.2
 
@@ -92,14 +92,14 @@ climb_back : (k : ℕ) (ls ms : List ListLine) → Climb k (ls ++ ms) → Climb 
 climb_back k [] ms c = c
 climb_back k (l ∷ ls) ms c = let e = c.0 in climb_from k (suc l.number) ms (omega arith) (climb_back (suc l.number) ls ms c.1)
 
-abbrev AllGoOn : List ListLine → Type 0
+abbrev pub AllGoOn : List ListLine → Type 0
 AllGoOn ls = AllByRecursion (λ l. goes_on l ≡ true) ls
 
-run_goes_on : (l : ListLine) (ms others : List ListLine) → IsRun one_item (l ∷ ms) others → AllGoOn ms
+pub run_goes_on : (l : ListLine) (ms others : List ListLine) → IsRun one_item (l ∷ ms) others → AllGoOn ms
 run_goes_on l [] others h = tt
 run_goes_on l (m ∷ ms) others h = (h.0, run_goes_on m ms others h.1)
 
-all_stay : (ms : List ListLine) → AllGoOn ms → filter goes_on ms ≡ ms
+pub all_stay : (ms : List ListLine) → AllGoOn ms → filter goes_on ms ≡ ms
 all_stay [] h = refl
 all_stay (m ∷ ms) h = rw h.0 (ap (λ ls. m ∷ ls) (all_stay ms h.1))
 
@@ -110,7 +110,7 @@ fits_less n l e f =
     let less : length (drop 1 l.prefix) ≡ length l.prefix - 1 = length-drop 1 l.prefix in
     (omega arith, omega arith)
 
-fits_inner : (n : ℕ) (ls : List ListLine) → AllGoOn ls → Fits (suc n) ls → Fits n (map without_sign ls)
+pub fits_inner : (n : ℕ) (ls : List ListLine) → AllGoOn ls → Fits (suc n) ls → Fits n (map without_sign ls)
 fits_inner n [] h f = tt
 fits_inner n (l ∷ ls) h f = let e = fits_less n l h.0 f.0 in (e.0, e.1, fits_inner n ls h.1 f.2)
 
@@ -143,7 +143,7 @@ first_is f x ((y ∷ ys) ∷ rs) line = by (one_list x y)
     by true = refl
     by false = refl
 
-begins_here : (n : ℕ) (x : ListLine) (xs : List ListLine) → 0 < n → begins_at x.number (list_forest (nested_lists n (x ∷ xs))) ≡ true
+pub begins_here : (n : ℕ) (x : ListLine) (xs : List ListLine) → 0 < n → begins_at x.number (list_forest (nested_lists n (x ∷ xs))) ≡ true
 begins_here zero x xs h = absurd (omega arith)
 begins_here (suc n) x xs h = first_is (nested_lists n) x (runs one_list xs) x.number ∙ grind (arith, nat_tests)
 
@@ -227,7 +227,7 @@ within_prefix xs =
     let e : length (take m (signs xs)) ≡ min m (length (signs xs)) = length-take m (signs xs) in
     omega arith
 
-fits_all : (k : ℕ) (rs : List Row) → Fits 32 (numbered k (prefixes rs))
+pub fits_all : (k : ℕ) (rs : List Row) → Fits 32 (numbered k (prefixes rs))
 fits_all k [] = tt
 fits_all k (r ∷ rs) = (within_prefix r.items, omega arith, fits_all (suc k) rs)
 

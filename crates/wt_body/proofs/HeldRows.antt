@@ -13,10 +13,10 @@ use Rattle.wt_build.specs.Rows.{kind_at}
 use Rattle.wt_build.proofs.Ends.{content_ending}
 use Rattle.wt_body.specs.Rows.{row_items, all_items, marks_len, idle_len, whole_row, sign_row, behind_sign, is_unseen, sign_rows, dashes, line_rows, unwritten_end, rows_from, rows}
 
-of_whole : (k : LineKind) (n : ℕ) (l : List Item) → all_items (whole_row k n l ∷ []) ≡ l
+pub of_whole : (k : LineKind) (n : ℕ) (l : List Item) → all_items (whole_row k n l ∷ []) ≡ l
 of_whole k n l = append-nil (row_items (whole_row k n l)) ∙ ap (λ ys. take n l ++ ys) (content_ending (drop n l)) ∙ take-append-drop n l
 
-of_sign : (k : LineKind) (n m : ℕ) (l : List Item) → row_items (sign_row k n m l (behind_sign n m l)) ≡ l
+pub of_sign : (k : LineKind) (n m : ℕ) (l : List Item) → row_items (sign_row k n m l (behind_sign n m l)) ≡ l
 of_sign k n m l = ap (λ ys. take n l ++ ys) (take-append-drop m (drop n l)) ∙ take-append-drop n l
 
 -- by whether nothing is seen behind the sign

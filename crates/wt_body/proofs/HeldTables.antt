@@ -48,7 +48,7 @@ in_joined : (header : Bool) (n : ℕ) (ps : List (List Item)) → flat_map whole
 in_joined header n [] = refl
 in_joined header n (p ∷ ps) = ap (λ ys. ys ++ flat_map whole (map (cell_of header 2) ps)) (whole_is header n p) ∙ ap (λ ys. p ++ ys) (wholes header 2 ps)
 
-cells_joined : (caption : Bool) (xs : List Item) → flat_map whole (cells_from caption xs) ≡ xs
+pub cells_joined : (caption : Bool) (xs : List Item) → flat_map whole (cells_from caption xs) ≡ xs
 cells_joined caption xs =
     in_joined (header_by caption (signs xs)) (sign_len caption) (parts (split_by caption (signs xs)) (sign_len caption) xs)
     ∙ parts_joined (split_by caption (signs xs)) (sign_len caption) xs
@@ -95,7 +95,7 @@ of_lines read h caption (g ∷ gs) =
 
 -- ---- delimiters
 
-lead_sign : (rs : List Row) → first_lead rs ++ from_sign rs ≡ all_items rs
+pub lead_sign : (rs : List Row) → first_lead rs ++ from_sign rs ≡ all_items rs
 lead_sign [] = refl
 lead_sign (r ∷ rs) = simp (append_assoc)
 
@@ -194,7 +194,7 @@ of_table_by read h t end =
     ∙ ap (λ ys. ys ++ opened_all (row_items end)) (sym (all_append opening (joined t.captions ++ flat_map row_lines t.rows))
     ∙ ap (λ ls. opened_all (all_items ls)) (append_assoc t.opening t.between (joined t.captions ++ flat_map row_lines t.rows)))
 
-last_joined : (r : Row) (rs : List Row) → without_last r rs ++ (last_of r rs ∷ []) ≡ r ∷ rs
+pub last_joined : (r : Row) (rs : List Row) → without_last r rs ++ (last_of r rs ∷ []) ≡ r ∷ rs
 last_joined r [] = refl
 last_joined r (s ∷ rs) = ap (λ ls. r ∷ ls) (last_joined s rs)
 

@@ -8,15 +8,9 @@ use Rattle.wt_span.specs.Lexemes.{sign_word, form_at, closed, words}
 use Rattle.wt_expand.specs.PageItems.{page_items}
 use Rattle.wt_not_built.specs.FirstPlace.{first_form}
 
--- a `{` that is no part of a comment, a raw tag or an entity; signs of lists within a line are text
-braces : map first_form (codes "a{b" ∷ codes "<!--{-->&#123;c{" ∷ codes "<ref>{</ref>" ∷ codes "[[a*b]]" ∷ []) ≡ Some 1 ∷ Some 15 ∷ None ∷ None ∷ []
+-- two `{` side by side that are no part of a comment, a raw tag or an entity; one alone, and signs at the front of a line, are text
+braces : map first_form (codes "a{{b" ∷ codes "{a{\n{|\n * b" ∷ codes "<!--{{-->&#123;{c{{{" ∷ codes "<ref>{{</ref>" ∷ codes "{<!---->{" ∷ [])
+    ≡ Some 1 ∷ None ∷ Some 17 ∷ None ∷ None ∷ []
 unfolding first_form page_items words closed form_at comment_len comment_line_len raw_len opening_tag tag_after closing_tag
     with_inside is_extension include_at entity_at named_entity decimal_entity hex_entity entity_names sign_word
 braces = refl
-
--- a space, a sign of a list and four `-` at the front of a line, comments before and between them
-lines : map first_form (codes "a\n b" ∷ codes "<!--c-->;b" ∷ codes "a ----" ∷ codes "--<!--c-->--" ∷ codes "---\n-" ∷ [])
-    ≡ Some 2 ∷ Some 8 ∷ None ∷ Some 0 ∷ None ∷ []
-unfolding first_form page_items words closed form_at comment_len comment_line_len raw_len opening_tag tag_after closing_tag
-    with_inside is_extension include_at entity_at named_entity decimal_entity hex_entity entity_names sign_word
-lines = refl

@@ -1,5 +1,5 @@
+pub mod BraceLaws
 mod Cases
-pub mod DashLaws
 pub mod PlaceLaws
 pub mod ReadingLaws
 pub mod StyleLaws

@@ -1,47 +1,41 @@
 -- What is found from the left is the smallest place.
-use mathlib.Core.List.{reverse_aux}
 use Rattle.std.proofs.Common.{◌≡◌, ℕ, zero, suc, ◌+◌, ◌<◌, Bool, true, false, Option, Some, None, List, [], ◌∷◌, length, take, drop, refl, sym, ap, ◌∙◌, subst, arith, length-append}
 use Rattle.std.specs.Prelude.{option_map, MatchOption, IfSome, if◌then◌else◌}
 use Rattle.wt_span.specs.Items.{Item, char, whole, source, sources}
 use Rattle.wt_expand.specs.PageItems.{page_items}
 use Rattle.wt_expand.proofs.PageLaws.{page_sources}
-use Rattle.wt_not_built.specs.Unbuilt.{is_unbuilt, is_front, is_front_after, HasNoForm, IsFirstForm}
+use Rattle.wt_not_built.specs.Unbuilt.{is_unbuilt, is_unbuilt_at, HasNoForm, IsFirstForm}
 use Rattle.wt_not_built.specs.FirstPlace.{first_from, first_form}
 
--- the same behind other items, the nearest first
-abbrev at_from : List Item → List Item → ℕ → Bool
-at_from before items k = is_unbuilt (is_front (reverse_aux (take k items) before)) (drop k items)
-
-record FirstFrom (before items : List Item) (place : ℕ) : Type 0 where
+record FirstFrom (items : List Item) (place : ℕ) : Type 0 where
   item : ℕ
   within : item < length items
-  here : at_from before items item ≡ true
-  earlier : (k : ℕ) → k < item → at_from before items k ≡ false
+  here : is_unbuilt_at items item ≡ true
+  earlier : (k : ℕ) → k < item → is_unbuilt_at items k ≡ false
   at : place ≡ length (sources (take item items))
   on_page : place < length (sources items)
 
-NoneFrom : List Item → List Item → Type 0
-NoneFrom before items = (k : ℕ) → k < length items → at_from before items k ≡ false
+NoneFrom : List Item → Type 0
+NoneFrom items = (k : ℕ) → k < length items → is_unbuilt_at items k ≡ false
 
 -- such a form begins with a character
-some_byte : (front : Bool) (x : Item) (xs : List Item) → is_unbuilt front (x ∷ xs) ≡ true → 0 < length (sources (x ∷ xs))
-some_byte front (char o b) xs e = omega arith
-some_byte front (whole f o bs) xs e = absurd cc
+some_byte : (x : Item) (xs : List Item) → is_unbuilt (x ∷ xs) ≡ true → 0 < length (sources (x ∷ xs))
+some_byte (char o b) xs e = omega arith
+some_byte (whole f o bs) xs e = absurd cc
 
-first_here : (before xs : List Item) (x : Item) → is_unbuilt (is_front before) (x ∷ xs) ≡ true → FirstFrom before (x ∷ xs) 0
-first_here before xs x e = record {
+first_here : (xs : List Item) (x : Item) → is_unbuilt (x ∷ xs) ≡ true → FirstFrom (x ∷ xs) 0
+first_here xs x e = record {
   item = 0;
   within = omega arith;
   here = e;
   earlier = λ k lt. absurd (omega arith);
   at =
       refl;
-  on_page = some_byte (is_front before) x xs e;
+  on_page = some_byte x xs e;
 }
 
-first_later : (before xs : List Item) (x : Item) (n : ℕ) → is_unbuilt (is_front before) (x ∷ xs) ≡ false
-    → FirstFrom (x ∷ before) xs n → FirstFrom before (x ∷ xs) (length (source x) + n)
-first_later before xs x n e first = record {
+first_later : (xs : List Item) (x : Item) (n : ℕ) → is_unbuilt (x ∷ xs) ≡ false → FirstFrom xs n → FirstFrom (x ∷ xs) (length (source x) + n)
+first_later xs x n e first = record {
   item = suc first.item;
   within = omega (arith, first.within);
   here = first.here;
@@ -50,31 +44,30 @@ first_later before xs x n e first = record {
   on_page = omega (arith, first.on_page, length-append (source x) (sources xs));
 }
   where
-    earlier : (k : ℕ) → k < suc first.item → at_from before (x ∷ xs) k ≡ false
+    earlier : (k : ℕ) → k < suc first.item → is_unbuilt_at (x ∷ xs) k ≡ false
     earlier zero lt = e
     earlier (suc k) lt = first.earlier k (omega arith)
 
-abbrev Found : List Item → List Item → Option ℕ → Type 0
-Found before items r = MatchOption r (NoneFrom before items) (λ n. FirstFrom before items n)
+abbrev Found : List Item → Option ℕ → Type 0
+Found items r = MatchOption r (NoneFrom items) (λ n. FirstFrom items n)
 
-none_later : (before xs : List Item) (x : Item) → is_unbuilt (is_front before) (x ∷ xs) ≡ false → NoneFrom (x ∷ before) xs → NoneFrom before (x ∷ xs)
+none_later : (xs : List Item) (x : Item) → is_unbuilt (x ∷ xs) ≡ false → NoneFrom xs → NoneFrom (x ∷ xs)
 unfolding NoneFrom
-none_later before xs x e rest zero lt = e
-none_later before xs x e rest (suc k) lt = rest k (omega arith)
+none_later xs x e rest zero lt = e
+none_later xs x e rest (suc k) lt = rest k (omega arith)
 
-found_by : (before xs : List Item) (x : Item) (t : Bool) (o : Option ℕ) → is_unbuilt (is_front before) (x ∷ xs) ≡ t → Found (x ∷ before) xs o
-    → Found before (x ∷ xs) (if t then Some 0 else option_map (λ n. length (source x) + n) o)
-found_by before xs x true o e rest = first_here before xs x e
-found_by before xs x false None e rest = none_later before xs x e rest
-found_by before xs x false (Some n) e rest = first_later before xs x n e rest
+found_by : (xs : List Item) (x : Item) (t : Bool) (o : Option ℕ) → is_unbuilt (x ∷ xs) ≡ t → Found xs o
+    → Found (x ∷ xs) (if t then Some 0 else option_map (λ n. length (source x) + n) o)
+found_by xs x true o e rest = first_here xs x e
+found_by xs x false None e rest = none_later xs x e rest
+found_by xs x false (Some n) e rest = first_later xs x n e rest
 
-found : (before xs : List Item) → Found before xs (first_from (is_front before) xs)
+found : (xs : List Item) → Found xs (first_from xs)
 unfolding NoneFrom
-found before [] = λ k lt. absurd (omega arith)
-found before (x ∷ xs) = found_by before xs x (is_unbuilt (is_front before) (x ∷ xs))
-    (first_from (is_front_after (is_front before) x) xs) refl (found (x ∷ before) xs)
+found [] = λ k lt. absurd (omega arith)
+found (x ∷ xs) = found_by xs x (is_unbuilt (x ∷ xs)) (first_from xs) refl (found xs)
 
-page_first : (page : List ℕ) (n : ℕ) → FirstFrom [] (page_items page) n → IsFirstForm page n
+page_first : (page : List ℕ) (n : ℕ) → FirstFrom (page_items page) n → IsFirstForm page n
 page_first page n first = record {
   item = first.item;
   within = first.within;
@@ -85,14 +78,14 @@ page_first page n first = record {
   on_page = omega (arith, first.on_page, ap length (page_sources page));
 }
 
-page_found : (page : List ℕ) (o : Option ℕ) → Found [] (page_items page) o → MatchOption o (HasNoForm page) (λ n. IsFirstForm page n)
+page_found : (page : List ℕ) (o : Option ℕ) → Found (page_items page) o → MatchOption o (HasNoForm page) (λ n. IsFirstForm page n)
 unfolding NoneFrom
 page_found page None h = h
 page_found page (Some n) h = page_first page n h
 
 pub exact : (page : List ℕ) → MatchOption (first_form page) (HasNoForm page) (λ n. IsFirstForm page n)
 unfolding first_form
-exact page = page_found page (first_from true (page_items page)) (found [] (page_items page))
+exact page = page_found page (first_from (page_items page)) (found (page_items page))
 
 on_page_by : (page : List ℕ) (o : Option ℕ) → MatchOption o (HasNoForm page) (λ n. IsFirstForm page n) → IfSome o (λ n. n < length page)
 on_page_by page None h = tt

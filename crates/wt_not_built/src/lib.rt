@@ -1,7 +1,7 @@
 //! Which pages aren't built yet, and where the first form stands that isn't.
 #![tactic(auto)]
 
-mod dashes;
+mod braces;
 mod laws;
 mod page;
 mod reading;

@@ -1,10 +1,10 @@
-ghost use Rattle.std.specs.Prelude.{◌≡◌, ◌<◌, ◌^◌, IfSome, true, length};
+ghost use Rattle.std.specs.Prelude.{◌≡◌, ◌<◌, ◌^◌, IfSome, length};
 ghost use Rattle.wt_span.specs.Items.{items};
 ghost use Rattle.wt_tree.specs.View.{view};
 ghost use Rattle.wt_expand.specs.PageItems.{page_items};
 ghost use Rattle.wt_not_built.specs.FirstPlace.{first_from, first_form, smaller, first_unbuilt};
 
-use crate::reading::{Reading, read_piece};
+use crate::reading::read_piece;
 use crate::style::empty_style;
 use wt_span::{Piece, rest_of};
 use wt_tree::Node;
@@ -12,18 +12,14 @@ use wt_tree::Node;
 /// How many bytes stand before the first form that isn't built.
 fn bytes_before(page: &str, pieces: &[Piece<'_>]) -> Option<usize>
     requires { items pieces.now ≡ page_items page.now }
-    ensures { result ≡ first_from true (page_items page.now) }
+    ensures { result ≡ first_from (page_items page.now) }
 {
-    let mut is_front = true;
     let mut at = 0;
     for (i, piece) in pieces.iter().enumerate() {
-        match read_piece(is_front, piece, rest_of(pieces, i + 1)) {
-            Reading::Stopped(n) => return Some(at + n),
-            Reading::Passed(next) => {
-                is_front = next;
-                at += piece.text.as_str().len();
-            }
+        if let Some(n) = read_piece(piece, rest_of(pieces, i + 1)) {
+            return Some(at + n);
         }
+        at += piece.text.as_str().len();
     }
     None
 }

@@ -18,8 +18,9 @@ use Rattle.wt_inline.proofs.Insides.{entity_some}
 use Rattle.wt_annotate.specs.Labels.{width}
 use Rattle.wt_annotate.specs.Annotated.{numbered}
 use Rattle.wt_annotate.specs.Numbers.{makes_all}
-use Rattle.wt_annotate.proofs.NumberLaws.{meaning_count, nowiki_inside}
-use Rattle.wt_build.specs.Meaning.{meaning}
+use Rattle.wt_annotate.proofs.BodyCounts.{meaning_count}
+use Rattle.wt_annotate.proofs.NumberLaws.{nowiki_inside}
+use Rattle.wt_body.specs.Body.{meaning}
 use Rattle.wt_page_round_trip.proofs.OfPage.{AreOfPage}
 use Rattle.wt_page_round_trip.proofs.FormLengths.{IsFormOf, form_long, AreForms, forms_of_page}
 

@@ -16,13 +16,12 @@ use Rattle.wt_expand.specs.PageItems.{form_of, items_of_word, items_of_words, pa
 use Rattle.wt_expand.proofs.PageLaws.{page_sources}
 use Rattle.wt_inline.specs.ItemTree.{ItemTree, forest, tree_items}
 use Rattle.wt_inline.specs.Parts.{children}
-use Rattle.wt_build.specs.Rows.{rows}
-use Rattle.wt_build.specs.Meaning.{body_parts, meaning}
-use Rattle.wt_build.proofs.MeaningLaws.{sources_meaning}
+use Rattle.wt_body.specs.Rows.{rows}
+use Rattle.wt_body.specs.Body.{body_parts, meaning}
+use Rattle.wt_body.proofs.HeldBody.{sources_meaning}
 use Rattle.wt_annotate.specs.Annotated.{numbered, annotated}
 use Rattle.wt_annotate.specs.Labels.{width}
 use Rattle.wt_annotate.specs.Slices.{AreSlices}
-use Rattle.wt_annotate.proofs.NumberLaws.{meaning_count, makes_few}
 use Rattle.wt_annotate.proofs.TreeNumbers.{numbered_annotated}
 use Rattle.wt_annotate.proofs.TreeRanges.{tiled_annotated, body_covers}
 use Rattle.wt_annotate.proofs.TreeSlices.{annotated_slices}

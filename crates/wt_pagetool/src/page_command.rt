@@ -1,4 +1,5 @@
 ghost use Rattle.std.specs.Prelude.{◌≡◌, [], ◌∷◌, IfSome, IfErr, Some};
+ghost use Rattle.wt_markup.specs.Html.{html_text};
 ghost use Rattle.wt_tree.specs.View.{view};
 ghost use Rattle.wt_pagetool.specs.Answers.{html_within, made_of_tree, made, page_answer};
 ghost use Rattle.wt_pagetool.specs.Causes.{Answered, IsOfPage, IsOfTitle, IsKept, found_status};
@@ -12,21 +13,21 @@ use crate::output::Output;
 use crate::page::tree_of_page;
 use crate::refusal::Refusal;
 use std::alloc::Global;
-use wt_html_out::html_bytes;
+use wt_html_out::{html_bytes, html_len};
 use wt_listing::listing;
 use wt_outer::Folder;
-use wt_span::List;
 use wt_tree::Annotated;
 
-/// The HTML of a page, if it is no longer than it may be.
-fn html_within(html: List<u8>) -> Result<Output, Refusal>
-    ensures answered { Answered (html_within html) result }
+/// The HTML of a page, if it is no longer than it may be. It is counted before it is made, so no page
+/// takes more memory than the longest HTML does.
+fn html_within(alloc: Global, tree: &Annotated<'_>) -> Result<Output, Refusal>
+    ensures answered { Answered (html_within (html_text (view tree.now.body))) result }
     ensures of_page { IfErr result IsOfPage }
 {
-    if html.len() > HTML_BYTES {
+    if html_len(alloc, tree, HTML_BYTES as u32)?.is_none() {
         return Err(Refusal::HtmlTooLong);
     }
-    Ok(Output::Bytes(html))
+    Ok(Output::Bytes(html_bytes(alloc, tree)?))
 }
 
 /// What a command makes of a page of this tree.
@@ -39,7 +40,7 @@ fn output_of_tree(
     ensures of_page { IfErr result IsOfPage }
 {
     match command {
-        PageCommand::Html => html_within(html_bytes(alloc, tree)?),
+        PageCommand::Html => html_within(alloc, tree),
         PageCommand::Ranges => Ok(Output::Bytes(listing(alloc, tree.body())?)),
     }
 }

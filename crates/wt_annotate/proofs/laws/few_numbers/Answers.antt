@@ -1,4 +1,5 @@
-use Rattle.wt_annotate.proofs.NumberLaws.{meaning_count, makes_few}
+use Rattle.wt_annotate.proofs.BodyCounts.{meaning_count}
+use Rattle.wt_annotate.proofs.NumberLaws.{makes_few}
 use Rattle.wt_annotate.proofs.laws.few_numbers.Goals as goal
 
 pub returns : goal.returns

@@ -22,8 +22,8 @@ loop-i-preserved c =
     record {
       within = cut_fits c.args.page.now own others c.loop-i.at before.within cut;
       rest = cut_rest c.args.page.now own others c.loop-i.at cut;
-      done = read_on c.loop-i.is_front c.in-Passed.next c.loop-i.at own (bytes_of piece.text) _
+      done = read_on c.loop-i.at own (bytes_of piece.text) _
           (items (drop c.loop-i.i c.args.pieces.now)) (items_of piece) others (items c.rest_of.result.now) c.read_piece.result
           before.done (piece_first c.args.pieces.now c.loop-i.i piece c.loop-i-test.true c.index-pieces-i.is)
-          (ap items c.rest_of.ensures) c.as_str.ensures c.in-Passed.is c.read_piece.ensures.found;
+          (ap items c.rest_of.ensures) c.as_str.ensures c.in_default.is c.read_piece.ensures.found;
     }

@@ -5,5 +5,5 @@ use Rattle.wt_not_built.specs.FirstPlace.{first_from}
 use Rattle.wt_not_built.proofs.reading.read_chars.Given as goal
 
 abbrev pub invariant-loop-at : goal.invariant-loop-at
-invariant-loop-at l = (o : Option ℕ) → first_from l.fn.front (map (char o) l.own ++ items l.after)
-    ≡ option_map (λ n. l.at + n) (first_from l.is_front (map (char o) (drop l.at l.own) ++ items l.after))
+invariant-loop-at l = (o : Option ℕ) → first_from (map (char o) l.own ++ items l.after)
+    ≡ option_map (λ n. l.at + n) (first_from (map (char o) (drop l.at l.own) ++ items l.after))
