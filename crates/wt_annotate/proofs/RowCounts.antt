@@ -15,8 +15,8 @@ use Rattle.wt_lines.specs.Kinds.{first_of, is_list, open_kind, past, is_idle, is
 use Rattle.wt_lines.specs.Lines.{goes_on, content}
 use Rattle.wt_blocks.specs.Nesting.{is_list_sign}
 use Rattle.wt_tables.specs.Extents.{behind, is_open}
-use Rattle.wt_build.specs.Rows.{kind_at, ending}
-use Rattle.wt_build.proofs.Ends.{content_ending}
+use Rattle.wt_headings.specs.Lines.{kind_at, ending}
+use Rattle.wt_headings.proofs.Ends.{content_ending}
 use Rattle.wt_body.specs.Rows.{Row, row_items, signs, marks_len, idle_len, whole_row, sign_row, behind_sign, is_unseen, dashes, line_rows, unwritten_end, rows_from}
 use Rattle.wt_body.specs.Lists.{prefix_of}
 use Rattle.wt_body.specs.Body.{is_list_line}

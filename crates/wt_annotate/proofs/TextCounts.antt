@@ -10,7 +10,7 @@ use Rattle.wt_inline.specs.declared.loose.Loose.TheVariants.{Text}
 use Rattle.wt_inline.specs.ItemTree.{plain, ItemTree}
 use Rattle.wt_inline.specs.Parts.{Part, node, parts}
 use Rattle.wt_context.specs.Line.{line_parts}
-use Rattle.wt_build.specs.Blocks.{heading}
+use Rattle.wt_headings.specs.Headings.{heading}
 use Rattle.wt_body.specs.Rows.{Row, first_lead, last_ending}
 use Rattle.wt_body.specs.Stretches.{gap, tree_block}
 use Rattle.wt_body.specs.Texts.{with_separators, later_parts, later_line, para_parts, para, skipped, later_pre, pre_opening, pre_parts, pre, rule}

@@ -26,10 +26,11 @@ use Rattle.wt_context.specs.Chunks.{chunks}
 use Rattle.wt_context.specs.Styled.{with_styles}
 use Rattle.wt_context.specs.Nodes.{segments}
 use Rattle.wt_context.specs.Line.{context_parts, line_trees}
-use Rattle.wt_build.specs.Blocks.{para, heading, block}
+use Rattle.wt_headings.specs.Headings.{heading}
+use Rattle.wt_body.specs.Texts.{para}
+use Rattle.wt_body.specs.Rows.{rows as rows_of}
 use Rattle.wt_blocks.specs.Headings.{level, opening, inside, closing}
-use Rattle.wt_build.specs.Meaning.{run_parts, meaning}
-use Rattle.wt_build.specs.Rows.{line_rows}
+use Rattle.wt_body.specs.Body.{blocks, meaning}
 use Rattle.wt_annotate.specs.Annotated.{annotated}
 use Rattle.wt_annotate.specs.Labels.{label_at}
 use Rattle.wt_page_round_trip.specs.PageTree.{page_tree}
@@ -39,7 +40,7 @@ include_tag : html_text (page_tree (codes "== </onlyinclude> ==\n\n"))
     ≡ codes "<!DOCTYPE html><html><head><meta charset=\"utf-8\"/></head><body data-parsoid='{\"dsr\":[0,22,0,0]}'><h2 id=\"mw1\" data-parsoid='{\"c\":\" ==\",\"dsr\":[0,20,3,3],\"o\":\"== \"}'><meta typeof=\"mw:Includes/OnlyInclude/End\" id=\"mw2\" data-parsoid='{\"dsr\":[3,17,14,0],\"src\":\"&lt;/onlyinclude&gt;\"}'/></h2>\n\n</body></html>"
 unfolding page_items words closed form_at comment_len comment_line_len raw_len opening_tag tag_after closing_tag with_inside
     is_extension include_at entity_at named_entity decimal_entity hex_entity entity_names sign_word annotated label_at meaning
-    run_parts line_rows kind_of_signs children para heading block level opening inside closing nowiki
+    rows_of blocks kind_of_signs children para heading level opening inside closing nowiki
     line_trees context_parts segments tiles shapes tiles_closed tile_form_at link_or_url link_at ext_link_at bare_url_at scheme_len kept_len
     tag_tile tag_at tile_opening_tag tile_closing_tag switch_at loose_segments chunks with_styles style_tree_of toggles_of toggle_at
     extension_typeof noinclude_typeof onlyinclude_typeof includeonly_typeof extension_data html_text frame_start frame_end
@@ -52,7 +53,7 @@ extension : html_text (page_tree (codes "<REF>y</Ref>a\n"))
     ≡ codes "<!DOCTYPE html><html><head><meta charset=\"utf-8\"/></head><body data-parsoid='{\"dsr\":[0,14,0,0]}'><p id=\"mw1\" data-parsoid='{\"dsr\":[0,13,0,0]}'><span typeof=\"mw:Extension/ref\" id=\"mw2\" data-mw='{\"body\":{\"extsrc\":\"y\"},\"name\":\"ref\"}' data-parsoid='{\"dsr\":[0,12,12,0],\"src\":\"&lt;REF&gt;y&lt;/Ref&gt;\"}'></span>a</p>\n</body></html>"
 unfolding page_items words closed form_at comment_len comment_line_len raw_len opening_tag tag_after closing_tag with_inside
     is_extension include_at entity_at named_entity decimal_entity hex_entity entity_names sign_word annotated label_at meaning
-    run_parts line_rows kind_of_signs children para heading block level opening inside closing nowiki
+    rows_of blocks kind_of_signs children para heading level opening inside closing nowiki
     line_trees context_parts segments tiles shapes tiles_closed tile_form_at link_or_url link_at ext_link_at bare_url_at scheme_len kept_len
     tag_tile tag_at tile_opening_tag tile_closing_tag switch_at loose_segments chunks with_styles style_tree_of toggles_of toggle_at
     extension_typeof noinclude_typeof onlyinclude_typeof includeonly_typeof extension_data html_text frame_start frame_end

@@ -10,7 +10,7 @@ use Rattle.wt_lines.specs.declared.kind.LineKind.TheVariants as line
 use Rattle.wt_lines.specs.Kinds.{is_idle}
 use Rattle.wt_lines.specs.Lines.{full_lines, goes_on, is_break_item}
 use Rattle.wt_tables.specs.Extents.{is_end, behind}
-use Rattle.wt_build.specs.Rows.{kind_at, ending}
+use Rattle.wt_headings.specs.Lines.{kind_at, ending}
 use Rattle.wt_body.specs.Rows.{Row, marks_len, idle_len, whole_row, sign_row, behind_sign, is_unseen, dashes, line_rows, unwritten_end, rows_from, rows}
 use Rattle.wt_page_round_trip.proofs.HeadingLines.{mark_is_none}
 use Rattle.wt_page_round_trip.proofs.GoodRows.{idle_no_break}

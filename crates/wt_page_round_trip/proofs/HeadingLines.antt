@@ -18,7 +18,7 @@ use Rattle.wt_lines.specs.Kinds.{is_mark_sign, is_idle, past, is_idle_all, is_al
 use Rattle.wt_lines.specs.Lines.{content, is_break_item}
 use Rattle.wt_round_trip.specs.Written.{has_level}
 use Rattle.wt_blocks.specs.Headings.{core, level_of, open_len, trimmed_len, level, opening, closing}
-use Rattle.wt_build.specs.Blocks.{lead_len}
+use Rattle.wt_body.specs.Rows.{marks_len}
 use Rattle.wt_page_round_trip.proofs.TextItems.{BeginsLow, EndsLow}
 use Rattle.wt_page_round_trip.proofs.OfPage.{ArePageItems}
 use Rattle.wt_page_round_trip.proofs.Idle.{IsSmallItem, texts_small}
@@ -78,7 +78,7 @@ past_front : (x : Item) (ss : List ℕ) (b : Bool) → IsSmallItem x → is_mark
     → past is_mark_sign (sign x ∷ ss) ≡ (if b then past is_mark_sign ss else sign x ∷ ss)
 past_front x ss b h e = ap (λ t. if t then past is_mark_sign ss else sign x ∷ ss) (small_sign x h ∙ e)
 
-pub past_lead : (l : List Item) → AllByRecursion IsSmallItem l → past is_mark_sign (map sign (content l)) ≡ map sign (content (drop (lead_len l) l))
+pub past_lead : (l : List Item) → AllByRecursion IsSmallItem l → past is_mark_sign (map sign (content l)) ≡ map sign (content (drop (marks_len l) l))
 past_lead [] h = refl
 past_lead (x ∷ []) h = by_test (is_mark x) refl
   where
@@ -92,10 +92,10 @@ past_lead (x ∷ []) h = by_test (is_mark x) refl
     by_test false e = by_mark (is_break_item x) refl e
 past_lead (x ∷ y ∷ ys) h = by_test (is_mark x) refl (past_lead (y ∷ ys) h.1)
   where
-    by_test : (b : Bool) → is_mark x ≡ b → past is_mark_sign (map sign (content (y ∷ ys))) ≡ map sign (content (drop (lead_len (y ∷ ys)) (y ∷ ys)))
-        → past is_mark_sign (map sign (content (x ∷ y ∷ ys))) ≡ map sign (content (drop (if b then 1 + lead_len (y ∷ ys) else 0) (x ∷ y ∷ ys)))
+    by_test : (b : Bool) → is_mark x ≡ b → past is_mark_sign (map sign (content (y ∷ ys))) ≡ map sign (content (drop (marks_len (y ∷ ys)) (y ∷ ys)))
+        → past is_mark_sign (map sign (content (x ∷ y ∷ ys))) ≡ map sign (content (drop (if b then 1 + marks_len (y ∷ ys) else 0) (x ∷ y ∷ ys)))
     by_test true e more =
-        let z : 1 + lead_len (y ∷ ys) ≡ suc (lead_len (y ∷ ys)) = omega arith in
+        let z : 1 + marks_len (y ∷ ys) ≡ suc (marks_len (y ∷ ys)) = omega arith in
         past_front x (map sign (content (y ∷ ys))) true h.0 e ∙ more ∙ ap (λ n. map sign (content (drop n (x ∷ y ∷ ys)))) (sym z)
     by_test false e more = past_front x (map sign (content (y ∷ ys))) false h.0 e
 
@@ -252,9 +252,9 @@ heading_cut xs h =
     }
 
 pub heading_line : (tables : ℕ) (l : List Item) → ArePageItems l → kind_of_signs tables (map sign (content l)) ≡ line.Heading
-    → IsHeadingLine (content (drop (lead_len l) l) ++ [])
+    → IsHeadingLine (content (drop (marks_len l) l) ++ [])
 heading_line tables l h e =
-    let xs : List Item = content (drop (lead_len l) l) in
+    let xs : List Item = content (drop (marks_len l) l) in
     let signs : List ℕ = map sign (content l) in
     let a : past is_mark_sign signs ≡ map sign (xs ++ []) = past_lead l (texts_small l h.texts) ∙ ap (map sign) (sym (append-nil xs)) in
     heading_cut (xs ++ []) (signs_told signs (map sign (xs ++ [])) a (heading_signs tables signs e))

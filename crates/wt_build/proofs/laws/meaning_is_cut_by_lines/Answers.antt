@@ -1,8 +1,0 @@
-use Rattle.wt_build.proofs.MeaningLaws.{is_meaning, only_meaning}
-use Rattle.wt_build.proofs.laws.meaning_is_cut_by_lines.Goals as goal
-
-pub returns-clause-are : goal.returns-clause-are
-returns-clause-are c = is_meaning
-
-pub returns-clause-only : goal.returns-clause-only
-returns-clause-only c = only_meaning

@@ -1,5 +1,0 @@
-pub mod Blocks
-pub mod Cuts
-pub mod Meaning
-pub mod Plain
-pub mod Rows

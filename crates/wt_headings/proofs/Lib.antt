@@ -1,0 +1,4 @@
+pub mod Ends
+pub mod HeadingCuts
+pub mod Pieces
+pub mod PlainLines

@@ -1,0 +1,4 @@
+pub mod Cuts
+pub mod Headings
+pub mod Lines
+pub mod Plain
