@@ -1,5 +1,5 @@
 -- What is found from the left is the smallest place.
-use Rattle.std.proofs.Common.{◌≡◌, ℕ, zero, suc, ◌+◌, ◌<◌, Bool, true, false, Option, Some, None, List, [], ◌∷◌, length, take, drop, refl, sym, ap, ◌∙◌, subst, arith, length-append}
+use Rattle.std.proofs.Common.{◌≡◌, ℕ, zero, suc, ◌+◌, ◌<◌, Bool, true, false, Option, Some, None, List, [], ◌∷◌, length, take, refl, sym, ap, ◌∙◌, subst, arith, length-append}
 use Rattle.std.specs.Prelude.{option_map, MatchOption, IfSome, if◌then◌else◌}
 use Rattle.wt_span.specs.Items.{Item, char, whole, source, sources}
 use Rattle.wt_expand.specs.PageItems.{page_items}

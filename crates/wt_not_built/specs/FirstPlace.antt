@@ -1,5 +1,5 @@
 -- The first form that isn't built, from the left; and the place of a page that isn't built.
-use Rattle.std.specs.Prelude.{◌≡◌, ℕ, ◌+◌, false, Bool, Option, Some, None, option_map, List, [], ◌∷◌, ◌++◌, length, min, if◌then◌else◌}
+use Rattle.std.specs.Prelude.{◌≡◌, ℕ, ◌+◌, false, Option, Some, None, option_map, List, [], ◌∷◌, ◌++◌, length, min, if◌then◌else◌}
 use Rattle.wt_span.specs.Items.{Item, source}
 use Rattle.wt_tree.specs.Tree.{Tree}
 use Rattle.wt_expand.specs.PageItems.{page_items}

@@ -1,20 +1,13 @@
 -- The meaning of a page has at most two numbers for each byte.
-use Rattle.std.proofs.Common.{◌≡◌, ℕ, ◌+◌, ◌-◌, ◌*◌, ◌<◌, ◌≤◌, Bool, Some, None, List, [], ◌∷◌, length, refl, sym, ap, subst, arith, length-append, length-take, length-drop}
-use Rattle.std.specs.Prelude.{◌⊎◌}
-use Rattle.std.proofs.Common.{⊎_elim}
-use Rattle.wt_span.specs.declared.form.LexKind.{LexKind}
-use Rattle.wt_span.specs.declared.form.Mode.TheVariants.{Page}
+use Rattle.std.proofs.Common.{◌≡◌, ℕ, ◌+◌, ◌-◌, ◌*◌, ◌<◌, ◌≤◌, Bool, Some, None, List, [], ◌∷◌, length, sym, ap, subst, arith, length-append, length-take, length-drop}
 use Rattle.wt_span.specs.declared.form.Form.{Form}
 use Rattle.wt_span.specs.declared.form.Form.TheVariants as form
-use Rattle.wt_span.specs.Comments.{comment_len, comment_line_len}
-use Rattle.wt_span.specs.Entities.{entity_at}
 use Rattle.wt_span.specs.Items.{Item, char, whole, sources}
-use Rattle.wt_span.specs.Tags.{Tag, opening_tag, closing_tag, include_at, raw_by}
+use Rattle.wt_span.specs.Tags.{Tag, opening_tag, raw_by}
 use Rattle.wt_lex.proofs.TagForms.{OptTag, TagFits, opening_fits}
 use Rattle.wt_lex.proofs.WholeTags.{raw_at}
 use Rattle.wt_inline.specs.RawTag.{len_of, opening_len, behind, inside_len}
 use Rattle.wt_inline.specs.Parts.{nowiki, whole_tree}
-use Rattle.wt_inline.proofs.Insides.{entity_some}
 use Rattle.wt_annotate.specs.Labels.{width}
 use Rattle.wt_annotate.specs.Annotated.{numbered}
 use Rattle.wt_annotate.specs.Numbers.{makes_all}

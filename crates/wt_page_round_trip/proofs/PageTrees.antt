@@ -1,18 +1,9 @@
 -- The annotated tree of a page: its source, its ranges and its numbers.
-use Rattle.std.proofs.Common.{◌≡◌, ℕ, ◌+◌, ◌-◌, ◌*◌, ◌<◌, ◌≤◌, ◌^◌, Bool, false, None, List, [], ◌∷◌, length, take, drop, map, sym, ap, ◌∙◌, subst, arith, length-append, length-drop}
-use Rattle.std.specs.Prelude.{slice_index}
-use Rattle.std.proofs.lemmas.List.{take-append-drop, length-map}
-use Rattle.wt_span.specs.declared.form.Form.{Form}
-use Rattle.wt_span.specs.declared.form.Form.TheVariants as form
-use Rattle.wt_span.specs.declared.form.Mode.TheVariants.{Page}
-use Rattle.wt_span.specs.Bytes.{is_break}
-use Rattle.wt_span.specs.Items.{Item, char, sources, items_by}
-use Rattle.wt_span.specs.Lexemes.{Word, words}
+use Rattle.std.proofs.Common.{◌≡◌, ℕ, ◌+◌, ◌*◌, ◌<◌, ◌≤◌, ◌^◌, List, length, ap, ◌∙◌, subst, arith}
+use Rattle.wt_span.specs.Items.{Item, sources}
 use Rattle.wt_tree.specs.Source.{flat}
 use Rattle.wt_tree.specs.Tiling.{Tiled, Covers, InPreorder}
-use Rattle.wt_lex.specs.Reading.{AreLexemes}
-use Rattle.wt_lex.proofs.Readings.{words_are}
-use Rattle.wt_expand.specs.PageItems.{form_of, items_of_word, items_of_words, page_items}
+use Rattle.wt_expand.specs.PageItems.{page_items}
 use Rattle.wt_expand.proofs.PageLaws.{page_sources}
 use Rattle.wt_inline.specs.ItemTree.{ItemTree, forest, tree_items}
 use Rattle.wt_inline.specs.Parts.{children}
