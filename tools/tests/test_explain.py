@@ -134,7 +134,7 @@ class Commands(unittest.TestCase):
             "Opava.wiki:2:9: not built at 17\n"
             "    lies on {{river|the Opava}}.\n"
             "            ^\n"
-            "Here stands the sign { of template calls and tables, which this version of wtround does not read: "
+            "Here stands the sign { of template calls, which this version of wtround does not read: "
             "take it out of the page, or use a later version.\n",
         )
 
