@@ -64,6 +64,12 @@ class Places(unittest.TestCase):
         self.assertEqual(text[caret.index("^") - 1], "a")
 
 
+def bytes_of(field: str) -> bytes:
+    """The bytes of a field of a case: hex digits, or `DIGITS*COUNT` for so many times the same."""
+    digits, _, count = field.partition("*")
+    return bytes.fromhex(digits) * int(count or 1)
+
+
 class Lines(unittest.TestCase):
     def test_each_kind_of_refusal(self) -> None:
         lines = [
@@ -97,13 +103,15 @@ class Lines(unittest.TestCase):
             if answer == "malformed" or not answer.split("\t")[2]:
                 continue
             count += 1
-            _, given, pages = case.split("\t")
+            _, given, pages, *devices = case.split("\t")
+            if devices:
+                continue
             line = bytes.fromhex(answer.split("\t")[2]).decode()
             refusal = tool.read_refusal(line)
             if refusal.locate is None or line.startswith("wtround: edit refused") or "," in pages:
                 continue
             is_about_input = line.startswith(("wtround: html refused", "wtround: element", "wtround: input"))
-            data = bytes.fromhex(given if is_about_input else pages.rpartition("=")[2])
+            data = bytes_of(given if is_about_input else pages.rpartition("=")[2])
             with self.subTest(line=line):
                 place = refusal.locate(data, refusal.number)
                 self.assertIsNotNone(place)
