@@ -23,10 +23,13 @@ use Rattle.wt_page_round_trip.proofs.Counts.{forms_few}
 
 -- ---- numbers
 
-pub few_numbers : (page : List ℕ) → numbered (meaning (page_items page)) ≤ 3 * length page
-few_numbers page =
+pub two_a_byte : (page : List ℕ) → numbered (meaning (page_items page)) ≤ 2 * length page
+two_a_byte page =
     let xs = page_items page in
     omega (arith, forms_few xs (page_forms page), ap length (page_sources page))
+
+pub few_numbers : (page : List ℕ) → numbered (meaning (page_items page)) ≤ 3 * length page
+few_numbers page = omega (arith, two_a_byte page)
 
 -- ---- the tree
 
