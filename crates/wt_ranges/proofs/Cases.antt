@@ -5,12 +5,16 @@ use Rattle.wt_tree.specs.declared.kind.Kind.{Kind}
 use Rattle.wt_tree.specs.declared.kind.Kind.TheVariants as kind
 use Rattle.wt_tree.specs.declared.kind.Ranges.{Ranges}
 use Rattle.wt_tree.specs.declared.node.DataMw.{DataMw}
+use Rattle.wt_tree.specs.declared.node.DataMw.TheVariants as mw
+use Rattle.wt_tree.specs.declared.node.Part.TheVariants as datum
 use Rattle.wt_tree.specs.Tree.{label}
 use Rattle.wt_span.specs.declared.form.Form.TheVariants as form
 use Rattle.wt_span.specs.Items.{Item, char, whole}
 use Rattle.wt_span.specs.Origins.{OuterCall}
 use Rattle.wt_inline.specs.ItemTree.{plain, ItemTree, inner, leaf, forest, tree_items}
 use Rattle.wt_annotate.specs.Labels.{label_at}
+use Rattle.wt_call_data.specs.CallData.{call_part}
+use Rattle.wt_ranges.specs.GroupData.{group_data}
 use Rattle.wt_ranges.specs.GroupParts.{Part, called, between, parts}
 use Rattle.wt_ranges.specs.Annotated.{annotated}
 use Rattle.wt_ranges.specs.Reached.{reached}
@@ -87,6 +91,24 @@ table = refl
 table_parts : parts table_calls (tree_items table_page) 0 9 ≡ called 0 ∷ between (codes "\n| a\n") ∷ called 1 ∷ []
 table_parts = refl
 
+-- the two calls are numbered, and what stands between them is a text
+table_data : group_data table_calls (parts table_calls (tree_items table_page) 0 9)
+    ≡ Some (mw.Parts (datum.Template [] [] [] 0 ∷ datum.Literal (codes "\n| a\n") ∷ datum.Template [] [] [] 1 ∷ []))
+unfolding group_data call_part
+table_data = refl
+
+-- texts of a cell are joined, and their line breaks at the end are a separator; beside a group they stand by themselves
+cell_texts : lines_of [] (body (node kind.Td (page (codes "| ")) (text (page (codes "a\n")) ∷ text (page (codes "\n")) ∷ []) [] ∷ []))
+    ≡ line 0 kind.Body 0 5 0 0 ∷ line 1 kind.Td 0 5 2 0 ∷ line 0 kind.Text 2 3 0 0 ∷ line 0 kind.Sep 3 5 0 0 ∷ []
+unfolding annotated label_at
+cell_texts = refl
+
+cell_group : lines_of (call (codes "{{x}}") ∷ [])
+    (body (node kind.Td (page (codes "| ")) (text (page (codes "a")) ∷ text (given 0 (codes "b")) ∷ text (page (codes "\n")) ∷ []) [] ∷ []))
+    ≡ line 0 kind.Body 0 9 0 0 ∷ line 1 kind.Td 0 9 2 0 ∷ line 0 kind.Text 2 3 0 0 ∷ line 2 kind.Group 3 8 0 0 ∷ line 0 kind.Sep 8 9 0 0 ∷ []
+unfolding annotated label_at
+cell_group = refl
+
 -- X = `''`, page `a {{x}} b`
 toggle : lines_of (call (codes "{{x}}") ∷ [])
     (body (para (text (page (codes "a ")) ∷ node kind.Italic (given 0 (codes "''")) (text (page (codes " b")) ∷ []) [] ∷ []) ∷ []))
@@ -133,6 +155,22 @@ empty_style : lines_of [] (body (para (text (page (codes "a")) ∷ node kind.Bol
 unfolding annotated label_at
 empty_style = refl
 
+-- `''a'''b''`: the bold that the italic closes begins again behind it, where nothing is left of the line
+abbrev reopened_page : ItemTree
+reopened_page = body (para (node kind.Italic (page (codes "''"))
+    (text (page (codes "a")) ∷ node kind.Bold (page (codes "'''")) (text (page (codes "b")) ∷ []) [] ∷ []) (page (codes "''"))
+    ∷ node kind.Bold [] [] [] ∷ []) ∷ [])
+
+reopened_style : lines_of [] reopened_page
+    ≡ line 0 kind.Body 0 9 0 0 ∷ line 1 kind.Para 0 9 0 0 ∷ line 2 kind.Italic 0 9 2 2 ∷ line 0 kind.Text 2 3 0 0 ∷ line 3 kind.Bold 3 7 3 0
+    ∷ line 0 kind.Text 6 7 0 0 ∷ line 4 kind.Group 9 9 0 0 ∷ []
+unfolding annotated label_at
+reopened_style = refl
+
+reopened_data : group_data [] (parts [] (tree_items reopened_page) 9 0) ≡ Some (mw.Parts [])
+unfolding group_data
+reopened_data = refl
+
 -- an entity within the `nowiki` of the page is a node, and a `nowiki` of a call is a group
 raw_page : lines_of [] (body (node kind.Nowiki (page (codes "<nowiki>"))
     (text (page (codes "a")) ∷ leaf (plain kind.Entity) (whole (form.Entity 60) None (codes "&lt;") ∷ []) ∷ []) (page (codes "</nowiki>")) ∷ []))
@@ -146,3 +184,11 @@ raw_call : lines_of (call (codes "{{x}}") ∷ [])
     ≡ line 0 kind.Body 0 6 0 0 ∷ line 1 kind.Para 0 6 0 0 ∷ line 0 kind.Text 0 1 0 0 ∷ line 2 kind.Group 1 6 0 0 ∷ []
 unfolding annotated label_at
 raw_call = refl
+
+-- a `nowiki` that begins in a call and ends on the page is one group with what stands in it
+raw_across : lines_of (call (codes "{{x}}") ∷ [])
+    (body (para (text (page (codes "a")) ∷ node kind.Nowiki (given 0 (codes "<nowiki>")) (text (given 0 (codes "b")) ∷ []) (page (codes "</nowiki>"))
+    ∷ []) ∷ []))
+    ≡ line 0 kind.Body 0 15 0 0 ∷ line 1 kind.Para 0 15 0 0 ∷ line 0 kind.Text 0 1 0 0 ∷ line 2 kind.Group 1 15 0 0 ∷ []
+unfolding annotated label_at
+raw_across = refl

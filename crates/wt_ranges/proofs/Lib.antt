@@ -1,7 +1,14 @@
+pub mod AnnotatedTree
 pub mod Calls
 mod Cases
+pub mod CarriedParts
 pub mod ChildWalks
 pub mod Counts
+pub mod CutNodes
+pub mod CutNumbers
+pub mod CutPlaced
+pub mod CutReached
+pub mod CutTexts
 pub mod Ends
 pub mod Groupings
 pub mod GroupNodes
@@ -10,6 +17,7 @@ pub mod KeptNodes
 pub mod Numberings
 pub mod Numbers
 pub mod PartWalks
+pub mod PageSlices
 pub mod PieceWalks
 pub mod Places
 pub mod PlainView

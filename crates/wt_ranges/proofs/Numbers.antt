@@ -53,7 +53,7 @@ mutual
 
 -- ---- all others
 
-abbrev AllZero : List ℕ → Type 0
+abbrev pub AllZero : List ℕ → Type 0
 AllZero ns = AllByRecursion (λ n. n ≡ 0) ns
 
 zeros_append : (ms ns : List ℕ) → AllZero ms → AllZero ns → AllZero (ms ++ ns)
@@ -65,15 +65,15 @@ zeros_all [] h = All-nil (λ n. n ≡ 0)
 zeros_all (n ∷ ns) h = All-cons (λ m. m ≡ 0) n ns h.0 (zeros_all ns h.1)
 
 -- no node in a group has a number
-abbrev NoneBy : Bool → Trees → Type 0 → Type 0
+abbrev pub NoneBy : Bool → Trees → Type 0 → Type 0
 NoneBy true ts rest = AllZero (ids_of_all ts)
 NoneBy false ts rest = rest
 
 abbrev mutual
-  NoneInGroups : Tree → Type 0
+  pub NoneInGroups : Tree → Type 0
   NoneInGroups (tree l ts) = NoneBy (is_group l.kind) ts (AllNoneInGroups ts)
 
-  AllNoneInGroups : Trees → Type 0
+  pub AllNoneInGroups : Trees → Type 0
   AllNoneInGroups none = Unit {0}
   AllNoneInGroups (more t ts) = NoneInGroups t × AllNoneInGroups ts
 
@@ -117,7 +117,7 @@ kept_by false true us q h = tt
 kept_by false false us q h = h
 
 mutual
-  placed_none : (calls : List OuterCall) (carried : Carried) (all : List Item) (g : Grouped) → NoneInGroups (placed calls carried all g)
+  pub placed_none : (calls : List OuterCall) (carried : Carried) (all : List Item) (g : Grouped) → NoneInGroups (placed calls carried all g)
   placed_none calls carried all (kept h n o i c gs) =
       kept_by (is_group h.kind) (is_leaf h.kind) (all_placed calls carried all gs) (group_leaf h.kind) (all_placed_none calls carried all gs)
   placed_none calls carried all (group n k ts) = all_unplaced_zeros ts
@@ -126,13 +126,8 @@ mutual
   all_placed_none calls carried all ended = tt
   all_placed_none calls carried all (along g gs) = (placed_none calls carried all g, all_placed_none calls carried all gs)
 
-in_preorder : (t : Tree) → NoneInGroups t → InPreorder (with_numbers 1 t)
+pub in_preorder : (t : Tree) → NoneInGroups t → InPreorder (with_numbers 1 t)
 in_preorder t h =
     let all : numbers (with_numbers 1 t) ≡ range_with_len 1 (count t) = numbers_at 1 t in
     let len : length (numbers (with_numbers 1 t)) ≡ count t = ap length all ∙ length-range_with_len 1 (count t) in
     record { counted = all ∙ ap (range_with_len 1) (sym len); unnumbered = zeros_all (others (with_numbers 1 t)) (others_at 1 t h) }
-
-pub annotated_numbered : (calls : List OuterCall) (carried : Carried) (t : ItemTree) → InPreorder (annotated calls carried t)
-unfolding annotated
-annotated_numbered calls carried t =
-    in_preorder (placed calls carried (tree_items t) (grouped (tree_items t) 0 t)) (placed_none calls carried (tree_items t) (grouped (tree_items t) 0 t))

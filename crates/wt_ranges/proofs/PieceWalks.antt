@@ -27,10 +27,10 @@ some_left : (n : ℕ) → (suc n == 0) ≡ false
 some_left n = grind (arith, nat_tests)
 
 -- characters, or one item
-abbrev OneOrChars : Form → Option ℕ → List ℕ → Type 0
+abbrev pub OneOrChars : Form → Option ℕ → List ℕ → Type 0
 OneOrChars f o bs = ((is_characters f ≡ true) × (items_by f o bs ≡ map (char o) bs)) ⊎ ((is_characters f ≡ false) × (items_by f o bs ≡ whole f o bs ∷ []))
 
-one_or_chars : (f : Form) (o : Option ℕ) (bs : List ℕ) → OneOrChars f o bs
+pub one_or_chars : (f : Form) (o : Option ℕ) (bs : List ℕ) → OneOrChars f o bs
 one_or_chars form.Chars o bs = inl (refl, refl)
 one_or_chars (form.Entity c) o bs = inr (refl, refl)
 one_or_chars form.Nowiki o bs = inr (refl, refl)
@@ -42,7 +42,7 @@ one_or_chars form.Hidden o bs = inr (refl, refl)
 one_or_chars form.EmptyCall o bs = inr (refl, refl)
 
 -- what holds of no items where a piece is hollow, and of items of one call where it isn't
-by_hollow : (P : List Item → Bool → Type 0) (f : Form) (o : Option ℕ) (bs : List ℕ) → P [] true
+pub by_hollow : (P : List Item → Bool → Type 0) (f : Form) (o : Option ℕ) (bs : List ℕ) → P [] true
     → ((b : ℕ) (cs : List ℕ) → bs ≡ b ∷ cs → P (map (char o) (b ∷ cs)) false) → P (whole f o bs ∷ []) false → OneOrChars f o bs
     → P (items_by f o bs) (hollow_by f bs)
 by_hollow P f o [] n c w (inl h) =
@@ -102,11 +102,11 @@ any_piece p =
 
 -- ---- what stands on the page for one piece
 
-page_parted : (o : Option ℕ) → parted o None ≡ true
+pub page_parted : (o : Option ℕ) → parted o None ≡ true
 page_parted None = refl
 page_parted (Some k) = refl
 
-same_parted : (k : ℕ) → parted (Some k) (Some k) ≡ false
+pub same_parted : (k : ℕ) → parted (Some k) (Some k) ≡ false
 same_parted k = let t : (k == k) ≡ true = grind (arith, nat_tests) in ap not t
 
 page_chars : (calls : List OuterCall) (o : Option ℕ) (bs : List ℕ) → text_from calls o (map (char None) bs) ≡ bs

@@ -81,7 +81,7 @@ runs_shown calls carried all ((c ∷ d ∷ ds) ∷ rs) cs rest h s =
 mutual
   unfolding label_at
 
-  placed_shown : (calls : List OuterCall) (carried : Carried) (all : List Item) (n : ℕ) (t : ItemTree) (rest : Plains)
+  pub placed_shown : (calls : List OuterCall) (carried : Carried) (all : List Item) (n : ℕ) (t : ItemTree) (rest : Plains)
       → plain_before (placed calls carried all (grouped all n t)) rest ≡ plain_before (unplaced t) rest
   placed_shown calls carried all n (inner h o ts c) rest =
       let is : Bool = is_leaf h.kind in
@@ -109,7 +109,7 @@ numbered_by true ts us ps h = refl
 numbered_by false ts us ps h = h ps
 
 mutual
-  shown_numbered : (next : ℕ) (t : Tree) (rest : Plains) → plain_before (with_numbers next t) rest ≡ plain_before t rest
+  pub shown_numbered : (next : ℕ) (t : Tree) (rest : Plains) → plain_before (with_numbers next t) rest ≡ plain_before t rest
   shown_numbered next (tree l ts) rest =
       let us : Trees = all_with_numbers (next_after l.kind next) ts in
       shown_by (showing l.kind) (with_id (number_of l.kind next) l) l (λ ps. plains_before (cond (is_group l.kind) ts us) ps) (λ ps. plains_before ts ps)
@@ -120,7 +120,3 @@ mutual
   all_shown_numbered next none rest = refl
   all_shown_numbered next (more t ts) rest =
       shown_numbered next t (plains_before (all_with_numbers (next + count t) ts) rest) ∙ ap (plain_before t) (all_shown_numbered (next + count t) ts rest)
-
-pub annotated_plain : (calls : List OuterCall) (carried : Carried) (t : ItemTree) → plain (annotated calls carried t) ≡ plain (unplaced t)
-unfolding annotated
-annotated_plain calls carried t = shown_numbered 1 (placed calls carried (tree_items t) (grouped (tree_items t) 0 t)) end ∙ placed_shown calls carried (tree_items t) 0 t end

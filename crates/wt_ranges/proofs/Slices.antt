@@ -102,7 +102,7 @@ inside_slices false true page us h = tt
 inside_slices false false page us h = h
 
 mutual
-  slices : (calls : List OuterCall) (carried : Carried) (all : List Item) (g : Grouped) → Fills g → start_of g + size_of g ≤ length all
+  pub slices : (calls : List OuterCall) (carried : Carried) (all : List Item) (g : Grouped) → Fills g → start_of g + size_of g ≤ length all
       → AreReachedSlices (page_of calls all) (placed calls carried all g)
   slices calls carried all (kept h n o i c gs) f w =
       let is : Bool = is_leaf h.kind in
@@ -151,7 +151,7 @@ all_left P [] vs h = (tt, h)
 all_left P (u ∷ us) vs h = let r = all_left P us vs h.1 in ((h.0, r.0), r.1)
 
 mutual
-  reached_numbered : (page : List ℕ) (next : ℕ) (t : Tree) → AreReachedSlices page t → AreReachedSlices page (with_numbers next t)
+  pub reached_numbered : (page : List ℕ) (next : ℕ) (t : Tree) → AreReachedSlices page t → AreReachedSlices page (with_numbers next t)
   reached_numbered page next (tree l ts) h = (
     slice_numbered page next l ts h.0,
     reached_by (is_group l.kind) page ts (all_with_numbers (next_after l.kind next) ts) (λ q. all_reached_numbered page (next_after l.kind next) ts q) h.1,
@@ -164,11 +164,3 @@ mutual
       let r = all_left (IsSlice page) (reached t) (reached_in_all ts) h in
       all_both (IsSlice page) (reached (with_numbers next t)) (reached_in_all (all_with_numbers (next + count t) ts)) (reached_numbered page next t r.0)
       (all_reached_numbered page (next + count t) ts r.1)
-
-pub annotated_slices : (calls : List OuterCall) (carried : Carried) (t : ItemTree) → is_clean (tree_items t) 0 t ≡ true
-    → AreReachedSlices (page_of calls (tree_items t)) (annotated calls carried t)
-unfolding annotated
-annotated_slices calls carried t q =
-    let g : Grouped = grouped (tree_items t) 0 t in
-    let w : start_of g + size_of g ≤ length (tree_items t) = omega (arith, start_is (tree_items t) 0 t, size_is (tree_items t) 0 t) in
-    reached_numbered (page_of calls (tree_items t)) 1 (placed calls carried (tree_items t) g) (slices calls carried (tree_items t) g (stand (tree_items t) 0 t q).0 w)

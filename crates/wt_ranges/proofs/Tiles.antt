@@ -96,7 +96,7 @@ mutual
             (all_tiled_numbered (next + count t) ts (end_of (label t).ranges) to h.2),
       )
 
-flat_by : (leaf g : Bool) (own opening closing : List ℕ) (ts us : Trees) → (g ≡ true → leaf ≡ true) → flat_of_all us ≡ flat_of_all ts
+pub flat_by : (leaf g : Bool) (own opening closing : List ℕ) (ts us : Trees) → (g ≡ true → leaf ≡ true) → flat_of_all us ≡ flat_of_all ts
     → cond leaf own (opening ++ flat_of_all (cond g ts us) ++ closing) ≡ cond leaf own (opening ++ flat_of_all ts ++ closing)
 flat_by true g own opening closing ts us q e = refl
 flat_by false true own opening closing ts us q e = refl
@@ -152,20 +152,3 @@ mutual
   pub fill_up : (gs : GroupedAll) (from to : ℕ) → FillFrom gs from to → from ≤ to
   fill_up ended from to f = omega (arith, f)
   fill_up (along g gs) from to f = let u = fill_up gs (start_of g + size_of g) to f.2 in omega (arith, u, f.0)
-
--- ---- the annotated tree
-
-pub annotated_tiles : (calls : List OuterCall) (carried : Carried) (t : ItemTree) → is_clean (tree_items t) 0 t ≡ true → Tiled (annotated calls carried t)
-unfolding annotated
-annotated_tiles calls carried t q =
-    tiled_numbered 1 (placed calls carried (tree_items t) (grouped (tree_items t) 0 t)) (tiled calls carried (tree_items t) (grouped (tree_items t) 0 t) (stand (tree_items t) 0 t q).0)
-
-pub annotated_source : (calls : List OuterCall) (carried : Carried) (t : ItemTree) → is_clean (tree_items t) 0 t ≡ true
-    → flat (annotated calls carried t) ≡ page_of calls (tree_items t)
-unfolding annotated
-annotated_source calls carried t q =
-    let g : Grouped = grouped (tree_items t) 0 t in
-    flat_numbered 1 (placed calls carried (tree_items t) g)
-    ∙ source calls carried (tree_items t) g (stand (tree_items t) 0 t q).0
-    ∙ ap (λ n. text_between calls (tree_items t) n (size_of g)) (start_is (tree_items t) 0 t)
-    ∙ ap (text_between calls (tree_items t) 0) (size_is (tree_items t) 0 t)

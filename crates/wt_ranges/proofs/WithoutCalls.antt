@@ -130,7 +130,7 @@ label_by false h at o own c = refl
 -- ---- trees
 
 mutual
-  same_placed : (calls : List OuterCall) (carried : Carried) (all before after : List Item) (t : ItemTree) → all ≡ before ++ (tree_items t ++ after) → OfPage all
+  pub same_placed : (calls : List OuterCall) (carried : Carried) (all before after : List Item) (t : ItemTree) → all ≡ before ++ (tree_items t ++ after) → OfPage all
       → NoneEmpty t
       → placed calls carried all (grouped all (length before) t) ≡ placed_behind before t
   same_placed calls carried all before after (inner h o ts c) e p m =
@@ -182,8 +182,3 @@ mutual
       ∙ ap (λ u. more u us) (same_placed calls carried all before (held_by_all ts ++ after) t first p m.1)
       ∙ ap (λ x. more (placed_behind before t) (all_placed calls carried all (of_runs (map (λ d. d ∷ []) (children all x ts))))) (sym k)
       ∙ ap (more (placed_behind before t)) (all_same calls carried all (before ++ tree_items t) after ts rest p m.2)
-
-pub without_calls : (calls : List OuterCall) (carried : Carried) (t : ItemTree) → list_all is_page (tree_items t) ≡ true → NoneEmpty t
-    → annotated calls carried t ≡ annotated_plainly t
-unfolding annotated annotated_plainly
-without_calls calls carried t p m = ap (with_numbers 1) (same_placed calls carried (tree_items t) [] [] t (sym (append-nil (tree_items t))) p m)

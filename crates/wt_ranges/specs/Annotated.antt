@@ -1,5 +1,5 @@
 -- The annotated tree of a page with calls: its groups, then each node with its place and source by bytes of the page, then
--- numbers in preorder.
+-- the texts and separators of items and cells cut anew, then numbers in preorder.
 use Rattle.std.specs.Prelude.{ℕ, ◌+◌, Bool, true, false, Option, Some, None, List, [], ◌++◌, length}
 use Rattle.wt_tree.specs.declared.kind.Kind.{Kind}
 use Rattle.wt_tree.specs.declared.kind.Kind.TheVariants as kind
@@ -14,6 +14,7 @@ use Rattle.wt_inline.specs.ItemTree.{Head, ItemTree, inner, ItemTrees, nothing, 
 use Rattle.wt_annotate.specs.Labels.{leaf_open, if_leaf, if_inner, label_at}
 use Rattle.wt_annotate.specs.Numbering.{with_numbers}
 use Rattle.wt_annotate.specs.Annotated.{inside_by}
+use Rattle.wt_ranges.specs.CutTexts.{cut_texts}
 use Rattle.wt_ranges.specs.Grouped.{Grouped, kept, group, GroupedAll, ended, along, grouped}
 use Rattle.wt_ranges.specs.GroupParts.{Part, parts}
 
@@ -89,6 +90,5 @@ abbrev mutual
   all_placed calls carried all (along g gs) =
       more (placed calls carried all g) (all_placed calls carried all gs)
 
--- The annotated tree, in which neighbouring texts and separators of an item or a cell aren't cut anew.
 unfoldable pub annotated : List OuterCall → (List Part → Option DataMw) → ItemTree → Tree
-annotated calls carried t = with_numbers 1 (placed calls carried (tree_items t) (grouped (tree_items t) 0 t))
+annotated calls carried t = with_numbers 1 (cut_texts (placed calls carried (tree_items t) (grouped (tree_items t) 0 t)))

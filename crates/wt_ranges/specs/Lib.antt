@@ -1,8 +1,10 @@
 pub mod Annotated
 pub mod Children
 pub mod Clean
+pub mod DataSoFar
 pub mod Grouped
 pub mod Counted
+pub mod CutTexts
 pub mod GroupData
 pub mod GroupParts
 pub mod Kept
@@ -10,6 +12,7 @@ pub mod Nodes
 pub mod NumberedNodes
 pub mod OpenedChild
 pub mod Pieces
+pub mod Preorder
 pub mod Reached
 pub mod RunTrees
 pub mod Seams

@@ -1,7 +1,8 @@
 //! Groups: one leaf for children that can be edited only together.
 
-ghost use Rattle.std.specs.Prelude.{◌≡◌, ◌+◌, ◌^◌, ◌<◌, length, IfOk};
+ghost use Rattle.std.specs.Prelude.{◌≡◌, ◌+◌, ◌^◌, ◌<◌, length, All, IfOk};
 ghost use Rattle.wt_span.specs.Items.{items};
+ghost use Rattle.wt_span.specs.Origins.{IsSoundCall};
 ghost use Rattle.wt_tree.specs.Tree.{tree};
 ghost use Rattle.wt_tree.specs.View.{texts_of, view, views};
 ghost use Rattle.wt_inline.specs.ItemTree.{forest, held_by_all};
@@ -14,8 +15,8 @@ ghost use Rattle.wt_ranges.specs.Pieces.{outer_calls};
 ghost use Rattle.wt_ranges.specs.Seams.{text_from};
 ghost use Rattle.wt_ranges.specs.Walked.{group_at, near_group};
 
+use crate::carried::group_data;
 use crate::child::Child;
-use crate::data::group_data;
 use crate::held::pieces_of_all;
 use crate::node::{leaf_sources, node};
 use crate::page_text::{page_texts, page_width};
@@ -95,6 +96,7 @@ fn group_of<'a>(
     trees: List<PieceTree<'a>>,
     held: &[Piece<'a>],
 ) -> Result<Node<'a>, NoMemory>
+    requires sound { All IsSoundCall (outer_calls calls.now) }
     requires held { items held.now ≡ held_by_all (forest (item_trees trees)) }
     requires fits { start.byte + length (text_from (outer_calls calls.now) start.before (items held.now)) < 2 ^ 32 }
     ensures { IfOk result (λ n. view n ≡ group_at (outer_calls calls.now) (group_data (outer_calls calls.now)) start.before start.byte (forest (item_trees trees.entry))) }
@@ -112,7 +114,8 @@ pub fn group_node<'a>(
     calls: &[Outer<'a>],
     children: List<Child<'a>>,
 ) -> Result<Node<'a>, NoMemory>
-    requires { NearsFit (outer_calls calls.now) (nears_of (outer_calls calls.now) children) }
+    requires sound { All IsSoundCall (outer_calls calls.now) }
+    requires fit { NearsFit (outer_calls calls.now) (nears_of (outer_calls calls.now) children) }
     ensures { IfOk result (λ n. view n ≡ near_group (outer_calls calls.now) (group_data (outer_calls calls.now)) (nears_of (outer_calls calls.now) children.entry)) }
 {
     let start = group_start(children.as_slice());

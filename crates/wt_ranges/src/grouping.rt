@@ -1,24 +1,24 @@
 //! Grouping: from a tree over items to its tree with groups and places, and then with numbers.
 
-ghost use Rattle.std.specs.Prelude.{◌≡◌, ◌+◌, ◌^◌, ◌<◌, length, map, IfOk};
+ghost use Rattle.std.specs.Prelude.{◌≡◌, ◌^◌, ◌<◌, length, map, All, IfOk};
 ghost use Rattle.std.specs.List.{AllByRecursion};
 ghost use Rattle.wt_span.specs.Cuts.{page_of};
+ghost use Rattle.wt_span.specs.Origins.{IsSoundCall};
 ghost use Rattle.wt_tree.specs.Kinds.{is_leaf};
 ghost use Rattle.wt_tree.specs.View.{view};
-ghost use Rattle.wt_annotate.specs.Numbering.{count};
 ghost use Rattle.wt_inline.specs.ItemTree.{tree_items};
 ghost use Rattle.wt_inline.specs.View.{item_tree};
 ghost use Rattle.wt_inline.specs.declared.tree.PieceTree.{out-PieceTree};
-ghost use Rattle.wt_ranges.specs.Annotated.{annotated, placed};
+ghost use Rattle.wt_ranges.specs.Annotated.{annotated};
 ghost use Rattle.wt_ranges.specs.Children.{near_of};
 ghost use Rattle.wt_ranges.specs.GroupData.{group_data};
-ghost use Rattle.wt_ranges.specs.Grouped.{grouped};
 ghost use Rattle.wt_ranges.specs.Kept.{Fits, RunFits};
 ghost use Rattle.wt_ranges.specs.OpenedChild.{IsOpened};
 ghost use Rattle.wt_ranges.specs.Pieces.{outer_calls};
 ghost use Rattle.wt_ranges.specs.RunTrees.{run_tree};
 
 use crate::child::{Child, children};
+use crate::cut::cut_node;
 use crate::group_node::group_node;
 use crate::kept::{Frame, inner_frame, kept_inner, kept_leaf};
 use crate::number::number_tree;
@@ -83,7 +83,8 @@ fn run_nodes<'a>(
     calls: &[Outer<'a>],
     runs: List<Run<'a>>,
 ) -> Result<List<Node<'a>>, NoMemory>
-    requires { AllByRecursion (RunFits (outer_calls calls.now)) runs }
+    requires sound { All IsSoundCall (outer_calls calls.now) }
+    requires fit { AllByRecursion (RunFits (outer_calls calls.now)) runs }
     ensures { IfOk result (λ ns. map view ns ≡ map (run_tree (outer_calls calls.now)) runs.entry) }
 {
     let mut nodes = List::new(alloc);
@@ -97,7 +98,8 @@ fn run_nodes<'a>(
 /// A clean child by itself, or a group.
 #[cycle(grouping)]
 fn run_node<'a>(alloc: Global, calls: &[Outer<'a>], run: Run<'a>) -> Result<Node<'a>, NoMemory>
-    requires { RunFits (outer_calls calls.now) run }
+    requires sound { All IsSoundCall (outer_calls calls.now) }
+    requires fits { RunFits (outer_calls calls.now) run }
     ensures { IfOk result (λ n. view n ≡ run_tree (outer_calls calls.now) run.entry) }
 {
     match run {
@@ -109,7 +111,8 @@ fn run_node<'a>(alloc: Global, calls: &[Outer<'a>], run: Run<'a>) -> Result<Node
 /// A node that is kept, with its groups.
 #[cycle(grouping)]
 fn kept_node<'a>(alloc: Global, calls: &[Outer<'a>], child: Child<'a>) -> Result<Node<'a>, NoMemory>
-    requires { Fits (outer_calls calls.now) child }
+    requires sound { All IsSoundCall (outer_calls calls.now) }
+    requires fits { Fits (outer_calls calls.now) child }
     ensures { IfOk result (λ n. view n ≡ (near_of (outer_calls calls.now) child.entry).whole) }
 {
     if is_leaf(&child) {
@@ -120,16 +123,14 @@ fn kept_node<'a>(alloc: Global, calls: &[Outer<'a>], child: Child<'a>) -> Result
     Ok(kept_inner(frame, head, nodes))
 }
 
-/// The annotated tree of a tree over items, whose outermost calls these are: its groups and the
-/// nodes that are kept, each with its place in bytes of the page, its source as it stands there,
-/// and its number.
-pub fn group<'a>(
+/// The annotated tree of a tree over items, whose outermost calls these are.
+pub fn group_tree<'a>(
     alloc: Global,
     calls: &[Outer<'a>],
     tree: PieceTree<'a>,
 ) -> Result<Node<'a>, NoMemory>
+    requires sound { All IsSoundCall (outer_calls calls.now) }
     requires bytes { length (page_of (outer_calls calls.now) (tree_items (item_tree tree))) < 2 ^ 32 }
-    requires numbers { 1 + count (placed (outer_calls calls.now) (group_data (outer_calls calls.now)) (tree_items (item_tree tree)) (grouped (tree_items (item_tree tree)) 0 (item_tree tree))) < 2 ^ 32 }
     ensures { IfOk result (λ n. view n ≡ annotated (outer_calls calls.now) (group_data (outer_calls calls.now)) (item_tree tree.entry)) }
 {
     let body = Child {
@@ -141,5 +142,6 @@ pub fn group<'a>(
         clean: true,
     };
     let node = kept_node(alloc, calls, body)?;
-    number_tree(alloc, node)
+    let cut = cut_node(alloc, node)?;
+    number_tree(alloc, cut)
 }

@@ -5,20 +5,29 @@ ghost use Rattle.wt_span.specs.Items.{Item};
 ghost use Rattle.wt_span.specs.Cuts.{page_of};
 ghost use Rattle.wt_span.specs.Origins.{OuterCall};
 ghost use Rattle.wt_tree.specs.Source.{flat};
-ghost use Rattle.wt_tree.specs.Tiling.{InPreorder, Tiled};
+ghost use Rattle.wt_tree.specs.Tiling.{Covers, InPreorder, Tiled};
+ghost use Rattle.wt_tree.specs.Tree.{Tree};
 ghost use Rattle.wt_tree.specs.declared.node.DataMw.{DataMw};
 ghost use Rattle.wt_tree.specs.declared.kind.Kind.TheVariants as node_kind;
-ghost use Rattle.std.specs.List.{list_all};
+ghost use Rattle.std.specs.List.{AllByRecursion, list_all};
 ghost use Rattle.wt_tree.specs.Plain.{plain as plain_view};
 ghost use Rattle.wt_inline.specs.ItemTree.{plain, ItemTree, inner, ItemTrees, nothing, further, tree_items};
-ghost use Rattle.wt_annotate.specs.Annotated.{annotated as annotated_plainly};
+ghost use Rattle.wt_annotate.specs.Annotated.{annotated as annotated_plainly, placed as placed_plainly};
 ghost use Rattle.wt_ranges.specs.Annotated.{annotated, placed, unplaced};
-ghost use Rattle.wt_annotate.specs.Numbering.{count};
+ghost use Rattle.wt_annotate.specs.Numbering.{count, with_numbers};
 ghost use Rattle.wt_ranges.specs.Counted.{nodes};
+ghost use Rattle.wt_ranges.specs.CutTexts.{HasCutTexts, cut_texts};
 ghost use Rattle.wt_ranges.specs.Clean.{is_clean, is_page};
 ghost use Rattle.wt_ranges.specs.Grouped.{grouped};
 ghost use Rattle.wt_ranges.specs.GroupParts.{Part, begun};
-ghost use Rattle.wt_ranges.specs.Reached.{AreReachedSlices, AreSmallest, AtFreeCuts, Fills, calls_in_groups};
+ghost use Rattle.wt_ranges.specs.Reached.{
+  AreReachedSlices,
+  AreSmallest,
+  AtFreeCuts,
+  Fills,
+  calls_in_groups,
+  reached,
+};
 ghost use Rattle.wt_ranges.specs.Ungrouped.{ungrouped};
 ghost use Rattle.wt_ranges.specs.Walked.{walked};
 ghost use Rattle.wt_ranges.specs.WithoutCalls.{NoneEmpty};
@@ -47,24 +56,39 @@ pub fn each_call_in_one_group()
     ensures { (t : ItemTree) → is_clean (tree_items t) 0 t ≡ true → calls_in_groups (tree_items t) (grouped (tree_items t) 0 t) ≡ begun (tree_items t) 0 (length (tree_items t)) }
 {}
 
-/// The ranges of the annotated tree tile it, each range of a node that is reached is a slice of the
-/// page, the tree's source is the page, and its numbers are in preorder.
+/// The ranges of the annotated tree tile it, that of a body covers the page, each range of a node
+/// that is reached is a slice of the page, the tree's source is the page, and its numbers are in
+/// preorder.
 pub fn annotated_page()
     ensures tiled { (calls : List OuterCall) (carried : List Part → Option DataMw) (t : ItemTree) → is_clean (tree_items t) 0 t ≡ true → Tiled (annotated calls carried t) }
+    ensures covers { (calls : List OuterCall) (carried : List Part → Option DataMw) (ts : ItemTrees) → Covers (length (page_of calls (tree_items (inner (plain node_kind.Body) [] ts [])))) (annotated calls carried (inner (plain node_kind.Body) [] ts [])) }
     ensures slices { (calls : List OuterCall) (carried : List Part → Option DataMw) (t : ItemTree) → is_clean (tree_items t) 0 t ≡ true → AreReachedSlices (page_of calls (tree_items t)) (annotated calls carried t) }
     ensures source { (calls : List OuterCall) (carried : List Part → Option DataMw) (t : ItemTree) → is_clean (tree_items t) 0 t ≡ true → flat (annotated calls carried t) ≡ page_of calls (tree_items t) }
     ensures numbered { (calls : List OuterCall) (carried : List Part → Option DataMw) (t : ItemTree) → InPreorder (annotated calls carried t) }
 {}
 
-/// Grouping leaves the plain view as it is: a group shows its own nodes and no others.
+/// Grouping leaves the plain view as it is: a group shows its own nodes and no others. Beyond that
+/// the annotated tree shows what it shows when its texts and separators are cut anew.
 pub fn plain_view_stays()
-    ensures { (calls : List OuterCall) (carried : List Part → Option DataMw) (t : ItemTree) → plain_view (annotated calls carried t) ≡ plain_view (unplaced t) }
+    ensures groups { (calls : List OuterCall) (carried : List Part → Option DataMw) (t : ItemTree) → plain_view (placed calls carried (tree_items t) (grouped (tree_items t) 0 t)) ≡ plain_view (unplaced t) }
+    ensures numbers { (calls : List OuterCall) (carried : List Part → Option DataMw) (t : ItemTree) → plain_view (annotated calls carried t) ≡ plain_view (cut_texts (placed calls carried (tree_items t) (grouped (tree_items t) 0 t))) }
+{}
+
+/// Texts and separators cut anew: in each node that is reached they stand as they should, a tree in
+/// which they do is left as it is, the source stays, and there are no more numbers than before.
+pub fn texts_cut_anew()
+    ensures cut { (t : Tree) → AllByRecursion HasCutTexts (reached (cut_texts t)) }
+    ensures same { (t : Tree) → AllByRecursion HasCutTexts (reached t) → cut_texts t ≡ t }
+    ensures source { (t : Tree) → flat (cut_texts t) ≡ flat t }
+    ensures numbers { (t : Tree) → count (cut_texts t) ≤ count t }
 {}
 
 /// Where no item comes from a call and each node below the root holds an item, there is no group:
-/// the annotated tree is that of a page without calls.
+/// the annotated tree is that of a page without calls, its texts and separators cut anew; and just
+/// that tree, where they stand as they should.
 pub fn annotated_without_calls()
-    ensures { (calls : List OuterCall) (carried : List Part → Option DataMw) (t : ItemTree) → list_all is_page (tree_items t) ≡ true → NoneEmpty t → annotated calls carried t ≡ annotated_plainly t }
+    ensures anew { (calls : List OuterCall) (carried : List Part → Option DataMw) (t : ItemTree) → list_all is_page (tree_items t) ≡ true → NoneEmpty t → annotated calls carried t ≡ with_numbers 1 (cut_texts (placed_plainly [] t)) }
+    ensures same { (calls : List OuterCall) (carried : List Part → Option DataMw) (t : ItemTree) → list_all is_page (tree_items t) ≡ true → NoneEmpty t → AllByRecursion HasCutTexts (reached (placed_plainly [] t)) → annotated calls carried t ≡ annotated_plainly t }
 {}
 
 /// A walk over the tree that knows only the calls of the items beside it, and the byte at which it
@@ -75,7 +99,7 @@ pub fn groups_by_walking()
 
 /// At most as many nodes and groups have a number as the tree has nodes.
 pub fn few_numbers_with_groups()
-    ensures { (calls : List OuterCall) (carried : List Part → Option DataMw) (all : List Item) (n : ℕ) (t : ItemTree) → count (placed calls carried all (grouped all n t)) ≤ nodes t }
+    ensures { (calls : List OuterCall) (carried : List Part → Option DataMw) (t : ItemTree) → count (cut_texts (placed calls carried (tree_items t) (grouped (tree_items t) 0 t))) ≤ nodes t }
 {}
 
 /// A tree with groups gives back the tree that it comes from: each group has its own nodes in their

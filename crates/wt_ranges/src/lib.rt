@@ -1,8 +1,9 @@
 //! From a page with calls to its annotated tree: clean nodes, groups and their places.
 #![tactic(auto)]
 
+mod carried;
 mod child;
-mod data;
+mod cut;
 mod group_node;
 mod grouping;
 mod held;
@@ -11,13 +12,14 @@ mod laws;
 mod node;
 mod number;
 mod page_text;
+mod page_tree;
 mod run;
 mod seam;
 mod unplaced;
 
-pub use grouping::group;
 pub use laws::{
     annotated_page, annotated_without_calls, body_is_clean, each_call_in_one_group,
     few_numbers_with_groups, groups_are_smallest, groups_by_walking, groups_end_at_free_cuts,
-    groups_taken_apart, plain_view_stays,
+    groups_taken_apart, plain_view_stays, texts_cut_anew,
 };
+pub use page_tree::{Annotated, group};

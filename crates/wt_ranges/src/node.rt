@@ -1,6 +1,7 @@
 //! Nodes of trees, made of their heads and texts.
 
 ghost use Rattle.std.specs.Prelude.{◌≡◌, []};
+ghost use Rattle.wt_tree.specs.Tiling.{is_group};
 ghost use Rattle.wt_tree.specs.Tree.{tree};
 ghost use Rattle.wt_tree.specs.View.{texts_of, view, views};
 ghost use Rattle.wt_inline.specs.View.{head_of};
@@ -9,7 +10,7 @@ ghost use Rattle.wt_ranges.specs.Nodes.{node_label};
 use std::alloc::Global;
 use wt_inline::NodeHead;
 use wt_span::{List, Text};
-use wt_tree::{Mark, Node, Ranges};
+use wt_tree::{Kind, Mark, Node, Ranges};
 
 /// What a node has of the page: its delimiters, or the source of a leaf.
 #[derive(Drop)]
@@ -57,5 +58,15 @@ pub fn leaf_sources<'a>(alloc: Global, own: List<Text<'a>>) -> Sources<'a>
         opening: List::new(alloc),
         closing: List::new(alloc),
         own,
+    }
+}
+
+/// Whether this is the kind of groups.
+pub fn is_group(kind: Kind) -> bool
+    ensures { result ≡ is_group kind }
+{
+    match kind {
+        Kind::Group => true,
+        _ => false,
     }
 }

@@ -1,6 +1,6 @@
 //! Numbers, given to a finished tree.
 
-ghost use Rattle.std.specs.Prelude.{◌≡◌, ◌+◌, ◌^◌, ◌<◌, IfOk, if◌then◌else◌};
+ghost use Rattle.std.specs.Prelude.{◌≡◌, ◌+◌, IfOk, if◌then◌else◌};
 ghost use Rattle.wt_tree.specs.Tiling.{is_group};
 ghost use Rattle.wt_tree.specs.View.{view, views};
 ghost use Rattle.wt_annotate.specs.Numbering.{
@@ -13,6 +13,7 @@ ghost use Rattle.wt_annotate.specs.Numbering.{
 };
 ghost use Rattle.wt_ranges.specs.NumberedNodes.{AreNumbered, IsNumbered};
 
+use crate::node::is_group;
 use std::alloc::Global;
 use wt_span::{List, NoMemory};
 use wt_tree::{Kind, Node};
@@ -38,21 +39,18 @@ fn number_of(kind: Kind, next: u32) -> u32
     if kind.is_numbered() { next } else { 0 }
 }
 
-/// The next number behind a node of this kind itself.
-fn next_after(kind: Kind, next: u32) -> u32
-    requires { next_after kind next < 2 ^ 32 }
-    ensures { result ≡ next_after kind next }
+/// The next number behind a node of this kind itself. Nodes that would take the last of 2^32 numbers
+/// don't fit into memory.
+fn next_after(kind: Kind, next: u32) -> Result<u32, NoMemory>
+    ensures { IfOk result (λ n. n ≡ next_after kind next) }
 {
-    if kind.is_numbered() { next + 1 } else { next }
-}
-
-fn is_group(kind: Kind) -> bool
-    ensures { result ≡ is_group kind }
-{
-    match kind {
-        Kind::Group => true,
-        _ => false,
+    if !kind.is_numbered() {
+        return Ok(next);
     }
+    if next == u32::MAX {
+        return Err(NoMemory);
+    }
+    Ok(next + 1)
 }
 
 /// The children of a node with their numbers; those of a group have none.
@@ -63,7 +61,6 @@ fn number_children<'a>(
     nodes: List<Node<'a>>,
     next: u32,
 ) -> Result<AllNumbered<'a>, NoMemory>
-    requires { next + (if is_group kind then 0 else count_all (views nodes)) < 2 ^ 32 }
     ensures { IfOk result (λ m. AreNumbered kind next (views nodes.entry) (views m.nodes) m.next) }
 {
     if is_group(kind) {
@@ -85,7 +82,6 @@ fn number_children<'a>(
 /// A node and all below it with their numbers.
 #[cycle(numbering)]
 fn number_node<'a>(alloc: Global, node: Node<'a>, next: u32) -> Result<Numbered<'a>, NoMemory>
-    requires { next + count (view node) < 2 ^ 32 }
     ensures { IfOk result (λ m. IsNumbered next (view node.entry) (view m.node) m.next) }
 {
     let Node {
@@ -102,7 +98,8 @@ fn number_node<'a>(alloc: Global, node: Node<'a>, next: u32) -> Result<Numbered<
         mw,
         children,
     } = node;
-    let children = number_children(alloc, kind, children, next_after(kind, next))?;
+    let behind = next_after(kind, next)?;
+    let children = number_children(alloc, kind, children, behind)?;
     let node = Node {
         kind,
         id: number_of(kind, next),
@@ -125,7 +122,6 @@ fn number_node<'a>(alloc: Global, node: Node<'a>, next: u32) -> Result<Numbered<
 
 /// A tree with its numbers, which count from 1.
 pub fn number_tree<'a>(alloc: Global, node: Node<'a>) -> Result<Node<'a>, NoMemory>
-    requires { 1 + count (view node) < 2 ^ 32 }
     ensures { IfOk result (λ n. view n ≡ with_numbers 1 (view node.entry)) }
 {
     let numbered = number_node(alloc, node, 1)?;

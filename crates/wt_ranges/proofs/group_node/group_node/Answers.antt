@@ -11,7 +11,7 @@ use Rattle.wt_ranges.proofs.group_node.group_node.Goals as goal
 
 pub group_of-requires-clause-fits : goal.group_of-requires-clause-fits
 group_of-requires-clause-fits c =
-    group_fits (outer_calls c.args.calls.now) c.args.children c.in_ok-trees.trees c.group_start-start.result (items c.as_slice-3.result.now) c.requires
+    group_fits (outer_calls c.args.calls.now) c.args.children c.in_ok-trees.trees c.group_start-start.result (items c.as_slice-3.result.now) c.requires.fit
     c.in_ok-trees.ensures (c.group_start-start.ensures ∙ ap group_start c.as_slice.ensures)
     (ap items c.as_slice-3.ensures ∙ c.in_ok-held.ensures ∙ ap (λ ts. held_by_all (forest (item_trees ts))) c.as_slice-2.ensures)
 

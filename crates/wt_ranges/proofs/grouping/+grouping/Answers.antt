@@ -13,6 +13,9 @@ kept_node-run_nodes-requires t c =
     let f = c.in_ok-frame.field-0.frame in
     let runs = c.in_ok-frame.field-0.runs in (
       omega (arith, fewer calls n f.before f.byte f.after opened.children runs opened.nears opened.runs),
-      all_fit calls f.before f.byte f.after (item_trees (out-PieceTree n).children) opened.children runs opened.nears
-          (inside_fits calls c.args.child f c.requires opened.frame) opened.runs,
+      (
+        c.requires.sound,
+        all_fit calls f.before f.byte f.after (item_trees (out-PieceTree n).children) opened.children runs opened.nears
+            (inside_fits calls c.args.child f c.requires.fits opened.frame) opened.runs,
+      ),
     )

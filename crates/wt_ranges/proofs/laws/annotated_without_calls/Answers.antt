@@ -1,5 +1,5 @@
-use Rattle.wt_ranges.proofs.WithoutCalls.{without_calls}
+use Rattle.wt_ranges.proofs.AnnotatedTree.{without_calls, without_calls_or_cuts}
 use Rattle.wt_ranges.proofs.laws.annotated_without_calls.Goals as goal
 
 pub returns : goal.returns
-returns c = without_calls
+returns c = record { anew = without_calls; same = without_calls_or_cuts }

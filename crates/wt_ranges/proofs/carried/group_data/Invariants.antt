@@ -1,0 +1,12 @@
+use Rattle.std.proofs.Common.{◌≡◌, take}
+use Rattle.wt_span.specs.Items.{items}
+use Rattle.wt_ranges.specs.DataSoFar.{Continues, nothing_found}
+use Rattle.wt_ranges.specs.Pieces.{outer_calls}
+use Rattle.wt_ranges.specs.Seams.{last_of}
+use Rattle.wt_ranges.proofs.carried.group_data.Given as goal
+
+abbrev pub invariant-loop-piece : goal.invariant-loop-piece
+invariant-loop-piece l = record {
+  found : Continues (outer_calls l.calls) l.fn.before nothing_found (items (take l.piece-index l.pieces)) l.found;
+  last : l.last ≡ last_of l.fn.before (items (take l.piece-index l.pieces));
+}

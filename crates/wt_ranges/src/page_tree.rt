@@ -1,0 +1,92 @@
+//! The annotated tree of a page, with the items that it comes from.
+
+ghost use Rattle.std.specs.Prelude.{◌≡◌, ◌^◌, ◌<◌, All, IfOk, length, map, true};
+ghost use Rattle.wt_span.specs.Cuts.{page_of};
+ghost use Rattle.wt_span.specs.Origins.{IsSoundCall, span_of};
+ghost use Rattle.wt_tree.specs.Tiling.{InPreorder, Tiled};
+ghost use Rattle.wt_tree.specs.View.{view};
+ghost use Rattle.wt_inline.specs.ItemTree.{tree_items};
+ghost use Rattle.wt_inline.specs.View.{item_tree};
+ghost use Rattle.wt_ranges.specs.Annotated.{annotated};
+ghost use Rattle.wt_ranges.specs.Clean.{is_clean};
+ghost use Rattle.wt_ranges.specs.GroupData.{group_data};
+ghost use Rattle.wt_ranges.specs.Pieces.{outer_calls};
+ghost use Rattle.wt_ranges.specs.Preorder.{InPreorder-prop};
+
+use crate::grouping::group_tree;
+use std::alloc::Global;
+use wt_inline::PieceTree;
+use wt_span::{Items, NoMemory, Outer, Range};
+use wt_tree::Node;
+
+/// The annotated tree of a page, with the page's items. Its ranges, in bytes of the page, tile it,
+/// and its numbers are in preorder.
+#[derive(Drop)]
+pub struct Annotated<'a> {
+    body: Node<'a>,
+    items: Items<'a>,
+    ghost tiled: { ∥ Tiled (view body) ∥₁ },
+    ghost numbered: { InPreorder (view body) } by { InPreorder-prop (view body) },
+}
+
+impl<'a> Annotated<'a> {
+    fn of(body: Node<'a>, items: Items<'a>) -> Annotated<'a>
+        requires tiled { Tiled (view body) }
+        requires numbered { InPreorder (view body) }
+        ensures body { result.body ≡ body.entry }
+        ensures items { result.items ≡ items.entry }
+    {
+        Annotated { body, items }
+    }
+
+    /// The body, which holds all other nodes.
+    pub fn body(&self) -> &Node<'a>
+        ensures body { result.now ≡ self.now.body }
+        ensures tiled { ∥ Tiled (view result.now) ∥₁ }
+        ensures numbered { InPreorder (view result.now) }
+    {
+        &self.body
+    }
+
+    /// The items of the page.
+    pub fn items(&self) -> &Items<'a>
+        ensures { result.now ≡ self.now.items }
+    {
+        &self.items
+    }
+
+    /// Where the page's text calls outside its outermost calls stand, in order of the first byte.
+    pub fn text_calls(&self) -> &[Range]
+        ensures { map span_of result.now ≡ self.now.items.text_calls }
+    {
+        self.items.text_calls()
+    }
+}
+
+/// The outermost calls of items, each of which is sound.
+fn sound_calls<'a, 'b>(items: &'b Items<'a>) -> &'b [Outer<'a>]
+    ensures calls { outer_calls result.now ≡ items.now.outer }
+    ensures sound { All IsSoundCall (outer_calls result.now) }
+{
+    let _held = items.pieces();
+    items.outer()
+}
+
+/// The annotated tree of a tree over a page's items: its groups and the nodes that are kept, each
+/// with its place in bytes of the page, its source as it stands there, and its number; each group
+/// carries its parts; the texts and separators of items and cells are cut anew.
+///
+/// The root of the tree is clean: so is each body of a page (`body_is_clean`).
+pub fn group<'a>(
+    alloc: Global,
+    items: Items<'a>,
+    tree: PieceTree<'a>,
+) -> Result<Annotated<'a>, NoMemory>
+    requires clean { is_clean (tree_items (item_tree tree)) 0 (item_tree tree) ≡ true }
+    requires bytes { length (page_of items.outer (tree_items (item_tree tree))) < 2 ^ 32 }
+    ensures tree { IfOk result (λ a. view a.body ≡ annotated items.entry.outer (group_data items.entry.outer) (item_tree tree.entry)) }
+    ensures items { IfOk result (λ a. a.items ≡ items.entry) }
+{
+    let body = group_tree(alloc, sound_calls(&items), tree)?;
+    Ok(Annotated::of(body, items))
+}
