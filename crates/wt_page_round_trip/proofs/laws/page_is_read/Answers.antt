@@ -6,5 +6,5 @@ pub returns : goal.returns
 returns c = record {
   written = λ page u room. page_written page u room (two_a_byte page);
   read = λ page u room. page_is_read page u room (two_a_byte page);
-  source = same_page
+  source = same_page;
 }
