@@ -1,0 +1,11 @@
+pub mod Blocks
+pub mod Building
+pub mod CellGroups
+pub mod Delimiters
+pub mod Groups
+pub mod GroupViews
+pub mod Nodes
+pub mod Prefixes
+pub mod Ready
+pub mod Units
+pub mod Views

@@ -1,0 +1,62 @@
+//! Pieces, cut behind a number of items.
+
+ghost use Rattle.std.specs.Prelude.{◌≡◌, ◌<◌, ◌≤◌, All, take, drop, length, IfOk};
+ghost use Rattle.wt_span.specs.Items.{items};
+ghost use Rattle.wt_span.specs.Origins.{IsSoundPiece};
+ghost use Rattle.wt_tiles.specs.Cutting.{rest_pieces, IsEdgeIn};
+
+use std::alloc::Global;
+use wt_lines::item_count;
+use wt_span::{List, NoMemory, Piece};
+use wt_tiles::{Rest, take_items};
+
+/// How many items the pieces hold. More than a machine word counts are answered as want of memory.
+fn items_len(pieces: &[Piece<'_>]) -> Result<usize, NoMemory>
+    ensures { IfOk result (λ n. n ≡ length (items pieces.now)) }
+{
+    let mut len: usize = 0;
+    for piece in pieces {
+        len = len.checked_add(item_count(piece)).ok_or(NoMemory)?;
+    }
+    Ok(len)
+}
+
+/// Takes n items from the front; none need no cut.
+fn take_some<'p, 'a>(
+    alloc: Global,
+    pieces: Rest<'p, 'a>,
+    n: usize,
+) -> Result<(List<Piece<'a>>, Rest<'p, 'a>), NoMemory>
+    requires sound { All IsSoundPiece (rest_pieces pieces) }
+    requires edge { 0 < n → IsEdgeIn (items (rest_pieces pieces)) n }
+    ensures front { IfOk result (λ r. items r.0 ≡ take n (items (rest_pieces pieces.entry))) }
+    ensures back { IfOk result (λ r. items (rest_pieces r.1) ≡ drop n (items (rest_pieces pieces.entry))) }
+    ensures sound_front { IfOk result (λ r. All IsSoundPiece r.0) }
+    ensures sound_back { IfOk result (λ r. All IsSoundPiece (rest_pieces r.1)) }
+{
+    if n == 0 {
+        return Ok((List::new(alloc), pieces));
+    }
+    take_items(alloc, pieces, n)
+}
+
+/// The first n items of pieces, and those behind them. No character may lie on both sides of the
+/// cut.
+pub fn cut<'a>(
+    alloc: Global,
+    pieces: &[Piece<'a>],
+    n: usize,
+) -> Result<(List<Piece<'a>>, List<Piece<'a>>), NoMemory>
+    requires sound { All IsSoundPiece pieces.now }
+    requires within { n ≤ length (items pieces.now) }
+    requires edge { 0 < n → IsEdgeIn (items pieces.now) n }
+    ensures front { IfOk result (λ r. items r.0 ≡ take n (items pieces.now)) }
+    ensures back { IfOk result (λ r. items r.1 ≡ drop n (items pieces.now)) }
+    ensures sound_front { IfOk result (λ r. All IsSoundPiece r.0) }
+    ensures sound_back { IfOk result (λ r. All IsSoundPiece r.1) }
+{
+    let len = items_len(pieces)?;
+    let (front, rest) = take_some(alloc, Rest::of(pieces), n)?;
+    let (back, _) = take_some(alloc, rest, len - n)?;
+    Ok((front, back))
+}

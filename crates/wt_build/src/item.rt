@@ -1,0 +1,163 @@
+//! The innermost item that a line of a list begins.
+
+ghost use Rattle.std.specs.Prelude.{◌≡◌, ◌∷◌, Some, All, IfOk};
+ghost use Rattle.wt_span.specs.Items.{items};
+ghost use Rattle.wt_span.specs.Origins.{IsSoundPiece};
+ghost use Rattle.wt_inline.specs.View.{head_of, item_tree};
+ghost use Rattle.wt_context.specs.Line.{line_parts};
+ghost use Rattle.wt_body.specs.Lists.{item_opening_len, item_kind, item_by, term_len, term, line_item};
+ghost use Rattle.wt_body.specs.Stretches.{block, opened_by};
+ghost use Rattle.wt_build.specs.Views.{row_view, stretches_view};
+
+use crate::colon::term_len;
+use crate::cut::cut;
+use crate::prefix::{prefix_of, with_blanks};
+use crate::row::{RowAt, between};
+use crate::stretch::{StretchAt, opened_by};
+use std::alloc::Global;
+use wt_context::{line_children, with_line};
+use wt_inline::{Children, NodeHead, PieceTree};
+use wt_span::{List, NoMemory, Piece};
+use wt_tree::Kind;
+
+/// What an item is by its sign.
+pub fn item_kind(sign: char) -> Kind
+    ensures { result ≡ item_kind sign }
+{
+    match sign {
+        ';' => Kind::Dt,
+        ':' => Kind::Dd,
+        _ => Kind::Li,
+    }
+}
+
+/// A stretch before others.
+pub fn before<'a>(
+    alloc: Global,
+    stretch: StretchAt<'a>,
+    others: List<StretchAt<'a>>,
+) -> Result<List<StretchAt<'a>>, NoMemory>
+    ensures { IfOk result (λ l. l ≡ stretch.entry ∷ others.entry) }
+{
+    let mut others = others.into_vec();
+    let mut out = Vec::with_capacity(alloc, others.len() + 1)?;
+    out.push(stretch)?;
+    out.append(&mut others)?;
+    Ok(List::from_vec(out))
+}
+
+/// A node with an open delimiter that holds what stands on a line, or is left of it, and then
+/// stretches up to the last node.
+pub fn opened_line<'a>(
+    alloc: Global,
+    head: NodeHead,
+    opening: List<Piece<'a>>,
+    line: &[Piece<'a>],
+    pieces: &[Piece<'a>],
+    after: List<StretchAt<'a>>,
+) -> Result<List<StretchAt<'a>>, NoMemory>
+    requires { All IsSoundPiece line.now }
+    ensures { IfOk result (λ l. stretches_view pieces.now l ≡ opened_by (head_of head) (items opening.entry) (block (line_parts (items line.now)) ∷ stretches_view pieces.now after.entry)) }
+{
+    let children = with_line(alloc, Children::new(alloc), line)?;
+    opened_by(alloc, head, opening, children, pieces, after)
+}
+
+/// How many items the open delimiter of an item has: the prefix of its line, and the blanks behind.
+fn item_opening_len(alloc: Global, line: &[Piece<'_>]) -> Result<usize, NoMemory>
+    ensures { IfOk result (λ n. n ≡ item_opening_len (items line.now)) }
+{
+    let prefix = prefix_of(alloc, line)?;
+    with_blanks(line, prefix.as_str().len())
+}
+
+/// A term, which ends at its `:`.
+#[tactic(auto, unfolding(wt_context::specs::Line::line_trees))]
+fn term<'a>(
+    alloc: Global,
+    opening: List<Piece<'a>>,
+    line: &[Piece<'a>],
+) -> Result<PieceTree<'a>, NoMemory>
+    requires { All IsSoundPiece line.now }
+    ensures { IfOk result (λ t. item_tree t ≡ term (items opening.entry) (items line.now)) }
+{
+    let children = line_children(alloc, line)?;
+    Ok(PieceTree {
+        head: NodeHead::plain(alloc, Kind::Dt),
+        opening,
+        children,
+        closing: List::new(alloc),
+    })
+}
+
+/// A term and the definition behind it, which holds what follows.
+fn term_and_definition<'a>(
+    alloc: Global,
+    n: usize,
+    opening: List<Piece<'a>>,
+    line: &[Piece<'a>],
+    pieces: &[Piece<'a>],
+    after: List<StretchAt<'a>>,
+) -> Result<List<StretchAt<'a>>, NoMemory>
+    requires sound { All IsSoundPiece line.now }
+    requires colon { term_len 59 (items line.now) ≡ Some n }
+    ensures { IfOk result (λ l. stretches_view pieces.now l ≡ item_by 59 (Some n) (items opening.entry) (items line.now) (stretches_view pieces.now after.entry)) }
+{
+    let (front, rest) = cut(alloc, line, n)?;
+    let term = term(alloc, opening, front.as_slice())?;
+    let behind = rest.as_slice();
+    let len = with_blanks(behind, 1)?;
+    let (colon, content) = cut(alloc, behind, len)?;
+    let head = NodeHead::plain(alloc, Kind::Dd);
+    let definition = opened_line(alloc, head, colon, content.as_slice(), pieces, after)?;
+    before(alloc, StretchAt::Tree(term), definition)
+}
+
+/// An item with what stands on its line behind the open delimiter, and with what follows in it.
+fn item_by<'a>(
+    alloc: Global,
+    sign: char,
+    opening: List<Piece<'a>>,
+    line: &[Piece<'a>],
+    pieces: &[Piece<'a>],
+    after: List<StretchAt<'a>>,
+) -> Result<List<StretchAt<'a>>, NoMemory>
+    requires { All IsSoundPiece line.now }
+    ensures { IfOk result (λ l. stretches_view pieces.now l ≡ item_by sign (term_len sign (items line.now)) (items opening.entry) (items line.now) (stretches_view pieces.now after.entry)) }
+{
+    match term_len(alloc, sign, line)? {
+        None => {
+            let head = NodeHead::plain(alloc, item_kind(sign));
+            opened_line(alloc, head, opening, line, pieces, after)
+        }
+        Some(n) => term_and_definition(alloc, n, opening, line, pieces, after),
+    }
+}
+
+/// The innermost item that a line begins, with these lists in it.
+#[tactic(auto, unfolding(wt_body::specs::Lists::line_item))]
+pub fn line_item<'a>(
+    alloc: Global,
+    pieces: &[Piece<'a>],
+    row: RowAt,
+    sign: char,
+    inside: List<StretchAt<'a>>,
+) -> Result<List<StretchAt<'a>>, NoMemory>
+    requires { All IsSoundPiece pieces.now }
+    ensures { IfOk result (λ l. stretches_view pieces.now l ≡ line_item sign (row_view pieces.now row) (stretches_view pieces.now inside.entry)) }
+{
+    let line = between(pieces, row.from, row.to);
+    let n = item_opening_len(alloc, line)?;
+    let (opening, rest) = cut(alloc, line, n)?;
+    let ending = StretchAt::Gap {
+        from: row.to,
+        to: row.end,
+    };
+    let after = before(alloc, ending, inside)?;
+    let item = item_by(alloc, sign, opening, rest.as_slice(), pieces, after)?;
+    let lead = StretchAt::Gap {
+        from: row.start,
+        to: row.from,
+    };
+    before(alloc, lead, item)
+}
