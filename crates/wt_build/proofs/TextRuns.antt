@@ -1,12 +1,11 @@
 -- Blocks of text grow by their lines.
-use Rattle.std.proofs.Common.{◌≡◌, ◌<◌, ◌≤◌, ℕ, zero, suc, ◌+◌, ◌-◌, None, List, [], ◌∷◌, ◌++◌, length, take, drop, get_or, refl, sym, ap, ◌∙◌, subst, arith, append_assoc, append-nil, length-drop}
-use Rattle.std.specs.Prelude.{All, codes, true}
-use Rattle.std.proofs.lemmas.List.{drop_all, drop_more, length-map}
-use Rattle.std.proofs.lemmas.List.Elements.{All-head, All-tail, All-drop, All-take}
+use Rattle.std.proofs.Common.{◌≡◌, ◌<◌, ℕ, zero, suc, ◌+◌, ◌-◌, None, List, [], ◌∷◌, ◌++◌, length, take, drop, get_or, refl, sym, ap, ◌∙◌, subst, arith, append_assoc, append-nil, length-drop}
+use Rattle.std.specs.Prelude.{codes, true}
+use Rattle.std.proofs.lemmas.List.{drop_more}
+use Rattle.std.proofs.lemmas.List.Elements.{All-head, All-tail}
 use Rattle.wt_span.specs.Bytes.{begins}
 use Rattle.wt_span.specs.declared.form.Piece.{Piece}
 use Rattle.wt_span.specs.Items.{Item, items}
-use Rattle.wt_span.specs.Origins.{IsSoundPiece}
 use Rattle.wt_lines.specs.declared.kind.LineKind.{LineKind}
 use Rattle.wt_lines.specs.declared.kind.LineKind.TheVariants as line
 use Rattle.wt_tree.specs.declared.kind.Kind.TheVariants as kind

@@ -1,6 +1,6 @@
 use Rattle.std.proofs.Common.{List, sym, subst}
 use Rattle.std.proofs.lemmas.Result.{IfOk-weaker}
-use Rattle.wt_span.specs.Items.{Item, items}
+use Rattle.wt_span.specs.Items.{Item}
 use Rattle.wt_inline.specs.declared.loose.Loose.TheVariants.{Text}
 use Rattle.wt_inline.specs.Parts.{parts}
 use Rattle.wt_inline.specs.Grown.{growth, Grows}
