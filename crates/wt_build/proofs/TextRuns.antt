@@ -1,8 +1,7 @@
 -- Blocks of text grow by their lines.
-use Rattle.std.proofs.Common.{◌≡◌, ◌<◌, ℕ, zero, suc, ◌+◌, ◌-◌, None, List, [], ◌∷◌, ◌++◌, length, take, drop, get_or, refl, sym, ap, ◌∙◌, subst, arith, append_assoc, append-nil, length-drop}
+use Rattle.std.proofs.Common.{◌≡◌, ◌<◌, ℕ, zero, suc, ◌+◌, ◌-◌, List, [], ◌∷◌, ◌++◌, length, take, drop, get_or, refl, sym, ap, ◌∙◌, subst, arith, append_assoc, length-drop}
 use Rattle.std.specs.Prelude.{codes, true}
 use Rattle.std.proofs.lemmas.List.{drop_more}
-use Rattle.std.proofs.lemmas.List.Elements.{All-head, All-tail}
 use Rattle.wt_span.specs.Bytes.{begins}
 use Rattle.wt_span.specs.declared.form.Piece.{Piece}
 use Rattle.wt_span.specs.Items.{Item, items}
@@ -21,18 +20,8 @@ use Rattle.wt_body.specs.Rows.{Row, signs}
 use Rattle.wt_body.specs.Texts.{para, pre}
 use Rattle.wt_build.specs.Views.{row_view, rows_view, IsRest}
 use Rattle.wt_build.specs.Ready.{Begins, IsReadyRow, AreInOrder}
-use Rattle.wt_build.specs.Blocks.{later_of, IsOf, AreOf, later_from}
+use Rattle.wt_build.specs.Blocks.{later_of, later_from}
 use Rattle.wt_build.proofs.Growing.{rest_step}
-
-pub row_ready : (ps : List Piece) (rs : List RowAt) (i : ℕ) (r : RowAt) → AreInOrder ps rs → i < length rs → r ≡ get_or rs i r → IsReadyRow ps r
-row_ready ps [] i r h l e = absurd (omega arith)
-row_ready ps (s ∷ rs) zero r h l e = subst (IsReadyRow ps) (sym e) h.0
-row_ready ps (s ∷ rs) (suc i) r h l e = row_ready ps rs i r h.2 (omega arith) e
-
-pub row_of_kind : (k : TextKind) (rs : List RowAt) (i : ℕ) (r : RowAt) → AreOf k rs → i < length rs → r ≡ get_or rs i r → IsOf k r
-row_of_kind k [] i r h l e = absurd (omega arith)
-row_of_kind k (s ∷ rs) zero r h l e = subst (IsOf k) (sym e) (All-head (IsOf k) s rs h)
-row_of_kind k (s ∷ rs) (suc i) r h l e = row_of_kind k rs i r (All-tail (IsOf k) s rs h) (omega arith) e
 
 pub pre_begins : (ps : List Piece) (r : RowAt) → IsReadyRow ps r → r.kind ≡ line.Pre → begins (codes " ") (signs (row_view ps r).items) ≡ true
 pre_begins ps r h e = subst (λ (k : LineKind). Begins k (signs (row_view ps r).items)) e h.begins
@@ -73,11 +62,6 @@ pub later_done : (k : TextKind) (ps : List Piece) (rs : List RowAt) (at : ℕ) (
     → IsRest g all h (later_from k (rows_view ps (drop (at - 1) rs))) → Grows g all h
 later_done k ps rs at g h all pos e rest qs =
     ap (λ xs. made h (xs ++ qs)) (sym (one_left k ps (drop (at - 1) rs) (omega (arith, length-drop (at - 1) rs)))) ∙ rest qs
-
-pub text_done : (first later : List Part) (f g h : Grown) (ts : List ItemTree) → f ≡ record { trees = []; run = None } → Grows f first g → Grows g later h
-    → ts ≡ made h [] → ts ≡ children (first ++ later)
-text_done first later f g h ts e p q d =
-    d ∙ q [] ∙ p (later ++ []) ∙ ap (λ xs. made f (first ++ xs)) (append-nil later) ∙ ap (λ k. made k (first ++ later)) e
 
 pub para_is : (ps : List Piece) (rs : List RowAt) (r : RowAt) (xs : List Item) (ts : List ItemTree) → 0 < length rs → r ≡ get_or rs 0 r
     → xs ≡ (row_view ps r).items → ts ≡ children (line_parts xs ++ later_from text.Para (rows_view ps rs))
