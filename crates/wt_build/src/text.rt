@@ -113,7 +113,8 @@ fn with_next<'a>(
     requires sound { All IsSoundPiece pieces.now }
     requires ready { IsReadyRow pieces.now row.now }
     requires kind { IsOf kind row.now }
-    ensures { IfOk result (λ c. Grows (growth children.entry) (parts Text (row_view pieces.now before.now).ending ++ later_of kind (row_view pieces.now row.now)) (growth c)) }
+    ensures { IfOk result (λ c. Grows (growth children.entry)
+        (parts Text (row_view pieces.now before.now).ending ++ later_of kind (row_view pieces.now row.now)) (growth c)) }
 {
     let children = children.with_pieces(alloc, Loose::Text, before.ending(pieces))?;
     match kind {

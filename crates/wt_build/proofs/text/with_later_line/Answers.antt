@@ -17,5 +17,6 @@ with_content-requires c =
 pub returns : goal.returns
 returns c =
     let row = c.args.row.now in
-    let same = ap line_parts (whole_line c.args.pieces.now c.between.result.now row.start row.from row.to c.requires.order.lead c.requires.order.items c.between.ensures) in
+    let whole = whole_line c.args.pieces.now c.between.result.now row.start row.from row.to c.requires.order.lead c.requires.order.items c.between.ensures in
+    let same = ap line_parts whole in
     IfOk-weaker c.with_content.result _ _ (λ d e. subst (λ (ps : List Part). Grows (growth c.args.children) ps (growth d)) same e) c.with_content.ensures
