@@ -1,10 +1,9 @@
 -- What blocks give.
-use Rattle.std.proofs.Common.{◌≡◌, ◌<◌, ◌≤◌, ◌⊎◌, inl, inr, ℕ, zero, suc, ◌+◌, ◌-◌, ◌^◌, Bool, true, false, List, [], ◌∷◌, ◌++◌, length, take, drop, map, get_or, refl, sym, ap, ◌∙◌, subst, arith, append_assoc, append-nil, length-append, length-drop}
-use Rattle.std.specs.Prelude.{All}
+use Rattle.std.proofs.Common.{◌≡◌, ◌<◌, ◌≤◌, ◌⊎◌, inl, inr, ℕ, zero, suc, ◌+◌, ◌-◌, true, List, [], ◌∷◌, ◌++◌, length, take, drop, get_or, refl, sym, ap, ◌∙◌, subst, arith, append_assoc, append-nil, length-append, length-drop}
 use Rattle.std.proofs.lemmas.List.{drop-drop, map-append, take_more}
 use Rattle.std.proofs.lemmas.Grind.{flat_map-append}
 use Rattle.wt_span.specs.declared.form.Piece.{Piece}
-use Rattle.wt_span.specs.Items.{Item, items, items_of, source, sources, call_of_origin}
+use Rattle.wt_span.specs.Items.{items, items_of, source, sources, call_of_origin}
 use Rattle.wt_span.specs.Slice.{bytes_of}
 use Rattle.wt_context.proofs.Texts.{source_by}
 use Rattle.wt_lines.specs.declared.kind.LineKind.{LineKind}
@@ -14,21 +13,21 @@ use Rattle.wt_inline.specs.ItemTree.{ItemTree}
 use Rattle.wt_build.specs.declared.row.RowAt.{RowAt}
 use Rattle.wt_build.specs.declared.stretch.StretchAt.{StretchAt}
 use Rattle.wt_body.specs.Rows.{Row, kind_of, first_lead, last_ending, row_items}
-use Rattle.wt_body.specs.Stretches.{Stretch, gap, tree_block}
-use Rattle.wt_headings.specs.Headings.{heading}
+use Rattle.wt_body.specs.Stretches.{gap, tree_block}
 use Rattle.wt_body.specs.Lists.{lists}
-use Rattle.wt_body.specs.Texts.{with_separators, para, pre, rule}
-use Rattle.wt_body.specs.Tables.{Reading, gaps, first_items, table}
+use Rattle.wt_body.specs.Texts.{with_separators}
+use Rattle.wt_body.specs.Tables.{Reading, gaps, table}
 use Rattle.wt_body.specs.Body.{block_stretches, blocks_by, within}
 use Rattle.wt_build.specs.Views.{slice, row_view, rows_view, stretch_view, stretches_view}
 use Rattle.wt_build.specs.Units.{kind_at}
-use Rattle.wt_build.specs.Ready.{IsReadyRow, BeginAt, AreInOrder, AreReadyRows, reading_at}
+use Rattle.wt_build.specs.Ready.{IsReadyRow, AreInOrder, AreReadyRows, reading_at}
 use Rattle.wt_build.specs.Blocks.{run_of, IsBlockLen, is_lone, AreOneBlock, block_node, IsBetween, IsNodeKind}
 use Rattle.wt_build.proofs.LaterLines.{slices_join}
 
 -- ---- a node between separators
 
-last_is : (ps : List Piece) (rs : List RowAt) (n : ℕ) (r : RowAt) → length rs ≡ suc n → r ≡ get_or rs n r → last_ending (rows_view ps rs) ≡ (row_view ps r).ending
+last_is : (ps : List Piece) (rs : List RowAt) (n : ℕ) (r : RowAt) → length rs ≡ suc n → r ≡ get_or rs n r
+    → last_ending (rows_view ps rs) ≡ (row_view ps r).ending
 last_is ps [] n r l e = absurd (omega arith)
 last_is ps (q ∷ []) zero r l e = ap (λ (t : RowAt). (row_view ps t).ending) (sym e)
 last_is ps (q ∷ []) (suc n) r l e = absurd (omega arith)
@@ -38,11 +37,6 @@ last_is ps (q ∷ p ∷ qs) (suc n) r l e = last_is ps (p ∷ qs) n r (omega ari
 first_is : (ps : List Piece) (rs : List RowAt) (r : RowAt) → 0 < length rs → r ≡ get_or rs 0 r → first_lead (rows_view ps rs) ≡ (row_view ps r).lead
 first_is ps [] r l e = absurd (omega arith)
 first_is ps (q ∷ qs) r l e = ap (λ (t : RowAt). (row_view ps t).lead) (sym e)
-
-pub items_are : (ps : List Piece) (rs : List RowAt) (r : RowAt) (xs : List Item) → 0 < length rs → r ≡ get_or rs 0 r → xs ≡ (row_view ps r).items
-    → first_items (rows_view ps rs) ≡ xs
-items_are ps [] r xs l e f = absurd (omega arith)
-items_are ps (q ∷ qs) r xs l e f = ap (λ (t : RowAt). (row_view ps t).items) (sym e) ∙ sym f
 
 pub between_is : (ps : List Piece) (rs : List RowAt) (first last : RowAt) (t u : ItemTree) (ss : List StretchAt) → 0 < length rs
     → first ≡ get_or rs 0 first → last ≡ get_or rs (length rs - 1) last → IsBetween t first last ss → t ≡ u
@@ -190,81 +184,11 @@ bytes_more ps i p n m l e en em =
     ∙ length-append (sources (items front)) (sources (items (p ∷ []))) in
     omega (arith, en, em, own, all)
 
--- ---- the node of a block
-
-pub heading_node : (ps : List Piece) (rs : List RowAt) (r : RowAt) (xs : List Item) (k : LineKind) → 0 < length rs → r ≡ get_or rs 0 r
-    → xs ≡ (row_view ps r).items → k ≡ line.Heading → heading xs ≡ block_node k (rows_view ps rs)
-heading_node ps rs r xs k s e f ek = ap heading (sym (items_are ps rs r xs s e f)) ∙ ap (λ j. block_node j (rows_view ps rs)) (sym ek)
-
-pub rule_node : (ps : List Piece) (rs : List RowAt) (r : RowAt) (xs : List Item) (k : LineKind) → 0 < length rs → r ≡ get_or rs 0 r
-    → xs ≡ (row_view ps r).items → k ≡ line.Rule → rule xs ≡ block_node k (rows_view ps rs)
-rule_node ps rs r xs k s e f ek = ap rule (sym (items_are ps rs r xs s e f)) ∙ ap (λ j. block_node j (rows_view ps rs)) (sym ek)
-
-pub pre_node : (vs : List Row) (k : LineKind) → k ≡ line.Pre → pre vs ≡ block_node k vs
-pre_node vs k e = ap (λ j. block_node j vs) (sym e)
-
-abbrev IsPara : LineKind → Type 0
-IsPara line.Blank = Unit {0}
-IsPara line.TableOpen = Unit {0}
-IsPara line.TableEnd = Unit {0}
-IsPara line.Caption = Unit {0}
-IsPara line.Row = Unit {0}
-IsPara line.Cell = Unit {0}
-IsPara line.Header = Unit {0}
-IsPara line.Heading = ⊥
-IsPara line.Rule = ⊥
-IsPara line.List = Unit {0}
-IsPara line.Pre = ⊥
-IsPara line.Text = Unit {0}
-
-pub is_para : (k : LineKind)
-    → (k ≡ line.Blank) ⊎ (k ≡ line.TableOpen) ⊎ (k ≡ line.TableEnd) ⊎ (k ≡ line.Caption) ⊎ (k ≡ line.Row) ⊎ (k ≡ line.Cell) ⊎ (k ≡ line.Header) ⊎ (k ≡ line.List) ⊎ (k ≡ line.Text) → IsPara k
-is_para k s = elim s [
-  | inl a ↦ subst IsPara (sym a) tt
-  | inr h0 ↦ elim h0 [
-    | inl a ↦ subst IsPara (sym a) tt
-    | inr h1 ↦ elim h1 [
-      | inl a ↦ subst IsPara (sym a) tt
-      | inr h2 ↦ elim h2 [
-        | inl a ↦ subst IsPara (sym a) tt
-        | inr h3 ↦ elim h3 [
-          | inl a ↦ subst IsPara (sym a) tt
-          | inr h4 ↦ elim h4 [
-            | inl a ↦ subst IsPara (sym a) tt
-            | inr h5 ↦ elim h5 [
-              | inl a ↦ subst IsPara (sym a) tt
-              | inr h6 ↦ elim h6 [
-                | inl a ↦ subst IsPara (sym a) tt
-                | inr h7 ↦ subst IsPara (sym h7) tt
-              ]
-            ]
-          ]
-        ]
-      ]
-    ]
-  ]
-]
-
-para_by : (vs : List Row) (k : LineKind) → IsPara k → para vs ≡ block_node k vs
-para_by vs line.Blank i = refl
-para_by vs line.TableOpen i = refl
-para_by vs line.TableEnd i = refl
-para_by vs line.Caption i = refl
-para_by vs line.Row i = refl
-para_by vs line.Cell i = refl
-para_by vs line.Header i = refl
-para_by vs line.Heading i = absurd i
-para_by vs line.Rule i = absurd i
-para_by vs line.List i = refl
-para_by vs line.Pre i = absurd i
-para_by vs line.Text i = refl
-
-pub para_node : (vs : List Row) (k : LineKind)
-    → (k ≡ line.Blank) ⊎ (k ≡ line.TableOpen) ⊎ (k ≡ line.TableEnd) ⊎ (k ≡ line.Caption) ⊎ (k ≡ line.Row) ⊎ (k ≡ line.Cell) ⊎ (k ≡ line.Header) ⊎ (k ≡ line.List) ⊎ (k ≡ line.Text) → para vs ≡ block_node k vs
-para_node vs k s = para_by vs k (is_para k s)
+-- ---- kinds
 
 pub node_kind : (k : LineKind)
-    → (k ≡ line.TableEnd) ⊎ (k ≡ line.Caption) ⊎ (k ≡ line.Row) ⊎ (k ≡ line.Cell) ⊎ (k ≡ line.Header) ⊎ (k ≡ line.Heading) ⊎ (k ≡ line.Rule) ⊎ (k ≡ line.Pre) ⊎ (k ≡ line.Text) → IsNodeKind k
+    → (k ≡ line.TableEnd) ⊎ (k ≡ line.Caption) ⊎ (k ≡ line.Row) ⊎ (k ≡ line.Cell) ⊎ (k ≡ line.Header)
+    ⊎ (k ≡ line.Heading) ⊎ (k ≡ line.Rule) ⊎ (k ≡ line.Pre) ⊎ (k ≡ line.Text) → IsNodeKind k
 node_kind k s = elim s [
   | inl a ↦ subst IsNodeKind (sym a) tt
   | inr h0 ↦ elim h0 [

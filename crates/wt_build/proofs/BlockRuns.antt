@@ -121,7 +121,8 @@ units_behind zero (r ∷ rs) = refl
 units_behind (suc n) (r ∷ rs) = ap (put_first r) (units_behind n rs)
 
 units_more : (r : Row) (rs : List Row)
-    → units kind_of (r ∷ rs) ≡ (r ∷ take (taken_len r.kind (inner_len (map kind_of rs))) rs) ∷ units kind_of (drop (taken_len r.kind (inner_len (map kind_of rs))) rs)
+    → units kind_of (r ∷ rs)
+    ≡ (r ∷ take (taken_len r.kind (inner_len (map kind_of rs))) rs) ∷ units kind_of (drop (taken_len r.kind (inner_len (map kind_of rs))) rs)
 units_more r rs = ap (put_first r) (units_behind (taken_len r.kind (inner_len (map kind_of rs))) rs)
 
 unit_one : (r : Row) (rs : List Row) → is_open r.kind ≡ false → units kind_of (r ∷ rs) ≡ (r ∷ []) ∷ units kind_of rs
@@ -276,7 +277,8 @@ pub record IsBlock (rs : List RowAt) (n : ℕ) : Type 0 where
   pub cut : IsBlockLen rs n
   pub block : AreOneBlock (unit_kind kind_at rs) (take n rs)
 
-pub table_first : (rs : List RowAt) (r : RowAt) (n : ℕ) → 0 < length rs → r ≡ get_or rs 0 r → is_open r.kind ≡ true → n ≡ unit_len (map kind_at rs) → IsBlock rs n
+pub table_first : (rs : List RowAt) (r : RowAt) (n : ℕ) → 0 < length rs → r ≡ get_or rs 0 r → is_open r.kind ≡ true
+    → n ≡ unit_len (map kind_at rs) → IsBlock rs n
 table_first [] r n s e h z = absurd (omega arith)
 table_first (q ∷ qs) r n s e h z =
     let m = taken_len q.kind (inner_len (map kind_at qs)) in
