@@ -123,6 +123,11 @@ block_front [] front r n s e f h = absurd (omega arith)
 block_front (q ∷ qs) front r n s e f h =
     subst (λ (k : LineKind). AreOneBlock k front) (ap (λ (t : RowAt). t.kind) (sym e)) (subst (AreOneBlock q.kind) (sym f) h)
 
+pub front_block : (rest front : List RowAt) (d : RowAt) (n : ℕ) → 0 < length rest → front ≡ take n rest
+    → AreOneBlock (unit_kind kind_at rest) (take n rest) → AreOneBlock (get_or rest 0 d).kind front
+front_block [] front d n s f h = absurd (omega arith)
+front_block (q ∷ qs) front d n s f h = subst (AreOneBlock q.kind) (sym f) h
+
 kind_viewed : (ps : List Piece) (rs : List RowAt) → unit_kind kind_of (rows_view ps rs) ≡ unit_kind kind_at rs
 kind_viewed ps [] = refl
 kind_viewed ps (r ∷ rs) = refl

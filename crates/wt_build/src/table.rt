@@ -1,6 +1,6 @@
 //! Tables, by groups of their rows, whose cells are read as blocks.
 
-ghost use Rattle.std.specs.Prelude.{◌≡◌, ◌<◌, true, take, drop, length, IfOk};
+ghost use Rattle.std.specs.Prelude.{◌≡◌, ◌<◌, true, false, take, drop, length, IfOk};
 ghost use Rattle.std.specs.List.{flat_map};
 ghost use Rattle.wt_tables.specs.Extents.{is_open};
 ghost use Rattle.wt_tables.specs.Parts.{unit_kind};

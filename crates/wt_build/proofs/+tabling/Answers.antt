@@ -16,7 +16,7 @@ use Rattle.wt_build.proofs.TableWhole.{table_whole}
 use Rattle.wt_build.proofs.+tabling.Goals as goal
 use Rattle.std.proofs.Common.{◌<◌, ◌≤◌, ◌+◌, length, arith}
 use Rattle.std.proofs.lemmas.List.{drop_all}
-use Rattle.wt_build.proofs.BlockNodes.{some_left, within_left, ready_drop, ready_take, block_front, blocks_step, blocks_done}
+use Rattle.wt_build.proofs.BlockNodes.{some_left, within_left, ready_drop, ready_take, front_block, blocks_step, blocks_done}
 use Rattle.wt_build.specs.Ready.{reading_at}
 
 pub table::cell_stretches-returns-then-is_empty : goal.table::cell_stretches-returns-then-is_empty
@@ -136,24 +136,50 @@ table::table-inside-requires t c =
     )
 
 pub block::block-returns-in-TableEnd : goal.block::block-returns-in-TableEnd
-block::block-returns-in-TableEnd c = c.node_block.ensures (reading_at c.args.depth)
+block::block-returns-in-TableEnd t c = c.node_block.ensures (reading_at c.args.depth)
 
 pub block::blocks-block_len-n-requires : goal.block::blocks-block_len-n-requires
-block::blocks-block_len-n-requires c = some_left c.args.rows.now c.rest_of-rest.result.now c.loop-at.at c.loop-at-test.true c.rest_of-rest.ensures
+block::blocks-block_len-n-requires t c =
+    some_left c.args.rows.now c.rest_of-rest.result.now c.loop-at.at c.loop-at-test.true c.rest_of-rest.ensures
 
-pub block::blocks-block-made-requires : goal.block::blocks-block-made-requires
-block::blocks-block-made-requires c =
-    let some = some_left c.args.rows.now c.rest_of-rest.result.now c.loop-at.at c.loop-at-test.true c.rest_of-rest.ensures in
-    record {
-      ready = ready_take c.args.pieces.now c.rest_of-rest.result.now c.front_of.result.now c.block_len-n.result
-          (ready_drop c.args.pieces.now c.args.rows.now c.rest_of-rest.result.now c.loop-at.at c.requires c.rest_of-rest.ensures) c.front_of.ensures;
-      block = block_front c.rest_of-rest.result.now c.front_of.result.now c.index-rest.result c.block_len-n.result some c.index-rest.is
-          c.front_of.ensures c.block_len-n.ensures.block;
-    }
+pub block::blocks-block-requires : goal.block::blocks-block-requires
+block::blocks-block-requires t c =
+    let some = some_left c.args.rows.now c.rest_of-rest.result.now c.loop-at.at c.loop-at-test.true c.rest_of-rest.ensures in (
+      omega arith,
+      (
+        ready_take c.args.pieces.now c.rest_of-rest.result.now c.front_of.result.now c.block_len-n.result
+            (ready_drop c.args.pieces.now c.args.rows.now c.rest_of-rest.result.now c.loop-at.at c.requires c.rest_of-rest.ensures) c.front_of.ensures,
+        front_block c.rest_of-rest.result.now c.front_of.result.now _ c.block_len-n.result some c.front_of.ensures c.block_len-n.ensures.block,
+      ),
+    )
 
 pub block::blocks-loop-at-smaller : goal.block::blocks-loop-at-smaller
-block::blocks-loop-at-smaller c =
+block::blocks-loop-at-smaller t c =
     let n : 0 < c.block_len-n.result = c.block_len-n.ensures.some in
     let w : c.loop-at.at + c.block_len-n.result ≤ length c.args.rows.now = within_left c.args.rows.now c.rest_of-rest.result.now
     c.loop-at.at c.block_len-n.result c.loop-at-test.true c.rest_of-rest.ensures c.block_len-n.ensures.within in
     omega (arith, n, w)
+
+pub block::blocks-loop-at-preserved : goal.block::blocks-loop-at-preserved
+block::blocks-loop-at-preserved t c =
+    let ps = c.args.pieces.now in
+    let rows = c.args.rows.now in
+    let rest = c.rest_of-rest.result.now in
+    let front = c.front_of.result.now in
+    let at = c.loop-at.at in
+    let n = c.block_len-n.result in
+    let some = some_left rows rest at c.loop-at-test.true c.rest_of-rest.ensures in
+    record {
+      within = within_left rows rest at n c.loop-at-test.true c.rest_of-rest.ensures c.block_len-n.ensures.within;
+      so_far = blocks_step c.args.depth ps rows rest front at n _ c.loop-at.out.items c.into_vec.result.items c.append.new.self.items
+          c.rest_of-rest.ensures c.front_of.ensures c.block_len-n.ensures.cut
+          (front_block rest front _ n some c.front_of.ensures c.block_len-n.ensures.block)
+          (ap (stretches_view ps) c.into_vec.ensures ∙ c.in_ok-made.ensures) c.in_ok-append.ensures.items c.loop-at.invariant.so_far;
+    }
+
+pub block::blocks-returns : goal.block::blocks-returns
+block::blocks-returns t c =
+    let ps = c.args.pieces.now in
+    let rows = c.args.rows.now in
+    let none = drop_all c.loop-at.at rows c.loop-at-test.false in
+    ap (stretches_view ps) c.from_vec.ensures ∙ blocks_done c.args.depth ps rows _ c.loop-at.out.items none c.loop-at.invariant.so_far
