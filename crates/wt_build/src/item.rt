@@ -15,7 +15,8 @@ use crate::prefix::{prefix_of, with_blanks};
 use crate::row::{RowAt, between};
 use crate::stretch::{StretchAt, opened_by};
 use std::alloc::Global;
-use wt_context::{line_children, with_line};
+use wt_context::line_children;
+use wt_headings::with_content;
 use wt_inline::{Children, NodeHead, PieceTree};
 use wt_span::{List, NoMemory, Piece};
 use wt_tree::Kind;
@@ -59,7 +60,7 @@ pub fn opened_line<'a>(
     requires { All IsSoundPiece line.now }
     ensures { IfOk result (λ l. stretches_view pieces.now l ≡ opened_by (head_of head) (items opening.entry) (block (line_parts (items line.now)) ∷ stretches_view pieces.now after.entry)) }
 {
-    let children = with_line(alloc, Children::new(alloc), line)?;
+    let children = with_content(alloc, Children::new(alloc), line)?;
     opened_by(alloc, head, opening, children, pieces, after)
 }
 

@@ -1,11 +1,8 @@
 use Rattle.std.proofs.Common.{◌≡◌, IfOk, ap, ◌∙◌, subst}
 use Rattle.wt_tree.specs.View.{view}
 use Rattle.wt_inline.specs.View.{item_tree}
-use Rattle.wt_page_round_trip.proofs.PageTrees.{tree_is, small_items, small_width, small_numbers}
+use Rattle.wt_page_round_trip.proofs.PageTrees.{tree_is, small_width, small_numbers}
 use Rattle.wt_pagetool.proofs.page.tree_of_items.Goals as goal
-
-pub build-requires : goal.build-requires
-build-requires c = small_items c.args.page.now c.args.items.now.items c.requires.room c.requires.items
 
 pub annotate-requires-clause-bytes : goal.annotate-requires-clause-bytes
 annotate-requires-clause-bytes c =
