@@ -191,6 +191,7 @@ fn are_blank(items: &[Item]) -> bool
     true
 }
 
+/// The characters that a node shows, in UTF-8.
 pub fn shown_text(alloc: Global, node: &Node<'_>) -> Result<String, AllocError>
     ensures { IfOk result (λ s. string_bytes s ≡ shown (view node.now)) }
 {
@@ -343,6 +344,7 @@ fn kept_of_all<'t, 'a>(
     Ok(kept)
 }
 
+/// How many bytes these texts have together.
 pub fn text_len(alloc: Global, texts: &[Text<'_>]) -> Result<usize, AllocError>
     ensures { IfOk result (λ n. n ≡ length (texts_of texts.now)) }
 {
