@@ -1,6 +1,3 @@
-mod SignCases
+pub mod Founds
+pub mod SpelledBack
 mod TreeCases
-pub mod Texts
-pub mod SpellingLaws
-pub mod Nodes
-pub mod Gathering

@@ -14,14 +14,14 @@ use Rattle.wt_tree.specs.declared.kind.TagName.TheVariants as tag
 use Rattle.wt_tree.specs.declared.kind.AttrName.TheVariants as attr
 use Rattle.wt_tree.specs.declared.kind.Mark.TheVariants as mark
 use Rattle.wt_tree.specs.Tree.{Label, Tree, tree, Trees, none, trees}
-use Rattle.wt_escape.specs.declared.side.Place.{Place}
-use Rattle.wt_escape.specs.declared.side.Place.TheVariants.{Paragraph, Heading, Item, Term, Cell, Header}
-use Rattle.wt_escape.specs.Kinds.{shape}
-use Rattle.wt_escape.specs.Kept.{kept_with, transclusion}
-use Rattle.wt_escape.specs.Table.{hazard, line_start_hazard}
-use Rattle.wt_escape.specs.Letters.{is_escaped, reference}
-use Rattle.wt_escape.specs.Guards.{is_start_guard, is_end_guard, is_blank_guard, is_parted, is_between_guard, is_guarded, nowiki}
-use Rattle.wt_escape.specs.Spelling.{inline_spelling, block_spelling, break}
+use Rattle.wt_guards.specs.declared.side.Place.{Place}
+use Rattle.wt_guards.specs.declared.side.Place.TheVariants.{Paragraph, Heading, Item, Term, Cell, Header}
+use Rattle.wt_kept.specs.Kinds.{shape}
+use Rattle.wt_kept.specs.Kept.{kept_with, transclusion}
+use Rattle.wt_guards.specs.Table.{hazard, line_start_hazard}
+use Rattle.wt_guards.specs.Letters.{is_escaped, reference}
+use Rattle.wt_guards.specs.Guards.{is_start_guard, is_end_guard, is_blank_guard, is_parted, is_between_guard, is_guarded, nowiki}
+use Rattle.wt_escape.specs.Spelling.{inline_spelling, block_spelling, break_tag}
 
 abbrev labelled : Kind → ℕ → List ℕ → List ℕ → List ℕ → List ℕ → Label
 labelled k id opening closing own shown = record {
@@ -100,7 +100,7 @@ new_nodes : inline_spelling same (para [])
     (trees (text (codes "y") ∷ [])) ∷ leaf kind.Br 0 [] ∷ inner kind.Bold 0 [] (text (codes "x") ∷ []) [] ∷ []))
     Paragraph ≡ codes "[http://a.b/ y]<br>'''x'''"
 unfolding inline_spelling chars shape kept_with is_guarded is_between_guard is_start_guard is_end_guard is_blank_guard is_parted
-    hazard line_start_hazard nowiki is_escaped reference digits lib.Utf8.encode break
+    hazard line_start_hazard nowiki is_escaped reference digits lib.Utf8.encode break_tag
 new_nodes = refl
 
 -- a changed entity is text, joined with its neighbours

@@ -1,10 +1,2 @@
-pub mod Content
-pub mod Gathered
-pub mod Guards
-pub mod Kept
-pub mod Kinds
-pub mod SpellingLaws
-pub mod Letters
+pub mod OwnContent
 pub mod Spelling
-pub mod Table
-pub mod Views

@@ -1,6 +1,5 @@
 -- The spelling: the signs of the edited content, and what is written for a block.
-use Rattle.std.specs.Prelude.{◌≡◌, ℕ, ◌+◌, ◌-◌, Bool, true, false, ◌||◌, ◌&&◌, ◌==◌, nat_eq, Option, Some, None, List, [], ◌∷◌, ◌++◌, length, if◌then◌else◌, codes, replicate, encode_utf8}
-use Rattle.std.specs.Bool.{Decides}
+use Rattle.std.specs.Prelude.{ℕ, ◌+◌, ◌-◌, Bool, true, false, ◌==◌, Option, Some, None, List, [], ◌∷◌, ◌++◌, length, if◌then◌else◌, codes, replicate, encode_utf8}
 use Rattle.std.specs.Str.{bytes_eq}
 use Rattle.wt_names.specs.declared.namespace.Ns.{Ns}
 use Rattle.wt_names.specs.declared.namespace.Ns.TheVariants as ns
@@ -13,59 +12,21 @@ use Rattle.wt_tree.specs.declared.kind.AttrName.{AttrName}
 use Rattle.wt_tree.specs.declared.kind.AttrName.TheVariants as attr
 use Rattle.wt_tree.specs.Kinds.{order}
 use Rattle.wt_tree.specs.Tree.{Label, Tree, tree, Trees, none, more, label}
-use Rattle.wt_tree.specs.Tiling.{is_group}
-use Rattle.wt_tree.specs.Plain.{plain}
 use Rattle.wt_tree.specs.Source.{flat}
-use Rattle.wt_escape.specs.declared.kinds.Way.{Way}
-use Rattle.wt_escape.specs.declared.kinds.Way.TheVariants as way
-use Rattle.wt_escape.specs.declared.kinds.BlockForm.{BlockForm}
-use Rattle.wt_escape.specs.declared.kinds.BlockForm.TheVariants as form
-use Rattle.wt_escape.specs.declared.role.Role.{Role}
-use Rattle.wt_escape.specs.declared.role.Role.TheVariants as role
-use Rattle.wt_escape.specs.declared.role.Stretch.{Stretch}
-use Rattle.wt_escape.specs.declared.side.Place.{Place}
-use Rattle.wt_escape.specs.declared.side.Place.TheVariants as place
-use Rattle.wt_escape.specs.Kinds.{shape}
-use Rattle.wt_escape.specs.Content.{Thing, Sign, letter, thing, letters}
-use Rattle.wt_escape.specs.Guards.{Setting, nowiki, spelled}
-use Rattle.wt_escape.specs.Kept.{Kept, kept_nodes, kept_with, shown}
-
--- ---- what is known of the page
-
--- The kept nodes of a block, its source, and a test of two nodes.
-pub record Page : Type 0 where
-  pub kept : List Kept
-  pub source : List ℕ
-  pub same : Tree → Tree → Bool
-
--- the test tells nodes of one kind with one plain view
-abbrev pub TellsSame : (Tree → Tree → Bool) → Type 0
-TellsSame same = (t u : Tree) → Decides (same t u) (((label t).kind ≡ (label u).kind) × (plain t ≡ plain u))
-
-abbrev pub page_of : (Tree → Tree → Bool) → Tree → Page
-page_of same block = record { kept = kept_nodes block; source = flat block; same = same }
-
--- a new block has no kept nodes
-abbrev pub no_page : (Tree → Tree → Bool) → Page
-no_page same = record { kept = []; source = []; same = same }
-
--- the page's node, where there is one
-abbrev pub node_or : Tree → Option Kept → Tree
-node_or t None = t
-node_or t (Some k) = k.node
-
--- A node of the edited tree, in which each group shows what the page's group with its number shows.
-abbrev mutual
-  pub restored : List Kept → Tree → Tree
-  restored ks (tree l ts) = if is_group l.kind then node_or (tree l ts) (kept_with l.id ks) else tree l (restored_all ks ts)
-
-  pub restored_all : List Kept → Trees → Trees
-  restored_all ks none = none
-  restored_all ks (more t ts) = more (restored ks t) (restored_all ks ts)
-
--- A kept node is unchanged where it is a group, or is of the same kind and has the same plain view.
-abbrev pub is_unchanged : Page → Kept → Tree → Bool
-is_unchanged p k t = is_group (label k.node).kind || p.same (restored p.kept t) k.node
+use Rattle.wt_kept.specs.declared.kinds.Way.{Way}
+use Rattle.wt_kept.specs.declared.kinds.Way.TheVariants as way
+use Rattle.wt_kept.specs.declared.kinds.BlockForm.{BlockForm}
+use Rattle.wt_kept.specs.declared.kinds.BlockForm.TheVariants as form
+use Rattle.wt_guards.specs.declared.role.Role.{Role}
+use Rattle.wt_guards.specs.declared.role.Role.TheVariants as role
+use Rattle.wt_guards.specs.declared.role.Stretch.{Stretch}
+use Rattle.wt_guards.specs.declared.side.Place.{Place}
+use Rattle.wt_guards.specs.declared.side.Place.TheVariants as place
+use Rattle.wt_kept.specs.Kinds.{shape}
+use Rattle.wt_guards.specs.Content.{Sign, thing, letters}
+use Rattle.wt_guards.specs.Guards.{nowiki, spelled}
+use Rattle.wt_kept.specs.Kept.{Kept, kept_with, shown}
+use Rattle.wt_kept.specs.Page.{Page, page_of, no_page, is_unchanged}
 
 -- ---- nodes
 
@@ -207,8 +168,8 @@ abbrev pub tag_pair : Option Kept → List ℕ → List ℕ
 tag_pair None inside = inside
 tag_pair (Some k) inside = (label k.node).opening ++ (inside ++ (label k.node).closing)
 
-unfoldable pub break : List ℕ
-break = codes "<br>"
+unfoldable pub break_tag : List ℕ
+break_tag = codes "<br>"
 
 -- ---- the signs of the content
 
@@ -222,7 +183,7 @@ signs_by way.Shown p pl k l ts inside = unless_kept p k (tree l ts) (letters (sh
 signs_by way.PageLink p pl k l ts inside = unless_kept p k (tree l ts) (new_thing role.Link (page_link (read_link (href_of l)) ts (spelled_within p pl inside)) k)
 signs_by way.ExternalLink p pl k l ts inside = unless_kept p k (tree l ts) (new_thing role.External (external_link (href_of l) (spelled_within p pl inside)) k)
 signs_by way.Tag p pl k l ts inside = unless_kept p k (tree l ts) (new_thing role.Node (tag_pair k (spelled_within p pl inside)) k)
-signs_by way.Break p pl k l ts inside = unless_kept p k (tree l ts) (new_thing role.Node break k)
+signs_by way.Break p pl k l ts inside = unless_kept p k (tree l ts) (new_thing role.Node break_tag k)
 signs_by way.AsItStood p pl k l ts inside = as_it_stood k
 
 abbrev mutual

@@ -1,22 +1,16 @@
-//! Laws of the spelling, which do nothing when they are called.
+//! A law of the spelling, which does nothing when it is called.
 
-ghost use Rattle.std.specs.Prelude.{◌≡◌, [], ℕ, List};
-ghost use Rattle.std.specs.List.{flat_map};
-ghost use Rattle.std.specs.Str.{chars};
-ghost use Rattle.wt_escape.specs.Content.{Sign, letters};
-ghost use Rattle.wt_escape.specs.Guards.{Setting, spelled};
-ghost use Rattle.wt_escape.specs.SpellingLaws.{itself, IsQuiet, Pieces};
+ghost use Rattle.std.specs.Prelude.{◌≡◌, Bool};
+ghost use Rattle.wt_guards.specs.declared.side.Place.{Place};
+ghost use Rattle.wt_kept.specs.Page.{TellsSame};
+ghost use Rattle.wt_escape.specs.Spelling.{children_of, inline_spelling};
+ghost use Rattle.wt_escape.specs.OwnContent.{IsPlainBlock};
+ghost use Rattle.wt_tree.specs.Source.{flat_of_all};
+ghost use Rattle.wt_tree.specs.Tree.{Tree};
 
-/// Where no guard holds and no character is written as a reference, the content is written as it
-/// stands: each node by its source and each character by itself.
-#[tactic(auto, using(crate::proofs::SpellingLaws::quiet_from))]
-pub fn quiet_content_stays()
-    ensures { (s : Setting) (signs : List Sign) → IsQuiet s [] signs → spelled s signs ≡ flat_map itself signs }
-{}
-
-/// Text alone is written of `<nowiki/>`, of references, and of characters other than `[`, `]`, `{`,
-/// `}`, `|` and `>`, and these stand for its characters in their order.
-#[tactic(auto, using(crate::proofs::SpellingLaws::text_pieces))]
-pub fn text_is_harmless()
-    ensures { (s : Setting) (text : List ℕ) → Pieces (chars text) (spelled s (letters text)) }
+/// The page's own block is spelled to its own source, where nothing in it has to be guarded or
+/// written as a reference.
+#[tactic(auto, using(crate::proofs::Founds::spelled_back))]
+pub fn spelled_back()
+    ensures { (same : Tree → Tree → Bool) (block : Tree) (place : Place) → TellsSame same → IsPlainBlock same block place → inline_spelling same block block place ≡ flat_of_all (children_of block) }
 {}

@@ -1,9 +1,0 @@
-use Rattle.std.proofs.Common.{arith, sym, ap, ◌∙◌, ◌++◌}
-use Rattle.std.proofs.lemmas.Grind.{common_steps}
-use Rattle.wt_escape.specs.Gathered.{items_seen}
-use Rattle.wt_escape.specs.declared.kinds.ItemsOf.TheVariants as item
-use Rattle.wt_escape.proofs.Nodes.{items_views, items_is}
-use Rattle.wt_escape.proofs.gather.+pushing.Goals as goal
-
-pub push_items_of_all-returns : goal.push_items_of_all-returns
-push_items_of_all-returns t c = rw (items_views c.args.nodes.now) (grind (arith, common_steps))

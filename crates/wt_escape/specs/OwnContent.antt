@@ -1,0 +1,75 @@
+-- The content of a block of the page that is spelled to its own source.
+use Rattle.std.specs.Prelude.{◌≡◌, ◌≢◌, ℕ, ◌<◌, Bool, true, false, List, [], ◌∷◌}
+use Rattle.std.specs.Str.{IsUtf8}
+use Rattle.wt_tree.specs.Tree.{Label, Tree, tree, Trees, none, more, label}
+use Rattle.wt_tree.specs.Kinds.{is_leaf}
+use Rattle.wt_tree.specs.Source.{flat}
+use Rattle.wt_tree.specs.Tiling.{is_group}
+use Rattle.wt_guards.specs.declared.side.Place.{Place}
+use Rattle.wt_guards.specs.Content.{Sign}
+use Rattle.wt_guards.specs.Guards.{Setting}
+use Rattle.wt_guards.specs.WrittenLaws.{IsQuiet}
+use Rattle.wt_kept.specs.declared.kinds.Way.{Way}
+use Rattle.wt_kept.specs.declared.kinds.Way.TheVariants as way
+use Rattle.wt_kept.specs.Kinds.{shape}
+use Rattle.wt_kept.specs.Kept.{kept_nodes}
+use Rattle.wt_kept.specs.Numbers.{counts_up}
+use Rattle.wt_kept.specs.Page.{Page, page_of}
+use Rattle.wt_escape.specs.Spelling.{signs_of_all, children_of}
+
+abbrev pub HasSigns : List Sign → Type 0
+HasSigns [] = ⊥
+HasSigns (s ∷ ss) = Unit {0}
+
+-- a style with these delimiters, which isn't empty
+pub record IsStyle (sign : List ℕ) (l : Label) (inside : List Sign) : Type 0 where
+  pub opening : l.opening ≡ sign
+  pub closing : l.closing ≡ sign
+  pub no_leaf : is_leaf l.kind ≡ false
+  pub some : HasSigns inside
+
+-- What a node of the page is like that is spelled to its own source: a separator without bytes, a text that stands in the source
+-- as it is shown, a style with the usual delimiters and some such nodes in it, or another node that has a number.
+abbrev pub IsPlainBy : Way → Page → Place → Label → Trees → Type 0 → Type 0
+IsPlainBy way.Nothing p pl l ts held = flat (tree l ts) ≡ []
+IsPlainBy way.Characters p pl l ts held = (flat (tree l ts) ≡ l.shown) × IsUtf8 l.shown
+IsPlainBy way.Bold p pl l ts held = held × IsStyle (39 ∷ 39 ∷ 39 ∷ []) l (signs_of_all p pl ts)
+IsPlainBy way.Italic p pl l ts held = held × IsStyle (39 ∷ 39 ∷ []) l (signs_of_all p pl ts)
+IsPlainBy way.Shown p pl l ts held = l.id ≢ 0
+IsPlainBy way.PageLink p pl l ts held = l.id ≢ 0
+IsPlainBy way.ExternalLink p pl l ts held = l.id ≢ 0
+IsPlainBy way.Tag p pl l ts held = l.id ≢ 0
+IsPlainBy way.Break p pl l ts held = l.id ≢ 0
+IsPlainBy way.AsItStood p pl l ts held = l.id ≢ 0
+
+abbrev mutual
+  pub IsPlain : Page → Place → Tree → Type 0
+  IsPlain p pl (tree l ts) = IsPlainBy (shape l.kind).way p pl l ts (ArePlain p pl ts)
+
+  pub ArePlain : Page → Place → Trees → Type 0
+  ArePlain p pl none = Unit {0}
+  ArePlain p pl (more t ts) = IsPlain p pl t × ArePlain p pl ts
+
+-- a leaf holds nothing, unless it is a group
+abbrev mutual
+  pub IsBare : Tree → Type 0
+  IsBare (tree l ts) = (is_leaf l.kind ≡ true → is_group l.kind ≡ false → ts ≡ none) × AreBare ts
+
+  pub AreBare : Trees → Type 0
+  AreBare none = Unit {0}
+  AreBare (more t ts) = IsBare t × AreBare ts
+
+-- what the content of a block stands in
+abbrev pub setting_in : Page → Place → Setting
+setting_in p pl = record { within = false; place = pl; source = p.source }
+
+-- A block of the page whose content is such nodes: its numbers count up, and where nothing was changed nothing is put, and no
+-- character is written as a reference.
+pub record IsPlainBlock (same : Tree → Tree → Bool) (block : Tree) (pl : Place) : Type 0 where
+  pub first : ℕ
+  pub some : 0 < first
+  pub counts : counts_up first (kept_nodes block) ≡ true
+  pub no_leaf : is_leaf (label block).kind ≡ false
+  pub bare : IsBare block
+  pub plain : ArePlain (page_of same block) pl (children_of block)
+  pub quiet : IsQuiet (setting_in (page_of same block) pl) [] (signs_of_all (page_of same block) pl (children_of block))

@@ -1,0 +1,5 @@
+pub mod Breaks
+pub mod Escapes
+mod SignCases
+pub mod SpellingLaws
+pub mod Texts
