@@ -1,0 +1,15 @@
+pub mod Answers
+pub mod Cursors
+pub mod Ends
+pub mod Frames
+pub mod Given
+pub mod Marks
+pub mod Only
+pub mod Opening
+pub mod Parts
+pub mod Reads
+pub mod Steps
+pub mod Stores
+pub mod Stretch
+pub mod Takings
+pub mod Target

@@ -1,0 +1,39 @@
+-- What is read of a stretch in one step.
+use Rattle.std.specs.Prelude.{◌≡◌, ◌<◌, ◌≤◌, ℕ, ◌-◌, Bool, List, ◌∷◌, take, drop}
+use Rattle.wt_span.specs.declared.form.Mode.{Mode}
+use Rattle.wt_span.specs.declared.form.LexKind.{LexKind}
+use Rattle.wt_span.specs.Lexemes.{words}
+use Rattle.wt_span.specs.Braces.{Member, Members, call, members, CallAt, calls}
+use Rattle.wt_expand.specs.Expansion.{Output, Reading, just, then_output, joined, lexeme_items, outputs_of}
+use Rattle.wt_transclusion.specs.declared.cursor.Next.{Next}
+use Rattle.wt_transclusion.specs.declared.cursor.Next.TheVariants as next
+use Rattle.wt_transclusion.specs.Cursors.{starts}
+use Rattle.wt_transclusion.specs.Marks.{Mark, words_marks}
+use Rattle.wt_transclusion.specs.Stretch.{calls_before, IsStretch}
+
+-- what members give that begin at a place of a text
+abbrev pub given_from : Reading → Bool → List ℕ → ℕ → List Member → Output
+given_from r s t p xs = joined (outputs_of r s (drop p t) (members xs))
+
+-- Bytes of a lexeme of this kind are taken from a place up to another one, and the members that are left stand in a stretch.
+pub record IsTaken (w : List Mark) (cs : List CallAt) (t : List ℕ) (kind : LexKind) (p q e : ℕ) (xs : List Member) : Type 0 where
+  pub left : List Member
+  pub stretch : IsStretch w cs q e left
+  pub gives : (r : Reading) (s : Bool) → given_from r s t p xs
+      ≡ then_output (just (lexeme_items r.mode kind (take (q - p) (drop p t)))) (given_from r (starts t q) t q left)
+
+-- the first of the members is a call
+pub record IsCallThere (xs : List Member) : Type 0 where
+  pub braces : ℕ
+  pub inside : Members
+  pub after : List Member
+  pub is : xs ≡ call braces inside ∷ after
+
+-- a stretch of a text
+abbrev pub IsStretchOf : Mode → List ℕ → ℕ → ℕ → List Member → Type 0
+IsStretchOf m t p e xs = IsStretch (words_marks (words m t)) (calls 0 (words m t)) p e xs
+
+-- what stands at the first place of a stretch: its call, by its number, or bytes of a lexeme up to a place
+abbrev pub AnswersNext : Mode → List ℕ → ℕ → ℕ → List Member → Next → Type 0
+AnswersNext m t p e xs (next.Call n) = IsCallThere xs × (n ≡ calls_before p (calls 0 (words m t)))
+AnswersNext m t p e xs (next.Chunk kind to) = (p < to) × (to ≤ e) × IsTaken (words_marks (words m t)) (calls 0 (words m t)) t kind p to e xs

@@ -1,0 +1,31 @@
+-- The pages that were fetched.
+use Rattle.std.specs.Prelude.{◌≡◌, ℕ, Bool, true, false, Option, Some, None, option_map, List, [], ◌∷◌, ◌++◌, Result, Ok, Err, if◌then◌else◌}
+use Rattle.std.specs.HashMap.{get_by_text}
+use Rattle.wt_expand.specs.Work.{Pages, found_refusal, is_among}
+use Rattle.wt_transclusion.specs.declared.refusal.ExpandRefusal.{ExpandRefusal}
+use Rattle.wt_transclusion.specs.declared.read.ReadText.{ReadText}
+use Rattle.wt_transclusion.specs.declared.store.Store.{Store}
+use Rattle.wt_transclusion.specs.Answers.{IsFetched, IsRefused}
+
+-- what is known of a title, which was fetched or wasn't
+abbrev pub IsKnown : Pages → List ℕ → Bool → Option (Option ReadText) → Type 0
+IsKnown pages name false o = o ≡ None
+IsKnown pages name true None = ⊥
+IsKnown pages name true (Some found) = IsFetched name (pages name) found
+
+-- the pages of these names are known, and no others
+abbrev pub IsStore : Pages → List (List ℕ) → Store → Type 0
+IsStore pages met s = (name : List ℕ) → IsKnown pages name (is_among name met) (get_by_text s.pages name)
+
+-- the names with one more, if it isn't among them
+abbrev pub met_with : List ℕ → List (List ℕ) → List (List ℕ)
+met_with name met = if is_among name met then met else name ∷ met
+
+-- what the folder has answered, after this name was asked for where it isn't known
+abbrev pub named_with : List ℕ → List (List ℕ) → Option (List (List ℕ)) → Option (List (List ℕ))
+named_with name met answered = if is_among name met then answered else option_map (λ names. names ++ name ∷ []) answered
+
+-- a title's page is read; or it is refused, and wasn't fetched before
+abbrev pub AnswersTitle : Pages → List (List ℕ) → List ℕ → Store → Result (Option ReadText) ExpandRefusal → Type 0
+AnswersTitle pages met name new (Ok found) = IsFetched name (pages name) found × IsStore pages (met_with name met) new
+AnswersTitle pages met name new (Err e) = IsRefused (found_refusal name (pages name)) e

@@ -1,0 +1,40 @@
+-- What is taken for a title.
+use Rattle.std.specs.Prelude.{◌≡◌, ◌<◌, ℕ, zero, suc, Bool, true, false, Option, Some, None, List, [], ◌∷◌, Result, Ok, Err}
+use Rattle.wt_span.specs.Items.{items}
+use Rattle.wt_names.specs.declared.title.Title.{Title}
+use Rattle.wt_names.specs.Namespace.{full_name_of}
+use Rattle.wt_expand.specs.Expansion.{Frame, template_output}
+use Rattle.wt_expand.specs.Work.{Pages, Refused, fetched, found_refusal, is_among}
+use Rattle.wt_transclusion.specs.declared.refusal.ExpandRefusal.{ExpandRefusal}
+use Rattle.wt_transclusion.specs.declared.store.Store.{Store}
+use Rattle.wt_transclusion.specs.declared.templates.Taken.{Taken}
+use Rattle.wt_transclusion.specs.declared.templates.Taken.TheVariants as taken
+use Rattle.wt_transclusion.specs.Answers.{IsFetched, IsRefused}
+use Rattle.wt_transclusion.specs.Stores.{IsStore, met_with, named_with}
+
+-- what refuses the page of a title, where so many more may be expanded and it is among those that are: nothing where it isn't asked for
+abbrev pub taking_refusal : ℕ → Bool → Option Refused → Option Refused
+taking_refusal zero open_already o = None
+taking_refusal (suc left) true o = None
+taking_refusal (suc left) false o = o
+
+-- With these names of pages that are being expanded and so many more allowed: a message gives what the title gives, under any
+-- values, with no work; a link gives it with one fetch; and a page is the one that the title is expanded from.
+abbrev pub AnswersTaking : Pages → List (List ℕ) → List (List ℕ) → ℕ → Title → Store → Result Taken ExpandRefusal → Type 0
+AnswersTaking pages met open_titles left t new (Ok (taken.Message ps)) =
+    ((frame : Frame) → template_output pages left open_titles t frame ≡ record { items = items ps; work = [] }) × IsStore pages met new
+AnswersTaking pages met open_titles left t new (Ok (taken.Link ps)) =
+    ((frame : Frame) → template_output pages left open_titles t frame ≡ record { items = items ps; work = fetched (full_name_of t) ∷ [] })
+    × IsStore pages (met_with (full_name_of t) met) new
+AnswersTaking pages met open_titles left t new (Ok (taken.Page read)) =
+    (0 < left) × (is_among (full_name_of t) open_titles ≡ false) × IsFetched (full_name_of t) (pages (full_name_of t)) (Some read)
+    × IsStore pages (met_with (full_name_of t) met) new
+AnswersTaking pages met open_titles left t new (Err e) =
+    IsRefused (taking_refusal left (is_among (full_name_of t) open_titles) (found_refusal (full_name_of t) (pages (full_name_of t)))) e
+
+-- what the folder has answered since: nothing for a message, else this name, if it wasn't known
+abbrev pub IsNamed : List ℕ → List (List ℕ) → Option (List (List ℕ)) → Option (List (List ℕ)) → Result Taken ExpandRefusal → Type 0
+IsNamed full met old new (Ok (taken.Message ps)) = new ≡ old
+IsNamed full met old new (Ok (taken.Link ps)) = new ≡ named_with full met old
+IsNamed full met old new (Ok (taken.Page read)) = new ≡ named_with full met old
+IsNamed full met old new (Err e) = Unit {0}

@@ -1,0 +1,135 @@
+//! Where a text is read.
+ghost use Rattle.std.specs.Prelude.{◌≡◌, ◌<◌, ◌≤◌, ℕ, List, true, drop, length, map, nat_lt, nat_le};
+ghost use Rattle.std.specs.List.{prefix_len};
+ghost use Rattle.wt_span.specs.declared.form.Mode.{Mode as TextMode};
+ghost use Rattle.wt_transclusion.specs.Reads.{braces_of, IsRead};
+ghost use Rattle.wt_transclusion.specs.declared.read.ReadText.{ReadText as TextRead};
+ghost use Rattle.wt_span.specs.Braces.{Member as TextMember};
+ghost use Rattle.wt_transclusion.specs.Stretch.{IsLimit};
+ghost use Rattle.wt_transclusion.specs.Steps.{IsStretchOf, AnswersNext};
+ghost use Rattle.wt_transclusion.specs.Cursors.{IsAt, IsOn, starts};
+
+use crate::read::{Braces, ReadText};
+use wt_lex::Lexeme;
+use wt_span::{LexKind, rest_of};
+
+/// A place of a text, with the first lexeme that ends behind it and the first call that begins there
+/// or behind it, by their numbers.
+#[derive(Clone, Copy, Debug)]
+pub struct Cursor {
+    pub at: u32,
+    /// Whether the text begins there, or a line break stands before it.
+    pub at_start: bool,
+    lexeme: usize,
+    call: usize,
+}
+
+/// What stands at a place.
+#[derive(Clone, Copy, Debug)]
+pub enum Next {
+    /// Bytes of one lexeme, up to a place.
+    Chunk { kind: LexKind, to: u32 },
+    /// The call of this number.
+    Call(usize),
+}
+
+/// How many lexemes end up to a place.
+fn lexemes_before(lexemes: &[Lexeme], to: u32) -> usize
+    ensures value { result ≡ prefix_len (λ x. nat_le x.at.end to) lexemes.now }
+    ensures within { result ≤ length lexemes.now }
+{
+    for (i, lexeme) in lexemes.iter().enumerate() {
+        if to < lexeme.at.end {
+            return i;
+        }
+    }
+    lexemes.len()
+}
+
+/// How many calls begin in front of a place.
+fn calls_before(calls: &[Braces<'_>], to: u32) -> usize
+    ensures value { result ≡ prefix_len (λ x. nat_lt x.at.start to) calls.now }
+    ensures within { result ≤ length calls.now }
+{
+    for (i, call) in calls.iter().enumerate() {
+        if to <= call.at.start {
+            return i;
+        }
+    }
+    calls.len()
+}
+
+/// Whether a line break stands before a place behind the first byte.
+fn starts_line(text: &str, at: u32) -> bool
+    requires some { 0 < at }
+    requires within { at ≤ length text.now }
+    ensures { result ≡ starts text.now at }
+{
+    text.as_bytes()[at as usize - 1] == b'\n'
+}
+
+/// The place where the call of a number begins, or `end` where none begins in front of that.
+fn limit_at(calls: &[Braces<'_>], call: usize, end: u32) -> u32
+    ensures { IsLimit (drop call (map braces_of calls.now)) end result }
+{
+    if call < calls.len() {
+        calls[call].at.start.min(end)
+    } else {
+        end
+    }
+}
+
+impl Cursor {
+    /// The start of a text.
+    pub fn start() -> Cursor
+        ensures at { (mode : TextMode) (bytes : List ℕ) (text : TextRead) → IsRead mode bytes text → IsAt text 0 result }
+        ensures on { (text : TextRead) → IsOn text result }
+        ensures at_start { result.at_start ≡ true }
+    {
+        Cursor {
+            at: 0,
+            at_start: true,
+            lexeme: 0,
+            call: 0,
+        }
+    }
+
+    /// A later place, behind the first byte.
+    pub fn seek(self, text: ReadText<'_>, to: u32) -> Cursor
+        requires some { 0 < to }
+        requires within { to ≤ length text.text.now }
+        requires on { IsOn text self }
+        ensures at { (p : ℕ) → IsAt text.entry p self → p ≤ to → IsAt text.entry to result }
+        ensures at_start { result.at_start ≡ starts text.entry.text.now to }
+        ensures on { IsOn text.entry result }
+    {
+        let lexemes = rest_of(text.lexemes, self.lexeme);
+        let calls = rest_of(text.calls, self.call);
+        Cursor {
+            at: to,
+            at_start: starts_line(text.text, to),
+            lexeme: text.lexemes.len() - (lexemes.len() - lexemes_before(lexemes, to)),
+            call: text.calls.len() - (calls.len() - calls_before(calls, to)),
+        }
+    }
+
+    /// What stands here, in front of the place `end`: the next call, or bytes of the lexeme up to its
+    /// end, the next call or `end`.
+    pub fn next(self, text: ReadText<'_>, end: u32) -> Next
+        requires { self.at < end }
+        ensures { (mode : TextMode) (bytes : List ℕ) (xs : List TextMember) → IsRead mode bytes text.entry → IsAt text.entry self.at self → IsStretchOf mode bytes self.at end xs → AnswersNext mode bytes self.at end xs result }
+    {
+        let limit = limit_at(text.calls, self.call, end);
+        if limit == self.at {
+            return Next::Call(self.call);
+        }
+        if self.lexeme < text.lexemes.len() {
+            let lexeme = text.lexemes[self.lexeme];
+            return Next::Chunk {
+                kind: lexeme.kind,
+                to: lexeme.at.end.min(limit),
+            };
+        }
+        Next::Call(self.call)
+    }
+}

@@ -1,0 +1,34 @@
+//! Templates expanded: what a page means with the templates, arguments and messages that its calls
+//! give.
+#![tactic(auto)]
+
+mod blanks;
+mod cost;
+mod cursor;
+mod given;
+mod handing;
+mod item;
+mod line_start;
+mod messages;
+mod name;
+mod only;
+mod read;
+mod refusal;
+mod store;
+mod target;
+mod templates;
+mod trim;
+mod values;
+
+pub use cost::{byte_count, charge};
+pub use cursor::{Cursor, Next};
+pub use given::{copied, spelled, with_break};
+pub use handing::Handed;
+pub use item::{lexeme_piece, piece_of};
+pub use name::name_text;
+pub use read::{Braces, ReadText, read_in};
+pub use refusal::ExpandRefusal;
+pub use store::Store;
+pub use target::{is_function, title_of_target};
+pub use templates::{Taken, take};
+pub use values::Values;

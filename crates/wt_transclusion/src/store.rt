@@ -1,0 +1,147 @@
+//! The pages that were fetched, each once, by their full names.
+ghost use Rattle.std.specs.Prelude.{◌≡◌, ◌∷◌, ◌++◌, [], ℕ, List, Some, OnOk, option_map};
+ghost use Rattle.std.specs.HashMap.{get_by_text};
+ghost use Rattle.wt_expand.specs.Work.{Pages};
+ghost use Rattle.wt_transclusion.specs.Answers.{AnswersTemplate, AnswersFetch, IsCounted, IsFetched};
+ghost use Rattle.wt_transclusion.specs.Stores.{IsStore, AnswersTitle, named_with};
+
+use crate::only::template_text;
+use crate::read::{ReadText, read_in};
+use crate::refusal::ExpandRefusal;
+use bumpalo::Bump;
+use std::alloc::Global;
+use std::collections::HashMap;
+use wt_braces::BraceRefusal;
+use wt_outer::{FetchRefusal, Fetched, Folder};
+use wt_span::{Mode, NoMemory, Str};
+use wt_utf8::read_text;
+
+/// The most bytes of a page.
+const MOST_BYTES: usize = 2_097_152;
+
+/// The page of a title as a template's: what is taken of it, read.
+fn read_template<'a>(
+    alloc: Global,
+    arena: &'a Bump<Global>,
+    title: &str,
+    bytes: &[u8],
+) -> Result<ReadText<'a>, ExpandRefusal>
+    ensures { AnswersTemplate title.now bytes.now result }
+{
+    if bytes.len() > MOST_BYTES {
+        return Err(ExpandRefusal::TemplateTooLong {
+            title: Str::copy_of(alloc, title)?,
+        });
+    }
+    let text = match read_text(bytes) {
+        Ok(text) => text,
+        Err(place) => {
+            return Err(ExpandRefusal::TemplateNotUtf8 {
+                title: Str::copy_of(alloc, title)?,
+                place: place as u32,
+            });
+        }
+    };
+    let taken = template_text(alloc, arena, text)?;
+    match read_in(alloc, arena, taken, Mode::Template) {
+        Ok(read) => Ok(read),
+        Err(BraceRefusal::BracesTooDeep { place }) => Err(ExpandRefusal::BracesTooDeep {
+            title: Some(Str::copy_of(alloc, title)?),
+            place,
+        }),
+        Err(BraceRefusal::NoMemory) => Err(ExpandRefusal::NoMemory),
+    }
+}
+
+/// The pages that were fetched. None is an absent page.
+#[derive(Drop)]
+pub struct Store<'a> {
+    pages: HashMap<String, Option<ReadText<'a>>>,
+}
+
+/// What the folder has under a title, as it is read; None for an absent page. One byte more than the
+/// most is asked for, so that a page that was cut is too long in any case.
+fn fetch_template<'a, F: Folder>(
+    alloc: Global,
+    arena: &'a Bump<Global>,
+    folder: &mut F,
+    title: &str,
+) -> Result<Option<ReadText<'a>>, ExpandRefusal>
+    ensures page { (pages : Pages) → F.pages folder.old ≡ Some pages → AnswersFetch title.now (pages title.now) result }
+    ensures kept { F.pages folder.new ≡ F.pages folder.old }
+    ensures named { OnOk result (F.answered folder.new ≡ option_map (λ names. names ++ title.now ∷ []) (F.answered folder.old)) }
+    ensures count { IsCounted (F.fault_count folder.old) (F.fault_count folder.new) result }
+{
+    match folder.fetch(alloc, title, MOST_BYTES as u32 + 1) {
+        Ok(Fetched::Found(bytes)) => match read_template(alloc, arena, title, bytes.as_slice()) {
+            Ok(read) => Ok(Some(read)),
+            Err(refusal) => Err(refusal),
+        },
+        Ok(Fetched::Absent) => Ok(None),
+        Err(FetchRefusal::Failed) => Err(ExpandRefusal::FolderFault),
+        Err(FetchRefusal::NoMemory) => Err(ExpandRefusal::NoMemory),
+    }
+}
+
+impl<'a> Store<'a> {
+    /// No pages.
+    pub fn new(alloc: Global) -> Store<'a>
+        ensures { (pages : Pages) → IsStore pages [] result }
+    {
+        Store {
+            pages: HashMap::new(alloc),
+        }
+    }
+
+    /// What is known of a title; None where it wasn't fetched.
+    fn known(&self, full: &str) -> Option<Option<ReadText<'a>>>
+        ensures { result ≡ get_by_text self.now.pages full.now }
+    {
+        match self.pages.get(full) {
+            Some(found) => Some(*found),
+            None => None,
+        }
+    }
+
+    /// Keeps what was fetched under a title.
+    fn keep(
+        &mut self,
+        alloc: Global,
+        full: &str,
+        found: Option<ReadText<'a>>,
+    ) -> Result<(), NoMemory>
+        ensures { OnOk result ((pages : Pages) (met : List (List ℕ)) → IsStore pages met self.old → IsFetched full.now (pages full.now) found.entry → IsStore pages (full.now ∷ met) self.new) }
+    {
+        let name = String::from_str(alloc, full)?;
+        match self.pages.insert(name, found) {
+            Ok(_) => Ok(()),
+            Err(_) => Err(NoMemory),
+        }
+    }
+
+    /// The page of a full name as a template's text, None for an absent one. It is fetched where it
+    /// wasn't before.
+    pub fn template<F: Folder>(
+        &mut self,
+        alloc: Global,
+        arena: &'a Bump<Global>,
+        folder: &mut F,
+        full: &str,
+    ) -> Result<Option<ReadText<'a>>, ExpandRefusal>
+        ensures page { (pages : Pages) (met : List (List ℕ)) → F.pages folder.old ≡ Some pages → IsStore pages met self.old → AnswersTitle pages met full.now self.new result }
+        ensures kept { F.pages folder.new ≡ F.pages folder.old }
+        ensures named { (pages : Pages) (met : List (List ℕ)) → IsStore pages met self.old → OnOk result (F.answered folder.new ≡ named_with full.now met (F.answered folder.old)) }
+        ensures count { IsCounted (F.fault_count folder.old) (F.fault_count folder.new) result }
+    {
+        if let Some(found) = self.known(full) {
+            return Ok(found);
+        }
+        match fetch_template(alloc, arena, folder, full) {
+            Ok(found) => {
+                self.keep(alloc, full, found)?;
+                Ok(found)
+            }
+            Err(refusal) => Err(refusal),
+        }
+    }
+}

@@ -1,0 +1,95 @@
+//! What is taken for a title: a message, or the text of its page.
+ghost use Rattle.std.specs.Prelude.{◌≡◌, List, ℕ, Some, IfOk, OnOk, reverse};
+ghost use Rattle.wt_names.specs.Namespace.{full_name_of};
+ghost use Rattle.wt_span.specs.Items.{items};
+ghost use Rattle.wt_expand.specs.Work.{Pages, is_among};
+ghost use Rattle.wt_expand.specs.Expansion.{chars};
+ghost use Rattle.wt_transclusion.specs.Answers.{IsCounted};
+ghost use Rattle.wt_transclusion.specs.Stores.{IsStore};
+ghost use Rattle.wt_transclusion.specs.Takings.{AnswersTaking, IsNamed};
+
+use crate::item::piece_of;
+use crate::messages::{absent_text, depth_text, loop_text};
+use crate::read::ReadText;
+use crate::refusal::ExpandRefusal;
+use crate::store::Store;
+use bumpalo::Bump;
+use std::alloc::Global;
+use wt_names::{Title, full_name};
+use wt_outer::Folder;
+use wt_span::{Form, List, NoMemory, Piece, Str, Text};
+
+/// What is taken for a title.
+#[derive(Drop)]
+pub enum Taken<'a> {
+    /// A message that stands for a page that isn't asked for.
+    Message(List<Piece<'a>>),
+    /// The link that stands for an absent page.
+    Link(List<Piece<'a>>),
+    /// The text of the page.
+    Page(ReadText<'a>),
+}
+
+/// A text that isn't too long as pieces, kept in the arena.
+fn message<'a>(
+    alloc: Global,
+    arena: &'a Bump<Global>,
+    text: &str,
+) -> Result<List<Piece<'a>>, NoMemory>
+    ensures { IfOk result (λ ps. items ps ≡ chars text.now) }
+{
+    let kept = arena.try_alloc_str(text)?;
+    if kept.len() > 4_294_967_295 {
+        return Err(NoMemory);
+    }
+    let mut pieces = List::new(alloc);
+    pieces.push(piece_of(Text::new(kept, 0), Form::Chars))?;
+    Ok(pieces)
+}
+
+/// Whether a full name is among those of the pages that are being expanded.
+fn is_open(names: &[Str], full: &str) -> bool
+    ensures { result ≡ is_among full.now names.now }
+{
+    for name in names {
+        if name.as_str() == full {
+            return true;
+        }
+    }
+    false
+}
+
+/// What is taken for a title where the pages of these names are being expanded, the outermost first,
+/// and so many more may be: a message where it is one of them or no more may be, else its page.
+pub fn take<'a, F: Folder>(
+    alloc: Global,
+    arena: &'a Bump<Global>,
+    store: &mut Store<'a>,
+    folder: &mut F,
+    names: &[Str],
+    left: u32,
+    title: &Title,
+) -> Result<Taken<'a>, ExpandRefusal>
+    ensures taken { (pages : Pages) (met : List (List ℕ)) → F.pages folder.old ≡ Some pages → IsStore pages met store.old → AnswersTaking pages met (reverse names.now) left title.now store.new result }
+    ensures kept { F.pages folder.new ≡ F.pages folder.old }
+    ensures named { (pages : Pages) (met : List (List ℕ)) → IsStore pages met store.old → IsNamed (full_name_of title.now) met (F.answered folder.old) (F.answered folder.new) result }
+    ensures count { IsCounted (F.fault_count folder.old) (F.fault_count folder.new) result }
+{
+    let full = full_name(alloc, title)?;
+    if is_open(names, full.as_str()) {
+        let text = loop_text(alloc, title)?;
+        return Ok(Taken::Message(message(alloc, arena, text.as_str())?));
+    }
+    if left == 0 {
+        let text = depth_text(alloc, title)?;
+        return Ok(Taken::Message(message(alloc, arena, text.as_str())?));
+    }
+    match store.template(alloc, arena, folder, full.as_str()) {
+        Ok(Some(read)) => Ok(Taken::Page(read)),
+        Ok(None) => {
+            let text = absent_text(alloc, full.as_str())?;
+            Ok(Taken::Link(message(alloc, arena, text.as_str())?))
+        }
+        Err(refusal) => Err(refusal),
+    }
+}
