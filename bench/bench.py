@@ -1,7 +1,7 @@
 #!/usr/bin/env python3
 """Measures the proved `wtround`: `html` on pages of 64 KiB, 512 KiB and 2 MiB, `wikitext` on HTML of 512 KiB,
 8 MiB and 64 MiB less a page's frame, of the HTML of pages with comments and entities, and of what `html` answers
-for pages of links, URLs, styles and tags (a third of the size for apostrophes).
+for pages of links, URLs, styles and tags (a third of the size for apostrophes); `html` on pages of lists and tables.
 
   bench/bench.py PROGRAM [OTHER]
 
@@ -57,6 +57,22 @@ INLINE_KINDS = {
     "italic within bold": whole("'''''a''b''' "),
     "apostrophes": lambda size: b"'" * (size // 3),
     "tags": whole("<s>a</s>"),
+}
+
+
+# Lines of lists and tables.
+BLOCK_KINDS = {
+    "list items": lines(lambda k: "* " + WORDS + "\n"),
+    "short list items": lines(lambda k: "* a\n"),
+    "lists in lists": lines(lambda k: "*" * (1 + k % 4) + " a\n"),
+    "lines of 32 signs": lines(lambda k: "*#" * 16 + " a\n"),
+    "definitions": lines(lambda k: "; a : b\n"),
+    "rules": lines(lambda k: "----\n"),
+    "preformatted lines": lines(lambda k: " " + WORDS + "\n"),
+    "table cells": lambda size: b"{|\n" + lines(lambda k: "| a || b || c\n")(size - 4),
+    "table rows": lambda size: b"{|\n" + lines(lambda k: "|-\n| a || b\n")(size - 4),
+    "nested tables": lines(lambda k: "{|\n| a\n" * 16 + "|}\n" * 16),
+    "opened tables": lines(lambda k: "{|\n"),
 }
 
 
@@ -174,6 +190,8 @@ def main():
     for kind, make in KINDS.items():
         measure(programs, f"html, {kind}", ["html", "Main"], SIZES, make)
     for kind, make in INLINE_KINDS.items():
+        measure(programs, f"html, {kind}", ["html", "Main"], SIZES, make)
+    for kind, make in BLOCK_KINDS.items():
         measure(programs, f"html, {kind}", ["html", "Main"], SIZES, make)
     for kind, make in HTML_KINDS.items():
         measure(programs, f"wikitext, {kind}", ["wikitext"], HTML_SIZES, make)
