@@ -27,6 +27,7 @@ use Rattle.wt_pagetool.proofs.WikitextLaws.{source_sourced}
 use Rattle.wt_pagetool.proofs.StatusLaws.{IsUnansweredBy, unanswered, no_refusal}
 use Rattle.wt_pagetool.proofs.RunLaws.{told_wikitext}
 use Rattle.wt_page_round_trip.proofs.Pages.{page_is_read, same_page}
+use Rattle.wt_page_round_trip.proofs.PageTrees.{two_a_byte}
 use Rattle.wt_round_trip.specs.Written.{unranged}
 
 -- what an answer that is HTML says of the page
@@ -62,7 +63,8 @@ given_back page back bytes e =
 
 pub all_given_back : (page : List ℕ) → IsGivenBack page
 all_given_back page =
-    given_back page (λ text within. record { tree = unranged (page_tree page); reads = page_is_read page text (omega arith); source = same_page page })
+    given_back page
+    (λ text within. record { tree = unranged (page_tree page); reads = page_is_read page text (omega arith) (two_a_byte page); source = same_page page })
 
 -- ---- the clause
 
