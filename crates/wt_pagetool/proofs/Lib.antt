@@ -1,5 +1,6 @@
 pub mod AnswerLaws
 mod Cases
+pub mod ExpandLaws
 pub mod GivenBackLaws
 pub mod PageLaws
 pub mod RefusalLines

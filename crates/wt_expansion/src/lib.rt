@@ -1,0 +1,6 @@
+//! Stand-in.
+#![tactic(auto)]
+
+mod page;
+
+pub use page::expand;
