@@ -41,6 +41,7 @@ impl Reader {
     pub fn new(alloc: Global) -> Reader
         ensures fed { IsFed result [] }
         ensures count { result.taken ≡ 0 }
+        ensures going { result.failed ≡ None }
     {
         Reader {
             machine: Machine::new(alloc),
