@@ -31,8 +31,8 @@ use Rattle.wt_body.specs.Texts.{para}
 use Rattle.wt_body.specs.Rows.{rows as rows_of}
 use Rattle.wt_blocks.specs.Headings.{level, opening, inside, closing}
 use Rattle.wt_body.specs.Body.{blocks, meaning}
-use Rattle.wt_annotate.specs.Annotated.{annotated}
-use Rattle.wt_annotate.specs.Labels.{label_at}
+use Rattle.wt_ranges.specs.WithoutCalls.{annotated}
+use Rattle.wt_ranges.specs.Labels.{label_at}
 use Rattle.wt_page_round_trip.specs.PageTree.{page_tree}
 
 -- an include tag in a heading

@@ -10,9 +10,10 @@ use Rattle.wt_inline.specs.Parts.{children}
 use Rattle.wt_body.specs.Rows.{rows}
 use Rattle.wt_body.specs.Body.{body_parts, meaning}
 use Rattle.wt_body.proofs.HeldBody.{sources_meaning}
-use Rattle.wt_annotate.specs.Annotated.{numbered, annotated}
-use Rattle.wt_annotate.specs.Labels.{width}
-use Rattle.wt_annotate.specs.Slices.{AreSlices}
+use Rattle.wt_ranges.specs.Counted.{numbered}
+use Rattle.wt_ranges.specs.WithoutCalls.{annotated}
+use Rattle.wt_ranges.specs.Labels.{width}
+use Rattle.wt_ranges.specs.Slices.{AreSlices}
 use Rattle.wt_annotate.proofs.TreeNumbers.{numbered_annotated}
 use Rattle.wt_annotate.proofs.TreeRanges.{tiled_annotated, body_covers}
 use Rattle.wt_annotate.proofs.TreeSlices.{annotated_slices}

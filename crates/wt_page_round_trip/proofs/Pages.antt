@@ -19,10 +19,11 @@ use Rattle.wt_body.specs.Rows.{rows}
 use Rattle.wt_body.specs.Stretches.{stretches_parts}
 use Rattle.wt_body.specs.Body.{blocks, meaning}
 use Rattle.wt_body.proofs.HeldBody.{sources_meaning}
-use Rattle.wt_annotate.specs.Labels.{width, label_at}
-use Rattle.wt_annotate.specs.Annotated.{numbered, numbered_in_all, annotated}
-use Rattle.wt_annotate.specs.Made.{annotated_at}
-use Rattle.wt_annotate.proofs.OnePass.{annotated_is}
+use Rattle.wt_ranges.specs.Labels.{width, label_at}
+use Rattle.wt_ranges.specs.Counted.{numbered, numbered_in_all}
+use Rattle.wt_ranges.specs.WithoutCalls.{annotated}
+use Rattle.wt_ranges.specs.Made.{annotated_at}
+use Rattle.wt_ranges.proofs.OnePass.{annotated_is}
 use Rattle.wt_annotate.proofs.TreeSource.{flat_annotated}
 use Rattle.wt_page_round_trip.proofs.OfPage.{page_texts, page_of_page}
 use Rattle.wt_page_round_trip.proofs.Parts.{wide_append}

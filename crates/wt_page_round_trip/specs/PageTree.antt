@@ -3,7 +3,7 @@ use Rattle.std.specs.Prelude.{ℕ, List}
 use Rattle.wt_tree.specs.Tree.{Tree}
 use Rattle.wt_expand.specs.PageItems.{page_items}
 use Rattle.wt_body.specs.Body.{meaning}
-use Rattle.wt_annotate.specs.Annotated.{annotated}
+use Rattle.wt_ranges.specs.WithoutCalls.{annotated}
 
 abbrev pub page_tree : List ℕ → Tree
 page_tree page = annotated (meaning (page_items page))

@@ -6,8 +6,8 @@ ghost use Rattle.wt_fitting.specs.Read.{read, page};
 ghost use Rattle.wt_round_trip.specs.Written.{unranged, IsWritten};
 ghost use Rattle.wt_expand.specs.PageItems.{page_items};
 ghost use Rattle.wt_body.specs.Body.{meaning};
-ghost use Rattle.wt_annotate.specs.Annotated.{numbered};
-ghost use Rattle.wt_annotate.specs.Slices.{AreSlices};
+ghost use Rattle.wt_ranges.specs.Counted.{numbered};
+ghost use Rattle.wt_ranges.specs.Slices.{AreSlices};
 ghost use Rattle.wt_page_round_trip.specs.PageTree.{page_tree};
 
 /// The HTML of a page is read as the page's own annotated tree, without the ranges of its texts and

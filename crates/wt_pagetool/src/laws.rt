@@ -1,7 +1,7 @@
 ghost use Rattle.std.specs.Prelude.{◌≡◌, ℕ, List, length};
 ghost use Rattle.wt_tree.specs.Source.{flat};
 ghost use Rattle.wt_tree.specs.Tiling.{Tiled, Covers, InPreorder};
-ghost use Rattle.wt_annotate.specs.Slices.{AreSlices};
+ghost use Rattle.wt_ranges.specs.Slices.{AreSlices};
 ghost use Rattle.wt_pagetool.specs.GivenBack.{IsGivenBack};
 ghost use Rattle.wt_page_round_trip.specs.PageTree.{page_tree};
 
