@@ -5,7 +5,7 @@ mod braces;
 mod laws;
 mod page;
 mod reading;
-mod style;
+mod group;
 
 pub use laws::{exact_place, smallest_place};
 pub use page::first_unbuilt;
