@@ -18,7 +18,7 @@ or_or : (a b c : Option ℕ) → option_or a (option_or b c) ≡ option_or (opti
 or_or None b c = refl
 or_or (Some x) b c = refl
 
-group_append : (ts us : List Tree) → first_of (ts ++ us) ≡ option_or (first_of ts) (first_of us)
+pub group_append : (ts us : List Tree) → first_of (ts ++ us) ≡ option_or (first_of ts) (first_of us)
 group_append [] us = refl
 group_append (t ∷ ts) us = ap (option_or (group_at (label t))) (group_append ts us) ∙ or_or (group_at (label t)) (first_of ts) (first_of us)
 

@@ -1,21 +1,12 @@
 pub mod Allowances
 pub mod BodyCounts
-mod Cases
 pub mod ContextCounts
 pub mod ListCounts
 pub mod Makes
 pub mod NumberLaws
-pub mod OnePass
-pub mod Passes
-pub mod Pieces
 pub mod RowCounts
 pub mod StretchCounts
 pub mod StyleCounts
 pub mod TableCounts
 pub mod TextCounts
 pub mod TileOpenings
-pub mod TreeNumbers
-pub mod TreeRanges
-pub mod TreeSlices
-pub mod TreeSource
-pub mod Widths

@@ -1,7 +1,1 @@
-pub mod Annotated
-pub mod Labels
-pub mod Made
-pub mod Nodes
-pub mod Numbering
 pub mod Numbers
-pub mod Slices

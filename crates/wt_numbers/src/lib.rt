@@ -1,14 +1,6 @@
-//! From the meaning of a page without calls to its annotated tree: each node with its source, its
-//! place in bytes and its number, and with what its element carries.
+//! How many nodes of a page have numbers: a law about the meaning of any items.
 #![tactic(auto)]
 
-mod cursor;
-mod held;
 mod laws;
-mod node;
-mod page;
-mod pass;
-mod piece;
 
-pub use laws::{annotated_tree, few_numbers, ranges_are_slices};
-pub use page::annotate;
+pub use laws::few_numbers;

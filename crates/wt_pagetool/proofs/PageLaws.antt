@@ -111,12 +111,12 @@ unfolding page_answer
 page_made page bytes made e = long_made page bytes made (nat_lt 2097152 (length page)) refl e
 
 abbrev pub IsOfPage : Option (List ℕ) → (List ℕ → Answer) → List ℕ → Type 0
-IsOfPage stands made bytes = (page : List ℕ) × (stands ≡ Some page) × (made page ≡ done bytes)
+IsOfPage stands made bytes = (page : List ℕ) × (stands ≡ Some page) × (unbuilt_place page ≡ None) × (made page ≡ done bytes)
 
 pub stands_made : (stands : Option (List ℕ)) (made : List ℕ → Answer) (bytes : List ℕ) → page_answer stands made ≡ done bytes → IsOfPage stands made bytes
 unfolding page_answer
 stands_made None made bytes e = cc
-stands_made (Some page) made bytes e = (page, refl, (page_made page bytes made e).is)
+stands_made (Some page) made bytes e = let m : IsMade page made bytes = page_made page bytes made e in (page, refl, m.built, m.is)
 
 -- ---- what was fetched
 

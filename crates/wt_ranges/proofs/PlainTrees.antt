@@ -1,11 +1,11 @@
 -- Filled trees: no item comes from a call and each node holds an item, so that no node is a group.
-use Rattle.std.proofs.Common.{◌≡◌, ℕ, ◌+◌, ◌<◌, Bool, true, false, List, [], ◌∷◌, ◌++◌, length, drop, get_or, refl, sym, ap, ap₂, ◌∙◌, subst, cond, append-nil}
+use Rattle.std.proofs.Common.{◌≡◌, ℕ, ◌+◌, ◌<◌, Bool, true, false, List, [], ◌∷◌, ◌++◌, length, drop, get_or, refl, sym, ap, ◌∙◌}
 use Rattle.std.specs.Prelude.{◌&&◌, ◌||◌}
 use Rattle.std.specs.List.{list_all, list_any}
 use Rattle.std.proofs.lemmas.List.{at_drop_more}
 use Rattle.wt_tree.specs.Kinds.{is_leaf}
-use Rattle.wt_span.specs.Items.{Item, items, sources}
-use Rattle.wt_span.specs.Origins.{OuterCall}
+use Rattle.wt_span.specs.declared.form.Piece.{Piece}
+use Rattle.wt_span.specs.Items.{Item, items}
 use Rattle.wt_inline.specs.ItemTree.{ItemTree, inner, ItemTrees, nothing, further, forest, tree_items, held_by_all}
 use Rattle.wt_inline.specs.View.{item_tree, item_trees}
 use Rattle.wt_inline.specs.declared.tree.PieceTree.{PieceTree, out-PieceTree}
@@ -30,6 +30,40 @@ pub filled_turn : (i : ℕ) (ns : List PieceTree) (child : PieceTree) → i < le
     → filled_in_all (drop i ns) ≡ (is_filled (item_tree child) && filled_in_all (drop (i + 1) ns))
 filled_turn i ns child lt is =
     at_drop_more filled_in_all ns i child lt ∙ ap (λ (c : PieceTree). is_filled (item_tree c) && filled_in_all (drop (i + 1) ns)) (sym is)
+
+and_false : (v : Bool) → (v && false) ≡ false
+and_false true = refl
+and_false false = refl
+
+pub unfilled : (n : PieceTree) (ns : List PieceTree) (i : ℕ) (child : PieceTree) → ns ≡ (out-PieceTree n).children → i < length ns → child ≡ get_or ns i child
+    → filled_in_all (drop i ns) ≡ filled_in_all ns → is_filled (item_tree child) ≡ false → false ≡ is_filled (item_tree n)
+unfilled n ns i child is lt at inv no =
+    let v : Bool =
+    is_round (items (out-PieceTree n).opening) (are_some (forest (item_trees (out-PieceTree n).children))) (items (out-PieceTree n).closing) in
+    let e : filled_in_all ns ≡ false = sym inv ∙ filled_turn i ns child lt at ∙ ap (λ (w : Bool). w && filled_in_all (drop (i + 1) ns)) no in
+    sym (filled_level n ∙ ap (λ (ms : List PieceTree). v && filled_in_all ms) (sym is) ∙ ap (λ (w : Bool). v && w) e ∙ and_false v)
+
+pub round_is : (n : PieceTree) (o c : List Piece) (ns : List PieceTree) (v w : Bool) → o ≡ (out-PieceTree n).opening → ns ≡ (out-PieceTree n).children
+    → c ≡ (out-PieceTree n).closing → w ≡ are_some (forest (item_trees ns)) → v ≡ is_round (items o) w (items c)
+    → is_round (items (out-PieceTree n).opening) (are_some (forest (item_trees (out-PieceTree n).children))) (items (out-PieceTree n).closing) ≡ v
+round_is n o c ns v w e f g some is =
+    let a : List Item = items (out-PieceTree n).opening in
+    let d : List Item = items (out-PieceTree n).closing in
+    sym (is
+    ∙ ap (λ (ps : List Piece). is_round (items ps) w (items c)) e
+    ∙ ap (λ (x : Bool). is_round a x (items c)) (some ∙ ap (λ (ms : List PieceTree). are_some (forest (item_trees ms))) f)
+    ∙ ap (λ (ps : List Piece). is_round a (are_some (forest (item_trees (out-PieceTree n).children))) (items ps)) g)
+
+-- not round, or round and all children filled
+pub filled_by : (n : PieceTree) (v w : Bool)
+    → is_round (items (out-PieceTree n).opening) (are_some (forest (item_trees (out-PieceTree n).children))) (items (out-PieceTree n).closing) ≡ v
+    → filled_in_all (out-PieceTree n).children ≡ w → is_filled (item_tree n) ≡ (v && w)
+filled_by n v w e f =
+    filled_level n ∙ ap (λ (x : Bool). x && filled_in_all (out-PieceTree n).children) e ∙ ap (λ (x : Bool). v && x) f
+
+pub none_left : (n : PieceTree) (ns : List PieceTree) (i : ℕ) → ns ≡ (out-PieceTree n).children → drop i ns ≡ []
+    → filled_in_all (drop i ns) ≡ filled_in_all ns → filled_in_all (out-PieceTree n).children ≡ true
+none_left n ns i is e inv = ap filled_in_all (sym is) ∙ sym inv ∙ ap filled_in_all e
 
 -- ---- filled trees are plain
 
