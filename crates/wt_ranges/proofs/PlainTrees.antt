@@ -1,5 +1,5 @@
 -- Filled trees: no item comes from a call and each node holds an item, so that no node is a group.
-use Rattle.std.proofs.Common.{◌≡◌, ℕ, ◌+◌, ◌<◌, Bool, true, false, List, [], ◌∷◌, ◌++◌, length, drop, get_or, refl, sym, ap, ◌∙◌}
+use Rattle.std.proofs.Common.{◌≡◌, ℕ, ◌+◌, ◌<◌, ◌≤◌, Bool, true, false, List, [], ◌∷◌, ◌++◌, length, drop, get_or, refl, sym, ap, ◌∙◌, arith}
 use Rattle.std.specs.Prelude.{◌&&◌, ◌||◌}
 use Rattle.std.specs.List.{list_all, list_any}
 use Rattle.std.proofs.lemmas.List.{at_drop_more}
@@ -31,16 +31,20 @@ pub filled_turn : (i : ℕ) (ns : List PieceTree) (child : PieceTree) → i < le
 filled_turn i ns child lt is =
     at_drop_more filled_in_all ns i child lt ∙ ap (λ (c : PieceTree). is_filled (item_tree c) && filled_in_all (drop (i + 1) ns)) (sym is)
 
+pub some_trees : (ns : List PieceTree) → 1 ≤ length ns → true ≡ are_some (forest (item_trees ns))
+some_trees [] lt = absurd (omega (arith, lt))
+some_trees (n ∷ ns) lt = refl
+
 and_false : (v : Bool) → (v && false) ≡ false
 and_false true = refl
 and_false false = refl
 
 pub unfilled : (n : PieceTree) (ns : List PieceTree) (i : ℕ) (child : PieceTree) → ns ≡ (out-PieceTree n).children → i < length ns → child ≡ get_or ns i child
     → filled_in_all (drop i ns) ≡ filled_in_all ns → is_filled (item_tree child) ≡ false → false ≡ is_filled (item_tree n)
-unfilled n ns i child is lt at inv no =
+unfilled n ns i child is lt at inv empty =
     let v : Bool =
     is_round (items (out-PieceTree n).opening) (are_some (forest (item_trees (out-PieceTree n).children))) (items (out-PieceTree n).closing) in
-    let e : filled_in_all ns ≡ false = sym inv ∙ filled_turn i ns child lt at ∙ ap (λ (w : Bool). w && filled_in_all (drop (i + 1) ns)) no in
+    let e : filled_in_all ns ≡ false = sym inv ∙ filled_turn i ns child lt at ∙ ap (λ (w : Bool). w && filled_in_all (drop (i + 1) ns)) empty in
     sym (filled_level n ∙ ap (λ (ms : List PieceTree). v && filled_in_all ms) (sym is) ∙ ap (λ (w : Bool). v && w) e ∙ and_false v)
 
 pub round_is : (n : PieceTree) (o c : List Piece) (ns : List PieceTree) (v w : Bool) → o ≡ (out-PieceTree n).opening → ns ≡ (out-PieceTree n).children
