@@ -145,9 +145,11 @@ cut_text false x ts z = subst (λ (us : Trees). NoneIsGroup (cut_as x (all_cut_t
 
 cut_is_none : (t : Tree) → BareTexts t → TextIsNone (cut_texts t)
 cut_is_none (tree l ts) b e =
-    let g : is_group l.kind ≡ false = text_no_group l.kind e in
-    (g, cut_text (is_group l.kind) (texts_of_kind l.kind) ts
-        (is_bare (is_group l.kind) (is_leaf l.kind) ts (AllBareTexts ts) g (leaf_text l.kind e) b.1))
+    let g : is_group l.kind ≡ false = text_no_group l.kind e in (
+      g,
+      cut_text (is_group l.kind) (texts_of_kind l.kind) ts
+          (is_bare (is_group l.kind) (is_leaf l.kind) ts (AllBareTexts ts) g (leaf_text l.kind e) b.1),
+    )
 
 all_cut_free : (ts : Trees) → AllBareTexts ts → TextsAreNone (all_cut_texts ts)
 all_cut_free none b = tt

@@ -4,8 +4,8 @@ use Rattle.wt_ranges.proofs.Passes.{leaf_done}
 use Rattle.wt_ranges.proofs.PassPieces.{own_held, own_fits}
 use Rattle.wt_ranges.proofs.pass.leaf.Goals as goal
 
-pub after-behind-requires-clause-place : goal.after-behind-requires-clause-place
-after-behind-requires-clause-place c =
+pub after-requires : goal.after-requires
+after-requires c =
     let own = own_held c.args.tree c.in_ok-own.own c.as_slice-2.result.now c.as_slice.result.now c.in_ok-own.ensures c.as_slice.ensures c.as_slice-2.ensures in
     own_fits c.args.at.place c.width.result c.in_ok-own.own c.as_slice-3.result.now
     (item_tree c.args.tree) own c.as_slice-3.ensures c.width.ensures c.requires.place
