@@ -1,15 +1,21 @@
 -- Worked cases of the HTML text, each by computing.
 use Rattle.std.proofs.Common.{◌≡◌, ℕ, Some, None, List, [], ◌∷◌, ◌++◌, refl, codes}
+use Rattle.wt_tree.specs.declared.kind.AttrName.TheVariants as attr
 use Rattle.wt_tree.specs.declared.kind.Kind.{Kind}
 use Rattle.wt_tree.specs.declared.kind.Kind.TheVariants as kind
 use Rattle.wt_tree.specs.declared.kind.Mark.TheVariants.{Nothing}
+use Rattle.wt_tree.specs.declared.node.DataMw.TheVariants as mw
+use Rattle.wt_tree.specs.declared.node.Part.{Part}
+use Rattle.wt_tree.specs.declared.node.Part.TheVariants as part
 use Rattle.wt_tree.specs.Tree.{Label, Tree, tree, Trees, none, more}
 use Rattle.std.specs.Fmt.{digits}
 use Rattle.serde_json.proofs.OnLiterals.{serde_json_on_literals}
 use Rattle.wt_datamw.specs.Sync.{sync_text, sync_members}
-use Rattle.wt_tree.specs.Kinds.{spelling}
-use Rattle.wt_markup.specs.Escapes.{escape, escape_single}
-use Rattle.wt_markup.specs.Html.{id_attribute, mw_attribute, sync_of, sync_start, sync_value, sync_attribute, attributes_of, start_tag, end_tag, frame_start, frame_end, html_text}
+use Rattle.wt_datamw.specs.Mw.{params_data, template_data, mw_text}
+use Rattle.wt_tree.specs.Kinds.{spelling, tag_name, attribute_name}
+use Rattle.wt_tree.specs.Values.{placeholder, extension_prefix}
+use Rattle.wt_markup.specs.Escapes.{escape, escape_single, escape_double}
+use Rattle.wt_markup.specs.Html.{attribute, about, first_attributes, next_attributes, id_attribute, mw_attribute, sync_of, sync_start, sync_value, sync_attribute, attributes_of, start_tag, end_tag, frame_start, frame_end, html_text}
 
 abbrev blank : Kind → ℕ → ℕ → ℕ → Label
 blank k id start end = record {
@@ -53,3 +59,23 @@ heading : html_text (body 9 (more (tree (record (blank (kind.Heading 2) 1 0 9) {
 unfolding html_text frame_start frame_end start_tag end_tag attributes_of id_attribute mw_attribute sync_of sync_start sync_value
     sync_attribute spelling sync_text sync_members escape escape_single serde_json_on_literals digits
 heading = refl
+
+-- ---- groups
+
+-- a group with this source and word, whose parts are these
+abbrev group : ℕ → ℕ → ℕ → List ℕ → List ℕ → List Part → Trees → Tree
+group id start end source word parts ts =
+    tree (record (blank kind.Group id start end) { own = source; attrs = (attr.Typeof, word) ∷ []; mw = Some (mw.Parts parts) }) ts
+
+abbrev transclusion : List ℕ
+transclusion = codes "mw:Transclusion"
+
+-- The page `a {{x}}`, and the template gives `b`: the text is one `span`.
+called_letter : html_text (body 7 (more (tree (blank kind.Para 1 0 7) (more (text_leaf 0 2 (codes "a "))
+    (more (group 2 2 7 (codes "{{x}}") transclusion (part.Template (codes "x") (codes "./Template:X") [] 0 ∷ [])
+    (more (text_leaf 0 0 (codes "b")) none)) none))) none))
+    ≡ codes "<!DOCTYPE html><html><head><meta charset=\"utf-8\"/></head><body data-parsoid='{\"dsr\":[0,7,0,0]}'><p id=\"mw1\" data-parsoid='{\"dsr\":[0,7,0,0]}'>a <span about=\"#mwt1\" typeof=\"mw:Transclusion\" id=\"mw2\" data-mw='{\"parts\":[{\"template\":{\"i\":0,\"params\":{},\"target\":{\"href\":\"./Template:X\",\"wt\":\"x\"}}}]}' data-parsoid='{\"dsr\":[2,7,0,0],\"src\":\"{{x}}\"}'>b</span></p></body></html>"
+unfolding html_text frame_start frame_end start_tag end_tag attributes_of id_attribute mw_attribute sync_of sync_start sync_value
+    sync_attribute spelling sync_text sync_members escape escape_single escape_double serde_json_on_literals digits attribute about
+    first_attributes next_attributes tag_name attribute_name mw_text params_data template_data
+called_letter = refl
