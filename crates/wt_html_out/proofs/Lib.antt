@@ -1,3 +1,3 @@
-pub mod Groups
+pub mod ShownParts
 pub mod Htmls
 pub mod Spending

@@ -213,7 +213,7 @@ fn push_ending(
 }
 
 /// The group of this number: an element for each text and each element that its nodes show.
-#[tactic(auto, using(crate::proofs::Groups::group_written))]
+#[tactic(auto, using(crate::proofs::ShownParts::group_written))]
 pub fn push_group(
     alloc: Global,
     out: &mut Vec<u8>,

@@ -50,7 +50,7 @@ unfoldable pub sync_start : List ℕ
 sync_start = codes " data-parsoid='"
 
 unfoldable pub sync_value : List ℕ → List ℕ
-sync_value text = sync_start ++ (escaped_single text ++ codes "'")
+sync_value bytes = sync_start ++ (escaped_single bytes ++ codes "'")
 
 unfoldable pub sync_attribute : Label → Option Ranges → List ℕ
 sync_attribute l None = []
