@@ -1,6 +1,6 @@
 //! The attributes of the elements of a group.
 
-ghost use Rattle.std.specs.Prelude.{◌≡◌, ◌++◌, ◌∷◌, [], OnOk};
+ghost use Rattle.std.specs.Prelude.{◌≡◌, ◌++◌, ◌∷◌, [], None, OnOk, codes};
 ghost use Rattle.wt_markup.specs.Html.{attribute, attributes, about, joined_type, with_type, first_attributes, next_attributes, group_attributes};
 ghost use Rattle.wt_tree.specs.Kinds.{fixed_of, one_if_any, fixed_attributes};
 ghost use Rattle.wt_tree.specs.View.{attrs_of, label_of};

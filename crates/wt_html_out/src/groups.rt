@@ -14,7 +14,7 @@ use crate::names::push_name;
 use crate::shown::push_shown_all;
 use crate::tags::push_end_of;
 use std::alloc::Global;
-use wt_span::NoMemory;
+use wt_span::{List, NoMemory};
 use wt_tree::{Attr, Kind, Node, Showing, TagName, Writing};
 
 /// Where the writer of a group stands: at its start, in the element of a text, or behind an element.
@@ -64,7 +64,8 @@ fn push_span(
     ensures { OnOk result (out.new.items ≡ out.old.items ++ span_start first number (label_of (out-Node group.now))) }
 {
     let kind = Kind::Tag(TagName::Span);
-    push_group_tag(alloc, out, first, number, group, kind, [].as_slice(), b">")
+    let attrs: List<Attr> = List::new(alloc);
+    push_group_tag(alloc, out, first, number, group, kind, attrs.as_slice(), b">")
 }
 
 #[tactic(auto, unfolding(crate::specs::Shown::span_end))]
