@@ -1,11 +1,11 @@
 -- Comments and comment lines that are cut out of their text are whole by themselves.
-use Rattle.std.proofs.Common.{◌≡◌, ℕ, zero, suc, ◌+◌, ◌-◌, ◌<◌, ◌≤◌, Bool, true, false, Option, Some, None, List, [], ◌∷◌, length, get_or, take, nat_lt, refl, ap, ◌∙◌, subst, arith, codes}
+use Rattle.std.proofs.Common.{◌≡◌, ℕ, zero, suc, ◌+◌, ◌-◌, ◌<◌, ◌≤◌, Bool, true, false, Option, Some, None, List, [], ◌∷◌, length, get_or, take, drop, nat_lt, refl, ap, ◌∙◌, subst, arith, codes}
 use Rattle.std.specs.Prelude.{if◌then◌else◌, ◌&&◌}
 use Rattle.wt_span.specs.Bytes.{is_blank, is_break, begins, through, blank_len}
 use Rattle.wt_span.specs.Comments.{comment_len, remarks_with, remarks_len, comment_line_len}
 use Rattle.wt_lex.proofs.Begins.{and_left, lt_is}
 use Rattle.wt_lex.proofs.Forms.{OptFits, comment_fits}
-use Rattle.wt_lex.proofs.Fronts.{begins_front, begins_none, prefix_front, byte_front}
+use Rattle.wt_lex.proofs.Fronts.{drop_front, begins_front, begins_none, through_front, prefix_front, byte_front}
 
 -- a comment is the same in each front that holds it
 comment_by : (bs : List ℕ) (m : ℕ) (t : Bool) (k : ℕ) → begins (codes "<!--") bs ≡ t → through (codes "-->") (drop 4 bs) ≡ k → 4 + k ≤ m
