@@ -3,11 +3,14 @@ use Rattle.std.proofs.Common.{◌≡◌, ℕ, Bool, true, false, List, [], ◌�
 use Rattle.std.proofs.lemmas.Grind.{flat_map-append}
 use Rattle.wt_tree.specs.declared.kind.Showing.{Showing}
 use Rattle.wt_tree.specs.declared.kind.Showing.TheVariants.{Characters, Inside, Nothing, Element}
-use Rattle.wt_tree.specs.Kinds.{showing, writing, spelling, fixed_attributes}
+use Rattle.wt_tree.specs.Kinds.{showing, writing, fixed_attributes}
 use Rattle.wt_tree.specs.Plain.{Face, face, Plain, text, element, Plains, ended, along, text_before, shown_before, plain_before, plains_before}
+use Rattle.wt_tree.specs.declared.node.Node.{Node, out-Node}
+use Rattle.wt_tree.specs.View.{label_of, view, views}
+use Rattle.wt_tree.proofs.Views.{view_out}
 use Rattle.wt_tree.specs.Tree.{Label, Tree, tree, Trees, none, more}
 use Rattle.wt_markup.specs.Escapes.{escape, escaped}
-use Rattle.wt_markup.specs.Html.{attributes, element_by, plain_html, plains_html, group_element, group_part, group_parts, group_html, span}
+use Rattle.wt_markup.specs.Html.{attributes, element_by, plain_html, plains_html, face_attributes, group_element, group_span, group_part, group_parts, group_html}
 use Rattle.wt_html_out.specs.declared.groups.Progress.{Progress}
 use Rattle.wt_html_out.specs.declared.groups.Progress.TheVariants as at
 use Rattle.wt_html_out.specs.Shown.{shown_by, shown_html, shown_html_of_all, is_start, span_start, text_start, span_end, text_end, ending, text_part, after_text, part_by, after_by, after, after_all, part, parts}
@@ -46,7 +49,7 @@ mutual
 abbrev go : Progress → ℕ → Label → Plains → List ℕ
 go p k g ended = ending p k g
 go p k g (along (text bs) ps) = text_start p k g ++ (escaped bs ++ go at.InText k g ps)
-go p k g (along (element f qs) ps) = text_end p ++ (group_element (is_start p) k g f (plains_html qs) ++ go at.Behind k g ps)
+go p k g (along (element f qs) ps) = text_end p ++ (group_element (is_start p) k g f.kind (face_attributes f) (plains_html qs) ++ go at.Behind k g ps)
 
 text_go : (bs : List ℕ) (p : Progress) (k : ℕ) (g : Label) (rest : Plains)
     → go p k g (text_before bs rest) ≡ text_part p k g bs ++ go (after_text p bs) k g rest
@@ -66,8 +69,8 @@ part_step Characters l held inside within p q k g rest h i = text_go l.shown p k
 part_step Inside l held inside within p q k g rest h i = i rest
 part_step Nothing l held inside within p q k g rest h i = refl
 part_step Element l held inside within p q k g rest h i =
-    ap (λ x. text_end p ++ (group_element (is_start p) k g (face l) x ++ go at.Behind k g rest)) (h ended ∙ append-nil inside)
-    ∙ sym (append_assoc (text_end p) (group_element (is_start p) k g (face l) inside) (go at.Behind k g rest))
+    ap (λ x. text_end p ++ (group_element (is_start p) k g l.kind (fixed_attributes l.kind ++ l.attrs) x ++ go at.Behind k g rest)) (h ended ∙ append-nil inside)
+    ∙ sym (append_assoc (text_end p) (group_element (is_start p) k g l.kind (fixed_attributes l.kind ++ l.attrs) inside) (go at.Behind k g rest))
 
 mutual
   part_go : (t : Tree) (p : Progress) (k : ℕ) (g : Label) (rest : Plains)
@@ -124,31 +127,49 @@ text_ended k g (along (text bs) ps) e = absurd (cc e)
 text_ended k g (along (element f qs) ps) e = refl
 
 span_is : (first : Bool) (k : ℕ) (g : Label) (inside rest : List ℕ)
-    → span_start first k g ++ (inside ++ (span_end ++ rest)) ≡ group_element first k g span inside ++ rest
-unfolding span_start span_end spelling
+    → span_start first k g ++ (inside ++ (span_end ++ rest)) ≡ group_span first k g inside ++ rest
+unfolding span_start span_end
 span_is first k g inside rest = simp append_assoc
 
 text_is : (first : Bool) (k : ℕ) (g : Label) (bs : List ℕ) (ps : Plains) → begins_with_text ps ≡ false
-    → span_start first k g ++ (escaped bs ++ go at.InText k g ps) ≡ group_element first k g span (escaped bs) ++ go at.Behind k g ps
+    → span_start first k g ++ (escaped bs ++ go at.InText k g ps) ≡ group_span first k g (escaped bs) ++ go at.Behind k g ps
 text_is first k g bs ps e =
     ap (λ x. span_start first k g ++ (escaped bs ++ x)) (text_ended k g ps e) ∙ span_is first k g (escaped bs) (go at.Behind k g ps)
 
 go_behind : (k : ℕ) (g : Label) (ps : Plains) → AreApart ps → go at.Behind k g ps ≡ group_parts false k g ps
 go_behind k g ended h = refl
 go_behind k g (along (text bs) ps) h =
-    text_is false k g bs ps h.0 ∙ ap (λ x. group_element false k g span (escaped bs) ++ x) (go_behind k g ps h.1)
-go_behind k g (along (element f qs) ps) h = ap (λ x. group_element false k g f (plains_html qs) ++ x) (go_behind k g ps h)
+    text_is false k g bs ps h.0 ∙ ap (λ x. group_span false k g (escaped bs) ++ x) (go_behind k g ps h.1)
+go_behind k g (along (element f qs) ps) h = ap (λ x. group_element false k g f.kind (face_attributes f) (plains_html qs) ++ x) (go_behind k g ps h)
 
-nothing_shown : (k : ℕ) (g : Label) → span_start true k g ++ span_end ≡ group_element true k g span []
-unfolding span_start span_end spelling
+nothing_shown : (k : ℕ) (g : Label) → span_start true k g ++ span_end ≡ group_span true k g []
+unfolding span_start span_end
 nothing_shown k g = refl
 
 go_start : (k : ℕ) (g : Label) (ps : Plains) → AreApart ps → go at.Start k g ps ≡ group_html k g ps
 go_start k g ended h = nothing_shown k g
 go_start k g (along (text bs) ps) h =
-    text_is true k g bs ps h.0 ∙ ap (λ x. group_element true k g span (escaped bs) ++ x) (go_behind k g ps h.1)
-go_start k g (along (element f qs) ps) h = ap (λ x. group_element true k g f (plains_html qs) ++ x) (go_behind k g ps h)
+    text_is true k g bs ps h.0 ∙ ap (λ x. group_span true k g (escaped bs) ++ x) (go_behind k g ps h.1)
+go_start k g (along (element f qs) ps) h = ap (λ x. group_element true k g f.kind (face_attributes f) (plains_html qs) ++ x) (go_behind k g ps h)
 
-pub group_written : (k : ℕ) (g : Label) (ts : Trees)
+group_written : (k : ℕ) (g : Label) (ts : Trees)
     → parts at.Start k g ts ++ ending (after_all at.Start ts) k g ≡ group_html k g (plains_before ts ended)
 group_written k g ts = sym (parts_go ts at.Start k g ended) ∙ go_start k g (plains_before ts ended) (plains_apart ts ended tt)
+
+-- the parts of a group and its end, written behind others
+pub group_pushed : (k : ℕ) (g : Label) (ts us : Trees) (old mid now : List ℕ) (p : Progress) → us ≡ ts → mid ≡ old ++ parts at.Start k g us
+    → p ≡ after_all at.Start us → now ≡ mid ++ ending p k g → now ≡ old ++ group_html k g (plains_before ts ended)
+group_pushed k g ts us old mid now p d e f h =
+    h ∙ ap₂ (λ (xs : List ℕ) (q : Progress). xs ++ ending q k g) e f ∙ append_assoc old (parts at.Start k g us) (ending (after_all at.Start us) k g)
+    ∙ ap (λ x. old ++ x) (group_written k g us) ∙ ap (λ vs. old ++ group_html k g (plains_before vs ended)) d
+
+-- a node that is an element, by one level
+part_level : (p : Progress) (k : ℕ) (g : Label) (n : Node) → part p k g (view n)
+    ≡ part_by (showing (out-Node n).kind) p k g (label_of (out-Node n)) (parts p k g (views (out-Node n).children)) (shown_html_of_all (views (out-Node n).children))
+part_level p k g n = rw (view_out n)
+
+pub part_element : (p : Progress) (k : ℕ) (g : Label) (n : Node) → showing (out-Node n).kind ≡ Element → part p k g (view n)
+    ≡ text_end p ++ group_element (is_start p) k g (out-Node n).kind (fixed_attributes (out-Node n).kind ++ (label_of (out-Node n)).attrs) (shown_html_of_all (views (out-Node n).children))
+part_element p k g n e =
+    part_level p k g n
+    ∙ ap (λ s. part_by s p k g (label_of (out-Node n)) (parts p k g (views (out-Node n).children)) (shown_html_of_all (views (out-Node n).children))) e

@@ -12,11 +12,6 @@ abbrev pub SpendsNodes : Left → List ℕ → ℕ → Option Left → Type 0
 SpendsNodes l bytes count None = l.bytes < length bytes
 SpendsNodes l bytes count (Some m) = (m.bytes + length bytes ≡ l.bytes) × (m.groups ≡ l.groups + count)
 
--- so many bytes left, or none, behind the same groups
-abbrev pub leaving : Left → Option ℕ → Option Left
-leaving l None = None
-leaving l (Some n) = Some (record { bytes = n; groups = l.groups })
-
 -- the length of a text, or nothing where it has more than so many bytes
 abbrev pub Fits : ℕ → List ℕ → Option ℕ → Type 0
 Fits most bytes None = most < length bytes

@@ -3,10 +3,9 @@ use Rattle.std.specs.Prelude.{ℕ, List, [], ◌∷◌, ◌++◌, Bool, true, fa
 use Rattle.wt_tree.specs.declared.kind.Showing.{Showing}
 use Rattle.wt_tree.specs.declared.kind.Showing.TheVariants.{Characters, Inside, Nothing, Element}
 use Rattle.wt_tree.specs.Kinds.{showing, writing, fixed_attributes}
-use Rattle.wt_tree.specs.Plain.{face}
 use Rattle.wt_tree.specs.Tree.{Label, Tree, tree, Trees, none, more}
 use Rattle.wt_markup.specs.Escapes.{escaped}
-use Rattle.wt_markup.specs.Html.{attributes, tag_of, end_tag_of, element_by, group_attributes, group_element, span}
+use Rattle.wt_markup.specs.Html.{attributes, tag_of, end_tag_of, element_by, face_attributes, group_attributes, group_element, span}
 use Rattle.wt_html_out.specs.declared.groups.Progress.{Progress}
 use Rattle.wt_html_out.specs.declared.groups.Progress.TheVariants as at
 
@@ -35,7 +34,7 @@ is_start at.Behind = false
 
 -- the start of a text's element, where none is open
 unfoldable pub span_start : Bool → ℕ → Label → List ℕ
-span_start first k g = tag_of span.kind (group_attributes first k g span) (codes ">")
+span_start first k g = tag_of span.kind (group_attributes first k g (face_attributes span)) (codes ">")
 
 abbrev pub text_start : Progress → ℕ → Label → List ℕ
 text_start at.Start k g = span_start true k g
@@ -69,7 +68,7 @@ abbrev pub part_by : Showing → Progress → ℕ → Label → Label → List �
 part_by Characters p k g l parts inside = text_part p k g l.shown
 part_by Inside p k g l parts inside = parts
 part_by Nothing p k g l parts inside = []
-part_by Element p k g l parts inside = text_end p ++ group_element (is_start p) k g (face l) inside
+part_by Element p k g l parts inside = text_end p ++ group_element (is_start p) k g l.kind (fixed_attributes l.kind ++ l.attrs) inside
 
 abbrev pub after_by : Showing → Progress → Label → Progress → Progress
 after_by Characters p l within = after_text p l.shown

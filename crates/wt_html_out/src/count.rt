@@ -1,5 +1,5 @@
 ghost use Rattle.std.specs.Prelude.{◌≡◌, ◌++◌, suc, IfOk};
-ghost use Rattle.wt_html_out.specs.Counts.{Spends, SpendsNodes, leaving, Fits};
+ghost use Rattle.wt_html_out.specs.Counts.{Spends, SpendsNodes, Fits};
 ghost use Rattle.wt_markup.specs.Escapes.{escaped};
 ghost use Rattle.wt_markup.specs.Html.{start_tag, void_tag, end_tag, round_character, group_html, groups, groups_of_all, html, html_of_all, frame_start, frame_end, html_text};
 ghost use Rattle.wt_tree.specs.Plain.{ended, plains_before};
@@ -115,19 +115,6 @@ pub struct Left {
     pub groups: u32,
 }
 
-/// So many bytes left, or none, behind the same groups.
-fn leaving(left: Left, bytes: Option<u32>) -> Option<Left>
-    ensures { result ≡ leaving left bytes }
-{
-    match bytes {
-        None => None,
-        Some(bytes) => Some(Left {
-            bytes,
-            groups: left.groups,
-        }),
-    }
-}
-
 fn spend_group(
     alloc: Global,
     scratch: &mut Vec<u8>,
@@ -167,8 +154,13 @@ fn spend_round_children(
     let Some(behind) = spend_all(alloc, scratch, inside, node.children.as_slice())? else {
         return Ok(None);
     };
-    let rest = spend_end(scratch, behind.bytes, node)?;
-    Ok(leaving(behind, rest))
+    let Some(bytes) = spend_end(scratch, behind.bytes, node)? else {
+        return Ok(None);
+    };
+    Ok(Some(Left {
+        bytes,
+        groups: behind.groups,
+    }))
 }
 
 #[cycle(count)]
@@ -183,14 +175,37 @@ fn spend_html(
     if is_group(node.kind) {
         return spend_group(alloc, scratch, left, node);
     }
-    let rest = match node.kind.writing() {
-        Writing::AsText => spend_source(scratch, left.bytes, node.own.as_slice())?,
-        Writing::AsVoid => spend_void(alloc, scratch, left.bytes, node)?,
-        Writing::RoundCharacter => spend_round_character(alloc, scratch, left.bytes, node)?,
-        Writing::RoundChildren => return spend_round_children(alloc, scratch, left, node),
-        Writing::Unwritten => Some(left.bytes),
-    };
-    Ok(leaving(left, rest))
+    match node.kind.writing() {
+        Writing::AsText => {
+            let Some(bytes) = spend_source(scratch, left.bytes, node.own.as_slice())? else {
+                return Ok(None);
+            };
+            Ok(Some(Left {
+                bytes,
+                groups: left.groups,
+            }))
+        }
+        Writing::AsVoid => {
+            let Some(bytes) = spend_void(alloc, scratch, left.bytes, node)? else {
+                return Ok(None);
+            };
+            Ok(Some(Left {
+                bytes,
+                groups: left.groups,
+            }))
+        }
+        Writing::RoundCharacter => {
+            let Some(bytes) = spend_round_character(alloc, scratch, left.bytes, node)? else {
+                return Ok(None);
+            };
+            Ok(Some(Left {
+                bytes,
+                groups: left.groups,
+            }))
+        }
+        Writing::RoundChildren => spend_round_children(alloc, scratch, left, node),
+        Writing::Unwritten => Ok(Some(left)),
+    }
 }
 
 #[cycle(count)]

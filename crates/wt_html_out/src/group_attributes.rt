@@ -1,7 +1,8 @@
 //! The attributes of the elements of a group.
 
 ghost use Rattle.std.specs.Prelude.{◌≡◌, ◌++◌, ◌∷◌, [], None, OnOk, codes};
-ghost use Rattle.wt_markup.specs.Html.{attribute, attributes, about, joined_type, with_type, first_attributes, next_attributes, group_attributes};
+ghost use Rattle.wt_markup.specs.Html.{attribute, attributes, about_attribute, joined_type, with_type, first_attributes, next_attributes, group_attributes};
+ghost use Rattle.wt_markup.specs.Escapes.{escaped_double};
 ghost use Rattle.wt_tree.specs.Kinds.{fixed_of, one_if_any, fixed_attributes};
 ghost use Rattle.wt_tree.specs.View.{attrs_of, label_of};
 ghost use Rattle.wt_tree.specs.declared.node.Node.{out-Node};
@@ -13,13 +14,23 @@ use wt_span::NoMemory;
 use wt_tree::{Attr, AttrName, Fixed, Kind, Node};
 
 /// The number of the group.
-#[tactic(auto, unfolding(wt_markup::specs::Html::about, wt_markup::specs::Html::attribute, wt_tree::specs::Kinds::attribute_name, wt_markup::specs::Escapes::escape_double, wt_markup::specs::Escapes::escape))]
+#[tactic(auto, unfolding(wt_markup::specs::Html::about_attribute))]
 fn push_about(out: &mut Vec<u8>, number: u32) -> Result<(), NoMemory>
-    ensures { OnOk result (out.new.items ≡ out.old.items ++ attribute (about number)) }
+    ensures { OnOk result (out.new.items ≡ out.old.items ++ about_attribute number) }
 {
     push(out, b" about=\"#mwt")?;
     push_number(out, number)?;
     push(out, b"\"")?;
+    Ok(())
+}
+
+/// Two values with a space between them, escaped.
+fn push_values(out: &mut Vec<u8>, first: &[u8], second: &[u8]) -> Result<(), NoMemory>
+    ensures { OnOk result (out.new.items ≡ out.old.items ++ escaped_double (first.now ++ (codes " " ++ second.now))) }
+{
+    push_escaped_double(out, first)?;
+    push(out, b" ")?;
+    push_escaped_double(out, second)?;
     Ok(())
 }
 
@@ -31,9 +42,7 @@ fn push_both(out: &mut Vec<u8>, word: &Attr, value: &[u8]) -> Result<(), NoMemor
     push(out, b" ")?;
     push(out, word.name.text())?;
     push(out, b"=\"")?;
-    push_escaped_double(out, word.value.as_str().as_bytes())?;
-    push(out, b" ")?;
-    push_escaped_double(out, value)?;
+    push_values(out, word.value.as_str().as_bytes(), value)?;
     push(out, b"\"")?;
     Ok(())
 }
@@ -90,12 +99,7 @@ fn push_word(
 }
 
 /// The attributes of an element of this kind, behind the word that its group has.
-fn push_typed(
-    out: &mut Vec<u8>,
-    words: &[Attr],
-    kind: Kind,
-    attrs: &[Attr],
-) -> Result<(), NoMemory>
+fn push_typed(out: &mut Vec<u8>, words: &[Attr], kind: Kind, attrs: &[Attr]) -> Result<(), NoMemory>
     ensures { OnOk result (out.new.items ≡ out.old.items ++ attributes (with_type (attrs_of words.now) (fixed_attributes kind ++ attrs_of attrs.now))) }
 {
     match words {
@@ -118,7 +122,7 @@ fn push_first(
     kind: Kind,
     attrs: &[Attr],
 ) -> Result<(), NoMemory>
-    ensures { OnOk result (out.new.items ≡ out.old.items ++ first_attributes number (label_of (out-Node group.now)) (record { kind = kind; attrs = attrs_of attrs.now; mw = None })) }
+    ensures { OnOk result (out.new.items ≡ out.old.items ++ first_attributes number (label_of (out-Node group.now)) (fixed_attributes kind ++ attrs_of attrs.now)) }
 {
     push_about(out, number)?;
     push_typed(out, group.attrs.as_slice(), kind, attrs)?;
@@ -128,13 +132,8 @@ fn push_first(
 
 /// The attributes of another element of a group.
 #[tactic(auto, unfolding(wt_markup::specs::Html::next_attributes))]
-fn push_next(
-    out: &mut Vec<u8>,
-    number: u32,
-    kind: Kind,
-    attrs: &[Attr],
-) -> Result<(), NoMemory>
-    ensures { OnOk result (out.new.items ≡ out.old.items ++ next_attributes number (record { kind = kind; attrs = attrs_of attrs.now; mw = None })) }
+fn push_next(out: &mut Vec<u8>, number: u32, kind: Kind, attrs: &[Attr]) -> Result<(), NoMemory>
+    ensures { OnOk result (out.new.items ≡ out.old.items ++ next_attributes number (fixed_attributes kind ++ attrs_of attrs.now)) }
 {
     push_about(out, number)?;
     push_fixed(out, kind)?;
@@ -152,7 +151,7 @@ pub fn push_group_attributes(
     kind: Kind,
     attrs: &[Attr],
 ) -> Result<(), NoMemory>
-    ensures { OnOk result (out.new.items ≡ out.old.items ++ group_attributes first number (label_of (out-Node group.now)) (record { kind = kind; attrs = attrs_of attrs.now; mw = None })) }
+    ensures { OnOk result (out.new.items ≡ out.old.items ++ group_attributes first number (label_of (out-Node group.now)) (fixed_attributes kind ++ attrs_of attrs.now)) }
 {
     if first {
         push_first(alloc, out, number, group, kind, attrs)

@@ -1,9 +1,9 @@
 //! Groups: the elements of what their nodes show.
 
-ghost use Rattle.std.specs.Prelude.{◌≡◌, ◌++◌, IfOk, OnOk, None};
+ghost use Rattle.std.specs.Prelude.{◌≡◌, ◌++◌, IfOk, OnOk};
 ghost use Rattle.wt_html_out.specs.Shown.{is_start, span_start, text_start, span_end, text_end, ending, text_part, after_text, after, after_all, part, parts, shown_html_of_all};
 ghost use Rattle.wt_markup.specs.Html.{tag_of, group_attributes, group_element, group_html, span};
-ghost use Rattle.wt_tree.specs.Plain.{ended, face, plains_before};
+ghost use Rattle.wt_tree.specs.Plain.{ended, plains_before};
 ghost use Rattle.wt_tree.specs.Kinds.{fixed_attributes};
 ghost use Rattle.wt_tree.specs.View.{attrs_of, label_of, view, views};
 ghost use Rattle.wt_tree.specs.declared.node.Node.{out-Node};
@@ -43,7 +43,7 @@ fn push_group_tag(
     attrs: &[Attr],
     end: &[u8],
 ) -> Result<(), NoMemory>
-    ensures { OnOk result (out.new.items ≡ out.old.items ++ tag_of kind (group_attributes first number (label_of (out-Node group.now)) (record { kind = kind; attrs = attrs_of attrs.now; mw = None })) end.now) }
+    ensures { OnOk result (out.new.items ≡ out.old.items ++ tag_of kind (group_attributes first number (label_of (out-Node group.now)) (fixed_attributes kind ++ attrs_of attrs.now)) end.now) }
 {
     push(out, b"<")?;
     push_name(out, kind)?;
@@ -65,7 +65,16 @@ fn push_span(
 {
     let kind = Kind::Tag(TagName::Span);
     let attrs: List<Attr> = List::new(alloc);
-    push_group_tag(alloc, out, first, number, group, kind, attrs.as_slice(), b">")
+    push_group_tag(
+        alloc,
+        out,
+        first,
+        number,
+        group,
+        kind,
+        attrs.as_slice(),
+        b">",
+    )
 }
 
 #[tactic(auto, unfolding(crate::specs::Shown::span_end))]
@@ -133,11 +142,13 @@ fn push_group_element(
     group: &Node<'_>,
     node: &Node<'_>,
 ) -> Result<(), NoMemory>
-    ensures { OnOk result (out.new.items ≡ out.old.items ++ group_element first number (label_of (out-Node group.now)) (face (label_of (out-Node node.now))) (shown_html_of_all (views (out-Node node.now).children))) }
+    ensures { OnOk result (out.new.items ≡ out.old.items ++ group_element first number (label_of (out-Node group.now)) (out-Node node.now).kind (fixed_attributes (out-Node node.now).kind ++ attrs_of (out-Node node.now).attrs) (shown_html_of_all (views (out-Node node.now).children))) }
 {
     let attrs = node.attrs.as_slice();
     match node.kind.writing() {
-        Writing::AsVoid => push_group_tag(alloc, out, first, number, group, node.kind, attrs, b"/>"),
+        Writing::AsVoid => push_group_tag(
+            alloc, out, first, number, group, node.kind, attrs, b"/>",
+        ),
         Writing::RoundCharacter | Writing::RoundChildren => {
             push_group_tag(alloc, out, first, number, group, node.kind, attrs, b">")?;
             push_shown_all(out, node.children.as_slice())?;
@@ -154,17 +165,31 @@ fn push_part(
     out: &mut Vec<u8>,
     progress: Progress,
     number: u32,
-    group: &Node<'_>,
     node: &Node<'_>,
+    group: &Node<'_>,
 ) -> Result<Progress, NoMemory>
     ensures text { OnOk result (out.new.items ≡ out.old.items ++ part progress number (label_of (out-Node group.now)) (view node.now)) }
     ensures after { IfOk result (λ p. p ≡ after progress (view node.now)) }
 {
     match node.kind.showing() {
         Showing::Characters => {
-            push_text(alloc, out, progress, number, group, node.shown.as_str().as_bytes())
+            push_text(
+                alloc,
+                out,
+                progress,
+                number,
+                group,
+                node.shown.as_str().as_bytes(),
+            )
         }
-        Showing::Inside => push_parts(alloc, out, progress, number, group, node.children.as_slice()),
+        Showing::Inside => push_parts(
+            alloc,
+            out,
+            progress,
+            number,
+            node.children.as_slice(),
+            group,
+        ),
         Showing::Nothing => Ok(progress),
         Showing::Element => {
             push_text_end(out, progress)?;
@@ -180,15 +205,15 @@ fn push_parts(
     out: &mut Vec<u8>,
     progress: Progress,
     number: u32,
-    group: &Node<'_>,
     nodes: &[Node<'_>],
+    group: &Node<'_>,
 ) -> Result<Progress, NoMemory>
     ensures text { OnOk result (out.new.items ≡ out.old.items ++ parts progress number (label_of (out-Node group.now)) (views nodes.now)) }
     ensures after { IfOk result (λ p. p ≡ after_all progress (views nodes.now)) }
 {
     let mut at = progress;
     for node in nodes {
-        at = push_part(alloc, out, at, number, group, node)?;
+        at = push_part(alloc, out, at, number, node, group)?;
     }
     Ok(at)
 }
@@ -214,7 +239,6 @@ fn push_ending(
 }
 
 /// The group of this number: an element for each text and each element that its nodes show.
-#[tactic(auto, using(crate::proofs::ShownParts::group_written))]
 pub fn push_group(
     alloc: Global,
     out: &mut Vec<u8>,
@@ -224,6 +248,7 @@ pub fn push_group(
     ensures { OnOk result (out.new.items ≡ out.old.items ++ group_html number (label_of (out-Node group.now)) (plains_before (views (out-Node group.now).children) ended)) }
 {
     let nodes = group.children.as_slice();
-    let progress = push_parts(alloc, out, Progress::Start, number, group, nodes)?;
-    push_ending(alloc, out, progress, number, group)
+    let progress = push_parts(alloc, out, Progress::Start, number, nodes, group)?;
+    push_ending(alloc, out, progress, number, group)?;
+    Ok(())
 }

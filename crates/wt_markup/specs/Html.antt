@@ -2,7 +2,6 @@
 use Rattle.std.specs.Prelude.{ℕ, suc, ◌+◌, List, [], ◌∷◌, ◌++◌, Option, Some, None, Bool, true, false, ◌==◌, codes, decimal, if◌then◌else◌}
 use Rattle.std.specs.List.{flat_map}
 use Rattle.wt_tree.specs.declared.kind.AttrName.{AttrName}
-use Rattle.wt_tree.specs.declared.kind.AttrName.TheVariants as attr
 use Rattle.wt_tree.specs.declared.kind.Kind.{Kind}
 use Rattle.wt_tree.specs.declared.kind.Kind.TheVariants as kind
 use Rattle.wt_tree.specs.declared.kind.TagName.TheVariants as tag
@@ -118,8 +117,8 @@ abbrev mutual
   plains_html (along p ps) = plain_html p ++ plains_html ps
 
 -- the number of its group, which each element of a group has
-unfoldable pub about : ℕ → AttrName × List ℕ
-about k = (attr.About, codes "#mwt" ++ decimal k)
+unfoldable pub about_attribute : ℕ → List ℕ
+about_attribute k = codes " about=\"#mwt" ++ (decimal k ++ codes "\"")
 
 -- The attributes of a group's first element: the group's word (`mw:Transclusion` or `mw:Param`) is its
 -- `typeof`, and stands before the element's own, where it has one.
@@ -132,27 +131,31 @@ with_type (g ∷ gs) [] = g ∷ []
 with_type (g ∷ gs) (x ∷ xs) = joined_type g x ++ xs
 
 -- The first element of a group has all that the group carries: its number, its data and its source.
-unfoldable pub first_attributes : ℕ → Label → Face → List ℕ
-first_attributes k l f = attributes (about k ∷ with_type l.attrs (face_attributes f)) ++ carried_attributes l
+-- `xs` are the attributes of the element by itself.
+unfoldable pub first_attributes : ℕ → Label → List (AttrName × List ℕ) → List ℕ
+first_attributes k l xs = about_attribute k ++ (attributes (with_type l.attrs xs) ++ carried_attributes l)
 
-unfoldable pub next_attributes : ℕ → Face → List ℕ
-next_attributes k f = attributes (about k ∷ face_attributes f)
+unfoldable pub next_attributes : ℕ → List (AttrName × List ℕ) → List ℕ
+next_attributes k xs = about_attribute k ++ attributes xs
 
 -- an element of group k, which has this label; it is the first, or not
-abbrev pub group_attributes : Bool → ℕ → Label → Face → List ℕ
-group_attributes true k l f = first_attributes k l f
-group_attributes false k l f = next_attributes k f
+abbrev pub group_attributes : Bool → ℕ → Label → List (AttrName × List ℕ) → List ℕ
+group_attributes true k l xs = first_attributes k l xs
+group_attributes false k l xs = next_attributes k xs
 
-abbrev pub group_element : Bool → ℕ → Label → Face → List ℕ → List ℕ
-group_element first k l f inside = element_by (writing f.kind) f.kind (group_attributes first k l f) inside
+abbrev pub group_element : Bool → ℕ → Label → Kind → List (AttrName × List ℕ) → List ℕ → List ℕ
+group_element first k l j xs inside = element_by (writing j) j (group_attributes first k l xs) inside
 
 -- the element round a text that a group shows at its top, or round nothing
 abbrev pub span : Face
 span = record { kind = kind.Tag tag.Span; attrs = []; mw = None }
 
+abbrev pub group_span : Bool → ℕ → Label → List ℕ → List ℕ
+group_span first k l inside = group_element first k l span.kind (face_attributes span) inside
+
 abbrev pub group_part : Bool → ℕ → Label → Plain → List ℕ
-group_part first k l (text bs) = group_element first k l span (escaped bs)
-group_part first k l (element f qs) = group_element first k l f (plains_html qs)
+group_part first k l (text bs) = group_span first k l (escaped bs)
+group_part first k l (element f qs) = group_element first k l f.kind (face_attributes f) (plains_html qs)
 
 abbrev pub group_parts : Bool → ℕ → Label → Plains → List ℕ
 group_parts first k l ended = []
@@ -160,7 +163,7 @@ group_parts first k l (along p ps) = group_part first k l p ++ group_parts false
 
 -- group k, which shows this: an element for each, or one empty `span`
 abbrev pub group_html : ℕ → Label → Plains → List ℕ
-group_html k l ended = group_element true k l span []
+group_html k l ended = group_span true k l []
 group_html k l (along p ps) = group_parts true k l (along p ps)
 
 -- how many groups are written of a tree
