@@ -1,5 +1,5 @@
 -- The HTML of a node by one level.
-use Rattle.std.proofs.Common.{◌≡◌, ℕ, suc, Bool, false, List, [], ◌∷◌, ◌++◌, refl, ap, ◌∙◌}
+use Rattle.std.proofs.Common.{◌≡◌, ℕ, suc, Bool, false, ◌++◌, ap, ◌∙◌}
 use Rattle.std.specs.Prelude.{if◌then◌else◌}
 use Rattle.wt_tree.specs.declared.row.Writing.TheVariants.{RoundCharacter, RoundChildren}
 use Rattle.wt_tree.specs.Kinds.{writing}

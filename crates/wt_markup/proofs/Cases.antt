@@ -1,5 +1,5 @@
 -- Worked cases of the HTML text, each by computing.
-use Rattle.std.proofs.Common.{◌≡◌, ℕ, Some, None, List, [], ◌∷◌, ◌++◌, refl, codes}
+use Rattle.std.proofs.Common.{◌≡◌, ℕ, Some, None, List, [], ◌∷◌, refl, codes}
 use Rattle.wt_tree.specs.declared.kind.AttrName.TheVariants as attr
 use Rattle.wt_tree.specs.declared.kind.Kind.{Kind}
 use Rattle.wt_tree.specs.declared.kind.Kind.TheVariants as kind
@@ -13,7 +13,6 @@ use Rattle.serde_json.proofs.OnLiterals.{serde_json_on_literals}
 use Rattle.wt_datamw.specs.Sync.{sync_text, sync_members}
 use Rattle.wt_datamw.specs.Mw.{params_data, template_data, mw_text}
 use Rattle.wt_tree.specs.Kinds.{spelling, tag_name, attribute_name}
-use Rattle.wt_tree.specs.Values.{placeholder, extension_prefix}
 use Rattle.wt_markup.specs.Escapes.{escape, escape_single, escape_double}
 use Rattle.wt_markup.specs.Html.{attribute, about_attribute, first_attributes, next_attributes, id_attribute, mw_attribute, sync_of, sync_start, sync_value, sync_attribute, attributes_of, start_tag, end_tag, frame_start, frame_end, html_text}
 
