@@ -1,7 +1,6 @@
 pub mod Attributing
 pub mod BlockNodes
 pub mod BlockRuns
-pub mod BodyTrees
 pub mod Cases
 pub mod Celling
 pub mod Colons
@@ -21,6 +20,7 @@ pub mod OpenedParts
 pub mod Places
 pub mod Prefixing
 pub mod RowsSoFar
+pub mod Sections
 pub mod Slices
 pub mod Straying
 pub mod Stretching
@@ -30,4 +30,5 @@ pub mod TableRows
 pub mod TableSteps
 pub mod TableWhole
 pub mod TextRuns
+pub mod Unreading
 pub mod UnitSteps
