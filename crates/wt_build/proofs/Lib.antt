@@ -17,7 +17,6 @@ pub mod LineRows
 pub mod ListNodes
 pub mod Making
 pub mod OpenedParts
-pub mod Places
 pub mod Prefixing
 pub mod RowsSoFar
 pub mod Sections

@@ -1,27 +1,33 @@
 -- A page is cut into sections: its units, blocks and the parts of its body are those of the sections, one after the other.
-use Rattle.std.proofs.Common.{◌≡◌, ◌<◌, ℕ, zero, suc, ◌+◌, ◌-◌, Bool, true, false, List, [], ◌∷◌, ◌++◌, length, drop, map, replicate, refl, sym, ap, ◌∙◌, subst, cond, arith, append_assoc, append-nil, inl, inr}
+use Rattle.std.proofs.Common.{◌≡◌, ◌<◌, ℕ, zero, suc, ◌+◌, ◌-◌, Bool, true, false, List, [], ◌∷◌, ◌++◌, length, drop, map, replicate, refl, sym, ap, ◌∙◌, arith, append_assoc, append-nil, None, inl, inr}
 use Rattle.std.specs.List.{flat_map}
-use Rattle.std.specs.Prelude.{◌⊎◌, if◌then◌else◌}
+use Rattle.std.specs.Prelude.{◌⊎◌, ◌==◌}
+use Rattle.std.proofs.lemmas.Bool.Decides.{nat_tests}
 use Rattle.std.proofs.lemmas.Grind.{flat_map-append}
 use Rattle.wt_span.specs.declared.form.Piece.{Piece}
-use Rattle.wt_span.specs.Items.{Item, items}
+use Rattle.wt_span.specs.Items.{Item, items, items_of}
 use Rattle.wt_span.specs.Runs.{runs, IsRun}
 use Rattle.wt_span.proofs.RunLaws.{runs_cut, runs_alone}
 use Rattle.wt_lines.specs.declared.kind.LineKind.{LineKind}
 use Rattle.wt_lines.specs.declared.kind.LineKind.TheVariants as line
 use Rattle.wt_lines.specs.Kinds.{kind_of_signs}
-use Rattle.wt_lines.specs.Lines.{is_break_item, goes_on, full_lines, content}
+use Rattle.wt_lines.specs.Lines.{is_break_item, goes_on, full_lines}
 use Rattle.wt_tables.specs.Extents.{behind, inner_len}
 use Rattle.wt_tables.specs.Parts.{taken_len, put_first, units_from, units, unit_kind}
 use Rattle.wt_tables.proofs.Ends.{after_line, depth_len, inner_is}
+use Rattle.wt_tree.specs.declared.kind.Kind.TheVariants as kind
 use Rattle.wt_inline.specs.declared.loose.Loose.TheVariants.{Sep}
 use Rattle.wt_inline.specs.Parts.{Part, parts}
 use Rattle.wt_inline.specs.Grown.{Grown, Grows, made}
+use Rattle.wt_inline.specs.ItemTree.{ItemTree, plain, inner, forest}
 use Rattle.wt_headings.specs.Lines.{kind_at}
 use Rattle.wt_body.specs.Rows.{Row, kind_of, line_rows, sign_rows, is_unseen, behind_sign, unwritten_end, rows_from, rows, marks_len, idle_len, dashes}
-use Rattle.wt_body.specs.Stretches.{Stretch, gap, stretches_parts}
+use Rattle.wt_body.specs.Stretches.{gap, stretches_parts}
 use Rattle.wt_body.specs.Tables.{Reading}
-use Rattle.wt_body.specs.Body.{one_block, same_block, run_stretches, blocks_by, within, blocks, body_parts}
+use Rattle.wt_body.specs.Body.{one_block, same_block, run_stretches, blocks_by, within, blocks, body_parts, meaning}
+use Rattle.wt_build.specs.declared.row.RowAt.{RowAt}
+use Rattle.wt_build.specs.declared.stretch.StretchAt.{StretchAt}
+use Rattle.wt_build.specs.Views.{rows_view, stretches_view}
 use Rattle.wt_build.specs.Building.{IsRowsSoFar}
 use Rattle.wt_build.specs.Unread.{AreBreaks, begins_break}
 use Rattle.wt_build.specs.Sections.{open_behind, AreFirst, Carries}
@@ -29,7 +35,7 @@ use Rattle.wt_build.proofs.BlockRuns.{unit_one}
 
 -- ---- units, by how many tables are open
 
-units_at : ℕ → List Row → List (List Row)
+abbrev units_at : ℕ → List Row → List (List Row)
 units_at n [] = [] ∷ []
 units_at zero (r ∷ rs) = [] ∷ put_first r (units_at (behind zero r.kind) rs)
 units_at (suc n) (r ∷ rs) = put_first r (units_at (behind (suc n) r.kind) rs)
@@ -153,6 +159,13 @@ parts_cut b xs ys e =
     ap stretches_parts (blocks_cut (within 15) b xs ys e)
     ∙ flat_map-append Rattle.wt_body.specs.Stretches.stretch_parts (blocks xs) (gap (b ∷ []) ∷ blocks ys)
 
+no_rows : body_parts [] ≡ []
+unfolding blocks
+no_rows = refl
+
+parts_first : (b : Item) (ys : List Row) → body_parts (empty_row b ∷ ys) ≡ parts Sep (b ∷ []) ++ body_parts ys
+parts_first b ys = parts_cut b [] ys refl ∙ ap (λ ps. ps ++ (parts Sep (b ∷ []) ++ body_parts ys)) no_rows
+
 -- ---- empty lines
 
 lone_line : (b : Item) (ys : List Item) → is_break_item b ≡ true → IsRun goes_on (b ∷ []) ys
@@ -177,7 +190,7 @@ parts_before xs [] e h = absurd cc
 parts_before xs (b ∷ ys) e h =
     ap (λ rs. body_parts (xs ++ rs)) (empty_first b ys h)
     ∙ parts_cut b xs (rows ys) e
-    ∙ ap (λ ps. body_parts xs ++ ps) (sym (parts_cut b [] (rows ys) refl))
+    ∙ ap (λ ps. body_parts xs ++ ps) (sym (parts_first b (rows ys)))
     ∙ ap (λ rs. body_parts xs ++ body_parts rs) (sym (empty_first b ys h))
 
 no_parts : body_parts (rows []) ≡ []
@@ -188,7 +201,7 @@ pub breaks_first : (bs ys : List Item) → AreBreaks bs → body_parts (rows (bs
 breaks_first [] ys h = refl
 breaks_first (b ∷ bs) ys h =
     ap body_parts (empty_first b (bs ++ ys) h.0)
-    ∙ parts_cut b [] (rows (bs ++ ys)) refl
+    ∙ parts_first b (rows (bs ++ ys))
     ∙ ap (λ ps. parts Sep (b ∷ []) ++ ps) (breaks_first bs ys h.1)
 
 -- ---- the rows of a section
@@ -222,18 +235,6 @@ pub count_step : (made news : List Row) (tables after : ℕ) (k : LineKind) (l :
 count_step made news tables after k l en et ea =
     ap (open_behind 0) en ∙ open_append 0 made (line_rows k l) ∙ ap (λ n. open_behind n (line_rows k l)) et ∙ line_open tables k l ∙ sym ea
 
-pub section_step : (made news all : List Row) (tables after : ℕ) (left rest line : List Piece) (k : LineKind)
-    → full_lines (items left) ≡ items line ∷ full_lines (items rest) → k ≡ kind_at tables (items line) → after ≡ behind tables k
-    → news ≡ made ++ line_rows k (items line) → IsRowsSoFar made tables left all → IsRowsSoFar news after rest all
-section_step made news all tables after left rest line k cut ek ea en so_far =
-    let more = full_lines (items rest) in
-    ap (λ vs. vs ++ rows_from after more) en
-    ∙ append_assoc made (line_rows k (items line)) (rows_from after more)
-    ∙ ap (λ m. made ++ (line_rows k (items line) ++ rows_from m more)) ea
-    ∙ ap (λ j. made ++ (line_rows j (items line) ++ rows_from (behind tables j) more)) ek
-    ∙ ap (λ ls. made ++ rows_from tables ls) (sym cut)
-    ∙ so_far
-
 first_by : (made final all : List Row) (tables : ℕ) (left : List Piece) → final ≡ made ++ replicate tables unwritten_end → open_behind 0 made ≡ tables
     → IsRowsSoFar made tables left all → (left ≡ []) ⊎ ((tables ≡ 0) × (begins_break (items left) ≡ true))
     → body_parts all ≡ body_parts final ++ body_parts (rows (items left))
@@ -266,3 +267,48 @@ pub carries_all : (g h : Grown) (xs : List Item) (left : List Piece) → left �
 carries_all g h xs left e c =
     let none : body_parts (rows (items left)) ≡ [] = ap (λ ps. body_parts (rows (items ps))) e ∙ no_parts in
     ap (λ ps. made h (ps ++ [])) (sym none) ∙ c [] ∙ ap (made g) (append-nil (body_parts (rows xs)))
+
+-- ---- steps of the code
+
+pub section_begins : (made : List Row) (ps : List Piece) → made ≡ [] → IsRowsSoFar made 0 ps (rows (items ps))
+unfolding rows
+section_begins made ps e = ap (λ rs. rs ++ rows_from 0 (full_lines (items ps))) e
+
+pub none_left : (ps : List Piece) → (length ps == 0) ≡ true → ps ≡ []
+none_left [] e = refl
+none_left (p ∷ ps) e = let z : length (p ∷ ps) ≡ 0 = grind (arith, nat_tests) in absurd (omega (arith, z))
+
+-- what the blocks of rows give are the parts of a body
+pub parts_are : (ps qs : List Piece) (rs ts : List RowAt) (ss : List StretchAt) → ps ≡ qs → rs ≡ ts → stretches_view ps ss ≡ within 16 (rows_view ps rs)
+    → stretches_parts (stretches_view ps ss) ≡ body_parts (rows_view qs ts)
+unfolding blocks
+parts_are ps qs rs ts ss ep er e =
+    ap stretches_parts (e ∙ ap (λ us. within 16 (rows_view us rs)) ep ∙ ap (λ us. within 16 (rows_view qs us)) er)
+
+pub carries_section : (g h : Grown) (xs ys : List Item) (ps qs : List Piece) (rs ts : List RowAt) (ss : List StretchAt) → ps ≡ qs → rs ≡ ts
+    → stretches_view ps ss ≡ within 16 (rows_view ps rs) → Grows g (stretches_parts (stretches_view ps ss)) h → AreFirst (rows_view qs ts) xs ys
+    → Carries g xs h ys
+carries_section g h xs ys ps qs rs ts ss ep er e grows first =
+    carries_by g h xs ys (stretches_parts (stretches_view ps ss))
+    (first ∙ ap (λ us. us ++ body_parts (rows ys)) (sym (parts_are ps qs rs ts ss ep er e))) grows
+
+pub carries_breaks : (g h : Grown) (xs ys : List Item) (p : Piece) → xs ≡ items_of p ++ ys → AreBreaks (items_of p) → Grows g (parts Sep (items (p ∷ []))) h
+    → Carries g xs h ys
+carries_breaks g h xs ys p e breaks grows =
+    let one : items (p ∷ []) ≡ items_of p = append-nil (items_of p) in
+    carries_by g h xs ys (parts Sep (items (p ∷ [])))
+    (ap (λ us. body_parts (rows us)) e ∙ breaks_first (items_of p) ys breaks
+    ∙ ap (λ us. parts Sep us ++ body_parts (rows ys)) (sym one)) grows
+
+pub carries_none : (g : Grown) (xs ys : List Item) → ys ≡ xs → Carries g xs g ys
+carries_none g xs ys e qs = ap (λ us. made g (body_parts (rows us) ++ qs)) e
+
+pub carries_on : (g h i : Grown) (xs ys zs : List Item) → Carries g xs h ys → Carries h ys i zs → Carries g xs i zs
+carries_on g h i xs ys zs first next qs = next qs ∙ first qs
+
+pub meaning_is : (g h : Grown) (xs : List Item) (left : List Piece) (ts : List ItemTree) → g ≡ record { trees = []; run = None } → left ≡ []
+    → Carries g xs h (items left) → ts ≡ made h [] → inner (plain kind.Body) [] (forest ts) [] ≡ meaning xs
+unfolding meaning
+meaning_is g h xs left ts eg el c et =
+    ap (λ us. inner (plain kind.Body) [] (forest us) [])
+    (et ∙ carries_all g h xs left el c ∙ ap (λ k. made k (body_parts (rows xs))) eg)

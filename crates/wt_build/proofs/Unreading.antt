@@ -1,13 +1,13 @@
 -- What is not yet read of the pieces of a page: a piece in two, line breaks at the front, a line.
-use Rattle.std.proofs.Common.{◌≡◌, ◌<◌, ◌≤◌, ℕ, zero, suc, ◌+◌, ◌-◌, Bool, true, false, Option, List, [], ◌∷◌, ◌++◌, length, take, drop, map, get_or, refl, sym, ap, ◌∙◌, subst, cond, arith, append_assoc, append-nil, length-append}
+use Rattle.std.proofs.Common.{◌≡◌, ◌<◌, ◌≤◌, ℕ, ◌+◌, ◌-◌, Bool, true, false, Option, Some, List, [], ◌∷◌, ◌++◌, length, take, drop, map, get_or, refl, sym, ap, ◌∙◌, subst, cond, arith, append_assoc, append-nil, length-append}
 use Rattle.std.specs.Prelude.{All, not, ◌&&◌}
-use Rattle.std.specs.List.{prefix_len, AllByRecursion}
+use Rattle.std.specs.List.{prefix_len}
 use Rattle.std.specs.Str.{IsUtf8, IsCharBoundary}
 use Rattle.std.proofs.Math.Numerals.{one-add}
 use Rattle.std.proofs.lemmas.Bool.Decides.{nat_tests}
 use Rattle.std.proofs.lemmas.List.{take-append-drop, take-map, map-append}
 use Rattle.std.proofs.lemmas.List.Sums.{prefix_len_passes}
-use Rattle.std.proofs.lemmas.List.Elements.{All-nil, All-cons}
+use Rattle.std.proofs.lemmas.List.Elements.{All-nil, All-cons, All-head, All-tail}
 use Rattle.std.proofs.lemmas.Str.{IsCharBoundary-after_ascii}
 use Rattle.wt_span.specs.Bytes.{is_break}
 use Rattle.wt_span.specs.declared.form.Form.{Form}
@@ -17,13 +17,13 @@ use Rattle.wt_span.specs.Slice.{bytes_of}
 use Rattle.wt_span.specs.Items.{Item, char, items, items_of, items_by, call_of_origin}
 use Rattle.wt_span.specs.Origins.{IsSoundPiece}
 use Rattle.wt_span.specs.Runs.{IsRun}
+use Rattle.wt_span.specs.Whole.{IsWhole}
 use Rattle.wt_span.proofs.RunLaws.{runs_cut}
-use Rattle.wt_lines.specs.Lines.{is_break_item, IsUnbroken, goes_on, full_lines}
+use Rattle.wt_lines.specs.Lines.{IsUnbroken, goes_on, full_lines}
 use Rattle.wt_lines.specs.Pieces.{is_chars, starts_break, is_break_piece, IsParted}
 use Rattle.wt_lines.proofs.LineLaws.{items_push, unbroken_piece, break_piece}
-use Rattle.wt_lines.proofs.PieceRuns.{Some_, some_items}
 use Rattle.wt_build.specs.Building.{AreWhole}
-use Rattle.wt_build.specs.Unread.{all_breaks, AreBreaks}
+use Rattle.wt_build.specs.Unread.{before, all_breaks, AreBreaks}
 use Rattle.wt_build.proofs.Making.{whole_append}
 
 -- ---- a piece of characters in two
@@ -99,9 +99,6 @@ both false w e = absurd cc
 pub break_chars : (p : Piece) → is_break_piece p ≡ true → is_chars p.form ≡ true
 break_chars p e = (both (is_chars p.form) (starts_break (bytes_of p.text)) e).0
 
-pub break_starts : (p : Piece) → is_break_piece p ≡ true → starts_break (bytes_of p.text) ≡ true
-break_starts p e = (both (is_chars p.form) (starts_break (bytes_of p.text)) e).1
-
 are_breaks : (o : Option ℕ) (bs : List ℕ) → all_breaks bs ≡ true → AreBreaks (map (char o) bs)
 are_breaks o [] h = tt
 are_breaks o (b ∷ bs) h = let e = both (is_break b) (all_breaks bs) h in (e.0, are_breaks o bs e.1)
@@ -114,37 +111,22 @@ breaks_own p n own f h e =
     (sym (e ∙ ap (take n) (chars_items p.form o (bytes_of p.text) f) ∙ take-map (char o) n (bytes_of p.text)))
     (are_breaks o (take n (bytes_of p.text)) h)
 
-some_chars : (o : Option ℕ) (n : ℕ) (bs : List ℕ) → 0 < n → n ≤ length bs → 0 < length (take n (map (char o) bs))
-some_chars o zero bs s w = absurd (omega arith)
-some_chars o (suc n) [] s w = absurd (omega arith)
-some_chars o (suc n) (b ∷ bs) s w = omega arith
-
-pub some_own : (p : Piece) (n : ℕ) (own : List Item) → is_chars p.form ≡ true → 0 < n → n ≤ length (bytes_of p.text) → own ≡ take n (items_of p) → 0 < length own
-some_own p n own f s w e =
-    let o = call_of_origin p.origin in
-    subst (λ (xs : List Item). 0 < length xs) (sym (e ∙ ap (take n) (chars_items p.form o (bytes_of p.text) f))) (some_chars o n (bytes_of p.text) s w)
-
-pub begins_by : (f : Form) (o : Option ℕ) (bs : List ℕ) (rest : List Item) → (is_chars f && starts_break bs) ≡ true
-    → Rattle.wt_build.specs.Unread.begins_break (items_by f o bs ++ rest) ≡ true
-begins_by form.Chars o [] rest e = absurd cc
-begins_by form.Chars o (b ∷ bs) rest e = e
-begins_by (form.Entity c) o bs rest e = absurd cc
-begins_by form.Nowiki o bs rest e = absurd cc
-begins_by form.Extension o bs rest e = absurd cc
-begins_by form.Function o bs rest e = absurd cc
-begins_by form.Comment o bs rest e = absurd cc
-begins_by form.Include o bs rest e = absurd cc
-begins_by form.Hidden o bs rest e = absurd cc
-begins_by form.EmptyCall o bs rest e = absurd cc
-
 -- ---- a line
 
-has_items : (xs : List Item) → Some_ xs → 0 < length xs
-has_items [] h = absurd h
-has_items (x ∷ xs) h = omega arith
+some_by_form : (f : Form) (o : Option ℕ) (bs : List ℕ) → IsWhole f bs → 0 < length (items_by f o bs)
+some_by_form form.Chars o [] h = h
+some_by_form form.Chars o (b ∷ bs) h = omega arith
+some_by_form (form.Entity c) o bs h = omega arith
+some_by_form form.Nowiki o bs h = omega arith
+some_by_form form.Extension o bs h = omega arith
+some_by_form form.Function o bs h = omega arith
+some_by_form form.Comment o bs h = omega arith
+some_by_form form.Include o bs h = omega arith
+some_by_form form.Hidden o bs h = omega arith
+some_by_form form.EmptyCall o bs h = omega arith
 
-pub piece_some : (p : Piece) → IsParted p → 0 < length (items_of p)
-piece_some p h = has_items (items_of p) (some_items p h)
+pub sound_some : (p : Piece) → IsSoundPiece p → 0 < length (items_of p)
+sound_some p h = some_by_form p.form (call_of_origin p.origin) (bytes_of p.text) h.whole
 
 run_onto : (xs ys rest : List Item) → IsUnbroken xs → IsRun goes_on ys rest → IsRun goes_on (xs ++ ys) rest
 run_onto [] ys rest u r = r
@@ -200,5 +182,15 @@ cut_end line all rest e s u j =
     subst (λ (ps : List Piece). IsRun goes_on (items line) (items ps)) (sym e) (run_end (items line) u some) in
     ap (λ xs. full_lines xs) j ∙ runs_cut goes_on (items line) (items rest) run
 
-pub fewer_by : (line : List Item) (all after : List Item) → 0 < length line → all ≡ line ++ after → length after < length all
-fewer_by line all after s e = omega (arith, s, ap (λ xs. length xs) e, length-append line after)
+-- ---- what is left
+
+pub some_left : (ps : List Piece) → All IsSoundPiece ps → 0 < length ps → 0 < length (items ps)
+some_left [] h s = absurd (omega arith)
+some_left (p ∷ ps) h s = omega (arith, length-append (items_of p) (items ps), sound_some p (All-head IsSoundPiece p ps h))
+
+pub fewer_end : (rest : List Piece) (all : List Item) → rest ≡ [] → 0 < length all → length (items rest) < length all
+fewer_end rest all e s = subst (λ (ps : List Piece). length (items ps) < length all) (sym e) s
+
+pub others_sound : (first : Option Piece) (others : List Piece) (p : Piece) → first ≡ Some p → All IsSoundPiece (before first others) → All IsSoundPiece others
+others_sound first others p e h =
+    All-tail IsSoundPiece p others (subst (λ (f : Option Piece). All IsSoundPiece (before f others)) e h)

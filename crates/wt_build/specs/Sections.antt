@@ -1,7 +1,6 @@
 -- Sections of a page: rows after which no table is open, before an empty line or at the end. The blocks of a page are those of its
 -- sections, with the empty lines between them as gaps.
 use Rattle.std.specs.Prelude.{◌≡◌, ◌≤◌, ◌⊎◌, ℕ, true, List, [], ◌∷◌, ◌++◌, All}
-use Rattle.wt_span.specs.declared.form.Piece.{Piece}
 use Rattle.wt_span.specs.Items.{Item, items}
 use Rattle.wt_span.specs.Origins.{IsSoundPiece}
 use Rattle.wt_tables.specs.Extents.{behind}

@@ -1,6 +1,6 @@
 //! The rows of a page, made from its pieces.
 
-ghost use Rattle.std.specs.Prelude.{◌≡◌, ◌≤◌, ◌<◌, ℕ, ◌∷◌, [], ◌++◌, List, All, length, take, drop, replicate, slice_index, IfOk};
+ghost use Rattle.std.specs.Prelude.{◌≡◌, ◌≤◌, ◌<◌, ℕ, ◌∷◌, [], ◌++◌, List, All, length, drop, replicate, slice_index, IfOk};
 ghost use Rattle.wt_span.specs.Items.{items, items_of};
 ghost use Rattle.wt_span.specs.Origins.{IsSoundPiece};
 ghost use Rattle.wt_lines.specs.Kinds.{past, is_idle, is_mark_sign};

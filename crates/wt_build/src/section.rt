@@ -62,7 +62,13 @@ impl<'p, 'a> Section<'p, 'a> {
         ensures some { result ≡ true → 0 < length (left self.now.rest) }
         ensures end { result ≡ false → IsEnd self.now }
     {
-        !self.rest.is_empty() && (self.tables > 0 || !self.rest.begins_break())
+        if self.rest.is_empty() {
+            return false;
+        }
+        if self.tables > 0 {
+            return true;
+        }
+        !self.rest.begins_break()
     }
 }
 

@@ -7,11 +7,11 @@ use Rattle.wt_build.specs.Unread.{left}
 use Rattle.wt_build.specs.Sections.{Carries}
 use Rattle.wt_build.proofs.body.build.Given as goal
 
-abbrev pub invariant-loop : goal.invariant-loop
-invariant-loop l = record {
+abbrev pub invariant-loop-rest : goal.invariant-loop-rest
+invariant-loop-rest l = record {
   sound : All IsSoundPiece (left l.rest);
-  carries : Carries (growth l.initial.children) l.items.now.items (growth l.children) (items (left l.rest));
+  carries : Carries (growth l.initial.children) l.items.items (growth l.children) (items (left l.rest));
 }
 
-abbrev pub decreases-loop : goal.decreases-loop
-decreases-loop l = length (items (left l.rest))
+abbrev pub decreases-loop-rest : goal.decreases-loop-rest
+decreases-loop-rest l = length (items (left l.rest))
