@@ -1,2 +1,3 @@
 pub mod Htmls
 pub mod Spending
+pub mod Runs
