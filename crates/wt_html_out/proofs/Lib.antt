@@ -2,3 +2,4 @@ pub mod JoinedValue
 pub mod ShownParts
 pub mod Htmls
 pub mod Spending
+pub mod Runs

@@ -1,17 +1,17 @@
-ghost use Rattle.std.specs.Prelude.{◌≡◌, ◌++◌, suc, IfOk};
-ghost use Rattle.wt_html_out.specs.Counts.{Spends, SpendsNodes, Fits};
+ghost use Rattle.std.specs.Prelude.{◌≡◌, ◌++◌, ◌<◌, suc, length, IfOk};
+ghost use Rattle.wt_html_out.specs.Counts.{Spends, SpendsSome, SpendsNodes, Fits};
 ghost use Rattle.wt_markup.specs.Escapes.{escaped};
 ghost use Rattle.wt_markup.specs.Html.{start_tag, void_tag, end_tag, round_character, group_html, groups, groups_of_all, html, html_of_all, frame_start, frame_end, html_text};
 ghost use Rattle.wt_tree.specs.Plain.{ended, plains_before};
 ghost use Rattle.wt_tree.specs.View.{label_of, texts_of, view, views};
 ghost use Rattle.wt_tree.specs.declared.node.Node.{out-Node};
 
-use crate::bytes::push_byte;
+use crate::bytes::{plain_len, push_byte};
 use crate::groups::push_group;
 use crate::nodes::{is_group, next_group, push_frame_end, push_frame_start};
 use crate::tags::{push_end, push_start, push_void};
 use std::alloc::Global;
-use wt_span::{NoMemory, Text};
+use wt_span::{NoMemory, Text, front_of, rest_of};
 use wt_tree::{Annotated, Node, Writing};
 
 /// What is left of `left` after so many bytes, or None where they are more.
@@ -24,17 +24,43 @@ fn spend(left: u32, bytes: &[u8]) -> Option<u32>
     Some(left - bytes.len() as u32)
 }
 
+/// Counts some of a text: bytes that are written as they are, or one byte. It gives how many it counted
+/// and what is left, or None where that is too little for the text.
+fn spend_some(
+    scratch: &mut Vec<u8>,
+    left: u32,
+    text: &[u8],
+) -> Result<Option<(usize, u32)>, NoMemory>
+    requires { 0 < length text.now }
+    ensures spent { IfOk result (SpendsSome left text.now) }
+{
+    let run = plain_len(b'&', text);
+    if run > 0 {
+        let Some(rest) = spend(left, front_of(text, run)) else {
+            return Ok(None);
+        };
+        Ok(Some((run, rest)))
+    } else {
+        scratch.clear();
+        push_byte(scratch, text[0])?;
+        let Some(rest) = spend(left, scratch.as_slice()) else {
+            return Ok(None);
+        };
+        Ok(Some((1, rest)))
+    }
+}
+
 fn spend_escaped(scratch: &mut Vec<u8>, left: u32, text: &[u8]) -> Result<Option<u32>, NoMemory>
     ensures { IfOk result (Spends left (escaped text.now)) }
 {
     let mut left = left;
-    for byte in text {
-        scratch.clear();
-        push_byte(scratch, *byte)?;
-        let Some(rest) = spend(left, scratch.as_slice()) else {
+    let mut at = 0;
+    while at < text.len() {
+        let Some((count, rest)) = spend_some(scratch, left, rest_of(text, at))? else {
             return Ok(None);
         };
         left = rest;
+        at += count;
     }
     Ok(Some(left))
 }
