@@ -88,4 +88,5 @@ NoneBefore fresh n bs = (k : ℕ) → k < n → may_begin fresh bs k ≡ true �
 abbrev pub AreReadings : Bool → List Named → List ℕ → Type 0
 AreReadings fresh [] bs = NoneBefore fresh (length bs) bs
 AreReadings fresh (a ∷ others) bs =
-    (n : ℕ) × (rest : List ℕ) × (n < length bs) × NoneBefore fresh n bs × (may_begin fresh bs n ≡ true) × (attribute_at (drop n bs) ≡ Some (a, rest)) × AreReadings false others rest
+    (n : ℕ) × (rest : List ℕ) × (n < length bs) × NoneBefore fresh n bs × (may_begin fresh bs n ≡ true) ×
+    (attribute_at (drop n bs) ≡ Some (a, rest)) × AreReadings false others rest

@@ -8,7 +8,8 @@ ghost use Rattle.wt_attributes.specs.Spelled.{Spelled, IsSpelled, spell, meaning
 /// is read.
 pub fn spelled_attributes()
     ensures read { (s : Spelled) (rest : List ℕ) → IsSpelled s rest → attribute_at (spell s ++ rest) ≡ Some (meaning s, rest) }
-    ensures written { (bs : List ℕ) (a : Named) (rest : List ℕ) → attribute_at bs ≡ Some (a, rest) → (s : Spelled) × IsSpelled s rest × (bs ≡ spell s ++ rest) × (a ≡ meaning s) }
+    ensures written { (bs : List ℕ) (a : Named) (rest : List ℕ) → attribute_at bs ≡ Some (a, rest)
+        → (s : Spelled) × IsSpelled s rest × (bs ≡ spell s ++ rest) × (a ≡ meaning s) }
 {}
 
 /// The attributes of a text are those that stand, one behind the other, at its start or after a

@@ -11,7 +11,8 @@ use Rattle.wt_braces.specs.Words.{total_width}
 abbrev mutual
   pub IsAlone : Mode → List ℕ → ℕ → Member → Type 0
   IsAlone mode text at (lexeme w) = Unit {0}
-  IsAlone mode text at (call k ms) = (reduced (words mode (slice_range text at (at + (k + width_of_all ms + k)))) ≡ call k ms ∷ []) × AreAlone mode text (at + k) ms
+  IsAlone mode text at (call k ms) = (reduced (words mode (slice_range text at (at + (k + width_of_all ms + k))))
+      ≡ call k ms ∷ []) × AreAlone mode text (at + k) ms
 
   pub AreAlone : Mode → List ℕ → ℕ → Members → Type 0
   AreAlone mode text at none = Unit {0}

@@ -10,7 +10,13 @@ use Rattle.wt_braces.specs.PartRows.{Fit}
 abbrev mutual
   pub closed_of : ℕ → ℕ → Member → List ClosedAt
   closed_of at n (lexeme w) = []
-  closed_of at n (call k ms) = closed_of_all (at + k) n ms ++ record { argument = k == 3; from = at; to = at + (k + width_of_all ms + k); parts = parts_of (at + k) ms; first = n } ∷ []
+  closed_of at n (call k ms) = closed_of_all (at + k) n ms ++ record {
+    argument = k == 3;
+    from = at;
+    to = at + (k + width_of_all ms + k);
+    parts = parts_of (at + k) ms;
+    first = n;
+  } ∷ []
 
   pub closed_of_all : ℕ → ℕ → Members → List ClosedAt
   closed_of_all at n none = []
@@ -46,7 +52,13 @@ with_link m = record { runs = m.runs; signs = m.signs; links = m.links ++ length
 
 -- the last open link of the level is closed, and the signs in it are gone
 abbrev pub link_closed : Matched → Matched
-link_closed m = if nat_lt (links_before m.runs) (length m.links) then record { runs = m.runs; signs = take (slice_index m.links (length m.links - 1)) m.signs; links = take (length m.links - 1) m.links; closed = m.closed } else m
+link_closed m = if nat_lt (links_before m.runs) (length m.links)
+    then record {
+      runs = m.runs;
+      signs = take (slice_index m.links (length m.links - 1)) m.signs;
+      links = take (length m.links - 1) m.links;
+      closed = m.closed;
+    } else m
 
 abbrev pub with_signs : List Sign → Matched → Matched
 with_signs ss m = record { runs = m.runs; signs = m.signs ++ ss; links = m.links; closed = m.closed }
@@ -55,7 +67,13 @@ abbrev pub with_level : ℕ → Member → Matched → Matched
 with_level at x m = if is_kind_close x then link_closed m else (if is_kind_open x then with_link m else with_signs (sign_of x at) m)
 
 abbrev pub with_run : ℕ → ℕ → Matched → Matched
-with_run at n m = if nat_le 2 n then record { runs = record { at = at; left = n; signs = length m.signs; links = length m.links; calls = length m.closed } ∷ m.runs; signs = m.signs; links = m.links; closed = m.closed } else m
+with_run at n m = if nat_le 2 n then record {
+  runs = record { at = at; left = n; signs = length m.signs; links = length m.links; calls = length m.closed }
+      ∷ m.runs;
+  signs = m.signs;
+  links = m.links;
+  closed = m.closed;
+} else m
 
 abbrev pub with_calls : ℕ → Member → Matched → Matched
 with_calls at x m = record { runs = m.runs; signs = m.signs; links = m.links; closed = m.closed ++ closed_of at (length m.closed) x }
@@ -84,11 +102,22 @@ with_closed c m = record { runs = m.runs; signs = m.signs; links = m.links; clos
 
 -- a run has so many braces left
 abbrev pub with_left : OpenRun → ℕ → Matched → Matched
-with_left r n m = if nat_le 2 n then record { runs = record { at = r.at; left = n; signs = r.signs; links = r.links; calls = r.calls } ∷ m.runs; signs = m.signs; links = m.links; closed = m.closed } else m
+with_left r n m = if nat_le 2 n then record {
+  runs = record { at = r.at; left = n; signs = r.signs; links = r.links; calls = r.calls } ∷ m.runs;
+  signs = m.signs;
+  links = m.links;
+  closed = m.closed;
+} else m
 
 -- the call of so many braces of a run, which ends at `end`
 abbrev pub closed_call : OpenRun → ℕ → ℕ → Matched → ClosedAt
-closed_call r k end m = record { argument = k == 3; from = r.at + r.left - k; to = end; parts = parts_between false (r.at + r.left) (end - k) (drop r.signs m.signs); first = r.calls }
+closed_call r k end m = record {
+  argument = k == 3;
+  from = r.at + r.left - k;
+  to = end;
+  parts = parts_between false (r.at + r.left) (end - k) (drop r.signs m.signs);
+  first = r.calls;
+}
 
 -- so many braces of this run, which is no longer among the open ones, and of a closing run make a call that ends at `end`
 abbrev pub call_closed : OpenRun → ℕ → ℕ → Matched → Matched

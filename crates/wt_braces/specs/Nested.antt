@@ -44,7 +44,9 @@ with_call c s = record { begun = s.begun; written = call_in c s.begun ∷ s.writ
 -- those in which nothing is left of the first calls are written, the innermost first
 abbrev pub settled : ℕ → List ClosedAt → List CallAt → Option ℕ → Nested
 settled left [] written deep = record { begun = []; written = written; deep = deep }
-settled left (c ∷ cs) written deep = if nat_le left c.first then settled left cs (call_in c cs ∷ written) (deep_in c cs deep) else record { begun = c ∷ cs; written = written; deep = deep }
+settled left (c ∷ cs) written deep = if nat_le left c.first
+    then settled left cs (call_in c cs ∷ written) (deep_in c cs deep)
+    else record { begun = c ∷ cs; written = written; deep = deep }
 
 abbrev pub with_closed : ℕ → ClosedAt → Nested → Nested
 with_closed left c s = settled left (c ∷ s.begun) s.written s.deep

@@ -44,7 +44,8 @@ later_after later (equals at n ∷ ss) = later
 abbrev pub split_members : Bool → ℕ → List Member → List Member → List PartMembers
 split_members later at before [] = record { name = None; value = []; bar = 0 } ∷ []
 split_members later at before (x ∷ after) =
-    let ss = if in_link before after then [] else sign_of x at in with_sign_of later x ss (split_members (later_after later ss) (at + width x) (x ∷ before) after)
+    let ss = if in_link before after then [] else sign_of x at
+    in with_sign_of later x ss (split_members (later_after later ss) (at + width x) (x ∷ before) after)
 
 -- the members of the parts of a call's inside, which begins at `from`
 abbrev pub part_members : ℕ → Members → List PartMembers
@@ -66,7 +67,11 @@ name_end at (Some (xs, n)) = Some (at + width_of xs)
 -- the places of parts that follow one another, by the widths of their members
 abbrev pub placed : ℕ → List PartMembers → List PartAt
 placed at [] = []
-placed at (p ∷ ps) = record { from = at; to = at + (name_width p.name + width_of p.value); equals_at = name_end at p.name } ∷ placed (at + (name_width p.name + width_of p.value) + p.bar) ps
+placed at (p ∷ ps) = record {
+  from = at;
+  to = at + (name_width p.name + width_of p.value);
+  equals_at = name_end at p.name;
+} ∷ placed (at + (name_width p.name + width_of p.value) + p.bar) ps
 
 -- ---- together
 

@@ -31,7 +31,8 @@ pub record IsStep (from to : List Member) : Type 0 where
   pub two_close : 2 ≤ closing
   pub nearest : NoOpen inside
   pub leftmost : NoPair (before ++ lexeme (Opens, opening) ∷ inside)
-  pub to_is : to ≡ before ++ (left_over Opens (opening - taken opening closing) ++ call (taken opening closing) (members inside) ∷ (left_over Closes (closing - taken opening closing) ++ after))
+  pub to_is : to ≡ before ++ (left_over Opens (opening - taken opening closing) ++ call (taken opening closing)
+      (members inside) ∷ (left_over Closes (closing - taken opening closing) ++ after))
 
 -- so many steps lead from one text to another
 abbrev pub AreSteps : ℕ → List Member → List Member → Type 0

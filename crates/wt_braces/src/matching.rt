@@ -254,7 +254,8 @@ impl Matching {
     /// A closing run takes from the nearest open runs, as often as it has two braces left.
     fn close(&mut self, alloc: Global, at: Range) -> Result<(), NoMemory>
         requires { IsRead self.old at.start }
-        ensures { OnOk result ((from : ℕ) (before : List Member) → Stands from before self.old at.start → Stands from (closed_by (at.end - at.start) before) self.new at.end) }
+        ensures { OnOk result ((from : ℕ) (before : List Member) → Stands from before self.old at.start
+            → Stands from (closed_by (at.end - at.start) before) self.new at.end) }
     {
         let mut place = at.start;
         while at.end - place >= 2 {
@@ -271,7 +272,8 @@ impl Matching {
     /// One more lexeme.
     pub fn read(&mut self, alloc: Global, lexeme: Lexeme) -> Result<(), NoMemory>
         requires { IsRead self.old lexeme.at.start }
-        ensures read { OnOk result ((from : ℕ) (before : List Member) → Stands from before self.old lexeme.at.start → Stands from (with_word (word_of lexeme) before) self.new lexeme.at.end) }
+        ensures read { OnOk result ((from : ℕ) (before : List Member) → Stands from before self.old lexeme.at.start
+            → Stands from (with_word (word_of lexeme) before) self.new lexeme.at.end) }
         ensures small { lexeme.at.end < 2 ^ 32 }
     {
         let at = lexeme.at;

@@ -18,7 +18,7 @@ use Rattle.wt_checks.specs.Marks.{is_children}
 use Rattle.wt_checks.specs.Places.{Place, placed, all_placed, number, kind_at, is_body, is_content, Page, parent_below}
 use Rattle.wt_checks.specs.PutBack.{original, page_data, data_back, label_back, inside_back, put_back, all_put_back, IsAsRead, has_body, have_body}
 use Rattle.wt_checks.specs.Tokens.{is_text}
-use Rattle.wt_checks.specs.Unmarked.{Entry, is_compared, entry, entries, own_character}
+use Rattle.wt_checks.specs.Unmarked.{Entry, is_compared, entry, entries}
 use Rattle.wt_checks.specs.Unmarked as unmarked
 use Rattle.wt_checks.proofs.AsItWas.{NodeKept}
 use Rattle.wt_checks.proofs.Found.{Found, IsKnown}

@@ -9,4 +9,5 @@ pub record ComparedFrom (nodes : List Node) (from at : ℕ) : Type 0 where
   pub later : from ≤ at
   pub within : at ≤ length nodes
   pub same : entries (views (drop from nodes)) ≡ entries (views (drop at nodes))
-  pub first : (n : Node) → at < length nodes → n ≡ slice_index_or nodes at n → entries (views (drop at nodes)) ≡ entry (label_of (out-Node n)) ∷ entries (views (drop (at + 1) nodes))
+  pub first : (n : Node) → at < length nodes → n ≡ slice_index_or nodes at n
+      → entries (views (drop at nodes)) ≡ entry (label_of (out-Node n)) ∷ entries (views (drop (at + 1) nodes))

@@ -67,7 +67,10 @@ pub record WellMarked (page : Page) (p : Place) : Type 0 where
 pub record Kept (values : Bool) (page edited : Tree) : Type 0 where
   pub order : InOrder (places page) (places edited)
   pub groups :
-      AllByRecursion (λ p. is_kept p ≡ true → MatchOption (page_of page (number p)) (Unit {0}) (λ q. is_group (kind_at q) ≡ true → GroupAsItWas values q.node p.node)) (places edited)
+      AllByRecursion (λ p. is_kept p ≡ true → MatchOption (page_of page (number p)) (Unit {0})
+      (λ q. is_group (kind_at q) ≡ true → GroupAsItWas values q.node p.node)) (places edited)
   pub nodes :
-      AllByRecursion (λ p. is_of_page p ≡ true → p.in_content ≡ false → MatchOption (page_of page (number p)) (Unit {0}) (λ q. is_group (kind_at q) ≡ false → NodeAsItWas q.node p.node)) (places edited)
+      AllByRecursion (λ p. is_of_page p ≡ true → p.in_content ≡ false
+      → MatchOption (page_of page (number p)) (Unit {0}) (λ q. is_group (kind_at q) ≡ false
+      → NodeAsItWas q.node p.node)) (places edited)
   pub marks : AllByRecursion (λ p. is_marked (label p.node).mark ≡ true → WellMarked (page_of page) p) (places edited)

@@ -97,4 +97,6 @@ allows TopChildren m q = is_children m && at_top q
 -- marked `content`.
 abbrev pub is_wrongly_marked : Page → Condition
 is_wrongly_marked page before p after =
-    is_marked (label p.node).mark && (p.in_content || (not (is_kept p || is_body (kind_at p)) || not (allows (editing (kind_at p)) (label p.node).mark (page (number p)))))
+    is_marked (label p.node).mark && (p.in_content ||
+    (not (is_kept p || is_body (kind_at p)) || not
+    (allows (editing (kind_at p)) (label p.node).mark (page (number p)))))

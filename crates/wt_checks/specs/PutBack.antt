@@ -101,7 +101,10 @@ pub record IsThePage (values : Bool) (page edited : Tree) : Type 0 where
   pub compared : gist (put_back values (page_of page) edited) ≡ gist page
   pub order : InOrder (places page) (places edited)
   pub groups :
-      AllByRecursion (λ p. is_kept p ≡ true → MatchOption (page_of page (number p)) (Unit {0}) (λ q. is_group (kind_at q) ≡ true → GroupAsItWas values q.node p.node)) (places edited)
+      AllByRecursion (λ p. is_kept p ≡ true → MatchOption (page_of page (number p)) (Unit {0})
+      (λ q. is_group (kind_at q) ≡ true → GroupAsItWas values q.node p.node)) (places edited)
   pub hidden :
-      AllByRecursion (λ p. is_of_page p ≡ true → p.in_content ≡ false → is_compared (showing (kind_at p)) ≡ false → MatchOption (page_of page (number p)) (Unit {0}) (λ q. is_group (kind_at q) ≡ false → NodeAsItWas q.node p.node)) (places edited)
+      AllByRecursion (λ p. is_of_page p ≡ true → p.in_content ≡ false → is_compared (showing (kind_at p)) ≡ false
+      → MatchOption (page_of page (number p)) (Unit {0}) (λ q. is_group (kind_at q) ≡ false
+      → NodeAsItWas q.node p.node)) (places edited)
   pub marks : AllByRecursion (λ p. is_marked (label p.node).mark ≡ true → WellMarked (page_of page) p) (places edited)

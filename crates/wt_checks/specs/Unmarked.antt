@@ -64,7 +64,8 @@ same_entries (a ∷ xs) (b ∷ ys) = same_entry a b && same_entries xs ys
 
 -- the two nodes hold the same
 abbrev pub holds_same : Tree → Tree → Bool
-holds_same (tree l ts) (tree m us) = bytes_eq (own_character (writing l.kind) l.shown) (own_character (writing m.kind) m.shown) && same_entries (entries ts) (entries us)
+holds_same (tree l ts) (tree m us) = bytes_eq (own_character (writing l.kind) l.shown)
+    (own_character (writing m.kind) m.shown) && same_entries (entries ts) (entries us)
 
 -- ---- the condition
 

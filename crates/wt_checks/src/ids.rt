@@ -101,7 +101,9 @@ fn has_parent(parent: u32, original: Option<Visit<'_, '_>>) -> bool
 /// with its parent.
 fn is_moved(index: &[Visit<'_, '_>], greatest: &[u32], visit: Visit<'_, '_>) -> bool
     requires { visit.parent < length greatest.now }
-    ensures { result ≡ has_number visit.entry && (not (has_parent visit.entry.parent (indexed index.now (out-Node visit.entry.node.now).id)) || nat_lt (out-Node visit.entry.node.now).id (slice_index greatest.now visit.entry.parent)) }
+    ensures { result ≡ has_number visit.entry &&
+        (not (has_parent visit.entry.parent (indexed index.now (out-Node visit.entry.node.now).id)) || nat_lt
+        (out-Node visit.entry.node.now).id (slice_index greatest.now visit.entry.parent)) }
 {
     let number = visit.node.id;
     if number == 0 {
@@ -115,7 +117,9 @@ fn is_moved(index: &[Visit<'_, '_>], greatest: &[u32], visit: Visit<'_, '_>) -> 
 
 fn pass(greatest: &mut Vec<u32>, visit: Visit<'_, '_>)
     requires { visit.parent < length greatest.old.items }
-    ensures { greatest.new.items ≡ (if has_number visit.entry then slice_set greatest.old.items visit.entry.parent (out-Node visit.entry.node.now).id else greatest.old.items) }
+    ensures { greatest.new.items ≡ (if has_number visit.entry
+        then slice_set greatest.old.items visit.entry.parent (out-Node visit.entry.node.now).id
+        else greatest.old.items) }
 {
     let number = visit.node.id;
     if number != 0 {

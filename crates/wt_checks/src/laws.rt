@@ -24,7 +24,8 @@ ghost use Rattle.wt_tree.specs.Plain.{plain};
 /// data, and its texts and children where it isn't marked, groups are as they were, and marks stand
 /// where they may.
 pub fn what_is_kept()
-    ensures { (values : Bool) (page edited : Tree) → (label page).kind ≡ kind.Body → InPreorder page → (checked values page edited ≡ None) ↔ Kept values page edited }
+    ensures { (values : Bool) (page edited : Tree) → (label page).kind ≡ kind.Body → InPreorder page
+        → (checked values page edited ≡ None) ↔ Kept values page edited }
 {}
 
 /// A refusal that is answered is the first of their order that holds at any place, and it names the
@@ -37,8 +38,12 @@ pub fn first_refusal()
 /// groups: with these put back to the page's, it has the same nodes by their numbers, kinds, attributes
 /// and data, with the same texts and children in the same order, and so the same plain view.
 pub fn edited_is_the_page()
-    ensures compared { (values : Bool) (page edited : Tree) → IsOneBody page → InPreorder page → is_body (label edited).kind ≡ true → checked values page edited ≡ None → gist (put_back values (page_of page) edited) ≡ gist page }
-    ensures shown { (values : Bool) (page edited : Tree) → IsOneBody page → InPreorder page → is_body (label edited).kind ≡ true → checked values page edited ≡ None → plain (put_back values (page_of page) edited) ≡ plain page }
+    ensures compared { (values : Bool) (page edited : Tree) → IsOneBody page → InPreorder page
+        → is_body (label edited).kind ≡ true → checked values page edited ≡ None
+        → gist (put_back values (page_of page) edited) ≡ gist page }
+    ensures shown { (values : Bool) (page edited : Tree) → IsOneBody page → InPreorder page
+        → is_body (label edited).kind ≡ true → checked values page edited ≡ None
+        → plain (put_back values (page_of page) edited) ≡ plain page }
 {}
 
 /// And nothing else is taken, where no node is marked `children`. Of a tree whose only body is the root,
@@ -46,7 +51,9 @@ pub fn edited_is_the_page()
 /// page's, kept nodes stand in their order, groups and hidden nodes are as they were, and marks stand
 /// where they may.
 pub fn only_the_page_is_taken()
-    ensures { (values : Bool) (page edited : Tree) → IsOneBody page → InPreorder page → IsOneBody edited → AreAsRead edited → NoNewChildren edited → (checked values page edited ≡ None) ↔ IsThePage values page edited }
+    ensures { (values : Bool) (page edited : Tree) → IsOneBody page → InPreorder page → IsOneBody edited
+        → AreAsRead edited → NoNewChildren edited
+        → (checked values page edited ≡ None) ↔ IsThePage values page edited }
 {}
 
 /// The tests of two kinds, lists of attributes, values of `data-mw`, lists of texts and children, and

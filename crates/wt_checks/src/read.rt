@@ -67,7 +67,9 @@ fn push_leaf(out: &mut Vec<Read<'_, '_>>, node: &Node<'_>) -> Result<(), NoMemor
 
 #[cycle(read)]
 fn push_element<'t, 'a>(out: &mut Vec<Read<'t, 'a>>, node: &'t Node<'a>) -> Result<(), NoMemory>
-    ensures { OnOk result (read_signs out.new.items ≡ read_signs out.old.items ++ element_signs (label_of (out-Node node.now)) (signs_in (all_read (views (out-Node node.now).children)))) }
+    ensures { OnOk result (read_signs out.new.items
+        ≡ read_signs out.old.items ++ element_signs (label_of (out-Node node.now))
+        (signs_in (all_read (views (out-Node node.now).children)))) }
 {
     push_part(out, Read::Element(node))?;
     push_text(out, own_text(node))?;

@@ -82,7 +82,8 @@ fn own_character<'n>(node: &'n Node<'_>) -> &'n str
 }
 
 fn same_character(a: &Node<'_>, b: &Node<'_>) -> bool
-    ensures { result ≡ bytes_eq (own_character (writing (out-Node a.now).kind) (out-Node a.now).shown) (own_character (writing (out-Node b.now).kind) (out-Node b.now).shown) }
+    ensures { result ≡ bytes_eq (own_character (writing (out-Node a.now).kind) (out-Node a.now).shown)
+        (own_character (writing (out-Node b.now).kind) (out-Node b.now).shown) }
 {
     own_character(a) == own_character(b)
 }

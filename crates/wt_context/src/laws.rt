@@ -50,7 +50,9 @@ pub fn chunks_tell_items_before_runs()
 /// elsewhere in none; likewise italic. The apostrophes that switch stand in delimiters, and nothing
 /// else does.
 pub fn parts_stand_in_styles()
-    ensures { (kind : Bool) (cx : Where) (xs : List Item) → cx.pairs ≤ 16 → all_places kind false (forest (children (context_parts cx xs))) ≡ places_from (toggled kind (chunks (segments context_parts cx xs))) 0 (segments context_parts cx xs) }
+    ensures { (kind : Bool) (cx : Where) (xs : List Item) → cx.pairs ≤ 16
+        → all_places kind false (forest (children (context_parts cx xs)))
+        ≡ places_from (toggled kind (chunks (segments context_parts cx xs))) 0 (segments context_parts cx xs) }
 {}
 
 /// Each link and each category of a context holds a target in its own items, whose title the link

@@ -18,3 +18,4 @@ mod text;
 mod token;
 
 pub use line::{line_children, with_line};
+pub use parts::take_some;

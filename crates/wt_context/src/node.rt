@@ -133,7 +133,9 @@ fn link<'a>(
     parts: TileParts<'a>,
     children: Children<'a>,
 ) -> Result<PieceTree<'a>, NoMemory>
-    ensures { IfOk result (λ t. (ps : Inside) → IsMade (growth children.entry) ps → item_tree t ≡ link_by (head_of head) trail (items parts.entry.opening) (items parts.entry.closing) (items parts.entry.trail) ps) }
+    ensures { IfOk result (λ t. (ps : Inside) → IsMade (growth children.entry) ps
+        → item_tree t ≡ link_by (head_of head) trail (items parts.entry.opening) (items parts.entry.closing)
+        (items parts.entry.trail) ps) }
 {
     let TileParts {
         opening,
@@ -173,7 +175,9 @@ pub fn nested_tree<'a>(
     children: Children<'a>,
 ) -> Result<PieceTree<'a>, NoMemory>
     requires { All IsSoundPiece parts.opening }
-    ensures { IfOk result (λ t. (ps : Inside) → IsMade (growth children.entry) ps → item_tree t ≡ nested_by kind tile.now.trail (items tile.now.pieces) (items parts.entry.opening) (items parts.entry.closing) (items parts.entry.trail) ps) }
+    ensures { IfOk result (λ t. (ps : Inside) → IsMade (growth children.entry) ps
+        → item_tree t ≡ nested_by kind tile.now.trail (items tile.now.pieces) (items parts.entry.opening)
+        (items parts.entry.closing) (items parts.entry.trail) ps) }
 {
     let head = nested_head(
         alloc,

@@ -35,7 +35,8 @@ fn nested<'a>(
     requires sound { All IsSoundPiece tile.now.pieces }
     requires cuts { HasCuts (shape_of tile.now) (items tile.now.pieces) }
     requires room { context.pairs + levels < 2 ^ 32 }
-    ensures { IfOk result (λ t. item_tree t ≡ nested_tree kind (shape_of tile.now) (items tile.now.pieces) (within levels context (inside_of (shape_of tile.now) (items tile.now.pieces)))) }
+    ensures { IfOk result (λ t. item_tree t ≡ nested_tree kind (shape_of tile.now) (items tile.now.pieces)
+        (within levels context (inside_of (shape_of tile.now) (items tile.now.pieces)))) }
 {
     let parts = parts_of(alloc, tile)?;
     let children = with_context(

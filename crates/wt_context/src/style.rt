@@ -87,7 +87,8 @@ fn with_style<'a>(
     requires opening { style.now.from + style.now.open_w < 2 ^ 32 }
     requires closing { style.now.close_w ≤ style.now.to }
     requires inside { Fill (style.now.from + style.now.open_w) (style.now.to - style.now.close_w) (forest_of inner.now) }
-    ensures { IfOk result (λ s. IsStyle low style.now inner.now (rest_segments now.entry.rest) (growth now.entry.children) (rest_segments s.rest) (growth s.children)) }
+    ensures { IfOk result (λ s. IsStyle low style.now inner.now (rest_segments now.entry.rest)
+        (growth now.entry.children) (rest_segments s.rest) (growth s.children)) }
 {
     let Styling { children, rest } = now;
     let (children, rest) = rest.onto(alloc, children, (style.from - low) as usize)?;
@@ -115,7 +116,8 @@ fn styled<'a>(
     styles: &[Style],
 ) -> Result<Styling<'a>, NoMemory>
     requires { Fill low high (forest_of styles.now) }
-    ensures { IfOk result (λ s. AreStyled low high styles.now (rest_segments now.entry.rest) (growth now.entry.children) (rest_segments s.rest) (growth s.children)) }
+    ensures { IfOk result (λ s. AreStyled low high styles.now (rest_segments now.entry.rest)
+        (growth now.entry.children) (rest_segments s.rest) (growth s.children)) }
 {
     let mut now = now;
     let mut place = low;

@@ -1,33 +1,13 @@
 //! The text and the source of pieces.
 
-ghost use Rattle.std.specs.Prelude.{◌≡◌, ◌++◌, ◌∷◌, [], OnOk, IfOk, encode_utf8};
-ghost use Rattle.std.specs.List.{flat_map};
+ghost use Rattle.std.specs.Prelude.{◌≡◌, ◌++◌, OnOk, IfOk};
 ghost use Rattle.wt_span.specs.Items.{items, items_of, sources};
-ghost use Rattle.wt_inline.specs.Carried.{shown_item};
 ghost use Rattle.wt_context.specs.Heads.{text_of, visible_source};
 
 use std::alloc::Global;
+use wt_inline::push_shown;
 use wt_lines::is_mark;
-use wt_span::{Form, NoMemory, Piece, Str};
-
-fn push_char(out: &mut Str, character: char) -> Result<(), NoMemory>
-    ensures { OnOk result (out.new ≡ out.old ++ encode_utf8 character) }
-{
-    let mut bytes = [0_u8; 4];
-    let encoded = character.encode_utf8(&mut bytes);
-    out.push_str(encoded)?;
-    Ok(())
-}
-
-fn push_shown(out: &mut Str, piece: &Piece<'_>) -> Result<(), NoMemory>
-    ensures { OnOk result (out.new ≡ out.old ++ flat_map shown_item (items_of piece.now)) }
-{
-    match piece.form {
-        Form::Chars => out.push_str(piece.text.as_str()),
-        Form::Entity(character) => push_char(out, character),
-        _ => Ok(()),
-    }
-}
+use wt_span::{NoMemory, Piece, Str};
 
 /// The text of pieces: characters, and the characters for which entities stand.
 pub fn text_of(alloc: Global, pieces: &[Piece<'_>]) -> Result<Str, NoMemory>

@@ -1,7 +1,6 @@
 -- Each name that is fetched is asked for once, where it comes first; and a page whose calls are arguments fetches nothing.
-use Rattle.std.proofs.Common.{◌≡◌, ◌⊎◌, ℕ, zero, suc, ◌+◌, ◌-◌, ◌<◌, Bool, true, false, Option, Some, None, List, [], ◌∷◌, ◌++◌, take, drop, refl, sym, ap, ◌∙◌, subst, ⊎_elim, inl, inr, arith, append_assoc}
+use Rattle.std.proofs.Common.{◌≡◌, ◌⊎◌, ℕ, zero, suc, ◌+◌, ◌-◌, Bool, true, false, Option, Some, None, List, [], ◌∷◌, ◌++◌, take, drop, refl, sym, ap, ◌∙◌, subst, ⊎_elim, inl, inr, arith}
 use Rattle.std.specs.Prelude.{◌==◌, if◌then◌else◌, slice_index, Contains}
-use Rattle.std.proofs.lemmas.Bool.Decides.{nat_tests}
 use Rattle.std.proofs.lemmas.Slice.Eq.{bytes_eq-Decides}
 use Rattle.std.specs.Str.{bytes_eq}
 use Rattle.wt_span.specs.declared.form.Mode.TheVariants as mode
@@ -11,9 +10,9 @@ use Rattle.wt_span.specs.Braces.{Member, Members, lexeme, call, none, more, widt
 use Rattle.wt_braces.specs.PartMembers.{PartMembers, part_members}
 use Rattle.wt_expand.specs.Asked.{AreOnce, IsLonger, IsArgument, AreArguments}
 use Rattle.wt_expand.specs.Texts.{name_text}
-use Rattle.wt_expand.specs.Targets.{Called, argument, function, page, text, called, called_by, title_of_target, is_function}
-use Rattle.wt_expand.specs.Work.{Pages, Entry, entered, begun, fetched, ended, fetches, is_among, firsts_after, names_asked}
-use Rattle.wt_expand.specs.Expansion.{Output, just, joined, PartOutput, member_count, part_by, part_outputs, target_part, later_parts, value_of, Reading, default_output, if_value, argument_output, called_output, output_of, outputs_of, text_members, text_given, page_reading, page_work}
+use Rattle.wt_expand.specs.Targets.{Called, argument, function, called, called_by, title_of_target, is_function}
+use Rattle.wt_expand.specs.Work.{Pages, Entry, ended, fetches, is_among, firsts_after, names_asked}
+use Rattle.wt_expand.specs.Expansion.{Output, joined, PartOutput, member_count, part_by, part_outputs, target_part, later_parts, value_of, Reading, default_output, if_value, argument_output, called_output, output_of, outputs_of, text_members, page_reading, page_work}
 use Rattle.wt_expand.proofs.Agreements.{fetches_append, called_is}
 
 -- ---- whether a name is among others

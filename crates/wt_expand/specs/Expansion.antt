@@ -246,7 +246,10 @@ template_output pages zero open_titles t frame = just (chars (if is_among (full_
 template_output pages (suc n) open_titles t frame =
     let full = full_name_of t in
     if is_among full open_titles then just (chars (loop_text t))
-    else fetched_output full (λ bs. text_given (record { mode = mode.Template; frame = frame; template = template_output pages n (full ∷ open_titles) }) bs) (pages full)
+    else
+    fetched_output full
+    (λ bs. text_given (record { mode = mode.Template; frame = frame; template = template_output pages n (full ∷ open_titles) }) bs)
+    (pages full)
 
 -- how many templates may be expanded one inside another
 unfoldable pub most_templates : ℕ

@@ -26,7 +26,14 @@ link_of text = None
 
 -- a call that begins at `at` and has so many braces at each end
 abbrev pub outer_at : ℕ → ℕ → List ℕ → Members → Called → OuterCall
-outer_at at k source ms c = record { start = at; source = source; argument = k == 3; parts = map (λ p. (p.from, p.to)) (parts_of (at + k) ms); equals = map (λ p. p.equals_at) (parts_of (at + k) ms); href = link_of c }
+outer_at at k source ms c = record {
+  start = at;
+  source = source;
+  argument = k == 3;
+  parts = map (λ p. (p.from, p.to)) (parts_of (at + k) ms);
+  equals = map (λ p. p.equals_at) (parts_of (at + k) ms);
+  href = link_of c;
+}
 
 -- The stretches of a call that begins at `at`. A function of the page is an item of its own, and of a text call the braces are
 -- characters and the calls in it are outermost ones.
@@ -34,7 +41,9 @@ abbrev pub call_stretches : Called → ℕ → ℕ → List ℕ → Members → 
 call_stretches argument at k source ms given inside = outer (outer_at at k source ms argument) given ∷ []
 call_stretches function at k source ms given inside = own given ∷ []
 call_stretches (page t) at k source ms given inside = outer (outer_at at k source ms (page t)) given ∷ []
-call_stretches text at k source ms given inside = text_call (at, at + (k + width_of_all ms + k)) ∷ (own (chars (front_braces k source)) ∷ (inside ++ own (chars (back_braces k source)) ∷ []))
+call_stretches text at k source ms given inside =
+    text_call (at, at + (k + width_of_all ms + k))
+    ∷ (own (chars (front_braces k source)) ∷ (inside ++ own (chars (back_braces k source)) ∷ []))
 
 -- the stretches of the page's members, the first of which begins at `at` with these bytes
 abbrev mutual
@@ -47,7 +56,9 @@ abbrev mutual
 
   pub all_stretches : Reading → ℕ → Bool → List ℕ → Members → List Stretch
   all_stretches r at at_start bs none = []
-  all_stretches r at at_start bs (more m ms) = stretches_of r at at_start bs m ++ all_stretches r (at + width m) (is_break (slice_index bs (width m - 1))) (drop (width m) bs) ms
+  all_stretches r at at_start bs (more m ms) =
+      stretches_of r at at_start bs m
+      ++ all_stretches r (at + width m) (is_break (slice_index bs (width m - 1))) (drop (width m) bs) ms
 
 -- ---- items by their calls
 

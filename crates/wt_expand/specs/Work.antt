@@ -44,7 +44,11 @@ deep_place m bs = too_deep (calls 0 (words m bs))
 
 -- a template's bytes: too many, else no UTF-8, else nested too deep in the text that is taken of them
 unfoldable pub template_refusal : List ℕ → List ℕ → Option Refused
-template_refusal title bytes = if nat_lt most_bytes (length bytes) then Some (too_long title) else option_or (option_map (not_utf8 title) (not_utf8_place bytes)) (option_map (braces_too_deep (Some title)) (deep_place mode.Template (template_text bytes)))
+template_refusal title bytes =
+    if nat_lt most_bytes (length bytes) then Some (too_long title)
+    else
+    option_or (option_map (not_utf8 title) (not_utf8_place bytes))
+    (option_map (braces_too_deep (Some title)) (deep_place mode.Template (template_text bytes)))
 
 abbrev pub found_refusal : List ℕ → Option (List ℕ) → Option Refused
 found_refusal title None = None

@@ -28,7 +28,9 @@ pub fn whole_page()
 /// first byte as its place, and the page has as many bytes as the origins cover.
 pub fn pieces_have_places()
     ensures begin { (ps : List PieceAt) (calls : List OuterCall) (ts : List Span) → AreItems ps calls ts → BeginFrom calls (items ps) 0 ps }
-    ensures covered { (ps : List PieceAt) (calls : List OuterCall) (ts : List Span) → AreItems ps calls ts → length (page_of calls (items ps)) ≡ end_of_spans 0 (map (span_of_origin calls) (once (map (λ p. p.origin) ps))) }
+    ensures covered { (ps : List PieceAt) (calls : List OuterCall) (ts : List Span) → AreItems ps calls ts
+        → length (page_of calls (items ps))
+        ≡ end_of_spans 0 (map (span_of_origin calls) (once (map (λ p. p.origin) ps))) }
 {}
 
 /// The origins of an expanded page, each once, join to the page.
@@ -43,7 +45,8 @@ pub fn shows_what_is_given()
 
 /// A page without calls and arguments has the items of its lexemes, whatever the folder has.
 pub fn without_calls()
-    ensures { (pages : Pages) (page : List ℕ) → call_count_of_all (text_members text_mode.Page page) ≡ 0 → expanded_page pages page ≡ record { items = page_items page; outer = []; text_calls = [] } }
+    ensures { (pages : Pages) (page : List ℕ) → call_count_of_all (text_members text_mode.Page page) ≡ 0
+        → expanded_page pages page ≡ record { items = page_items page; outer = []; text_calls = [] } }
 {}
 
 /// What an expansion gives, and its work, hang on no page that isn't fetched for it: with any other
@@ -56,7 +59,10 @@ pub fn hangs_on_what_is_fetched()
 /// A call whose page is absent gives the characters of the link to it, and asks for this page
 /// alone.
 pub fn absent_page_is_a_link()
-    ensures { (pages : Pages) (left : ℕ) (titles : List (List ℕ)) (t : TitleOf) (v : Frame) → is_among (full_name_of t) titles ≡ false → pages (full_name_of t) ≡ None → template_output pages (suc left) titles t v ≡ record { items = chars (absent_text (full_name_of t)); work = fetched (full_name_of t) ∷ [] } }
+    ensures { (pages : Pages) (left : ℕ) (titles : List (List ℕ)) (t : TitleOf) (v : Frame)
+        → is_among (full_name_of t) titles ≡ false → pages (full_name_of t) ≡ None
+        → template_output pages (suc left) titles t v
+        ≡ record { items = chars (absent_text (full_name_of t)); work = fetched (full_name_of t) ∷ [] } }
 {}
 
 /// The names that are asked for are those that are fetched, each once; and as the work goes on, names

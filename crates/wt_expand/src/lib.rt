@@ -13,4 +13,5 @@ pub use laws::{
     trimmed_ends, whole_page, without_calls,
 };
 pub use page::page_items;
+pub use piece::form_of;
 pub use shown::expanded;

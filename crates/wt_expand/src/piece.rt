@@ -17,8 +17,8 @@ fn raw_form(bytes: &[u8]) -> Form
     }
 }
 
-/// The form that a lexeme of the page has as an item.
-fn form_of(kind: LexKind, text: &str) -> Form
+/// The form that a lexeme has as an item, of the page or of a template.
+pub fn form_of(kind: LexKind, text: &str) -> Form
     ensures { result ≡ form_of kind text.now }
 {
     match kind {

@@ -8,15 +8,13 @@ use Rattle.std.proofs.Math.Seq.{take-add}
 use Rattle.wt_span.proofs.Lists.{take_append, drop_append}
 use Rattle.wt_span.specs.Slice.{bytes_of}
 use Rattle.wt_span.specs.Whole.{IsWhole}
-use Rattle.wt_lines.specs.Lines.{content}
-use Rattle.wt_headings.specs.Lines.{ending}
 use Rattle.std.proofs.lemmas.List.Elements.{All-nil, All-cons, All-head, All-tail}
 use Rattle.wt_span.specs.declared.form.Form.{Form}
 use Rattle.wt_span.specs.declared.form.Form.TheVariants as form
 use Rattle.wt_span.specs.declared.form.Piece.{Piece}
 use Rattle.wt_span.specs.Items.{Item, char, source, sources, sign, items, items_of, items_by, call_of_origin}
 use Rattle.wt_span.specs.Origins.{IsSoundPiece}
-use Rattle.wt_lines.specs.Pieces.{AllParted, is_chars, AreLeadingMarks}
+use Rattle.wt_lines.specs.Pieces.{AllParted, is_chars}
 use Rattle.wt_headings.specs.Cuts.{AreReady}
 
 signs_bytes : (o : Option ℕ) (bs : List ℕ) → map sign (map (char o) bs) ≡ bs

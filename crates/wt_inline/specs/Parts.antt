@@ -109,7 +109,8 @@ inside_part (whole f o bs) = node (form_leaf f o bs)
 
 -- The node of a `nowiki`: its tags are the delimiters, and a tag that closes itself has no inside and no closing one.
 unfoldable pub nowiki : Option ℕ → List ℕ → ItemTree
-nowiki o bs = inner (plain kind.Nowiki) (map (char o) (opening_of bs)) (forest (children (map inside_part (inside_items o 0 (inside_of bs))))) (map (char o) (closing_of bs))
+nowiki o bs = inner (plain kind.Nowiki) (map (char o) (opening_of bs))
+    (forest (children (map inside_part (inside_items o 0 (inside_of bs))))) (map (char o) (closing_of bs))
 
 -- the node of a whole form: of `nowiki` one with an inside, and of any other a leaf
 abbrev pub whole_tree : Form → Option ℕ → List ℕ → ItemTree

@@ -33,7 +33,7 @@ fn push_char(out: &mut Str, character: char) -> Result<(), NoMemory>
 
 /// Appends what a piece shows: characters themselves, and an entity the character that it stands
 /// for; anything else shows nothing.
-fn push_shown(out: &mut Str, piece: &Piece<'_>) -> Result<(), NoMemory>
+pub fn push_shown(out: &mut Str, piece: &Piece<'_>) -> Result<(), NoMemory>
     ensures { OnOk result (out.new ≡ out.old ++ flat_map shown_item (items_of piece.now)) }
 {
     match piece.form {

@@ -85,7 +85,9 @@ impl<'a> Children<'a> {
     ) -> Result<Children<'a>, NoMemory>
         requires chars { is_chars piece.form ≡ true }
         requires same { same_origin (call_of_origin run.origin) (call_of_origin piece.origin) ≡ true }
-        ensures { IfOk result (λ c. Grows (record { trees = item_trees trees.entry; run = Some (open_run run.entry) }) (parts run.entry.loose (items_of piece.entry)) (growth c)) }
+        ensures { IfOk result (λ c. Grows
+            (record { trees = item_trees trees.entry; run = Some (open_run run.entry) })
+            (parts run.entry.loose (items_of piece.entry)) (growth c)) }
     {
         let run = run.with(piece)?;
         Ok(Children {
@@ -104,7 +106,9 @@ impl<'a> Children<'a> {
     ) -> Result<Children<'a>, NoMemory>
         requires chars { is_chars piece.form ≡ true }
         requires some { 0 < length (items_of piece) }
-        ensures { IfOk result (λ c. Grows (record { trees = item_trees trees.entry; run = Some (open_run run.entry) }) (parts loose (items_of piece.entry)) (growth c)) }
+        ensures { IfOk result (λ c. Grows
+            (record { trees = item_trees trees.entry; run = Some (open_run run.entry) })
+            (parts loose (items_of piece.entry)) (growth c)) }
     {
         if run.takes(loose, piece.origin) {
             Children::continued(trees, run, piece)

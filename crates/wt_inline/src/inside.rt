@@ -93,7 +93,8 @@ fn front_len(text: &str) -> usize
 fn split_chars<'a>(text: Text<'a>, origin: Origin) -> (Piece<'a>, Text<'a>)
     requires some { 0 < length (bytes_of text) }
     requires none { entity_at (bytes_of text) ≡ None }
-    ensures items { items_of result.0 ++ inside_items (call_of_origin origin) 0 (bytes_of result.1) ≡ inside_items (call_of_origin origin) 0 (bytes_of text.entry) }
+    ensures items { items_of result.0 ++ inside_items (call_of_origin origin) 0 (bytes_of result.1)
+        ≡ inside_items (call_of_origin origin) 0 (bytes_of text.entry) }
     ensures shorter { length (bytes_of result.1) < length (bytes_of text.entry) }
 {
     let place = text.range().start + front_len(text.as_str()) as u32;
@@ -104,7 +105,8 @@ fn split_chars<'a>(text: Text<'a>, origin: Origin) -> (Piece<'a>, Text<'a>)
 /// The first piece of the inside of `nowiki`, and what follows it.
 pub fn split_inside<'a>(text: Text<'a>, origin: Origin) -> (Piece<'a>, Text<'a>)
     requires { 0 < length (bytes_of text) }
-    ensures items { items_of result.0 ++ inside_items (call_of_origin origin) 0 (bytes_of result.1) ≡ inside_items (call_of_origin origin) 0 (bytes_of text.entry) }
+    ensures items { items_of result.0 ++ inside_items (call_of_origin origin) 0 (bytes_of result.1)
+        ≡ inside_items (call_of_origin origin) 0 (bytes_of text.entry) }
     ensures shorter { length (bytes_of result.1) < length (bytes_of text.entry) }
 {
     match front_entity(text.as_str()) {

@@ -19,6 +19,7 @@ mod run;
 mod tree;
 mod whole;
 
+pub use carried::push_shown;
 pub use children::Children;
 pub use context::{inline, inline_children};
 pub use laws::{children_are_runs, children_hold_their_parts, opened_items_keep_their_source};

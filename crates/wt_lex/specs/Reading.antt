@@ -47,4 +47,6 @@ Apart kind ws = Unit {0}
 -- neighbours. `after` tells whether the text begins after a line break.
 abbrev pub AreLexemes : Mode → Bool → List Word → List ℕ → Type 0
 AreLexemes mode after [] bs = bs ≡ []
-AreLexemes mode after ((kind, n) ∷ ws) bs = (0 < n) × (n ≤ length bs) × Stands mode after kind n bs × Apart kind ws × AreLexemes mode (is_break (slice_index bs (n - 1))) ws (drop n bs)
+AreLexemes mode after ((kind, n) ∷ ws) bs = (0 < n) ×
+    (n ≤ length bs) × Stands mode after kind n bs × Apart kind ws × AreLexemes mode
+    (is_break (slice_index bs (n - 1))) ws (drop n bs)

@@ -17,7 +17,8 @@ pub fn one_reading()
 /// A form that is cut out of its text, a page or a template, is whole by itself: what makes an
 /// item of it.
 pub fn whole_forms()
-    ensures { (mode : TextMode) (after : Bool) (kind : WordKind) (n : ℕ) (bs : List ℕ) → form_at mode after bs ≡ Some (kind, n) → IsWholeWord mode kind (take n bs) }
+    ensures { (mode : TextMode) (after : Bool) (kind : WordKind) (n : ℕ) (bs : List ℕ)
+        → form_at mode after bs ≡ Some (kind, n) → IsWholeWord mode kind (take n bs) }
 {}
 
 /// Among the lexemes of a text runs of braces have two bytes or more, and `|` and `=` have one.

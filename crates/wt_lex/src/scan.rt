@@ -169,7 +169,8 @@ fn push_chars(lexemes: &mut List<Lexeme>, start: usize, end: usize) -> Result<()
     requires fits { end < 2 ^ 32 }
     ensures words { OnOk result (map word_of lexemes.new ≡ map word_of lexemes.old ++ closed (end - start) []) }
     ensures follow { OnOk result (Follow 0 lexemes.old start → Follow 0 lexemes.new end) }
-    ensures borders { OnOk result ((text : List ℕ) → IsCharBoundary text start → IsCharBoundary text end → All (AtBorders text) lexemes.old → All (AtBorders text) lexemes.new) }
+    ensures borders { OnOk result ((text : List ℕ) → IsCharBoundary text start → IsCharBoundary text end
+        → All (AtBorders text) lexemes.old → All (AtBorders text) lexemes.new) }
 {
     if start < end {
         lexemes.push(Lexeme {
@@ -193,7 +194,8 @@ fn push_form(
     requires fits { start + len < 2 ^ 32 }
     ensures words { OnOk result (map word_of lexemes.new ≡ map word_of lexemes.old ++ (kind, len) ∷ []) }
     ensures follow { OnOk result (Follow 0 lexemes.old start → Follow 0 lexemes.new (start + len)) }
-    ensures borders { OnOk result ((text : List ℕ) → IsCharBoundary text start → IsCharBoundary text (start + len) → All (AtBorders text) lexemes.old → All (AtBorders text) lexemes.new) }
+    ensures borders { OnOk result ((text : List ℕ) → IsCharBoundary text start → IsCharBoundary text (start + len)
+        → All (AtBorders text) lexemes.old → All (AtBorders text) lexemes.new) }
 {
     lexemes.push(Lexeme {
         kind,

@@ -1,5 +1,5 @@
 -- Signs in code and their numbers.
-use Rattle.std.proofs.Common.{◌≡◌, ◌<◌, ◌≤◌, ◌+◌, ◌-◌, ℕ, Bool, true, false, List, length, drop, take, map, get_or, cond, sym, ap, ◌∙◌, subst, arith}
+use Rattle.std.proofs.Common.{◌≡◌, ◌<◌, ◌≤◌, ◌+◌, ◌-◌, ℕ, Bool, true, false, List, length, drop, take, get_or, cond, sym, ap, ◌∙◌, subst, arith}
 use Rattle.std.specs.List.{prefix_len}
 use Rattle.std.proofs.lemmas.List.{length-map, length-take, drop-map, take-map, get_or-map, get_or-take, drop_more}
 use Rattle.wt_lines.specs.declared.sign.Sign.{Sign}

@@ -15,7 +15,8 @@ NoneSplits by from to xs = (k : ℕ) → from ≤ k → k < to → splits_at by 
 abbrev pub AreCut : Splits → ℕ → List (List Item) → List Item → Type 0
 AreCut by n [] xs = ⊥
 AreCut by n (p ∷ []) xs = (xs ≡ p) × NoneSplits by n (length p) xs
-AreCut by n (p ∷ q ∷ ps) xs = (others : List Item) × (xs ≡ p ++ others) × (n ≤ length p) × NoneSplits by n (length p) xs × (splits_at by others ≡ true) × AreCut by 2 (q ∷ ps) others
+AreCut by n (p ∷ q ∷ ps) xs = (others : List Item) × (xs ≡ p ++ others) × (n ≤ length p) × NoneSplits by n
+    (length p) xs × (splits_at by others ≡ true) × AreCut by 2 (q ∷ ps) others
 
 -- lines whose cells are read
 abbrev pub has_cells : LineKind → Bool

@@ -62,4 +62,6 @@ Apart k ws = Unit {0}
 -- runs are neighbours.
 abbrev pub AreTiles : Context → Bool → List Shape → List Glyph → Type 0
 AreTiles cx after [] gs = gs ≡ []
-AreTiles cx after (w ∷ ws) gs = (0 < size w) × (size w ≤ length gs) × Stands cx after w gs × Apart w.kind ws × AreTiles cx (is_word_at gs (size w - 1)) ws (drop (size w) gs)
+AreTiles cx after (w ∷ ws) gs = (0 < size w) ×
+    (size w ≤ length gs) × Stands cx after w gs × Apart w.kind ws × AreTiles cx (is_word_at gs (size w - 1)) ws
+    (drop (size w) gs)

@@ -92,4 +92,10 @@ nearest_by table Closing left behind = Some left
 -- a pair whose opening tag takes n items, by how many items are left from its closing tag on
 abbrev pub pair_left : ℕ → Option ℕ → List Glyph → Shape
 pair_left n None gs = leaf kind.TagIsland n
-pair_left n (Some left) gs = record { kind = kind.Pair; opening = n; inside = length (drop n gs) - left; closing = len_of (tag_at (drop (length gs - left) gs)); trail = 0 }
+pair_left n (Some left) gs = record {
+  kind = kind.Pair;
+  opening = n;
+  inside = length (drop n gs) - left;
+  closing = len_of (tag_at (drop (length gs - left) gs));
+  trail = 0;
+}

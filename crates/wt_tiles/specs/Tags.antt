@@ -84,7 +84,8 @@ shape_of gs = if first_is (class.Only 47) (drop (length gs - 1) gs) then Alone e
 unfoldable pub tag_after : List Glyph → List Glyph → Option Tag
 tag_after name gs =
     let inside = take (run_len class.Tag gs) gs in
-    if first_is (class.Only 62) (drop (run_len class.Tag gs) gs) && is_inside inside then tag_of (shape_of inside) (2 + length name + length inside) (name_of name) else None
+    if first_is (class.Only 62) (drop (run_len class.Tag gs) gs) && is_inside inside
+    then tag_of (shape_of inside) (2 + length name + length inside) (name_of name) else None
 
 unfoldable pub opening_tag : List Glyph → Option Tag
 opening_tag gs =

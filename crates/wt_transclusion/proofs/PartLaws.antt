@@ -9,7 +9,7 @@ use Rattle.wt_span.specs.Braces.{Member, Members, lexeme, call, members, listed,
 use Rattle.wt_braces.specs.PartMembers.{PartMembers, joined, rejoined, part_members, placed, split_members, with_sign_of, later_after, width_of}
 use Rattle.wt_braces.proofs.MemberParts.{part_places}
 use Rattle.wt_braces.proofs.Rejoins.{parts_join}
-use Rattle.wt_expand.specs.Expansion.{Output, Reading, PartOutput, just, then_output, member_count, part_by, part_outputs, outputs_of}
+use Rattle.wt_expand.specs.Expansion.{Output, Reading, PartOutput, member_count, part_by, part_outputs, outputs_of}
 use Rattle.wt_expand.specs.Expansion as outputs
 use Rattle.wt_transclusion.specs.Cursors.{starts}
 use Rattle.wt_transclusion.specs.Parts.{start_after, part_given, parts_given}

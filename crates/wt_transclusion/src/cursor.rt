@@ -117,7 +117,9 @@ impl Cursor {
     /// end, the next call or `end`.
     pub fn next(self, text: ReadText<'_>, end: u32) -> Next
         requires { self.at < end }
-        ensures { (mode : TextMode) (bytes : List ℕ) (xs : List TextMember) → IsRead mode bytes text.entry → IsAt text.entry self.at self → IsStretchOf mode bytes self.at end xs → AnswersNext mode bytes self.at end xs result }
+        ensures { (mode : TextMode) (bytes : List ℕ) (xs : List TextMember) → IsRead mode bytes text.entry
+            → IsAt text.entry self.at self → IsStretchOf mode bytes self.at end xs
+            → AnswersNext mode bytes self.at end xs result }
     {
         let limit = limit_at(text.calls, self.call, end);
         if limit == self.at {

@@ -36,7 +36,11 @@ impl<'a> Handed<'a> {
         name: String,
         value: &[Piece<'a>],
     ) -> Result<(), NoMemory>
-        ensures values { OnOk result ((frame : Frame) (name_given value_given all : Gives) → AreValues self.old.values frame → string_bytes name ≡ name_text name_given.items → items value.now ≡ value_given.items → AreValues self.new.values (frame ++ values_from self.old.number (record { name = Some name_given; value = value_given; all = all } ∷ []))) }
+        ensures values { OnOk result ((frame : Frame) (name_given value_given all : Gives)
+            → AreValues self.old.values frame → string_bytes name ≡ name_text name_given.items
+            → items value.now ≡ value_given.items → AreValues self.new.values
+            (frame
+            ++ values_from self.old.number (record { name = Some name_given; value = value_given; all = all } ∷ []))) }
         ensures number { OnOk result (self.new.number ≡ self.old.number) }
     {
         let value = trimmed_items(alloc, value)?;
@@ -47,7 +51,9 @@ impl<'a> Handed<'a> {
     /// One more value, of a part without a name.
     pub fn put_numbered(&mut self, alloc: Global, value: List<Piece<'a>>) -> Result<(), NoMemory>
         requires { self.old.number + 1 < 2 ^ 32 }
-        ensures values { OnOk result ((frame : Frame) (value_given all : Gives) → AreValues self.old.values frame → items value.entry ≡ value_given.items → AreValues self.new.values (frame ++ values_from self.old.number (record { name = None; value = value_given; all = all } ∷ []))) }
+        ensures values { OnOk result ((frame : Frame) (value_given all : Gives) → AreValues self.old.values frame
+            → items value.entry ≡ value_given.items → AreValues self.new.values
+            (frame ++ values_from self.old.number (record { name = None; value = value_given; all = all } ∷ []))) }
         ensures number { OnOk result (self.new.number ≡ self.old.number + 1) }
     {
         let Ok(name) = format!(in alloc; "{}", self.number) else {

@@ -2,42 +2,11 @@
 ghost use Rattle.std.specs.Prelude.{◌≡◌, None};
 ghost use Rattle.wt_span.specs.Slice.{bytes_of};
 ghost use Rattle.wt_span.specs.Items.{items_by, items_of};
-ghost use Rattle.wt_expand.specs.PageItems.{raw_form, form_of};
 ghost use Rattle.wt_expand.specs.Expansion.{is_removed, lexeme_items};
 ghost use Rattle.wt_transclusion.specs.Given.{option_items};
 
-use wt_lex::{is_same_name, opening_tag};
+use wt_expand::form_of;
 use wt_span::{Form, LexKind, Mode, Origin, Piece, Text};
-
-/// The form of a raw tag: a nowiki or an extension.
-fn raw_form(bytes: &[u8]) -> Form
-    ensures { result ≡ raw_form bytes.now }
-{
-    match opening_tag(bytes) {
-        Some(tag) if is_same_name(tag.name, b"nowiki") => Form::Nowiki,
-        _ => Form::Extension,
-    }
-}
-
-/// The form that a lexeme has as an item.
-fn form_of(kind: LexKind, text: &str) -> Form
-    ensures { result ≡ form_of kind text.now }
-{
-    match kind {
-        LexKind::Chars
-        | LexKind::Opens
-        | LexKind::Closes
-        | LexKind::LinkOpen
-        | LexKind::LinkClose
-        | LexKind::Pipe
-        | LexKind::Equals => Form::Chars,
-        LexKind::CommentLine | LexKind::Comment => Form::Comment,
-        LexKind::Raw => raw_form(text.as_bytes()),
-        LexKind::Include => Form::Include,
-        LexKind::Hidden => Form::Hidden,
-        LexKind::Entity(character) => Form::Entity(character),
-    }
-}
 
 /// Whether a lexeme is removed: include tags and hidden parts of a template.
 fn is_removed(mode: Mode, kind: LexKind) -> bool

@@ -110,7 +110,8 @@ impl<'a> Store<'a> {
         full: &str,
         found: Option<ReadText<'a>>,
     ) -> Result<(), NoMemory>
-        ensures { OnOk result ((pages : Pages) (met : List (List ℕ)) → IsStore pages met self.old → IsFetched full.now (pages full.now) found.entry → IsStore pages (full.now ∷ met) self.new) }
+        ensures { OnOk result ((pages : Pages) (met : List (List ℕ)) → IsStore pages met self.old
+            → IsFetched full.now (pages full.now) found.entry → IsStore pages (full.now ∷ met) self.new) }
     {
         let name = String::from_str(alloc, full)?;
         match self.pages.insert(name, found) {
@@ -128,9 +129,11 @@ impl<'a> Store<'a> {
         folder: &mut F,
         full: &str,
     ) -> Result<Option<ReadText<'a>>, ExpandRefusal>
-        ensures page { (pages : Pages) (met : List (List ℕ)) → F.pages folder.old ≡ Some pages → IsStore pages met self.old → AnswersTitle pages met full.now self.new result }
+        ensures page { (pages : Pages) (met : List (List ℕ)) → F.pages folder.old ≡ Some pages
+            → IsStore pages met self.old → AnswersTitle pages met full.now self.new result }
         ensures kept { F.pages folder.new ≡ F.pages folder.old }
-        ensures named { (pages : Pages) (met : List (List ℕ)) → IsStore pages met self.old → OnOk result (F.answered folder.new ≡ named_with full.now met (F.answered folder.old)) }
+        ensures named { (pages : Pages) (met : List (List ℕ)) → IsStore pages met self.old
+            → OnOk result (F.answered folder.new ≡ named_with full.now met (F.answered folder.old)) }
         ensures count { IsCounted (F.fault_count folder.old) (F.fault_count folder.new) result }
     {
         if let Some(found) = self.known(full) {

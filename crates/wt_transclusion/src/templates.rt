@@ -70,9 +70,11 @@ pub fn take<'a, F: Folder>(
     left: u32,
     title: &Title,
 ) -> Result<Taken<'a>, ExpandRefusal>
-    ensures taken { (pages : Pages) (met : List (List ℕ)) → F.pages folder.old ≡ Some pages → IsStore pages met store.old → AnswersTaking pages met (reverse names.now) left title.now store.new result }
+    ensures taken { (pages : Pages) (met : List (List ℕ)) → F.pages folder.old ≡ Some pages
+        → IsStore pages met store.old → AnswersTaking pages met (reverse names.now) left title.now store.new result }
     ensures kept { F.pages folder.new ≡ F.pages folder.old }
-    ensures named { (pages : Pages) (met : List (List ℕ)) → IsStore pages met store.old → IsNamed (full_name_of title.now) met (F.answered folder.old) (F.answered folder.new) result }
+    ensures named { (pages : Pages) (met : List (List ℕ)) → IsStore pages met store.old
+        → IsNamed (full_name_of title.now) met (F.answered folder.old) (F.answered folder.new) result }
     ensures count { IsCounted (F.fault_count folder.old) (F.fault_count folder.new) result }
 {
     let full = full_name(alloc, title)?;

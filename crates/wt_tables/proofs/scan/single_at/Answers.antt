@@ -1,4 +1,4 @@
-use Rattle.std.proofs.Common.{sym, refl, ap, ◌∙◌, arith}
+use Rattle.std.proofs.Common.{sym, ap, ◌∙◌, arith}
 use Rattle.wt_tables.specs.Views.{numbers, begins_single}
 use Rattle.wt_tables.proofs.Numbers.{numbers_from, numbers_len, number_at}
 use Rattle.wt_tables.proofs.Singles.{turned}
