@@ -1,0 +1,7 @@
+pub mod MarkBytes
+pub mod SignBytes
+pub mod SoundCalls
+pub mod SoundItems
+pub mod SoundMembers
+pub mod TextOrder
+pub mod WholeOutputs
