@@ -1,4 +1,5 @@
 pub mod MarkBytes
+pub mod PieceLaws
 pub mod SignBytes
 pub mod SoundCalls
 pub mod SoundItems

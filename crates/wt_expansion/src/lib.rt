@@ -3,4 +3,4 @@
 
 mod laws;
 
-pub use laws::page_is_sound;
+pub use laws::{page_is_sound, pieces_are_the_page};
