@@ -74,8 +74,8 @@ called_placed (origin.Call j) k s e = tt
 set_called : (k : ℕ) (ps : List Piece) → AreCalled k ps → AllSet ps
 set_called k [] f = tt
 set_called k (p ∷ ps) f = (
-  record { some = f.0; placed = called_placed p.origin k (start_of p.text, end_of p.text) f.1.0 },
-  set_called k ps f.1.1,
+  record { some = f.0; placed = called_placed p.origin k (start_of p.text, end_of p.text) f.1 },
+  set_called k ps f.2,
 )
 
 set_given : (at k : ℕ) (ss : List Stretch) (ps : List Piece) → Give at k ss ps → AllSet ps
@@ -195,13 +195,13 @@ same_self k = grind (arith, nat_tests)
 once_called : (k : ℕ) (q : Piece) (qs rs : List Piece) → AreCalled k (q ∷ qs) → AllLater (suc k) (origins rs)
     → once (origins (q ∷ qs ++ rs)) ≡ origin.Call k ∷ once (origins rs)
 once_called k q [] rs f h =
-    ap (λ b. if b then once (origins rs) else q.origin ∷ once (origins rs)) (before_other k q.origin (origins rs) f.1.0 h)
-    ∙ ap (λ o. o ∷ once (origins rs)) f.1.0
+    ap (λ b. if b then once (origins rs) else q.origin ∷ once (origins rs)) (before_other k q.origin (origins rs) f.1 h)
+    ∙ ap (λ o. o ∷ once (origins rs)) f.1
 once_called k q (p ∷ qs) rs f h =
     let os = origins (p ∷ qs ++ rs) in
     let same : origin_before os q.origin ≡ true =
-    ap (λ o. same_call (call_of_origin o) (call_of_origin p.origin)) f.1.0 ∙ ap (λ o. same_call (Some k) (call_of_origin o)) f.1.1.1.0 ∙ same_self k in
-    ap (λ b. if b then once os else q.origin ∷ once os) same ∙ once_called k p qs rs f.1.1 h
+    ap (λ o. same_call (call_of_origin o) (call_of_origin p.origin)) f.1 ∙ ap (λ o. same_call (Some k) (call_of_origin o)) f.2.1 ∙ same_self k in
+    ap (λ b. if b then once os else q.origin ∷ once os) same ∙ once_called k p qs rs f.2 h
 
 other_all : (k : ℕ) (os : List Origin) → AllLater (suc k) os → All (IsOther (origin.Call k)) os
 other_all k [] h = All-nil (IsOther (origin.Call k))
@@ -209,13 +209,13 @@ other_all k (o ∷ os) h = All-cons (IsOther (origin.Call k)) o os (other_later 
 
 called_later : (k : ℕ) (qs rs : List Piece) → AreCalled k qs → AllLater k (origins rs) → AllLater k (origins (qs ++ rs))
 called_later k [] rs f h = h
-called_later k (q ∷ qs) rs f h = (subst (IsLater k) (sym f.1.0) (omega arith), called_later k qs rs f.1.1 h)
+called_later k (q ∷ qs) rs f h = (subst (IsLater k) (sym f.1) (omega arith), called_later k qs rs f.2 h)
 
 called_named : (cs : List OuterCall) (k : ℕ) (qs rs : List Piece) → k < length cs → AreCalled k qs → All (IsAmong cs) (origins rs)
     → All (IsAmong cs) (origins (qs ++ rs))
 called_named cs k [] rs l f h = h
 called_named cs k (q ∷ qs) rs l f h =
-    All-cons (IsAmong cs) q.origin (origins (qs ++ rs)) (subst (IsAmong cs) (sym f.1.0) l) (called_named cs k qs rs l f.1.1 h)
+    All-cons (IsAmong cs) q.origin (origins (qs ++ rs)) (subst (IsAmong cs) (sym f.1) l) (called_named cs k qs rs l f.2 h)
 
 stand_called : (cs : List OuterCall) (c : OuterCall) (at k : ℕ) (q : Piece) (qs rs : List Piece) → slice_get cs k ≡ Some c → c.start ≡ at → k < length cs
     → AreCalled k (q ∷ qs) → Stand cs (at + length c.source) (suc k) rs → Stand cs at k (q ∷ qs ++ rs)
