@@ -1,6 +1,8 @@
-//! Stand-in.
+//! A page with its templates expanded: its items with where they come from.
 #![tactic(auto)]
 
+mod laws;
 mod page;
 
+pub use laws::{page_is_sound, pieces_are_the_page};
 pub use page::expand;

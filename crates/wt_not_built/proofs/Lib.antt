@@ -2,4 +2,4 @@ pub mod BraceLaws
 mod Cases
 pub mod PlaceLaws
 pub mod ReadingLaws
-pub mod StyleLaws
+pub mod GroupLaws

@@ -4,7 +4,7 @@ use Rattle.wt_span.specs.Items.{Item, source}
 use Rattle.wt_tree.specs.Tree.{Tree}
 use Rattle.wt_expand.specs.PageItems.{page_items}
 use Rattle.wt_not_built.specs.Unbuilt.{begins_braces, is_unbuilt}
-use Rattle.wt_not_built.specs.Styles.{empty_style}
+use Rattle.wt_not_built.specs.Groups.{first_group}
 
 -- how many bytes stand before it
 abbrev pub first_from : List Item → Option ℕ
@@ -20,9 +20,9 @@ smaller None o = o
 smaller (Some m) None = Some m
 smaller (Some m) (Some n) = Some (min m n)
 
--- A page of this tree isn't built where such a form stands on it, or a style without an item: the smaller of the two places.
+-- A page of this tree isn't built where such a form stands on it, or a group in its tree: the smaller of the two places.
 unfoldable pub first_unbuilt : List ℕ → Tree → Option ℕ
-first_unbuilt page t = smaller (first_form page) (empty_style t)
+first_unbuilt page t = smaller (first_form page) (first_group t)
 
 -- ---- of some items
 

@@ -1,3 +1,3 @@
 pub mod FirstPlace
-pub mod Styles
+pub mod Groups
 pub mod Unbuilt

@@ -2,10 +2,10 @@
 #![tactic(auto)]
 
 mod braces;
+mod group;
 mod laws;
 mod page;
 mod reading;
-mod style;
 
 pub use laws::{exact_place, smallest_place};
 pub use page::first_unbuilt;

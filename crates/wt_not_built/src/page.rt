@@ -4,8 +4,8 @@ ghost use Rattle.wt_tree.specs.View.{view};
 ghost use Rattle.wt_expand.specs.PageItems.{page_items};
 ghost use Rattle.wt_not_built.specs.FirstPlace.{first_from, first_form, smaller, first_unbuilt};
 
+use crate::group::first_group;
 use crate::reading::read_piece;
-use crate::style::empty_style;
 use wt_span::{Piece, rest_of};
 use wt_tree::Node;
 
@@ -48,8 +48,8 @@ fn smaller(one: Option<usize>, other: Option<u32>) -> Option<u32>
     Some(one.min(other))
 }
 
-/// The first place where the page isn't built, in bytes: that of a form that isn't, or of a style of
-/// its tree without an item. None where all is built. The pieces are those of the page's items.
+/// The first place where the page isn't built, in bytes: that of a form that isn't, or of a group of
+/// its tree. None where all is built. The pieces are those of the page's items.
 #[tactic(auto, unfolding(crate::specs::FirstPlace::first_unbuilt))]
 pub fn first_unbuilt(page: &str, pieces: &[Piece<'_>], tree: &Node<'_>) -> Option<u32>
     requires items { items pieces.now ≡ page_items page.now }
@@ -57,6 +57,6 @@ pub fn first_unbuilt(page: &str, pieces: &[Piece<'_>], tree: &Node<'_>) -> Optio
     ensures { result ≡ first_unbuilt page.now (view tree.now) }
 {
     let form = first_form(page, pieces);
-    let style = empty_style(tree);
-    smaller(form, style)
+    let group = first_group(tree);
+    smaller(form, group)
 }

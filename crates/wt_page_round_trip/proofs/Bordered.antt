@@ -25,9 +25,9 @@ use Rattle.wt_inline.specs.declared.loose.Loose.{Loose}
 use Rattle.wt_inline.specs.declared.loose.Loose.TheVariants.{Text, Sep}
 use Rattle.wt_inline.specs.ItemTree.{ItemTree, inner, forest, tree_items, held_by_all}
 use Rattle.wt_inline.specs.Parts.{Part, loose, node, held_parts, same_loose, same_origin, one_leaf, loose_leaf, child}
-use Rattle.wt_annotate.specs.Labels.{width, label_at}
-use Rattle.wt_annotate.specs.Annotated.{numbered, numbered_in_all}
-use Rattle.wt_annotate.specs.Made.{annotated_at, all_annotated_at}
+use Rattle.wt_ranges.specs.Labels.{width, label_at}
+use Rattle.wt_ranges.specs.Counted.{numbered, numbered_in_all}
+use Rattle.wt_ranges.specs.Made.{annotated_at, all_annotated_at}
 use Rattle.wt_page_round_trip.proofs.Parts.{wide_append, own_chars, shown_chars}
 use Rattle.wt_page_round_trip.proofs.Separated.{head_of, IsPartIn, IsSeparatorRun, begins_loose, all_behind, separator_run, no_text_first}
 

@@ -21,9 +21,10 @@ use Rattle.wt_fitting.specs.Rows.{shows_text}
 use Rattle.wt_round_trip.specs.Written.{has_level, IsNumber, HasSource, IsShown, HasAttributes, HasData, is_extension_label, IsElementLabel, NodeIsWritten, is_childless, IsCutIn, AllWrittenIn}
 use Rattle.wt_inline.specs.ItemTree.{plain, ItemTrees, inner, leaf, forest, held_by_all}
 use Rattle.wt_inline.specs.Parts.{Part, children}
-use Rattle.wt_annotate.specs.Labels.{width, label_at}
-use Rattle.wt_annotate.specs.Annotated.{numbered, numbered_in_all, count_by, inside_by}
-use Rattle.wt_annotate.specs.Made.{all_annotated_at}
+use Rattle.wt_ranges.specs.Labels.{width, label_at}
+use Rattle.wt_ranges.specs.Counted.{numbered, numbered_in_all, count_by}
+use Rattle.wt_ranges.specs.WithoutCalls.{inside_by}
+use Rattle.wt_ranges.specs.Made.{all_annotated_at}
 use Rattle.wt_page_round_trip.proofs.InlineNodes.{with_attrs}
 use Rattle.wt_page_round_trip.proofs.Parts.{IsWrittenNode, wide_append}
 use Rattle.wt_page_round_trip.proofs.Separated.{IsPartIn, TakesSeparators, separated_written}

@@ -1,5 +1,6 @@
 -- Worked cases of the whole way from a page to its HTML, each computed.
-use Rattle.std.proofs.Common.{◌≡◌, refl, codes}
+use Rattle.std.proofs.Common.{◌≡◌, ℕ, List, refl, codes}
+use Rattle.wt_tree.specs.Tree.{Tree}
 use Rattle.std.specs.Fmt.{digits}
 use Rattle.serde_json.proofs.OnLiterals.{serde_json_on_literals}
 use Rattle.wt_span.specs.Comments.{comment_len, comment_line_len}
@@ -31,9 +32,12 @@ use Rattle.wt_body.specs.Texts.{para}
 use Rattle.wt_body.specs.Rows.{rows as rows_of}
 use Rattle.wt_blocks.specs.Headings.{level, opening, inside, closing}
 use Rattle.wt_body.specs.Body.{blocks, meaning}
-use Rattle.wt_annotate.specs.Annotated.{annotated}
-use Rattle.wt_annotate.specs.Labels.{label_at}
-use Rattle.wt_page_round_trip.specs.PageTree.{page_tree}
+use Rattle.wt_ranges.specs.WithoutCalls.{annotated}
+use Rattle.wt_ranges.specs.Labels.{label_at}
+
+-- the tree of a page that has no group
+abbrev page_tree : List ℕ → Tree
+page_tree page = annotated (meaning (page_items page))
 
 -- an include tag in a heading
 include_tag : html_text (page_tree (codes "== </onlyinclude> ==\n\n"))

@@ -23,9 +23,9 @@ use Rattle.wt_inline.specs.declared.loose.Loose.TheVariants.{Sep}
 use Rattle.wt_inline.specs.ItemTree.{plain, ItemTree, inner, forest, tree_items, held_by_all}
 use Rattle.wt_inline.specs.Parts.{Part, loose, node, parts, same_loose, same_origin, one_leaf, child, children}
 use Rattle.wt_context.specs.Line.{line_parts}
-use Rattle.wt_annotate.specs.Labels.{width, label_at}
-use Rattle.wt_annotate.specs.Annotated.{numbered, numbered_in_all}
-use Rattle.wt_annotate.specs.Made.{annotated_at, all_annotated_at}
+use Rattle.wt_ranges.specs.Labels.{width, label_at}
+use Rattle.wt_ranges.specs.Counted.{numbered, numbered_in_all}
+use Rattle.wt_ranges.specs.Made.{annotated_at, all_annotated_at}
 use Rattle.wt_body.specs.Stretches.{Stretch, gap, block, is_gap, stretches_parts, front_len, past_front, block_len, before_end, tree_block, node_of, opened_by, enclosed}
 use Rattle.wt_page_round_trip.proofs.InlineNodes.{with_attrs}
 use Rattle.wt_page_round_trip.proofs.OfPage.{ArePageItems}

@@ -8,11 +8,11 @@ use Rattle.wt_lex.proofs.TagForms.{OptTag, TagFits, opening_fits}
 use Rattle.wt_lex.proofs.WholeTags.{raw_at}
 use Rattle.wt_inline.specs.RawTag.{len_of, opening_len, behind, inside_len}
 use Rattle.wt_inline.specs.Parts.{nowiki, whole_tree}
-use Rattle.wt_annotate.specs.Labels.{width}
-use Rattle.wt_annotate.specs.Annotated.{numbered}
-use Rattle.wt_annotate.specs.Numbers.{makes_all}
-use Rattle.wt_annotate.proofs.BodyCounts.{meaning_count}
-use Rattle.wt_annotate.proofs.NumberLaws.{nowiki_inside}
+use Rattle.wt_ranges.specs.Labels.{width}
+use Rattle.wt_ranges.specs.Counted.{numbered}
+use Rattle.wt_numbers.specs.Numbers.{makes_all}
+use Rattle.wt_numbers.proofs.BodyCounts.{meaning_count}
+use Rattle.wt_numbers.proofs.NumberLaws.{nowiki_inside}
 use Rattle.wt_body.specs.Body.{meaning}
 use Rattle.wt_page_round_trip.proofs.OfPage.{AreOfPage}
 use Rattle.wt_page_round_trip.proofs.FormLengths.{IsFormOf, form_long, AreForms, forms_of_page}

@@ -22,7 +22,7 @@ use Rattle.wt_inline.specs.ItemTree.{ItemTrees, forest, held_by_all}
 use Rattle.wt_inline.specs.Parts.{Part, children, inside_part, nowiki, whole_tree, parts}
 use Rattle.wt_inline.proofs.HeldLaws.{sources_chars}
 use Rattle.wt_inline.proofs.Insides.{entity_some, entity_within, entity_border}
-use Rattle.wt_annotate.specs.Labels.{width, label_at}
+use Rattle.wt_ranges.specs.Labels.{width, label_at}
 use Rattle.wt_page_round_trip.proofs.TextItems.{AreTexts, before_low}
 use Rattle.wt_page_round_trip.proofs.OfPage.{IsPageForm, AreOfPage}
 use Rattle.wt_page_round_trip.proofs.Parts.{IsTextRun, IsWrittenNode, AreWrittenParts, wide_append, children_written}

@@ -16,7 +16,7 @@ use Rattle.wt_inline.specs.Carried.{placeholder_typeof}
 use Rattle.wt_inline.specs.ItemTree.{Head, ItemTree, ItemTrees, nothing, leaf, inner, forest, tree_items, held_by_all}
 use Rattle.wt_inline.specs.Parts.{Part, held_parts, children}
 use Rattle.wt_inline.proofs.HeldLaws.{held_children, sources_append}
-use Rattle.wt_annotate.specs.Labels.{width, label_at}
+use Rattle.wt_ranges.specs.Labels.{width, label_at}
 use Rattle.wt_page_round_trip.proofs.Parts.{IsWrittenNode, AreWrittenParts, wide_append, children_written}
 use Rattle.wt_page_round_trip.proofs.Inline.{IsInlineParent}
 use Rattle.wt_page_round_trip.proofs.WrittenParts.{FitsIn, NodeFits}

@@ -1,4 +1,6 @@
 mod Cases
+mod PlaceCases
+pub mod CutStays
 pub mod TextItems
 pub mod OfPage
 pub mod Parts

@@ -1,8 +1,12 @@
 -- The annotated tree of a page: its source, its ranges and its numbers.
-use Rattle.std.proofs.Common.{◌≡◌, ℕ, ◌+◌, ◌*◌, ◌<◌, ◌≤◌, ◌^◌, List, length, ap, ◌∙◌, subst, arith}
+use Rattle.std.proofs.Common.{◌≡◌, ℕ, ◌+◌, ◌*◌, ◌<◌, ◌≤◌, ◌^◌, List, [], ◌∷◌, ◌++◌, true, length, refl, ap, ap₂, ◌∙◌, subst, cond, arith}
+use Rattle.std.specs.List.{AllByRecursion}
+use Rattle.wt_span.specs.Cuts.{page_of}
 use Rattle.wt_span.specs.Items.{Item, sources}
+use Rattle.wt_span.specs.Origins.{OuterCall}
 use Rattle.wt_tree.specs.Source.{flat}
 use Rattle.wt_tree.specs.Tiling.{Tiled, Covers, InPreorder}
+use Rattle.wt_tree.specs.Tree.{Tree, tree, Trees, none, more, subtrees, subtrees_of_all}
 use Rattle.wt_expand.specs.PageItems.{page_items}
 use Rattle.wt_expand.proofs.PageLaws.{page_sources}
 use Rattle.wt_inline.specs.ItemTree.{ItemTree, forest, tree_items}
@@ -10,13 +14,19 @@ use Rattle.wt_inline.specs.Parts.{children}
 use Rattle.wt_body.specs.Rows.{rows}
 use Rattle.wt_body.specs.Body.{body_parts, meaning}
 use Rattle.wt_body.proofs.HeldBody.{sources_meaning}
-use Rattle.wt_annotate.specs.Annotated.{numbered, annotated}
-use Rattle.wt_annotate.specs.Labels.{width}
-use Rattle.wt_annotate.specs.Slices.{AreSlices}
-use Rattle.wt_annotate.proofs.TreeNumbers.{numbered_annotated}
-use Rattle.wt_annotate.proofs.TreeRanges.{tiled_annotated, body_covers}
-use Rattle.wt_annotate.proofs.TreeSlices.{annotated_slices}
-use Rattle.wt_annotate.proofs.TreeSource.{flat_annotated}
+use Rattle.wt_ranges.specs.Counted.{numbered}
+use Rattle.wt_ranges.specs.Slices.{IsSlice, AreSlices}
+use Rattle.wt_ranges.specs.Annotated.{annotated}
+use Rattle.wt_ranges.specs.Clean.{is_clean}
+use Rattle.wt_ranges.specs.CutTexts.{cut_texts}
+use Rattle.wt_ranges.specs.GroupData.{group_data}
+use Rattle.wt_ranges.specs.Reached.{reached, reached_in_all}
+use Rattle.wt_ranges.specs.WithoutCalls.{annotated as annotated_plainly, IsPlain, HasNoGroup, NoneIsGroup}
+use Rattle.wt_ranges.proofs.AnnotatedTree.{annotated_tiles, annotated_covers, annotated_slices, annotated_source, annotated_numbered, without_calls}
+use Rattle.wt_ranges.proofs.Ends.{body_clean}
+use Rattle.wt_ranges.proofs.NoGroups.{only_plain}
+use Rattle.wt_ranges.proofs.PageSizes.{page_least}
+use Rattle.wt_ranges.proofs.WithoutCalls.{own_page}
 use Rattle.wt_page_round_trip.specs.PageTree.{page_tree}
 use Rattle.wt_page_round_trip.proofs.FormLengths.{page_forms}
 use Rattle.wt_page_round_trip.proofs.Counts.{forms_few}
@@ -36,42 +46,75 @@ few_numbers page = omega (arith, two_a_byte page)
 meaning_sources : (page : List ℕ) → sources (tree_items (meaning (page_items page))) ≡ page
 meaning_sources page = sources_meaning (page_items page) ∙ page_sources page
 
-pub flat_page : (page : List ℕ) → flat (page_tree page) ≡ page
-flat_page page = flat_annotated (meaning (page_items page)) ∙ meaning_sources page
+-- without groups it comes of items of the page alone
+plain_meaning : (xs : List Item) → HasNoGroup (annotated [] (group_data []) (meaning xs)) → IsPlain (meaning xs)
+unfolding meaning
+plain_meaning xs h = only_plain [] (group_data []) (forest (children (body_parts (rows xs)))) h
+
+pub page_plain : (page : List ℕ) → HasNoGroup (page_tree page) → IsPlain (meaning (page_items page))
+page_plain page h = plain_meaning (page_items page) h
+
+pub plainly : (page : List ℕ) → HasNoGroup (page_tree page) → page_tree page ≡ cut_texts (annotated_plainly (meaning (page_items page)))
+plainly page h = without_calls [] (group_data []) (meaning (page_items page)) (page_plain page h)
+
+clean_meaning : (xs : List Item) → is_clean (tree_items (meaning xs)) 0 (meaning xs) ≡ true
+unfolding meaning
+clean_meaning xs = body_clean (forest (children (body_parts (rows xs))))
+
+page_is : (page : List ℕ) → HasNoGroup (page_tree page) → page_of [] (tree_items (meaning (page_items page))) ≡ page
+page_is page h = own_page [] (tree_items (meaning (page_items page))) (page_plain page h).of_page ∙ meaning_sources page
+
+pub flat_page : (page : List ℕ) → HasNoGroup (page_tree page) → flat (page_tree page) ≡ page
+flat_page page h = annotated_source [] (group_data []) (meaning (page_items page)) (clean_meaning (page_items page)) ∙ page_is page h
 
 pub page_tiled : (page : List ℕ) → Tiled (page_tree page)
-page_tiled page = tiled_annotated (meaning (page_items page))
+page_tiled page = annotated_tiles [] (group_data []) (meaning (page_items page)) (clean_meaning (page_items page))
 
-covers_width : (xs : List Item) → Covers (width (tree_items (meaning xs))) (annotated (meaning xs))
+covers_width : (xs : List Item) → Covers (length (page_of [] (tree_items (meaning xs)))) (annotated [] (group_data []) (meaning xs))
 unfolding meaning
-covers_width xs = body_covers (forest (children (body_parts (rows xs))))
+covers_width xs = annotated_covers [] (group_data []) (forest (children (body_parts (rows xs))))
 
-pub page_covered : (page : List ℕ) → Covers (length page) (page_tree page)
-page_covered page = subst (λ n. Covers n (annotated (meaning (page_items page)))) (ap length (meaning_sources page)) (covers_width (page_items page))
+pub page_covered : (page : List ℕ) → HasNoGroup (page_tree page) → Covers (length page) (page_tree page)
+page_covered page h = subst (λ n. Covers n (page_tree page)) (ap length (page_is page h)) (covers_width (page_items page))
 
-pub page_slices : (page : List ℕ) → AreSlices page (page_tree page)
-page_slices page = subst (λ bs. AreSlices bs (page_tree page)) (meaning_sources page) (annotated_slices (meaning (page_items page)))
+mutual
+  all_reached : (t : Tree) → HasNoGroup t → reached t ≡ subtrees t
+  all_reached (tree l ts) h =
+      ap (λ us. tree l ts ∷ us) (ap (λ v. cond v [] (reached_in_all ts)) h.0 ∙ reached_all ts h.1)
+
+  reached_all : (ts : Trees) → NoneIsGroup ts → reached_in_all ts ≡ subtrees_of_all ts
+  reached_all none h = refl
+  reached_all (more t ts) h = ap₂ (λ us vs. us ++ vs) (all_reached t h.0) (reached_all ts h.1)
+
+pub page_slices : (page : List ℕ) → HasNoGroup (page_tree page) → AreSlices page (page_tree page)
+page_slices page h =
+    subst (λ bs. AreSlices bs (page_tree page)) (page_is page h)
+    (subst (λ us. AllByRecursion (IsSlice (page_of [] (tree_items (meaning (page_items page))))) us) (all_reached (page_tree page) h)
+    (annotated_slices [] (group_data []) (meaning (page_items page)) (clean_meaning (page_items page))))
 
 pub page_numbered : (page : List ℕ) → InPreorder (page_tree page)
-page_numbered page = numbered_annotated (meaning (page_items page))
+page_numbered page = annotated_numbered [] (group_data []) (meaning (page_items page))
 
 -- ---- from the meaning that was found
 
-pub tree_is : (page : List ℕ) (xs : List Item) (t : ItemTree) → t ≡ meaning xs → xs ≡ page_items page → annotated t ≡ page_tree page
-tree_is page xs t is items = ap annotated (is ∙ ap meaning items)
+pub tree_is : (page : List ℕ) (calls : List OuterCall) (xs : List Item) (t : ItemTree) → t ≡ meaning xs → xs ≡ page_items page → calls ≡ []
+    → annotated calls (group_data calls) t ≡ page_tree page
+tree_is page calls xs t is items none =
+    ap (λ u. annotated calls (group_data calls) u) (is ∙ ap meaning items)
+    ∙ ap (λ cs. annotated cs (group_data cs) (meaning (page_items page))) none
+
+pub clean_is : (xs : List Item) (t : ItemTree) → t ≡ meaning xs → is_clean (tree_items t) 0 t ≡ true
+clean_is xs t is = ap (λ u. is_clean (tree_items u) 0 u) is ∙ clean_meaning xs
 
 pub small_items : (page : List ℕ) (xs : List Item) → length page ≤ 2097152 → xs ≡ page_items page → length (sources xs) < 2 ^ 32
 small_items page xs room items =
     let len : length (sources xs) ≡ length page = ap (λ ys. length (sources ys)) items ∙ ap length (page_sources page) in
     omega arith
 
-pub small_width : (page : List ℕ) (xs : List Item) (t : ItemTree) → length page ≤ 2097152 → t ≡ meaning xs → xs ≡ page_items page → width (tree_items t) < 2 ^ 32
-small_width page xs t room is items =
-    let len : length (sources (tree_items t)) ≡ length page = ap (λ u. length (sources (tree_items u))) (is ∙ ap meaning items) ∙ ap length (meaning_sources page) in
-    omega arith
-
-pub small_numbers : (page : List ℕ) (xs : List Item) (t : ItemTree) → length page ≤ 2097152 → t ≡ meaning xs → xs ≡ page_items page → 1 + numbered t < 2 ^ 32
-small_numbers page xs t room is items =
-    let same : numbered t ≡ numbered (meaning (page_items page)) = ap numbered (is ∙ ap meaning items) in
-    let few : numbered (meaning (page_items page)) ≤ 3 * length page = few_numbers page in
-    omega arith
+pub small_page : (page : List ℕ) (calls : List OuterCall) (xs : List Item) (t : ItemTree) → length page ≤ 2097152 → t ≡ meaning xs
+    → xs ≡ page_items page → calls ≡ [] → length (page_of calls (tree_items t)) < 2 ^ 32
+small_page page calls xs t room is items none =
+    let len : length (sources (tree_items t)) ≡ length page = ap (λ u. length (sources (tree_items u))) (is ∙ ap meaning items)
+    ∙ ap length (meaning_sources page) in
+    let same : length (page_of calls (tree_items t)) ≡ length (page_of [] (tree_items t)) = ap (λ cs. length (page_of cs (tree_items t))) none in
+    omega (arith, room, len, same, page_least (tree_items t))

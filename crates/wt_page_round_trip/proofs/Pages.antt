@@ -19,12 +19,15 @@ use Rattle.wt_body.specs.Rows.{rows}
 use Rattle.wt_body.specs.Stretches.{stretches_parts}
 use Rattle.wt_body.specs.Body.{blocks, meaning}
 use Rattle.wt_body.proofs.HeldBody.{sources_meaning}
-use Rattle.wt_annotate.specs.Labels.{width, label_at}
-use Rattle.wt_annotate.specs.Annotated.{numbered, numbered_in_all, annotated}
-use Rattle.wt_annotate.specs.Made.{annotated_at}
-use Rattle.wt_annotate.proofs.OnePass.{annotated_is}
-use Rattle.wt_annotate.proofs.TreeSource.{flat_annotated}
+use Rattle.wt_ranges.specs.Labels.{width, label_at}
+use Rattle.wt_ranges.specs.Counted.{numbered, numbered_in_all}
+use Rattle.wt_ranges.specs.WithoutCalls.{annotated, HasNoGroup}
+use Rattle.wt_ranges.specs.Made.{annotated_at}
+use Rattle.wt_ranges.proofs.OnePass.{annotated_is}
 use Rattle.wt_page_round_trip.proofs.OfPage.{page_texts, page_of_page}
+use Rattle.wt_page_round_trip.specs.PageTree.{page_tree}
+use Rattle.wt_page_round_trip.proofs.CutStays.{written_stays}
+use Rattle.wt_page_round_trip.proofs.PageTrees.{plainly, flat_page}
 use Rattle.wt_page_round_trip.proofs.Parts.{wide_append}
 use Rattle.wt_page_round_trip.proofs.Separated.{TakesSeparators, separated_written}
 use Rattle.wt_page_round_trip.proofs.Stretched.{placed_parts}
@@ -63,15 +66,17 @@ written_at page u room few =
     )
 
 pub page_written : (page : List ℕ) → IsUtf8 page → length page < 2 ^ 31 → numbered (meaning (page_items page)) ≤ 2 * length page
-    → IsWritten (annotated (meaning (page_items page)))
-page_written page u room few = subst IsWritten (sym (annotated_is (meaning (page_items page)))) (written_at page u room few)
+    → HasNoGroup (page_tree page) → IsWritten (page_tree page)
+page_written page u room few h =
+    let w : IsWritten (annotated (meaning (page_items page))) =
+    subst IsWritten (sym (annotated_is (meaning (page_items page)))) (written_at page u room few) in
+    subst IsWritten (sym (plainly page h ∙ written_stays (annotated (meaning (page_items page))) w)) w
 
 pub page_is_read : (page : List ℕ) → IsUtf8 page → length page < 2 ^ 31 → numbered (meaning (page_items page)) ≤ 2 * length page
-    → read (html_text (annotated (meaning (page_items page)))) ≡ read_page (unranged (annotated (meaning (page_items page)))) None
-page_is_read page u room few = written_read (annotated (meaning (page_items page))) (page_written page u room few)
+    → HasNoGroup (page_tree page) → read (html_text (page_tree page)) ≡ read_page (unranged (page_tree page)) None
+page_is_read page u room few h = written_read (page_tree page) (page_written page u room few h)
 
 -- ---- its source
 
-pub same_page : (page : List ℕ) → flat (unranged (annotated (meaning (page_items page)))) ≡ page
-same_page page = same_source (annotated (meaning (page_items page))) ∙ flat_annotated (meaning (page_items page))
-    ∙ sources_meaning (page_items page) ∙ page_sources page
+pub same_page : (page : List ℕ) → HasNoGroup (page_tree page) → flat (unranged (page_tree page)) ≡ page
+same_page page h = same_source (page_tree page) ∙ flat_page page h

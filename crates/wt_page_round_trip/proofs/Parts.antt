@@ -19,9 +19,9 @@ use Rattle.wt_inline.specs.Carried.{shown_item}
 use Rattle.wt_inline.specs.ItemTree.{ItemTree, forest, tree_items, held_by_all}
 use Rattle.wt_inline.specs.Parts.{Part, loose, node, held_parts, same_loose, same_origin, one_leaf, loose_kind, loose_leaf, child, children}
 use Rattle.wt_inline.proofs.HeldLaws.{sources_append}
-use Rattle.wt_annotate.specs.Labels.{width, label_at}
-use Rattle.wt_annotate.specs.Annotated.{numbered, numbered_in_all}
-use Rattle.wt_annotate.specs.Made.{annotated_at, all_annotated_at}
+use Rattle.wt_ranges.specs.Labels.{width, label_at}
+use Rattle.wt_ranges.specs.Counted.{numbered, numbered_in_all}
+use Rattle.wt_ranges.specs.Made.{annotated_at, all_annotated_at}
 
 -- a text or a separator that may stand in a node of this kind
 abbrev pub IsTextRun : Kind → List ℕ → Type 0

@@ -22,9 +22,9 @@ use Rattle.wt_inline.specs.declared.loose.Loose.{Loose}
 use Rattle.wt_inline.specs.declared.loose.Loose.TheVariants.{Sep}
 use Rattle.wt_inline.specs.ItemTree.{Head, ItemTree, inner, forest, tree_items, held_by_all}
 use Rattle.wt_inline.specs.Parts.{Part, loose, node, parts, whole_tree, held_parts, same_loose, same_origin, one_leaf, loose_leaf, child, children}
-use Rattle.wt_annotate.specs.Labels.{width, label_at}
-use Rattle.wt_annotate.specs.Annotated.{numbered, numbered_in_all}
-use Rattle.wt_annotate.specs.Made.{annotated_at, all_annotated_at}
+use Rattle.wt_ranges.specs.Labels.{width, label_at}
+use Rattle.wt_ranges.specs.Counted.{numbered, numbered_in_all}
+use Rattle.wt_ranges.specs.Made.{annotated_at, all_annotated_at}
 use Rattle.wt_page_round_trip.proofs.OfPage.{AreOfPage}
 use Rattle.wt_page_round_trip.proofs.PageLines.{IsBetween, is_white_byte}
 use Rattle.wt_page_round_trip.proofs.Parts.{IsWrittenNode, wide_append, own_chars, none_joins}

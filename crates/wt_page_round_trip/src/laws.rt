@@ -6,26 +6,29 @@ ghost use Rattle.wt_fitting.specs.Read.{read, page};
 ghost use Rattle.wt_round_trip.specs.Written.{unranged, IsWritten};
 ghost use Rattle.wt_expand.specs.PageItems.{page_items};
 ghost use Rattle.wt_body.specs.Body.{meaning};
-ghost use Rattle.wt_annotate.specs.Annotated.{numbered};
-ghost use Rattle.wt_annotate.specs.Slices.{AreSlices};
+ghost use Rattle.wt_ranges.specs.Counted.{numbered};
+ghost use Rattle.wt_ranges.specs.Slices.{AreSlices};
+ghost use Rattle.wt_ranges.specs.WithoutCalls.{HasNoGroup};
 ghost use Rattle.wt_page_round_trip.specs.PageTree.{page_tree};
 
 /// The HTML of a page is read as the page's own annotated tree, without the ranges of its texts and
 /// separators. Each of its elements tells where it comes from, and its source is the page. It holds
-/// of each page in UTF-8 of fewer than 2^31 bytes; forms that aren't built are read as text.
+/// of each page in UTF-8 of fewer than 2^31 bytes whose tree has no group, as one with an empty style
+/// has; forms that aren't built are read as text.
 pub fn page_is_read()
-    ensures written { (bytes : List ℕ) → IsUtf8 bytes → length bytes < 2 ^ 31 → IsWritten (page_tree bytes) }
-    ensures read { (bytes : List ℕ) → IsUtf8 bytes → length bytes < 2 ^ 31 → read (html_text (page_tree bytes)) ≡ page (unranged (page_tree bytes)) None }
-    ensures source { (bytes : List ℕ) → flat (unranged (page_tree bytes)) ≡ bytes }
+    ensures written { (bytes : List ℕ) → IsUtf8 bytes → length bytes < 2 ^ 31 → HasNoGroup (page_tree bytes) → IsWritten (page_tree bytes) }
+    ensures read { (bytes : List ℕ) → IsUtf8 bytes → length bytes < 2 ^ 31 → HasNoGroup (page_tree bytes) → read (html_text (page_tree bytes)) ≡ page (unranged (page_tree bytes)) None }
+    ensures source { (bytes : List ℕ) → HasNoGroup (page_tree bytes) → flat (unranged (page_tree bytes)) ≡ bytes }
 {}
 
-/// The tree of a page joins to the page, its ranges tile the page and are slices of it, and its
-/// numbers are in preorder; at most three nodes for each byte have one.
+/// The ranges of a page's tree tile it, and its numbers are in preorder. Where it has no group, it
+/// joins to the page, and its ranges cover the page and are slices of it; at most three nodes for each
+/// byte have a number.
 pub fn whole_page_tree()
-    ensures source { (bytes : List ℕ) → flat (page_tree bytes) ≡ bytes }
+    ensures source { (bytes : List ℕ) → HasNoGroup (page_tree bytes) → flat (page_tree bytes) ≡ bytes }
     ensures tiled { (bytes : List ℕ) → Tiled (page_tree bytes) }
-    ensures covers { (bytes : List ℕ) → Covers (length bytes) (page_tree bytes) }
-    ensures slices { (bytes : List ℕ) → AreSlices bytes (page_tree bytes) }
+    ensures covers { (bytes : List ℕ) → HasNoGroup (page_tree bytes) → Covers (length bytes) (page_tree bytes) }
+    ensures slices { (bytes : List ℕ) → HasNoGroup (page_tree bytes) → AreSlices bytes (page_tree bytes) }
     ensures numbered { (bytes : List ℕ) → InPreorder (page_tree bytes) }
     ensures few { (bytes : List ℕ) → numbered (meaning (page_items bytes)) ≤ 3 * length bytes }
 {}

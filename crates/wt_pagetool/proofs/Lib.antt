@@ -1,4 +1,5 @@
 pub mod AnswerLaws
+pub mod BuiltLaws
 mod Cases
 pub mod ExpandLaws
 pub mod GivenBackLaws

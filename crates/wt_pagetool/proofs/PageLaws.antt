@@ -134,21 +134,26 @@ page_made page bytes made e =
     let b = built_made page bytes made (unbuilt_place page) refl t.is in
     record { within = t.within; text = t.text; built = b.0; is = b.1 }
 
-abbrev pub IsOfPage : Option (List ℕ) → (List ℕ → Answer) → List ℕ → Type 0
-IsOfPage stands made bytes = (page : List ℕ) × (stands ≡ Some page) × (made page ≡ done bytes)
+-- what is made of a page that is text and stands under a title
+abbrev pub IsTextOf : Option (List ℕ) → (List ℕ → Answer) → List ℕ → Type 0
+IsTextOf stands made bytes = (page : List ℕ) × (stands ≡ Some page) × (made page ≡ done bytes)
 
 pub title_stands : (stands : Option (List ℕ)) (made : List ℕ → Answer) (bytes : List ℕ) → title_answer stands made ≡ done bytes
-    → IsOfPage stands made bytes
+    → IsTextOf stands made bytes
 unfolding title_answer
 title_stands None made bytes e = cc
 title_stands (Some page) made bytes e = (page, refl, (title_made page bytes made e).is)
+
+-- the same of one that is built
+abbrev pub IsOfPage : Option (List ℕ) → (List ℕ → Answer) → List ℕ → Type 0
+IsOfPage stands made bytes = (page : List ℕ) × (stands ≡ Some page) × (unbuilt_place page ≡ None) × (made page ≡ done bytes)
 
 pub stands_made : (stands : Option (List ℕ)) (made : List ℕ → Answer) (bytes : List ℕ) → page_answer stands made ≡ done bytes
     → IsOfPage stands made bytes
 stands_made stands made bytes e =
     let h = title_stands stands (built_answer made) bytes e in
     let b = built_made h.0 bytes made (unbuilt_place h.0) refl h.2 in
-    (h.0, h.1, b.1)
+    (h.0, h.1, b.0, b.1)
 
 -- ---- what was fetched
 

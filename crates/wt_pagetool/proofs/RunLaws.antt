@@ -28,6 +28,8 @@ use Rattle.wt_pagetool.specs.Causes.{Answered, RefusesAs, IsKept, found_status}
 use Rattle.wt_pagetool.specs.Calls.{call, IsDueAs, IsDue, KeptCounts, NothingFailed}
 use Rattle.wt_pagetool.specs.Reports.{Reported, WasDone, WasRefused, OutFailed, ErrFailed, WrotePage, WroteExpansion, WroteSource}
 use Rattle.wt_pagetool.proofs.StatusLaws.{is_done, is_write_fault, is_answer, IsUnansweredBy, unanswered}
+use Rattle.wt_ranges.specs.WithoutCalls.{HasNoGroup}
+use Rattle.wt_pagetool.proofs.BuiltLaws.{built_none}
 use Rattle.wt_pagetool.proofs.PageLaws.{stands_made}
 use Rattle.wt_pagetool.proofs.ExpandLaws.{wrote_expansion, told_expansion}
 use Rattle.wt_page_round_trip.proofs.PageTrees.{page_tiled, page_covered, page_slices, page_numbered}
@@ -46,13 +48,14 @@ wrote_page : (command : PageCommand) (stands : Option (List ℕ)) (bytes : List 
     → page_answer stands (made command) ≡ done bytes → Appends old new bytes → WrotePage command stands old new
 wrote_page command stands bytes old new e wrote =
     let h = stands_made stands (made command) bytes e in
+    let none : HasNoGroup (page_tree h.0) = built_none h.0 h.2 in
     record {
       page = h.0;
       found = h.1;
-      wrote = subst (Appends old new) (made_is command h.0 bytes h.2) wrote;
+      wrote = subst (Appends old new) (made_is command h.0 bytes h.3) wrote;
       tiled = page_tiled h.0;
-      covers = page_covered h.0;
-      slices = page_slices h.0;
+      covers = page_covered h.0 none;
+      slices = page_slices h.0 none;
       numbered = page_numbered h.0;
     }
 

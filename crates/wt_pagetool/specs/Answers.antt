@@ -49,7 +49,7 @@ abbrev pub built_at : List ℕ → (List ℕ → Answer) → Option ℕ → Answ
 built_at page made (Some place) = refused (NotBuilt place)
 built_at page made None = made page
 
--- the first place where a page isn't built: that of a form, or of a style without an item
+-- the first place where a page isn't built: that of a form, or of a group, as a style without an item is
 abbrev pub unbuilt_place : List ℕ → Option ℕ
 unbuilt_place page = first_unbuilt page (page_tree page)
 

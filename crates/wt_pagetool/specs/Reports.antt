@@ -7,7 +7,7 @@ use Rattle.wt_expand.specs.PageCalls.{expanded_page}
 use Rattle.wt_tree.specs.Tree.{Tree}
 use Rattle.wt_tree.specs.Source.{flat}
 use Rattle.wt_tree.specs.Tiling.{Tiled, Covers, InPreorder}
-use Rattle.wt_annotate.specs.Slices.{AreSlices}
+use Rattle.wt_ranges.specs.Slices.{AreSlices}
 use Rattle.wt_fitting.specs.Read.{page as as_page, read}
 use Rattle.wt_page_round_trip.specs.PageTree.{page_tree}
 use Rattle.wt_pagetool.specs.declared.limits.TheConstants.{HTML_BYTES}

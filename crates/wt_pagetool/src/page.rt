@@ -1,4 +1,4 @@
-ghost use Rattle.std.specs.Prelude.{◌≡◌, ◌≤◌, length, OnOk, IfOk, IfErr, Some, None};
+ghost use Rattle.std.specs.Prelude.{◌≡◌, ◌≤◌, [], length, OnOk, IfOk, IfErr, Some, None};
 ghost use Rattle.wt_tree.specs.View.{view};
 ghost use Rattle.wt_expand.specs.PageItems.{page_items};
 ghost use Rattle.wt_pagetool.specs.Answers.{unbuilt_place, IsText, IsAnswered};
@@ -8,40 +8,42 @@ ghost use Rattle.wt_pagetool.specs.Causes.{IsUnbuilt, RefusesTitle, RefusesPage,
 use crate::limits::PAGE_BYTES;
 use crate::refusal::Refusal;
 use std::alloc::Global;
-use wt_annotate::annotate;
 use wt_build::build;
 use wt_expand::page_items;
 use wt_not_built::first_unbuilt;
+use wt_ranges::{Annotated, group};
 use wt_span::{Items, NoMemory};
-use wt_tree::Annotated;
+use wt_tree::Annotated as Tree;
 use wt_utf8::read_text;
 
 /// The tree of a page, of its items.
 fn tree_of_items<'a>(
     alloc: Global,
     page: &'a str,
-    items: &Items<'a>,
+    items: Items<'a>,
 ) -> Result<Annotated<'a>, NoMemory>
-    requires items { items.now.items ≡ page_items page.now }
+    requires items { items.items ≡ page_items page.now }
+    requires outer { items.outer ≡ [] }
     requires room { length page.now ≤ PAGE_BYTES }
-    ensures { IfOk result (λ tree. view tree.body ≡ page_tree page.entry.now) }
+    ensures tree { IfOk result (λ a. view a.tree.body ≡ page_tree page.entry.now) }
+    ensures items { IfOk result (λ a. a.items ≡ items.entry) }
 {
-    let meaning = build(alloc, items)?;
-    annotate(alloc, meaning.into_body())
+    let meaning = build(alloc, &items)?;
+    group(alloc, items, meaning.into_body())
 }
 
 /// The tree of a page that is text, if all of it is built.
-fn tree_of_text<'a>(alloc: Global, page: &'a str) -> Result<Annotated<'a>, Refusal>
+fn tree_of_text<'a>(alloc: Global, page: &'a str) -> Result<Tree<'a>, Refusal>
     requires room { length page.now ≤ PAGE_BYTES }
     ensures tree { IfOk result (λ tree. view tree.body ≡ page_tree page.entry.now) }
     ensures built { IfOk result (λ tree. unbuilt_place page.entry.now ≡ None) }
     ensures refused { IfErr result (IsUnbuilt (unbuilt_place page.entry.now)) }
 {
     let items = page_items(alloc, page)?;
-    let tree = tree_of_items(alloc, page, &items)?;
-    match first_unbuilt(page, items.pieces(), tree.body()) {
+    let tree = tree_of_items(alloc, page, items)?;
+    match first_unbuilt(page, tree.items().pieces(), tree.body()) {
         Some(place) => Err(Refusal::NotBuilt(place)),
-        None => Ok(tree),
+        None => Ok(tree.into_tree()),
     }
 }
 
@@ -63,7 +65,7 @@ pub fn text_of_page(page: &[u8]) -> Result<&str, Refusal>
 }
 
 /// The tree of a page that nothing refuses.
-pub fn tree_of_page<'a>(alloc: Global, page: &'a [u8]) -> Result<Annotated<'a>, Refusal>
+pub fn tree_of_page<'a>(alloc: Global, page: &'a [u8]) -> Result<Tree<'a>, Refusal>
     ensures tree { IfOk result (λ tree. view tree.body ≡ page_tree page.entry.now) }
     ensures answered { IfOk result (λ tree. IsAnswered page.entry.now) }
     ensures refused { IfErr result (RefusesPage (Some page.entry.now)) }

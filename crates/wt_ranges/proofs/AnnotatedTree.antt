@@ -1,6 +1,6 @@
 -- The annotated tree: what holds of the placed tree holds when its texts are cut and its numbers given.
-use Rattle.std.proofs.Common.{◌≡◌, ℕ, ◌+◌, ◌≤◌, true, Option, Some, List, [], length, refl, sym, ap, ◌∙◌, arith, append-nil}
-use Rattle.std.specs.List.{AllByRecursion, list_all}
+use Rattle.std.proofs.Common.{◌≡◌, ℕ, ◌+◌, ◌≤◌, true, Option, Some, List, [], length, refl, sym, ap, ◌∙◌, subst, arith, append-nil}
+use Rattle.std.specs.List.{AllByRecursion}
 use Rattle.wt_tree.specs.declared.kind.Kind.TheVariants as kind
 use Rattle.wt_tree.specs.declared.kind.Ranges.{Ranges}
 use Rattle.wt_tree.specs.Plain.{ended as end, plain as plain_view}
@@ -11,21 +11,23 @@ use Rattle.wt_span.specs.Cuts.{page_of, text_between}
 use Rattle.wt_span.specs.Items.{Item}
 use Rattle.wt_span.specs.Origins.{OuterCall}
 use Rattle.wt_inline.specs.ItemTree.{plain, ItemTree, inner, ItemTrees, tree_items, held_by_all}
-use Rattle.wt_annotate.specs.Annotated.{placed as placed_plainly, annotated as annotated_plainly}
-use Rattle.wt_annotate.specs.Numbering.{count, with_numbers}
+use Rattle.wt_ranges.specs.WithoutCalls.{placed as placed_plainly, annotated as annotated_plainly, IsPlain}
+use Rattle.wt_ranges.specs.Numbering.{count, with_numbers}
 use Rattle.wt_ranges.specs.Annotated.{unplaced, placed, annotated}
-use Rattle.wt_ranges.specs.Clean.{is_clean, is_page}
+use Rattle.wt_ranges.specs.Clean.{is_clean}
 use Rattle.wt_ranges.specs.Counted.{nodes}
 use Rattle.wt_ranges.specs.CutTexts.{HasCutTexts, cut_texts}
 use Rattle.wt_ranges.specs.Grouped.{Grouped, grouped}
 use Rattle.wt_ranges.specs.Reached.{AreReachedSlices, reached, start_of, size_of}
-use Rattle.wt_ranges.specs.WithoutCalls.{NoneEmpty}
+use Rattle.wt_ranges.specs.Made.{annotated_at}
 use Rattle.wt_ranges.proofs.Counts.{few}
 use Rattle.wt_ranges.proofs.CutNumbers.{cut_texts_none, cut_texts_few}
+use Rattle.wt_ranges.proofs.CutNumbered.{cut_numbered}
 use Rattle.wt_ranges.proofs.CutPlaced.{placed_bare}
 use Rattle.wt_ranges.proofs.CutReached.{cut_texts_stay}
-use Rattle.wt_ranges.proofs.CutTexts.{cut_source, cut_tiles, cut_slices}
+use Rattle.wt_ranges.proofs.CutTexts.{BareTexts, cut_source, cut_tiles, cut_slices}
 use Rattle.wt_ranges.proofs.Ends.{start_is, size_is, stand}
+use Rattle.wt_ranges.proofs.OnePass.{annotated_is}
 use Rattle.wt_ranges.proofs.Numbers.{in_preorder, placed_none}
 use Rattle.wt_ranges.proofs.PlainView.{placed_shown, shown_numbered}
 use Rattle.wt_ranges.proofs.Slices.{slices, reached_numbered}
@@ -109,13 +111,18 @@ annotated_plain calls carried t = shown_numbered 1 (cut_texts (placed_tree calls
 
 -- ---- without calls
 
-pub without_calls : (calls : List OuterCall) (carried : Carried) (t : ItemTree) → list_all is_page (tree_items t) ≡ true → NoneEmpty t
-    → annotated calls carried t ≡ with_numbers 1 (cut_texts (placed_plainly [] t))
-unfolding annotated
-without_calls calls carried t p m =
-    ap (λ u. with_numbers 1 (cut_texts u)) (same_placed calls carried (tree_items t) [] [] t (sym (append-nil (tree_items t))) p m)
+pub without_calls : (calls : List OuterCall) (carried : Carried) (t : ItemTree) → IsPlain t → annotated calls carried t ≡ cut_texts (annotated_plainly t)
+unfolding annotated annotated_plainly
+without_calls calls carried t p =
+    let same : placed_tree calls carried t ≡ placed_plainly [] t =
+    same_placed calls carried (tree_items t) [] [] t (sym (append-nil (tree_items t))) p.of_page p.none_empty in
+    ap (λ (u : Tree). with_numbers 1 (cut_texts u)) same
+    ∙ sym (cut_numbered 1 (placed_plainly [] t) (subst BareTexts same (placed_bare calls carried (tree_items t) (groups_of t))))
 
-pub without_calls_or_cuts : (calls : List OuterCall) (carried : Carried) (t : ItemTree) → list_all is_page (tree_items t) ≡ true → NoneEmpty t
-    → AllByRecursion HasCutTexts (reached (placed_plainly [] t)) → annotated calls carried t ≡ annotated_plainly t
-unfolding annotated_plainly
-without_calls_or_cuts calls carried t p m h = without_calls calls carried t p m ∙ ap (with_numbers 1) (cut_texts_stay (placed_plainly [] t) h)
+pub without_calls_or_cuts : (calls : List OuterCall) (carried : Carried) (t : ItemTree) → IsPlain t
+    → AllByRecursion HasCutTexts (reached (annotated_plainly t)) → annotated calls carried t ≡ annotated_plainly t
+without_calls_or_cuts calls carried t p h = without_calls calls carried t p ∙ cut_texts_stay (annotated_plainly t) h
+
+-- the tree that the one pass makes
+pub one_pass : (calls : List OuterCall) (carried : Carried) (t : ItemTree) → IsPlain t → cut_texts (annotated_at 0 1 t) ≡ annotated calls carried t
+one_pass calls carried t p = ap cut_texts (sym (annotated_is t)) ∙ sym (without_calls calls carried t p)

@@ -12,7 +12,7 @@ use Rattle.wt_span.specs.declared.form.Form.TheVariants as form
 use Rattle.wt_span.specs.Items.{Item, char, whole}
 use Rattle.wt_span.specs.Origins.{OuterCall}
 use Rattle.wt_inline.specs.ItemTree.{plain, ItemTree, inner, leaf, forest, tree_items}
-use Rattle.wt_annotate.specs.Labels.{label_at}
+use Rattle.wt_ranges.specs.Labels.{label_at}
 use Rattle.wt_call_data.specs.CallData.{call_part}
 use Rattle.wt_ranges.specs.GroupData.{group_data}
 use Rattle.wt_ranges.specs.GroupParts.{Part, called, between, parts}

@@ -8,8 +8,8 @@ use Rattle.wt_span.specs.Origins.{OuterCall}
 use Rattle.wt_span.specs.Runs.{runs, AreRuns}
 use Rattle.wt_span.proofs.RunLaws.{runs_are}
 use Rattle.wt_inline.specs.ItemTree.{ItemTree, inner, ItemTrees, nothing, further, tree_items}
-use Rattle.wt_annotate.specs.Numbering.{count, count_all}
-use Rattle.wt_annotate.specs.Annotated.{inside_by}
+use Rattle.wt_ranges.specs.Numbering.{count, count_all}
+use Rattle.wt_ranges.specs.WithoutCalls.{inside_by}
 use Rattle.wt_ranges.specs.Counted.{nodes, nodes_of_all}
 use Rattle.wt_ranges.specs.Grouped.{group, Child, is_tied, of_runs, grouped, children}
 use Rattle.wt_ranges.specs.Annotated.{placed, all_placed}

@@ -9,7 +9,7 @@ use Rattle.wt_tree.specs.Kinds.{is_numbered, texts_of_kind}
 use Rattle.wt_tree.specs.Recut.{is_blank, is_text, is_border, leads_to_block, front_ranges, rest_ranges, joined_ranges, text_leaf, sep_leaf, text_onto, joined_texts, from_start, front_of, rest_of, parts_before, text_before, cut_from, recut}
 use Rattle.wt_tree.specs.Tiling.{is_group}
 use Rattle.wt_tree.specs.Tree.{Tree, tree, Trees, none, more, label}
-use Rattle.wt_annotate.specs.Numbering.{count, count_all}
+use Rattle.wt_ranges.specs.Numbering.{count, count_all}
 use Rattle.wt_ranges.specs.CutTexts.{cut_as, cut_texts, all_cut_texts}
 use Rattle.wt_ranges.proofs.Numbers.{NoneBy, NoneInGroups, AllNoneInGroups}
 

@@ -9,8 +9,8 @@ use Rattle.wt_tree.specs.Tree.{Trees, none}
 use Rattle.wt_span.specs.Cuts.{text_between}
 use Rattle.wt_span.specs.Items.{Item}
 use Rattle.wt_span.specs.Origins.{OuterCall}
-use Rattle.wt_annotate.specs.Annotated.{inside_by}
-use Rattle.wt_annotate.specs.Labels.{if_inner}
+use Rattle.wt_ranges.specs.WithoutCalls.{inside_by}
+use Rattle.wt_ranges.specs.Labels.{if_inner}
 use Rattle.wt_ranges.specs.Annotated.{placed, all_placed}
 use Rattle.wt_ranges.specs.Grouped.{Grouped, kept, group, GroupedAll, ended, along}
 use Rattle.wt_ranges.proofs.CutTexts.{leaf_text, BareInside, BareTexts, AllBareTexts}

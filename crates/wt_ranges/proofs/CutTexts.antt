@@ -14,8 +14,8 @@ use Rattle.wt_tree.specs.Source.{flat, flat_of_all}
 use Rattle.wt_tree.specs.Tiling.{BeginsAt, end_of, TiledBy, Tiled, TiledFrom, is_group}
 use Rattle.wt_tree.specs.Tree.{Label, Tree, tree, Trees, none, more, label}
 use Rattle.wt_tree.proofs.Cut.{all_parts, recut_source}
-use Rattle.wt_annotate.specs.Labels.{leaf_open}
-use Rattle.wt_annotate.specs.Slices.{slice, opening_by, opening_of, StandsAt, StandsIn, IsSlice}
+use Rattle.wt_ranges.specs.Labels.{leaf_open}
+use Rattle.wt_ranges.specs.Slices.{slice, opening_by, opening_of, StandsAt, StandsIn, IsSlice}
 use Rattle.wt_ranges.specs.CutTexts.{cut_as, cut_texts, all_cut_texts}
 use Rattle.wt_ranges.specs.Reached.{reached, reached_in_all, AreReachedSlices}
 use Rattle.wt_ranges.proofs.PageSlices.{slice_length, slice_join, same_halves}

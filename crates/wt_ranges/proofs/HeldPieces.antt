@@ -37,7 +37,7 @@ sources_by form.Hidden o bs = append-nil bs
 sources_by form.EmptyCall o bs = append-nil bs
 
 -- the items of a piece have its text as source
-sources_piece : (p : Piece) → sources (items_of p) ≡ bytes_of p.text
+pub sources_piece : (p : Piece) → sources (items_of p) ≡ bytes_of p.text
 sources_piece p = sources_by p.form (call_of_origin p.origin) (bytes_of p.text)
 
 texts_more : (ts : List Text) (t : Text) → texts_of (ts ++ t ∷ []) ≡ texts_of ts ++ bytes_of t

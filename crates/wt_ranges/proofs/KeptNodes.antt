@@ -12,8 +12,8 @@ use Rattle.wt_span.specs.Origins.{OuterCall}
 use Rattle.wt_inline.specs.ItemTree.{Head, ItemTree, inner, ItemTrees, forest, tree_items, held_by_all}
 use Rattle.wt_inline.specs.View.{head_of, item_tree, item_trees}
 use Rattle.wt_inline.specs.declared.tree.PieceTree.{PieceTree, out-PieceTree}
-use Rattle.wt_annotate.specs.Labels.{leaf_open}
-use Rattle.wt_annotate.specs.Annotated.{inside_by}
+use Rattle.wt_ranges.specs.Labels.{leaf_open}
+use Rattle.wt_ranges.specs.WithoutCalls.{inside_by}
 use Rattle.wt_ranges.specs.declared.child.Child.{Child}
 use Rattle.wt_ranges.specs.declared.kept.Frame.{Frame}
 use Rattle.wt_ranges.specs.declared.node.Sources.{Sources}

@@ -1,10 +1,11 @@
 pub mod AnnotatedTree
 pub mod Calls
-mod Cases
 pub mod CarriedParts
+mod Cases
 pub mod ChildWalks
 pub mod Counts
 pub mod CutNodes
+pub mod CutNumbered
 pub mod CutNumbers
 pub mod CutPlaced
 pub mod CutReached
@@ -14,12 +15,18 @@ pub mod Groupings
 pub mod GroupNodes
 pub mod HeldPieces
 pub mod KeptNodes
+pub mod NoGroups
 pub mod Numberings
 pub mod Numbers
-pub mod PartWalks
+pub mod OnePass
+pub mod PageSizes
 pub mod PageSlices
+pub mod PartWalks
+pub mod Passes
+pub mod PassPieces
 pub mod PieceWalks
 pub mod Places
+pub mod PlainTrees
 pub mod PlainView
 pub mod RunCuts
 pub mod Seams
@@ -29,4 +36,5 @@ pub mod TakenApart
 pub mod Tiles
 pub mod UnplacedNodes
 pub mod Walks
+pub mod Widths
 pub mod WithoutCalls

@@ -6,7 +6,7 @@ use Rattle.wt_tree.specs.declared.node.Node.{Node}
 use Rattle.wt_tree.specs.Tiling.{is_group}
 use Rattle.wt_tree.specs.Tree.{Tree, more, trees}
 use Rattle.wt_tree.specs.View.{view, views}
-use Rattle.wt_annotate.specs.Numbering.{count, count_all, with_numbers, all_with_numbers}
+use Rattle.wt_ranges.specs.Numbering.{count, count_all, with_numbers, all_with_numbers}
 use Rattle.wt_ranges.specs.NumberedNodes.{IsNumbered, AreNumbered}
 
 -- ---- nodes that follow one another

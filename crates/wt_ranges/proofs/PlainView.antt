@@ -12,9 +12,9 @@ use Rattle.wt_span.specs.Cuts.{place, text_between}
 use Rattle.wt_span.specs.Runs.{runs, AreRuns}
 use Rattle.wt_span.proofs.RunLaws.{runs_are}
 use Rattle.wt_inline.specs.ItemTree.{ItemTree, inner, ItemTrees, nothing, further, tree_items, held_by_all}
-use Rattle.wt_annotate.specs.Labels.{label_at}
-use Rattle.wt_annotate.specs.Numbering.{number_of, next_after, count, with_id, with_numbers, all_with_numbers}
-use Rattle.wt_annotate.specs.Annotated.{inside_by}
+use Rattle.wt_ranges.specs.Labels.{label_at}
+use Rattle.wt_ranges.specs.Numbering.{number_of, next_after, count, with_id, with_numbers, all_with_numbers}
+use Rattle.wt_ranges.specs.WithoutCalls.{inside_by}
 use Rattle.wt_ranges.specs.Grouped.{group, Child, is_tied, nodes_of, of_runs, grouped, children}
 use Rattle.wt_ranges.specs.Annotated.{no_place, unplaced, all_unplaced, kept_label, placed, all_placed, annotated}
 use Rattle.wt_ranges.proofs.Tiles.{Carried}

@@ -12,9 +12,9 @@ use Rattle.wt_span.specs.Items.{Item}
 use Rattle.wt_span.specs.Origins.{OuterCall}
 use Rattle.wt_span.specs.Cuts.{place, text_between, page_of}
 use Rattle.wt_inline.specs.ItemTree.{Head, ItemTree, tree_items}
-use Rattle.wt_annotate.specs.Labels.{if_leaf, if_inner}
-use Rattle.wt_annotate.specs.Numbering.{next_after, count, with_numbers, all_with_numbers}
-use Rattle.wt_annotate.specs.Annotated.{inside_by}
+use Rattle.wt_ranges.specs.Labels.{if_leaf, if_inner}
+use Rattle.wt_ranges.specs.Numbering.{next_after, count, with_numbers, all_with_numbers}
+use Rattle.wt_ranges.specs.WithoutCalls.{inside_by}
 use Rattle.wt_ranges.specs.Clean.{is_clean}
 use Rattle.wt_ranges.specs.Grouped.{Grouped, kept, group, GroupedAll, ended, along, grouped}
 use Rattle.wt_ranges.specs.GroupParts.{Part}

@@ -10,8 +10,8 @@ use Rattle.wt_span.specs.Items.{Item, items, sources}
 use Rattle.wt_inline.specs.ItemTree.{Head, inner, ItemTrees, forest, tree_items}
 use Rattle.wt_inline.specs.View.{head_of, item_tree, item_trees}
 use Rattle.wt_inline.specs.declared.tree.PieceTree.{PieceTree, out-PieceTree}
-use Rattle.wt_annotate.specs.Labels.{label_at}
-use Rattle.wt_annotate.specs.Annotated.{inside_by}
+use Rattle.wt_ranges.specs.Labels.{label_at}
+use Rattle.wt_ranges.specs.WithoutCalls.{inside_by}
 use Rattle.wt_ranges.specs.declared.node.Sources.{Sources}
 use Rattle.wt_ranges.specs.Annotated.{no_place, unplaced, all_unplaced}
 use Rattle.wt_ranges.specs.Nodes.{node_label}

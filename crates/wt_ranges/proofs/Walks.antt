@@ -10,7 +10,7 @@ use Rattle.wt_span.specs.Cuts.{call_of_item, is_free, place, text_between}
 use Rattle.wt_span.specs.Runs.{put, runs, AreRuns}
 use Rattle.wt_span.proofs.RunLaws.{runs_are}
 use Rattle.wt_inline.specs.ItemTree.{ItemTree, inner, ItemTrees, nothing, further, tree_items, held_by_all}
-use Rattle.wt_annotate.specs.Annotated.{inside_by}
+use Rattle.wt_ranges.specs.WithoutCalls.{inside_by}
 use Rattle.wt_ranges.specs.Clean.{is_page, is_body, own_by, is_clean}
 use Rattle.wt_ranges.specs.Grouped.{group, Child, is_tied, size_of_all, nodes_of, of_run, of_runs, grouped, children}
 use Rattle.wt_ranges.specs.GroupParts.{parts}

@@ -1,27 +1,26 @@
 -- Where no item comes from a call, each node is kept, and its place and source are those of the items before and in it.
-use Rattle.std.proofs.Common.{◌≡◌, ℕ, zero, suc, ◌+◌, ◌<◌, Bool, true, false, Option, None, Some, List, [], ◌∷◌, ◌++◌, length, map, drop, refl, sym, ap, ◌∙◌, cond, arith, length-append, append_assoc, append-nil}
-use Rattle.std.specs.Prelude.{slice_get, not, ◌||◌}
-use Rattle.std.specs.List.{list_all, list_any}
+use Rattle.std.proofs.Common.{◌≡◌, ℕ, zero, suc, ◌+◌, Bool, true, false, Option, None, Some, List, [], ◌∷◌, ◌++◌, length, map, drop, refl, sym, ap, ◌∙◌, cond, arith, length-append, append_assoc, append-nil}
+use Rattle.std.specs.Prelude.{slice_get, not}
+use Rattle.std.specs.List.{list_all}
 use Rattle.wt_tree.specs.Kinds.{is_leaf}
 use Rattle.wt_tree.specs.Tree.{tree, Trees, more}
 use Rattle.wt_span.specs.Items.{Item, source, sources, call_of}
 use Rattle.wt_span.specs.Origins.{OuterCall, same_call}
-use Rattle.wt_span.specs.Cuts.{call_of_item, is_free, text_by, origin_text, text_at, text_between, place}
+use Rattle.wt_span.specs.Cuts.{call_of_item, is_free, text_by, origin_text, page_of, text_at, text_between, place}
 use Rattle.wt_span.specs.Runs.{put, runs}
 use Rattle.wt_inline.specs.ItemTree.{Head, ItemTree, inner, ItemTrees, nothing, further, tree_items, held_by_all}
-use Rattle.wt_annotate.specs.Labels.{width, label_at}
-use Rattle.wt_annotate.specs.Numbering.{with_numbers}
-use Rattle.wt_annotate.specs.Annotated.{inside_by, placed as placed_behind, all_placed as all_placed_behind, annotated as annotated_plainly}
+use Rattle.wt_ranges.specs.Labels.{width, label_at}
+use Rattle.wt_ranges.specs.Numbering.{with_numbers}
+use Rattle.wt_ranges.specs.WithoutCalls.{inside_by, placed as placed_behind, all_placed as all_placed_behind, InsideOf, holds_page, NoneEmpty, AllNonEmpty}
 use Rattle.wt_ranges.specs.Clean.{is_no_call, is_page, is_body, own_by, is_clean}
 use Rattle.wt_ranges.specs.Grouped.{group, Child, is_tied, of_runs, grouped, children}
 use Rattle.wt_ranges.specs.Annotated.{kept_label, placed, all_placed, annotated}
-use Rattle.wt_ranges.specs.WithoutCalls.{NoneEmpty, AllNonEmpty}
 use Rattle.wt_ranges.proofs.Calls.{at_get, at_rest, all_split}
 use Rattle.wt_ranges.proofs.Ends.{false_true, both}
 use Rattle.wt_ranges.proofs.Slices.{place_is}
 use Rattle.wt_ranges.proofs.Tiles.{Carried}
 
-abbrev OfPage : List Item → Type 0
+abbrev pub OfPage : List Item → Type 0
 OfPage xs = list_all is_page xs ≡ true
 
 -- ---- cuts and bytes
@@ -77,6 +76,9 @@ text_page : (calls : List OuterCall) (all before xs after : List Item) → all �
     → text_between calls all (length before) (length xs) ≡ sources xs
 text_page calls all before xs after e p = page_between calls all (length before) xs after (stands all before xs after e) p (part_page all before xs after e p)
 
+pub own_page : (calls : List OuterCall) (xs : List Item) → OfPage xs → page_of calls xs ≡ sources xs
+own_page calls xs p = page_between calls xs 0 xs [] (sym (append-nil xs)) p p
+
 -- ---- clean nodes
 
 own_all : (is : Bool) (opening inside closing : List Item) → OfPage opening → OfPage (inside ++ closing) → OfPage closing
@@ -86,28 +88,18 @@ own_all true (x ∷ xs) inside closing o r c = let q = both (is_page x) (list_al
 own_all false [] inside closing o r c = c
 own_all false (x ∷ xs) inside closing o r c = let q = both (is_page x) (list_all is_page xs) o in rw q.0 (own_all false xs inside closing q.1 r c)
 
-some_page : (xs : List Item) → OfPage xs → 0 < length xs → list_any is_page xs ≡ true
-some_page [] p l = absurd (omega (arith, l))
-some_page (x ∷ xs) p l = rw (both (is_page x) (list_all is_page xs) p).0 refl
-
-or_true : (v : Bool) → (v || true) ≡ true
-or_true true = refl
-or_true false = refl
-
-all_clean : (all : List Item) (n : ℕ) (t : ItemTree) → OfPage all → OfPage (tree_items t) → 0 < length (tree_items t) → is_clean all n t ≡ true
+all_clean : (all : List Item) (n : ℕ) (t : ItemTree) → OfPage all → OfPage (tree_items t) → holds_page t ≡ true → is_clean all n t ≡ true
 all_clean all n (inner h o ts c) p q l =
     let r = all_split o (held_by_all ts ++ c) q in
     let s = all_split (held_by_all ts) c r.1 in
     let own = own_all (is_leaf h.kind) o (held_by_all ts) c r.0 r.1 s.1 in
-    let any = some_page (o ++ (held_by_all ts ++ c)) q l in
     rw (
       all_free all n p,
       all_free all (n + length o) p,
       all_free all (n + length o + length (held_by_all ts)) p,
       all_free all (n + length o + length (held_by_all ts) + length c) p,
       own,
-      any,
-    ) (or_true (is_body h.kind))
+    ) l
 
 -- ---- runs
 
@@ -128,6 +120,10 @@ label_by true h at o own c = refl
 label_by false h at o own c = refl
 
 -- ---- trees
+
+inside_same : (is : Bool) (us vs : Trees) (A : Type 0) → InsideOf is A → (A → us ≡ vs) → inside_by is us ≡ inside_by is vs
+inside_same true us vs A m e = refl
+inside_same false us vs A m e = e m
 
 mutual
   pub same_placed : (calls : List OuterCall) (carried : Carried) (all before after : List Item) (t : ItemTree) → all ≡ before ++ (tree_items t ++ after) → OfPage all
@@ -153,10 +149,10 @@ mutual
       let at : place calls all n ≡ width before = page_place calls all before (tree_items (inner h o ts c) ++ after) e p in
       let cs : List Child = children all (n + length o) ts in
       let us : Trees = all_placed calls carried all (of_runs (runs (is_tied all) cs)) in
-      let inside : us ≡ all_placed_behind (before ++ o) ts =
+      let inside : AllNonEmpty ts → us ≡ all_placed_behind (before ++ o) ts = λ q.
       ap (λ rs. all_placed calls carried all (of_runs rs)) (singles all cs p)
       ∙ ap (λ x. all_placed calls carried all (of_runs (map (λ d. d ∷ []) (children all x ts)))) (sym k)
-      ∙ all_same calls carried all (before ++ o) (c ++ after) ts rest p m in
+      ∙ all_same calls carried all (before ++ o) (c ++ after) ts rest p q in
       ap (λ x. tree (kept_label is h x (text_between calls all n (length o + length i + length c)) (text_between calls all n (length o))
       (text_between calls all (n + length o + length i) (length c))) (inside_by is us)) at
       ∙ ap (λ x. tree (kept_label is h (width before) x (text_between calls all n (length o)) (text_between calls all (n + length o + length i) (length c)))
@@ -165,7 +161,8 @@ mutual
       (inside_by is us)) front
       ∙ ap (λ x. tree (kept_label is h (width before) (sources (o ++ (i ++ c))) (sources o) x) (inside_by is us)) back
       ∙ ap (λ l. tree l (inside_by is us)) (label_by is h (width before) o (o ++ (i ++ c)) c)
-      ∙ ap (λ vs. tree (label_at (width before) 0 is h o (o ++ (i ++ c)) c) (inside_by is vs)) inside
+      ∙ ap (tree (label_at (width before) 0 is h o (o ++ (i ++ c)) c))
+      (inside_same is us (all_placed_behind (before ++ o) ts) (AllNonEmpty ts) m inside)
 
   all_same : (calls : List OuterCall) (carried : Carried) (all before after : List Item) (ts : ItemTrees) → all ≡ before ++ (held_by_all ts ++ after)
       → OfPage all → AllNonEmpty ts

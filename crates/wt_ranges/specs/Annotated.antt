@@ -11,9 +11,9 @@ use Rattle.wt_span.specs.Items.{Item}
 use Rattle.wt_span.specs.Origins.{OuterCall}
 use Rattle.wt_span.specs.Cuts.{place, text_between}
 use Rattle.wt_inline.specs.ItemTree.{Head, ItemTree, inner, ItemTrees, nothing, further, tree_items, held_by_all}
-use Rattle.wt_annotate.specs.Labels.{leaf_open, if_leaf, if_inner, label_at}
-use Rattle.wt_annotate.specs.Numbering.{with_numbers}
-use Rattle.wt_annotate.specs.Annotated.{inside_by}
+use Rattle.wt_ranges.specs.Labels.{leaf_open, if_leaf, if_inner, label_at}
+use Rattle.wt_ranges.specs.Numbering.{with_numbers}
+use Rattle.wt_ranges.specs.WithoutCalls.{inside_by}
 use Rattle.wt_ranges.specs.CutTexts.{cut_texts}
 use Rattle.wt_ranges.specs.Grouped.{Grouped, kept, group, GroupedAll, ended, along, grouped}
 use Rattle.wt_ranges.specs.GroupParts.{Part, parts}

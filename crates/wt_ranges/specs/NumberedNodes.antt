@@ -3,7 +3,7 @@ use Rattle.std.specs.Prelude.{◌≡◌, ℕ, ◌+◌, if◌then◌else◌}
 use Rattle.wt_tree.specs.declared.kind.Kind.{Kind}
 use Rattle.wt_tree.specs.Tiling.{is_group}
 use Rattle.wt_tree.specs.Tree.{Tree, Trees}
-use Rattle.wt_annotate.specs.Numbering.{count, count_all, with_numbers, all_with_numbers}
+use Rattle.wt_ranges.specs.Numbering.{count, count_all, with_numbers, all_with_numbers}
 
 pub record IsNumbered (next : ℕ) (t u : Tree) (behind : ℕ) : Type 0 where
   pub tree_is : u ≡ with_numbers next t

@@ -7,7 +7,7 @@ use Rattle.wt_tree.specs.Tiling.{is_group}
 use Rattle.wt_span.specs.Items.{Item}
 use Rattle.wt_span.specs.Cuts.{is_free}
 use Rattle.wt_inline.specs.ItemTree.{ItemTrees, nothing, further, tree_items}
-use Rattle.wt_annotate.specs.Slices.{IsSlice}
+use Rattle.wt_ranges.specs.Slices.{IsSlice}
 use Rattle.wt_ranges.specs.Clean.{is_clean}
 use Rattle.wt_ranges.specs.Grouped.{Grouped, kept, group, GroupedAll, ended, along}
 use Rattle.wt_ranges.specs.GroupParts.{Begun, begun}

@@ -9,7 +9,7 @@ use Rattle.wt_span.specs.Items.{Item, source, call_of}
 use Rattle.wt_span.specs.Origins.{OuterCall}
 use Rattle.wt_span.specs.Runs.{runs}
 use Rattle.wt_inline.specs.ItemTree.{ItemTree, inner, ItemTrees, nothing, further, tree_items, held_by_all}
-use Rattle.wt_annotate.specs.Annotated.{inside_by}
+use Rattle.wt_ranges.specs.WithoutCalls.{inside_by}
 use Rattle.wt_ranges.specs.Clean.{is_page, is_body, own_by}
 use Rattle.wt_ranges.specs.GroupParts.{Part, called, slice_part}
 use Rattle.wt_ranges.specs.Annotated.{kept_label, group_label, all_unplaced}

@@ -12,7 +12,11 @@ use wt_span::{List, NoMemory};
 use wt_tree::{Kind, Node, Texts, recut_texts};
 
 /// What stands in a node of this kind, cut as its kind asks.
-fn cut_as<'a>(alloc: Global, kind: Kind, nodes: List<Node<'a>>) -> Result<List<Node<'a>>, NoMemory>
+pub fn cut_as<'a>(
+    alloc: Global,
+    kind: Kind,
+    nodes: List<Node<'a>>,
+) -> Result<List<Node<'a>>, NoMemory>
     ensures { IfOk result (λ ns. views ns ≡ cut_as (texts_of_kind kind) (views nodes.entry)) }
 {
     match kind.shape().texts {

@@ -11,17 +11,23 @@ ghost use Rattle.wt_inline.specs.View.{item_tree};
 ghost use Rattle.wt_inline.specs.declared.tree.PieceTree.{out-PieceTree};
 ghost use Rattle.wt_ranges.specs.Annotated.{annotated};
 ghost use Rattle.wt_ranges.specs.Children.{near_of};
+ghost use Rattle.wt_ranges.specs.CutTexts.{cut_texts};
 ghost use Rattle.wt_ranges.specs.GroupData.{group_data};
 ghost use Rattle.wt_ranges.specs.Kept.{Fits, RunFits};
+ghost use Rattle.wt_ranges.specs.Labels.{width};
+ghost use Rattle.wt_ranges.specs.Made.{annotated_at};
 ghost use Rattle.wt_ranges.specs.OpenedChild.{IsOpened};
 ghost use Rattle.wt_ranges.specs.Pieces.{outer_calls};
 ghost use Rattle.wt_ranges.specs.RunTrees.{run_tree};
 
 use crate::child::{Child, children};
+use crate::cursor::Cursor;
 use crate::cut::cut_node;
+use crate::filled::is_filled;
 use crate::group_node::group_node;
 use crate::kept::{Frame, inner_frame, kept_inner, kept_leaf};
 use crate::number::number_tree;
+use crate::pass::annotated_node;
 use crate::run::{Run, cut_runs};
 use std::alloc::Global;
 use wt_inline::{NodeHead, PieceTree};
@@ -123,8 +129,8 @@ fn kept_node<'a>(alloc: Global, calls: &[Outer<'a>], child: Child<'a>) -> Result
     Ok(kept_inner(frame, head, nodes))
 }
 
-/// The annotated tree of a tree over items, whose outermost calls these are.
-pub fn group_tree<'a>(
+/// The annotated tree where some nodes may be groups: these first, then cut texts, then numbers.
+fn with_groups<'a>(
     alloc: Global,
     calls: &[Outer<'a>],
     tree: PieceTree<'a>,
@@ -144,4 +150,30 @@ pub fn group_tree<'a>(
     let node = kept_node(alloc, calls, body)?;
     let cut = cut_node(alloc, node)?;
     number_tree(alloc, cut)
+}
+
+/// The annotated tree where no node is a group, in one pass.
+fn without_groups<'a>(alloc: Global, tree: PieceTree<'a>) -> Result<Node<'a>, NoMemory>
+    requires { width (tree_items (item_tree tree)) < 2 ^ 32 }
+    ensures { IfOk result (λ n. view n ≡ cut_texts (annotated_at 0 1 (item_tree tree.entry))) }
+{
+    let start = Cursor { place: 0, next: 1 };
+    let made = annotated_node(alloc, tree, start)?;
+    Ok(made.node)
+}
+
+/// The annotated tree of a tree over items, whose outermost calls these are.
+pub fn group_tree<'a>(
+    alloc: Global,
+    calls: &[Outer<'a>],
+    tree: PieceTree<'a>,
+) -> Result<Node<'a>, NoMemory>
+    requires sound { All IsSoundCall (outer_calls calls.now) }
+    requires bytes { length (page_of (outer_calls calls.now) (tree_items (item_tree tree))) < 2 ^ 32 }
+    ensures { IfOk result (λ n. view n ≡ annotated (outer_calls calls.now) (group_data (outer_calls calls.now)) (item_tree tree.entry)) }
+{
+    if is_filled(&tree) {
+        return without_groups(alloc, tree);
+    }
+    with_groups(alloc, calls, tree)
 }

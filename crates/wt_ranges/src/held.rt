@@ -7,7 +7,7 @@ ghost use Rattle.wt_inline.specs.ItemTree.{forest, tree_items, held_by_all};
 ghost use Rattle.wt_inline.specs.View.{item_tree, item_trees};
 
 use std::alloc::Global;
-use wt_inline::PieceTree;
+use wt_inline::{PieceTree, with_room};
 use wt_span::{List, NoMemory, Piece, Text};
 
 fn push_held<'a>(out: &mut List<Piece<'a>>, tree: &PieceTree<'a>) -> Result<(), NoMemory>
@@ -44,11 +44,27 @@ pub fn pieces_of_all<'a>(
     Ok(out)
 }
 
+/// All pieces of a leaf: those of its opening, which aren't copied, and what else it holds.
+pub fn own_pieces<'a>(
+    opening: List<Piece<'a>>,
+    children: &[PieceTree<'a>],
+    closing: &[Piece<'a>],
+) -> Result<List<Piece<'a>>, NoMemory>
+    ensures { IfOk result (λ l. items l ≡ items opening.entry ++ (held_by_all (forest (item_trees children.now)) ++ items closing.now)) }
+{
+    let mut own = opening;
+    for child in children {
+        push_held(&mut own, child)?;
+    }
+    own.extend_from_slice(closing)?;
+    Ok(own)
+}
+
 /// The texts of pieces, as they were expanded.
 pub fn source_texts<'a>(alloc: Global, pieces: &[Piece<'a>]) -> Result<List<Text<'a>>, NoMemory>
     ensures { IfOk result (λ l. texts_of l ≡ sources (items pieces.now)) }
 {
-    let mut texts = List::new(alloc);
+    let mut texts = with_room(alloc, pieces.len())?;
     for piece in pieces {
         texts.push(piece.text)?;
     }

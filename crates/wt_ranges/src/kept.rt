@@ -5,7 +5,7 @@ ghost use Rattle.wt_span.specs.Items.{items};
 ghost use Rattle.wt_tree.specs.Kinds.{is_leaf};
 ghost use Rattle.wt_tree.specs.Tree.{tree};
 ghost use Rattle.wt_tree.specs.View.{texts_of, view, views};
-ghost use Rattle.wt_annotate.specs.Labels.{leaf_open};
+ghost use Rattle.wt_ranges.specs.Labels.{leaf_open};
 ghost use Rattle.wt_inline.specs.ItemTree.{tree_items};
 ghost use Rattle.wt_inline.specs.View.{head_of, item_tree};
 ghost use Rattle.wt_inline.specs.declared.tree.PieceTree.{out-PieceTree};
@@ -47,7 +47,7 @@ fn leaf_open(kind: Kind, width: u32) -> u32
 }
 
 /// The ranges of a leaf of so many bytes.
-fn leaf_ranges(kind: Kind, start: u32, width: u32) -> Ranges
+pub fn leaf_ranges(kind: Kind, start: u32, width: u32) -> Ranges
     requires { start + width < 2 ^ 32 }
     ensures { result ≡ record { start = start; end = start + width; open_w = leaf_open kind width; close_w = 0 } }
 {

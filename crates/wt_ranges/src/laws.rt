@@ -12,9 +12,8 @@ ghost use Rattle.wt_tree.specs.declared.kind.Kind.TheVariants as node_kind;
 ghost use Rattle.std.specs.List.{AllByRecursion, list_all};
 ghost use Rattle.wt_tree.specs.Plain.{plain as plain_view};
 ghost use Rattle.wt_inline.specs.ItemTree.{plain, ItemTree, inner, ItemTrees, nothing, further, tree_items};
-ghost use Rattle.wt_annotate.specs.Annotated.{annotated as annotated_plainly, placed as placed_plainly};
 ghost use Rattle.wt_ranges.specs.Annotated.{annotated, placed, unplaced};
-ghost use Rattle.wt_annotate.specs.Numbering.{count, with_numbers};
+ghost use Rattle.wt_ranges.specs.Numbering.{count};
 ghost use Rattle.wt_ranges.specs.Counted.{nodes};
 ghost use Rattle.wt_ranges.specs.CutTexts.{HasCutTexts, cut_texts};
 ghost use Rattle.wt_ranges.specs.Clean.{is_clean, is_page};
@@ -30,7 +29,7 @@ ghost use Rattle.wt_ranges.specs.Reached.{
 };
 ghost use Rattle.wt_ranges.specs.Ungrouped.{ungrouped};
 ghost use Rattle.wt_ranges.specs.Walked.{walked};
-ghost use Rattle.wt_ranges.specs.WithoutCalls.{NoneEmpty};
+ghost use Rattle.wt_ranges.specs.WithoutCalls.{annotated as annotated_plainly, HasNoGroup, IsPlain};
 
 /// The body of a page is clean, whatever it holds.
 pub fn body_is_clean()
@@ -83,12 +82,13 @@ pub fn texts_cut_anew()
     ensures numbers { (t : Tree) → count (cut_texts t) ≤ count t }
 {}
 
-/// Where no item comes from a call and each node below the root holds an item, there is no group:
-/// the annotated tree is that of a page without calls, its texts and separators cut anew; and just
-/// that tree, where they stand as they should.
+/// Where no item comes from a call and no node is empty, there is no group: the annotated tree is
+/// that of a page without calls, its texts and separators cut anew; and just that tree, where they
+/// stand as they should. The tree of a body has no group only where it is so.
 pub fn annotated_without_calls()
-    ensures anew { (calls : List OuterCall) (carried : List Part → Option DataMw) (t : ItemTree) → list_all is_page (tree_items t) ≡ true → NoneEmpty t → annotated calls carried t ≡ with_numbers 1 (cut_texts (placed_plainly [] t)) }
-    ensures same { (calls : List OuterCall) (carried : List Part → Option DataMw) (t : ItemTree) → list_all is_page (tree_items t) ≡ true → NoneEmpty t → AllByRecursion HasCutTexts (reached (placed_plainly [] t)) → annotated calls carried t ≡ annotated_plainly t }
+    ensures anew { (calls : List OuterCall) (carried : List Part → Option DataMw) (t : ItemTree) → IsPlain t → annotated calls carried t ≡ cut_texts (annotated_plainly t) }
+    ensures same { (calls : List OuterCall) (carried : List Part → Option DataMw) (t : ItemTree) → IsPlain t → AllByRecursion HasCutTexts (reached (annotated_plainly t)) → annotated calls carried t ≡ annotated_plainly t }
+    ensures only { (calls : List OuterCall) (carried : List Part → Option DataMw) (ts : ItemTrees) → HasNoGroup (annotated calls carried (inner (plain node_kind.Body) [] ts [])) → IsPlain (inner (plain node_kind.Body) [] ts []) }
 {}
 
 /// A walk over the tree that knows only the calls of the items beside it, and the byte at which it

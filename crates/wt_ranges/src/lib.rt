@@ -3,7 +3,9 @@
 
 mod carried;
 mod child;
+mod cursor;
 mod cut;
+mod filled;
 mod group_node;
 mod grouping;
 mod held;
@@ -13,6 +15,9 @@ mod node;
 mod number;
 mod page_text;
 mod page_tree;
+mod pass;
+mod pass_node;
+mod piece;
 mod run;
 mod seam;
 mod unplaced;

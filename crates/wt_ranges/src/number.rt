@@ -3,7 +3,7 @@
 ghost use Rattle.std.specs.Prelude.{◌≡◌, ◌+◌, IfOk, if◌then◌else◌};
 ghost use Rattle.wt_tree.specs.Tiling.{is_group};
 ghost use Rattle.wt_tree.specs.View.{view, views};
-ghost use Rattle.wt_annotate.specs.Numbering.{
+ghost use Rattle.wt_ranges.specs.Numbering.{
   all_with_numbers,
   count,
   count_all,
@@ -33,7 +33,7 @@ struct AllNumbered<'a> {
 }
 
 /// The number of a node of this kind, where the next one is this; 0 where it has none.
-fn number_of(kind: Kind, next: u32) -> u32
+pub fn number_of(kind: Kind, next: u32) -> u32
     ensures { result ≡ number_of kind next }
 {
     if kind.is_numbered() { next } else { 0 }
@@ -41,7 +41,7 @@ fn number_of(kind: Kind, next: u32) -> u32
 
 /// The next number behind a node of this kind itself. Nodes that would take the last of 2^32 numbers
 /// don't fit into memory.
-fn next_after(kind: Kind, next: u32) -> Result<u32, NoMemory>
+pub fn next_after(kind: Kind, next: u32) -> Result<u32, NoMemory>
     ensures { IfOk result (λ n. n ≡ next_after kind next) }
 {
     if !kind.is_numbered() {

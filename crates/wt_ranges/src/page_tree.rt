@@ -23,29 +23,36 @@ use wt_tree::Node;
 /// and its numbers are in preorder.
 #[derive(Drop)]
 pub struct Annotated<'a> {
-    body: Node<'a>,
+    tree: wt_tree::Annotated<'a>,
     items: Items<'a>,
-    ghost tiled: { ∥ Tiled (view body) ∥₁ },
-    ghost numbered: { InPreorder (view body) } by { InPreorder-prop (view body) },
+    ghost numbered: { InPreorder (view tree.body) } by { InPreorder-prop (view tree.body) },
 }
 
 impl<'a> Annotated<'a> {
     fn of(body: Node<'a>, items: Items<'a>) -> Annotated<'a>
         requires tiled { Tiled (view body) }
         requires numbered { InPreorder (view body) }
-        ensures body { result.body ≡ body.entry }
+        ensures body { result.tree.body ≡ body.entry }
         ensures items { result.items ≡ items.entry }
     {
-        Annotated { body, items }
+        let tree = wt_tree::Annotated::of(body);
+        Annotated { tree, items }
     }
 
     /// The body, which holds all other nodes.
     pub fn body(&self) -> &Node<'a>
-        ensures body { result.now ≡ self.now.body }
+        ensures body { result.now ≡ self.now.tree.body }
         ensures tiled { ∥ Tiled (view result.now) ∥₁ }
         ensures numbered { InPreorder (view result.now) }
     {
-        &self.body
+        self.tree.body()
+    }
+
+    /// The tree by itself.
+    pub fn into_tree(self) -> wt_tree::Annotated<'a>
+        ensures { result ≡ self.entry.tree }
+    {
+        self.tree
     }
 
     /// The items of the page.
@@ -84,7 +91,7 @@ pub fn group<'a>(
 ) -> Result<Annotated<'a>, NoMemory>
     requires clean { is_clean (tree_items (item_tree tree)) 0 (item_tree tree) ≡ true }
     requires bytes { length (page_of items.outer (tree_items (item_tree tree))) < 2 ^ 32 }
-    ensures tree { IfOk result (λ a. view a.body ≡ annotated items.entry.outer (group_data items.entry.outer) (item_tree tree.entry)) }
+    ensures tree { IfOk result (λ a. view a.tree.body ≡ annotated items.entry.outer (group_data items.entry.outer) (item_tree tree.entry)) }
     ensures items { IfOk result (λ a. a.items ≡ items.entry) }
 {
     let body = group_tree(alloc, sound_calls(&items), tree)?;

@@ -1,7 +1,0 @@
-use Rattle.std.proofs.Common.{arith}
-use Rattle.std.proofs.lemmas.Grind.{common_steps}
-use Rattle.wt_annotate.proofs.Pieces.{held_list, items_append}
-use Rattle.wt_annotate.proofs.held.own_pieces.Goals as goal
-
-pub returns : goal.returns
-returns c = rw (held_list c.args.children.now) (grind (arith, common_steps, items_append))

@@ -1,0 +1,97 @@
+-- Work that was done is taken from what the levels give.
+use Rattle.std.proofs.Common.{◌≡◌, ℕ, ◌+◌, Bool, List, [], ◌∷◌, refl, subst}
+use Rattle.wt_span.specs.Items.{items}
+use Rattle.wt_expand.specs.Work.{Entry}
+use Rattle.wt_expand.specs.Expansion.{Output, Reading, just, then_output, later_parts}
+use Rattle.wt_transclusion.specs.Cursors.{starts}
+use Rattle.wt_transclusion.specs.Parts.{parts_given}
+use Rattle.wt_transclusion.specs.Steps.{given_from}
+use Rattle.wt_levels.specs.declared.level.Level.{Level}
+use Rattle.wt_levels.specs.declared.level.Task.{Task}
+use Rattle.wt_levels.specs.declared.level.Task.TheVariants as task
+use Rattle.wt_levels.specs.Calls.{source_of, parts_of_call, behind_given}
+use Rattle.wt_levels.specs.Levels.{Resumes, Ends}
+use Rattle.wt_levels.specs.Rests.{with_work, ended_with, after_argument, after_value, after_name, after_text, after_target}
+use Rattle.wt_levels.proofs.RestLaws.{ended_work, argument_work, value_work, name_work, text_work, target_work, between_work}
+
+-- without work that comes first the levels give the rest
+abbrev pub Strips : Reading → List ℕ → ℕ → Bool → List Entry → Output → List Level → Output → Type 0
+Strips r t p s w g ls total = (rest : Output) × (total ≡ with_work w rest) × Resumes r t p s g ls rest
+
+abbrev EndStrips : Reading → List ℕ → ℕ → Task → List Entry → List Level → Output → Output → Type 0
+EndStrips r t e k w ls o total = (rest : Output) × (total ≡ with_work w rest) × Ends r t e k ls o rest
+
+abbrev Below : Reading → List ℕ → List Entry → List Level → Output → Type 0
+Below r t w ls total = (q : ℕ) (x : Output) → Resumes r t q (starts t q) (with_work w x) ls total → Strips r t q (starts t q) w x ls total
+
+strip_end : (r : Reading) (t : List ℕ) (e : ℕ) (k : Task) (w : List Entry) (ls : List Level) (o total : Output) → Below r t w ls total
+    → Ends r t e k ls (with_work w o) total → EndStrips r t e k w ls o total
+strip_end r t e task.Whole w ls o total on h = (o, h.1, (h.0, refl))
+strip_end r t e (task.Argument b) w ls o total on h =
+    let later = later_parts (parts_of_call r t b h.call) in
+    let z = on b.at.end (after_argument r.frame later o)
+    (subst (λ x. Resumes r t b.at.end (starts t b.at.end) x ls total) (argument_work r.frame later w o) h.gives) in
+    (z.0, z.1, record { call = h.call; end_is = h.end_is; gives = z.2 })
+strip_end r t e (task.Default b) w ls o total on h =
+    let z = on b.at.end (ended_with o) (subst (λ x. Resumes r t b.at.end (starts t b.at.end) x ls total) (ended_work w o) h.1) in (z.0, z.1, (h.0, z.2))
+strip_end r t e (task.Target b s) w ls o total on h =
+    let c = h.call in
+    let same = target_work r s c.braces (source_of r.mode t b c) (later_parts (parts_of_call r t b c)) (behind_given r t b c) w o in
+    let x = after_target r s c.braces (source_of r.mode t b c) (later_parts (parts_of_call r t b c)) (behind_given r t b c) o in
+    let z = on b.at.end x (subst (λ y. Resumes r t b.at.end (starts t b.at.end) y ls total) same h.gives) in
+    (z.0, z.1, record { call = c; end_is = h.end_is; gives = z.2 })
+strip_end r t e (task.Name a to) w ls o total on h =
+    let value = given_from r (starts t (e + 1)) t (e + 1) h.value in
+    let later = parts_given r (starts t h.at) t h.at h.ps in
+    let same = name_work r a.at_start a.title h.frame a.handed.number value later w o in
+    let z = on a.call.at.end (after_name r a.at_start a.title h.frame a.handed.number value later o)
+    (subst (λ x. Resumes r t a.call.at.end (starts t a.call.at.end) x ls total) same h.gives) in (
+      z.0,
+      z.1,
+      record {
+        frame = h.frame;
+        value = h.value;
+        at = h.at;
+        ps = h.ps;
+        handing = h.handing;
+        value_ends = h.value_ends;
+        stretch = h.stretch;
+        before = h.before;
+        within = h.within;
+        gives = z.2;
+      },
+    )
+strip_end r t e (task.Value a name) w ls o total on h =
+    let later = parts_given r (starts t h.at) t h.at h.ps in
+    let same = value_work r a.at_start a.title h.frame a.handed.number h.given later w o in
+    let z = on a.call.at.end (after_value r a.at_start a.title h.frame a.handed.number h.given later o)
+    (subst (λ x. Resumes r t a.call.at.end (starts t a.call.at.end) x ls total) same h.gives) in (
+      z.0,
+      z.1,
+      record {
+        frame = h.frame;
+        given = h.given;
+        at = h.at;
+        ps = h.ps;
+        handing = h.handing;
+        named = h.named;
+        before = h.before;
+        within = h.within;
+        gives = z.2;
+      },
+    )
+strip_end r t e (task.Text b) w ls o total on h =
+    let same = text_work h.call.braces (source_of r.mode t b h.call) w o in
+    let z = on b.at.end (after_text h.call.braces (source_of r.mode t b h.call) o)
+    (subst (λ x. Resumes r t b.at.end (starts t b.at.end) x ls total) same h.gives) in
+    (z.0, z.1, record { call = h.call; end_is = h.end_is; gives = z.2 })
+
+pub strip : (r : Reading) (t : List ℕ) (p : ℕ) (s : Bool) (w : List Entry) (g : Output) (ls : List Level) (total : Output)
+    → Resumes r t p s (with_work w g) ls total → Strips r t p s w g ls total
+strip r t p s w g [] total h = absurd h
+strip r t p s w g (l ∷ ls) total h =
+    let o = given_from r s t p h.0 in
+    let same = between_work w (items l.out) g o in
+    let z = strip_end r t l.end l.task w ls (then_output (just (items l.out)) (then_output g o)) total (λ q x. strip r t q (starts t q) w x ls total)
+    (subst (λ x. Ends r t l.end l.task ls x total) same h.2) in
+    (z.0, z.1, (h.0, h.1, z.2))

@@ -1,0 +1,7 @@
+pub mod CallLaws
+pub mod CallSteps
+pub mod LedgerLaws
+pub mod LevelLaws
+pub mod PartSteps
+pub mod RestLaws
+pub mod StepLaws

@@ -1,0 +1,176 @@
+-- Work that comes before what is left of a call comes before all that is left; and what it costs.
+use Rattle.std.proofs.Common.{◌≡◌, ℕ, ◌+◌, ◌<◌, ◌≤◌, Bool, true, false, Option, Some, None, List, [], ◌∷◌, ◌++◌, length, refl, sym, ap, ◌∙◌, subst, arith, append_assoc, min}
+use Rattle.std.specs.Prelude.{nat_lt, if◌then◌else◌}
+use Rattle.std.specs.Option.{option_or}
+use Rattle.std.proofs.lemmas.Bool.Decides.{nat_tests}
+use Rattle.wt_span.specs.Items.{Item, sources}
+use Rattle.wt_names.specs.declared.title.Title.{Title}
+use Rattle.wt_expand.specs.Texts.{name_text}
+use Rattle.wt_expand.specs.Targets.{title_of_target}
+use Rattle.wt_expand.specs.Work.{Pages, Refused, too_large, Entry, begun, ended, most_cost, refusal_from}
+use Rattle.wt_expand.specs.Expansion.{Output, Reading, PartOutput, Frame, just, then_output, chars, value_of, values_from, parts_work, default_output, if_value, back_braces, front_braces}
+use Rattle.wt_transclusion.specs.declared.refusal.ExpandRefusal.{ExpandRefusal}
+use Rattle.wt_transclusion.specs.declared.refusal.ExpandRefusal.TheVariants as answer
+use Rattle.wt_levels.specs.Rests.{with_work, ended_with, after_argument, after_page, after_values, next_number, after_value, after_name, after_text, after_target_by, after_target}
+use Rattle.wt_levels.specs.Runs.{Spends, RefusesCost}
+
+abbrev out : List Item → List Entry → Output
+out xs es = record { items = xs; work = es }
+
+-- ---- work before
+
+pub ended_work : (w : List Entry) (o : Output) → ended_with (with_work w o) ≡ with_work w (ended_with o)
+ended_work w o = ap (out o.items) (append_assoc w o.work (ended (length (sources o.items)) ∷ []))
+
+default_same : (w : List Entry) (o : Output) (later : List PartOutput) → default_output (with_work w o) later ≡ default_output o later
+default_same w o [] = refl
+default_same w o (p ∷ ps) = refl
+
+pub argument_work : (frame : Frame) (later : List PartOutput) (w : List Entry) (o : Output)
+    → after_argument frame later (with_work w o) ≡ with_work w (after_argument frame later o)
+argument_work frame later w o =
+    let v = value_of (name_text o.items) frame in
+    let x = if_value v (default_output o later) in
+    ap (λ d. let y = if_value v d in ended_with (out y.items ((w ++ o.work) ++ y.work))) (default_same w o later)
+    ∙ ap (λ es. ended_with (out x.items es)) (append_assoc w o.work x.work)
+    ∙ ended_work w (out x.items (o.work ++ x.work))
+
+value_same : (n : ℕ) (name : Option Output) (w : List Entry) (o : Output)
+    → values_from n (record { name = name; value = with_work w o; all = with_work w o } ∷ []) ≡ values_from n (record { name = name; value = o; all = o } ∷ [])
+value_same n None w o = refl
+value_same n (Some x) w o = refl
+
+pub value_work : (r : Reading) (s : Bool) (t : Title) (frame : Frame) (n : ℕ) (name : Option Output) (later : List PartOutput) (w : List Entry) (o : Output)
+    → after_value r s t frame n name later (with_work w o) ≡ with_work w (after_value r s t frame n name later o)
+value_work r s t frame n name later w o =
+    let x = after_values r s t (frame ++ values_from n (record { name = name; value = o; all = o } ∷ [])) (next_number n name) later in
+    ap (λ vs. with_work (w ++ o.work) (after_values r s t (frame ++ vs) (next_number n name) later)) (value_same n name w o)
+    ∙ ap (out x.items) (append_assoc w o.work x.work)
+
+pub name_work : (r : Reading) (s : Bool) (t : Title) (frame : Frame) (n : ℕ) (value : Output) (later : List PartOutput) (w : List Entry) (o : Output)
+    → after_name r s t frame n value later (with_work w o) ≡ with_work w (after_name r s t frame n value later o)
+name_work r s t frame n value later w o = let x = after_value r s t frame n (Some o) later value in ap (out x.items) (append_assoc w o.work x.work)
+
+pub text_work : (k : ℕ) (source : List ℕ) (w : List Entry) (o : Output) → after_text k source (with_work w o) ≡ with_work w (after_text k source o)
+text_work k source w o = ap (out (o.items ++ chars (back_braces k source))) (append_assoc w o.work [])
+
+target_by_work : (title : Option Title) (r : Reading) (s : Bool) (k : ℕ) (source : List ℕ) (later : List PartOutput) (behind : Output) (w : List Entry)
+    (o : Output)
+    → after_target_by title r s k source later behind (with_work w o) ≡ with_work w (after_target_by title r s k source later behind o)
+target_by_work None r s k source later behind w o =
+    ap (out (chars (front_braces k source) ++ (o.items ++ (behind.items ++ chars (back_braces k source))))) (append_assoc w o.work (behind.work ++ []))
+target_by_work (Some t) r s k source later behind w o =
+    let x = after_values r s t [] 1 later in
+    ap (λ es. out x.items (es ++ x.work)) (append_assoc w o.work (begun ∷ [])) ∙ ap (out x.items) (append_assoc w (o.work ++ begun ∷ []) x.work)
+
+pub target_work : (r : Reading) (s : Bool) (k : ℕ) (source : List ℕ) (later : List PartOutput) (behind : Output) (w : List Entry) (o : Output)
+    → after_target r s k source later behind (with_work w o) ≡ with_work w (after_target r s k source later behind o)
+target_work r s k source later behind w o = target_by_work (title_of_target o.items) r s k source later behind w o
+
+-- what is given after other pieces
+pub between_work : (w : List Entry) (xs : List Item) (g o : Output)
+    → then_output (just xs) (then_output (with_work w g) o) ≡ with_work w (then_output (just xs) (then_output g o))
+between_work w xs g o = ap (out (xs ++ (g.items ++ o.items))) (append_assoc w g.work o.work)
+
+-- ---- cost
+
+large_by : (b t : Bool) (x : Option Refused) → b ≡ t → option_or (if b then Some too_large else None) x ≡ (if t then Some too_large else x)
+large_by b true x e = ap (λ c. option_or (if c then Some too_large else None) x) e
+large_by b false x e = ap (λ c. option_or (if c then Some too_large else None) x) e
+
+pub spends_none : (spent : ℕ) (o : Output) → Spends spent o spent o
+spends_none spent o = record { items = refl; refusal = λ pages page rest. refl; fetches = λ rest. refl }
+
+pub spends_begun : (spent now : ℕ) (o : Output) → nat_lt most_cost (spent + 1) ≡ false → now ≡ spent + 1 → Spends spent (with_work (begun ∷ []) o) now o
+spends_begun spent now o e z = record {
+  items = refl;
+  refusal = λ pages page rest.
+      large_by (nat_lt most_cost (spent + 1)) false (refusal_from pages page (spent + 1) (o.work ++ rest)) e
+      ∙ ap (λ n. refusal_from pages page n (o.work ++ rest)) (sym z);
+  fetches = λ rest. refl;
+}
+
+pub refuses_begun : (spent : ℕ) (o : Output) → nat_lt most_cost (spent + 1) ≡ true → (pages : Pages) (page : List ℕ) (rest : List Entry)
+    → refusal_from pages page spent (begun ∷ (o.work ++ rest)) ≡ Some too_large
+refuses_begun spent o e pages page rest = large_by (nat_lt most_cost (spent + 1)) true (refusal_from pages page (spent + 1) (o.work ++ rest)) e
+
+pub spends_ended : (spent now n : ℕ) (o : Output) → nat_lt most_cost (spent + n) ≡ false → now ≡ spent + n → Spends spent (with_work (ended n ∷ []) o) now o
+spends_ended spent now n o e z = record {
+  items = refl;
+  refusal = λ pages page rest.
+      large_by (nat_lt most_cost (spent + n)) false (refusal_from pages page (spent + n) (o.work ++ rest)) e
+      ∙ ap (λ k. refusal_from pages page k (o.work ++ rest)) (sym z);
+  fetches = λ rest. refl;
+}
+
+pub refuses_ended : (spent n : ℕ) (o : Output) → nat_lt most_cost (spent + n) ≡ true → (pages : Pages) (page : List ℕ) (rest : List Entry)
+    → refusal_from pages page spent (ended n ∷ (o.work ++ rest)) ≡ Some too_large
+refuses_ended spent n o e pages page rest = large_by (nat_lt most_cost (spent + n)) true (refusal_from pages page (spent + n) (o.work ++ rest)) e
+
+-- ---- values
+
+values_one : (n : ℕ) (p : PartOutput) (ps : List PartOutput) → values_from n (p ∷ ps) ≡ values_from n (p ∷ []) ++ values_from (next_number n p.name) ps
+values_one n p ps = by p.name p.value p.all
+  where
+    by : (name : Option Output) (value all : Output)
+        → values_from n (record { name = name; value = value; all = all } ∷ ps)
+        ≡ values_from n (record { name = name; value = value; all = all } ∷ []) ++ values_from (next_number n name) ps
+    by None value all = refl
+    by (Some x) value all = refl
+
+-- the values of parts are those of the first and then those of the others
+pub values_first : (r : Reading) (s : Bool) (t : Title) (frame : Frame) (n : ℕ) (p : PartOutput) (ps : List PartOutput)
+    → after_values r s t frame n (p ∷ ps) ≡ with_work p.all.work (after_values r s t (frame ++ values_from n (p ∷ [])) (next_number n p.name) ps)
+values_first r s t frame n p ps =
+    let x = after_page s (r.template t ((frame ++ values_from n (p ∷ [])) ++ values_from (next_number n p.name) ps)) in
+    ap (λ vs. with_work (p.all.work ++ parts_work ps) (after_page s (r.template t vs)))
+    (ap (λ vs. frame ++ vs) (values_one n p ps) ∙ sym (append_assoc frame (values_from n (p ∷ [])) (values_from (next_number n p.name) ps)))
+    ∙ ap (out x.items) (append_assoc p.all.work (parts_work ps) x.work)
+
+-- ---- what the code spends
+
+at_most : (spent n : ℕ) → nat_lt most_cost (spent + n) ≡ false → spent + n ≤ 8388608
+unfolding most_cost
+at_most spent n e = grind (arith, nat_tests)
+
+min_of : (a b : ℕ) → a ≤ b → min a b ≡ a
+min_of a b l = omega (arith, l)
+
+pub spent_is : (spent n now : ℕ) → nat_lt most_cost (spent + n) ≡ false → now ≡ min (spent + n) 18446744073709551615 → now ≡ spent + n
+spent_is spent n now e is = is ∙ min_of (spent + n) 18446744073709551615 (let l = at_most spent n e in omega (arith, l))
+
+pub begun_spent : (spent now : ℕ) (total left : Output) → total ≡ with_work (begun ∷ []) left → false ≡ nat_lt most_cost (spent + 1)
+    → now ≡ min (spent + 1) 18446744073709551615 → Spends spent total now left
+begun_spent spent now total left e l n =
+    subst (λ (o : Output). Spends spent o now left) (sym e) (spends_begun spent now left (sym l) (spent_is spent 1 now (sym l) n))
+
+pub begun_refused : (spent : ℕ) (total left : Output) (x : ExpandRefusal) → total ≡ with_work (begun ∷ []) left → true ≡ nat_lt most_cost (spent + 1)
+    → x ≡ answer.TooLarge
+    → RefusesCost spent total x
+begun_refused spent total left x e l is = subst (λ (y : ExpandRefusal). RefusesCost spent total y) (sym is)
+    (λ pages page rest. ap (λ (o : Output). refusal_from pages page spent (o.work ++ rest)) e ∙ refuses_begun spent left (sym l) pages page rest)
+
+pub ended_spent : (spent n count now : ℕ) (total left : Output) → total ≡ with_work (ended n ∷ []) left → false ≡ nat_lt most_cost (spent + count)
+    → count ≡ min n 18446744073709551615 → now ≡ min (spent + count) 18446744073709551615 → Spends spent total now left
+ended_spent spent n count now total left e l c m =
+    let small = at_most spent count (sym l) in
+    let same : count ≡ n = omega (arith, small, c) in
+    subst (λ (o : Output). Spends spent o now left) (sym e)
+    (spends_ended spent now n left (sym (l ∙ ap (λ k. nat_lt most_cost (spent + k)) same)) (spent_is spent count now (sym l) m ∙ ap (λ k. spent + k) same))
+
+above : (spent n : ℕ) → nat_lt most_cost (spent + n) ≡ true → 8388608 < spent + n
+unfolding most_cost
+above spent n e = grind (arith, nat_tests)
+
+above_is : (spent n : ℕ) → 8388608 < spent + n → nat_lt most_cost (spent + n) ≡ true
+unfolding most_cost
+above_is spent n l = grind (arith, nat_tests)
+
+pub ended_refused : (spent n count : ℕ) (total left : Output) (x : ExpandRefusal) → total ≡ with_work (ended n ∷ []) left
+    → true ≡ nat_lt most_cost (spent + count)
+    → count ≡ min n 18446744073709551615 → x ≡ answer.TooLarge → RefusesCost spent total x
+ended_refused spent n count total left x e l c is =
+    let high = above spent count (sym l) in
+    let large = above_is spent n (omega (arith, high, c)) in
+    subst (λ (y : ExpandRefusal). RefusesCost spent total y) (sym is)
+    (λ pages page rest. ap (λ (o : Output). refusal_from pages page spent (o.work ++ rest)) e ∙ refuses_ended spent n left large pages page rest)

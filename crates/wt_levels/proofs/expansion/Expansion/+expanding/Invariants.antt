@@ -1,0 +1,31 @@
+use Rattle.std.proofs.Common.{◌≡◌, ◌*◌, ◌+◌, List, Some, ℕ}
+use Rattle.wt_span.specs.declared.form.Mode.{Mode}
+use Rattle.wt_expand.specs.Expansion.{Frame, Output}
+use Rattle.wt_expand.specs.Work.{Pages}
+use Rattle.wt_transclusion.specs.Frames.{AreValues}
+use Rattle.wt_transclusion.specs.Stores.{IsStore}
+use Rattle.wt_levels.specs.Ledgers.{Progress, ledger, reading_of}
+use Rattle.wt_levels.specs.Runs.{Holds}
+use Rattle.wt_levels.specs.Stacks.{stack}
+use Rattle.wt_levels.proofs.expansion.Expansion.+expanding.Given as goal
+
+abbrev pub decreases-advance : goal.decreases-advance
+decreases-advance g l = l.left * 3 + 1
+
+abbrev pub decreases-finish : goal.decreases-finish
+decreases-finish g l = l.left * 3 + 2
+
+abbrev pub decreases-page : goal.decreases-page
+decreases-page g l = l.left * 3
+
+abbrev pub invariant-finish-steps : goal.invariant-finish-steps
+invariant-finish-steps g l = record {
+  kept : g.F.Folder.pages l.folder ≡ g.F.Folder.pages l.initial.folder;
+  count : g.F.Folder.fault_count l.folder ≡ g.F.Folder.fault_count l.initial.folder;
+  names : l.self.names ≡ l.initial.self.names;
+  given : (pages : Pages) (page t : List ℕ) (mode : Mode) (frame : Frame) (met : List (List ℕ)) (all : Output)
+      → g.F.Folder.pages l.initial.folder ≡ Some pages → IsStore pages met l.initial.self.store → AreValues l.values frame
+      → Holds (reading_of pages mode frame l.left l.initial.self.names) t l.initial.run (stack l.initial.run.levels) all
+      → Progress pages page (reading_of pages mode frame l.left l.initial.self.names) t
+      (ledger l.initial.self.spent met (g.F.Folder.answered l.initial.folder)) all l.run l.self.store l.self.spent (g.F.Folder.answered l.folder);
+}

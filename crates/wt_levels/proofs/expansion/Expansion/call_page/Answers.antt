@@ -1,0 +1,93 @@
+use Rattle.std.proofs.Common.{◌≡◌, Err, List, Ok, Option, [], refl, rules, subst, sym, ◌∙◌, ℕ}
+use Rattle.wt_span.specs.declared.list.List.{List as Listed}
+use Rattle.wt_span.specs.declared.form.Piece.{Piece}
+use Rattle.wt_expand.specs.Expansion.{later_parts}
+use Rattle.wt_levels.specs.Calls.{parts_of_call}
+use Rattle.wt_levels.specs.Ledgers.{AnswersAdvance, AnswersOutput, Progress, ledger, reading_of}
+use Rattle.wt_levels.specs.Readers.{IsReading}
+use Rattle.wt_levels.specs.Rests.{after_values}
+use Rattle.wt_levels.specs.Runs.{page_called}
+use Rattle.wt_levels.specs.declared.reader.Reader.{Reader}
+use Rattle.wt_levels.proofs.CallSteps.{page_alone}
+use Rattle.wt_levels.proofs.LedgerLaws.{finished, part_step}
+use Rattle.wt_levels.proofs.RestLaws.{begun_spent}
+use Rattle.wt_levels.proofs.expansion.Expansion.call_page.Goals as goal
+
+pub returns-in_err-pieces-clause-given : goal.returns-in_err-pieces-clause-given
+returns-in_err-pieces-clause-given g c = λ pages page t frame met p s b told st v reading low.
+    let self = c.args.self.now in
+    let r = reading_of pages c.args.mode frame c.args.left self.names in
+    let answered = g.F.Folder.answered c.args.folder.now in
+    let o = after_values r c.args.at_start c.args.title [] 1 (later_parts (parts_of_call r t c.args.call b)) in
+    let all = page_called r t c.args.call b c.args.at_start c.args.title in
+    let first = page_alone r t c.in_ok-run.run' c.args.call c.args.at_start c.args.title c.new-handing.result b p s
+    (subst (λ (x : Reader). IsReading c.args.mode t x p s) (sym c.in_ok-run.ensures.reader) reading) c.in_ok-run.ensures.mode c.in_ok-run.ensures.levels low
+    (record {
+      call = c.new-handing.ensures.call;
+      at_start = c.new-handing.ensures.at_start;
+      title_is = c.new-handing.ensures.title;
+      part = c.new-handing.ensures.part;
+      number = c.new-handing.ensures.number;
+      values = c.new-handing.ensures.values;
+    }) in
+    let step = part_step pages page t r self.spent c.charge.new.spent met answered all o c.next_part.new.self self.store c.in_ok-turn.turn st
+    (begun_spent self.spent c.charge.new.spent all o refl c.in_ok-charge.ensures.large c.in_ok-charge.ensures.spent) (c.in_ok-turn.ensures r t o first) in
+    let before = ledger self.spent met answered in
+    let e : c.from_residual-in_err-pieces.result ≡ Err c.in_err-pieces.field-0.0 = search rules in
+    subst (λ x. AnswersOutput pages page before all c.advance.new.self.store c.advance.new.self.spent (g.F.Folder.answered c.advance.new.folder) x) (sym e)
+    (c.in_err-pieces.ensures.given pages page t c.args.mode frame before all told step)
+
+pub returns-in-Some-clause-given : goal.returns-in-Some-clause-given
+returns-in-Some-clause-given g c = λ pages page t frame met p s b told st v reading low.
+    let self = c.args.self.now in
+    let r = reading_of pages c.args.mode frame c.args.left self.names in
+    let answered = g.F.Folder.answered c.args.folder.now in
+    let o = after_values r c.args.at_start c.args.title [] 1 (later_parts (parts_of_call r t c.args.call b)) in
+    let all = page_called r t c.args.call b c.args.at_start c.args.title in
+    let first = page_alone r t c.in_ok-run.run' c.args.call c.args.at_start c.args.title c.new-handing.result b p s
+    (subst (λ (x : Reader). IsReading c.args.mode t x p s) (sym c.in_ok-run.ensures.reader) reading) c.in_ok-run.ensures.mode c.in_ok-run.ensures.levels low
+    (record {
+      call = c.new-handing.ensures.call;
+      at_start = c.new-handing.ensures.at_start;
+      title_is = c.new-handing.ensures.title;
+      part = c.new-handing.ensures.part;
+      number = c.new-handing.ensures.number;
+      values = c.new-handing.ensures.values;
+    }) in
+    let step = part_step pages page t r self.spent c.charge.new.spent met answered all o c.next_part.new.self self.store c.in_ok-turn.turn st
+    (begun_spent self.spent c.charge.new.spent all o refl c.in_ok-charge.ensures.large c.in_ok-charge.ensures.spent) (c.in_ok-turn.ensures r t o first) in
+    let before = ledger self.spent met answered in
+    subst (λ (x : Option (Listed Piece)). AnswersAdvance pages page r t before all c.advance.new.run c.advance.new.self.store c.advance.new.self.spent
+    (g.F.Folder.answered c.advance.new.folder) (Ok x)) c.in-Some.is (c.in_ok-pieces.ensures.given pages page t c.args.mode frame before all told step)
+
+pub returns-clause-given : goal.returns-clause-given
+returns-clause-given g c = λ pages page t frame met p s b told st v reading low.
+    let self = c.args.self.now in
+    let r = reading_of pages c.args.mode frame c.args.left self.names in
+    let answered = g.F.Folder.answered c.args.folder.now in
+    let o = after_values r c.args.at_start c.args.title [] 1 (later_parts (parts_of_call r t c.args.call b)) in
+    let all = page_called r t c.args.call b c.args.at_start c.args.title in
+    let first = page_alone r t c.in_ok-run.run' c.args.call c.args.at_start c.args.title c.new-handing.result b p s
+    (subst (λ (x : Reader). IsReading c.args.mode t x p s) (sym c.in_ok-run.ensures.reader) reading) c.in_ok-run.ensures.mode c.in_ok-run.ensures.levels low
+    (record {
+      call = c.new-handing.ensures.call;
+      at_start = c.new-handing.ensures.at_start;
+      title_is = c.new-handing.ensures.title;
+      part = c.new-handing.ensures.part;
+      number = c.new-handing.ensures.number;
+      values = c.new-handing.ensures.values;
+    }) in
+    let step = part_step pages page t r self.spent c.charge.new.spent met answered all o c.next_part.new.self self.store c.in_ok-turn.turn st
+    (begun_spent self.spent c.charge.new.spent all o refl c.in_ok-charge.ensures.large c.in_ok-charge.ensures.spent) (c.in_ok-turn.ensures r t o first) in
+    let before = ledger self.spent met answered in
+    let now = c.advance.new.self in
+    let told_now = g.F.Folder.answered c.advance.new.folder in
+    let left = subst (λ (x : Option (Listed Piece)). AnswersAdvance pages page r t before all c.advance.new.run now.store now.spent told_now (Ok x))
+    c.in_default.is
+    (c.in_ok-pieces.ensures.given pages page t c.args.mode frame before all told step) in
+    let there = subst (λ (ns : List (List ℕ)). Progress pages page
+    (reading_of pages c.args.mode frame c.args.left ns) t before all c.advance.new.run now.store now.spent told_now)
+    (sym c.in_ok-pieces.ensures.names) left in
+    finished pages page t (reading_of pages c.args.mode frame c.args.left now.names) before all c.advance.new.run now.store c.finish.new.self.store now.spent
+    c.finish.new.self.spent told_now (g.F.Folder.answered c.finish.new.folder) c.finish.result there
+    (c.finish.ensures.given pages page t c.args.mode frame there.met there.total (c.in_ok-pieces.ensures.kept ∙ told) there.stored v there.holding)

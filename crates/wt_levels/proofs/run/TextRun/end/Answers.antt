@@ -1,0 +1,66 @@
+use Rattle.std.proofs.Common.{◌≡◌, Err, sym, subst, refl, rules}
+use Rattle.wt_levels.specs.Runs.{AnswersTurn}
+use Rattle.wt_span.specs.declared.form.Piece.{Piece}
+use Rattle.wt_span.specs.Items.{items}
+use Rattle.wt_expand.specs.Expansion.{just}
+use Rattle.std.specs.Prelude.{List}
+use Rattle.wt_levels.specs.Rests.{ended_with}
+use Rattle.wt_levels.specs.Runs.{HasEnded, Returns}
+use Rattle.wt_levels.specs.declared.level.Task.{Task}
+use Rattle.wt_levels.proofs.CallSteps.{default_returns}
+use Rattle.wt_levels.proofs.PartSteps.{part_taken}
+use Rattle.wt_levels.proofs.RestLaws.{spends_none}
+use Rattle.wt_levels.proofs.run.TextRun.end.Goals as goal
+
+pub returns-in-Whole-clause-answer : goal.returns-in-Whole-clause-answer
+returns-in-Whole-clause-answer c = λ r t total h v.
+    let w = subst (λ (k : Task). HasEnded r t c.args.self.now k c.args.out total) c.in-Whole.is h in
+    (refl, w.ends.1)
+
+pub returns-in-Argument-clause-answer : goal.returns-in-Argument-clause-answer
+returns-in-Argument-clause-answer c = λ r t total h v.
+    let w = subst (λ (k : Task). HasEnded r t c.args.self.now k c.args.out total) c.in-Argument.is h in
+    c.in_ok-end_argument-in-Argument.ensures.answer r t total w v
+
+pub returns-in_err-end_argument-in-Argument-clause-answer : goal.returns-in_err-end_argument-in-Argument-clause-answer
+returns-in_err-end_argument-in-Argument-clause-answer c = λ r t total h v.
+    let w = subst (λ (k : Task). HasEnded r t c.args.self.now k c.args.out total) c.in-Argument.is h in
+    let e : c.from_residual.result ≡ Err c.in_err-end_argument-in-Argument.field-0.0 = search rules in
+    subst (λ x. AnswersTurn r t c.args.spent.now total c.end_argument.new.self c.end_argument.new.spent x) (sym e)
+    (c.in_err-end_argument-in-Argument.ensures.answer r t total w v)
+
+pub returns-in-Default-clause-answer : goal.returns-in-Default-clause-answer
+returns-in-Default-clause-answer c = λ r t total h v.
+    let w = subst (λ (k : Task). HasEnded r t c.args.self.now k c.args.out total) c.in-Default.is h in
+    c.in_ok-give-in-Default.ensures.answer r t total
+    (subst (λ (ps : List Piece). Returns r t c.args.self.now c.in-Default.call.at.end (ended_with (just (items ps))) total) (sym c.as_slice.ensures)
+    (default_returns r t c.args.self.now c.in-Default.call c.args.out total w))
+
+pub returns-in_err-give-in-Default-clause-answer : goal.returns-in_err-give-in-Default-clause-answer
+returns-in_err-give-in-Default-clause-answer c = λ r t total h v.
+    let w = subst (λ (k : Task). HasEnded r t c.args.self.now k c.args.out total) c.in-Default.is h in
+    let e : c.from_residual-in_err-give-in-Default.result ≡ Err c.in_err-give-in-Default.field-0.0 = search rules in
+    subst (λ x. AnswersTurn r t c.args.spent.now total c.give.new.self c.give.new.spent x) (sym e)
+    (c.in_err-give-in-Default.ensures.answer r t total
+    (subst (λ (ps : List Piece). Returns r t c.args.self.now c.in-Default.call.at.end (ended_with (just (items ps))) total) (sym c.as_slice.ensures)
+    (default_returns r t c.args.self.now c.in-Default.call c.args.out total w)))
+
+pub returns-in-Target-clause-answer : goal.returns-in-Target-clause-answer
+returns-in-Target-clause-answer c = λ r t total h v.
+    let w = subst (λ (k : Task). HasEnded r t c.args.self.now k c.args.out total) c.in-Target.is h in
+    c.end_target.ensures.answer r t total w
+
+pub returns-in-Name-clause-answer : goal.returns-in-Name-clause-answer
+returns-in-Name-clause-answer c = λ r t total h v.
+    let w = subst (λ (k : Task). HasEnded r t c.args.self.now k c.args.out total) c.in-Name.is h in
+    (total, spends_none c.args.spent.now total, c.in_ok-end_name-in-Name.ensures r t total w)
+
+pub returns-in-Value-clause-answer : goal.returns-in-Value-clause-answer
+returns-in-Value-clause-answer c = λ r t total h v.
+    let w = subst (λ (k : Task). HasEnded r t c.args.self.now k c.args.out total) c.in-Value.is h in
+    part_taken r t c.args.spent.now total _ c.in_ok-turn-in-Value.turn (c.in_ok-turn-in-Value.ensures r t total w)
+
+pub returns-clause-answer : goal.returns-clause-answer
+returns-clause-answer c = λ r t total h v.
+    let w = subst (λ (k : Task). HasEnded r t c.args.self.now k c.args.out total) c.in-Text.is h in
+    (total, spends_none c.args.spent.now total, c.in_ok-end_text-in-Text.ensures r t total w)

@@ -1,0 +1,18 @@
+use Rattle.wt_levels.specs.Stacks.{stack}
+use Rattle.wt_levels.proofs.RestLaws.{spends_none}
+use Rattle.wt_levels.proofs.StepLaws.{call_next, chunk_next}
+use Rattle.wt_levels.proofs.run.TextRun.read.Goals as goal
+
+pub returns-in_ok-read_chunk-in-Chunk-clause-answer : goal.returns-in_ok-read_chunk-in-Chunk-clause-answer
+returns-in_ok-read_chunk-in-Chunk-clause-answer c = λ r t total h. (
+  total,
+  spends_none c.args.spent.now total,
+  c.in_ok-read_chunk-in-Chunk.ensures r t total (chunk_next r t c.args.self.now c.args.level c.in-Chunk.kind c.in-Chunk.to total h
+      (c.in-Chunk.ensures r.mode t h.place h.at_start h.resumes.0 h.running.reading h.resumes.1)),
+)
+
+pub returns-in_ok-call-in-Call-clause-answer : goal.returns-in_ok-call-in-Call-clause-answer
+returns-in_ok-call-in-Call-clause-answer c = λ r t total h.
+    c.begin.ensures.answer r t total (call_next r t c.args.self.now c.args.level
+    (stack c.args.self.now.levels) c.in_ok-call-in-Call.call c.in-Call.number total h
+    (c.in-Call.ensures r.mode t h.place h.at_start h.resumes.0 h.running.reading h.resumes.1) c.in_ok-call-in-Call.ensures)

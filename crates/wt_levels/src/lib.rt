@@ -1,0 +1,13 @@
+//! Texts of calls within calls, expanded level by level, with a stack of their own: the machine's
+//! stack grows by the templates that are entered one inside another, and by nothing else.
+#![tactic(auto)]
+
+mod expansion;
+mod level;
+mod reader;
+mod run;
+
+pub use expansion::{Expansion, MOST_TEMPLATES, Names};
+pub use level::Handing;
+pub use reader::{MOST_BYTES, Reader};
+pub use run::{TextRun, Turn};

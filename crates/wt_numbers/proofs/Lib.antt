@@ -1,0 +1,12 @@
+pub mod Allowances
+pub mod BodyCounts
+pub mod ContextCounts
+pub mod ListCounts
+pub mod Makes
+pub mod NumberLaws
+pub mod RowCounts
+pub mod StretchCounts
+pub mod StyleCounts
+pub mod TableCounts
+pub mod TextCounts
+pub mod TileOpenings

@@ -1,0 +1,26 @@
+use Rattle.std.proofs.Common.{◌≡◌, length, ap, ◌∙◌, arith}
+use Rattle.std.proofs.lemmas.Result.{IfOk-weaker}
+use Rattle.wt_tree.specs.View.{view}
+use Rattle.wt_ranges.specs.Numbering.{with_numbers}
+use Rattle.wt_inline.specs.ItemTree.{tree_items}
+use Rattle.wt_inline.specs.View.{item_tree}
+use Rattle.wt_ranges.specs.Annotated.{annotated}
+use Rattle.wt_ranges.specs.CutTexts.{cut_texts}
+use Rattle.wt_ranges.specs.GroupData.{group_data}
+use Rattle.wt_ranges.specs.Pieces.{outer_calls}
+use Rattle.wt_ranges.proofs.Groupings.{page_is}
+use Rattle.wt_ranges.proofs.Walks.{walk_all}
+use Rattle.wt_ranges.proofs.grouping.with_groups.Goals as goal
+
+pub kept_node-requires : goal.kept_node-requires
+kept_node-requires c =
+    let calls = outer_calls c.args.calls.now in
+    omega (arith, ap length (page_is calls (tree_items (item_tree c.args.tree))), c.requires.bytes)
+
+pub returns : goal.returns
+unfolding annotated
+returns c =
+    let calls = outer_calls c.args.calls.now in
+    let t = item_tree c.args.tree in
+    IfOk-weaker c.number_tree.result _ _
+    (λ n e. e ∙ ap (with_numbers 1) (c.in_ok-cut.ensures ∙ ap cut_texts (c.in_ok-node.ensures ∙ walk_all calls (group_data calls) t))) c.number_tree.ensures
