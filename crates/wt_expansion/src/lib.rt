@@ -2,7 +2,5 @@
 #![tactic(auto)]
 
 mod laws;
-mod page;
 
 pub use laws::{page_is_sound, pieces_are_the_page};
-pub use page::expand;

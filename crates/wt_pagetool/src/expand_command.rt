@@ -12,8 +12,7 @@ use crate::page::text_of_page;
 use crate::refusal::Refusal;
 use bumpalo::Bump;
 use std::alloc::Global;
-use wt_expand::expanded;
-use wt_expansion::expand;
+use wt_levels::expanded_text;
 use wt_outer::Folder;
 
 /// What a page that is text shows with its templates expanded.
@@ -28,8 +27,8 @@ fn output_of_text<F: Folder>(alloc: Global, page: &str, folder: &mut F) -> Resul
         ≡ option_map (λ names. names ++ names_asked (page_work pages page.now)) (F.answered folder.old)) }
 {
     let arena = Bump::new(alloc);
-    let items = expand(alloc, page, &arena, folder)?;
-    Ok(Output::Text(expanded(alloc, &items)?))
+    let text = expanded_text(alloc, page, &arena, folder)?;
+    Ok(Output::Text(text))
 }
 
 /// What the page that stands under a title shows with its templates expanded.
