@@ -14,7 +14,7 @@ use Rattle.wt_expand.specs.PageItems.{form_of, items_of_word, items_of_words, pa
 use Rattle.wt_inline.specs.RawTag.{opening_of, inside_of, closing_of}
 use Rattle.wt_inline.specs.Inside.{read_with, inside_items, opened_whole, opened, opened_all}
 use Rattle.wt_inline.specs.ItemTree.{tree_items}
-use Rattle.wt_inline.proofs.HeldLaws.{sources_one}
+use Rattle.wt_inline.proofs.HeldLaws.{sources_opened}
 use Rattle.wt_body.specs.Body.{meaning}
 use Rattle.wt_body.proofs.HeldBody.{held_meaning}
 use Rattle.wt_ranges.specs.Seams.{parted, text_from}
@@ -100,6 +100,9 @@ rest_of (x ∷ xs) ys h = rest_of xs ys h.1
 abbrev IsOwn : Item → Type 0
 IsOwn x = (call_of x ≡ None) ⊎ (source x ≡ [])
 
+sources_one : (x : Item) → sources (opened x) ≡ source x
+sources_one x = ap sources (sym (append-nil (opened x))) ∙ sources_opened (x ∷ []) ∙ append-nil (source x)
+
 own_by : (x : Item) (xs : List Item) → xs ≡ opened x → AllOf (call_of x) xs → AllOf None xs → IsOwn x
 own_by x [] e p q = inr (sym (sources_one x) ∙ ap sources (sym e))
 own_by x (y ∷ ys) e p q = inl (sym p.0 ∙ q.0)
@@ -118,7 +121,7 @@ no_calls = []
 
 page_text : (v : Bool) (o : Option ℕ) (bs : List ℕ) → (o ≡ None → v ≡ true) → (o ≡ None) ⊎ (bs ≡ []) → cond v (text_by no_calls o bs) [] ≡ bs
 page_text true None bs f e = refl
-page_text false None bs f e = absurd (subst (λ (b : Bool). cond b ⊥ (Unit {0})) (sym (f refl)) tt)
+page_text false None bs f e = absurd (subst (λ (b : Bool). cond b ⊥ (Unit {0})) (f refl) tt)
 page_text v (Some k) bs f (inl e) = cc
 page_text true (Some zero) bs f (inr e) = sym e
 page_text true (Some (suc k)) bs f (inr e) = sym e
@@ -131,7 +134,7 @@ parted_page (Some k) p e = ap (parted (Some k)) e
 own_text : (o : Option ℕ) (xs : List Item) → AllByRecursion IsOwn xs → text_from no_calls o xs ≡ sources xs
 own_text o [] h = refl
 own_text o (x ∷ xs) h =
-    ap₂ (λ (as bs : List ℕ). as ++ bs) (page_text (parted o (call_of x)) (call_of x) (source x) (parted_page o (call_of x)) h.0)
+    ap₂ (λ (bs cs : List ℕ). bs ++ cs) (page_text (parted o (call_of x)) (call_of x) (source x) (parted_page o (call_of x)) h.0)
     (own_text (call_of x) xs h.1)
 
 meaning_own : (page : List ℕ) → AllByRecursion IsOwn (tree_items (meaning (page_items page)))

@@ -100,9 +100,9 @@ page_numbered page = annotated_numbered [] (group_data []) (meaning (page_items 
 
 pub tree_is : (page : List ℕ) (calls : List OuterCall) (xs : List Item) (t : ItemTree) → t ≡ meaning xs → xs ≡ page_items page → calls ≡ []
     → annotated calls (group_data calls) t ≡ page_tree page
-tree_is page calls xs t is items none =
+tree_is page calls xs t is items without =
     ap (λ u. annotated calls (group_data calls) u) (is ∙ ap meaning items)
-    ∙ ap (λ cs. annotated cs (group_data cs) (meaning (page_items page))) none
+    ∙ ap (λ cs. annotated cs (group_data cs) (meaning (page_items page))) without
 
 pub clean_is : (xs : List Item) (t : ItemTree) → t ≡ meaning xs → is_clean (tree_items t) 0 t ≡ true
 clean_is xs t is = ap (λ u. is_clean (tree_items u) 0 u) is ∙ clean_meaning xs
@@ -114,7 +114,7 @@ small_items page xs room items =
 
 pub small_page : (page : List ℕ) (calls : List OuterCall) (xs : List Item) (t : ItemTree) → length page ≤ 2097152 → t ≡ meaning xs
     → xs ≡ page_items page → calls ≡ [] → length (page_of calls (tree_items t)) < 2 ^ 32
-small_page page calls xs t room is items none =
+small_page page calls xs t room is items without =
     let len : length (page_of [] (tree_items t)) ≡ length page = ap (λ u. length (page_of [] (tree_items u))) (is ∙ ap meaning items) ∙ ap length (page_is page) in
-    let same : length (page_of calls (tree_items t)) ≡ length (page_of [] (tree_items t)) = ap (λ cs. length (page_of cs (tree_items t))) none in
+    let same : length (page_of calls (tree_items t)) ≡ length (page_of [] (tree_items t)) = ap (λ cs. length (page_of cs (tree_items t))) without in
     omega (arith, room, len, same)
