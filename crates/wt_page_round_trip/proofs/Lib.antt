@@ -1,6 +1,7 @@
 mod Cases
 mod PlaceCases
 pub mod CutStays
+pub mod PageOrigins
 pub mod TextItems
 pub mod OfPage
 pub mod Parts

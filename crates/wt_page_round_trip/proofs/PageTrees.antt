@@ -20,14 +20,13 @@ use Rattle.wt_ranges.specs.Annotated.{annotated}
 use Rattle.wt_ranges.specs.Clean.{is_clean}
 use Rattle.wt_ranges.specs.CutTexts.{cut_texts}
 use Rattle.wt_ranges.specs.GroupData.{group_data}
-use Rattle.wt_ranges.specs.Reached.{reached, reached_in_all}
+use Rattle.wt_ranges.specs.Reached.{AreReachedSlices, reached, reached_in_all}
 use Rattle.wt_ranges.specs.WithoutCalls.{annotated as annotated_plainly, IsPlain, HasNoGroup, NoneIsGroup}
 use Rattle.wt_ranges.proofs.AnnotatedTree.{annotated_tiles, annotated_covers, annotated_slices, annotated_source, annotated_numbered, without_calls}
 use Rattle.wt_ranges.proofs.Ends.{body_clean}
 use Rattle.wt_ranges.proofs.NoGroups.{only_plain}
-use Rattle.wt_ranges.proofs.PageSizes.{page_least}
-use Rattle.wt_ranges.proofs.WithoutCalls.{own_page}
 use Rattle.wt_page_round_trip.specs.PageTree.{page_tree}
+use Rattle.wt_page_round_trip.proofs.PageOrigins.{page_source}
 use Rattle.wt_page_round_trip.proofs.FormLengths.{page_forms}
 use Rattle.wt_page_round_trip.proofs.Counts.{forms_few}
 
@@ -61,11 +60,11 @@ clean_meaning : (xs : List Item) → is_clean (tree_items (meaning xs)) 0 (meani
 unfolding meaning
 clean_meaning xs = body_clean (forest (children (body_parts (rows xs))))
 
-page_is : (page : List ℕ) → HasNoGroup (page_tree page) → page_of [] (tree_items (meaning (page_items page))) ≡ page
-page_is page h = own_page [] (tree_items (meaning (page_items page))) (page_plain page h).of_page ∙ meaning_sources page
+page_is : (page : List ℕ) → page_of [] (tree_items (meaning (page_items page))) ≡ page
+page_is page = page_source page ∙ meaning_sources page
 
-pub flat_page : (page : List ℕ) → HasNoGroup (page_tree page) → flat (page_tree page) ≡ page
-flat_page page h = annotated_source [] (group_data []) (meaning (page_items page)) (clean_meaning (page_items page)) ∙ page_is page h
+pub flat_page : (page : List ℕ) → flat (page_tree page) ≡ page
+flat_page page = annotated_source [] (group_data []) (meaning (page_items page)) (clean_meaning (page_items page)) ∙ page_is page
 
 pub page_tiled : (page : List ℕ) → Tiled (page_tree page)
 page_tiled page = annotated_tiles [] (group_data []) (meaning (page_items page)) (clean_meaning (page_items page))
@@ -74,8 +73,13 @@ covers_width : (xs : List Item) → Covers (length (page_of [] (tree_items (mean
 unfolding meaning
 covers_width xs = annotated_covers [] (group_data []) (forest (children (body_parts (rows xs))))
 
-pub page_covered : (page : List ℕ) → HasNoGroup (page_tree page) → Covers (length page) (page_tree page)
-page_covered page h = subst (λ n. Covers n (page_tree page)) (ap length (page_is page h)) (covers_width (page_items page))
+pub page_covered : (page : List ℕ) → Covers (length page) (page_tree page)
+page_covered page = subst (λ n. Covers n (page_tree page)) (ap length (page_is page)) (covers_width (page_items page))
+
+pub page_reached : (page : List ℕ) → AreReachedSlices page (page_tree page)
+page_reached page =
+    subst (λ bs. AreReachedSlices bs (page_tree page)) (page_is page)
+    (annotated_slices [] (group_data []) (meaning (page_items page)) (clean_meaning (page_items page)))
 
 mutual
   all_reached : (t : Tree) → HasNoGroup t → reached t ≡ subtrees t
@@ -87,10 +91,7 @@ mutual
   reached_all (more t ts) h = ap₂ (λ us vs. us ++ vs) (all_reached t h.0) (reached_all ts h.1)
 
 pub page_slices : (page : List ℕ) → HasNoGroup (page_tree page) → AreSlices page (page_tree page)
-page_slices page h =
-    subst (λ bs. AreSlices bs (page_tree page)) (page_is page h)
-    (subst (λ us. AllByRecursion (IsSlice (page_of [] (tree_items (meaning (page_items page))))) us) (all_reached (page_tree page) h)
-    (annotated_slices [] (group_data []) (meaning (page_items page)) (clean_meaning (page_items page))))
+page_slices page h = subst (λ us. AllByRecursion (IsSlice page) us) (all_reached (page_tree page) h) (page_reached page)
 
 pub page_numbered : (page : List ℕ) → InPreorder (page_tree page)
 page_numbered page = annotated_numbered [] (group_data []) (meaning (page_items page))
@@ -99,9 +100,9 @@ page_numbered page = annotated_numbered [] (group_data []) (meaning (page_items 
 
 pub tree_is : (page : List ℕ) (calls : List OuterCall) (xs : List Item) (t : ItemTree) → t ≡ meaning xs → xs ≡ page_items page → calls ≡ []
     → annotated calls (group_data calls) t ≡ page_tree page
-tree_is page calls xs t is items none =
+tree_is page calls xs t is items without =
     ap (λ u. annotated calls (group_data calls) u) (is ∙ ap meaning items)
-    ∙ ap (λ cs. annotated cs (group_data cs) (meaning (page_items page))) none
+    ∙ ap (λ cs. annotated cs (group_data cs) (meaning (page_items page))) without
 
 pub clean_is : (xs : List Item) (t : ItemTree) → t ≡ meaning xs → is_clean (tree_items t) 0 t ≡ true
 clean_is xs t is = ap (λ u. is_clean (tree_items u) 0 u) is ∙ clean_meaning xs
@@ -113,8 +114,7 @@ small_items page xs room items =
 
 pub small_page : (page : List ℕ) (calls : List OuterCall) (xs : List Item) (t : ItemTree) → length page ≤ 2097152 → t ≡ meaning xs
     → xs ≡ page_items page → calls ≡ [] → length (page_of calls (tree_items t)) < 2 ^ 32
-small_page page calls xs t room is items none =
-    let len : length (sources (tree_items t)) ≡ length page = ap (λ u. length (sources (tree_items u))) (is ∙ ap meaning items)
-    ∙ ap length (meaning_sources page) in
-    let same : length (page_of calls (tree_items t)) ≡ length (page_of [] (tree_items t)) = ap (λ cs. length (page_of cs (tree_items t))) none in
-    omega (arith, room, len, same, page_least (tree_items t))
+small_page page calls xs t room is items without =
+    let len : length (page_of [] (tree_items t)) ≡ length page = ap (λ u. length (page_of [] (tree_items u))) (is ∙ ap meaning items) ∙ ap length (page_is page) in
+    let same : length (page_of calls (tree_items t)) ≡ length (page_of [] (tree_items t)) = ap (λ cs. length (page_of cs (tree_items t))) without in
+    omega (arith, room, len, same)

@@ -78,5 +78,5 @@ page_is_read page u room few h = written_read (page_tree page) (page_written pag
 
 -- ---- its source
 
-pub same_page : (page : List ℕ) → HasNoGroup (page_tree page) → flat (unranged (page_tree page)) ≡ page
-same_page page h = same_source (page_tree page) ∙ flat_page page h
+pub same_page : (page : List ℕ) → flat (unranged (page_tree page)) ≡ page
+same_page page = same_source (page_tree page) ∙ flat_page page

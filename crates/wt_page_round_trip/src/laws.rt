@@ -7,6 +7,7 @@ ghost use Rattle.wt_round_trip.specs.Written.{unranged, IsWritten};
 ghost use Rattle.wt_expand.specs.PageItems.{page_items};
 ghost use Rattle.wt_body.specs.Body.{meaning};
 ghost use Rattle.wt_ranges.specs.Counted.{numbered};
+ghost use Rattle.wt_ranges.specs.Reached.{AreReachedSlices};
 ghost use Rattle.wt_ranges.specs.Slices.{AreSlices};
 ghost use Rattle.wt_ranges.specs.WithoutCalls.{HasNoGroup};
 ghost use Rattle.wt_page_round_trip.specs.PageTree.{page_tree};
@@ -18,16 +19,17 @@ ghost use Rattle.wt_page_round_trip.specs.PageTree.{page_tree};
 pub fn page_is_read()
     ensures written { (bytes : List ℕ) → IsUtf8 bytes → length bytes < 2 ^ 31 → HasNoGroup (page_tree bytes) → IsWritten (page_tree bytes) }
     ensures read { (bytes : List ℕ) → IsUtf8 bytes → length bytes < 2 ^ 31 → HasNoGroup (page_tree bytes) → read (html_text (page_tree bytes)) ≡ page (unranged (page_tree bytes)) None }
-    ensures source { (bytes : List ℕ) → HasNoGroup (page_tree bytes) → flat (unranged (page_tree bytes)) ≡ bytes }
+    ensures source { (bytes : List ℕ) → flat (unranged (page_tree bytes)) ≡ bytes }
 {}
 
-/// The ranges of a page's tree tile it, and its numbers are in preorder. Where it has no group, it
-/// joins to the page, and its ranges cover the page and are slices of it; at most three nodes for each
-/// byte have a number.
+/// The tree of a page joins to the page, its ranges tile the page and those of all nodes but in groups
+/// are slices of it, and its numbers are in preorder. Where it has no group, at most three nodes for
+/// each byte have a number.
 pub fn whole_page_tree()
-    ensures source { (bytes : List ℕ) → HasNoGroup (page_tree bytes) → flat (page_tree bytes) ≡ bytes }
+    ensures source { (bytes : List ℕ) → flat (page_tree bytes) ≡ bytes }
     ensures tiled { (bytes : List ℕ) → Tiled (page_tree bytes) }
-    ensures covers { (bytes : List ℕ) → HasNoGroup (page_tree bytes) → Covers (length bytes) (page_tree bytes) }
+    ensures covers { (bytes : List ℕ) → Covers (length bytes) (page_tree bytes) }
+    ensures reached { (bytes : List ℕ) → AreReachedSlices bytes (page_tree bytes) }
     ensures slices { (bytes : List ℕ) → HasNoGroup (page_tree bytes) → AreSlices bytes (page_tree bytes) }
     ensures numbered { (bytes : List ℕ) → InPreorder (page_tree bytes) }
     ensures few { (bytes : List ℕ) → numbered (meaning (page_items bytes)) ≤ 3 * length bytes }

@@ -70,7 +70,7 @@ all_given_back page =
     (λ text within none. record {
       tree = unranged (page_tree page);
       reads = page_is_read page text (omega arith) (two_a_byte page) none;
-      source = same_page page none;
+      source = same_page page;
     })
 
 -- ---- the clause

@@ -54,7 +54,7 @@ wrote_page command stands bytes old new e wrote =
       found = h.1;
       wrote = subst (Appends old new) (made_is command h.0 bytes h.3) wrote;
       tiled = page_tiled h.0;
-      covers = page_covered h.0 none;
+      covers = page_covered h.0;
       slices = page_slices h.0 none;
       numbered = page_numbered h.0;
     }
