@@ -51,4 +51,4 @@ returns c =
     is held c.in_ok-after.ensures c.new.ensures c.in_ok-made.ensures c.in_ok-children.ensures c.table_node-tree.ensures
     (ap (with_attrs kind.Table) (c.in_ok-attrs.ensures ∙ ap table_attributes first)) (ap items (c.from_vec.ensures ∙ c.in_ok-opening.ensures.items ∙ c.between-2.ensures))
     (ap items (c.from_vec-2.ensures ∙ c.in_ok-closing.ensures.items ∙ c.between-3.ensures)) all
-    (ap (λ t. tree_block (item_tree t)) c.in_ok-node.ensures)
+    (ap (λ t. tree_block (item_tree t)) c.in_ok-node.ensures.ok)
