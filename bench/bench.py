@@ -9,7 +9,8 @@ PROGRAM is the proved program (crates/wtround/out/wtround, which ./wtround build
 that takes the same words, which is run in turn on the same inputs. For each command and kind of page it
 prints, best of three runs, MB of page or of HTML for each second of processor time (the program has one
 thread, and so other work of the machine tells less than it does on a clock), the peak memory, and how the time
-grew from one size to the next.
+grew from one size to the next. With OTHER the last column is the ratio of the speeds: 2 where PROGRAM takes half
+the time of OTHER.
 """
 import os
 import subprocess
@@ -166,7 +167,7 @@ def measure(programs, title, words, sizes, make):
                 out.write(made if words[0] == "html" else b"")
             with open(os.path.join(folder, "in"), "wb") as out:
                 out.write(b"" if words[0] == "html" else made)
-            cells = []
+            cells, spent = [], []
             for n, program in enumerate(programs):
                 seconds, peak = run(program, folder, words)
                 if seconds is None:
@@ -176,7 +177,10 @@ def measure(programs, title, words, sizes, make):
                 speed = "      -" if rate is None else f"{rate:7.0f}" if rate >= 10 else f"{rate:7.1f}"
                 growth = f"{seconds / last[n]:7.1f}" if last[n] else "      -"
                 last[n] = seconds
+                spent.append(seconds)
                 cells.append(f"{speed} {peak / 1000:8.1f} {growth}")
+            if len(programs) == 2:
+                cells.append(f"{spent[1] / spent[0]:7.2f}" if len(spent) == 2 and spent[0] > 0 else "      -")
             print(f"{title:34} {size >> 10:5} " + " ".join(cells), flush=True)
 
 
@@ -186,7 +190,8 @@ def main():
         return 2
     programs = [os.path.abspath(it) for it in sys.argv[1:]]
     print(f"{os.cpu_count()} cores; best of three; MB/s of processor time, MB are 1,000,000 bytes of page or HTML")
-    print(f"{'command and page':34} {'KiB':>5} " + " ".join(f"{'MB/s':>7} {'peak MB':>8} {'growth':>7}" for _ in programs))
+    print(f"{'command and page':34} {'KiB':>5} " + " ".join(f"{'MB/s':>7} {'peak MB':>8} {'growth':>7}" for _ in programs)
+          + (f" {'ratio':>7}" if len(programs) == 2 else ""))
     for kind, make in KINDS.items():
         measure(programs, f"html, {kind}", ["html", "Main"], SIZES, make)
     for kind, make in INLINE_KINDS.items():

@@ -125,7 +125,7 @@ units_more : (r : Row) (rs : List Row)
     ≡ (r ∷ take (taken_len r.kind (inner_len (map kind_of rs))) rs) ∷ units kind_of (drop (taken_len r.kind (inner_len (map kind_of rs))) rs)
 units_more r rs = ap (put_first r) (units_behind (taken_len r.kind (inner_len (map kind_of rs))) rs)
 
-unit_one : (r : Row) (rs : List Row) → is_open r.kind ≡ false → units kind_of (r ∷ rs) ≡ (r ∷ []) ∷ units kind_of rs
+pub unit_one : (r : Row) (rs : List Row) → is_open r.kind ≡ false → units kind_of (r ∷ rs) ≡ (r ∷ []) ∷ units kind_of rs
 unit_one r rs h = units_more r rs ∙ ap (λ n. (r ∷ take n rs) ∷ units kind_of (drop n rs)) (taken_none r.kind h (inner_len (map kind_of rs)))
 
 -- ---- runs of units

@@ -1,7 +1,6 @@
 pub mod Attributing
 pub mod BlockNodes
 pub mod BlockRuns
-pub mod BodyTrees
 pub mod Cases
 pub mod Celling
 pub mod Colons
@@ -18,9 +17,9 @@ pub mod LineRows
 pub mod ListNodes
 pub mod Making
 pub mod OpenedParts
-pub mod Places
 pub mod Prefixing
 pub mod RowsSoFar
+pub mod Sections
 pub mod Slices
 pub mod Straying
 pub mod Stretching
@@ -30,4 +29,5 @@ pub mod TableRows
 pub mod TableSteps
 pub mod TableWhole
 pub mod TextRuns
+pub mod Unreading
 pub mod UnitSteps

@@ -10,9 +10,9 @@ use Rattle.wt_lines.specs.declared.kind.LineKind.{LineKind}
 use Rattle.wt_lines.specs.Kinds.{past, is_idle}
 use Rattle.wt_lines.specs.Lines.{IsUnbroken}
 use Rattle.wt_lines.specs.Pieces.{AllParted}
-use Rattle.wt_headings.proofs.Pieces.{all_append, sound_rest, parted_rest, parted_front}
+use Rattle.wt_headings.proofs.Pieces.{all_append}
 use Rattle.wt_build.specs.declared.row.RowAt.{RowAt}
-use Rattle.std.proofs.lemmas.List.Elements.{All-nil, All-take}
+use Rattle.std.proofs.lemmas.List.Elements.{All-nil}
 use Rattle.wt_build.proofs.KindSigns.{past_idle}
 use Rattle.wt_build.proofs.LineCuts.{unbroken_parted, unbroken_take, unbroken_drop}
 use Rattle.wt_body.specs.Rows.{Row, signs, idle_len}
@@ -209,14 +209,3 @@ added k ps lead inside ending p q new a b c d ep eq en ea eb ec ed =
     let second : q ≡ (ps ++ lead) ++ inside = eq ∙ ap (λ xs. xs ++ inside) ep in
     let third : new ≡ ((ps ++ lead) ++ inside) ++ ending = en ∙ ap (λ xs. xs ++ ending) second in
     record { kind = refl; all = third; start = ea; from = eb ∙ ap length ep; to = ec ∙ ap length second; end = ed ∙ ap length third }
-
--- ---- pieces of a page by lines
-
-pub whole_rest : (ps qs : List Piece) (n : ℕ) → AreWhole ps → qs ≡ drop n ps → AreWhole qs
-whole_rest ps qs n h e = record { sound = sound_rest ps qs n h.sound e; parted = parted_rest ps qs n h.parted e }
-
-pub whole_part : (ps qs : List Piece) (n : ℕ) → AreWhole ps → qs ≡ take n ps → AreWhole qs
-whole_part ps qs n h e = record {
-  sound = subst (All IsSoundPiece) (sym e) (All-take IsSoundPiece n ps h.sound);
-  parted = parted_front ps qs n h.parted e;
-}

@@ -7,5 +7,7 @@ pub mod GroupViews
 pub mod Nodes
 pub mod Prefixes
 pub mod Ready
+pub mod Sections
 pub mod Units
+pub mod Unread
 pub mod Views

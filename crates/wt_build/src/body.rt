@@ -1,18 +1,21 @@
 //! The tree of a page.
 
-ghost use Rattle.std.specs.Prelude.{◌≡◌, IfOk};
+ghost use Rattle.std.specs.Prelude.{◌≡◌, ◌<◌, All, length, IfOk};
+ghost use Rattle.wt_span.specs.Items.{items};
+ghost use Rattle.wt_span.specs.Origins.{IsSoundPiece};
+ghost use Rattle.wt_inline.specs.Grown.{growth};
 ghost use Rattle.wt_inline.specs.View.{item_tree};
-ghost use Rattle.wt_body.specs.Rows.{rows};
 ghost use Rattle.wt_body.specs.Body.{meaning};
-ghost use Rattle.wt_build.specs.Building.{ArePageRows, made_rows};
+ghost use Rattle.wt_build.specs.Unread.{left};
+ghost use Rattle.wt_build.specs.Sections.{Carries};
 
 use crate::block::blocks;
-use crate::rows::{PageRows, page_rows};
+use crate::section::next_section;
 use crate::stretch::with_stretches;
 use crate::text::plain_node;
+use crate::unread::Unread;
 use std::alloc::Global;
-use wt_inline::{Children, PieceTree};
-use wt_lines::parted;
+use wt_inline::{Children, Loose, PieceTree};
 use wt_span::{Items, List, NoMemory};
 use wt_tree::Kind;
 
@@ -41,13 +44,45 @@ impl<'a> Tree<'a> {
     }
 }
 
-/// The rows of a page's items, with pieces of their own.
-fn rows_of<'a>(alloc: Global, items: &Items<'a>) -> Result<PageRows<'a>, NoMemory>
-    ensures rows { IfOk result (λ r. made_rows r ≡ rows items.now.items) }
-    ensures made { IfOk result (λ r. ArePageRows r) }
+/// The children of a body with the blocks of the next section; and what is left behind it.
+fn with_section<'p, 'a>(
+    alloc: Global,
+    children: Children<'a>,
+    rest: Unread<'p, 'a>,
+) -> Result<(Children<'a>, Unread<'p, 'a>), NoMemory>
+    requires sound { All IsSoundPiece (left rest) }
+    requires some { 0 < length (left rest) }
+    ensures grown { IfOk result (λ r. Carries (growth children.entry) (items (left rest.entry)) (growth r.0) (items (left r.1))) }
+    ensures sound_after { IfOk result (λ r. All IsSoundPiece (left r.1)) }
+    ensures fewer { IfOk result (λ r. length (items (left r.1)) < length (items (left rest.entry))) }
 {
-    let pieces = parted(alloc, items.pieces())?;
-    page_rows(alloc, pieces.as_slice())
+    let (page, after) = next_section(alloc, rest)?;
+    let pieces = page.pieces.as_slice();
+    let stretches = blocks(alloc, pieces, page.rows.as_slice(), MOST_TABLES)?;
+    let grown = with_stretches(alloc, children, pieces, stretches)?;
+    Ok((grown, after))
+}
+
+/// The children of a body with the empty lines that come next, or else with the next section; and
+/// what is left behind.
+fn with_next<'p, 'a>(
+    alloc: Global,
+    children: Children<'a>,
+    rest: Unread<'p, 'a>,
+) -> Result<(Children<'a>, Unread<'p, 'a>), NoMemory>
+    requires sound { All IsSoundPiece (left rest) }
+    requires some { 0 < length (left rest) }
+    ensures grown { IfOk result (λ r. Carries (growth children.entry) (items (left rest.entry)) (growth r.0) (items (left r.1))) }
+    ensures sound_after { IfOk result (λ r. All IsSoundPiece (left r.1)) }
+    ensures fewer { IfOk result (λ r. length (items (left r.1)) < length (items (left rest.entry))) }
+{
+    match rest.split_breaks() {
+        None => with_section(alloc, children, rest),
+        Some((breaks, after)) => {
+            let grown = children.with_pieces(alloc, Loose::Sep, &[breaks])?;
+            Ok((grown, after))
+        }
+    }
 }
 
 /// The meaning of a page's items: blocks with what stands in them, and separators between them, by
@@ -56,10 +91,13 @@ fn rows_of<'a>(alloc: Global, items: &Items<'a>) -> Result<PageRows<'a>, NoMemor
 pub fn build<'a>(alloc: Global, items: &Items<'a>) -> Result<Tree<'a>, NoMemory>
     ensures { IfOk result (λ t. item_tree t.body ≡ meaning items.now.items) }
 {
-    let page = rows_of(alloc, items)?;
-    let pieces = page.pieces.as_slice();
-    let stretches = blocks(alloc, pieces, page.rows.as_slice(), MOST_TABLES)?;
-    let children = with_stretches(alloc, Children::new(alloc), pieces, stretches)?;
+    let mut children = Children::new(alloc);
+    let mut rest = Unread::of(items.pieces());
+    while !rest.is_empty() {
+        let (grown, after) = with_next(alloc, children, rest)?;
+        children = grown;
+        rest = after;
+    }
     let nodes = children.finish(alloc)?;
     Ok(Tree {
         body: plain_node(alloc, Kind::Body, List::new(alloc), nodes),

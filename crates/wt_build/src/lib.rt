@@ -15,9 +15,11 @@ mod part;
 mod prefix;
 mod row;
 mod rows;
+mod section;
 mod stretch;
 mod table;
 mod text;
 mod unit;
+mod unread;
 
 pub use body::{Tree, build};

@@ -1,6 +1,6 @@
 //! The rows of a page, made from its pieces.
 
-ghost use Rattle.std.specs.Prelude.{◌≡◌, ◌≤◌, ◌<◌, ℕ, ◌∷◌, [], ◌++◌, List, All, length, take, drop, replicate, slice_index, IfOk};
+ghost use Rattle.std.specs.Prelude.{◌≡◌, ◌≤◌, ◌<◌, ℕ, ◌∷◌, [], ◌++◌, List, All, length, drop, replicate, slice_index, IfOk};
 ghost use Rattle.wt_span.specs.Items.{items, items_of};
 ghost use Rattle.wt_span.specs.Origins.{IsSoundPiece};
 ghost use Rattle.wt_lines.specs.Kinds.{past, is_idle, is_mark_sign};
@@ -16,9 +16,8 @@ use crate::cut::cut;
 use crate::row::RowAt;
 use std::alloc::Global;
 use wt_headings::content_len;
-use wt_lines::{LineKind, Signs, is_chars, kind_of_pieces, line_len, marks_len};
+use wt_lines::{LineKind, Signs, is_chars, kind_of_pieces, marks_len};
 use wt_span::{List, NoMemory, Piece, front_of, rest_of};
-use wt_tables::behind;
 
 /// The rows of a page, and its pieces, which are cut where rows and their leads end.
 #[derive(Drop)]
@@ -95,7 +94,7 @@ fn lead_len(content: &[Piece<'_>]) -> usize
 }
 
 /// What a line is, where so many tables are open.
-fn line_kind(line: &[Piece<'_>], tables: u32) -> LineKind
+pub fn line_kind(line: &[Piece<'_>], tables: u32) -> LineKind
     requires { AreWhole line.now }
     ensures { result ≡ kind_at tables (items line.now) }
 {
@@ -104,7 +103,7 @@ fn line_kind(line: &[Piece<'_>], tables: u32) -> LineKind
 
 impl<'a> PageRows<'a> {
     /// No rows yet.
-    fn new(alloc: Global) -> PageRows<'a>
+    pub fn new(alloc: Global) -> PageRows<'a>
         ensures rows { made_rows result ≡ [] }
         ensures made { ArePageRows result }
     {
@@ -278,7 +277,7 @@ impl<'a> PageRows<'a> {
     }
 
     /// The rows of a line of this kind.
-    fn with_line(
+    pub fn with_line(
         self,
         alloc: Global,
         kind: LineKind,
@@ -313,7 +312,7 @@ impl<'a> PageRows<'a> {
     }
 
     /// The ends of so many tables that no line ends.
-    fn with_ends(self, tables: u32) -> Result<PageRows<'a>, NoMemory>
+    pub fn with_ends(self, tables: u32) -> Result<PageRows<'a>, NoMemory>
         requires made { ArePageRows self }
         ensures rows { IfOk result (λ r. made_rows r ≡ made_rows self.entry ++ replicate tables unwritten_end) }
         ensures made_after { IfOk result (λ r. ArePageRows r) }
@@ -335,25 +334,4 @@ impl<'a> PageRows<'a> {
     {
         self.with_row(LineKind::TableEnd, &[], &[], &[])
     }
-}
-
-/// The rows of pieces that are parted at line breaks.
-pub fn page_rows<'a>(alloc: Global, pieces: &[Piece<'a>]) -> Result<PageRows<'a>, NoMemory>
-    requires { AreWhole pieces.now }
-    ensures rows { IfOk result (λ r. made_rows r ≡ rows (items pieces.now)) }
-    ensures made { IfOk result (λ r. ArePageRows r) }
-{
-    let mut made = PageRows::new(alloc);
-    let mut at = 0;
-    let mut tables = 0;
-    while at < pieces.len() {
-        let rest = rest_of(pieces, at);
-        let n = line_len(rest);
-        let line = front_of(rest, n);
-        let kind = line_kind(line, tables);
-        made = made.with_line(alloc, kind, line)?;
-        tables = behind(tables, kind);
-        at += n;
-    }
-    made.with_ends(tables)
 }

@@ -1,5 +1,5 @@
 -- Where the numbers of a block count up, each of its nodes is found by its number.
-use Rattle.std.proofs.Common.{arith, ◌≡◌, ◌≢◌, ℕ, suc, ◌+◌, ◌<◌, ◌≤◌, ◌==◌, Bool, true, false, List, [], ◌∷◌, ◌++◌, length, map, refl, sym, ap, ◌∙◌, subst, inl, inr, ◌⊎◌, Option, Some, None}
+use Rattle.std.proofs.Common.{arith, ◌≡◌, ◌≢◌, ℕ, ◌+◌, ◌<◌, ◌≤◌, ◌==◌, Bool, true, false, List, [], ◌∷◌, ◌++◌, length, map, refl, sym, ap, ◌∙◌, subst, inl, inr, ◌⊎◌, Some, None}
 use Rattle.std.specs.Prelude.{◌&&◌, not, if◌then◌else◌}
 use Rattle.std.proofs.lemmas.Bool.Decides.{Decides-eqb}
 use Rattle.wt_names.proofs.Cuts.{differs}
@@ -17,8 +17,7 @@ use Rattle.wt_kept.specs.Kept.{Kept, Found, kept_with, first_with, kept_of, kept
 use Rattle.wt_kept.specs.Numbers.{counts_up}
 use Rattle.wt_kept.specs.Page.{Page, page_of, TellsSame, node_or, restored, restored_all}
 use Rattle.wt_escape.specs.Spelling.{inline_spelling, signs_of_all, children_of}
-use Rattle.wt_guards.specs.WrittenLaws.{IsQuiet}
-use Rattle.wt_escape.specs.OwnContent.{IsStyle, IsPlainBy, IsPlain, ArePlain, IsBare, AreBare, setting_in, IsPlainBlock}
+use Rattle.wt_escape.specs.OwnContent.{IsStyle, IsPlainBy, IsPlain, ArePlain, IsBare, AreBare, IsPlainBlock}
 use Rattle.wt_guards.specs.Content.{Sign}
 use Rattle.wt_kept.proofs.Numbers.{first_is, pass, stop}
 use Rattle.wt_escape.proofs.SpelledBack.{IsFound, IsOwnBy, IsOwn, AreOwn, own_spelling}

@@ -1,3 +1,6 @@
 pub mod Founds
+pub mod ShownBreaks
+pub mod Signing
 pub mod SpelledBack
 mod TreeCases
+pub mod Insides

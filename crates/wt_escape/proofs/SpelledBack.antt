@@ -1,5 +1,5 @@
 -- The content of the page itself is spelled to its own source, where nothing is put and no character is a reference.
-use Rattle.std.proofs.Common.{◌≡◌, ℕ, Bool, true, false, List, [], ◌∷◌, ◌++◌, map, refl, sym, ap, ◌∙◌, subst, append_assoc, append-nil, Option, Some, None}
+use Rattle.std.proofs.Common.{◌≡◌, ℕ, Bool, true, false, List, [], ◌∷◌, ◌++◌, map, refl, sym, ap, ◌∙◌, append_assoc, append-nil, Option, Some}
 use Rattle.std.specs.Prelude.{◌||◌, encode_utf8, if◌then◌else◌}
 use Rattle.std.specs.List.{flat_map}
 use Rattle.std.specs.Str.{chars, IsUtf8}
@@ -7,7 +7,6 @@ use Rattle.std.proofs.Math.Utf8.{encodes}
 use Rattle.std.proofs.lemmas.Grind.{flat_map-append}
 use Rattle.std.proofs.lemmas.Str.{encodes-chars}
 use Rattle.wt_tree.specs.Tree.{Label, Tree, tree, Trees, none, more, label}
-use Rattle.wt_tree.specs.Kinds.{is_leaf}
 use Rattle.wt_tree.specs.Plain.{plain}
 use Rattle.wt_tree.specs.Source.{flat, flat_of_all}
 use Rattle.wt_tree.specs.Tiling.{is_group}
@@ -15,11 +14,10 @@ use Rattle.wt_kept.specs.declared.kinds.Way.{Way}
 use Rattle.wt_kept.specs.declared.kinds.Way.TheVariants as way
 use Rattle.wt_guards.specs.declared.side.Place.{Place}
 use Rattle.wt_kept.specs.Kinds.{shape}
-use Rattle.wt_guards.specs.Content.{Thing, Sign, letter, thing, letters}
-use Rattle.wt_guards.specs.Guards.{Setting, spelled}
+use Rattle.wt_guards.specs.Content.{Sign, letter, letters}
 use Rattle.wt_kept.specs.Kept.{Kept, kept_with}
 use Rattle.wt_kept.specs.Page.{Page, page_of, TellsSame, restored, is_unchanged}
-use Rattle.wt_escape.specs.Spelling.{kept_thing, unless_kept, as_it_stood, toggle, or_nowiki, style, opening_place, closing_place, signs_by, signs_of, signs_of_all, children_of, content, inline_spelling}
+use Rattle.wt_escape.specs.Spelling.{kept_thing, unless_kept, as_it_stood, toggle, or_nowiki, style, opening_place, closing_place, signs_by, signs_of, signs_of_all, children_of, inline_spelling}
 use Rattle.wt_guards.specs.WrittenLaws.{itself, IsQuiet}
 use Rattle.wt_escape.specs.OwnContent.{IsStyle, HasSigns, setting_in}
 use Rattle.wt_guards.proofs.SpellingLaws.{quiet_from}
@@ -63,7 +61,7 @@ written_letters : (cs : List ℕ) → written (map letter cs) ≡ encodes cs
 written_letters [] = refl
 written_letters (c ∷ cs) = ap (λ bs. encode_utf8 c ++ bs) (written_letters cs)
 
-written_text : (text : List ℕ) → IsUtf8 text → written (letters text) ≡ text
+pub written_text : (text : List ℕ) → IsUtf8 text → written (letters text) ≡ text
 written_text text u = written_letters (chars text) ∙ encodes-chars text u
 
 -- a node that is found is unchanged, and written as it stands

@@ -1,5 +1,5 @@
 -- Worked cases of the spelling of whole blocks, by computing: the block as it stood in the page, and as it was edited.
-use Rattle.std.proofs.Common.{◌≡◌, ℕ, Some, None, List, [], ◌∷◌, ◌++◌, refl, Option}
+use Rattle.std.proofs.Common.{◌≡◌, ℕ, None, List, [], ◌∷◌, refl}
 use Rattle.std.specs.Prelude.{codes, Bool, true, false}
 use Rattle.std.specs.Fmt.{digits}
 use Rattle.std.specs.Str.{chars, is_utf8}
@@ -13,11 +13,10 @@ use Rattle.wt_tree.specs.declared.kind.Kind.TheVariants as kind
 use Rattle.wt_tree.specs.declared.kind.TagName.TheVariants as tag
 use Rattle.wt_tree.specs.declared.kind.AttrName.TheVariants as attr
 use Rattle.wt_tree.specs.declared.kind.Mark.TheVariants as mark
-use Rattle.wt_tree.specs.Tree.{Label, Tree, tree, Trees, none, trees}
-use Rattle.wt_guards.specs.declared.side.Place.{Place}
-use Rattle.wt_guards.specs.declared.side.Place.TheVariants.{Paragraph, Heading, Item, Term, Cell, Header}
+use Rattle.wt_tree.specs.Tree.{Label, Tree, tree, none, trees}
+use Rattle.wt_guards.specs.declared.side.Place.TheVariants.{Paragraph}
 use Rattle.wt_kept.specs.Kinds.{shape}
-use Rattle.wt_kept.specs.Kept.{kept_with, transclusion}
+use Rattle.wt_kept.specs.Kept.{kept_with}
 use Rattle.wt_guards.specs.Table.{hazard, line_start_hazard}
 use Rattle.wt_guards.specs.Letters.{is_escaped, reference}
 use Rattle.wt_guards.specs.Guards.{is_start_guard, is_end_guard, is_blank_guard, is_parted, is_between_guard, is_guarded, nowiki}
@@ -189,6 +188,65 @@ unfolding inline_spelling chars shape kept_with is_guarded is_between_guard is_s
     hazard line_start_hazard nowiki is_escaped reference digits lib.Utf8.encode
 blank_between = refl
 
+-- `{{x}}'''''b''' c''`, where `x` gives `'`: `d` in place of `b`
+after_apostrophe : inline_spelling same (para (group 2 (codes "{{x}}") (text (codes "'") ∷ [])
+    ∷ inner kind.Italic 3 (codes "''") (inner kind.Bold 4 (codes "'''") (text (codes "b") ∷ []) (codes "'''") ∷ text (codes " c") ∷ []) (codes "''") ∷ []))
+    (para (group 2 [] [] ∷ inner kind.Italic 3 [] (inner kind.Bold 4 [] (text (codes "d") ∷ []) [] ∷ text (codes " c") ∷ []) [] ∷ []))
+    Paragraph ≡ codes "{{x}}<nowiki/>''<nowiki/>'''d''' c''"
+unfolding inline_spelling chars shape kept_with is_guarded is_between_guard is_start_guard is_end_guard is_blank_guard is_parted
+    hazard line_start_hazard nowiki is_escaped reference digits lib.Utf8.encode
+after_apostrophe = refl
+
+-- `__TOC__ http://x` without its space
+switch_and_url : inline_spelling same (para (leaf kind.Switch 2 (codes "__TOC__") ∷ text (codes " ")
+    ∷ inner kind.ExtLink 3 [] (text (codes "http://x") ∷ []) [] ∷ []))
+    (para (leaf kind.Switch 2 [] ∷ inner kind.ExtLink 3 [] (text (codes "http://x") ∷ []) [] ∷ [])) Paragraph ≡ codes "__TOC__<nowiki/>http://x"
+unfolding inline_spelling chars shape kept_with is_guarded is_between_guard is_start_guard is_end_guard is_blank_guard is_parted
+    hazard line_start_hazard nowiki is_escaped reference digits lib.Utf8.encode
+switch_and_url = refl
+
+-- The inside of a changed link has edges: nothing is put before its first group and after its last one.
+within_link : inline_spelling changed (para (inner kind.WikiLink 2 (codes "[[A|") (group 3 (codes "{{t}}") (text (codes "t") ∷ []) ∷ []) (codes "]]") ∷ []))
+    (para (tree (record (labelled kind.WikiLink 2 [] [] [] []) { attrs = (attr.Href, codes "./A") ∷ [] })
+    (trees (group 3 [] [] ∷ text (codes "b") ∷ group 3 [] [] ∷ [])) ∷ [])) Paragraph ≡ codes "[[A|{{t}}<nowiki/>b<nowiki/>{{t}}]]"
+unfolding inline_spelling chars shape kept_with is_guarded is_between_guard is_start_guard is_end_guard is_blank_guard is_parted
+    hazard line_start_hazard nowiki is_escaped reference digits lib.Utf8.encode read_link read_text is_allowed is_forbidden
+    title_in whole_in cut_namespace namespace_named is_called is_good full_name_of prefix_of has_signature is_step
+    begins_with_step holds_step ends_with_step is_utf8 percent_decode image
+within_link = refl
+
+-- `{{n}}{{s}}x`, where `n` gives a line break last: `s` didn't begin a line, since no line break stands before it in the page
+after_break_shown : inline_spelling same (para (group 2 (codes "{{n}}") (text (codes "a\n") ∷ []) ∷ group 3 (codes "{{s}}") (text (codes "s") ∷ []) ∷ []))
+    (para (text (codes "a\n") ∷ group 3 [] [] ∷ [])) Paragraph ≡ codes "a\n<nowiki/>{{s}}"
+unfolding inline_spelling chars shape kept_with is_guarded is_between_guard is_start_guard is_end_guard is_blank_guard is_parted
+    hazard line_start_hazard nowiki is_escaped reference digits lib.Utf8.encode
+after_break_shown = refl
+
+-- a group that blanks and a comment alone followed on its line ended it
+ended_by_comment : inline_spelling same (para (text (codes "a ") ∷ group 2 (codes "{{s}}") (text (codes "s") ∷ []) ∷ text (codes " ")
+    ∷ leaf kind.Comment 3 (codes "<!--c-->") ∷ text (codes "\nb") ∷ []))
+    (para (text (codes "x ") ∷ group 2 [] [] ∷ text (codes " ") ∷ leaf kind.Comment 3 [] ∷ text (codes "\nb") ∷ [])) Paragraph
+    ≡ codes "x {{s}} <!--c-->\nb"
+unfolding inline_spelling chars shape kept_with is_guarded is_between_guard is_start_guard is_end_guard is_blank_guard is_parted
+    hazard line_start_hazard nowiki is_escaped reference digits lib.Utf8.encode
+ended_by_comment = refl
+
+-- Before a comment that ends a line what is put between two nodes is put all the same.
+before_comment_line : inline_spelling same (para (inner kind.ExtLink 2 [] (text (codes "http://x") ∷ []) [] ∷ text (codes "\n")
+    ∷ leaf kind.Comment 3 (codes "<!--c-->\n") ∷ text (codes "y") ∷ []))
+    (para (inner kind.ExtLink 2 [] (text (codes "http://x") ∷ []) [] ∷ leaf kind.Comment 3 [] ∷ text (codes "y") ∷ [])) Paragraph
+    ≡ codes "http://x<nowiki/><!--c-->\ny"
+unfolding inline_spelling chars shape kept_with is_guarded is_between_guard is_start_guard is_end_guard is_blank_guard is_parted
+    hazard line_start_hazard nowiki is_escaped reference digits lib.Utf8.encode
+before_comment_line = refl
+
+-- A line break inside a comment ends no line, and texts on both sides of a comment are no one text.
+break_in_comment : inline_spelling same (para (text (codes "a") ∷ leaf kind.Comment 2 (codes "<!--\n-->") ∷ []))
+    (para (text (codes "http:") ∷ leaf kind.Comment 2 [] ∷ text (codes "//x*") ∷ [])) Paragraph ≡ codes "http:<!--\n-->//x*"
+unfolding inline_spelling chars shape kept_with is_guarded is_between_guard is_start_guard is_end_guard is_blank_guard is_parted
+    hazard line_start_hazard nowiki is_escaped reference digits lib.Utf8.encode
+break_in_comment = refl
+
 -- The lead of an article: only the text changes.
 lead : inline_spelling same
     (para (inner kind.Bold 2 (codes "'''") (text (codes "Opava") ∷ []) (codes "'''") ∷ text (codes " is a river. Its name is ")
@@ -220,6 +278,11 @@ new_item : block_spelling same (inner kind.Li 0 [] (text (codes "y") ∷ []) [])
 unfolding block_spelling chars shape kept_with is_guarded is_between_guard is_start_guard is_end_guard is_blank_guard is_parted
     hazard line_start_hazard nowiki is_escaped reference digits lib.Utf8.encode
 new_item = refl
+
+new_paragraph : block_spelling same (inner kind.Para 0 [] (text (codes "b") ∷ []) []) 42 ≡ codes "b"
+unfolding block_spelling chars shape kept_with is_guarded is_between_guard is_start_guard is_end_guard is_blank_guard is_parted
+    hazard line_start_hazard nowiki is_escaped reference digits lib.Utf8.encode
+new_paragraph = refl
 
 new_rule : block_spelling same (leaf kind.Rule 0 []) 42 ≡ codes "----"
 unfolding block_spelling chars shape kept_with is_guarded is_between_guard is_start_guard is_end_guard is_blank_guard is_parted

@@ -1,2 +1,4 @@
+pub mod LineBreaks
 pub mod OwnContent
 pub mod Spelling
+pub mod Units

@@ -2,3 +2,9 @@ pub mod Taking
 pub mod Contents
 pub mod Feeding
 pub mod Among
+pub mod Scan
+pub mod Tokens
+pub mod Keeping
+pub mod Standing
+pub mod Runs
+pub mod Reasons

@@ -2,3 +2,5 @@ pub mod View
 pub mod Built
 pub mod Answer
 pub mod Names
+pub mod Runs
+pub mod Kept

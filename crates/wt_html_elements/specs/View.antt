@@ -3,7 +3,7 @@ use Rattle.std.specs.Prelude.{◌≡◌, ℕ, Option, Some, None, Result, Ok, Er
 use Rattle.wt_html_grammar.specs.declared.why.HtmlWhy.{HtmlWhy}
 use Rattle.wt_html_grammar.specs.declared.why.HtmlWhy.TheVariants as why
 use Rattle.wt_html_grammar.specs.declared.event.Event.{Event}
-use Rattle.wt_html_grammar.specs.Signs.{Follow, letters_of, begins_character}
+use Rattle.wt_html_grammar.specs.Signs.{letters_of, begins_character}
 use Rattle.wt_html_grammar.specs.Machine.{Escape, ampersand, apart, letters, sharp, digits, wide, Turn, stop, on, ended, State, start, first, doctype, inside, less, naming, gap, attribute, named_so, equals, value, valued, slashed, closing, closed, escaping, Tag}
 use Rattle.wt_html_elements.specs.declared.fault.Fault.{Fault}
 use Rattle.wt_html_elements.specs.declared.fault.Fault.TheVariants as faults

@@ -134,6 +134,25 @@ impl Builder {
         Ok(())
     }
 
+    /// Takes bytes of a text at once.
+    pub fn text_run(&mut self, run: &[u8]) -> Result<(), Fault>
+        ensures { OnOk result (building self.new ≡ with_open (building self.old) (add_bytes (building self.old).opened run.now)) }
+    {
+        match &mut self.inner {
+            None => {}
+            Some(element) => element.run.extend_from_slice(run)?,
+        }
+        Ok(())
+    }
+
+    /// Takes bytes of a value at once.
+    pub fn value_run(&mut self, run: &[u8]) -> Result<(), Fault>
+        ensures { OnOk result (building self.new ≡ with_value (building self.old) ((building self.old).value ++ run.now)) }
+    {
+        self.value.extend_from_slice(run)?;
+        Ok(())
+    }
+
     fn close_into(&mut self, alloc: Global, whole: Content) -> Result<(), Fault>
         ensures { OnOk result (building self.new ≡ closed_into (view_content whole) (building self.old).opened (building self.old).root) }
     {

@@ -6,6 +6,7 @@ mod builder;
 mod content;
 mod escape;
 mod fault;
+mod laws;
 mod machine;
 mod names;
 mod reader;
@@ -13,5 +14,6 @@ mod signs;
 
 pub use content::{Attribute, Content};
 pub use fault::HtmlRefusal;
+pub use laws::one_kept;
 pub use reader::{Reader, read_elements};
 pub use wt_html_grammar::HtmlWhy;

@@ -1,9 +1,12 @@
-ghost use Rattle.std.specs.Prelude.{◌≡◌, ℕ, ◌<◌, ◌≤◌, ◌≢◌, ◌==◌, List, [], ◌∷◌, Ok, Err, length, drop, codes, if◌then◌else◌};
-ghost use Rattle.wt_html_grammar.specs.Signs.{is_among, is_void, in_text};
-ghost use Rattle.wt_html_grammar.specs.Machine.{start, first, doctype, inside, less, naming, gap, attribute, named_so, equals, value, valued, slashed, closing, closed, wide, in_contents, in_doctype, special, at_open, at_end, at_name, end_tag, with_seen, turned, in_escape, mended, step};
+ghost use Rattle.std.specs.Prelude.{◌≡◌, ℕ, ◌<◌, ◌≤◌, ◌≢◌, ◌==◌, true, take, List, [], ◌∷◌, Ok, Err, length, drop, codes, if◌then◌else◌};
+ghost use Rattle.std.specs.List.{list_all};
+ghost use Rattle.wt_html_grammar.specs.Signs.{is_among, is_void, in_text, in_value};
+ghost use Rattle.wt_html_grammar.specs.Machine.{start, first, doctype, inside, less, naming, gap, attribute, named_so, equals, value, valued, slashed, closing, closed, wide, in_contents, in_doctype, special, at_open, at_end, at_name, end_tag, with_seen, turned, in_escape, is_plain, mended, step};
 ghost use Rattle.wt_html_grammar.specs.Events.{out, out_open, out_end, out_escape, unit_byte, unit_char};
 ghost use Rattle.wt_html_grammar.specs.Places.{is_accepted};
 ghost use Rattle.wt_html_grammar.specs.declared.event.Event.TheVariants as ev;
+ghost use Rattle.wt_html_elements.specs.Kept.{is_between};
+ghost use Rattle.wt_html_elements.specs.Runs.{stays};
 ghost use Rattle.wt_html_elements.specs.View.{view, place_of, stack, tag_of, escape_of, Takes};
 
 use crate::escape::{EscapeAt, TurnTo, turn};
@@ -65,6 +68,32 @@ fn doctype() -> &'static [u8]
     ensures { result.now ≡ codes "doctype html>" }
 {
     b"doctype html>"
+}
+
+/// How many bytes at the front stand for themselves in a text.
+fn text_run_len(bytes: &[u8]) -> usize
+    ensures run { list_all (is_plain in_text) (take result bytes.now) ≡ true }
+    ensures within { result ≤ length bytes.now }
+{
+    for (i, byte) in bytes.iter().enumerate() {
+        if !is_plain_text(*byte) {
+            return i;
+        }
+    }
+    bytes.len()
+}
+
+/// How many bytes at the front stand for themselves in a value in this quote.
+fn value_run_len(quote: u8, bytes: &[u8]) -> usize
+    ensures run { list_all (is_plain (in_value quote)) (take result bytes.now) ≡ true }
+    ensures within { result ≤ length bytes.now }
+{
+    for (i, byte) in bytes.iter().enumerate() {
+        if !is_plain_value(quote, *byte) {
+            return i;
+        }
+    }
+    bytes.len()
 }
 
 impl Machine {
@@ -524,6 +553,51 @@ impl Machine {
         match self.step(alloc, byte) {
             Ok(event) => Ok(event),
             Err(fault) => Err(mended(byte, fault)),
+        }
+    }
+
+    /// How many bytes at the front stand for themselves in the text or in the value that is read, so that
+    /// the machine stays where it is; none elsewhere.
+    pub fn run_len(&self, bytes: &[u8]) -> usize
+        ensures run { list_all (stays (view self.now)) (take result bytes.now) ≡ true }
+        ensures within { result ≤ length bytes.now }
+        ensures place { 0 < result → self.now.within ≡ Within.Nothing }
+    {
+        match self.within {
+            Within::Nothing => self.run_len_here(bytes),
+            _ => 0,
+        }
+    }
+
+    fn run_len_here(&self, bytes: &[u8]) -> usize
+        requires { self.now.within ≡ Within.Nothing }
+        ensures run { list_all (stays (view self.now)) (take result bytes.now) ≡ true }
+        ensures within { result ≤ length bytes.now }
+    {
+        match self.mode {
+            Mode::Inside => {
+                if self.open.as_slice().is_empty() {
+                    0
+                } else {
+                    text_run_len(bytes)
+                }
+            }
+            Mode::Value => value_run_len(self.quote, bytes),
+            _ => 0,
+        }
+    }
+
+    /// Whether the machine stands between two tags, characters or escapes.
+    pub fn is_between(&self) -> bool
+        ensures { result ≡ is_between (view self.now) }
+    {
+        match self.within {
+            Within::Nothing => match self.mode {
+                Mode::Start | Mode::Inside => true,
+                Mode::Doctype => doctype().len() <= self.at,
+                _ => false,
+            },
+            _ => false,
         }
     }
 

@@ -1,5 +1,6 @@
 -- What the reader of pages answers, by what the reader of elements does.
-use Rattle.std.proofs.Common.{◌≡◌, ℕ, ◌+◌, ◌<◌, ◌^◌, ◌++◌, true, Option, None, Ok, Err, List, length, sym, arith, subst}
+use Rattle.std.proofs.Common.{◌≡◌, ℕ, ◌+◌, ◌<◌, ◌^◌, ◌++◌, true, Option, Some, None, Result, Ok, Err, List, length, refl, sym, ap, ◌∙◌, arith, subst}
+use Rattle.std.specs.Prelude.{IfSome}
 use Rattle.std.specs.Coded.{le_prop}
 use Rattle.std.proofs.Math.Logic.{∥∥₁_elim}
 use Rattle.std.proofs.Props.{props}
@@ -9,7 +10,7 @@ use Rattle.wt_html_elements.specs.declared.fault.HtmlRefusal.{HtmlRefusal as Ele
 use Rattle.wt_html_elements.specs.declared.fault.HtmlRefusal.TheVariants as elements_refusals
 use Rattle.wt_html_elements.specs.declared.reader.Reader.{Reader as ElementsReader}
 use Rattle.wt_html_elements.specs.Built.{view_content}
-use Rattle.wt_html_elements.specs.Answer.{IsFed as IsFedElements, FedAs, RefusedFor as ElementsRefusedFor}
+use Rattle.wt_html_elements.specs.Answer.{IsFed as IsFedElements, FedAs, IsIll as IsIllElements, IsAtLeast as IsAtLeastElements, answer_of, RefusedFor as ElementsRefusedFor}
 use Rattle.wt_fitting.specs.declared.why.FitWhy.{FitWhy}
 use Rattle.wt_fitting.specs.Fit.{elements, body_of}
 use Rattle.wt_fitting.specs.Read.{page, ill, misfit, read}
@@ -19,7 +20,7 @@ use Rattle.wt_html_in.specs.declared.edited.Edited.{Edited}
 use Rattle.wt_html_in.specs.declared.refusal.FitFault.TheVariants as faults
 use Rattle.wt_html_in.specs.declared.refusal.HtmlRefusal.{HtmlRefusal}
 use Rattle.wt_html_in.specs.Answers.{body_of as body_told, unsourced_of, RefusedFor}
-use Rattle.wt_html_in.specs.Feeding.{refusal_told}
+use Rattle.wt_html_in.specs.Feeding.{refusal_told, failure_told, IsIll, IsAtLeast}
 use Rattle.wt_html_in.specs.Frame.{FitsBody}
 use Rattle.wt_html_in.proofs.Standing.{stands_few, stands_utf8}
 
@@ -58,3 +59,43 @@ fed_more r q piece h f = ∥∥₁_elim h squash₁ (λ (bytes, g). ∣ (bytes +
 
 pub refused_at : (bytes : List ℕ) (e : ElementsRefusal) (r : HtmlRefusal) → r ≡ refusal_told e → ElementsRefusedFor bytes e → RefusedFor bytes r
 refused_at bytes e r d h = let P : HtmlRefusal → Type 0 = RefusedFor bytes in subst P (sym d) (ill_answer bytes e h)
+
+pub ill_at : (bytes : List ℕ) (e : ElementsRefusal) (r : HtmlRefusal) → r ≡ refusal_told e → IsIllElements bytes e → IsIll bytes r
+ill_at bytes e r d h = let P : HtmlRefusal → Type 0 = IsIll bytes in subst P (sym d) (told e h)
+  where
+    told : (e : ElementsRefusal) → IsIllElements bytes e → IsIll bytes (refusal_told e)
+    told (elements_refusals.Html place w) h = h
+    told elements_refusals.NoMemory h = tt
+
+pub place_at : (k : ℕ) (e : ElementsRefusal) (r : HtmlRefusal) → r ≡ refusal_told e → IsAtLeastElements k e → IsAtLeast k r
+place_at k e r d h = let P : HtmlRefusal → Type 0 = IsAtLeast k in subst P (sym d) (told e h)
+  where
+    told : (e : ElementsRefusal) → IsAtLeastElements k e → IsAtLeast k (refusal_told e)
+    told (elements_refusals.Html place w) h = h
+    told elements_refusals.NoMemory h = tt
+
+-- a reader that hasn't failed, and one that has
+pub none_told : (o : Option ElementsRefusal) → failure_told o ≡ None → o ≡ None
+none_told None e = refl
+none_told (Some r) e = absurd cc
+
+pub going_told : (o : Option ElementsRefusal) (u : Unit {0}) → Ok u ≡ answer_of o → failure_told o ≡ None
+going_told None u e = refl
+going_told (Some r) u e = absurd cc
+
+pub nothing_told : (o : Option ElementsRefusal) (k : ℕ) → IfSome o (λ _. k ≡ 0) → IfSome (failure_told o) (λ _. k ≡ 0)
+nothing_told None k h = tt
+nothing_told (Some r) k h = h
+
+pub again_ok : (o : Option ElementsRefusal) (r : Result Edited HtmlRefusal) → o ≡ None → IfSome (failure_told o) (λ e. r ≡ Err e)
+again_ok None r e = tt
+again_ok (Some f) r e = absurd cc
+
+pub again_err : (o : Option ElementsRefusal) (e : ElementsRefusal) (r : HtmlRefusal) (was : Result Content ElementsRefusal) (now : Result Edited HtmlRefusal)
+    → was ≡ Err e → now ≡ Err r → r ≡ refusal_told e → IfSome o (λ f. was ≡ Err f) → IfSome (failure_told o) (λ f. now ≡ Err f)
+again_err None e r was now w n d h = tt
+again_err (Some f) e r was now w n d h =
+    let same : e ≡ f = err_same e f (sym w ∙ h) in n ∙ ap Err (d ∙ ap refusal_told same)
+  where
+    err_same : (e f : ElementsRefusal) → (let was : Result Content ElementsRefusal = Err e in was ≡ Err f) → e ≡ f
+    err_same e f h = cc

@@ -1,5 +1,7 @@
 -- What a reader of pages was fed.
-use Rattle.std.specs.Prelude.{ℕ, Option, Some, None, List}
+use Rattle.std.specs.Prelude.{◌≡◌, ℕ, ◌≤◌, Option, Some, None, List}
+use Rattle.wt_html_grammar.specs.Grammar.{Front}
+use Rattle.wt_html_grammar.specs.declared.why.HtmlWhy.TheVariants.{End}
 use Rattle.wt_html_elements.specs.Answer.{IsFed as IsFedElements}
 use Rattle.wt_html_elements.specs.declared.fault.HtmlRefusal.{HtmlRefusal as ElementsRefusal}
 use Rattle.wt_html_elements.specs.declared.fault.HtmlRefusal.TheVariants as elements
@@ -26,3 +28,15 @@ failure_told (Some e) = Some (refusal_told e)
 -- the refusal with which it has failed
 unfoldable pub failed_of : Reader → Option HtmlRefusal
 failed_of r = failure_told r.elements.failed
+
+-- no well-formed input begins with these bytes, and that isn't for want of an end
+abbrev pub IsIll : List ℕ → HtmlRefusal → Type 0
+IsIll bytes (refusals.Html place w) = (Front bytes → ⊥) × (w ≡ End → ⊥)
+IsIll bytes (refusals.Unfit n w) = ⊥
+IsIll bytes refusals.NoMemory = Unit {0}
+
+-- the place isn't before the bytes that were fed earlier
+abbrev pub IsAtLeast : ℕ → HtmlRefusal → Type 0
+IsAtLeast k (refusals.Html place w) = k ≤ place
+IsAtLeast k (refusals.Unfit n w) = Unit {0}
+IsAtLeast k refusals.NoMemory = Unit {0}

@@ -19,6 +19,16 @@ pub enum HtmlRefusal {
     NoMemory,
 }
 
+impl From<NoMemory> for HtmlRefusal {
+    ghost use Rattle.wt_html_in.specs.declared.refusal.HtmlRefusal.TheVariants as refusals;
+
+    ghost from_gives = { λ _ e. e ≡ refusals.NoMemory };
+
+    fn from(_e: NoMemory) -> HtmlRefusal {
+        HtmlRefusal::NoMemory
+    }
+}
+
 /// Why a tree of elements is no page.
 #[derive(Clone, Copy, Debug, PartialEq, Eq)]
 pub enum FitFault {

@@ -17,7 +17,7 @@ pub fn read_html<'a>(
     requires { length input.now ≤ 67108864 }
     ensures { Answers result input.now }
 {
-    let mut reader = Reader::new(alloc);
-    reader.feed(alloc, input)?;
-    reader.finish(alloc, arena)
+    let mut reader = Reader::new(alloc, arena)?;
+    reader.feed(input)?;
+    reader.finish()
 }

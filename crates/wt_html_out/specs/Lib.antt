@@ -1,2 +1,4 @@
 pub mod Counts
 pub mod Refusals
+pub mod Shown
+pub mod Runs

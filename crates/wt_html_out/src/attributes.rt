@@ -1,5 +1,5 @@
 ghost use Rattle.std.specs.Prelude.{◌≡◌, ◌++◌, IfOk, OnOk};
-ghost use Rattle.wt_markup.specs.Html.{attribute, attributes, id_attribute, mw_attribute, leaf_sync, inner_sync, sync_of, sync_start, sync_value, sync_attribute, attributes_of};
+ghost use Rattle.wt_markup.specs.Html.{attribute, attributes, id_attribute, mw_attribute, leaf_sync, inner_sync, sync_of, sync_start, sync_value, sync_attribute, carried_attributes, attributes_of};
 ghost use Rattle.wt_datamw.specs.Sync.{sync_text};
 ghost use Rattle.wt_tree.specs.Kinds.{one_if_any, fixed_of, fixed_attributes};
 ghost use Rattle.wt_tree.specs.View.{texts_of, attrs_of, label_of};
@@ -12,7 +12,7 @@ use wt_span::{NoMemory, Str, Text};
 use wt_tree::{Attr, AttrName, DataMw, Fixed, Kind, Node, Ranges};
 
 #[tactic(auto, unfolding(wt_markup::specs::Html::attribute))]
-fn push_attribute(out: &mut Vec<u8>, name: AttrName, value: &[u8]) -> Result<(), NoMemory>
+pub fn push_attribute(out: &mut Vec<u8>, name: AttrName, value: &[u8]) -> Result<(), NoMemory>
     ensures { OnOk result (out.new.items ≡ out.old.items ++ attribute (name, value.now)) }
 {
     push(out, b" ")?;
@@ -34,13 +34,13 @@ fn push_if_any(out: &mut Vec<u8>, fixed: Option<Fixed>) -> Result<(), NoMemory>
 }
 
 /// The attribute that the kind alone tells.
-fn push_fixed(out: &mut Vec<u8>, kind: Kind) -> Result<(), NoMemory>
+pub fn push_fixed(out: &mut Vec<u8>, kind: Kind) -> Result<(), NoMemory>
     ensures { OnOk result (out.new.items ≡ out.old.items ++ attributes (fixed_attributes kind)) }
 {
     push_if_any(out, kind.fixed())
 }
 
-fn push_own(out: &mut Vec<u8>, attrs: &[Attr]) -> Result<(), NoMemory>
+pub fn push_own(out: &mut Vec<u8>, attrs: &[Attr]) -> Result<(), NoMemory>
     ensures { OnOk result (out.new.items ≡ out.old.items ++ attributes (attrs_of attrs.now)) }
 {
     for attr in attrs {
@@ -161,6 +161,16 @@ fn push_sync(alloc: Global, out: &mut Vec<u8>, node: &Node<'_>) -> Result<(), No
     Ok(())
 }
 
+/// The number of a node and its data.
+pub fn push_carried(alloc: Global, out: &mut Vec<u8>, node: &Node<'_>) -> Result<(), NoMemory>
+    ensures { OnOk result (out.new.items ≡ out.old.items ++ carried_attributes (label_of (out-Node node.now))) }
+{
+    push_id(out, node.id)?;
+    push_mw(alloc, out, &node.mw)?;
+    push_sync(alloc, out, node)?;
+    Ok(())
+}
+
 /// The attributes of a node's element, in their order.
 #[tactic(auto, unfolding(wt_markup::specs::Html::attributes_of))]
 pub fn push_attributes(alloc: Global, out: &mut Vec<u8>, node: &Node<'_>) -> Result<(), NoMemory>
@@ -168,8 +178,6 @@ pub fn push_attributes(alloc: Global, out: &mut Vec<u8>, node: &Node<'_>) -> Res
 {
     push_fixed(out, node.kind)?;
     push_own(out, node.attrs.as_slice())?;
-    push_id(out, node.id)?;
-    push_mw(alloc, out, &node.mw)?;
-    push_sync(alloc, out, node)?;
+    push_carried(alloc, out, node)?;
     Ok(())
 }

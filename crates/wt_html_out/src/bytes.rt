@@ -1,7 +1,9 @@
-ghost use Rattle.std.specs.Prelude.{◌≡◌, ◌++◌, OnOk, codes, decimal};
+ghost use Rattle.std.specs.Prelude.{◌≡◌, ◌++◌, ◌<◌, ◌≤◌, true, take, length, OnOk, IfOk, codes, decimal};
+ghost use Rattle.std.specs.List.{list_all};
+ghost use Rattle.wt_html_out.specs.Runs.{is_plain};
 ghost use Rattle.wt_markup.specs.Escapes.{escape, escape_double, escape_single, escaped, escaped_double, escaped_single, is_control};
 
-use wt_span::NoMemory;
+use wt_span::{NoMemory, front_of, rest_of};
 
 pub fn push(out: &mut Vec<u8>, bytes: &[u8]) -> Result<(), NoMemory>
     ensures { OnOk result (out.new.items ≡ out.old.items ++ bytes.now) }
@@ -77,12 +79,83 @@ fn push_byte_single(out: &mut Vec<u8>, byte: u8) -> Result<(), NoMemory>
     Ok(())
 }
 
+/// How many bytes at the front need no escape in a text and aren't this quote.
+pub fn plain_len(quote: u8, bytes: &[u8]) -> usize
+    ensures plain { list_all (is_plain quote) (take result bytes.now) ≡ true }
+    ensures within { result ≤ length bytes.now }
+{
+    for (i, byte) in bytes.iter().enumerate() {
+        if !is_plain(quote, *byte) {
+            return i;
+        }
+    }
+    bytes.len()
+}
+
+fn is_plain(quote: u8, byte: u8) -> bool
+    ensures { result ≡ is_plain quote byte }
+{
+    byte != b'&' && (byte != b'<' && (byte != b'>' && (!is_control(byte) && byte != quote)))
+}
+
+/// Some of a text: bytes that are written as they are, or one byte. It gives how many it took.
+fn push_some(out: &mut Vec<u8>, bytes: &[u8]) -> Result<usize, NoMemory>
+    requires { 0 < length bytes.now }
+    ensures wrote { IfOk result (λ n. out.new.items ≡ out.old.items ++ escaped (take n bytes.now)) }
+    ensures some { IfOk result (λ n. 0 < n) }
+    ensures within { IfOk result (λ n. n ≤ length bytes.now) }
+{
+    let run = plain_len(b'&', bytes);
+    if run > 0 {
+        push(out, front_of(bytes, run))?;
+        Ok(run)
+    } else {
+        push_byte(out, bytes[0])?;
+        Ok(1)
+    }
+}
+
+/// Some of a value that stands in `"`.
+fn push_some_double(out: &mut Vec<u8>, bytes: &[u8]) -> Result<usize, NoMemory>
+    requires { 0 < length bytes.now }
+    ensures wrote { IfOk result (λ n. out.new.items ≡ out.old.items ++ escaped_double (take n bytes.now)) }
+    ensures some { IfOk result (λ n. 0 < n) }
+    ensures within { IfOk result (λ n. n ≤ length bytes.now) }
+{
+    let run = plain_len(b'"', bytes);
+    if run > 0 {
+        push(out, front_of(bytes, run))?;
+        Ok(run)
+    } else {
+        push_byte_double(out, bytes[0])?;
+        Ok(1)
+    }
+}
+
+/// Some of a value that stands in `'`.
+fn push_some_single(out: &mut Vec<u8>, bytes: &[u8]) -> Result<usize, NoMemory>
+    requires { 0 < length bytes.now }
+    ensures wrote { IfOk result (λ n. out.new.items ≡ out.old.items ++ escaped_single (take n bytes.now)) }
+    ensures some { IfOk result (λ n. 0 < n) }
+    ensures within { IfOk result (λ n. n ≤ length bytes.now) }
+{
+    let run = plain_len(b'\'', bytes);
+    if run > 0 {
+        push(out, front_of(bytes, run))?;
+        Ok(run)
+    } else {
+        push_byte_single(out, bytes[0])?;
+        Ok(1)
+    }
+}
+
 /// A text.
 pub fn push_escaped(out: &mut Vec<u8>, bytes: &[u8]) -> Result<(), NoMemory>
     ensures { OnOk result (out.new.items ≡ out.old.items ++ escaped bytes.now) }
 {
-    for byte in bytes {
-        push_byte(out, *byte)?;
+    let mut at = 0;
+    while at < bytes.len() {
+        at += push_some(out, rest_of(bytes, at))?;
     }
     Ok(())
 }
@@ -91,8 +164,9 @@ pub fn push_escaped(out: &mut Vec<u8>, bytes: &[u8]) -> Result<(), NoMemory>
 pub fn push_escaped_double(out: &mut Vec<u8>, bytes: &[u8]) -> Result<(), NoMemory>
     ensures { OnOk result (out.new.items ≡ out.old.items ++ escaped_double bytes.now) }
 {
-    for byte in bytes {
-        push_byte_double(out, *byte)?;
+    let mut at = 0;
+    while at < bytes.len() {
+        at += push_some_double(out, rest_of(bytes, at))?;
     }
     Ok(())
 }
@@ -101,8 +175,9 @@ pub fn push_escaped_double(out: &mut Vec<u8>, bytes: &[u8]) -> Result<(), NoMemo
 pub fn push_escaped_single(out: &mut Vec<u8>, bytes: &[u8]) -> Result<(), NoMemory>
     ensures { OnOk result (out.new.items ≡ out.old.items ++ escaped_single bytes.now) }
 {
-    for byte in bytes {
-        push_byte_single(out, *byte)?;
+    let mut at = 0;
+    while at < bytes.len() {
+        at += push_some_single(out, rest_of(bytes, at))?;
     }
     Ok(())
 }

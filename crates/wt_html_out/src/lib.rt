@@ -4,9 +4,12 @@
 mod attributes;
 mod bytes;
 mod count;
+mod group_attributes;
+mod groups;
 mod names;
 mod nodes;
 mod refusal;
+mod shown;
 mod sink;
 mod tags;
 

@@ -1,13 +1,15 @@
-ghost use Rattle.std.specs.Prelude.{◌≡◌, ◌++◌, IfOk, OnOk};
+ghost use Rattle.std.specs.Prelude.{◌≡◌, ◌++◌, ◌+◌, suc, IfOk, OnOk};
 ghost use Rattle.wt_markup.specs.Escapes.{escaped};
-ghost use Rattle.wt_markup.specs.Html.{html, html_of_all, frame_start, frame_end, html_text};
+ghost use Rattle.wt_markup.specs.Html.{html, html_of_all, groups, groups_of_all, frame_start, frame_end, html_text};
+ghost use Rattle.wt_tree.specs.Tiling.{is_group};
 ghost use Rattle.wt_tree.specs.View.{texts_of, view, views};
 
 use crate::bytes::{push, push_escaped};
+use crate::groups::push_group;
 use crate::tags::{push_end, push_start, push_void};
 use std::alloc::Global;
 use wt_span::{List, NoMemory, Text};
-use wt_tree::{Annotated, Node, Writing};
+use wt_tree::{Annotated, Kind, Node, Writing};
 
 fn push_source(out: &mut Vec<u8>, texts: &[Text<'_>]) -> Result<(), NoMemory>
     ensures { OnOk result (out.new.items ≡ out.old.items ++ escaped (texts_of texts.now)) }
@@ -18,10 +20,39 @@ fn push_source(out: &mut Vec<u8>, texts: &[Text<'_>]) -> Result<(), NoMemory>
     Ok(())
 }
 
-#[cycle(html)]
-fn push_html(alloc: Global, out: &mut Vec<u8>, node: &Node<'_>) -> Result<(), NoMemory>
-    ensures { OnOk result (out.new.items ≡ out.old.items ++ html (view node.now)) }
+pub fn is_group(kind: Kind) -> bool
+    ensures { result ≡ is_group kind }
 {
+    matches!(kind, Kind::Group)
+}
+
+/// The number of a group behind so many others. More groups than there are numbers don't fit into
+/// memory.
+pub fn next_group(before: u32) -> Result<u32, NoMemory>
+    ensures { IfOk result (λ n. n ≡ suc before) }
+{
+    if before == u32::MAX {
+        return Err(NoMemory);
+    }
+    Ok(before + 1)
+}
+
+/// A node behind so many groups; it gives how many stand before what follows it.
+#[cycle(html)]
+fn push_html(
+    alloc: Global,
+    out: &mut Vec<u8>,
+    before: u32,
+    node: &Node<'_>,
+) -> Result<u32, NoMemory>
+    ensures text { OnOk result (out.new.items ≡ out.old.items ++ html before (view node.now)) }
+    ensures groups { IfOk result (λ n. n ≡ before + groups (view node.now)) }
+{
+    if is_group(node.kind) {
+        let number = next_group(before)?;
+        push_group(alloc, out, number, node)?;
+        return Ok(number);
+    }
     match node.kind.writing() {
         Writing::AsText => push_source(out, node.own.as_slice())?,
         Writing::AsVoid => push_void(alloc, out, node)?,
@@ -32,22 +63,30 @@ fn push_html(alloc: Global, out: &mut Vec<u8>, node: &Node<'_>) -> Result<(), No
         }
         Writing::RoundChildren => {
             push_start(alloc, out, node)?;
-            push_all(alloc, out, node.children.as_slice())?;
+            let behind = push_all(alloc, out, before, node.children.as_slice())?;
             push_end(out, node)?;
+            return Ok(behind);
         }
         Writing::Unwritten => {}
     }
-    Ok(())
+    Ok(before)
 }
 
 #[cycle(html)]
-fn push_all(alloc: Global, out: &mut Vec<u8>, nodes: &[Node<'_>]) -> Result<(), NoMemory>
-    ensures { OnOk result (out.new.items ≡ out.old.items ++ html_of_all (views nodes.now)) }
+fn push_all(
+    alloc: Global,
+    out: &mut Vec<u8>,
+    before: u32,
+    nodes: &[Node<'_>],
+) -> Result<u32, NoMemory>
+    ensures text { OnOk result (out.new.items ≡ out.old.items ++ html_of_all before (views nodes.now)) }
+    ensures groups { IfOk result (λ n. n ≡ before + groups_of_all (views nodes.now)) }
 {
+    let mut behind = before;
     for node in nodes {
-        push_html(alloc, out, node)?;
+        behind = push_html(alloc, out, behind, node)?;
     }
-    Ok(())
+    Ok(behind)
 }
 
 #[tactic(auto, unfolding(wt_markup::specs::Html::frame_start))]
@@ -76,7 +115,7 @@ pub fn html_bytes(alloc: Global, t: &Annotated<'_>) -> Result<List<u8>, NoMemory
 {
     let mut out = Vec::new(alloc);
     push_frame_start(&mut out)?;
-    push_html(alloc, &mut out, t.body())?;
+    let _groups = push_html(alloc, &mut out, 0, t.body())?;
     push_frame_end(&mut out)?;
     Ok(List::from_vec(out))
 }

@@ -1,5 +1,5 @@
 ghost use Rattle.std.specs.Prelude.{◌≡◌, ◌++◌, OnOk};
-ghost use Rattle.wt_markup.specs.Html.{start_tag, void_tag, end_tag};
+ghost use Rattle.wt_markup.specs.Html.{start_tag, void_tag, end_tag_of, end_tag};
 ghost use Rattle.wt_tree.specs.View.{label_of};
 ghost use Rattle.wt_tree.specs.declared.node.Node.{out-Node};
 
@@ -8,7 +8,7 @@ use crate::bytes::push;
 use crate::names::push_name;
 use std::alloc::Global;
 use wt_span::NoMemory;
-use wt_tree::Node;
+use wt_tree::{Kind, Node};
 
 #[tactic(auto, unfolding(wt_markup::specs::Html::start_tag))]
 pub fn push_start(alloc: Global, out: &mut Vec<u8>, node: &Node<'_>) -> Result<(), NoMemory>
@@ -32,12 +32,19 @@ pub fn push_void(alloc: Global, out: &mut Vec<u8>, node: &Node<'_>) -> Result<()
     Ok(())
 }
 
+/// The end tag of an element of this kind.
+pub fn push_end_of(out: &mut Vec<u8>, kind: Kind) -> Result<(), NoMemory>
+    ensures { OnOk result (out.new.items ≡ out.old.items ++ end_tag_of kind) }
+{
+    push(out, b"</")?;
+    push_name(out, kind)?;
+    push(out, b">")?;
+    Ok(())
+}
+
 #[tactic(auto, unfolding(wt_markup::specs::Html::end_tag))]
 pub fn push_end(out: &mut Vec<u8>, node: &Node<'_>) -> Result<(), NoMemory>
     ensures { OnOk result (out.new.items ≡ out.old.items ++ end_tag (label_of (out-Node node.now))) }
 {
-    push(out, b"</")?;
-    push_name(out, node.kind)?;
-    push(out, b">")?;
-    Ok(())
+    push_end_of(out, node.kind)
 }

@@ -1,10 +1,15 @@
 -- The HTML of a tree, as it is written.
-use Rattle.std.specs.Prelude.{ℕ, List, [], ◌∷◌, ◌++◌, Option, Some, None, Bool, ◌==◌, codes, decimal, if◌then◌else◌}
+use Rattle.std.specs.Prelude.{ℕ, suc, ◌+◌, List, [], ◌∷◌, ◌++◌, Option, Some, None, Bool, true, false, ◌==◌, codes, decimal, if◌then◌else◌}
 use Rattle.std.specs.List.{flat_map}
 use Rattle.wt_tree.specs.declared.kind.AttrName.{AttrName}
+use Rattle.wt_tree.specs.declared.kind.Kind.{Kind}
+use Rattle.wt_tree.specs.declared.kind.Kind.TheVariants as kind
+use Rattle.wt_tree.specs.declared.kind.TagName.TheVariants as tag
 use Rattle.wt_tree.specs.declared.kind.Ranges.{Ranges}
 use Rattle.wt_tree.specs.declared.node.DataMw.{DataMw}
-use Rattle.wt_tree.specs.Kinds.{is_leaf, writing, element_name, attribute_name, fixed_attributes}
+use Rattle.wt_tree.specs.Kinds.{is_leaf, writing, element_name, attribute_name, fixed_attributes, order}
+use Rattle.wt_tree.specs.Plain.{Face, Plain, text, element, Plains, ended, along, plains_before}
+use Rattle.wt_tree.specs.Tiling.{is_group}
 use Rattle.wt_tree.specs.Tree.{Label, Tree, tree, Trees, none, more}
 use Rattle.wt_datamw.specs.declared.sync.Sync.{Sync}
 use Rattle.wt_datamw.specs.Sync.{sync_text}
@@ -44,25 +49,36 @@ unfoldable pub sync_start : List ℕ
 sync_start = codes " data-parsoid='"
 
 unfoldable pub sync_value : List ℕ → List ℕ
-sync_value text = sync_start ++ (escaped_single text ++ codes "'")
+sync_value bytes = sync_start ++ (escaped_single bytes ++ codes "'")
 
 unfoldable pub sync_attribute : Label → Option Ranges → List ℕ
 sync_attribute l None = []
 sync_attribute l (Some r) = sync_value (sync_text (sync_of l r))
 
+-- the number of a node and its data
+abbrev pub carried_attributes : Label → List ℕ
+carried_attributes l = id_attribute l.id ++ (mw_attribute l.mw ++ sync_attribute l l.ranges)
+
 -- the attributes of an element, in their order: the one that the kind alone tells, the node's own, its
 -- number and its data
 unfoldable pub attributes_of : Label → List ℕ
-attributes_of l = attributes (fixed_attributes l.kind) ++ (attributes l.attrs ++ (id_attribute l.id ++ (mw_attribute l.mw ++ sync_attribute l l.ranges)))
+attributes_of l = attributes (fixed_attributes l.kind) ++ (attributes l.attrs ++ carried_attributes l)
+
+-- a tag of an element of this kind, with these attributes and this end
+abbrev pub tag_of : Kind → List ℕ → List ℕ → List ℕ
+tag_of k attrs end = codes "<" ++ (element_name k ++ (attrs ++ end))
+
+abbrev pub end_tag_of : Kind → List ℕ
+end_tag_of k = codes "</" ++ (element_name k ++ codes ">")
 
 unfoldable pub start_tag : Label → List ℕ
-start_tag l = codes "<" ++ (element_name l.kind ++ (attributes_of l ++ codes ">"))
+start_tag l = tag_of l.kind (attributes_of l) (codes ">")
 
 unfoldable pub void_tag : Label → List ℕ
-void_tag l = codes "<" ++ (element_name l.kind ++ (attributes_of l ++ codes "/>"))
+void_tag l = tag_of l.kind (attributes_of l) (codes "/>")
 
 unfoldable pub end_tag : Label → List ℕ
-end_tag l = codes "</" ++ (element_name l.kind ++ codes ">")
+end_tag l = end_tag_of l.kind
 
 abbrev pub round_character : Label → List ℕ
 round_character l = start_tag l ++ (escaped l.shown ++ end_tag l)
@@ -75,13 +91,107 @@ written RoundCharacter l inside = round_character l
 written RoundChildren l inside = start_tag l ++ (inside ++ end_tag l)
 written Unwritten l inside = []
 
-abbrev mutual
-  pub html : Tree → List ℕ
-  html (tree l ts) = written (writing l.kind) l (html_of_all ts)
+-- ---- groups: the elements of what their nodes show
 
-  pub html_of_all : Trees → List ℕ
-  html_of_all none = []
-  html_of_all (more t ts) = html t ++ html_of_all ts
+-- an element with these attributes round this inside, by how its kind is written; texts and what isn't
+-- written are no elements
+abbrev pub element_by : Writing → Kind → List ℕ → List ℕ → List ℕ
+element_by AsText k attrs inside = []
+element_by AsVoid k attrs inside = tag_of k attrs (codes "/>")
+element_by RoundCharacter k attrs inside = tag_of k attrs (codes ">") ++ (inside ++ end_tag_of k)
+element_by RoundChildren k attrs inside = tag_of k attrs (codes ">") ++ (inside ++ end_tag_of k)
+element_by Unwritten k attrs inside = []
+
+-- the attribute that the kind alone tells, and the node's own
+abbrev pub face_attributes : Face → List (AttrName × List ℕ)
+face_attributes f = fixed_attributes f.kind ++ f.attrs
+
+-- What stands inside an element of a group has neither number nor data.
+abbrev mutual
+  pub plain_html : Plain → List ℕ
+  plain_html (text bs) = escaped bs
+  plain_html (element f qs) = element_by (writing f.kind) f.kind (attributes (face_attributes f)) (plains_html qs)
+
+  pub plains_html : Plains → List ℕ
+  plains_html ended = []
+  plains_html (along p ps) = plain_html p ++ plains_html ps
+
+-- the number of its group, which each element of a group has
+unfoldable pub about_attribute : ℕ → List ℕ
+about_attribute k = codes " about=\"#mwt" ++ (decimal k ++ codes "\"")
+
+-- The attributes of a group's first element: the group's word (`mw:Transclusion` or `mw:Param`) is its
+-- `typeof`, and stands before the element's own, where it has one.
+abbrev pub joined_type : AttrName × List ℕ → AttrName × List ℕ → List (AttrName × List ℕ)
+joined_type g x = if order x.0 == order g.0 then (g.0, g.1 ++ codes " " ++ x.1) ∷ [] else g ∷ x ∷ []
+
+abbrev pub with_type : List (AttrName × List ℕ) → List (AttrName × List ℕ) → List (AttrName × List ℕ)
+with_type [] xs = xs
+with_type (g ∷ gs) [] = g ∷ []
+with_type (g ∷ gs) (x ∷ xs) = joined_type g x ++ xs
+
+-- The first element of a group has all that the group carries: its number, its data and its source.
+-- `xs` are the attributes of the element by itself.
+unfoldable pub first_attributes : ℕ → Label → List (AttrName × List ℕ) → List ℕ
+first_attributes k l xs = about_attribute k ++ (attributes (with_type l.attrs xs) ++ carried_attributes l)
+
+unfoldable pub next_attributes : ℕ → List (AttrName × List ℕ) → List ℕ
+next_attributes k xs = about_attribute k ++ attributes xs
+
+-- an element of group k, which has this label; it is the first, or not
+abbrev pub group_attributes : Bool → ℕ → Label → List (AttrName × List ℕ) → List ℕ
+group_attributes true k l xs = first_attributes k l xs
+group_attributes false k l xs = next_attributes k xs
+
+abbrev pub group_element : Bool → ℕ → Label → Kind → List (AttrName × List ℕ) → List ℕ → List ℕ
+group_element first k l j xs inside = element_by (writing j) j (group_attributes first k l xs) inside
+
+-- the element round a text that a group shows at its top, or round nothing
+abbrev pub span : Face
+span = record { kind = kind.Tag tag.Span; attrs = []; mw = None }
+
+abbrev pub group_span : Bool → ℕ → Label → List ℕ → List ℕ
+group_span first k l inside = group_element first k l span.kind (face_attributes span) inside
+
+abbrev pub group_part : Bool → ℕ → Label → Plain → List ℕ
+group_part first k l (text bs) = group_span first k l (escaped bs)
+group_part first k l (element f qs) = group_element first k l f.kind (face_attributes f) (plains_html qs)
+
+abbrev pub group_parts : Bool → ℕ → Label → Plains → List ℕ
+group_parts first k l ended = []
+group_parts first k l (along p ps) = group_part first k l p ++ group_parts false k l ps
+
+-- group k, which shows this: an element for each, or one empty `span`
+abbrev pub group_html : ℕ → Label → Plains → List ℕ
+group_html k l ended = group_span true k l []
+group_html k l (along p ps) = group_parts true k l (along p ps)
+
+-- how many groups are written of a tree
+abbrev pub groups_by : Writing → ℕ → ℕ
+groups_by AsText inside = 0
+groups_by AsVoid inside = 0
+groups_by RoundCharacter inside = 0
+groups_by RoundChildren inside = inside
+groups_by Unwritten inside = 0
+
+abbrev mutual
+  pub groups : Tree → ℕ
+  groups (tree l ts) = if is_group l.kind then 1 else groups_by (writing l.kind) (groups_of_all ts)
+
+  pub groups_of_all : Trees → ℕ
+  groups_of_all none = 0
+  groups_of_all (more t ts) = groups t + groups_of_all ts
+
+-- ---- trees
+
+-- A tree behind k groups. Groups count from 1 in preorder; what a group holds is written as its plain view.
+abbrev mutual
+  pub html : ℕ → Tree → List ℕ
+  html k (tree l ts) = if is_group l.kind then group_html (suc k) l (plains_before ts ended) else written (writing l.kind) l (html_of_all k ts)
+
+  pub html_of_all : ℕ → Trees → List ℕ
+  html_of_all k none = []
+  html_of_all k (more t ts) = html k t ++ html_of_all (k + groups t) ts
 
 -- the page: a document with an empty head round the body
 unfoldable pub frame_start : List ℕ
@@ -91,4 +201,4 @@ unfoldable pub frame_end : List ℕ
 frame_end = codes "</html>"
 
 unfoldable pub html_text : Tree → List ℕ
-html_text body = frame_start ++ (html body ++ frame_end)
+html_text body = frame_start ++ (html 0 body ++ frame_end)

@@ -1,6 +1,6 @@
 -- The answer to `wikitext`, from what the reader of HTML gave.
 use Rattle.std.proofs.Common.{◌≡◌, ℕ, ◌-◌, ◌<◌, ◌≤◌, List, ◌++◌, length, refl, sym, subst, arith, length-append}
-use Rattle.std.specs.Prelude.{Option, Some, None, IfSome, IsErrAnd, Result, Ok, Err}
+use Rattle.std.specs.Prelude.{Option, Some, None, IfSome, IfErr, IsErrAnd, Result, Ok, Err}
 use Rattle.std.specs.Io.KnownBytes.{Consumes}
 use Rattle.std.proofs.KnownBytes.{Consumes-trans}
 use Rattle.wt_tree.specs.Tree.{Tree}
@@ -15,7 +15,7 @@ use Rattle.wt_html_in.specs.declared.refusal.HtmlRefusal.TheVariants as refusals
 use Rattle.wt_pagetool.specs.declared.output.Output.{Output}
 use Rattle.wt_pagetool.specs.declared.limits.TheConstants.{HTML_BYTES}
 use Rattle.wt_pagetool.specs.declared.refusal.Refusal.{Refusal}
-use Rattle.wt_pagetool.specs.declared.refusal.Refusal.TheVariants.{Unsourced, InputTooLong}
+use Rattle.wt_pagetool.specs.declared.refusal.Refusal.TheVariants.{Unsourced, InputTooLong, NoMemory}
 use Rattle.wt_pagetool.specs.Answers.{done, refused, source_answer, wikitext_answer}
 use Rattle.wt_pagetool.specs.Inputs.{FedWhole}
 use Rattle.wt_pagetool.specs.Causes.{Answered, Refuses, refusal_of}
@@ -61,3 +61,10 @@ pub answered_whole : (reader : Reader) (old new : Option (List ℕ)) (result : R
     → ((bytes : List ℕ) → IsFed reader bytes → Answered (source_answer (read bytes)) result)
     → IfSome old (λ all. Answered (wikitext_answer all) result)
 answered_whole reader old new result whole answered = answered_by old whole.bytes result whole.whole whole.within (answered whole.bytes whole.fed)
+
+-- memory ran out
+pub memory_refused : {T : Type 0} (old : Option (List ℕ)) (result : Result T Refusal) → IsErrAnd result (λ r. r ≡ NoMemory)
+    → IfErr result (λ r. IfSome old (λ bytes. Refuses r (wikitext_answer bytes)))
+memory_refused old (Ok value) is = tt
+memory_refused None (Err r) is = tt
+memory_refused (Some bytes) (Err r) is = subst (λ x. Refuses x (wikitext_answer bytes)) (sym is) tt

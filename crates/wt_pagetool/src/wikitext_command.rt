@@ -23,10 +23,9 @@ const PIECE: usize = 65_536;
 /// Feeds the whole input, a piece that fits into `buffer` at a time. That the reader refuses a piece ends
 /// nothing: an input that is too long and a fault of the source come before.
 fn feed_all<S: Source>(
-    alloc: Global,
     input: &mut S,
     buffer: &mut [u8],
-    reader: &mut Reader,
+    reader: &mut Reader<'_>,
 ) -> Result<(), Refusal>
     requires some { 0 < length buffer.old }
     requires few { length buffer.old ≤ 65536 }
@@ -46,7 +45,7 @@ fn feed_all<S: Source>(
                 if count > HTML_BYTES - taken {
                     return Err(Refusal::InputTooLong);
                 }
-                let _ = reader.feed(alloc, front_of(buffer, count));
+                let _ = reader.feed(front_of(buffer, count));
                 taken += count;
             }
             Err(_) => return Err(Refusal::ReadFault),
@@ -55,7 +54,11 @@ fn feed_all<S: Source>(
 }
 
 /// A reader that was fed the whole input.
-fn read_all<S: Source>(alloc: Global, input: &mut S) -> Result<Reader, Refusal>
+fn read_all<'a, S: Source>(
+    alloc: Global,
+    arena: &'a Bump<Global>,
+    input: &mut S,
+) -> Result<Reader<'a>, Refusal>
     ensures fed { IfOk result (λ reader. FedWhole reader (S.left input.old) (S.left input.new)) }
     ensures answered { IfErr result
         (λ r. IfSome (S.left input.old) (λ bytes. Refuses r (wikitext_answer bytes))) }
@@ -63,8 +66,8 @@ fn read_all<S: Source>(alloc: Global, input: &mut S) -> Result<Reader, Refusal>
     ensures kept { IsKept result (S.fault_count input.old) (S.fault_count input.new) }
 {
     let mut buffer = vec![in alloc; 0u8; PIECE]?;
-    let mut reader = Reader::new(alloc);
-    feed_all(alloc, input, buffer.as_mut_slice(), &mut reader)?;
+    let mut reader = Reader::new(alloc, arena)?;
+    feed_all(input, buffer.as_mut_slice(), &mut reader)?;
     Ok(reader)
 }
 
@@ -80,12 +83,11 @@ fn source_of(alloc: Global, edited: &Edited<'_>) -> Result<Output, Refusal>
 }
 
 /// The source of the page for which the bytes stand that were fed.
-fn source_of_read(alloc: Global, reader: Reader) -> Result<Output, Refusal>
-    ensures answered { (bytes : List ℕ) → IsFed reader bytes → Answered (source_answer (read bytes)) result }
+fn source_of_read(alloc: Global, reader: Reader<'_>) -> Result<Output, Refusal>
+    ensures answered { (bytes : List ℕ) → IsFed reader.entry bytes → Answered (source_answer (read bytes)) result }
     ensures of_html { IfErr result IsOfHtml }
 {
-    let arena = Bump::new(alloc);
-    let edited = reader.finish(alloc, &arena)?;
+    let edited = reader.finish()?;
     source_of(alloc, &edited)
 }
 
@@ -96,6 +98,7 @@ pub fn wikitext_of_input<S: Source>(alloc: Global, input: &mut S) -> Result<Outp
     ensures ended { OnOk result (IsAtEnd (S.left input.new)) }
     ensures kept { IsKept result (S.fault_count input.old) (S.fault_count input.new) }
 {
-    let reader = read_all(alloc, input)?;
+    let arena = Bump::new(alloc);
+    let reader = read_all(alloc, &arena, input)?;
     source_of_read(alloc, reader)
 }

@@ -1,17 +1,20 @@
 -- The tree that is read is written as it was, shows the same, and has the same source and numbers.
-use Rattle.std.proofs.Common.{◌≡◌, ℕ, List, ◌∷◌, ◌++◌, refl, ap, ap₂, ◌∙◌}
+use Rattle.std.proofs.Common.{◌≡◌, ℕ, suc, ◌+◌, Bool, true, false, Option, List, ◌∷◌, ◌++◌, refl, ap, ap₂, ◌∙◌}
 use Rattle.std.specs.Prelude.{if◌then◌else◌}
+use Rattle.wt_tree.specs.declared.kind.Kind.{Kind}
+use Rattle.wt_tree.specs.declared.kind.Kind.TheVariants as kind
+use Rattle.wt_tree.specs.declared.kind.Ranges.{Ranges}
 use Rattle.wt_tree.specs.declared.kind.Showing.{Showing}
 use Rattle.wt_tree.specs.declared.kind.Showing.TheVariants.{Characters, Inside, Nothing, Element}
 use Rattle.wt_tree.specs.Kinds.{is_leaf, showing}
 use Rattle.wt_tree.specs.Tree.{Label, Tree, tree, Trees, none as no_trees, more as one_more}
 use Rattle.wt_tree.specs.Source.{flat, flat_of_all}
 use Rattle.wt_tree.specs.Plain.{Plains, ended, along, element, face, text_before, shown_before, plain_before, plains_before, plain}
-use Rattle.wt_tree.specs.Tiling.{ids, ids_of_all}
+use Rattle.wt_tree.specs.Tiling.{is_group, ids, ids_of_all}
 use Rattle.wt_tree.specs.declared.row.Writing.{Writing}
 use Rattle.wt_tree.specs.declared.row.Writing.TheVariants.{AsText, AsVoid, RoundCharacter, RoundChildren, Unwritten}
 use Rattle.wt_tree.specs.Kinds.{writing}
-use Rattle.wt_markup.specs.Html.{written, html, html_of_all, frame_start, frame_end, html_text}
+use Rattle.wt_markup.specs.Html.{written, group_html, groups_by, groups, groups_of_all, html, html_of_all, frame_start, frame_end, html_text}
 use Rattle.wt_round_trip.specs.Written.{ranges_read, label_read, unranged, unranged_all}
 
 mutual
@@ -30,24 +33,17 @@ same_label RoundCharacter l inside = refl
 same_label RoundChildren l inside = refl
 same_label Unwritten l inside = refl
 
-mutual
-  same_html : (t : Tree) → html (unranged t) ≡ html t
-  same_html (tree l ts) = same_label (writing l.kind) l (html_of_all (unranged_all ts)) ∙ ap (written (writing l.kind) l) (same_html_all ts)
-
-  same_html_all : (ts : Trees) → html_of_all (unranged_all ts) ≡ html_of_all ts
-  same_html_all no_trees = refl
-  same_html_all (one_more t ts) = ap₂ (λ (x y : List ℕ). x ++ y) (same_html t) (same_html_all ts)
-
-pub written_again : (t : Tree) → html_text (unranged t) ≡ html_text t
-unfolding html_text
-written_again t = ap (λ x. frame_start ++ (x ++ frame_end)) (same_html t)
-
 same_shown : (s : Showing) (l m : Label) (f g : Plains → Plains) (rest : Plains) → l.shown ≡ m.shown → face l ≡ face m
     → ((ps : Plains) → f ps ≡ g ps) → shown_before s l f rest ≡ shown_before s m g rest
 same_shown Characters l m f g rest e d h = ap (λ bs. text_before bs rest) e
 same_shown Inside l m f g rest e d h = h rest
 same_shown Nothing l m f g rest e d h = refl
 same_shown Element l m f g rest e d h = ap₂ (λ x ps. along (element x ps) rest) d (h ended)
+
+-- a group keeps its ranges
+group_ranges : (k : Kind) (r : Option Ranges) → is_group k ≡ true → ranges_read (writing k) r ≡ r
+group_ranges kind.Group r e = refl
+group_ranges k r e = absurd (cc e)
 
 mutual
   same_before : (t : Tree) (rest : Plains) → plain_before (unranged t) rest ≡ plain_before t rest
@@ -60,6 +56,37 @@ mutual
 
 pub same_plain : (t : Tree) → plain (unranged t) ≡ plain t
 same_plain t = same_before t ended
+
+mutual
+  same_groups : (t : Tree) → groups (unranged t) ≡ groups t
+  same_groups (tree l ts) = ap (λ n. if is_group l.kind then 1 else groups_by (writing l.kind) n) (same_groups_all ts)
+
+  same_groups_all : (ts : Trees) → groups_of_all (unranged_all ts) ≡ groups_of_all ts
+  same_groups_all no_trees = refl
+  same_groups_all (one_more t ts) = ap₂ (λ (m n : ℕ). m + n) (same_groups t) (same_groups_all ts)
+
+-- a group or another node
+same_by : (x : Bool) (k : ℕ) (l : Label) (ps qs : Plains) (us vs : List ℕ) → is_group l.kind ≡ x → ps ≡ qs → us ≡ vs
+    → (if x then group_html k (label_read l) ps else written (writing l.kind) (label_read l) us)
+    ≡ (if x then group_html k l qs else written (writing l.kind) l vs)
+same_by true k l ps qs us vs e f g =
+    ap (λ r. group_html k (record (l) { ranges = r }) ps) (group_ranges l.kind l.ranges e) ∙ ap (group_html k l) f
+same_by false k l ps qs us vs e f g = same_label (writing l.kind) l us ∙ ap (written (writing l.kind) l) g
+
+mutual
+  same_html : (t : Tree) (k : ℕ) → html k (unranged t) ≡ html k t
+  same_html (tree l ts) k =
+      same_by (is_group l.kind) (suc k) l (plains_before (unranged_all ts) ended) (plains_before ts ended) (html_of_all k (unranged_all ts))
+      (html_of_all k ts) refl (same_all_before ts ended) (same_html_all ts k)
+
+  same_html_all : (ts : Trees) (k : ℕ) → html_of_all k (unranged_all ts) ≡ html_of_all k ts
+  same_html_all no_trees k = refl
+  same_html_all (one_more t ts) k =
+      ap₂ (λ (x y : List ℕ). x ++ y) (same_html t k) (ap (λ n. html_of_all (k + n) (unranged_all ts)) (same_groups t) ∙ same_html_all ts (k + groups t))
+
+pub written_again : (t : Tree) → html_text (unranged t) ≡ html_text t
+unfolding html_text
+written_again t = ap (λ x. frame_start ++ (x ++ frame_end)) (same_html t 0)
 
 mutual
   pub same_numbers : (t : Tree) → ids (unranged t) ≡ ids t

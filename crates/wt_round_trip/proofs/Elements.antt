@@ -1,16 +1,19 @@
 -- The elements of a tree as the grammar has them: how they are spelled, that they are good, and what
 -- they stand for.
-use Rattle.std.proofs.Common.{◌≡◌, ℕ, suc, ◌<◌, ◌^◌, Bool, true, false, List, [], ◌∷◌, ◌++◌, map, flat_map, IsUtf8, chars, refl, sym, ap, ap₂, ◌∙◌, subst, append_assoc, append-nil, codes}
+use Rattle.std.proofs.Common.{◌≡◌, ℕ, suc, ◌+◌, ◌<◌, ◌^◌, Bool, true, false, List, [], ◌∷◌, ◌++◌, map, flat_map, IsUtf8, chars, refl, sym, ap, ap₂, ◌∙◌, subst, append_assoc, append-nil, codes}
 use Rattle.wt_tree.specs.declared.kind.Kind.{Kind}
 use Rattle.wt_tree.specs.Tree.{Label, Tree, tree, Trees, none as no_trees, more as one_more}
 use Rattle.wt_tree.specs.declared.row.Writing.{Writing}
 use Rattle.wt_tree.specs.declared.row.Writing.TheVariants.{AsText, AsVoid, RoundCharacter, RoundChildren, Unwritten}
+use Rattle.wt_tree.specs.declared.kind.Kind.TheVariants as kind
 use Rattle.wt_tree.specs.Kinds.{writing, element_name, texts_of_kind}
+use Rattle.wt_tree.specs.Tiling.{is_group}
 use Rattle.wt_markup.specs.Escapes.{escaped}
-use Rattle.wt_markup.specs.Html.{attributes_of, start_tag, void_tag, end_tag, written, html, html_of_all}
+use Rattle.wt_markup.specs.Html.{attributes_of, start_tag, void_tag, end_tag, written, groups, html, html_of_all}
 use Rattle.wt_html_grammar.specs.Signs.{in_text}
 use Rattle.wt_html_grammar.specs.Grammar.{Piece, spell_piece, spell_pieces, ArePieces, spell_attributes, slash, Element, Items, element, void, none, sign, child, spell, spell_items, IsElement, AreItems}
 use Rattle.wt_html_grammar.specs.Markup.{Pair, Markup, Markups, text, node, empty, more, unit_of, flush, meaning, contents}
+use Rattle.wt_html_grammar.proofs.Steps.{if_false}
 use Rattle.wt_tree.specs.Kinds.{may_hold}
 use Rattle.wt_fitting.specs.Rows.{shows_text}
 use Rattle.wt_round_trip.specs.Written.{IsShown, IsElementLabel, IsCutIn, is_childless, NodeIsWritten, WrittenIn, AllWrittenIn}
@@ -95,16 +98,41 @@ spelled_by RoundChildren k parent l childless H inside bytes rest e h f =
     ap (λ x. x ++ spell_items rest) (element_spelled l inside bytes (held_spelled parent l h.1 h.2) (f h.4))
 spelled_by Unwritten k parent l childless H inside bytes rest e h f = absurd h
 
-mutual
-  pub item_spelled : (t : Tree) (k : ℕ) (parent : Kind) (rest : Items) → WrittenIn k parent t → spell_items (item_before t rest) ≡ html t ++ spell_items rest
-  item_spelled (tree l ts) k parent rest h =
-      spelled_by (writing l.kind) k parent l (is_childless ts)
-      (IsCutIn (texts_of_kind l.kind) ts × AllWrittenIn (suc k) l.kind ts) (items_of ts) (html_of_all ts) rest refl h
-      (λ i. items_spelled ts (suc k) l.kind i.1)
+-- what is written is no group
+abbrev pub is_written : Writing → Bool
+is_written AsText = true
+is_written AsVoid = true
+is_written RoundCharacter = true
+is_written RoundChildren = true
+is_written Unwritten = false
 
-  pub items_spelled : (ts : Trees) (k : ℕ) (parent : Kind) → AllWrittenIn k parent ts → spell_items (items_of ts) ≡ html_of_all ts
-  items_spelled no_trees k parent h = refl
-  items_spelled (one_more t ts) k parent h = item_spelled t k parent (items_of ts) h.0 ∙ ap (λ x. html t ++ x) (items_spelled ts k parent h.2)
+pub written_by : (w : Writing) (k : ℕ) (parent : Kind) (l : Label) (childless : Bool) (H : Type 0) → NodeIsWritten w k parent l childless H → is_written w ≡ true
+written_by AsText k parent l childless H h = refl
+written_by AsVoid k parent l childless H h = refl
+written_by RoundCharacter k parent l childless H h = refl
+written_by RoundChildren k parent l childless H h = refl
+written_by Unwritten k parent l childless H h = absurd h
+
+not_group : (k : Kind) → is_written (writing k) ≡ true → is_group k ≡ false
+not_group kind.Group e = absurd (cc e)
+not_group k e = refl
+
+node_html : (l : Label) (ts : Trees) (n : ℕ) → is_written (writing l.kind) ≡ true → written (writing l.kind) l (html_of_all n ts) ≡ html n (tree l ts)
+node_html l ts n e = sym (if_false (is_group l.kind) _ _ (not_group l.kind e))
+
+mutual
+  pub item_spelled : (t : Tree) (k : ℕ) (parent : Kind) (rest : Items) (n : ℕ) → WrittenIn k parent t
+      → spell_items (item_before t rest) ≡ html n t ++ spell_items rest
+  item_spelled (tree l ts) k parent rest n h =
+      spelled_by (writing l.kind) k parent l (is_childless ts)
+      (IsCutIn (texts_of_kind l.kind) ts × AllWrittenIn (suc k) l.kind ts) (items_of ts) (html_of_all n ts) rest refl h
+      (λ i. items_spelled ts (suc k) l.kind n i.1)
+      ∙ ap (λ x. x ++ spell_items rest) (node_html l ts n (written_by (writing l.kind) k parent l (is_childless ts) _ h))
+
+  pub items_spelled : (ts : Trees) (k : ℕ) (parent : Kind) (n : ℕ) → AllWrittenIn k parent ts → spell_items (items_of ts) ≡ html_of_all n ts
+  items_spelled no_trees k parent n h = refl
+  items_spelled (one_more t ts) k parent n h =
+      item_spelled t k parent (items_of ts) n h.0 ∙ ap (λ x. html n t ++ x) (items_spelled ts k parent (n + groups t) h.2)
 
 -- ---- they are good
 

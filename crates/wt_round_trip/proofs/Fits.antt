@@ -32,7 +32,7 @@ use Rattle.wt_round_trip.proofs.Said.{said_of}
 use Rattle.wt_round_trip.proofs.Rows.{is_as_void, is_round_character, IsElementKind, held_kind, held_numbered}
 use Rattle.wt_round_trip.proofs.Order.{pairs}
 use Rattle.wt_round_trip.proofs.Labels.{IsTold, told}
-use Rattle.wt_round_trip.proofs.Elements.{node_for, text_before, text_twice, marked_up, markup_before, markups_of}
+use Rattle.wt_round_trip.proofs.Elements.{is_written, written_by, node_for, text_before, text_twice, marked_up, markup_before, markups_of}
 
 -- ---- texts
 
@@ -539,13 +539,6 @@ some_append : (bs cs : List ℕ) → is_empty bs ≡ false → is_empty (bs ++ c
 some_append [] cs e = absurd (cc e)
 some_append (b ∷ bs) cs e = refl
 
-abbrev is_written : Writing → Bool
-is_written AsText = true
-is_written AsVoid = true
-is_written RoundCharacter = true
-is_written RoundChildren = true
-is_written Unwritten = false
-
 -- what is written of an element begins with no text
 before_other : (w : Writing) (own : List ℕ) (l : Label) (m ms : Markups) → is_as_text w ≡ false → is_written w ≡ true
     → is_empty own ≡ false → text_before own (marked_up w l m ms) ≡ more (text own) (marked_up w l m ms)
@@ -554,13 +547,6 @@ before_other AsVoid own l m ms a i e = before_child own l empty ms e
 before_other RoundCharacter own l m ms a i e = before_child own l (flush l.shown empty) ms e
 before_other RoundChildren own l m ms a i e = before_child own l m ms e
 before_other Unwritten own l m ms a i e = absurd (cc i)
-
-written_by : (w : Writing) (k : ℕ) (parent : Kind) (l : Label) (childless : Bool) (H : Type 0) → NodeIsWritten w k parent l childless H → is_written w ≡ true
-written_by AsText k parent l childless H h = refl
-written_by AsVoid k parent l childless H h = refl
-written_by RoundCharacter k parent l childless H h = refl
-written_by RoundChildren k parent l childless H h = refl
-written_by Unwritten k parent l childless H h = absurd h
 
 text_facts : (w : Writing) (k : ℕ) (parent : Kind) (l : Label) (childless : Bool) (H : Type 0) → is_as_text w ≡ true
     → NodeIsWritten w k parent l childless H → is_empty l.own ≡ false

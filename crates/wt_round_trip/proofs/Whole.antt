@@ -6,7 +6,9 @@ use lib.Utf8.{encode}
 use Rattle.wt_tree.specs.declared.kind.Kind.TheVariants as kind
 use Rattle.wt_tree.specs.Tree.{Label, Tree, tree, Trees}
 use Rattle.wt_tree.specs.Kinds.{writing, spelling, element_name}
-use Rattle.wt_markup.specs.Html.{written, html, html_of_all, frame_start, frame_end, html_text}
+use Rattle.wt_tree.specs.Plain.{ended, plains_before}
+use Rattle.wt_tree.specs.Tiling.{is_group}
+use Rattle.wt_markup.specs.Html.{written, group_html, html, html_of_all, frame_start, frame_end, html_text}
 use Rattle.wt_html_grammar.specs.Grammar.{plain, Attribute, slash, Element, element, void, none, child, spell, IsElement, Document, spell_document, IsDocument}
 use Rattle.wt_html_grammar.specs.Markup.{Pair, Markup, Markups, node, empty, more, meaning, Stands}
 use Rattle.wt_html_grammar.specs.Events.{Building}
@@ -123,9 +125,9 @@ written_stands (tree l ts) h =
     let k : IsElementKind l.kind l.attrs = body_is_kind l h.0 h.1 in
     let t : IsTold l = told l k h.1 in
     let e : Element = element_for l (items_of ts) in
-    let same : html (tree l ts) ≡ spell e =
-    ap (λ j. written (writing j) l (html_of_all ts)) h.0
-    ∙ sym (element_spelled l (items_of ts) (html_of_all ts) (attributes_spelled l t (small_id l h.1)) (items_spelled ts 2 kind.Body h.2)) in (
+    let same : html 0 (tree l ts) ≡ spell e =
+    ap (λ j. if is_group j then group_html 1 l (plains_before ts ended) else written (writing j) l (html_of_all 0 ts)) h.0
+    ∙ sym (element_spelled l (items_of ts) (html_of_all 0 ts) (attributes_spelled l t (small_id l h.1)) (items_spelled ts 2 kind.Body 0 h.2)) in (
       page_markup (node_for l (markups_of ts)),
       (
         document e,

@@ -12,7 +12,8 @@ use Rattle.wt_span.specs.Braces.{Member, lexeme, call, members, width_of_all, Ca
 use Rattle.wt_expand.specs.Expansion.{Output, Reading, just, then_output, joined, lexeme_items, chars, outputs_of}
 use Rattle.wt_transclusion.specs.Marks.{Mark, opens, closes, word_marks, marks_of_all}
 use Rattle.wt_transclusion.specs.Cursors.{starts}
-use Rattle.wt_transclusion.specs.Steps.{given_from, IsTaken}
+use Rattle.wt_transclusion.specs.Steps.{given_from, IsTaken, Leads, one_lexeme, one_more}
+use Rattle.wt_transclusion.specs.Steps as steps
 use Rattle.wt_transclusion.specs.Stretch.{AllFull, calls_before, BeginBehind, IsStretch}
 use Rattle.wt_transclusion.proofs.StretchLaws.{before_more, behind_later}
 use Rattle.wt_transclusion.proofs.StretchCuts.{stretch_back}
@@ -37,6 +38,7 @@ whole_lexeme w cs t kind p n e ys s =
     record {
       left = ys;
       stretch = subst (λ k. IsStretch w cs k e ys) z (stretch_back w cs p e (lexeme (kind, n) ∷ []) ys s);
+      leads = subst (λ k. Leads kind k (lexeme (kind, n) ∷ ys) ys) d (one_lexeme kind n ys);
       gives = λ r st. first_gives t p n kind ys r st s.full.0
           ∙ ap (λ k. then_output (just (lexeme_items r.mode kind (take k (drop p t)))) (given_from r (starts t (p + n)) t (p + n) ys)) d;
     }
@@ -124,9 +126,17 @@ one_brace : (w : List Mark) (cs : List CallAt) (t : List ℕ) (kind : LexKind) (
 one_brace w cs t kind m p zero e ys run s = absurd (let z : 1 ≤ 0 = s.full.0 in omega arith)
 one_brace w cs t kind m p (suc zero) e ys run s = whole_lexeme w cs t kind p 1 e ys s
 one_brace w cs t kind m p (suc (suc n)) e ys run s =
+    let zs = lexeme (kind, suc n) ∷ ys in
     let split = split_stretch w cs p e (suc n) kind m ys run (omega arith) s in
-    let f = whole_lexeme w cs t kind p 1 e (lexeme (kind, suc n) ∷ ys) split in
-    record { left = f.left; stretch = f.stretch; gives = λ r st. split_gives t p (suc n) kind m ys r st run (omega arith) ∙ f.gives r st }
+    let z : p + (1 + 0) ≡ p + 1 = omega arith in
+    let d : 1 ≡ (p + 1) - p = omega arith in
+    record {
+      left = zs;
+      stretch = subst (λ k. IsStretch w cs k e zs) z (stretch_back w cs p e (lexeme (kind, 1) ∷ []) zs split);
+      leads = subst (λ k. Leads kind k (lexeme (kind, suc (suc n)) ∷ ys) zs) d (steps.one_brace kind n ys (λ md bs. run_chars kind m md bs run));
+      gives = λ r st. split_gives t p (suc n) kind m ys r st run (omega arith) ∙ first_gives t p 1 kind zs r st (omega arith)
+          ∙ ap (λ k. then_output (just (lexeme_items r.mode kind (take k (drop p t)))) (given_from r (starts t (p + 1)) t (p + 1) zs)) d;
+    }
 
 -- the first byte of a lexeme tells its kind
 first_mark : (k kind : LexKind) (m : Mark) (n : ℕ) (after rest : List Mark) → 1 ≤ n → IsRun kind m → word_marks k n ++ after ≡ m ∷ rest → k ≡ kind
@@ -179,6 +189,9 @@ joined_reads w cs t kind m p n e xs run f g =
     subst (λ q. IsTaken w cs t kind p q e xs) z (record {
       left = g.left;
       stretch = g.stretch;
+      leads = subst (λ j. Leads kind j xs g.left) d
+          (one_more kind n xs f.left g.left (λ md bs. run_chars kind m md bs run) (subst (λ j. Leads kind j xs f.left) (sym one) f.leads)
+          (subst (λ j. Leads kind j f.left g.left) (sym k) g.leads));
       gives = λ r s.
           let o = given_from r (starts t (p + 1 + n)) t (p + 1 + n) g.left in
           f.gives r s ∙ ap (then_output (just (lexeme_items r.mode kind (take ((p + 1) - p) (drop p t))))) (g.gives r (starts t (p + 1)))

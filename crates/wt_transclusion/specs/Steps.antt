@@ -1,10 +1,10 @@
 -- What is read of a stretch in one step.
-use Rattle.std.specs.Prelude.{◌≡◌, ◌<◌, ◌≤◌, ℕ, ◌-◌, Bool, List, ◌∷◌, take, drop}
+use Rattle.std.specs.Prelude.{◌≡◌, ◌<◌, ◌≤◌, ℕ, suc, ◌-◌, Bool, List, ◌∷◌, take, drop}
 use Rattle.wt_span.specs.declared.form.Mode.{Mode}
 use Rattle.wt_span.specs.declared.form.LexKind.{LexKind}
 use Rattle.wt_span.specs.Lexemes.{words}
-use Rattle.wt_span.specs.Braces.{Member, Members, call, members, CallAt, calls}
-use Rattle.wt_expand.specs.Expansion.{Output, Reading, just, then_output, joined, lexeme_items, outputs_of}
+use Rattle.wt_span.specs.Braces.{Member, Members, lexeme, call, members, CallAt, calls}
+use Rattle.wt_expand.specs.Expansion.{Output, Reading, just, then_output, joined, chars, lexeme_items, outputs_of}
 use Rattle.wt_transclusion.specs.declared.cursor.Next.{Next}
 use Rattle.wt_transclusion.specs.declared.cursor.Next.TheVariants as next
 use Rattle.wt_transclusion.specs.Cursors.{starts}
@@ -15,10 +15,20 @@ use Rattle.wt_transclusion.specs.Stretch.{calls_before, IsStretch}
 abbrev pub given_from : Reading → Bool → List ℕ → ℕ → List Member → Output
 given_from r s t p xs = joined (outputs_of r s (drop p t) (members xs))
 
+-- Lexemes of one kind stand first, with so many bytes, and these members are left behind them. A run of braces may be cut anywhere,
+-- since each of its bytes is a character by itself.
+pub data Leads : LexKind → ℕ → List Member → List Member → Type 0 where
+  one_lexeme : (kind : LexKind) (n : ℕ) (ys : List Member) → Leads kind n (lexeme (kind, n) ∷ ys) ys
+  one_brace : (kind : LexKind) (n : ℕ) (ys : List Member) → ((m : Mode) (bs : List ℕ) → lexeme_items m kind bs ≡ chars bs)
+      → Leads kind 1 (lexeme (kind, suc (suc n)) ∷ ys) (lexeme (kind, suc n) ∷ ys)
+  one_more : (kind : LexKind) (n : ℕ) (xs ys zs : List Member) → ((m : Mode) (bs : List ℕ) → lexeme_items m kind bs ≡ chars bs)
+      → Leads kind 1 xs ys → Leads kind n ys zs → Leads kind (suc n) xs zs
+
 -- Bytes of a lexeme of this kind are taken from a place up to another one, and the members that are left stand in a stretch.
 pub record IsTaken (w : List Mark) (cs : List CallAt) (t : List ℕ) (kind : LexKind) (p q e : ℕ) (xs : List Member) : Type 0 where
   pub left : List Member
   pub stretch : IsStretch w cs q e left
+  pub leads : Leads kind (q - p) xs left
   pub gives : (r : Reading) (s : Bool) → given_from r s t p xs
       ≡ then_output (just (lexeme_items r.mode kind (take (q - p) (drop p t)))) (given_from r (starts t q) t q left)
 

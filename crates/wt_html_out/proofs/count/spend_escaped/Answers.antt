@@ -1,13 +1,13 @@
-use Rattle.std.proofs.Common.{◌≡◌, ◌∙◌, ◌++◌, get_or, ap}
-use Rattle.std.proofs.lemmas.List.{drop_more}
-use Rattle.wt_markup.specs.Escapes.{escape}
-use Rattle.wt_html_out.proofs.Spending.{spends_stop}
+use Rattle.wt_html_out.proofs.Runs.{rest_too_long, more_spent}
 use Rattle.wt_html_out.proofs.count.spend_escaped.Goals as goal
 
 pub returns-in_default : goal.returns-in_default
 returns-in_default c =
-    let i = c.loop-byte.byte-index in
-    let e : c.as_slice.result.now ≡ escape (get_or c.args.text.now i 0) =
-    c.as_slice.ensures.value ∙ c.in_ok-push_byte.ensures ∙ ap (λ xs. xs ++ escape (get_or c.args.text.now i 0)) c.clear.ensures.items in
-    spends_stop escape c.args.text.now i (get_or c.args.text.now i 0) c.args.left c.loop-byte.left
-    (drop_more c.args.text.now i 0 c.loop-byte-test.true) c.loop-byte.invariant (rw e at c.in_default.ensures)
+    rest_too_long c.args.left c.loop-at.left c.loop-at.at c.args.text.now c.rest_of.result.now c.in_ok-count.field-0 c.in_default.is c.rest_of.ensures
+    c.loop-at.invariant.spent c.in_ok-count.ensures.spent
+
+pub loop-at-preserved : goal.loop-at-preserved
+loop-at-preserved c =
+    let m = more_spent c.args.left c.loop-at.left c.loop-at.at c.in-Some.count c.in-Some.rest c.args.text.now c.rest_of.result.now c.in_ok-count.field-0
+    _ c.in-Some.is c.in-Some.count-is c.in-Some.rest-is c.rest_of.ensures c.loop-at.invariant.within c.loop-at.invariant.spent c.in_ok-count.ensures.spent in
+    record { within = m.0; spent = m.1 }

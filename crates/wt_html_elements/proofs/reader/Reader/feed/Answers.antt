@@ -1,4 +1,4 @@
-use Rattle.wt_html_elements.proofs.Feeding.{failed_fed, failed_right, front_clause, refused_clause}
+use Rattle.wt_html_elements.proofs.Feeding.{failed_fed, failed_right, failed_ill, front_clause, refused_clause, ill_clause}
 use Rattle.wt_html_elements.proofs.reader.Reader.feed.Goals as goal
 
 pub returns-in-Some-clause-fed : goal.returns-in-Some-clause-fed
@@ -12,3 +12,9 @@ returns-in-None-clause-front c = front_clause c.feed_all.new.self c.feed_all.res
 
 pub returns-in-None-clause-refused : goal.returns-in-None-clause-refused
 returns-in-None-clause-refused c = refused_clause c.feed_all.new.self c.feed_all.result c.feed_all.ensures.answer
+
+pub returns-in-Some-clause-ill : goal.returns-in-Some-clause-ill
+returns-in-Some-clause-ill c = λ bytes h. failed_ill c.args.self.now.failed c.in-Some.refusal c.args.self.now bytes c.in-Some.is h
+
+pub returns-in-None-clause-ill : goal.returns-in-None-clause-ill
+returns-in-None-clause-ill c = ill_clause c.feed_all.new.self c.feed_all.result c.feed_all.ensures.answer

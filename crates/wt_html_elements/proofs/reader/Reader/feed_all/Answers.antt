@@ -1,7 +1,18 @@
-use Rattle.wt_html_elements.proofs.Feeding.{rest_fed}
+use Rattle.std.proofs.Common.{ap, length, length-drop, arith}
+use Rattle.wt_html_elements.proofs.Feeding.{some_fed, rest_fed, is_some_fed}
 use Rattle.wt_html_elements.proofs.reader.Reader.feed_all.Goals as goal
 
-pub returns-in_err-feed_byte-clause-fed : goal.returns-in_err-feed_byte-clause-fed
-returns-in_err-feed_byte-clause-fed c = λ bytes h.
-    rest_fed c.feed_byte.new.self _ bytes c.args.piece.now c.loop-byte.byte-index c.loop-byte-test.true c.in_err-feed_byte.ensures.answer
-    (c.feed_byte.ensures.fed _ (c.loop-byte.invariant.fed bytes h))
+pub loop-at-preserved : goal.loop-at-preserved
+loop-at-preserved c = record {
+  within = omega (arith, c.in_ok-at.ensures.within, ap length c.rest_of.ensures, length-drop c.loop-at.at c.args.piece.now, c.loop-at.invariant.within);
+  going = c.in_ok-at.ensures.going;
+  count = omega (arith, c.in_ok-at.ensures.count, c.loop-at.invariant.count);
+  fed = λ bytes h.
+      some_fed c.feed_some.new.self bytes c.args.piece.now c.rest_of.result.now c.loop-at.at c.in_ok-at.field-0 c.rest_of.ensures
+      (c.in_ok-at.ensures.fed _ (c.loop-at.invariant.fed bytes h));
+}
+
+pub returns-in_err-at-clause-fed : goal.returns-in_err-at-clause-fed
+returns-in_err-at-clause-fed c = λ bytes h.
+    rest_fed c.feed_some.new.self bytes c.args.piece.now c.rest_of.result.now c.loop-at.at c.rest_of.ensures
+    (is_some_fed c.feed_some.new.self.failed _ _ c.in_err-at.ensures.failed (c.feed_some.ensures.refused _ (c.loop-at.invariant.fed bytes h)))

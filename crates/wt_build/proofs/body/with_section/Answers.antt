@@ -1,0 +1,12 @@
+use Rattle.wt_span.specs.Items.{items}
+use Rattle.wt_inline.specs.Grown.{growth}
+use Rattle.wt_build.specs.Unread.{left}
+use Rattle.wt_build.proofs.Sections.{carries_section}
+use Rattle.wt_build.proofs.body.with_section.Goals as goal
+
+pub returns-clause-grown : goal.returns-clause-grown
+returns-clause-grown c =
+    let page = c.in_ok-page.page in
+    carries_section (growth c.args.children) (growth c.in_ok-grown.grown) (items (left c.args.rest)) (items (left c.in_ok-page.after))
+    c.as_slice-pieces.result.now page.pieces c.as_slice.result.now page.rows c.in_ok-stretches.stretches c.as_slice-pieces.ensures c.as_slice.ensures
+    c.in_ok-stretches.ensures c.in_ok-grown.ensures c.in_ok-page.ensures.first

@@ -1,0 +1,8 @@
+-- What is written of a node that may be kept.
+use Rattle.std.specs.Prelude.{◌≡◌, Bool, true, false, List, ◌++◌}
+use Rattle.wt_guards.specs.Content.{Sign}
+
+-- A kept node was written as it stood, or there is nothing yet and what is new is wanted.
+abbrev pub Leaves : Bool → List Sign → List Sign → (List Sign → List Sign) → Type 0
+Leaves true old new by = (signs : List Sign) → new ≡ old ++ by signs
+Leaves false old new by = (new ≡ old) × ((signs : List Sign) → by signs ≡ signs)

@@ -1,0 +1,536 @@
+//! The edited content as units: texts as they stand in the edited tree, and nodes with what they
+//! write.
+
+ghost use Rattle.std.specs.Prelude.{◌≡◌, [], ◌∷◌, ◌++◌, OnOk, IfOk, List, Bool, Some, None, option_map, string_bytes};
+ghost use Rattle.wt_tree.specs.Tree.{Tree};
+ghost use Rattle.wt_tree.specs.View.{view, views, label_of};
+ghost use Rattle.wt_tree.specs.declared.node.Node.{out-Node};
+ghost use Rattle.wt_guards.specs.Content.{thing, letters};
+ghost use Rattle.wt_guards.specs.Guards.{nowiki};
+ghost use Rattle.wt_kept.specs.Kept.{shown};
+ghost use Rattle.wt_kept.specs.Kinds.{shape};
+ghost use Rattle.wt_kept.specs.Gathered.{kept_view};
+ghost use Rattle.wt_kept.specs.Page.{TellsSame};
+ghost use Rattle.wt_escape.specs.Spelling.{place_of, kept_thing, new_thing, as_it_stood, unless_kept, is_style, stretch, opening_place, closing_place, toggle, or_nowiki, style, spelled_within, break_tag, href_of, page_link, external_link, tag_pair, signs_of, signs_of_all};
+ghost use Rattle.wt_kept.specs.PageViews.{page_view};
+ghost use Rattle.wt_escape.specs.Units.{Leaves};
+ghost use Rattle.wt_guards.specs.Views.{all_signs};
+ghost use Rattle.wt_names.specs.Written.{read_link};
+ghost use Rattle.wt_guards.specs.declared.role.Role.TheVariants as role;
+
+use crate::links::{external_link, page_link, tag_pair};
+use std::alloc::{AllocError, Global};
+use wt_guards::{Place, Role, Setting, Signs, Stretch, Thing, Unit, spelling_of};
+use wt_kept::{Kept, Page, Way, is_unchanged, shape, shown_text, text_len};
+use wt_span::{NoMemory, Str};
+use wt_tree::{Node, flat};
+
+// ---- one unit
+
+fn push_text<'t>(out: &mut Vec<Unit<'t>>, text: &'t str) -> Result<(), AllocError>
+    ensures { OnOk result (all_signs out.new.items ≡ all_signs out.old.items ++ letters text.now) }
+{
+    if !text.is_empty() {
+        out.push(Unit::Text(text))?;
+    }
+    Ok(())
+}
+
+/// The same of a text that was put together.
+fn push_copied(out: &mut Vec<Unit<'_>>, text: Str) -> Result<(), NoMemory>
+    ensures { OnOk result (all_signs out.new.items ≡ all_signs out.old.items ++ letters text) }
+{
+    if !text.as_str().is_empty() {
+        out.push(Unit::Copied(text))?;
+    }
+    Ok(())
+}
+
+fn push_thing(
+    out: &mut Vec<Unit<'_>>,
+    role: Role,
+    source: Str,
+    place: Option<Stretch>,
+) -> Result<(), NoMemory>
+    ensures { OnOk result (all_signs out.new.items ≡ all_signs out.old.items ++ thing (record { role = role; source = source; place = place }) ∷ []) }
+{
+    out.push(Unit::Thing(Thing {
+        role,
+        source,
+        place,
+    }))?;
+    Ok(())
+}
+
+/// A kept node as it stands in the page.
+fn push_kept(alloc: Global, out: &mut Vec<Unit<'_>>, kept: Kept<'_, '_>) -> Result<(), NoMemory>
+    ensures { OnOk result (all_signs out.new.items ≡ all_signs out.old.items ++ kept_thing (kept_view kept.entry) ∷ []) }
+{
+    let source = flat(alloc, kept.node)?;
+    push_thing(out, kept.role, source, Some(kept.place))?;
+    Ok(())
+}
+
+fn push_as_it_stood(
+    alloc: Global,
+    out: &mut Vec<Unit<'_>>,
+    kept: Option<Kept<'_, '_>>,
+) -> Result<(), NoMemory>
+    ensures { OnOk result (all_signs out.new.items ≡ all_signs out.old.items ++ as_it_stood (option_map kept_view kept.entry)) }
+{
+    match kept {
+        Some(kept) => push_kept(alloc, out, kept)?,
+        None => push_thing(out, Role::Node, Str::new(alloc), None)?,
+    }
+    Ok(())
+}
+
+fn place_of(kept: Option<Kept<'_, '_>>) -> Option<Stretch>
+    ensures { result ≡ place_of (option_map kept_view kept.entry) }
+{
+    match kept {
+        Some(kept) => Some(kept.place),
+        None => None,
+    }
+}
+
+/// A new node, or a changed one.
+fn push_new(
+    out: &mut Vec<Unit<'_>>,
+    role: Role,
+    source: Str,
+    kept: Option<Kept<'_, '_>>,
+) -> Result<(), NoMemory>
+    ensures { OnOk result (all_signs out.new.items ≡ all_signs out.old.items ++ new_thing role source (option_map kept_view kept.entry)) }
+{
+    push_thing(out, role, source, place_of(kept))?;
+    Ok(())
+}
+
+/// The characters that a changed node shows.
+fn push_shown(alloc: Global, out: &mut Vec<Unit<'_>>, node: &Node<'_>) -> Result<(), NoMemory>
+    ensures { OnOk result (all_signs out.new.items ≡ all_signs out.old.items ++ letters (shown (view node.now))) }
+{
+    let text = shown_text(alloc, node)?;
+    push_copied(out, Str::from_string(text))?;
+    Ok(())
+}
+
+// ---- unchanged nodes
+
+/// Appends a kept node as it stands in the page where it is unchanged, and says whether it is.
+fn push_old(
+    alloc: Global,
+    out: &mut Vec<Unit<'_>>,
+    page: &Page<'_, '_>,
+    old: Kept<'_, '_>,
+    node: &Node<'_>,
+) -> Result<bool, NoMemory>
+    ensures { (same : Tree → Tree → Bool) → TellsSame same → IfOk result (λ done. Leaves done (all_signs out.old.items) (all_signs out.new.items) (unless_kept (page_view same page.now) (Some (kept_view old.entry)) (view node.now))) }
+{
+    let same = is_unchanged(alloc, page, old, node)?;
+    if !same {
+        return Ok(false);
+    }
+    push_kept(alloc, out, old)?;
+    Ok(true)
+}
+
+/// The same of a node that may be kept.
+fn push_if_unchanged(
+    alloc: Global,
+    out: &mut Vec<Unit<'_>>,
+    page: &Page<'_, '_>,
+    kept: Option<Kept<'_, '_>>,
+    node: &Node<'_>,
+) -> Result<bool, NoMemory>
+    ensures { (same : Tree → Tree → Bool) → TellsSame same → IfOk result (λ done. Leaves done (all_signs out.old.items) (all_signs out.new.items) (unless_kept (page_view same page.now) (option_map kept_view kept.entry) (view node.now))) }
+{
+    match kept {
+        Some(old) => {
+            let done = push_old(alloc, out, page, old, node)?;
+            Ok(done)
+        }
+        None => Ok(false),
+    }
+}
+
+// ---- styles
+
+fn stretch(start: usize, end: usize) -> Option<Stretch>
+    ensures { result ≡ stretch start end }
+{
+    if start == end {
+        None
+    } else {
+        Some(Stretch { start, end })
+    }
+}
+
+fn is_style(way: Way) -> bool
+    ensures { result ≡ is_style way }
+{
+    match way {
+        Way::Bold | Way::Italic => true,
+        Way::Nothing
+        | Way::Characters
+        | Way::Shown
+        | Way::PageLink
+        | Way::ExternalLink
+        | Way::Tag
+        | Way::Break
+        | Way::AsItStood => false,
+    }
+}
+
+/// Where the opening delimiter of a kept style stands.
+fn opening_place(alloc: Global, kept: Option<Kept<'_, '_>>) -> Result<Option<Stretch>, NoMemory>
+    ensures { IfOk result (λ place. place ≡ opening_place (option_map kept_view kept.entry)) }
+{
+    let Some(kept) = kept else {
+        return Ok(None);
+    };
+    if !is_style(shape(kept.node.kind).way) {
+        return Ok(None);
+    }
+    let length = text_len(alloc, kept.node.opening.as_slice())?;
+    // No block that is in memory is so long.
+    let Some(end) = kept.place.start.checked_add(length) else {
+        return Err(NoMemory);
+    };
+    Ok(stretch(kept.place.start, end))
+}
+
+fn closing_place(alloc: Global, kept: Option<Kept<'_, '_>>) -> Result<Option<Stretch>, AllocError>
+    ensures { IfOk result (λ place. place ≡ closing_place (option_map kept_view kept.entry)) }
+{
+    let Some(kept) = kept else {
+        return Ok(None);
+    };
+    if !is_style(shape(kept.node.kind).way) {
+        return Ok(None);
+    }
+    let length = text_len(alloc, kept.node.closing.as_slice())?;
+    Ok(stretch(kept.place.end.saturating_sub(length), kept.place.end))
+}
+
+fn push_toggle(
+    alloc: Global,
+    out: &mut Vec<Unit<'_>>,
+    sign: &str,
+    place: Option<Stretch>,
+) -> Result<(), NoMemory>
+    ensures { OnOk result (all_signs out.new.items ≡ all_signs out.old.items ++ toggle sign.now place ∷ []) }
+{
+    let source = Str::copy_of(alloc, sign)?;
+    push_thing(out, Role::Toggle, source, place)?;
+    Ok(())
+}
+
+fn push_all<'t>(out: &mut Vec<Unit<'t>>, units: Vec<Unit<'t>>) -> Result<(), AllocError>
+    ensures { OnOk result (all_signs out.new.items ≡ all_signs out.old.items ++ all_signs units.entry.items) }
+{
+    for unit in units {
+        out.push(unit)?;
+    }
+    Ok(())
+}
+
+#[tactic(auto, unfolding(wt_guards::specs::Guards::nowiki))]
+fn nowiki_source(alloc: Global) -> Result<Str, NoMemory>
+    ensures { IfOk result (λ s. s ≡ nowiki) }
+{
+    Str::copy_of(alloc, "<nowiki/>")
+}
+
+fn push_nowiki(alloc: Global, out: &mut Vec<Unit<'_>>) -> Result<(), NoMemory>
+    ensures { OnOk result (all_signs out.new.items ≡ all_signs out.old.items ++ new_thing role.Node nowiki None) }
+{
+    let source = nowiki_source(alloc)?;
+    push_new(out, Role::Node, source, None)?;
+    Ok(())
+}
+
+/// An empty inside is `<nowiki/>`.
+fn push_or_nowiki<'t>(
+    alloc: Global,
+    out: &mut Vec<Unit<'t>>,
+    inside: Vec<Unit<'t>>,
+) -> Result<(), NoMemory>
+    ensures { OnOk result (all_signs out.new.items ≡ all_signs out.old.items ++ or_nowiki (all_signs inside.entry.items)) }
+{
+    if Signs::of(inside.as_slice()).is_empty() {
+        push_nowiki(alloc, out)?;
+    } else {
+        push_all(out, inside)?;
+    }
+    Ok(())
+}
+
+fn push_style_round<'t>(
+    alloc: Global,
+    out: &mut Vec<Unit<'t>>,
+    sign: &str,
+    kept: Option<Kept<'_, '_>>,
+    inside: Vec<Unit<'t>>,
+) -> Result<(), NoMemory>
+    ensures { OnOk result (all_signs out.new.items ≡ all_signs out.old.items ++ style sign.now (option_map kept_view kept.entry) (all_signs inside.entry.items)) }
+{
+    let opening = opening_place(alloc, kept)?;
+    let closing = closing_place(alloc, kept)?;
+    push_toggle(alloc, out, sign, opening)?;
+    push_or_nowiki(alloc, out, inside)?;
+    push_toggle(alloc, out, sign, closing)?;
+    Ok(())
+}
+
+// ---- all nodes
+
+/// Appends the signs of a node of the edited content.
+#[cycle(signs)]
+fn push_signs<'t>(
+    alloc: Global,
+    out: &mut Vec<Unit<'t>>,
+    page: &Page<'_, '_>,
+    place: Place,
+    node: &'t Node<'_>,
+) -> Result<(), NoMemory>
+    ensures { (same : Tree → Tree → Bool) → TellsSame same → OnOk result (all_signs out.new.items ≡ all_signs out.old.items ++ signs_of (page_view same page.now) place (view node.now)) }
+{
+    let kept = page.find(node.id);
+    match shape(node.kind).way {
+        Way::Nothing => Ok(()),
+        Way::Characters => {
+            push_text(out, node.shown.as_str())?;
+            Ok(())
+        }
+        Way::Bold => {
+            push_style(alloc, out, page, place, "'''", kept, node)?;
+            Ok(())
+        }
+        Way::Italic => {
+            push_style(alloc, out, page, place, "''", kept, node)?;
+            Ok(())
+        }
+        Way::Shown => {
+            push_shown_unless(alloc, out, page, kept, node)?;
+            Ok(())
+        }
+        Way::PageLink => {
+            push_page_link(alloc, out, page, place, kept, node)?;
+            Ok(())
+        }
+        Way::ExternalLink => {
+            push_external_link(alloc, out, page, place, kept, node)?;
+            Ok(())
+        }
+        Way::Tag => {
+            push_tag(alloc, out, page, place, kept, node)?;
+            Ok(())
+        }
+        Way::Break => {
+            push_break(alloc, out, page, kept, node)?;
+            Ok(())
+        }
+        Way::AsItStood => {
+            push_as_it_stood(alloc, out, kept)?;
+            Ok(())
+        }
+    }
+}
+
+#[cycle(signs)]
+fn push_style<'t>(
+    alloc: Global,
+    out: &mut Vec<Unit<'t>>,
+    page: &Page<'_, '_>,
+    place: Place,
+    sign: &str,
+    kept: Option<Kept<'_, '_>>,
+    node: &'t Node<'_>,
+) -> Result<(), NoMemory>
+    ensures { (same : Tree → Tree → Bool) → TellsSame same → OnOk result (all_signs out.new.items ≡ all_signs out.old.items ++ style sign.now (option_map kept_view kept.entry) (signs_of_all (page_view same page.now) place (views (out-Node node.now).children))) }
+{
+    let inside = units_of(alloc, page, place, node.children.as_slice())?;
+    push_style_round(alloc, out, sign, kept, inside)?;
+    Ok(())
+}
+
+fn push_shown_unless(
+    alloc: Global,
+    out: &mut Vec<Unit<'_>>,
+    page: &Page<'_, '_>,
+    kept: Option<Kept<'_, '_>>,
+    node: &Node<'_>,
+) -> Result<(), NoMemory>
+    ensures { (same : Tree → Tree → Bool) → TellsSame same → OnOk result (all_signs out.new.items ≡ all_signs out.old.items ++ unless_kept (page_view same page.now) (option_map kept_view kept.entry) (view node.now) (letters (shown (view node.now)))) }
+{
+    let done = push_if_unchanged(alloc, out, page, kept, node)?;
+    if done {
+        return Ok(());
+    }
+    push_shown(alloc, out, node)?;
+    Ok(())
+}
+
+fn push_break(
+    alloc: Global,
+    out: &mut Vec<Unit<'_>>,
+    page: &Page<'_, '_>,
+    kept: Option<Kept<'_, '_>>,
+    node: &Node<'_>,
+) -> Result<(), NoMemory>
+    ensures { (same : Tree → Tree → Bool) → TellsSame same → OnOk result (all_signs out.new.items ≡ all_signs out.old.items ++ unless_kept (page_view same page.now) (option_map kept_view kept.entry) (view node.now) (new_thing role.Node break_tag (option_map kept_view kept.entry))) }
+{
+    let done = push_if_unchanged(alloc, out, page, kept, node)?;
+    if done {
+        return Ok(());
+    }
+    let source = break_source(alloc)?;
+    push_new(out, Role::Node, source, kept)?;
+    Ok(())
+}
+
+#[tactic(auto, unfolding(crate::specs::Spelling::break_tag))]
+fn break_source(alloc: Global) -> Result<Str, NoMemory>
+    ensures { IfOk result (λ s. s ≡ break_tag) }
+{
+    Str::copy_of(alloc, "<br>")
+}
+
+#[cycle(signs)]
+fn page_link_source(
+    alloc: Global,
+    page: &Page<'_, '_>,
+    place: Place,
+    node: &Node<'_>,
+) -> Result<Str, NoMemory>
+    ensures { (same : Tree → Tree → Bool) → TellsSame same → IfOk result (λ s. s ≡ page_link (read_link (href_of (label_of (out-Node node.now)))) (views (out-Node node.now).children) (spelled_within (page_view same page.now) place (signs_of_all (page_view same page.now) place (views (out-Node node.now).children)))) }
+{
+    let inside = inside_of(alloc, page, place, node.children.as_slice())?;
+    page_link(alloc, node, inside.as_str())
+}
+
+#[cycle(signs)]
+fn push_page_link(
+    alloc: Global,
+    out: &mut Vec<Unit<'_>>,
+    page: &Page<'_, '_>,
+    place: Place,
+    kept: Option<Kept<'_, '_>>,
+    node: &Node<'_>,
+) -> Result<(), NoMemory>
+    ensures { (same : Tree → Tree → Bool) → TellsSame same → OnOk result (all_signs out.new.items ≡ all_signs out.old.items ++ unless_kept (page_view same page.now) (option_map kept_view kept.entry) (view node.now) (new_thing role.Link (page_link (read_link (href_of (label_of (out-Node node.now)))) (views (out-Node node.now).children) (spelled_within (page_view same page.now) place (signs_of_all (page_view same page.now) place (views (out-Node node.now).children)))) (option_map kept_view kept.entry))) }
+{
+    let done = push_if_unchanged(alloc, out, page, kept, node)?;
+    if done {
+        return Ok(());
+    }
+    let source = page_link_source(alloc, page, place, node)?;
+    push_new(out, Role::Link, source, kept)?;
+    Ok(())
+}
+
+#[cycle(signs)]
+fn external_source(
+    alloc: Global,
+    page: &Page<'_, '_>,
+    place: Place,
+    node: &Node<'_>,
+) -> Result<Str, NoMemory>
+    ensures { (same : Tree → Tree → Bool) → TellsSame same → IfOk result (λ s. s ≡ external_link (href_of (label_of (out-Node node.now))) (spelled_within (page_view same page.now) place (signs_of_all (page_view same page.now) place (views (out-Node node.now).children)))) }
+{
+    let inside = inside_of(alloc, page, place, node.children.as_slice())?;
+    external_link(alloc, node, inside.as_str())
+}
+
+#[cycle(signs)]
+fn push_external_link(
+    alloc: Global,
+    out: &mut Vec<Unit<'_>>,
+    page: &Page<'_, '_>,
+    place: Place,
+    kept: Option<Kept<'_, '_>>,
+    node: &Node<'_>,
+) -> Result<(), NoMemory>
+    ensures { (same : Tree → Tree → Bool) → TellsSame same → OnOk result (all_signs out.new.items ≡ all_signs out.old.items ++ unless_kept (page_view same page.now) (option_map kept_view kept.entry) (view node.now) (new_thing role.External (external_link (href_of (label_of (out-Node node.now))) (spelled_within (page_view same page.now) place (signs_of_all (page_view same page.now) place (views (out-Node node.now).children)))) (option_map kept_view kept.entry))) }
+{
+    let done = push_if_unchanged(alloc, out, page, kept, node)?;
+    if done {
+        return Ok(());
+    }
+    let source = external_source(alloc, page, place, node)?;
+    push_new(out, Role::External, source, kept)?;
+    Ok(())
+}
+
+#[cycle(signs)]
+fn tag_source(
+    alloc: Global,
+    page: &Page<'_, '_>,
+    place: Place,
+    kept: Option<Kept<'_, '_>>,
+    node: &Node<'_>,
+) -> Result<Str, NoMemory>
+    ensures { (same : Tree → Tree → Bool) → TellsSame same → IfOk result (λ s. s ≡ tag_pair (option_map kept_view kept.entry) (spelled_within (page_view same page.now) place (signs_of_all (page_view same page.now) place (views (out-Node node.now).children)))) }
+{
+    let inside = inside_of(alloc, page, place, node.children.as_slice())?;
+    tag_pair(alloc, kept, inside.as_str())
+}
+
+#[cycle(signs)]
+fn push_tag(
+    alloc: Global,
+    out: &mut Vec<Unit<'_>>,
+    page: &Page<'_, '_>,
+    place: Place,
+    kept: Option<Kept<'_, '_>>,
+    node: &Node<'_>,
+) -> Result<(), NoMemory>
+    ensures { (same : Tree → Tree → Bool) → TellsSame same → OnOk result (all_signs out.new.items ≡ all_signs out.old.items ++ unless_kept (page_view same page.now) (option_map kept_view kept.entry) (view node.now) (new_thing role.Node (tag_pair (option_map kept_view kept.entry) (spelled_within (page_view same page.now) place (signs_of_all (page_view same page.now) place (views (out-Node node.now).children)))) (option_map kept_view kept.entry))) }
+{
+    let done = push_if_unchanged(alloc, out, page, kept, node)?;
+    if done {
+        return Ok(());
+    }
+    let source = tag_source(alloc, page, place, kept, node)?;
+    push_new(out, Role::Node, source, kept)?;
+    Ok(())
+}
+
+/// The units of the nodes.
+#[cycle(signs)]
+pub fn units_of<'t>(
+    alloc: Global,
+    page: &Page<'_, '_>,
+    place: Place,
+    nodes: &'t [Node<'_>],
+) -> Result<Vec<Unit<'t>>, NoMemory>
+    ensures { (same : Tree → Tree → Bool) → TellsSame same → IfOk result (λ units. all_signs units.items ≡ signs_of_all (page_view same page.now) place (views nodes.now)) }
+{
+    let mut units = Vec::new(alloc);
+    for node in nodes {
+        push_signs(alloc, &mut units, page, place, node)?;
+    }
+    Ok(units)
+}
+
+/// The inside of a link or tag.
+#[cycle(signs)]
+fn inside_of(
+    alloc: Global,
+    page: &Page<'_, '_>,
+    place: Place,
+    nodes: &[Node<'_>],
+) -> Result<String, NoMemory>
+    ensures { (same : Tree → Tree → Bool) → TellsSame same → IfOk result (λ s. string_bytes s ≡ spelled_within (page_view same page.now) place (signs_of_all (page_view same page.now) place (views nodes.now))) }
+{
+    let units = units_of(alloc, page, place, nodes)?;
+    let setting = Setting {
+        within: true,
+        place,
+        source: page.source.as_bytes(),
+    };
+    let inside = spelling_of(alloc, setting, units.as_slice())?;
+    Ok(inside)
+}

@@ -1,0 +1,6 @@
+//! A page with its templates expanded: its items with where they come from.
+#![tactic(auto)]
+
+mod laws;
+
+pub use laws::{page_is_sound, pieces_are_the_page};

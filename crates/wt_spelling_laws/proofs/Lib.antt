@@ -1,0 +1,5 @@
+pub mod ShownWords
+pub mod Forms
+pub mod TextReads
+pub mod Signs
+pub mod Lines

@@ -1,0 +1,32 @@
+//! Laws of the spelling, in the words of a reader of wikitext.
+#![tactic(auto)]
+
+ghost use Rattle.std.specs.Prelude.{◌≡◌, ℕ, List, Some, true, false, codes};
+ghost use Rattle.std.specs.Str.{IsUtf8};
+ghost use Rattle.wt_span.specs.declared.form.Mode.{Mode};
+ghost use Rattle.wt_guards.specs.Content.{letters};
+ghost use Rattle.wt_guards.specs.Guards.{Setting, spelled};
+ghost use Rattle.wt_spelling_laws.specs.Reading.{read_text, stands, are_text_lines};
+
+/// A text alone, whatever it is, is spelled to wikitext whose lexemes are characters, `=`, character
+/// references and empty nowikis, and they show the text.
+#[tactic(auto, using(crate::proofs::TextReads::text_reads_back))]
+pub fn text_reads_back()
+    ensures { (mode : Mode) (s : Setting) (text : List ℕ) → IsUtf8 text → read_text mode (spelled s (letters text)) ≡ Some text }
+{}
+
+/// Nor has it two apostrophes beside each other, two `_`, or a `://`, with which styles, switches and
+/// links without brackets begin.
+#[tactic(auto, using(crate::proofs::Signs::no_styles, crate::proofs::Signs::no_switches, crate::proofs::Signs::no_addresses))]
+pub fn text_has_no_signs()
+    ensures styles { (s : Setting) (text : List ℕ) → stands (codes "''") (spelled s (letters text)) ≡ false }
+    ensures switches { (s : Setting) (text : List ℕ) → stands (codes "__") (spelled s (letters text)) ≡ false }
+    ensures addresses { (s : Setting) (text : List ℕ) → stands (codes "://") (spelled s (letters text)) ≡ false }
+{}
+
+/// Outside links and tags, each of its lines begins with a character that begins no other block than
+/// a paragraph; none is empty.
+#[tactic(auto, using(crate::proofs::Lines::text_lines))]
+pub fn lines_stay_text()
+    ensures { (s : Setting) (text : List ℕ) → s.within ≡ false → are_text_lines true (spelled s (letters text)) ≡ true }
+{}
