@@ -5,7 +5,6 @@ use Rattle.std.specs.List.{AllByRecursion}
 use Rattle.std.proofs.lemmas.Bool.{cases_lt}
 use Rattle.std.proofs.lemmas.List.{take_all, drop_all, take-append-drop, get_or_append_left, map-append, length-map}
 use Rattle.std.proofs.lemmas.Str.{IsUtf8-nil}
-use Rattle.wt_span.specs.Bytes.{begins}
 use Rattle.wt_span.specs.Items.{Item, char, whole, sources, sign}
 use Rattle.wt_tree.specs.declared.kind.AttrName.{AttrName}
 use Rattle.wt_tree.specs.declared.kind.Kind.{Kind}
@@ -25,7 +24,7 @@ use Rattle.wt_tables.proofs.CellReads.{bar_some, low_opening}
 use Rattle.wt_tables.proofs.CellSteps.{split_low}
 use Rattle.wt_tables.proofs.Cuts.{cut_are}
 use Rattle.wt_body.specs.Rows.{Row, signs}
-use Rattle.wt_body.specs.Stretches.{Stretch, gap, block, block_len, before_end, stretches_parts}
+use Rattle.wt_body.specs.Stretches.{Stretch, gap, block_len, before_end, stretches_parts}
 use Rattle.wt_body.specs.Tables.{cell_kind, cell_by, cells_by}
 use Rattle.wt_page_round_trip.proofs.TextItems.{AreTexts, BeginsLow, cut_items_before}
 use Rattle.wt_page_round_trip.proofs.OfPage.{IsPageItem, ArePageItems}

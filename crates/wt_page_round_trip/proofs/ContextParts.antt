@@ -1,5 +1,5 @@
 -- The parts of a context, of the text of a link and of the inside of a pair of tags are written, with all that stands in them.
-use Rattle.std.proofs.Common.{◌≡◌, ℕ, zero, suc, ◌+◌, ◌-◌, ◌*◌, ◌<◌, ◌≤◌, ◌==◌, ◌⊎◌, Bool, true, false, not, Option, Some, None, List, [], ◌∷◌, ◌++◌, length, map, take, drop, IsUtf8, refl, sym, ap, ◌∙◌, subst, arith, inl, inr, append-nil}
+use Rattle.std.proofs.Common.{◌≡◌, ℕ, zero, suc, ◌+◌, ◌-◌, ◌*◌, ◌<◌, ◌==◌, ◌⊎◌, Bool, true, false, not, Option, Some, None, List, [], ◌∷◌, ◌++◌, length, map, drop, IsUtf8, refl, sym, subst, arith, inl, inr, append-nil}
 use Rattle.std.specs.Prelude.{◌||◌, if◌then◌else◌}
 use Rattle.std.specs.List.{AllByRecursion, flat_map}
 use Rattle.std.proofs.lemmas.Bool.{eqb-true}
@@ -10,9 +10,7 @@ use Rattle.wt_span.specs.Runs.{runs, IsRun, AreRuns}
 use Rattle.wt_span.proofs.RunLaws.{runs_are}
 use Rattle.wt_tree.specs.declared.kind.Kind.TheVariants as node_kind
 use Rattle.wt_tree.specs.declared.kind.AttrName.TheVariants as attr
-use Rattle.wt_tree.specs.declared.kind.TagName.{TagName}
 use Rattle.wt_tiles.specs.declared.context.Context.{Context}
-use Rattle.wt_tiles.specs.declared.glyph.Glyph.{Glyph}
 use Rattle.wt_tiles.specs.declared.glyph.Class.TheVariants as class
 use Rattle.wt_tiles.specs.declared.shape.Shape.{Shape}
 use Rattle.wt_tiles.specs.declared.shape.TileKind.{TileKind}
@@ -25,13 +23,11 @@ use Rattle.wt_tiles.specs.Glyphs.{glyph_of, run_len}
 use Rattle.wt_tiles.specs.Tags.{tag_at}
 use Rattle.wt_tiles.specs.Tiles.{tiles}
 use Rattle.wt_tiles.specs.Reading.{IsForm}
-use Rattle.wt_quotes.specs.declared.style.Style.{Style}
 use Rattle.wt_quotes.specs.Styles.{style_tree_of}
 use Rattle.wt_quotes.specs.Forest.{Forest, bare, grown, forest_of}
 use Rattle.wt_inline.specs.declared.loose.Loose.TheVariants.{Text}
-use Rattle.wt_inline.specs.Carried.{typeof}
-use Rattle.wt_inline.specs.ItemTree.{ItemTree, plain, leaf, inner, forest}
-use Rattle.wt_inline.specs.Parts.{Part, node, parts, children}
+use Rattle.wt_inline.specs.ItemTree.{ItemTree, plain, leaf}
+use Rattle.wt_inline.specs.Parts.{Part, node, parts}
 use Rattle.wt_inline.proofs.HeldLaws.{sources_append}
 use Rattle.wt_round_trip.specs.Written.{HasAttributes}
 use Rattle.wt_context.specs.Segments.{Segment, is_quote, one_stretch, loose_segment, loose_segments, tree_segment, segment_items, segment_parts}
@@ -45,7 +41,7 @@ use Rattle.wt_page_round_trip.proofs.TextItems.{AreTexts, BeginsLow, EndsLow, cu
 use Rattle.wt_page_round_trip.proofs.OfPage.{IsPageItem, AreOfPage, ArePageItems, texts_utf8}
 use Rattle.wt_page_round_trip.proofs.PageLines.{all_left, all_right, all_both, all_taken, all_dropped}
 use Rattle.wt_page_round_trip.proofs.WrittenParts.{FitsIn, NodeFits, no_parts, fits_both, fits_fewer, fits_node, fits_text}
-use Rattle.wt_page_round_trip.proofs.InlineNodes.{with_attrs, round, IsFilled, bold_node, italic_node, wiki_link_node, ext_link_node, tag_node, category_leaf, switch_leaf, break_leaf, skip_leaf, kept, kept_leaf, kept_round}
+use Rattle.wt_page_round_trip.proofs.InlineNodes.{round, IsFilled, bold_node, italic_node, wiki_link_node, ext_link_node, tag_node, category_leaf, switch_leaf, break_leaf, skip_leaf, kept_leaf, kept_round}
 use Rattle.wt_page_round_trip.proofs.TileTexts.{no_page_items, taken_items, dropped_items, AreParts, parts_of_page, IsPageTile, tiles_good}
 use Rattle.wt_page_round_trip.proofs.ShownTexts.{shown_utf8, bracketed_utf8}
 use Rattle.wt_page_round_trip.proofs.LinkHeads.{link_has, category_has, url_has}

@@ -1,5 +1,5 @@
 -- A tree that is written has its texts cut as they should be: cutting them anew leaves it as it is.
-use Rattle.std.proofs.Common.{◌≡◌, ℕ, suc, Bool, true, false, sym, refl, ap, ap₂, ◌∙◌, subst, cond, inl, inr}
+use Rattle.std.proofs.Common.{◌≡◌, ℕ, suc, Bool, true, false, sym, refl, ap, ap₂, ◌∙◌, cond, inl, inr}
 use Rattle.std.specs.Prelude.{◌⊎◌}
 use Rattle.wt_tree.specs.declared.kind.Kind.{Kind}
 use Rattle.wt_tree.specs.declared.kind.Kind.TheVariants as kind
@@ -8,7 +8,6 @@ use Rattle.wt_tree.specs.declared.row.Texts.TheVariants.{Separators, Page, Borde
 use Rattle.wt_tree.specs.declared.row.Writing.{Writing}
 use Rattle.wt_tree.specs.declared.row.Writing.TheVariants.{AsText, AsVoid, RoundCharacter, RoundChildren, Unwritten}
 use Rattle.wt_tree.specs.Kinds.{writing, texts_of_kind}
-use Rattle.wt_tree.specs.Recut.{recut}
 use Rattle.wt_tree.specs.Tiling.{is_group}
 use Rattle.wt_tree.specs.Tree.{Label, Tree, tree, Trees, none, more}
 use Rattle.wt_round_trip.specs.Written.{NodeIsWritten, is_childless, IsCutIn, WrittenIn, AllWrittenIn, IsWritten}

@@ -1,20 +1,20 @@
 -- Nodes of a line that are written: styles, links and tags, with what they hold; and tiles that are kept whole.
-use Rattle.std.proofs.Common.{◌≡◌, ℕ, suc, ◌+◌, ◌<◌, ◌≤◌, true, false, Option, None, List, [], ◌∷◌, ◌++◌, IsUtf8, refl, sym, ap, ◌∙◌, subst, arith, append-nil, inl, inr}
+use Rattle.std.proofs.Common.{◌≡◌, ℕ, suc, ◌+◌, ◌<◌, ◌≤◌, true, false, None, List, [], ◌∷◌, ◌++◌, IsUtf8, refl, sym, ap, ◌∙◌, subst, arith, append-nil, inl}
 use Rattle.std.specs.Prelude.{Bool, ◌||◌, codes}
-use Rattle.std.proofs.lemmas.Str.{IsUtf8-nil, IsUtf8-append}
+use Rattle.std.proofs.lemmas.Str.{IsUtf8-append}
 use Rattle.wt_span.specs.Items.{Item, sources}
 use Rattle.wt_tree.specs.declared.kind.AttrName.{AttrName}
 use Rattle.wt_tree.specs.declared.kind.Kind.{Kind}
 use Rattle.wt_tree.specs.declared.kind.Kind.TheVariants as kind
 use Rattle.wt_tree.specs.declared.kind.TagName.{TagName}
-use Rattle.wt_tree.specs.Kinds.{shape, spelling, is_anywhere, may_hold}
+use Rattle.wt_tree.specs.Kinds.{shape, spelling, is_anywhere}
 use Rattle.json.proofs.Printed.Utf8.{IsUtf8-are_ascii}
 use Rattle.wt_tree.specs.declared.kind.AttrName.TheVariants as attr
 use Rattle.wt_tree.specs.Values.{placeholder as placeholder_type, extension_prefix}
 use Rattle.wt_round_trip.specs.Written.{HasAttributes}
 use Rattle.wt_inline.specs.Carried.{placeholder_typeof}
 use Rattle.wt_inline.specs.ItemTree.{Head, ItemTree, ItemTrees, nothing, leaf, inner, forest, tree_items, held_by_all}
-use Rattle.wt_inline.specs.Parts.{Part, held_parts, children}
+use Rattle.wt_inline.specs.Parts.{Part, children}
 use Rattle.wt_inline.proofs.HeldLaws.{held_children, sources_append}
 use Rattle.wt_ranges.specs.Labels.{width, label_at}
 use Rattle.wt_page_round_trip.proofs.Parts.{IsWrittenNode, AreWrittenParts, wide_append, children_written}

@@ -1,5 +1,5 @@
 -- The annotated tree of a page: its source, its ranges and its numbers.
-use Rattle.std.proofs.Common.{◌≡◌, ℕ, ◌+◌, ◌*◌, ◌<◌, ◌≤◌, ◌^◌, List, [], ◌∷◌, ◌++◌, true, length, refl, ap, ap₂, ◌∙◌, subst, cond, arith}
+use Rattle.std.proofs.Common.{◌≡◌, ℕ, ◌*◌, ◌<◌, ◌≤◌, ◌^◌, List, [], ◌∷◌, ◌++◌, true, length, refl, ap, ap₂, ◌∙◌, subst, cond, arith}
 use Rattle.std.specs.List.{AllByRecursion}
 use Rattle.wt_span.specs.Cuts.{page_of}
 use Rattle.wt_span.specs.Items.{Item, sources}

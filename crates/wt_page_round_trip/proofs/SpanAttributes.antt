@@ -1,10 +1,10 @@
 -- The attributes of a span stand in the order of its row, and their values are UTF-8.
-use Rattle.std.proofs.Common.{◌≡◌, ℕ, zero, suc, ◌+◌, ◌-◌, ◌<◌, ◌==◌, Bool, true, false, Option, Some, None, List, [], ◌∷◌, ◌++◌, length, map, take, drop, nat_lt, codes, lit<, IsUtf8, refl, sym, ap, ◌∙◌, subst, arith, append_assoc, append-nil, inl, inr}
+use Rattle.std.proofs.Common.{◌≡◌, ℕ, zero, suc, ◌+◌, ◌-◌, ◌<◌, ◌==◌, Bool, true, false, Option, Some, None, List, [], ◌∷◌, ◌++◌, length, map, take, drop, nat_lt, codes, lit<, IsUtf8, refl, sym, subst, arith, append_assoc, inl, inr}
 use Rattle.std.specs.Prelude.{if◌then◌else◌, option_map}
 use Rattle.std.specs.Option.{option_or}
 use Rattle.std.specs.List.{AllByRecursion, filter_map, cons_option}
 use Rattle.std.proofs.lemmas.Bool.{eqb-true}
-use Rattle.std.proofs.lemmas.Str.{IsUtf8-nil, IsUtf8-take, IsUtf8-drop}
+use Rattle.std.proofs.lemmas.Str.{IsUtf8-take, IsUtf8-drop}
 use Rattle.wt_span.specs.Bytes.{is_blank}
 use Rattle.wt_span.specs.Items.{Item}
 use Rattle.wt_tree.specs.declared.kind.AttrName.{AttrName}
@@ -18,7 +18,7 @@ use Rattle.wt_tree.specs.Kinds.{own, spelling}
 use Rattle.wt_names.proofs.Utf8.{utf8_around}
 use Rattle.wt_attributes.specs.declared.class.Class.{Class}
 use Rattle.wt_attributes.specs.declared.class.Class.TheVariants as class
-use Rattle.wt_attributes.specs.Attributes.{Named, Read, begins_any_case, after_word, name_at, ended, quoted, some_of, bare, after_sign, opened, value_at, past_blanks, after_equals, value_in, assigned, with_name, with_value, attribute_at, going_on, readings, same_name, value_of, named_in, attributes_in, attributes}
+use Rattle.wt_attributes.specs.Attributes.{Named, Read, begins_any_case, after_word, name_at, quoted, bare, after_sign, opened, value_at, past_blanks, after_equals, value_in, assigned, with_name, with_value, attribute_at, going_on, readings, same_name, value_of, named_in, attributes}
 use Rattle.wt_attributes.specs.Characters.{text_of}
 use Rattle.wt_attributes.specs.Classes.{run_len}
 use Rattle.wt_attributes.proofs.Fronts.{border_word}

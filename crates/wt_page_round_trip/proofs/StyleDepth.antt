@@ -10,14 +10,14 @@ use Rattle.wt_quotes.specs.declared.style.Style.{Style}
 use Rattle.wt_quotes.specs.declared.style.End.{End}
 use Rattle.wt_quotes.specs.Runs.{bytes_of}
 use Rattle.wt_quotes.specs.Toggles.{toggles_of}
-use Rattle.wt_quotes.specs.Styles.{effect_of, closing_width, closing_place, opening_place, begins, ending, style_from, begun, styles_by, style_tree_of, taken}
+use Rattle.wt_quotes.specs.Styles.{effect_of, closing_width, closing_place, begins, ending, style_from, begun, styles_by, style_tree_of, taken}
 use Rattle.wt_quotes.specs.StyleLaws.{IsWhole}
 use Rattle.wt_quotes.specs.Forest.{Forest, bare, grown, lies_in, inside_of, past, forest_of}
 use Rattle.wt_quotes.proofs.SixStates.{Step, step, made, run, toggled, outside_after, bytes_by, AreSteps, taken_by}
 use Rattle.wt_quotes.proofs.Nesting.{closing_in, opening_in, begin_from, whole}
 use Rattle.wt_quotes.proofs.Reading.{steps_of, are_steps, styles_read}
 use Rattle.wt_context.proofs.Forests.{inside_taken}
-use Rattle.wt_page_round_trip.proofs.PageLines.{all_left, all_both, all_taken}
+use Rattle.wt_page_round_trip.proofs.PageLines.{all_both, all_taken}
 
 -- ---- all of a list
 

@@ -1,5 +1,5 @@
 -- The tiles of a context: their items are texts in UTF-8 and whole forms, and so are those of each part.
-use Rattle.std.proofs.Common.{◌≡◌, ℕ, zero, suc, ◌+◌, ◌-◌, ◌<◌, ◌≤◌, ◌⊎◌, Bool, true, false, Option, Some, None, List, [], ◌∷◌, ◌++◌, length, map, take, drop, nat_lt, IsUtf8, refl, sym, ap, ◌∙◌, subst, arith, inl, inr, length-drop}
+use Rattle.std.proofs.Common.{◌≡◌, ℕ, zero, suc, ◌+◌, ◌-◌, ◌<◌, ◌≤◌, ◌⊎◌, Bool, true, false, Some, List, [], ◌∷◌, ◌++◌, length, map, take, drop, refl, sym, ap, ◌∙◌, subst, arith, inl, inr, length-drop}
 use Rattle.std.specs.List.{AllByRecursion}
 use Rattle.std.proofs.lemmas.Bool.{ltb-true}
 use Rattle.std.proofs.lemmas.List.{length-map, length-take-le, take-map, drop-map, take-append-drop, take_all, drop_all, drop-drop}
@@ -22,7 +22,7 @@ use Rattle.wt_tiles.proofs.Readings.{shapes_are}
 use Rattle.wt_tiles.proofs.Joining.{cuts_are, tiles_are}
 use Rattle.wt_context.specs.TileParts.{HasCuts}
 use Rattle.wt_page_round_trip.proofs.TextItems.{AreTexts, BeginsLow, EndsLow, cut_after, cut_items_before}
-use Rattle.wt_page_round_trip.proofs.OfPage.{IsPageItem, AreOfPage, ArePageItems}
+use Rattle.wt_page_round_trip.proofs.OfPage.{IsPageItem, ArePageItems}
 use Rattle.wt_page_round_trip.proofs.PageLines.{all_taken, all_dropped}
 
 -- ---- cuts beside a character of one byte
