@@ -40,7 +40,7 @@ class ManualPages(unittest.TestCase):
 
     @unittest.skipUnless(shutil.which("man"), "there is no man")
     def test_each_refusal_of_the_program_is_there(self) -> None:
-        """The stored cases hold the lines; numbers and reasons stand for P, N and WHY."""
+        """The stored cases hold the lines; numbers, titles and reasons stand for P, N, TEMPLATE and WHY."""
         answers = (REPOSITORY / "crates/wtround_cases/stdout").read_text().splitlines()
         lines = {bytes.fromhex(answer.split("\t")[2]).decode() for answer in answers if "\t" in answer}
         environment = {**os.environ, "LC_ALL": "C.UTF-8", "MANWIDTH": "200"}
@@ -50,6 +50,7 @@ class ManualPages(unittest.TestCase):
         for line in filter(None, lines):
             text = line[len("wtround: ") :].rstrip("\n").partition("|")[0]
             text, reason = re.sub(r" at [0-9]+", " at P", re.sub(r"^element [0-9]+", "element N", text)), ""
+            text = re.sub(r"^(?!page |html |input )\S.*(?= not UTF-8 at P$| too long$)|(?<= in )\S.*$", "TEMPLATE", text)
             if ": " in text and not text.startswith("usage"):
                 text, _, reason = text.partition(": ")
                 self.assertRegex(shown, rf"\b{reason}\b", "dist/wtround.1 lacks this reason")
@@ -77,7 +78,7 @@ class Completion(unittest.TestCase):
         return done.stdout.decode().split("\n")[:-1]
 
     def test_commands(self) -> None:
-        self.assertEqual(self.complete(""), ["html", "ranges", "wikitext"])
+        self.assertEqual(self.complete(""), ["expand", "html", "ranges", "wikitext"])
         self.assertEqual(self.complete("w"), ["wikitext"])
 
     def test_titles(self) -> None:

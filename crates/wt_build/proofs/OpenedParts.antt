@@ -77,14 +77,15 @@ opened_row_is ps rows blank d h own g after node l cells some is ea eh eo eg ope
     ∙ ap (λ ss. opened_by (with_attrs kind.Tr (row_attributes (first_items vs))) (delimiter vs) ss) held)
     ∙ sym (row_form ps rows cs some)
 
-pub table_is : (ps : List Piece) (rows blank : List RowAt) (d end : RowAt) (h : Head) (own closing : List Item) (f g : Grown) (ts : List ItemTree) (tree : PieceTree)
+pub table_is : (ps : List Piece) (rows blank : List RowAt) (d end : RowAt) (h : Head) (own closing : List Item) (f g : Grown) (ts : List ItemTree) (tree : PieceTree) (node : StretchAt)
     (held after l inside : List StretchAt) → IsDelimiter ps rows d blank → held ≡ inside ++ at.Gap end.start end.from ∷ []
     → stretches_view ps after ≡ gap (row_view ps d).ending ∷ (gaps (rows_view ps blank) ++ stretches_view ps held)
     → f ≡ record { trees = []; run = None } → Grows f (stretches_parts (stretches_view ps after)) g → ts ≡ made g []
     → item_tree tree ≡ inner h own (forest ts) closing → h ≡ with_attrs kind.Table (table_attributes (first_items (rows_view ps rows)))
-    → own ≡ (row_view ps d).items → closing ≡ (row_view ps end).items → l ≡ at.Gap d.start d.from ∷ at.Tree tree ∷ at.Gap end.to end.end ∷ []
+    → own ≡ (row_view ps d).items → closing ≡ (row_view ps end).items → l ≡ at.Gap d.start d.from ∷ node ∷ at.Gap end.to end.end ∷ []
+    → stretch_view ps node ≡ tree_block (item_tree tree)
     → stretches_view ps l ≡ table_with (rows_view ps rows) (stretches_view ps inside) (row_view ps end)
-table_is ps rows blank d end h own closing f g ts tree held after l inside is ei ea ef grows et en eh eo ec el =
+table_is ps rows blank d end h own closing f g ts tree node held after l inside is ei ea ef grows et en eh eo ec el eb =
     let vs = rows_view ps rows in
     let v = row_view ps end in
     let cs = stretches_view ps inside ++ (gap v.lead ∷ []) in
@@ -95,14 +96,15 @@ table_is ps rows blank d end h own closing f g ts tree held after l inside is ei
     et ∙ grows [] ∙ ap (made f) (append-nil (stretches_parts (stretches_view ps after)))
     ∙ ap (λ (k : Grown). made k (stretches_parts (stretches_view ps after))) ef
     ∙ ap (λ ss. children (stretches_parts ss)) all in
-    let node : item_tree tree ≡ inner (with_attrs kind.Table (table_attributes (first_items vs))) (delimiter vs) (forest (children (stretches_parts (behind_delimiter vs ++ cs)))) v.items =
+    let whole : item_tree tree ≡ inner (with_attrs kind.Table (table_attributes (first_items vs))) (delimiter vs) (forest (children (stretches_parts (behind_delimiter vs ++ cs)))) v.items =
     en ∙ ap (λ (k : Head). inner k own (forest ts) closing) eh
     ∙ ap (λ xs. inner (with_attrs kind.Table (table_attributes (first_items vs))) xs (forest ts) closing) (eo ∙ is.items)
     ∙ ap (λ us. inner (with_attrs kind.Table (table_attributes (first_items vs))) (delimiter vs) (forest us) closing) nodes
     ∙ ap (λ xs. inner (with_attrs kind.Table (table_attributes (first_items vs))) (delimiter vs) (forest (children (stretches_parts (behind_delimiter vs ++ cs)))) xs) ec in
     ap (stretches_view ps) el
+    ∙ ap (λ s. gap (row_view ps d).lead ∷ s ∷ gap v.ending ∷ []) eb
     ∙ ap (λ xs. gap xs ∷ tree_block (item_tree tree) ∷ gap v.ending ∷ []) is.lead
-    ∙ ap (λ t. gap (delimiter_lead vs) ∷ tree_block t ∷ gap v.ending ∷ []) node
+    ∙ ap (λ t. gap (delimiter_lead vs) ∷ tree_block t ∷ gap v.ending ∷ []) whole
 
 -- the first row, as it is read
 pub first_of : (ps : List Piece) (rows : List RowAt) (d : RowAt) → 0 < length rows → (row_view ps (get_or rows 0 d)).items ≡ first_items (rows_view ps rows)

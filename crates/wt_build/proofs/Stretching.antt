@@ -41,7 +41,7 @@ opened_is ps h o g c ss inside after l n ts t en ei ea grows et el tree =
     let back : stretches_view ps after ≡ end_gaps vs = ap (stretches_view ps) ea ∙ sym (drop-map (stretch_view ps) n ss) ∙ ap (λ k. drop k vs) len in
     let parts : ts ≡ made g (stretches_parts (before_end vs)) =
     et ∙ grows [] ∙ ap (made g) (append-nil (stretches_parts (stretches_view ps inside)) ∙ ap stretches_parts front) in
-    ap (stretches_view ps) el
+    el ps
     ∙ ap (λ u. tree_block u ∷ stretches_view ps after) (tree ∙ ap (λ us. inner h o (forest us) []) parts)
     ∙ ap (λ us. tree_block (inner h o (forest (made g (stretches_parts (before_end vs)))) []) ∷ us) back
 

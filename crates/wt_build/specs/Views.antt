@@ -32,7 +32,7 @@ pub record IsOrdered (r : RowAt) : Type 0 where
 
 abbrev pub stretch_view : List Piece → StretchAt → Stretch
 stretch_view ps (at.Gap from to) = gap (items (slice from to ps))
-stretch_view ps (at.Tree t) = tree_block (item_tree t)
+stretch_view ps (at.Tree t) = tree_block (item_tree t.value)
 
 abbrev pub stretches_view : List Piece → List StretchAt → List Stretch
 stretches_view ps ss = map (stretch_view ps) ss
@@ -52,7 +52,7 @@ IsSpaced r = begins (codes " ") (signs r.items) ≡ true
 
 -- a node, before other stretches
 abbrev pub IsBehindTree : PieceTree → List StretchAt → List StretchAt → Type 0
-IsBehindTree t after result = result ≡ at.Tree t ∷ after
+IsBehindTree t after result = (ps : List Piece) → stretches_view ps result ≡ tree_block (item_tree t) ∷ stretches_view ps after
 
 -- of all parts that come behind the first children these are left to come behind the second
 abbrev pub IsRest : Grown → List Part → Grown → List Part → Type 0

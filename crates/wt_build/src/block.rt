@@ -97,12 +97,13 @@ fn with_separators<'a>(
 ) -> Result<List<StretchAt<'a>>, NoMemory>
     ensures { IfOk result (λ l. IsBetween (item_tree tree.entry) first last l) }
 {
+    let node = Box::new(alloc, tree)?;
     let mut out = List::new(alloc);
     out.push(StretchAt::Gap {
         from: first.start,
         to: first.from,
     })?;
-    out.push(StretchAt::Tree(tree))?;
+    out.push(StretchAt::Tree(node))?;
     out.push(StretchAt::Gap {
         from: last.to,
         to: last.end,

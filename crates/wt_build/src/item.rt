@@ -106,12 +106,13 @@ fn term_and_definition<'a>(
 {
     let (front, rest) = cut(alloc, line, n)?;
     let term = term(alloc, opening, front.as_slice())?;
+    let node = Box::new(alloc, term)?;
     let behind = rest.as_slice();
     let len = with_blanks(behind, 1)?;
     let (colon, content) = cut(alloc, behind, len)?;
     let head = NodeHead::plain(alloc, Kind::Dd);
     let definition = opened_line(alloc, head, colon, content.as_slice(), pieces, after)?;
-    before(alloc, StretchAt::Tree(term), definition)
+    before(alloc, StretchAt::Tree(node), definition)
 }
 
 /// An item with what stands on its line behind the open delimiter, and with what follows in it.

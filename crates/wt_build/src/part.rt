@@ -113,12 +113,13 @@ pub fn whole_table<'a>(
         children,
         List::from_vec(closing),
     );
+    let node = Box::new(alloc, tree)?;
     let mut out = List::new(alloc);
     out.push(StretchAt::Gap {
         from: delimiter.start,
         to: delimiter.from,
     })?;
-    out.push(StretchAt::Tree(tree))?;
+    out.push(StretchAt::Tree(node))?;
     out.push(StretchAt::Gap {
         from: end.to,
         to: end.end,

@@ -18,7 +18,7 @@ use wt_span::{List, NoMemory, Piece};
 #[derive(Drop)]
 pub enum StretchAt<'a> {
     Gap { from: usize, to: usize },
-    Tree(PieceTree<'a>),
+    Tree(Box<PieceTree<'a>>),
 }
 
 fn is_gap(stretch: &StretchAt<'_>) -> bool
@@ -70,7 +70,7 @@ pub fn with_stretch<'a>(
             Loose::Sep,
             between(pieces, from, to),
         ),
-        StretchAt::Tree(tree) => children.with_tree(alloc, tree),
+        StretchAt::Tree(tree) => children.with_tree(alloc, Box::into_inner(tree)),
     }
 }
 
@@ -98,9 +98,10 @@ fn behind_tree<'a>(
 ) -> Result<List<StretchAt<'a>>, NoMemory>
     ensures { IfOk result (λ l. IsBehindTree tree.entry after.entry l) }
 {
+    let node = Box::new(alloc, tree)?;
     let mut after = after.into_vec();
     let mut out = Vec::with_capacity(alloc, after.len() + 1)?;
-    out.push(StretchAt::Tree(tree))?;
+    out.push(StretchAt::Tree(node))?;
     out.append(&mut after)?;
     Ok(List::from_vec(out))
 }

@@ -171,7 +171,8 @@ mutual
       (λ i. each_inside (Finds block ks) (λ us. restored_all ks us ≡ us) at from l ts (λ f. b.0 f i) refl e
       (λ h. all_restored block ks (at + length l.opening) (from + length l.opening) ts h b.1))
 
-  all_restored : (block : Tree) (ks : List Kept) (at from : ℕ) (ts : Trees) → Every (Finds block ks) (found_in at from ts) → AreBare ts → restored_all ks ts ≡ ts
+  all_restored : (block : Tree) (ks : List Kept) (at from : ℕ) (ts : Trees) → Every (Finds block ks) (found_in at from ts) → AreBare ts
+      → restored_all ks ts ≡ ts
   all_restored block ks at from none e b = refl
   all_restored block ks at from (more t ts) e b =
       let one = restored_is block ks at from t (every_left (Finds block ks) (found_from at from t) _ e) b.0 in
@@ -179,7 +180,8 @@ mutual
       (every_right (Finds block ks) (found_from at from t) _ e) b.1 in
       ap (λ u. more u (restored_all ks ts)) one ∙ ap (more t) others
 
-own_style : (sign : List ℕ) (l : Label) (inside : List Sign) (plain own : Type 0) → plain × IsStyle sign l inside → (is_leaf l.kind ≡ false → plain → own) → own × IsStyle sign l inside
+own_style : (sign : List ℕ) (l : Label) (inside : List Sign) (plain own : Type 0) → plain × IsStyle sign l inside → (is_leaf l.kind ≡ false → plain → own)
+    → own × IsStyle sign l inside
 own_style sign l inside plain own h f = (f h.1.no_leaf h.0, h.1)
 
 own_by : (w : Way) (p : Page) (pl : Place) (l : Label) (ts : Trees) (plain own : Type 0) → IsPlainBy w p pl l ts plain

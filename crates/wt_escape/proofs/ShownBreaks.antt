@@ -62,7 +62,8 @@ counted_if : (b : Bool) (k : Kept) (new : List Sign) (n : ℕ) → counted new �
 counted_if true k new n e = counted_kept k
 counted_if false k new n e = e
 
-counted_unless : (p : Page) (k : Option Kept) (t : Tree) (new : List Sign) (n : ℕ) → counted new ≡ n → counted (unless_kept p k t new) ≡ breaks_unless_kept p k t n
+counted_unless : (p : Page) (k : Option Kept) (t : Tree) (new : List Sign) (n : ℕ) → counted new ≡ n
+    → counted (unless_kept p k t new) ≡ breaks_unless_kept p k t n
 counted_unless p None t new n e = e
 counted_unless p (Some k) t new n e = counted_if (is_unchanged p k t) k new n e
 

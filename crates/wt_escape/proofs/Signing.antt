@@ -18,7 +18,8 @@ use Rattle.wt_escape.specs.Units.{Leaves}
 pub leaves_none : (p : Page) (k : Option Kept) (t : Tree) (us : List Sign) → k ≡ None → Leaves false us us (unless_kept p k t)
 leaves_none p k t us e = (refl, λ s. ap (λ o. unless_kept p o t s) e)
 
-pub leaves_changed : (p : Page) (k : Kept) (t : Tree) (us : List Sign) (b : Bool) → b ≡ is_unchanged p k t → b ≡ false → Leaves false us us (unless_kept p (Some k) t)
+pub leaves_changed : (p : Page) (k : Kept) (t : Tree) (us : List Sign) (b : Bool) → b ≡ is_unchanged p k t → b ≡ false
+    → Leaves false us us (unless_kept p (Some k) t)
 leaves_changed p k t us b e f = (refl, λ s. ap (λ (c : Bool). if c then kept_thing k ∷ [] else s) (sym e ∙ f))
 
 pub leaves_kept : (p : Page) (k : Kept) (t : Tree) (old new : List Sign) (b : Bool) → b ≡ is_unchanged p k t → b ≡ true
@@ -56,7 +57,8 @@ pub signs_pushed : (n : Node) (w : Way) (p : Page) (pl : Place) (k : Option Kept
 signs_pushed n w p pl k old new signs e h f g = g ∙ ap (λ s. old ++ s) (sym f ∙ sym (signs_is n w p pl k e h))
 
 -- where it is kept, or what is new is written
-pub unless_seen : (n : Node) (p : Page) (k : Option Kept) (new : List Sign) → unless_kept p k (view n) new ≡ unless_kept p k (tree (label_of (out-Node n)) (views (out-Node n).children)) new
+pub unless_seen : (n : Node) (p : Page) (k : Option Kept) (new : List Sign)
+    → unless_kept p k (view n) new ≡ unless_kept p k (tree (label_of (out-Node n)) (views (out-Node n).children)) new
 unless_seen n p k new = ap (λ t. unless_kept p k t new) (view_out n)
 
 pub signs_views : (p : Page) (pl : Place) (ns : List Node) → signs_of_all p pl (views ns) ≡ flat_map (λ n. signs_of p pl (view n)) ns

@@ -78,7 +78,8 @@ unchanged p t f tells =
 written_kept : (p : Page) (t : Tree) (f : IsFound p t) → written (kept_thing f.kept ∷ []) ≡ flat t
 written_kept p t f = append-nil (flat f.kept.node) ∙ ap flat f.node
 
-written_found : (p : Page) (t : Tree) (new : List Sign) → IsFound p t → TellsSame p.same → written (unless_kept p (kept_with (label t).id p.kept) t new) ≡ flat t
+written_found : (p : Page) (t : Tree) (new : List Sign) → IsFound p t → TellsSame p.same
+    → written (unless_kept p (kept_with (label t).id p.kept) t new) ≡ flat t
 written_found p t new f tells =
     ap (λ k. written (unless_kept p k t new)) f.found
     ∙ ap (λ (b : Bool). written (if b then kept_thing f.kept ∷ [] else new)) (unchanged p t f tells) ∙ written_kept p t f

@@ -179,7 +179,8 @@ signs_by way.Characters p pl k l ts inside = letters l.shown
 signs_by way.Bold p pl k l ts inside = style (39 ∷ 39 ∷ 39 ∷ []) k inside
 signs_by way.Italic p pl k l ts inside = style (39 ∷ 39 ∷ []) k inside
 signs_by way.Shown p pl k l ts inside = unless_kept p k (tree l ts) (letters (shown (tree l ts)))
-signs_by way.PageLink p pl k l ts inside = unless_kept p k (tree l ts) (new_thing role.Link (page_link (read_link (href_of l)) ts (spelled_within p pl inside)) k)
+signs_by way.PageLink p pl k l ts inside = unless_kept p k (tree l ts)
+    (new_thing role.Link (page_link (read_link (href_of l)) ts (spelled_within p pl inside)) k)
 signs_by way.ExternalLink p pl k l ts inside = unless_kept p k (tree l ts) (new_thing role.External (external_link (href_of l) (spelled_within p pl inside)) k)
 signs_by way.Tag p pl k l ts inside = unless_kept p k (tree l ts) (new_thing role.Node (tag_pair k (spelled_within p pl inside)) k)
 signs_by way.Break p pl k l ts inside = unless_kept p k (tree l ts) (new_thing role.Node break_tag k)

@@ -14,12 +14,14 @@ ghost use Rattle.wt_tree.specs.Tree.{Tree};
 /// written as a reference.
 #[tactic(auto, using(crate::proofs::Founds::spelled_back))]
 pub fn spelled_back()
-    ensures { (same : Tree → Tree → Bool) (block : Tree) (place : Place) → TellsSame same → IsPlainBlock same block place → inline_spelling same block block place ≡ flat_of_all (children_of block) }
+    ensures { (same : Tree → Tree → Bool) (block : Tree) (place : Place) → TellsSame same → IsPlainBlock same block place
+        → inline_spelling same block block place ≡ flat_of_all (children_of block) }
 {}
 
 /// The content of an edited block is written with as many line breaks as it shows: those of its
 /// texts, of its nodes that stay as they stand in the page, and of what is written for the others.
 #[tactic(auto, using(crate::proofs::ShownBreaks::breaks_shown))]
 pub fn line_breaks_shown()
-    ensures { (same : Tree → Tree → Bool) (old new : Tree) (place : Place) → HaveTexts (children_of new) → breaks (inline_spelling same old new place) ≡ breaks_in_all (page_of same old) (children_of new) }
+    ensures { (same : Tree → Tree → Bool) (old new : Tree) (place : Place) → HaveTexts (children_of new)
+        → breaks (inline_spelling same old new place) ≡ breaks_in_all (page_of same old) (children_of new) }
 {}

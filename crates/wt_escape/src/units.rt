@@ -126,7 +126,9 @@ fn push_old(
     old: Kept<'_, '_>,
     node: &Node<'_>,
 ) -> Result<bool, NoMemory>
-    ensures { (same : Tree → Tree → Bool) → TellsSame same → IfOk result (λ done. Leaves done (all_signs out.old.items) (all_signs out.new.items) (unless_kept (page_view same page.now) (Some (kept_view old.entry)) (view node.now))) }
+    ensures { (same : Tree → Tree → Bool) → TellsSame same
+        → IfOk result (λ done. Leaves done (all_signs out.old.items) (all_signs out.new.items)
+        (unless_kept (page_view same page.now) (Some (kept_view old.entry)) (view node.now))) }
 {
     let same = is_unchanged(alloc, page, old, node)?;
     if !same {
@@ -144,7 +146,9 @@ fn push_if_unchanged(
     kept: Option<Kept<'_, '_>>,
     node: &Node<'_>,
 ) -> Result<bool, NoMemory>
-    ensures { (same : Tree → Tree → Bool) → TellsSame same → IfOk result (λ done. Leaves done (all_signs out.old.items) (all_signs out.new.items) (unless_kept (page_view same page.now) (option_map kept_view kept.entry) (view node.now))) }
+    ensures { (same : Tree → Tree → Bool) → TellsSame same
+        → IfOk result (λ done. Leaves done (all_signs out.old.items) (all_signs out.new.items)
+        (unless_kept (page_view same page.now) (option_map kept_view kept.entry) (view node.now))) }
 {
     match kept {
         Some(old) => {
@@ -274,7 +278,8 @@ fn push_style_round<'t>(
     kept: Option<Kept<'_, '_>>,
     inside: Vec<Unit<'t>>,
 ) -> Result<(), NoMemory>
-    ensures { OnOk result (all_signs out.new.items ≡ all_signs out.old.items ++ style sign.now (option_map kept_view kept.entry) (all_signs inside.entry.items)) }
+    ensures { OnOk result (all_signs out.new.items
+        ≡ all_signs out.old.items ++ style sign.now (option_map kept_view kept.entry) (all_signs inside.entry.items)) }
 {
     let opening = opening_place(alloc, kept)?;
     let closing = closing_place(alloc, kept)?;
@@ -295,7 +300,8 @@ fn push_signs<'t>(
     place: Place,
     node: &'t Node<'_>,
 ) -> Result<(), NoMemory>
-    ensures { (same : Tree → Tree → Bool) → TellsSame same → OnOk result (all_signs out.new.items ≡ all_signs out.old.items ++ signs_of (page_view same page.now) place (view node.now)) }
+    ensures { (same : Tree → Tree → Bool) → TellsSame same
+        → OnOk result (all_signs out.new.items ≡ all_signs out.old.items ++ signs_of (page_view same page.now) place (view node.now)) }
 {
     let kept = page.find(node.id);
     match shape(node.kind).way {
@@ -349,7 +355,9 @@ fn push_style<'t>(
     kept: Option<Kept<'_, '_>>,
     node: &'t Node<'_>,
 ) -> Result<(), NoMemory>
-    ensures { (same : Tree → Tree → Bool) → TellsSame same → OnOk result (all_signs out.new.items ≡ all_signs out.old.items ++ style sign.now (option_map kept_view kept.entry) (signs_of_all (page_view same page.now) place (views (out-Node node.now).children))) }
+    ensures { (same : Tree → Tree → Bool) → TellsSame same
+        → OnOk result (all_signs out.new.items ≡ all_signs out.old.items ++ style sign.now (option_map kept_view kept.entry)
+        (signs_of_all (page_view same page.now) place (views (out-Node node.now).children))) }
 {
     let inside = units_of(alloc, page, place, node.children.as_slice())?;
     push_style_round(alloc, out, sign, kept, inside)?;
@@ -363,7 +371,9 @@ fn push_shown_unless(
     kept: Option<Kept<'_, '_>>,
     node: &Node<'_>,
 ) -> Result<(), NoMemory>
-    ensures { (same : Tree → Tree → Bool) → TellsSame same → OnOk result (all_signs out.new.items ≡ all_signs out.old.items ++ unless_kept (page_view same page.now) (option_map kept_view kept.entry) (view node.now) (letters (shown (view node.now)))) }
+    ensures { (same : Tree → Tree → Bool) → TellsSame same
+        → OnOk result (all_signs out.new.items ≡ all_signs out.old.items ++ unless_kept (page_view same page.now) (option_map kept_view kept.entry)
+        (view node.now) (letters (shown (view node.now)))) }
 {
     let done = push_if_unchanged(alloc, out, page, kept, node)?;
     if done {
@@ -380,7 +390,9 @@ fn push_break(
     kept: Option<Kept<'_, '_>>,
     node: &Node<'_>,
 ) -> Result<(), NoMemory>
-    ensures { (same : Tree → Tree → Bool) → TellsSame same → OnOk result (all_signs out.new.items ≡ all_signs out.old.items ++ unless_kept (page_view same page.now) (option_map kept_view kept.entry) (view node.now) (new_thing role.Node break_tag (option_map kept_view kept.entry))) }
+    ensures { (same : Tree → Tree → Bool) → TellsSame same
+        → OnOk result (all_signs out.new.items ≡ all_signs out.old.items ++ unless_kept (page_view same page.now) (option_map kept_view kept.entry)
+        (view node.now) (new_thing role.Node break_tag (option_map kept_view kept.entry))) }
 {
     let done = push_if_unchanged(alloc, out, page, kept, node)?;
     if done {
@@ -405,7 +417,9 @@ fn page_link_source(
     place: Place,
     node: &Node<'_>,
 ) -> Result<Str, NoMemory>
-    ensures { (same : Tree → Tree → Bool) → TellsSame same → IfOk result (λ s. s ≡ page_link (read_link (href_of (label_of (out-Node node.now)))) (views (out-Node node.now).children) (spelled_within (page_view same page.now) place (signs_of_all (page_view same page.now) place (views (out-Node node.now).children)))) }
+    ensures { (same : Tree → Tree → Bool) → TellsSame same
+        → IfOk result (λ s. s ≡ page_link (read_link (href_of (label_of (out-Node node.now)))) (views (out-Node node.now).children)
+        (spelled_within (page_view same page.now) place (signs_of_all (page_view same page.now) place (views (out-Node node.now).children)))) }
 {
     let inside = inside_of(alloc, page, place, node.children.as_slice())?;
     page_link(alloc, node, inside.as_str())
@@ -420,7 +434,11 @@ fn push_page_link(
     kept: Option<Kept<'_, '_>>,
     node: &Node<'_>,
 ) -> Result<(), NoMemory>
-    ensures { (same : Tree → Tree → Bool) → TellsSame same → OnOk result (all_signs out.new.items ≡ all_signs out.old.items ++ unless_kept (page_view same page.now) (option_map kept_view kept.entry) (view node.now) (new_thing role.Link (page_link (read_link (href_of (label_of (out-Node node.now)))) (views (out-Node node.now).children) (spelled_within (page_view same page.now) place (signs_of_all (page_view same page.now) place (views (out-Node node.now).children)))) (option_map kept_view kept.entry))) }
+    ensures { (same : Tree → Tree → Bool) → TellsSame same
+        → OnOk result (all_signs out.new.items ≡ all_signs out.old.items ++ unless_kept (page_view same page.now) (option_map kept_view kept.entry)
+        (view node.now) (new_thing role.Link (page_link (read_link (href_of (label_of (out-Node node.now)))) (views (out-Node node.now).children)
+        (spelled_within (page_view same page.now) place (signs_of_all (page_view same page.now) place (views (out-Node node.now).children))))
+        (option_map kept_view kept.entry))) }
 {
     let done = push_if_unchanged(alloc, out, page, kept, node)?;
     if done {
@@ -438,7 +456,9 @@ fn external_source(
     place: Place,
     node: &Node<'_>,
 ) -> Result<Str, NoMemory>
-    ensures { (same : Tree → Tree → Bool) → TellsSame same → IfOk result (λ s. s ≡ external_link (href_of (label_of (out-Node node.now))) (spelled_within (page_view same page.now) place (signs_of_all (page_view same page.now) place (views (out-Node node.now).children)))) }
+    ensures { (same : Tree → Tree → Bool) → TellsSame same
+        → IfOk result (λ s. s ≡ external_link (href_of (label_of (out-Node node.now)))
+        (spelled_within (page_view same page.now) place (signs_of_all (page_view same page.now) place (views (out-Node node.now).children)))) }
 {
     let inside = inside_of(alloc, page, place, node.children.as_slice())?;
     external_link(alloc, node, inside.as_str())
@@ -453,7 +473,12 @@ fn push_external_link(
     kept: Option<Kept<'_, '_>>,
     node: &Node<'_>,
 ) -> Result<(), NoMemory>
-    ensures { (same : Tree → Tree → Bool) → TellsSame same → OnOk result (all_signs out.new.items ≡ all_signs out.old.items ++ unless_kept (page_view same page.now) (option_map kept_view kept.entry) (view node.now) (new_thing role.External (external_link (href_of (label_of (out-Node node.now))) (spelled_within (page_view same page.now) place (signs_of_all (page_view same page.now) place (views (out-Node node.now).children)))) (option_map kept_view kept.entry))) }
+    ensures { (same : Tree → Tree → Bool) → TellsSame same
+        → OnOk result (all_signs out.new.items ≡ all_signs out.old.items ++ unless_kept (page_view same page.now) (option_map kept_view kept.entry)
+        (view node.now) (new_thing role.External
+        (external_link (href_of (label_of (out-Node node.now)))
+        (spelled_within (page_view same page.now) place (signs_of_all (page_view same page.now) place (views (out-Node node.now).children))))
+        (option_map kept_view kept.entry))) }
 {
     let done = push_if_unchanged(alloc, out, page, kept, node)?;
     if done {
@@ -472,7 +497,9 @@ fn tag_source(
     kept: Option<Kept<'_, '_>>,
     node: &Node<'_>,
 ) -> Result<Str, NoMemory>
-    ensures { (same : Tree → Tree → Bool) → TellsSame same → IfOk result (λ s. s ≡ tag_pair (option_map kept_view kept.entry) (spelled_within (page_view same page.now) place (signs_of_all (page_view same page.now) place (views (out-Node node.now).children)))) }
+    ensures { (same : Tree → Tree → Bool) → TellsSame same
+        → IfOk result (λ s. s ≡ tag_pair (option_map kept_view kept.entry)
+        (spelled_within (page_view same page.now) place (signs_of_all (page_view same page.now) place (views (out-Node node.now).children)))) }
 {
     let inside = inside_of(alloc, page, place, node.children.as_slice())?;
     tag_pair(alloc, kept, inside.as_str())
@@ -487,7 +514,11 @@ fn push_tag(
     kept: Option<Kept<'_, '_>>,
     node: &Node<'_>,
 ) -> Result<(), NoMemory>
-    ensures { (same : Tree → Tree → Bool) → TellsSame same → OnOk result (all_signs out.new.items ≡ all_signs out.old.items ++ unless_kept (page_view same page.now) (option_map kept_view kept.entry) (view node.now) (new_thing role.Node (tag_pair (option_map kept_view kept.entry) (spelled_within (page_view same page.now) place (signs_of_all (page_view same page.now) place (views (out-Node node.now).children)))) (option_map kept_view kept.entry))) }
+    ensures { (same : Tree → Tree → Bool) → TellsSame same
+        → OnOk result (all_signs out.new.items ≡ all_signs out.old.items ++ unless_kept (page_view same page.now) (option_map kept_view kept.entry)
+        (view node.now) (new_thing role.Node (tag_pair (option_map kept_view kept.entry)
+        (spelled_within (page_view same page.now) place (signs_of_all (page_view same page.now) place (views (out-Node node.now).children))))
+        (option_map kept_view kept.entry))) }
 {
     let done = push_if_unchanged(alloc, out, page, kept, node)?;
     if done {
@@ -506,7 +537,8 @@ pub fn units_of<'t>(
     place: Place,
     nodes: &'t [Node<'_>],
 ) -> Result<Vec<Unit<'t>>, NoMemory>
-    ensures { (same : Tree → Tree → Bool) → TellsSame same → IfOk result (λ units. all_signs units.items ≡ signs_of_all (page_view same page.now) place (views nodes.now)) }
+    ensures { (same : Tree → Tree → Bool) → TellsSame same
+        → IfOk result (λ units. all_signs units.items ≡ signs_of_all (page_view same page.now) place (views nodes.now)) }
 {
     let mut units = Vec::new(alloc);
     for node in nodes {
@@ -523,7 +555,8 @@ fn inside_of(
     place: Place,
     nodes: &[Node<'_>],
 ) -> Result<String, NoMemory>
-    ensures { (same : Tree → Tree → Bool) → TellsSame same → IfOk result (λ s. string_bytes s ≡ spelled_within (page_view same page.now) place (signs_of_all (page_view same page.now) place (views nodes.now))) }
+    ensures { (same : Tree → Tree → Bool) → TellsSame same
+        → IfOk result (λ s. string_bytes s ≡ spelled_within (page_view same page.now) place (signs_of_all (page_view same page.now) place (views nodes.now))) }
 {
     let units = units_of(alloc, page, place, nodes)?;
     let setting = Setting {

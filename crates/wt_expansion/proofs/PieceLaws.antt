@@ -61,8 +61,7 @@ own_placed (origin.Call k) s t h e = absurd h
 set_own : (at : ℕ) (ps : List Piece) (to : ℕ) → AreOwn at ps to → AllSet ps
 set_own at [] to f = tt
 set_own at (p ∷ ps) to f =
-    let s = f.0.start in
-    (
+    let s = f.0.start in (
       record { some = f.0.some; placed = own_placed p.origin (at, end_of p.text) (start_of p.text, end_of p.text) f.0.origin (ap (λ (n : ℕ). (n, end_of p.text)) (sym s)) },
       set_own (end_of p.text) ps to f.1,
     )

@@ -33,12 +33,14 @@ border_source : (t : List ℕ) (at n p : ℕ) → at ≤ p → p ≤ at + n → 
 border_source t at n p l h w b =
     let i = p - at in
     let z : at + i ≡ p = omega (arith, l) in
-    let len : length (take n (drop at t)) ≡ n = omega (arith, length-take n (drop at t), length-drop at t, w) in
-    (omega (arith, len, h, l), λ s f.
-    let y : i < n = omega (arith, s, len) in
-    let e : slice_index (take n (drop at t)) i ≡ slice_index t p = byte_front (drop at t) n i y ∙ get_or-drop at t i 0 ∙ ap (slice_index t) z in
-    let g : 128 ≤ slice_index t p = subst (λ (x : ℕ). 128 ≤ x) e f in
-    subst (λ (x : ℕ). 192 ≤ x) (sym e) (b.1 (omega (arith, y, z, w)) g))
+    let len : length (take n (drop at t)) ≡ n = omega (arith, length-take n (drop at t), length-drop at t, w) in (
+      omega (arith, len, h, l),
+      λ s f.
+          let y : i < n = omega (arith, s, len) in
+          let e : slice_index (take n (drop at t)) i ≡ slice_index t p = byte_front (drop at t) n i y ∙ get_or-drop at t i 0 ∙ ap (slice_index t) z in
+          let g : 128 ≤ slice_index t p = subst (λ (x : ℕ). 128 ≤ x) e f in
+          subst (λ (x : ℕ). 192 ≤ x) (sym e) (b.1 (omega (arith, y, z, w)) g),
+    )
 
 byte_of : (bs t : List ℕ) (at i byte : ℕ) → bs ≡ drop at t → slice_index bs i ≡ byte → slice_index t (at + i) ≡ byte
 byte_of bs t at i byte e h = sym (get_or-drop at t i 0) ∙ ap (λ xs. slice_index xs i) (sym e) ∙ h
@@ -99,8 +101,7 @@ lie_parts t c n h [] before p e low l b d m w f = let y = h.wide in omega (arith
 lie_parts t c n h (q ∷ []) before p e low l b d m w f =
     let to : ℕ = p + (name_width q.name + width_of q.value) in
     let z : to ≡ e = let y = joined_width q.name q.value in omega (arith, y, w) in
-    let y = h.wide in
-    (
+    let y = h.wide in (
       l,
       omega arith,
       border_in t c n p h (omega (arith, low, l)) (omega (arith, m, w)) b,
@@ -121,8 +122,7 @@ lie_parts t c n h (q ∷ r ∷ ps) before p e low l b d m w f =
     let inside : to < length t = let y = h.within in let x = bar.0 in omega (arith, sum, z, w, m, y, x) in
     let one : to + 1 ≡ to + q.bar = let x = bar.0 in omega (arith, x) in
     let next = subst (IsCharBoundary t) one (border_behind t to 124 h.utf8 at (omega arith) inside) in
-    let later = subst (λ bs. AreSoundMembers mode.Page bs (members rest)) (drop-drop q.bar to t) here.1 in
-    (
+    let later = subst (λ bs. AreSoundMembers mode.Page bs (members rest)) (drop-drop q.bar to t) here.1 in (
       l,
       omega arith,
       border_in t c n p h (omega (arith, low, l)) (omega (arith, m, w)) b,
@@ -157,8 +157,7 @@ end_parts t c n h (q ∷ r ∷ ps) p e low m w f =
     let z : p + width_of xs ≡ to = omega (arith, wide) in
     let sum = width_append xs (lexeme (Pipe, q.bar) ∷ rest) in
     let here = subst (λ k. AreSoundMembers mode.Page (drop k t) (members (lexeme (Pipe, q.bar) ∷ rest))) z (sound_at t p xs (lexeme (Pipe, q.bar) ∷ rest) f) in
-    let later = subst (λ bs. AreSoundMembers mode.Page bs (members rest)) (drop-drop q.bar to t) here.1 in
-    (
+    let later = subst (λ bs. AreSoundMembers mode.Page bs (members rest)) (drop-drop q.bar to t) here.1 in (
       name_ends t c n h p e q.name q.value low m (omega (arith, sum, w)) (sound_front (drop p t) xs (lexeme (Pipe, q.bar) ∷ rest) f),
       end_parts t c n h (r ∷ ps) (to + q.bar) e (omega (arith, low)) m (omega (arith, sum, z, w)) later,
     )

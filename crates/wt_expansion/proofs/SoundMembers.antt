@@ -161,8 +161,7 @@ mutual
       let here = e ∙ append_assoc (member_marks m) (marks_of_all ms) after in
       let len : length (member_marks m) ≡ width m = member_len m in
       let next : drop (at + width m) w ≡ marks_of_all ms ++ after =
-      sym (drop-drop (width m) at w) ∙ ap (drop (width m)) here ∙ drop_at (member_marks m) (marks_of_all ms ++ after) (width m) len in
-      (
+      sym (drop-drop (width m) at w) ∙ ap (drop (width m)) here ∙ drop_at (member_marks m) (marks_of_all ms ++ after) (width m) len in (
         sound_one mode t at m (marks_of_all ms ++ after) l.0 here f.0,
         subst (λ bs. AreSoundMembers mode bs ms) (sym (drop-drop (width m) at t)) (sound_all mode t (at + width m) ms after l.1 next f.1),
       )

@@ -36,8 +36,7 @@ rise_call function at k source ms given inside f = omega arith
 rise_call (page t) at k source ms given inside f = omega arith
 rise_call text at k source ms given inside f =
     let to : ℕ = at + (k + width_of_all ms + k) in
-    let e : text_spans (inside ++ own (chars (back_braces k source)) ∷ []) ≡ text_spans inside ++ [] = spans_append inside (own (chars (back_braces k source)) ∷ []) in
-    (
+    let e : text_spans (inside ++ own (chars (back_braces k source)) ∷ []) ≡ text_spans inside ++ [] = spans_append inside (own (chars (back_braces k source)) ∷ []) in (
       omega arith,
       subst (λ ss. RiseTo at ss to) (sym e)
           (rise_append at (text_spans inside) [] (at + k + width_of_all ms) to (rise_from at (at + k) (text_spans inside) (at + k + width_of_all ms) (omega arith) f)

@@ -4,10 +4,12 @@
 
 mod expansion;
 mod level;
+mod page;
 mod reader;
 mod run;
 
 pub use expansion::{Expansion, MOST_TEMPLATES, Names};
 pub use level::Handing;
+pub use page::expanded_text;
 pub use reader::{MOST_BYTES, Reader};
 pub use run::{TextRun, Turn};

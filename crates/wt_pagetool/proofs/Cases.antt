@@ -72,7 +72,7 @@ no_place = refl
 
 -- a folder without a page of this title, and a page that isn't UTF-8, whatever is made of a page
 no_page : page_answer None (made pages.Ranges) ≡ refused Absent
-unfolding page_answer
+unfolding title_answer
 no_page = refl
 
 -- the lines, with the digits of a number as they stand

@@ -12,12 +12,12 @@ use Rattle.wt_tree.specs.declared.annotated.Annotated.{Annotated}
 use Rattle.wt_utf8.specs.Places.{IsPlace, not_utf8_place}
 use Rattle.wt_utf8.proofs.PlaceLaws.{exact as exact_text, at_place}
 use Rattle.wt_page_round_trip.specs.PageTree.{page_tree}
-use Rattle.wt_pagetool.specs.Answers.{Answer, done, refused, built_answer, unbuilt_place, text_answer, page_answer, IsAnswered, made_of_tree, made as made_by}
+use Rattle.wt_pagetool.specs.Answers.{Answer, done, refused, built_at, built_answer, unbuilt_place, text_answer, title_answer, page_answer, IsText, IsAnswered, made_of_tree, made as made_by}
 use Rattle.wt_pagetool.specs.declared.output.Output.{Output}
 use Rattle.wt_pagetool.specs.declared.command.PageCommand.{PageCommand}
 use Rattle.wt_pagetool.specs.declared.refusal.Refusal.{Refusal}
-use Rattle.wt_pagetool.specs.declared.refusal.Refusal.TheVariants.{Usage, Absent, TooLong, NotUtf8, NotBuilt, HtmlTooLong, InputTooLong, Html, Unfit, Unsourced, ReadFault, FolderFault, WriteFault, NoMemory}
-use Rattle.wt_pagetool.specs.Causes.{RefusesPage, IsUnbuilt, IsFetched, Answered}
+use Rattle.wt_pagetool.specs.declared.refusal.Refusal.TheVariants.{Usage, Absent, TooLong, NotUtf8, NotBuilt, BracesTooDeep, TooLarge, TemplateNotUtf8, TemplateTooLong, HtmlTooLong, InputTooLong, Html, Unfit, Unsourced, ReadFault, FolderFault, WriteFault, NoMemory}
+use Rattle.wt_pagetool.specs.Causes.{RefusesTitle, RefusesPage, IsUnbuilt, IsFetched, Answered}
 
 -- ---- texts
 
@@ -35,103 +35,140 @@ short page h = grind (arith, nat_tests)
 long : (page : List ℕ) → 2097152 < length page → nat_lt 2097152 (length page) ≡ true
 long page h = grind (arith, nat_tests)
 
-pub none_absent : RefusesPage None Absent
-unfolding page_answer
+pub none_absent : RefusesTitle None Absent
+unfolding title_answer
 none_absent made = refl
 
-pub page_too_long : (page : List ℕ) → 2097152 < length page → RefusesPage (Some page) TooLong
-unfolding page_answer
+pub page_too_long : (page : List ℕ) → 2097152 < length page → RefusesTitle (Some page) TooLong
+unfolding title_answer
 page_too_long page h made = rw (long page h) refl
 
-pub page_not_utf8 : (page : List ℕ) (place : ℕ) → length page ≤ 2097152 → not_utf8_place page ≡ Some place → RefusesPage (Some page) (NotUtf8 place)
-unfolding page_answer
+pub page_not_utf8 : (page : List ℕ) (place : ℕ) → length page ≤ 2097152 → not_utf8_place page ≡ Some place → RefusesTitle (Some page) (NotUtf8 place)
+unfolding title_answer
 page_not_utf8 page place h e made = rw (short page h, e) refl
 
-page_not_built : (page : List ℕ) (place : ℕ) → length page ≤ 2097152 → not_utf8_place page ≡ None
-    → unbuilt_place page ≡ Some place → RefusesPage (Some page) (NotBuilt place)
-unfolding page_answer
-page_not_built page place h e f made = rw (short page h, e, f) refl
+pub page_text : (page : List ℕ) → length page ≤ 2097152 → not_utf8_place page ≡ None → IsText page
+unfolding title_answer
+page_text page h e made = rw (short page h, e) refl
 
-pub page_unbuilt : (page : List ℕ) (reason : Refusal) → length page ≤ 2097152 → not_utf8_place page ≡ None
-    → IsUnbuilt (unbuilt_place page) reason → RefusesPage (Some page) reason
-page_unbuilt page Usage h e u = absurd u
-page_unbuilt page Absent h e u = absurd u
-page_unbuilt page TooLong h e u = absurd u
-page_unbuilt page (NotUtf8 place) h e u = absurd u
-page_unbuilt page (NotBuilt place) h e u = page_not_built page place h e u
-page_unbuilt page HtmlTooLong h e u = absurd u
-page_unbuilt page InputTooLong h e u = absurd u
-page_unbuilt page (Html place why) h e u = absurd u
-page_unbuilt page (Unfit n why) h e u = absurd u
-page_unbuilt page (Unsourced n) h e u = absurd u
-page_unbuilt page ReadFault h e u = absurd u
-page_unbuilt page FolderFault h e u = absurd u
-page_unbuilt page WriteFault h e u = absurd u
-page_unbuilt page NoMemory h e u = λ made. tt
+page_not_built : (page : List ℕ) (place : ℕ) → IsText page → unbuilt_place page ≡ Some place → RefusesPage (Some page) (NotBuilt place)
+page_not_built page place text f made = text (built_answer made) ∙ ap (built_at page made) f
 
-pub page_answered : (page : List ℕ) → length page ≤ 2097152 → not_utf8_place page ≡ None → unbuilt_place page ≡ None → IsAnswered page
-unfolding page_answer
-page_answered page h e f made = rw (short page h, e, f) refl
+pub page_unbuilt : (page : List ℕ) (reason : Refusal) → IsText page → IsUnbuilt (unbuilt_place page) reason → RefusesPage (Some page) reason
+page_unbuilt page Usage t u = absurd u
+page_unbuilt page Absent t u = absurd u
+page_unbuilt page TooLong t u = absurd u
+page_unbuilt page (NotUtf8 place) t u = absurd u
+page_unbuilt page (NotBuilt place) t u = page_not_built page place t u
+page_unbuilt page (BracesTooDeep template place) t u = absurd u
+page_unbuilt page TooLarge t u = absurd u
+page_unbuilt page (TemplateNotUtf8 template place) t u = absurd u
+page_unbuilt page (TemplateTooLong template) t u = absurd u
+page_unbuilt page HtmlTooLong t u = absurd u
+page_unbuilt page InputTooLong t u = absurd u
+page_unbuilt page (Html place why) t u = absurd u
+page_unbuilt page (Unfit n why) t u = absurd u
+page_unbuilt page (Unsourced n) t u = absurd u
+page_unbuilt page ReadFault t u = absurd u
+page_unbuilt page FolderFault t u = absurd u
+page_unbuilt page WriteFault t u = absurd u
+page_unbuilt page NoMemory t u = λ made. tt
 
-pub tree_answered : (page text : List ℕ) (result : Result Annotated Refusal) → text ≡ page → length page ≤ 2097152
-    → not_utf8_place page ≡ None → IfOk result (λ t. unbuilt_place text ≡ None) → IfOk result (λ t. IsAnswered page)
-tree_answered page text (Ok t) same h e f = page_answered page h e (sym (ap unbuilt_place same) ∙ f)
-tree_answered page text (Err reason) same h e f = tt
+pub page_answered : (page : List ℕ) → IsText page → unbuilt_place page ≡ None → IsAnswered page
+page_answered page text f made = text (built_answer made) ∙ ap (built_at page made) f
 
-pub tree_refused : (page text : List ℕ) (result : Result Annotated Refusal) → text ≡ page → length page ≤ 2097152
-    → not_utf8_place page ≡ None → IfErr result (IsUnbuilt (unbuilt_place text)) → IfErr result (RefusesPage (Some page))
-tree_refused page text (Ok t) same h e u = tt
-tree_refused page text (Err reason) same h e u = page_unbuilt page reason h e (subst (λ bs. IsUnbuilt (unbuilt_place bs) reason) same u)
+pub tree_answered : (page text : List ℕ) (result : Result Annotated Refusal) → text ≡ page → IsText page
+    → IfOk result (λ t. unbuilt_place text ≡ None) → IfOk result (λ t. IsAnswered page)
+tree_answered page text (Ok t) same is f = page_answered page is (sym (ap unbuilt_place same) ∙ f)
+tree_answered page text (Err reason) same is f = tt
+
+pub tree_refused : (page text : List ℕ) (result : Result Annotated Refusal) → text ≡ page → IsText page
+    → IfErr result (IsUnbuilt (unbuilt_place text)) → IfErr result (RefusesPage (Some page))
+tree_refused page text (Ok t) same is u = tt
+tree_refused page text (Err reason) same is u = page_unbuilt page reason is (subst (λ bs. IsUnbuilt (unbuilt_place bs) reason) same u)
+
+-- what refuses a title refuses it also where pages have to be built
+pub title_page : (stands : Option (List ℕ)) (reason : Refusal) → RefusesTitle stands reason → RefusesPage stands reason
+title_page stands reason h made = h (built_answer made)
 
 -- ---- what an answer that is done says of the page
 
+-- a page that is text, and what is made of it
+pub record IsTextMade (page : List ℕ) (made : List ℕ → Answer) (bytes : List ℕ) : Type 0 where
+  pub within : length page ≤ 2097152
+  pub text : not_utf8_place page ≡ None
+  pub is : made page ≡ done bytes
+
+text_made : (page bytes : List ℕ) (made : List ℕ → Answer) (o : Option ℕ) → length page ≤ 2097152 → not_utf8_place page ≡ o
+    → text_answer page made o ≡ done bytes → IsTextMade page made bytes
+text_made page bytes made (Some place) within is e = cc
+text_made page bytes made None within is e = record { within = within; text = is; is = e }
+
+long_made : (page bytes : List ℕ) (made : List ℕ → Answer) (v : Bool) → nat_lt 2097152 (length page) ≡ v
+    → cond v (refused TooLong) (text_answer page made (not_utf8_place page)) ≡ done bytes → IsTextMade page made bytes
+long_made page bytes made true is e = cc
+long_made page bytes made false is e = text_made page bytes made (not_utf8_place page) (grind (arith, nat_tests)) refl e
+
+pub title_made : (page bytes : List ℕ) (made : List ℕ → Answer) → title_answer (Some page) made ≡ done bytes → IsTextMade page made bytes
+unfolding title_answer
+title_made page bytes made e = long_made page bytes made (nat_lt 2097152 (length page)) refl e
+
+-- one that is built
 pub record IsMade (page : List ℕ) (made : List ℕ → Answer) (bytes : List ℕ) : Type 0 where
   pub within : length page ≤ 2097152
   pub text : not_utf8_place page ≡ None
   pub built : unbuilt_place page ≡ None
   pub is : made page ≡ done bytes
 
-built_made : (page bytes : List ℕ) (made : List ℕ → Answer) (o : Option ℕ) → length page ≤ 2097152 → not_utf8_place page ≡ None
-    → unbuilt_place page ≡ o → built_answer page made o ≡ done bytes → IsMade page made bytes
-built_made page bytes made (Some place) within text is e = cc
-built_made page bytes made None within text is e = record { within = within; text = text; built = is; is = e }
+abbrev IsBuiltAs : List ℕ → (List ℕ → Answer) → List ℕ → Type 0
+IsBuiltAs page made bytes = (unbuilt_place page ≡ None) × (made page ≡ done bytes)
 
-text_made : (page bytes : List ℕ) (made : List ℕ → Answer) (o : Option ℕ) → length page ≤ 2097152 → not_utf8_place page ≡ o
-    → text_answer page made o ≡ done bytes → IsMade page made bytes
-text_made page bytes made (Some place) within is e = cc
-text_made page bytes made None within is e = built_made page bytes made (unbuilt_place page) within is refl e
-
-long_made : (page bytes : List ℕ) (made : List ℕ → Answer) (v : Bool) → nat_lt 2097152 (length page) ≡ v
-    → cond v (refused TooLong) (text_answer page made (not_utf8_place page)) ≡ done bytes → IsMade page made bytes
-long_made page bytes made true is e = cc
-long_made page bytes made false is e = text_made page bytes made (not_utf8_place page) (grind (arith, nat_tests)) refl e
+built_made : (page bytes : List ℕ) (made : List ℕ → Answer) (o : Option ℕ) → unbuilt_place page ≡ o
+    → built_at page made o ≡ done bytes → IsBuiltAs page made bytes
+built_made page bytes made (Some place) is e = cc
+built_made page bytes made None is e = (is, e)
 
 pub page_made : (page bytes : List ℕ) (made : List ℕ → Answer) → page_answer (Some page) made ≡ done bytes → IsMade page made bytes
-unfolding page_answer
-page_made page bytes made e = long_made page bytes made (nat_lt 2097152 (length page)) refl e
+page_made page bytes made e =
+    let t = title_made page bytes (built_answer made) e in
+    let b = built_made page bytes made (unbuilt_place page) refl t.is in
+    record { within = t.within; text = t.text; built = b.0; is = b.1 }
 
+-- what is made of a page that is text and stands under a title
+abbrev pub IsTextOf : Option (List ℕ) → (List ℕ → Answer) → List ℕ → Type 0
+IsTextOf stands made bytes = (page : List ℕ) × (stands ≡ Some page) × (made page ≡ done bytes)
+
+pub title_stands : (stands : Option (List ℕ)) (made : List ℕ → Answer) (bytes : List ℕ) → title_answer stands made ≡ done bytes
+    → IsTextOf stands made bytes
+unfolding title_answer
+title_stands None made bytes e = cc
+title_stands (Some page) made bytes e = (page, refl, (title_made page bytes made e).is)
+
+-- the same of one that is built
 abbrev pub IsOfPage : Option (List ℕ) → (List ℕ → Answer) → List ℕ → Type 0
 IsOfPage stands made bytes = (page : List ℕ) × (stands ≡ Some page) × (unbuilt_place page ≡ None) × (made page ≡ done bytes)
 
-pub stands_made : (stands : Option (List ℕ)) (made : List ℕ → Answer) (bytes : List ℕ) → page_answer stands made ≡ done bytes → IsOfPage stands made bytes
-unfolding page_answer
-stands_made None made bytes e = cc
-stands_made (Some page) made bytes e = let m : IsMade page made bytes = page_made page bytes made e in (page, refl, m.built, m.is)
+pub stands_made : (stands : Option (List ℕ)) (made : List ℕ → Answer) (bytes : List ℕ) → page_answer stands made ≡ done bytes
+    → IsOfPage stands made bytes
+stands_made stands made bytes e =
+    let h = title_stands stands (built_answer made) bytes e in
+    let b = built_made h.0 bytes made (unbuilt_place h.0) refl h.2 in
+    (h.0, h.1, b.0, b.1)
 
 -- ---- what was fetched
 
 -- a page that is cut past the limit is too long all the same
-long_is : (page : List ℕ) (made : List ℕ → Answer) → 2097152 < length page → page_answer (Some page) made ≡ refused TooLong
+long_is : (page : List ℕ) (made : List ℕ → Answer) → 2097152 < length page → title_answer (Some page) made ≡ refused TooLong
 long_is page made h = page_too_long page h made
 
 cut_step : (page : List ℕ) (made : List ℕ → Answer) → (length page ≤ 2097153) ⊎ (2097153 < length page)
-    → page_answer (Some page) made ≡ page_answer (Some (take 2097153 page)) made
-cut_step page made (inl le) = ap (λ bs. page_answer (Some bs) made) (sym (take_all 2097153 page le))
+    → title_answer (Some page) made ≡ title_answer (Some (take 2097153 page)) made
+cut_step page made (inl le) = ap (λ bs. title_answer (Some bs) made) (sym (take_all 2097153 page le))
 cut_step page made (inr lt) =
     let len : length (take 2097153 page) ≡ 2097153 = length-take-le 2097153 page (omega arith) in
     long_is page made (omega arith) ∙ sym (long_is (take 2097153 page) made (omega arith))
 
-cut_same : (page : List ℕ) (made : List ℕ → Answer) → page_answer (Some page) made ≡ page_answer (Some (take 2097153 page)) made
+cut_same : (page : List ℕ) (made : List ℕ → Answer) → title_answer (Some page) made ≡ title_answer (Some (take 2097153 page)) made
 cut_same page made = cut_step page made (either (length page) 2097153)
   where
     either : (m n : ℕ) → (m ≤ n) ⊎ (n < m)
@@ -141,7 +178,7 @@ found_step : (stands : Option (List ℕ)) (page : List ℕ) → Some page ≡ op
 found_step None page e = absurd cc
 found_step (Some whole) page e =
     let same : page ≡ take 2097153 whole = cc in
-    λ made. cut_same whole made ∙ ap (λ bs. page_answer (Some bs) made) (sym same)
+    λ made. cut_same whole made ∙ ap (λ bs. title_answer (Some bs) made) (sym same)
 
 absent_step : (stands : Option (List ℕ)) → None ≡ option_map (take 2097153) stands → IsFetched stands (Err Absent)
 absent_step None e = none_absent
@@ -167,14 +204,26 @@ abbrev refused_by : Refusal → Result Output Refusal
 refused_by reason = Err reason
 
 -- from what was fetched to what stands under the title
-pub title_answered : (told : Option Pages) (title page : List ℕ) (made : List ℕ → Answer) (result : Result Output Refusal)
+pub title_answered : (told : Option Pages) (title page : List ℕ) (made : Pages → List ℕ → Answer) (result : Result Output Refusal)
+    → IfSome told (λ pages. IsFetched (pages title) (Ok page)) → IfSome told (λ pages. Answered (title_answer (Some page) (made pages)) result)
+    → IfSome told (λ pages. Answered (title_answer (pages title) (made pages)) result)
+title_answered None title page made result f a = tt
+title_answered (Some pages) title page made result f a = subst (λ x. Answered x result) (sym (f (made pages))) a
+
+pub title_refused : (told : Option Pages) (title : List ℕ) (made : Pages → List ℕ → Answer) (reason : Refusal)
+    → IfSome told (λ pages. IsFetched (pages title) (Err reason))
+    → IfSome told (λ pages. Answered (title_answer (pages title) (made pages)) (refused_by reason))
+title_refused None title made reason f = tt
+title_refused (Some pages) title made reason f = f (made pages)
+
+pub page_title_answered : (told : Option Pages) (title page : List ℕ) (made : List ℕ → Answer) (result : Result Output Refusal)
     → IfSome told (λ pages. IsFetched (pages title) (Ok page)) → Answered (page_answer (Some page) made) result
     → IfSome told (λ pages. Answered (page_answer (pages title) made) result)
-title_answered None title page made result f a = tt
-title_answered (Some pages) title page made result f a = subst (λ x. Answered x result) (sym (f made)) a
+page_title_answered None title page made result f a = tt
+page_title_answered (Some pages) title page made result f a = subst (λ x. Answered x result) (sym (f (built_answer made))) a
 
-pub title_refused : (told : Option Pages) (title : List ℕ) (made : List ℕ → Answer) (reason : Refusal)
+pub page_title_refused : (told : Option Pages) (title : List ℕ) (made : List ℕ → Answer) (reason : Refusal)
     → IfSome told (λ pages. IsFetched (pages title) (Err reason))
     → IfSome told (λ pages. Answered (page_answer (pages title) made) (refused_by reason))
-title_refused None title made reason f = tt
-title_refused (Some pages) title made reason f = f made
+page_title_refused None title made reason f = tt
+page_title_refused (Some pages) title made reason f = f (built_answer made)

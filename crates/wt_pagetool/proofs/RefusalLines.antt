@@ -1,10 +1,10 @@
 -- The lines that hold more than one number or word, with their parts in a row.
-use Rattle.std.proofs.Common.{◌≡◌, ℕ, ◌++◌, append_assoc, rules}
-use Rattle.std.specs.Prelude.{codes}
+use Rattle.std.proofs.Common.{◌≡◌, ℕ, ◌++◌, List, append_assoc, rules}
+use Rattle.std.specs.Prelude.{Some, None, codes}
 use Rattle.std.specs.Fmt.{decimal}
 use Rattle.wt_html_grammar.specs.declared.why.HtmlWhy.{HtmlWhy}
 use Rattle.wt_fitting.specs.declared.why.FitWhy.{FitWhy}
-use Rattle.wt_pagetool.specs.declared.refusal.Refusal.TheVariants.{Html, Unfit, Unsourced}
+use Rattle.wt_pagetool.specs.declared.refusal.Refusal.TheVariants.{BracesTooDeep, TemplateNotUtf8, TemplateTooLong, Html, Unfit, Unsourced}
 use Rattle.wt_pagetool.specs.Refusals.{html_why, fit_why, text_of, line_of}
 
 pub html_parts : (place : ℕ) (why : HtmlWhy) → line_of (Html place why) ≡ codes "wtround: html refused at "
@@ -20,3 +20,21 @@ unfit_parts n why = search (rules, append_assoc)
 pub unsourced_parts : (n : ℕ) → line_of (Unsourced n) ≡ codes "wtround: element " ++ (decimal n ++ codes " has no source\n")
 unfolding line_of text_of
 unsourced_parts n = search (rules, append_assoc)
+
+pub own_braces_parts : (place : ℕ) → line_of (BracesTooDeep None place) ≡ codes "wtround: braces too deep at " ++ (decimal place ++ codes "\n")
+unfolding line_of text_of
+own_braces_parts place = search (rules, append_assoc)
+
+pub braces_parts : (template : List ℕ) (place : ℕ) → line_of (BracesTooDeep (Some template) place)
+    ≡ codes "wtround: braces too deep at " ++ (decimal place ++ (codes " in " ++ (template ++ codes "\n")))
+unfolding line_of text_of
+braces_parts template place = search (rules, append_assoc)
+
+pub not_utf8_parts : (template : List ℕ) (place : ℕ) → line_of (TemplateNotUtf8 template place)
+    ≡ codes "wtround: " ++ (template ++ (codes " not UTF-8 at " ++ (decimal place ++ codes "\n")))
+unfolding line_of text_of
+not_utf8_parts template place = search (rules, append_assoc)
+
+pub too_long_parts : (template : List ℕ) → line_of (TemplateTooLong template) ≡ codes "wtround: " ++ (template ++ codes " too long\n")
+unfolding line_of text_of
+too_long_parts template = search (rules, append_assoc)

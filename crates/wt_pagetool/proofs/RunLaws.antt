@@ -17,20 +17,21 @@ use Rattle.wt_pagetool.specs.declared.refusal.Refusal.TheVariants.{HtmlTooLong, 
 use Rattle.wt_pagetool.specs.declared.output.Output.{Output}
 use Rattle.wt_pagetool.specs.declared.command.PageCommand.{PageCommand}
 use Rattle.wt_pagetool.specs.declared.command.PageCommand.TheVariants.{Html, Ranges}
-use Rattle.wt_pagetool.specs.declared.command.Command.TheVariants.{Page, Wikitext}
+use Rattle.wt_pagetool.specs.declared.command.Command.TheVariants.{Page, Expand, Wikitext}
 use Rattle.wt_pagetool.specs.Outputs.{output_bytes}
 use Rattle.wt_pagetool.specs.Statuses.{code, IsAnswer, IsAnswered, IsUnanswered}
-use Rattle.wt_pagetool.specs.Devices.{SourceUse, FolderUse, SinkUse, SourceFailed, FolderFailed, Untouched, Took}
+use Rattle.wt_pagetool.specs.Devices.{AnswersExpansion, SourceUse, FolderUse, SinkUse, SourceFailed, FolderFailed, Untouched, Took}
 use Rattle.wt_pagetool.specs.Refusals.{status_of}
 use Rattle.wt_pagetool.specs.Words.{command_of, Reads}
-use Rattle.wt_pagetool.specs.Answers.{Answer, done, refused, page_output, made, page_answer, source_answer, wikitext_answer, answer_told, status_of_answer, IsDone}
+use Rattle.wt_pagetool.specs.Answers.{Answer, done, refused, page_output, made, title_answer, page_answer, expansion_of, source_answer, wikitext_answer, answer_told, status_of_answer, IsDone}
 use Rattle.wt_pagetool.specs.Causes.{Answered, RefusesAs, IsKept, found_status}
 use Rattle.wt_pagetool.specs.Calls.{call, IsDueAs, IsDue, KeptCounts, NothingFailed}
-use Rattle.wt_pagetool.specs.Reports.{Reported, WasDone, WasRefused, OutFailed, ErrFailed, WrotePage, WroteSource}
+use Rattle.wt_pagetool.specs.Reports.{Reported, WasDone, WasRefused, OutFailed, ErrFailed, WrotePage, WroteExpansion, WroteSource}
 use Rattle.wt_pagetool.proofs.StatusLaws.{is_done, is_write_fault, is_answer, IsUnansweredBy, unanswered}
 use Rattle.wt_ranges.specs.WithoutCalls.{HasNoGroup}
 use Rattle.wt_pagetool.proofs.BuiltLaws.{built_none}
 use Rattle.wt_pagetool.proofs.PageLaws.{stands_made}
+use Rattle.wt_pagetool.proofs.ExpandLaws.{wrote_expansion, told_expansion}
 use Rattle.wt_page_round_trip.proofs.PageTrees.{page_tiled, page_covered, page_slices, page_numbered}
 
 -- ---- what a command makes of a page
@@ -341,3 +342,27 @@ run_wikitext words input folder out err found s ended is a due ends r w e =
     wikitext_found input.left_before input.left_after found out err
     (subst (λ x. IfSome x (λ y. Answered y found)) (told_wikitext folder.pages_before input.left_before words w) a)
     (ended_of found input.left_after out err (ends (subst Reads (sym w) tt)) f) f
+
+expansion_found : (told : Option Pages) (title : List ℕ) (folder : FolderUse) (found : Result Output Refusal) (out err : SinkUse)
+    → IfSome (option_map (λ ps. title_answer (ps title) (expansion_of ps)) told) (λ a. Answered a found)
+    → IfSome told (λ pages. IfSome (pages title) (λ page. OnOk found (AnswersExpansion folder pages title page)))
+    → FoundDone found out err
+    → IfSome told (λ pages. WroteExpansion pages title folder out.taken_before out.taken_after)
+expansion_found None title folder found out err a n f = tt
+expansion_found (Some pages) title folder found out err a n f =
+    wrote_expansion pages title folder (output_bytes f.output) out.taken_before out.taken_after
+    (subst (Answered (title_answer (pages title) (expansion_of pages))) f.is a) f.wrote.taken
+    (subst (λ x. IfSome (pages title) (λ page. OnOk x (AnswersExpansion folder pages title page))) f.is n)
+
+pub run_expansion : (words : List (List ℕ)) (input : SourceUse) (folder : FolderUse) (out err : SinkUse)
+    (found : Result Output Refusal) (s : Status) (ended : ℕ) → ended ≡ code s
+    → IfSome (answer_told folder.pages_before input.left_before words) (λ a. Answered a found)
+    → IfErr found (IsDue words input folder) → Reported found s out err
+    → (title : List ℕ) → command_of words ≡ Some (Expand title)
+    → IfSome folder.pages_before (λ pages. IfSome (pages title) (λ page. OnOk found (AnswersExpansion folder pages title page)))
+    → ended ≡ code status.Done
+    → IfSome folder.pages_before (λ pages. WroteExpansion pages title folder out.taken_before out.taken_after)
+run_expansion words input folder out err found s ended is a due r title w n e =
+    expansion_found folder.pages_before title folder found out err
+    (subst (λ x. IfSome x (λ y. Answered y found)) (told_expansion folder.pages_before input.left_before words title w) a) n
+    (found_done words input folder out err found s due r (is_done s (sym is ∙ e)))

@@ -7,17 +7,21 @@ use Rattle.wt_markup.specs.Html.{html_text}
 use Rattle.wt_listing.specs.Listing.{listing}
 use Rattle.wt_utf8.specs.Places.{not_utf8_place}
 use Rattle.wt_not_built.specs.FirstPlace.{first_unbuilt}
+use Rattle.wt_expand.specs.Texts.{shown_text}
+use Rattle.wt_expand.specs.Work.{Refused, braces_too_deep, too_large, not_utf8, too_long, first_refusal}
+use Rattle.wt_expand.specs.Expansion.{page_work}
+use Rattle.wt_expand.specs.PageCalls.{expanded_page}
 use Rattle.wt_fitting.specs.Read.{Read, page as as_page, ill, misfit, read}
 use Rattle.wt_page_round_trip.specs.PageTree.{page_tree}
 use Rattle.wt_pagetool.specs.declared.limits.TheConstants.{PAGE_BYTES, HTML_BYTES}
 use Rattle.wt_pagetool.specs.declared.status.Status.{Status}
 use Rattle.wt_pagetool.specs.declared.status.Status.TheVariants.{Done}
 use Rattle.wt_pagetool.specs.declared.refusal.Refusal.{Refusal}
-use Rattle.wt_pagetool.specs.declared.refusal.Refusal.TheVariants.{Usage, Absent, TooLong, NotUtf8, NotBuilt, HtmlTooLong, InputTooLong, Html as html_refused, Unfit, Unsourced}
+use Rattle.wt_pagetool.specs.declared.refusal.Refusal.TheVariants.{Usage, Absent, TooLong, NotUtf8, NotBuilt, BracesTooDeep, TooLarge, TemplateNotUtf8, TemplateTooLong, HtmlTooLong, InputTooLong, Html as html_refused, Unfit, Unsourced}
 use Rattle.wt_pagetool.specs.declared.command.PageCommand.{PageCommand}
 use Rattle.wt_pagetool.specs.declared.command.PageCommand.TheVariants.{Html, Ranges}
 use Rattle.wt_pagetool.specs.declared.command.Command.{Command}
-use Rattle.wt_pagetool.specs.declared.command.Command.TheVariants.{Page, Wikitext}
+use Rattle.wt_pagetool.specs.declared.command.Command.TheVariants.{Page, Expand, Wikitext}
 use Rattle.wt_pagetool.specs.Refusals.{status_of}
 use Rattle.wt_pagetool.specs.Words.{command_of}
 
@@ -27,27 +31,38 @@ pub data Answer : Type 0 where
 
 -- ---- what stands under a title
 
--- a page that is text, by the first place where it isn't built
-abbrev pub built_answer : List ℕ → (List ℕ → Answer) → Option ℕ → Answer
-built_answer page made (Some place) = refused (NotBuilt place)
-built_answer page made None = made page
+-- a page by the place where it stops being UTF-8
+abbrev pub text_answer : List ℕ → (List ℕ → Answer) → Option ℕ → Answer
+text_answer page made (Some place) = refused (NotUtf8 place)
+text_answer page made None = made page
+
+-- The refusals of what stands under a title, in their order: no page; one that is too long; one that isn't UTF-8. Any
+-- other page is answered by what is made of it.
+unfoldable pub title_answer : Option (List ℕ) → (List ℕ → Answer) → Answer
+title_answer None made = refused Absent
+title_answer (Some page) made =
+    if nat_lt PAGE_BYTES (length page) then refused TooLong
+    else text_answer page made (not_utf8_place page)
+
+-- a page by the first place where it isn't built
+abbrev pub built_at : List ℕ → (List ℕ → Answer) → Option ℕ → Answer
+built_at page made (Some place) = refused (NotBuilt place)
+built_at page made None = made page
 
 -- the first place where a page isn't built: that of a form, or of a group, as a style without an item is
 abbrev pub unbuilt_place : List ℕ → Option ℕ
 unbuilt_place page = first_unbuilt page (page_tree page)
 
--- a page by the place where it stops being UTF-8
-abbrev pub text_answer : List ℕ → (List ℕ → Answer) → Option ℕ → Answer
-text_answer page made (Some place) = refused (NotUtf8 place)
-text_answer page made None = built_answer page made (unbuilt_place page)
+abbrev pub built_answer : (List ℕ → Answer) → List ℕ → Answer
+built_answer made page = built_at page made (unbuilt_place page)
 
--- The refusals of what stands under a title, in their order: no page; one that is too long; one that isn't UTF-8; one
--- that isn't built. Any other page is answered by what is made of it.
-unfoldable pub page_answer : Option (List ℕ) → (List ℕ → Answer) → Answer
-page_answer None made = refused Absent
-page_answer (Some page) made =
-    if nat_lt PAGE_BYTES (length page) then refused TooLong
-    else text_answer page made (not_utf8_place page)
+-- what stands under a title, where a page that isn't built is refused, too
+abbrev pub page_answer : Option (List ℕ) → (List ℕ → Answer) → Answer
+page_answer stands made = title_answer stands (built_answer made)
+
+-- the page is text of no more bytes than a page may have, whatever is made of it
+abbrev pub IsText : List ℕ → Type 0
+IsText page = (made : List ℕ → Answer) → title_answer (Some page) made ≡ made page
 
 -- nothing refuses the page, whatever is made of it
 abbrev pub IsAnswered : List ℕ → Type 0
@@ -78,6 +93,27 @@ html_of page = made Html page
 abbrev pub html_answer : Option (List ℕ) → Answer
 html_answer stands = page_answer stands html_of
 
+-- ---- what a page shows with its templates expanded
+
+-- why an expansion is refused
+abbrev pub expansion_refusal : Refused → Refusal
+expansion_refusal (braces_too_deep template place) = BracesTooDeep template place
+expansion_refusal too_large = TooLarge
+expansion_refusal (not_utf8 template place) = TemplateNotUtf8 template place
+expansion_refusal (too_long template) = TemplateTooLong template
+
+abbrev pub expansion_by : List ℕ → Option Refused → Answer
+expansion_by shown (Some r) = refused (expansion_refusal r)
+expansion_by shown None = done shown
+
+-- the first refusal of the page's work
+abbrev pub refusal_of_page : Pages → List ℕ → Option Refused
+refusal_of_page pages page = first_refusal pages page (page_work pages page)
+
+-- `expand`: what the items of the expanded page show, or what its work refuses first
+abbrev pub expansion_of : Pages → List ℕ → Answer
+expansion_of pages page = expansion_by (shown_text (expanded_page pages page).items) (refusal_of_page pages page)
+
 -- ---- what is made of an input
 
 -- the source of the page that was read, each of whose elements has to tell its own
@@ -100,6 +136,7 @@ wikitext_answer input =
 abbrev pub answer_to : Option Pages → Option (List ℕ) → Option Command → Option Answer
 answer_to pages input None = Some (refused Usage)
 answer_to pages input (Some (Page command title)) = option_map (λ ps. page_answer (ps title) (made command)) pages
+answer_to pages input (Some (Expand title)) = option_map (λ ps. title_answer (ps title) (expansion_of ps)) pages
 answer_to pages input (Some Wikitext) = option_map wikitext_answer input
 
 -- the answer to these words over a folder of these pages and this input

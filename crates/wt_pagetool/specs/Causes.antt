@@ -3,17 +3,19 @@ use Rattle.std.specs.Prelude.{◌≡◌, ⊤, ℕ, List, Option, Some, Result, O
 use Rattle.wt_outer.specs.Device.{Rose}
 use Rattle.wt_outer.specs.declared.device.FetchRefusal.{FetchRefusal}
 use Rattle.wt_outer.specs.declared.device.FetchRefusal.TheVariants as of_fetch
+use Rattle.wt_transclusion.specs.declared.refusal.ExpandRefusal.{ExpandRefusal}
+use Rattle.wt_transclusion.specs.declared.refusal.ExpandRefusal.TheVariants as of_expansion
 use Rattle.wt_html_in.specs.declared.refusal.HtmlRefusal.{HtmlRefusal}
 use Rattle.wt_html_in.specs.declared.refusal.HtmlRefusal.TheVariants as of_html
 use Rattle.wt_pagetool.specs.declared.status.Status.{Status}
 use Rattle.wt_pagetool.specs.declared.status.Status.TheVariants as status
 use Rattle.wt_pagetool.specs.declared.refusal.Refusal.{Refusal}
-use Rattle.wt_pagetool.specs.declared.refusal.Refusal.TheVariants.{NotBuilt, Html, Unfit, FolderFault, NoMemory}
+use Rattle.wt_pagetool.specs.declared.refusal.Refusal.TheVariants.{NotBuilt, BracesTooDeep, TooLarge, TemplateNotUtf8, TemplateTooLong, Html, Unfit, FolderFault, NoMemory}
 use Rattle.wt_pagetool.specs.declared.output.Output.{Output}
 use Rattle.wt_pagetool.specs.Outputs.{output_bytes}
 use Rattle.wt_pagetool.specs.Statuses.{IsAnswer}
 use Rattle.wt_pagetool.specs.Refusals.{status_of}
-use Rattle.wt_pagetool.specs.Answers.{Answer, done, refused, page_answer}
+use Rattle.wt_pagetool.specs.Answers.{Answer, done, refused, title_answer, page_answer}
 
 -- ---- of an answer
 
@@ -75,6 +77,10 @@ abbrev pub IsOfTitle : ℕ → ℕ → Refusal → Type 0
 IsOfTitle before after r = IsTitleStatus before after (status_of r)
 
 -- the refusal refuses what stands under a title, whatever is made of a page
+abbrev pub RefusesTitle : Option (List ℕ) → Refusal → Type 0
+RefusesTitle stands r = (made : List ℕ → Answer) → Refuses r (title_answer stands made)
+
+-- the same, or the page isn't built
 abbrev pub RefusesPage : Option (List ℕ) → Refusal → Type 0
 RefusesPage stands r = (made : List ℕ → Answer) → Refuses r (page_answer stands made)
 
@@ -91,8 +97,19 @@ fetch_refusal of_fetch.NoMemory = NoMemory
 
 -- The bytes that were fetched are answered as what stands under the title; or this refusal refuses it, or is a fault.
 abbrev pub IsFetched : Option (List ℕ) → Result (List ℕ) Refusal → Type 0
-IsFetched stands (Ok page) = (made : List ℕ → Answer) → page_answer stands made ≡ page_answer (Some page) made
-IsFetched stands (Err r) = RefusesPage stands r
+IsFetched stands (Ok page) = (made : List ℕ → Answer) → title_answer stands made ≡ title_answer (Some page) made
+IsFetched stands (Err r) = RefusesTitle stands r
+
+-- ---- of an expansion
+
+-- what the expansion of a page answers, as the program names it
+abbrev pub refusal_of_expansion : ExpandRefusal → Refusal
+refusal_of_expansion (of_expansion.BracesTooDeep template place) = BracesTooDeep template place
+refusal_of_expansion of_expansion.TooLarge = TooLarge
+refusal_of_expansion of_expansion.FolderFault = FolderFault
+refusal_of_expansion (of_expansion.TemplateNotUtf8 template place) = TemplateNotUtf8 template place
+refusal_of_expansion (of_expansion.TemplateTooLong template) = TemplateTooLong template
+refusal_of_expansion of_expansion.NoMemory = NoMemory
 
 -- ---- of an input
 

@@ -1,10 +1,12 @@
 -- What a call did to a device: what the device held before and after, where it tells that, and how often it had failed.
-use Rattle.std.specs.Prelude.{◌≡◌, ℕ, ◌+◌, ◌≤◌, max, List, ◌++◌, take, Option, Some, None, option_map, ⊤, ◌⊎◌}
+use Rattle.std.specs.Prelude.{◌≡◌, ℕ, ◌+◌, ◌≤◌, max, List, ◌∷◌, ◌++◌, take, Option, Some, None, option_map, ⊤, ◌⊎◌}
 use Rattle.std.specs.Io.KnownBytes.{Appends, Keeps}
 use Rattle.wt_outer.specs.Device.{Pages, Rose}
 use Rattle.wt_outer.specs.declared.device.Source.{Ghosts as OfSource}
 use Rattle.wt_outer.specs.declared.device.Folder.{Ghosts as OfFolder}
 use Rattle.wt_outer.specs.declared.device.Sink.{Ghosts as OfSink}
+use Rattle.wt_expand.specs.Work.{names_asked}
+use Rattle.wt_expand.specs.Expansion.{page_work}
 use Rattle.wt_pagetool.specs.declared.limits.TheConstants.{PAGE_BYTES}
 
 -- a source: what it had left
@@ -89,6 +91,12 @@ pub record AnswersNames (f : FolderUse) (names : List (List ℕ)) : Type 0 where
 -- it answered the first of these names, in this order and no others: all or none or some
 abbrev pub AnswersFirst : FolderUse → List (List ℕ) → Type 0
 AnswersFirst f names = (n : ℕ) × AnswersNames f (take n names)
+
+-- the folder answered the page's title, and then the names of the pages that are fetched for its expansion, each once,
+-- in the order of their first fetch; it kept its pages
+pub record AnswersExpansion (f : FolderUse) (pages : Pages) (title page : List ℕ) : Type 0 where
+  pub answered : f.names_after ≡ option_map (λ before. before ++ title ∷ names_asked (page_work pages page)) f.names_before
+  pub pages_kept : f.pages_after ≡ f.pages_before
 
 -- ---- a sink
 

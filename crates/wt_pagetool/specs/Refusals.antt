@@ -1,5 +1,5 @@
 -- Why a call of the program gives no answer, the status that tells it, and the line that names it.
-use Rattle.std.specs.Prelude.{ℕ, List, ◌++◌, codes}
+use Rattle.std.specs.Prelude.{ℕ, List, [], ◌++◌, Option, Some, None, codes}
 use Rattle.std.specs.Fmt.{decimal}
 use Rattle.wt_html_grammar.specs.declared.why.HtmlWhy.{HtmlWhy}
 use Rattle.wt_html_grammar.specs.declared.why.HtmlWhy.TheVariants as ill
@@ -8,7 +8,7 @@ use Rattle.wt_fitting.specs.declared.why.FitWhy.TheVariants as unfit
 use Rattle.wt_pagetool.specs.declared.status.Status.{Status}
 use Rattle.wt_pagetool.specs.declared.status.Status.TheVariants as status
 use Rattle.wt_pagetool.specs.declared.refusal.Refusal.{Refusal}
-use Rattle.wt_pagetool.specs.declared.refusal.Refusal.TheVariants.{Usage, Absent, TooLong, NotUtf8, NotBuilt, HtmlTooLong, InputTooLong, Html, Unfit, Unsourced, ReadFault, FolderFault, WriteFault, NoMemory}
+use Rattle.wt_pagetool.specs.declared.refusal.Refusal.TheVariants.{Usage, Absent, TooLong, NotUtf8, NotBuilt, BracesTooDeep, TooLarge, TemplateNotUtf8, TemplateTooLong, HtmlTooLong, InputTooLong, Html, Unfit, Unsourced, ReadFault, FolderFault, WriteFault, NoMemory}
 
 -- how a call ends that is refused so
 abbrev pub status_of : Refusal → Status
@@ -17,6 +17,10 @@ status_of Absent = status.PageRefused
 status_of TooLong = status.PageRefused
 status_of (NotUtf8 place) = status.PageRefused
 status_of (NotBuilt place) = status.PageRefused
+status_of (BracesTooDeep template place) = status.PageRefused
+status_of TooLarge = status.PageRefused
+status_of (TemplateNotUtf8 template place) = status.PageRefused
+status_of (TemplateTooLong template) = status.PageRefused
 status_of HtmlTooLong = status.PageRefused
 status_of InputTooLong = status.HtmlRefused
 status_of (Html place why) = status.HtmlRefused
@@ -46,12 +50,21 @@ fit_why unfit.Text = codes "Text"
 unfoldable pub usage_text : List ℕ
 usage_text = codes "usage: wtround html TITLE | wikitext | edit TITLE | ranges TITLE | expand TITLE | gen N"
 
+-- the text in which braces are too deep, where it isn't the page's own
+abbrev pub in_template : Option (List ℕ) → List ℕ
+in_template None = []
+in_template (Some template) = codes " in " ++ template
+
 unfoldable pub text_of : Refusal → List ℕ
 text_of Usage = usage_text
 text_of Absent = codes "no such page"
 text_of TooLong = codes "page too long"
 text_of (NotUtf8 place) = codes "page not UTF-8 at " ++ decimal place
 text_of (NotBuilt place) = codes "not built at " ++ decimal place
+text_of (BracesTooDeep template place) = codes "braces too deep at " ++ decimal place ++ in_template template
+text_of TooLarge = codes "expansion too large"
+text_of (TemplateNotUtf8 template place) = template ++ codes " not UTF-8 at " ++ decimal place
+text_of (TemplateTooLong template) = template ++ codes " too long"
 text_of HtmlTooLong = codes "html too long"
 text_of InputTooLong = codes "input too long"
 text_of (Html place why) = codes "html refused at " ++ decimal place ++ codes ": " ++ html_why why

@@ -1,6 +1,9 @@
 -- What a call wrote to its two sinks.
 use Rattle.std.specs.Prelude.{◌≡◌, ◌≤◌, ℕ, ◌⊎◌, List, length, Option, Some, None, IfSome, Result, Ok, Err}
 use Rattle.std.specs.Io.KnownBytes.{Appends, IsAtEnd}
+use Rattle.wt_outer.specs.Device.{Pages}
+use Rattle.wt_expand.specs.Texts.{shown_text}
+use Rattle.wt_expand.specs.PageCalls.{expanded_page}
 use Rattle.wt_tree.specs.Tree.{Tree}
 use Rattle.wt_tree.specs.Source.{flat}
 use Rattle.wt_tree.specs.Tiling.{Tiled, Covers, InPreorder}
@@ -15,10 +18,10 @@ use Rattle.wt_pagetool.specs.declared.refusal.Refusal.TheVariants.{WriteFault, N
 use Rattle.wt_pagetool.specs.declared.output.Output.{Output}
 use Rattle.wt_pagetool.specs.declared.command.PageCommand.{PageCommand}
 use Rattle.wt_pagetool.specs.Outputs.{output_bytes}
-use Rattle.wt_pagetool.specs.Devices.{SinkUse, Untouched, Took, FailedAfter, TookOrFailed}
+use Rattle.wt_pagetool.specs.Devices.{FolderUse, AnswersExpansion, SinkUse, Untouched, Took, FailedAfter, TookOrFailed}
 use Rattle.wt_pagetool.specs.Statuses.{code}
 use Rattle.wt_pagetool.specs.Refusals.{status_of, line_of}
-use Rattle.wt_pagetool.specs.Answers.{done, page_output}
+use Rattle.wt_pagetool.specs.Answers.{done, page_output, refusal_of_page}
 use Rattle.wt_pagetool.specs.Calls.{Call, told, IsDue}
 
 -- ---- what was found goes to the sinks
@@ -87,6 +90,15 @@ pub record WrotePage (command : PageCommand) (stands : Option (List ℕ)) (old n
   pub covers : Covers (length page) (page_tree page)
   pub slices : AreSlices page (page_tree page)
   pub numbered : InPreorder (page_tree page)
+
+-- a page stands under the title whose expansion nothing refuses, and `out` took what the items of the expanded page show;
+-- the folder was asked for the pages that this takes
+pub record WroteExpansion (pages : Pages) (title : List ℕ) (folder : FolderUse) (old new : Option (List ℕ)) : Type 0 where
+  pub page : List ℕ
+  pub found : pages title ≡ Some page
+  pub unrefused : refusal_of_page pages page ≡ None
+  pub wrote : Appends old new (shown_text (expanded_page pages page).items)
+  pub names : AnswersExpansion folder pages title page
 
 -- the whole input stands for a page each of whose elements tells its source, and `out` took the source of its tree
 pub record WroteSource (input : List ℕ) (left old new : Option (List ℕ)) : Type 0 where

@@ -19,6 +19,8 @@ pub enum PageCommand {
 pub enum Command {
     /// What is written of the page of this full name.
     Page(PageCommand, Str),
+    /// What the page of this full name shows with its templates expanded.
+    Expand(Str),
     /// The source of the page whose HTML is the input.
     Wikitext,
 }
@@ -56,6 +58,15 @@ fn of_page(alloc: Global, command: PageCommand, title: &str) -> Result<Option<Co
     }
 }
 
+fn expansion_of(alloc: Global, title: &str) -> Result<Option<Command>, NoMemory>
+    ensures { IfOk result (λ found. found ≡ option_map (λ name. Command.Expand name) (page_name title.now)) }
+{
+    match page_name(alloc, title)? {
+        Some(name) => Ok(Some(Command::Expand(name))),
+        None => Ok(None),
+    }
+}
+
 /// A command over a page, and its title.
 fn page_command(alloc: Global, word: &str, title: &str) -> Result<Option<Command>, NoMemory>
     ensures { IfOk result (λ command. command ≡ page_command word.now title.now) }
@@ -65,6 +76,9 @@ fn page_command(alloc: Global, word: &str, title: &str) -> Result<Option<Command
     }
     if word == "ranges" {
         return of_page(alloc, PageCommand::Ranges, title);
+    }
+    if word == "expand" {
+        return expansion_of(alloc, title);
     }
     Ok(None)
 }

@@ -1,11 +1,8 @@
 //! The program's commands over its devices: `run` answers the words of a command line.
-//!
-//! Until the layers for templates, lists, tables, links and quotes stand, the pages that are answered
-//! are those of paragraphs and headings, with comments, entities, `nowiki`, extension tags and include
-//! tags in them.
 #![tactic(auto)]
 
 mod command;
+mod expand_command;
 mod fetch;
 mod laws;
 mod limits;

@@ -1,9 +1,9 @@
-ghost use Rattle.std.specs.Prelude.{◌≡◌, ◌≤◌, [], length, IfOk, IfErr, Some, None};
+ghost use Rattle.std.specs.Prelude.{◌≡◌, ◌≤◌, [], length, OnOk, IfOk, IfErr, Some, None};
 ghost use Rattle.wt_tree.specs.View.{view};
 ghost use Rattle.wt_expand.specs.PageItems.{page_items};
-ghost use Rattle.wt_pagetool.specs.Answers.{unbuilt_place, IsAnswered};
+ghost use Rattle.wt_pagetool.specs.Answers.{unbuilt_place, IsText, IsAnswered};
 ghost use Rattle.wt_page_round_trip.specs.PageTree.{page_tree};
-ghost use Rattle.wt_pagetool.specs.Causes.{IsUnbuilt, RefusesPage, IsOfPage};
+ghost use Rattle.wt_pagetool.specs.Causes.{IsUnbuilt, RefusesTitle, RefusesPage, IsOfPage};
 
 use crate::limits::PAGE_BYTES;
 use crate::refusal::Refusal;
@@ -47,6 +47,23 @@ fn tree_of_text<'a>(alloc: Global, page: &'a str) -> Result<Tree<'a>, Refusal>
     }
 }
 
+/// The text of a page that is neither too long nor anything but UTF-8.
+pub fn text_of_page(page: &[u8]) -> Result<&str, Refusal>
+    ensures text { IfOk result (λ text. text.now ≡ page.entry.now) }
+    ensures room { IfOk result (λ text. length text.now ≤ PAGE_BYTES) }
+    ensures answered { OnOk result (IsText page.entry.now) }
+    ensures refused { IfErr result (RefusesTitle (Some page.entry.now)) }
+    ensures of_page { IfErr result IsOfPage }
+{
+    if page.len() > PAGE_BYTES {
+        return Err(Refusal::TooLong);
+    }
+    match read_text(page) {
+        Ok(text) => Ok(text),
+        Err(place) => Err(Refusal::NotUtf8(place as u32)),
+    }
+}
+
 /// The tree of a page that nothing refuses.
 pub fn tree_of_page<'a>(alloc: Global, page: &'a [u8]) -> Result<Tree<'a>, Refusal>
     ensures tree { IfOk result (λ tree. view tree.body ≡ page_tree page.entry.now) }
@@ -54,11 +71,6 @@ pub fn tree_of_page<'a>(alloc: Global, page: &'a [u8]) -> Result<Tree<'a>, Refus
     ensures refused { IfErr result (RefusesPage (Some page.entry.now)) }
     ensures of_page { IfErr result IsOfPage }
 {
-    if page.len() > PAGE_BYTES {
-        return Err(Refusal::TooLong);
-    }
-    match read_text(page) {
-        Ok(text) => tree_of_text(alloc, text),
-        Err(place) => Err(Refusal::NotUtf8(place as u32)),
-    }
+    let text = text_of_page(page)?;
+    tree_of_text(alloc, text)
 }

@@ -6,11 +6,12 @@ use crate::status::Status;
 use std::alloc::{AllocError, Global};
 use wt_html_in::{FitWhy, HtmlRefusal, HtmlWhy};
 use wt_outer::FetchRefusal;
-use wt_span::NoMemory;
+use wt_span::{NoMemory, Str};
+use wt_transclusion::ExpandRefusal;
 
 /// Why a call gives no answer. Places are bytes of the page, or of the input for `Html`; elements are
 /// counted from 1 in document order.
-#[derive(Clone, Copy, Debug, PartialEq, Eq)]
+#[derive(Debug, Drop)]
 pub enum Refusal {
     /// The words are none of a command.
     Usage,
@@ -22,6 +23,15 @@ pub enum Refusal {
     NotUtf8(u32),
     /// The page has a form that isn't built.
     NotBuilt(u32),
+    /// Some call or argument has a hundred others round it, in the page itself or in what is taken of the
+    /// template of this full name.
+    BracesTooDeep { template: Option<Str>, place: u32 },
+    /// The expansion costs more than it may.
+    TooLarge,
+    /// The template of this full name isn't UTF-8.
+    TemplateNotUtf8 { template: Str, place: u32 },
+    /// The template of this full name is longer than a template may be.
+    TemplateTooLong { template: Str },
     /// The HTML of the page is longer than HTML may be.
     HtmlTooLong,
     /// The input is longer than HTML may be.
@@ -75,6 +85,31 @@ impl From<FetchRefusal> for Refusal {
     }
 }
 
+impl From<ExpandRefusal> for Refusal {
+    ghost use Rattle.wt_pagetool.specs.Causes.{refusal_of_expansion};
+
+    ghost from_gives = { λ refusal r. r ≡ refusal_of_expansion refusal };
+
+    fn from(refusal: ExpandRefusal) -> Refusal {
+        match refusal {
+            ExpandRefusal::BracesTooDeep { title, place } => Refusal::BracesTooDeep {
+                template: title,
+                place,
+            },
+            ExpandRefusal::TooLarge => Refusal::TooLarge,
+            ExpandRefusal::FolderFault => Refusal::FolderFault,
+            ExpandRefusal::TemplateNotUtf8 { title, place } => Refusal::TemplateNotUtf8 {
+                template: title,
+                place,
+            },
+            ExpandRefusal::TemplateTooLong { title } => {
+                Refusal::TemplateTooLong { template: title }
+            }
+            ExpandRefusal::NoMemory => Refusal::NoMemory,
+        }
+    }
+}
+
 impl From<HtmlRefusal> for Refusal {
     ghost from_gives = { λ refusal r. r ≡ refusal_of refusal };
 
@@ -89,8 +124,8 @@ impl From<HtmlRefusal> for Refusal {
 
 impl Refusal {
     /// How a call ends that is refused so.
-    pub fn status(self) -> Status
-        ensures { result ≡ status_of self }
+    pub fn status(&self) -> Status
+        ensures { result ≡ status_of self.now }
     {
         match self {
             Refusal::Usage => Status::Usage,
@@ -98,6 +133,10 @@ impl Refusal {
             | Refusal::TooLong
             | Refusal::NotUtf8(_)
             | Refusal::NotBuilt(_)
+            | Refusal::BracesTooDeep { .. }
+            | Refusal::TooLarge
+            | Refusal::TemplateNotUtf8 { .. }
+            | Refusal::TemplateTooLong { .. }
             | Refusal::HtmlTooLong => Status::PageRefused,
             Refusal::InputTooLong
             | Refusal::Html { .. }
@@ -162,10 +201,37 @@ fn unsourced_line(alloc: Global, element: u32) -> Result<String, AllocError>
     format!(in alloc; "wtround: element {element} has no source\n")
 }
 
+#[tactic(auto, using(crate::proofs::RefusalLines::own_braces_parts, crate::proofs::RefusalLines::braces_parts))]
+fn braces_line(alloc: Global, template: &Option<Str>, place: u32) -> Result<String, AllocError>
+    ensures { IfOk result (λ line. string_bytes line ≡ line_of (Refusal.BracesTooDeep template.now place)) }
+{
+    match template {
+        Some(title) => format!(in alloc;
+            "wtround: braces too deep at {place} in {}\n",
+            title.as_str()
+        ),
+        None => format!(in alloc; "wtround: braces too deep at {place}\n"),
+    }
+}
+
+#[tactic(auto, using(crate::proofs::RefusalLines::not_utf8_parts))]
+fn not_utf8_line(alloc: Global, template: &str, place: u32) -> Result<String, AllocError>
+    ensures { IfOk result (λ line. string_bytes line ≡ line_of (Refusal.TemplateNotUtf8 template.now place)) }
+{
+    format!(in alloc; "wtround: {template} not UTF-8 at {place}\n")
+}
+
+#[tactic(auto, using(crate::proofs::RefusalLines::too_long_parts))]
+fn too_long_line(alloc: Global, template: &str) -> Result<String, AllocError>
+    ensures { IfOk result (λ line. string_bytes line ≡ line_of (Refusal.TemplateTooLong template.now)) }
+{
+    format!(in alloc; "wtround: {template} too long\n")
+}
+
 /// The line that names a refusal.
 #[tactic(auto, unfolding(crate::specs::Refusals::line_of, crate::specs::Refusals::text_of, crate::specs::Refusals::usage_text))]
-pub fn line_of(alloc: Global, refusal: Refusal) -> Result<String, AllocError>
-    ensures { IfOk result (λ line. string_bytes line ≡ line_of refusal) }
+pub fn line_of(alloc: Global, refusal: &Refusal) -> Result<String, AllocError>
+    ensures { IfOk result (λ line. string_bytes line ≡ line_of refusal.now) }
 {
     match refusal {
         Refusal::Usage => format!(in alloc;
@@ -175,11 +241,17 @@ pub fn line_of(alloc: Global, refusal: Refusal) -> Result<String, AllocError>
         Refusal::TooLong => format!(in alloc; "wtround: page too long\n"),
         Refusal::NotUtf8(place) => format!(in alloc; "wtround: page not UTF-8 at {place}\n"),
         Refusal::NotBuilt(place) => format!(in alloc; "wtround: not built at {place}\n"),
+        Refusal::BracesTooDeep { template, place } => braces_line(alloc, template, *place),
+        Refusal::TooLarge => format!(in alloc; "wtround: expansion too large\n"),
+        Refusal::TemplateNotUtf8 { template, place } => {
+            not_utf8_line(alloc, template.as_str(), *place)
+        }
+        Refusal::TemplateTooLong { template } => too_long_line(alloc, template.as_str()),
         Refusal::HtmlTooLong => format!(in alloc; "wtround: html too long\n"),
         Refusal::InputTooLong => format!(in alloc; "wtround: input too long\n"),
-        Refusal::Html { place, why } => html_line(alloc, place, why),
-        Refusal::Unfit { element, why } => unfit_line(alloc, element, why),
-        Refusal::Unsourced(element) => unsourced_line(alloc, element),
+        Refusal::Html { place, why } => html_line(alloc, *place, *why),
+        Refusal::Unfit { element, why } => unfit_line(alloc, *element, *why),
+        Refusal::Unsourced(element) => unsourced_line(alloc, *element),
         Refusal::ReadFault => format!(in alloc; "wtround: read fault\n"),
         Refusal::FolderFault => format!(in alloc; "wtround: folder fault\n"),
         Refusal::WriteFault => format!(in alloc; "wtround: write fault\n"),

@@ -34,7 +34,7 @@ fn refuse<E: Sink>(alloc: Global, refusal: Refusal, err: &mut E) -> Status
     ensures { Told refusal result (written_to E.Sink err.old err.new)
         ⊎ Told Refusal.NoMemory result (written_to E.Sink err.old err.new) }
 {
-    match line_of(alloc, refusal) {
+    match line_of(alloc, &refusal) {
         Ok(line) => match write_all(err, line.as_bytes()) {
             Ok(()) => refusal.status(),
             Err(_) => Status::WriteFault,

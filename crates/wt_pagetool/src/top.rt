@@ -3,14 +3,15 @@ ghost use Rattle.std.specs.Io.KnownBytes.{IsAtEnd};
 ghost use Rattle.wt_pagetool.specs.Answers.{done, html_answer, answer_told, status_of_answer, IsDone};
 ghost use Rattle.wt_pagetool.specs.Calls.{call, IsDue, KeptCounts, NothingFailed};
 ghost use Rattle.wt_pagetool.specs.Causes.{Answered, IsKept, found_status};
-ghost use Rattle.wt_pagetool.specs.Devices.{read_from, fetched_from, written_to, AnswersFirst, AnswersNames};
+ghost use Rattle.wt_pagetool.specs.Devices.{read_from, fetched_from, written_to, AnswersFirst, AnswersNames, AnswersExpansion};
 ghost use Rattle.wt_pagetool.specs.GivenBack.{GaveBack};
 ghost use Rattle.wt_pagetool.specs.Reports.{WasDone, WasRefused, OutFailed, ErrFailed};
-ghost use Rattle.wt_pagetool.specs.Reports.{WrotePage, WroteSource};
+ghost use Rattle.wt_pagetool.specs.Reports.{WrotePage, WroteExpansion, WroteSource};
 ghost use Rattle.wt_pagetool.specs.Statuses.{code, IsAnswer, IsAnswered, IsUnanswered};
-ghost use Rattle.wt_pagetool.specs.Words.{command_of, titles_of, Fetches, Reads};
+ghost use Rattle.wt_pagetool.specs.Words.{command_of, titles_of, Fetches, Reads, Expands};
 
 use crate::command::{Command, PageCommand, command_of};
+use crate::expand_command::expansion_of_title;
 use crate::output::Output;
 use crate::page_command::output_of_title;
 use crate::refusal::Refusal;
@@ -36,10 +37,14 @@ fn find_answer<S: Source, F: Folder>(
     ensures ended { Reads (command_of words.now) → OnOk result (IsAtEnd (S.left input.new)) }
     ensures input_kept { IsKept result (S.fault_count input.old) (S.fault_count input.new) }
     ensures folder_kept { IsKept result (F.fault_count folder.old) (F.fault_count folder.new) }
-    ensures asks { AnswersFirst (fetched_from F.Folder folder.old folder.new)
-        (titles_of (command_of words.now)) }
-    ensures asked { IsAnswer (found_status result)
+    ensures asks { ¬ Expands (command_of words.now)
+        → AnswersFirst (fetched_from F.Folder folder.old folder.new) (titles_of (command_of words.now)) }
+    ensures asked { ¬ Expands (command_of words.now) → IsAnswer (found_status result)
         → AnswersNames (fetched_from F.Folder folder.old folder.new) (titles_of (command_of words.now)) }
+    ensures named { (title : List ℕ) → command_of words.now ≡ Some (Command.Expand title)
+        → IfSome (F.pages folder.old) (λ pages. IfSome (pages title)
+        (λ page. OnOk result (AnswersExpansion (fetched_from F.Folder folder.old folder.new) pages title page))) }
+    ensures kept { F.pages folder.new ≡ F.pages folder.old }
     ensures unread { ¬ Reads (command_of words.now) → input.new ≡ input.old }
     ensures unasked { ¬ Fetches (command_of words.now) → folder.new ≡ folder.old }
 {
@@ -47,6 +52,7 @@ fn find_answer<S: Source, F: Folder>(
         Some(Command::Page(command, title)) => {
             output_of_title(alloc, command, title.as_str(), folder)
         }
+        Some(Command::Expand(title)) => expansion_of_title(alloc, title.as_str(), folder),
         Some(Command::Wikitext) => wikitext_of_input(alloc, input),
         None => Err(Refusal::Usage),
     }
@@ -57,7 +63,8 @@ fn find_answer<S: Source, F: Folder>(
 ///
 /// `html TITLE` writes to `out` the HTML of the page that stands in `folder` under the title, and
 /// `ranges TITLE` a line for each of its nodes that has a number: `mwN KIND START END OPEN CLOSE`, in
-/// bytes. `wikitext` reads the HTML of `input` to its end and writes to `out` the source of the page
+/// bytes. `expand TITLE` writes the text of the page with its templates expanded, whose pages stand in
+/// `folder`, too. `wikitext` reads the HTML of `input` to its end and writes to `out` the source of the page
 /// for which it stands. Nothing goes to `out` before the whole answer is known, and each refusal has
 /// its one line on `err`.
 ///
@@ -77,6 +84,14 @@ pub fn run<S: Source, F: Folder, W: Sink, E: Sink>(
         → command_of words.now ≡ Some (Command.Page command title) → result ≡ code Status.Done
         → IfSome (F.pages folder.old)
         (λ pages. WrotePage command (pages title) (W.taken out.old) (W.taken out.new)) }
+
+    // `expand`, when it is done, wrote what the items of the expanded page show; nothing refuses the
+    // expansion, and the folder answered the page's title and then the names of the pages that are fetched
+    // for it, each once, in the order of their first fetch.
+    ensures expansion { (title : List ℕ)
+        → command_of words.now ≡ Some (Command.Expand title) → result ≡ code Status.Done
+        → IfSome (F.pages folder.old) (λ pages. WroteExpansion pages title
+        (fetched_from F.Folder folder.old folder.new) (W.taken out.old) (W.taken out.new)) }
 
     // `wikitext`, when it is done, read the input to its end and wrote the source of the tree for which
     // all of it stands.
@@ -124,12 +139,13 @@ pub fn run<S: Source, F: Folder, W: Sink, E: Sink>(
         (read_from S.Source input.old input.new) (fetched_from F.Folder folder.old folder.new)
         (written_to W.Sink out.old out.new) (written_to E.Sink err.old err.new)) }
 
-    // The folder answered the first of the titles that the command needs, each once, and no other name;
-    // all of them in a call that is answered.
-    ensures asks { AnswersFirst (fetched_from F.Folder folder.old folder.new)
-        (titles_of (command_of words.now)) }
-    ensures asked { IsAnswered result
+    // Of a command that expands nothing the folder answered the first of the titles that it needs, each
+    // once, and no other name; all of them in a call that is answered. It keeps its pages in any call.
+    ensures asks { ¬ Expands (command_of words.now)
+        → AnswersFirst (fetched_from F.Folder folder.old folder.new) (titles_of (command_of words.now)) }
+    ensures asked { ¬ Expands (command_of words.now) → IsAnswered result
         → AnswersNames (fetched_from F.Folder folder.old folder.new) (titles_of (command_of words.now)) }
+    ensures pages_kept { F.pages folder.new ≡ F.pages folder.old }
 
     // A command that doesn't read leaves the input alone, and one that doesn't fetch the folder.
     ensures unread { ¬ Reads (command_of words.now) → input.new ≡ input.old }

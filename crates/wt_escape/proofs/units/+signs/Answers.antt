@@ -29,8 +29,11 @@ push_signs-returns-in_ok-push_page_link-in-PageLink t c = λ same tells.
     let pl = c.args.place in
     let k = option_map kept_view c.find-kept.result in
     let ts = views (out-Node n).children in
-    signs_pushed n way.PageLink p pl k (all_signs c.args.out.now.items) (all_signs c.push_page_link.new.out.items) (unless_kept p k (view n) (new_thing role.Link (page_link (read_link (href_of (label_of (out-Node n)))) ts (spelled_within p pl (signs_of_all p pl ts))) k))
-    (ap (λ (r : Spelled). r.way) (sym c.shape.ensures) ∙ c.in-PageLink.is) c.find-kept.ensures (sym (unless_seen n p k _)) (c.in_ok-push_page_link-in-PageLink.ensures same tells)
+    signs_pushed n way.PageLink p pl k (all_signs c.args.out.now.items) (all_signs c.push_page_link.new.out.items)
+    (unless_kept p k (view n) (new_thing role.Link
+    (page_link (read_link (href_of (label_of (out-Node n)))) ts (spelled_within p pl (signs_of_all p pl ts))) k))
+    (ap (λ (r : Spelled). r.way) (sym c.shape.ensures) ∙ c.in-PageLink.is) c.find-kept.ensures (sym (unless_seen n p k _))
+    (c.in_ok-push_page_link-in-PageLink.ensures same tells)
 
 pub push_signs-returns-in_ok-push_external_link-in-ExternalLink : goal.push_signs-returns-in_ok-push_external_link-in-ExternalLink
 push_signs-returns-in_ok-push_external_link-in-ExternalLink t c = λ same tells.
@@ -39,8 +42,10 @@ push_signs-returns-in_ok-push_external_link-in-ExternalLink t c = λ same tells.
     let pl = c.args.place in
     let k = option_map kept_view c.find-kept.result in
     let ts = views (out-Node n).children in
-    signs_pushed n way.ExternalLink p pl k (all_signs c.args.out.now.items) (all_signs c.push_external_link.new.out.items) (unless_kept p k (view n) (new_thing role.External (external_link (href_of (label_of (out-Node n))) (spelled_within p pl (signs_of_all p pl ts))) k))
-    (ap (λ (r : Spelled). r.way) (sym c.shape.ensures) ∙ c.in-ExternalLink.is) c.find-kept.ensures (sym (unless_seen n p k _)) (c.in_ok-push_external_link-in-ExternalLink.ensures same tells)
+    signs_pushed n way.ExternalLink p pl k (all_signs c.args.out.now.items) (all_signs c.push_external_link.new.out.items)
+    (unless_kept p k (view n) (new_thing role.External (external_link (href_of (label_of (out-Node n))) (spelled_within p pl (signs_of_all p pl ts))) k))
+    (ap (λ (r : Spelled). r.way) (sym c.shape.ensures) ∙ c.in-ExternalLink.is) c.find-kept.ensures (sym (unless_seen n p k _))
+    (c.in_ok-push_external_link-in-ExternalLink.ensures same tells)
 
 pub push_signs-returns-in_ok-push_tag-in-Tag : goal.push_signs-returns-in_ok-push_tag-in-Tag
 push_signs-returns-in_ok-push_tag-in-Tag t c = λ same tells.
@@ -49,8 +54,10 @@ push_signs-returns-in_ok-push_tag-in-Tag t c = λ same tells.
     let pl = c.args.place in
     let k = option_map kept_view c.find-kept.result in
     let ts = views (out-Node n).children in
-    signs_pushed n way.Tag p pl k (all_signs c.args.out.now.items) (all_signs c.push_tag.new.out.items) (unless_kept p k (view n) (new_thing role.Node (tag_pair k (spelled_within p pl (signs_of_all p pl ts))) k))
-    (ap (λ (r : Spelled). r.way) (sym c.shape.ensures) ∙ c.in-Tag.is) c.find-kept.ensures (sym (unless_seen n p k _)) (c.in_ok-push_tag-in-Tag.ensures same tells)
+    signs_pushed n way.Tag p pl k (all_signs c.args.out.now.items) (all_signs c.push_tag.new.out.items)
+    (unless_kept p k (view n) (new_thing role.Node (tag_pair k (spelled_within p pl (signs_of_all p pl ts))) k))
+    (ap (λ (r : Spelled). r.way) (sym c.shape.ensures) ∙ c.in-Tag.is) c.find-kept.ensures (sym (unless_seen n p k _))
+    (c.in_ok-push_tag-in-Tag.ensures same tells)
 
 pub push_page_link-returns-then-done : goal.push_page_link-returns-then-done
 push_page_link-returns-then-done t c = λ same tells.
@@ -58,7 +65,8 @@ push_page_link-returns-then-done t c = λ same tells.
     (unless_kept (page_view same c.args.page.now) (option_map kept_view c.args.kept) (view c.args.node.now))
     (new_thing role.Link (page_link (read_link (href_of (label_of (out-Node c.args.node.now)))) (views (out-Node c.args.node.now).children)
     (spelled_within (page_view same c.args.page.now) c.args.place
-    (signs_of_all (page_view same c.args.page.now) c.args.place (views (out-Node c.args.node.now).children)))) (option_map kept_view c.args.kept)) c.if-done.true (c.in_ok-done.ensures same tells)
+    (signs_of_all (page_view same c.args.page.now) c.args.place (views (out-Node c.args.node.now).children)))) (option_map kept_view c.args.kept))
+    c.if-done.true (c.in_ok-done.ensures same tells)
 
 pub push_page_link-returns : goal.push_page_link-returns
 push_page_link-returns t c = λ same tells.
@@ -68,7 +76,8 @@ push_page_link-returns t c = λ same tells.
     (unless_kept (page_view same c.args.page.now) k (view c.args.node.now))
     (new_thing role.Link (page_link (read_link (href_of (label_of (out-Node c.args.node.now)))) (views (out-Node c.args.node.now).children)
     (spelled_within (page_view same c.args.page.now) c.args.place
-    (signs_of_all (page_view same c.args.page.now) c.args.place (views (out-Node c.args.node.now).children)))) k) c.if-done.false (c.in_ok-done.ensures same tells)
+    (signs_of_all (page_view same c.args.page.now) c.args.place (views (out-Node c.args.node.now).children)))) k) c.if-done.false
+    (c.in_ok-done.ensures same tells)
     (c.in_ok-push_new.ensures ∙ ap (λ s. mid ++ new_thing role.Link s k) (c.in_ok-source.ensures same tells))
 
 pub push_external_link-returns-then-done : goal.push_external_link-returns-then-done
@@ -77,7 +86,8 @@ push_external_link-returns-then-done t c = λ same tells.
     (unless_kept (page_view same c.args.page.now) (option_map kept_view c.args.kept) (view c.args.node.now))
     (new_thing role.External (external_link (href_of (label_of (out-Node c.args.node.now)))
     (spelled_within (page_view same c.args.page.now) c.args.place
-    (signs_of_all (page_view same c.args.page.now) c.args.place (views (out-Node c.args.node.now).children)))) (option_map kept_view c.args.kept)) c.if-done.true (c.in_ok-done.ensures same tells)
+    (signs_of_all (page_view same c.args.page.now) c.args.place (views (out-Node c.args.node.now).children)))) (option_map kept_view c.args.kept))
+    c.if-done.true (c.in_ok-done.ensures same tells)
 
 pub push_external_link-returns : goal.push_external_link-returns
 push_external_link-returns t c = λ same tells.
@@ -87,7 +97,8 @@ push_external_link-returns t c = λ same tells.
     (unless_kept (page_view same c.args.page.now) k (view c.args.node.now))
     (new_thing role.External (external_link (href_of (label_of (out-Node c.args.node.now)))
     (spelled_within (page_view same c.args.page.now) c.args.place
-    (signs_of_all (page_view same c.args.page.now) c.args.place (views (out-Node c.args.node.now).children)))) k) c.if-done.false (c.in_ok-done.ensures same tells)
+    (signs_of_all (page_view same c.args.page.now) c.args.place (views (out-Node c.args.node.now).children)))) k) c.if-done.false
+    (c.in_ok-done.ensures same tells)
     (c.in_ok-push_new.ensures ∙ ap (λ s. mid ++ new_thing role.External s k) (c.in_ok-source.ensures same tells))
 
 pub push_tag-returns-then-done : goal.push_tag-returns-then-done
@@ -96,7 +107,8 @@ push_tag-returns-then-done t c = λ same tells.
     (unless_kept (page_view same c.args.page.now) (option_map kept_view c.args.kept) (view c.args.node.now))
     (new_thing role.Node (tag_pair (option_map kept_view c.args.kept)
     (spelled_within (page_view same c.args.page.now) c.args.place
-    (signs_of_all (page_view same c.args.page.now) c.args.place (views (out-Node c.args.node.now).children)))) (option_map kept_view c.args.kept)) c.if-done.true (c.in_ok-done.ensures same tells)
+    (signs_of_all (page_view same c.args.page.now) c.args.place (views (out-Node c.args.node.now).children)))) (option_map kept_view c.args.kept))
+    c.if-done.true (c.in_ok-done.ensures same tells)
 
 pub push_tag-returns : goal.push_tag-returns
 push_tag-returns t c = λ same tells.
@@ -106,7 +118,8 @@ push_tag-returns t c = λ same tells.
     (unless_kept (page_view same c.args.page.now) k (view c.args.node.now))
     (new_thing role.Node (tag_pair (option_map kept_view c.args.kept)
     (spelled_within (page_view same c.args.page.now) c.args.place
-    (signs_of_all (page_view same c.args.page.now) c.args.place (views (out-Node c.args.node.now).children)))) k) c.if-done.false (c.in_ok-done.ensures same tells)
+    (signs_of_all (page_view same c.args.page.now) c.args.place (views (out-Node c.args.node.now).children)))) k) c.if-done.false
+    (c.in_ok-done.ensures same tells)
     (c.in_ok-push_new.ensures ∙ ap (λ s. mid ++ new_thing role.Node s k) (c.in_ok-source.ensures same tells))
 
 pub units_of-loop-node-preserved : goal.units_of-loop-node-preserved

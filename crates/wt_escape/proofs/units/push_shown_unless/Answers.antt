@@ -12,12 +12,14 @@ use Rattle.wt_escape.proofs.units.push_shown_unless.Goals as goal
 pub returns-then-done : goal.returns-then-done
 returns-then-done c = λ same tells.
     leaves_done c.in_ok-done.done (all_signs c.args.out.now.items) (all_signs c.push_if_unchanged.new.out.items)
-    (unless_kept (page_view same c.args.page.now) (option_map kept_view c.args.kept) (view c.args.node.now)) (letters (shown (view c.args.node.now))) c.if-done.true
+    (unless_kept (page_view same c.args.page.now) (option_map kept_view c.args.kept) (view c.args.node.now))
+    (letters (shown (view c.args.node.now))) c.if-done.true
     (c.in_ok-done.ensures same tells)
 
 pub returns : goal.returns
 returns c = λ same tells.
     let mid = all_signs c.push_if_unchanged.new.out.items in
     leaves_then c.in_ok-done.done (all_signs c.args.out.now.items) mid (all_signs c.push_shown.new.out.items)
-    (unless_kept (page_view same c.args.page.now) (option_map kept_view c.args.kept) (view c.args.node.now)) (letters (shown (view c.args.node.now))) c.if-done.false
+    (unless_kept (page_view same c.args.page.now) (option_map kept_view c.args.kept) (view c.args.node.now))
+    (letters (shown (view c.args.node.now))) c.if-done.false
     (c.in_ok-done.ensures same tells) (c.in_ok-push_shown.ensures)

@@ -1,4 +1,4 @@
-use Rattle.wt_pagetool.proofs.RunLaws.{run_page, run_wikitext, run_exact, run_done, run_refused, run_fault, run_complete, run_kept, run_found}
+use Rattle.wt_pagetool.proofs.RunLaws.{run_page, run_wikitext, run_exact, run_done, run_refused, run_fault, run_complete, run_kept, run_found, run_expansion}
 use Rattle.wt_pagetool.proofs.GivenBackLaws.{run_gives_back}
 use Rattle.wt_pagetool.specs.Answers.{answer_told}
 use Rattle.wt_pagetool.specs.Devices.{read_from, fetched_from, written_to}
@@ -11,6 +11,14 @@ returns-clause-page g c command title is e =
     (written_to g.W.Sink c.args.out.now c.report.new.out) (written_to g.E.Sink c.args.err.now c.report.new.err)
     c.find_answer-found.result c.report.result c.code.result c.code.ensures c.find_answer-found.ensures.answered
     c.find_answer-found.ensures.due c.report.ensures command title is e
+
+pub returns-clause-expansion : goal.returns-clause-expansion
+returns-clause-expansion g c title is e =
+    run_expansion c.args.words.now (read_from g.S.Source c.args.input.now c.find_answer-found.new.input)
+    (fetched_from g.F.Folder c.args.folder.now c.find_answer-found.new.folder)
+    (written_to g.W.Sink c.args.out.now c.report.new.out) (written_to g.E.Sink c.args.err.now c.report.new.err)
+    c.find_answer-found.result c.report.result c.code.result c.code.ensures c.find_answer-found.ensures.answered
+    c.find_answer-found.ensures.due c.report.ensures title is (c.find_answer-found.ensures.named title is) e
 
 pub returns-clause-wikitext : goal.returns-clause-wikitext
 returns-clause-wikitext g c is e =
@@ -73,7 +81,7 @@ returns-clause-kept g c h =
     c.find_answer-found.ensures.folder_kept c.report.ensures h
 
 pub returns-clause-asked : goal.returns-clause-asked
-returns-clause-asked g c h =
-    c.find_answer-found.ensures.asked (run_found c.find_answer-found.result c.report.result c.code.result
+returns-clause-asked g c expands h =
+    c.find_answer-found.ensures.asked expands (run_found c.find_answer-found.result c.report.result c.code.result
     (written_to g.W.Sink c.args.out.now c.report.new.out) (written_to g.E.Sink c.args.err.now c.report.new.err) c.code.ensures
     c.report.ensures h).is

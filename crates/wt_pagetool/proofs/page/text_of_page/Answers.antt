@@ -1,6 +1,6 @@
 use Rattle.std.proofs.Common.{◌≤◌, length, arith}
-use Rattle.wt_pagetool.proofs.PageLaws.{place_within, page_too_long, page_not_utf8, tree_answered, tree_refused}
-use Rattle.wt_pagetool.proofs.page.tree_of_page.Goals as goal
+use Rattle.wt_pagetool.proofs.PageLaws.{place_within, page_too_long, page_not_utf8, page_text}
+use Rattle.wt_pagetool.proofs.page.text_of_page.Goals as goal
 
 pub returns-then-page-gt-PAGE_BYTES-clause-refused :
     goal.returns-then-page-gt-PAGE_BYTES-clause-refused
@@ -12,14 +12,7 @@ overflow_cast-result c =
     omega (arith, within, c.if-page-gt-PAGE_BYTES.false)
 
 pub returns-in-Ok-clause-answered : goal.returns-in-Ok-clause-answered
-returns-in-Ok-clause-answered c =
-    tree_answered c.args.page.now c.in-Ok.text.now c.tree_of_text.result c.in-Ok.ensures.text
-    (omega (arith, c.if-page-gt-PAGE_BYTES.false)) c.in-Ok.ensures.whole c.tree_of_text.ensures.built
-
-pub returns-in-Ok-clause-refused : goal.returns-in-Ok-clause-refused
-returns-in-Ok-clause-refused c =
-    tree_refused c.args.page.now c.in-Ok.text.now c.tree_of_text.result c.in-Ok.ensures.text
-    (omega (arith, c.if-page-gt-PAGE_BYTES.false)) c.in-Ok.ensures.whole c.tree_of_text.ensures.refused
+returns-in-Ok-clause-answered c = page_text c.args.page.now (omega (arith, c.if-page-gt-PAGE_BYTES.false)) c.in-Ok.ensures.whole
 
 pub returns-in-Err-clause-refused : goal.returns-in-Err-clause-refused
 returns-in-Err-clause-refused c = page_not_utf8 c.args.page.now c.in-Err.place (omega (arith, c.if-page-gt-PAGE_BYTES.false)) c.in-Err.ensures.place

@@ -1,0 +1,81 @@
+-- The page's own text is entered first; then its work is that of what it gives.
+use Rattle.std.proofs.Common.{◌≡◌, ℕ, ◌+◌, Option, Some, None, option_map, List, [], ◌∷◌, ◌++◌, Ok, refl, sym, ap, ◌∙◌, subst, append-nil}
+use Rattle.std.specs.Option.{option_or}
+use Rattle.wt_span.specs.declared.form.Mode.TheVariants as mode
+use Rattle.wt_span.specs.declared.form.Piece.{Piece}
+use Rattle.wt_span.specs.Items.{items}
+use Rattle.wt_expand.specs.Expansion.{Reading, most_templates, page_reading, page_work, text_given}
+use Rattle.wt_expand.specs.Work.{Pages, Entry, Refused, braces_too_deep, deep_place, entered, fetches, first_refusal, firsts_after, names_asked, refusal_from}
+use Rattle.wt_transclusion.specs.declared.refusal.ExpandRefusal.{ExpandRefusal}
+use Rattle.wt_transclusion.specs.declared.store.Store.{Store}
+use Rattle.wt_transclusion.specs.Answers.{IsRefused}
+use Rattle.wt_levels.specs.Ledgers.{Ledger, AnswersOutput, reading_of}
+
+pub reading_is : (pages : Pages) → reading_of pages mode.Page [] 40 [] ≡ page_reading pages
+unfolding most_templates
+reading_is pages = refl
+
+-- nothing is spent or known before
+abbrev pub at_first : Option (List (List ℕ)) → Ledger
+at_first answered = record { spent = 0; met = []; answered = answered }
+
+work_is : (pages : Pages) (page : List ℕ) → page_work pages page ≡ entered None ∷ (text_given (page_reading pages) page).work
+unfolding page_work
+work_is pages page = refl
+
+refusal_is : (pages : Pages) (page : List ℕ) (es : List Entry) → first_refusal pages page es ≡ refusal_from pages page 0 es
+unfolding first_refusal
+refusal_is pages page es = refl
+
+asked_is : (es : List Entry) → names_asked es ≡ firsts_after [] (fetches es)
+unfolding names_asked
+asked_is es = refl
+
+or_deep : (o : Option ℕ) (p : Option Refused) → o ≡ None → option_or (option_map (braces_too_deep None) o) p ≡ p
+or_deep o p e = ap (λ x. option_or (option_map (braces_too_deep None) x) p) e
+
+-- where the page isn't nested too deep, the first refusal is that of its text
+pub entered_first : (pages : Pages) (page : List ℕ) → deep_place mode.Page page ≡ None
+    → first_refusal pages page (page_work pages page) ≡ refusal_from pages page 0 (text_given (page_reading pages) page).work
+entered_first pages page e =
+    refusal_is pages page (page_work pages page) ∙ ap (refusal_from pages page 0) (work_is pages page)
+    ∙ or_deep (deep_place mode.Page page) (refusal_from pages page (0 + 0) (text_given (page_reading pages) page).work) e
+
+-- else it is refused for that
+pub too_deep_first : (pages : Pages) (page : List ℕ) (place : ℕ) → deep_place mode.Page page ≡ Some place
+    → first_refusal pages page (page_work pages page) ≡ Some (braces_too_deep None place)
+too_deep_first pages page place e =
+    refusal_is pages page (page_work pages page) ∙ ap (refusal_from pages page 0) (work_is pages page)
+    ∙ ap (λ o. option_or (option_map (braces_too_deep None) o) (refusal_from pages page (0 + 0) (text_given (page_reading pages) page).work)) e
+
+pub page_refused : (pages : Pages) (page : List ℕ) (x : ExpandRefusal) → deep_place mode.Page page ≡ None
+    → ((rest : List Entry) → IsRefused (refusal_from pages page 0 ((text_given (reading_of pages mode.Page [] 40 []) page).work ++ rest)) x)
+    → IsRefused (first_refusal pages page (page_work pages page)) x
+page_refused pages page x e h =
+    let w = (text_given (page_reading pages) page).work in
+    let own = subst (λ (r : Reading). IsRefused (refusal_from pages page 0 ((text_given r page).work ++ [])) x) (reading_is pages) (h []) in
+    subst (λ (o : Option Refused). IsRefused o x) (sym (entered_first pages page e ∙ ap (refusal_from pages page 0) (sym (append-nil w)))) own
+
+names_end : (a : Option (List (List ℕ))) → option_map (λ ns. ns ++ []) a ≡ a
+names_end None = refl
+names_end (Some ns) = ap Some (append-nil ns)
+
+pub record Shows (pages : Pages) (page : List ℕ) (answered told : Option (List (List ℕ))) (ps : List Piece) : Type 0 where
+  pub items_are : items ps ≡ (text_given (page_reading pages) page).items
+  pub allowed : first_refusal pages page (page_work pages page) ≡ None
+  pub named : told ≡ option_map (λ names. names ++ names_asked (page_work pages page)) answered
+
+pub page_shown : (pages : Pages) (page : List ℕ) (answered told : Option (List (List ℕ))) (store : Store) (now : ℕ) (ps : List Piece)
+    → deep_place mode.Page page ≡ None
+    → AnswersOutput pages page (at_first answered) (text_given (reading_of pages mode.Page [] 40 []) page) store now told (Ok ps)
+    → Shows pages page answered told ps
+page_shown pages page answered told store now ps e given =
+    let h = subst (λ (r : Reading). AnswersOutput pages page (at_first answered) (text_given r page) store now told (Ok ps)) (reading_is pages) given in
+    let w = (text_given (page_reading pages) page).work in
+    record {
+      items_are = h.0;
+      allowed = entered_first pages page e ∙ ap (refusal_from pages page 0) (sym (append-nil w)) ∙ h.3.refusal [];
+      named = sym (ap (λ es. option_map (λ ns. ns ++ es) answered) (asked_is (page_work pages page)
+          ∙ ap (λ es. firsts_after [] (fetches es)) (work_is pages page))
+          ∙ ap (λ es. option_map (λ ns. ns ++ firsts_after [] (fetches es)) answered) (sym (append-nil w)) ∙ h.3.names [] ∙ names_end told);
+    }

@@ -1,0 +1,105 @@
+//! The text that a page shows with its templates expanded.
+ghost use Rattle.std.specs.Prelude.{◌≡◌, ◌<◌, ◌^◌, ◌++◌, Some, None, IfErr, IfOk, OnOk, length, option_map};
+ghost use Rattle.wt_span.specs.Items.{is_mark_form, items, items_of};
+ghost use Rattle.wt_span.specs.declared.form.Mode.TheVariants as text_mode;
+ghost use Rattle.wt_expand.specs.Expansion.{page_work};
+ghost use Rattle.wt_expand.specs.PageCalls.{expanded_page};
+ghost use Rattle.wt_expand.specs.Texts.{shown_text};
+ghost use Rattle.wt_expand.specs.Work.{Pages, deep_place, first_refusal, names_asked};
+ghost use Rattle.wt_transclusion.specs.Answers.{IsCounted, IsNoFault, IsRefused};
+ghost use Rattle.wt_transclusion.specs.Reads.{IsRead};
+
+use crate::expansion::{Expansion, MOST_TEMPLATES};
+use bumpalo::Bump;
+use std::alloc::Global;
+use wt_braces::BraceRefusal;
+use wt_outer::Folder;
+use wt_span::{Form, Mode, NoMemory, Piece, Str};
+use wt_transclusion::{ExpandRefusal, ReadText, Values, read_in};
+
+/// Whether a form is an invisible mark.
+fn is_mark(form: Form) -> bool
+    ensures { result ≡ is_mark_form form }
+{
+    match form {
+        Form::Chars | Form::Entity(_) | Form::Nowiki | Form::Extension | Form::Function => false,
+        Form::Comment | Form::Include | Form::Hidden | Form::EmptyCall => true,
+    }
+}
+
+/// Appends what a piece shows.
+fn push_shown(text: &mut Str, piece: &Piece<'_>) -> Result<(), NoMemory>
+    ensures { OnOk result (text.new ≡ text.old ++ shown_text (items_of piece.now)) }
+{
+    if is_mark(piece.form) {
+        return Ok(());
+    }
+    text.push_str(piece.text.as_str())?;
+    Ok(())
+}
+
+/// The text that pieces show.
+fn shown(alloc: Global, pieces: &[Piece<'_>]) -> Result<Str, NoMemory>
+    ensures { IfOk result (λ text. text ≡ shown_text (items pieces.now)) }
+{
+    let mut text = Str::new(alloc);
+    for piece in pieces {
+        push_shown(&mut text, piece)?;
+    }
+    Ok(text)
+}
+
+/// The page as it is read.
+fn read_page<'a>(
+    alloc: Global,
+    page: &'a str,
+    arena: &'a Bump<Global>,
+) -> Result<ReadText<'a>, ExpandRefusal>
+    requires { length page.now < 2 ^ 32 }
+    ensures read { IfOk result (IsRead text_mode.Page page.entry.now) }
+    ensures fits { OnOk result (deep_place text_mode.Page page.entry.now ≡ None) }
+    ensures refused { IfErr result (λ e. (pages : Pages)
+        → IsRefused (first_refusal pages page.entry.now (page_work pages page.entry.now)) e) }
+    ensures fault { IfErr result IsNoFault }
+{
+    match read_in(alloc, arena, page, Mode::Page) {
+        Ok(read) => Ok(read),
+        Err(BraceRefusal::BracesTooDeep { place }) => {
+            Err(ExpandRefusal::BracesTooDeep { title: None, place })
+        }
+        Err(BraceRefusal::NoMemory) => Err(ExpandRefusal::NoMemory),
+    }
+}
+
+/// The text that a page shows with its templates expanded, which are taken from a folder and kept in
+/// the arena.
+///
+/// # Errors
+///
+/// The first refusal in the order of the work; a fault of the folder; want of memory.
+pub fn expanded_text<'a, F: Folder>(
+    alloc: Global,
+    page: &'a str,
+    arena: &'a Bump<Global>,
+    folder: &mut F,
+) -> Result<Str, ExpandRefusal>
+    requires { length page.now < 2 ^ 32 }
+    ensures text { (pages : Pages) → F.pages folder.old ≡ Some pages
+        → IfOk result (λ text. text ≡ shown_text (expanded_page pages page.entry.now).items) }
+    ensures whole { (pages : Pages) → F.pages folder.old ≡ Some pages
+        → OnOk result (first_refusal pages page.entry.now (page_work pages page.entry.now) ≡ None) }
+    ensures named { (pages : Pages) → F.pages folder.old ≡ Some pages
+        → OnOk result (F.answered folder.new
+        ≡ option_map (λ names. names ++ names_asked (page_work pages page.entry.now)) (F.answered folder.old)) }
+    ensures refused { (pages : Pages) → F.pages folder.old ≡ Some pages
+        → IfErr result (IsRefused (first_refusal pages page.entry.now (page_work pages page.entry.now))) }
+    ensures kept { F.pages folder.new ≡ F.pages folder.old }
+    ensures count { IsCounted (F.fault_count folder.old) (F.fault_count folder.new) result }
+{
+    let read = read_page(alloc, page, arena)?;
+    let values = Values::new(alloc);
+    let mut expansion = Expansion::new(alloc, arena);
+    let pieces = expansion.text(folder, read, Mode::Page, &values, MOST_TEMPLATES)?;
+    let text = shown(alloc, pieces.as_slice())?;
+    Ok(text)
+}

@@ -1,0 +1,91 @@
+-- `expand`: from what the expansion of a page answers to the answer of the program.
+use Rattle.std.proofs.Common.{◌≡◌, ℕ, List, ◌∷◌, [], ◌++◌, refl, sym, ap, ◌∙◌, subst, append_assoc}
+use Rattle.std.specs.Prelude.{Option, Some, None, option_map, IfSome, OnOk, Result, Ok, Err}
+use Rattle.std.specs.Io.KnownBytes.{Appends}
+use Rattle.wt_outer.specs.Device.{Pages}
+use Rattle.wt_expand.specs.Texts.{shown_text}
+use Rattle.wt_expand.specs.PageCalls.{expanded_page}
+use Rattle.wt_expand.specs.Work.{Refused}
+use Rattle.wt_transclusion.specs.declared.refusal.ExpandRefusal.{ExpandRefusal}
+use Rattle.wt_transclusion.specs.declared.refusal.ExpandRefusal.TheVariants as of_expansion
+use Rattle.wt_transclusion.specs.Answers.{IsRefused, IsCountedErr}
+use Rattle.wt_pagetool.specs.declared.output.Output.{Output}
+use Rattle.wt_pagetool.specs.declared.refusal.Refusal.{Refusal}
+use Rattle.wt_pagetool.specs.declared.command.Command.TheVariants.{Expand}
+use Rattle.wt_pagetool.specs.Words.{command_of}
+use Rattle.wt_pagetool.specs.Answers.{done, refused, title_answer, expansion_by, expansion_of, refusal_of_page, answer_told}
+use Rattle.wt_pagetool.specs.Causes.{Answered, Refuses, IsOfTitle, IsKept, refusal_of_expansion}
+use Rattle.wt_pagetool.specs.Devices.{FolderUse, AnswersExpansion}
+use Rattle.wt_pagetool.specs.Reports.{WroteExpansion}
+use Rattle.wt_pagetool.proofs.PageLaws.{title_stands}
+
+-- ---- refusals
+
+pub refusal_is : (shown : List ℕ) (o : Option Refused) (e : ExpandRefusal) → IsRefused o e → Refuses (refusal_of_expansion e) (expansion_by shown o)
+refusal_is shown o (of_expansion.BracesTooDeep title place) is = ap (expansion_by shown) is
+refusal_is shown o of_expansion.TooLarge is = ap (expansion_by shown) is
+refusal_is shown o of_expansion.FolderFault is = tt
+refusal_is shown o (of_expansion.TemplateNotUtf8 title place) is = ap (expansion_by shown) is
+refusal_is shown o (of_expansion.TemplateTooLong title) is = ap (expansion_by shown) is
+refusal_is shown o of_expansion.NoMemory is = tt
+
+pub refusal_of_title : (before after : ℕ) (e : ExpandRefusal) → IsCountedErr before after e → IsOfTitle before after (refusal_of_expansion e)
+refusal_of_title before after (of_expansion.BracesTooDeep title place) h = tt
+refusal_of_title before after of_expansion.TooLarge h = tt
+refusal_of_title before after of_expansion.FolderFault h = h
+refusal_of_title before after (of_expansion.TemplateNotUtf8 title place) h = tt
+refusal_of_title before after (of_expansion.TemplateTooLong title) h = tt
+refusal_of_title before after of_expansion.NoMemory h = tt
+
+abbrev refused_as : Refusal → Result Output Refusal
+refused_as r = Err r
+
+pub refusal_kept : (before after : ℕ) (e : ExpandRefusal) → IsCountedErr before after e → IsKept (refused_as (refusal_of_expansion e)) before after
+refusal_kept before after (of_expansion.BracesTooDeep title place) h = λ _. h
+refusal_kept before after of_expansion.TooLarge h = λ _. h
+refusal_kept before after of_expansion.FolderFault h = λ a. absurd a
+refusal_kept before after (of_expansion.TemplateNotUtf8 title place) h = λ _. h
+refusal_kept before after (of_expansion.TemplateTooLong title) h = λ _. h
+refusal_kept before after of_expansion.NoMemory h = λ a. absurd a
+
+-- ---- an answer
+
+pub shown_is : (shown text : List ℕ) (o : Option Refused) → o ≡ None → text ≡ shown → expansion_by shown o ≡ done text
+shown_is shown text o none same = ap (expansion_by shown) none ∙ ap done (sym same)
+
+-- the title, and then the names of the pages
+pub names_joined : (before middle after : Option (List (List ℕ))) (title : List ℕ) (names : List (List ℕ))
+    → middle ≡ option_map (λ ns. ns ++ title ∷ []) before → after ≡ option_map (λ ns. ns ++ names) middle
+    → after ≡ option_map (λ ns. ns ++ title ∷ names) before
+names_joined None middle after title names first second = second ∙ ap (option_map (λ ns. ns ++ names)) first
+names_joined (Some ns) middle after title names first second =
+    second ∙ ap (option_map (λ xs. xs ++ names)) first ∙ ap Some (append_assoc ns (title ∷ []) names)
+
+-- ---- the clause
+
+abbrev IsShown : Pages → List ℕ → List ℕ → Type 0
+IsShown pages page bytes = (refusal_of_page pages page ≡ None) × (bytes ≡ shown_text (expanded_page pages page).items)
+
+shown_of : (shown bytes : List ℕ) (o : Option Refused) → expansion_by shown o ≡ done bytes → (o ≡ None) × (bytes ≡ shown)
+shown_of shown bytes (Some r) e = cc
+shown_of shown bytes None e = (refl, cc)
+
+pub wrote_expansion : (pages : Pages) (title : List ℕ) (folder : FolderUse) (bytes : List ℕ) (old new : Option (List ℕ))
+    → title_answer (pages title) (expansion_of pages) ≡ done bytes → Appends old new bytes
+    → IfSome (pages title) (λ page. AnswersExpansion folder pages title page) → WroteExpansion pages title folder old new
+wrote_expansion pages title folder bytes old new e wrote names =
+    let h = title_stands (pages title) (expansion_of pages) bytes e in
+    let s = shown_of (shown_text (expanded_page pages h.0).items) bytes (refusal_of_page pages h.0) h.2 in
+    record {
+      page = h.0;
+      found = h.1;
+      unrefused = s.0;
+      wrote = subst (Appends old new) s.1 wrote;
+      names = subst (λ o. IfSome o (λ page. AnswersExpansion folder pages title page)) h.1 names;
+    }
+
+pub told_expansion : (pages : Option Pages) (input : Option (List ℕ)) (words : List (List ℕ)) (title : List ℕ)
+    → command_of words ≡ Some (Expand title)
+    → answer_told pages input words ≡ option_map (λ ps. title_answer (ps title) (expansion_of ps)) pages
+unfolding answer_told
+told_expansion pages input words title e = rw e refl
