@@ -1,6 +1,6 @@
 -- Where the attributes of a table and of a row begin.
-use Rattle.std.proofs.Common.{◌≡◌, ◌<◌, ◌≤◌, ℕ, zero, suc, ◌+◌, ◌-◌, Bool, true, false, List, [], ◌∷◌, length, take, drop, map, get_or, refl, sym, ap, ◌∙◌, subst, cond, arith, length-drop}
-use Rattle.std.specs.Prelude.{codes, ◌==◌, ◌&&◌}
+use Rattle.std.proofs.Common.{◌≡◌, ◌<◌, ◌≤◌, ℕ, zero, suc, ◌+◌, Bool, true, false, List, [], ◌∷◌, length, drop, map, get_or, refl, sym, ap, ◌∙◌, cond, arith, length-drop}
+use Rattle.std.specs.Prelude.{codes}
 use Rattle.std.specs.List.{prefix_len}
 use Rattle.std.proofs.lemmas.Bool.Decides.{nat_tests}
 use Rattle.std.proofs.lemmas.List.{get_or-drop, length-map}
@@ -9,7 +9,7 @@ use Rattle.wt_span.specs.Bytes.{begins}
 use Rattle.wt_span.specs.Items.{Item, sign}
 use Rattle.wt_lines.specs.Kinds.{is_idle}
 use Rattle.wt_attributes.specs.Attributes.{attributes}
-use Rattle.wt_tables.specs.Cells.{from_sign, lead_len, is_dash, row_sign_len, table_attributes, row_attributes}
+use Rattle.wt_tables.specs.Cells.{from_sign, is_dash, row_sign_len, table_attributes, row_attributes}
 use Rattle.wt_tiles.specs.Glyphs.{glyph_of}
 use Rattle.wt_tiles.specs.Cutting.{IsEdgeIn}
 use Rattle.wt_tiles.proofs.Words.{edge_after}

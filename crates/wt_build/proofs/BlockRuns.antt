@@ -15,9 +15,8 @@ use Rattle.wt_tables.specs.Extents.{is_open, inner_len}
 use Rattle.wt_tables.specs.Parts.{joined, taken_len, put_first, units_from, units, unit_kind}
 use Rattle.wt_build.specs.declared.row.RowAt.{RowAt}
 use Rattle.wt_body.specs.Rows.{Row, kind_of}
-use Rattle.wt_body.specs.Stretches.{Stretch}
 use Rattle.wt_body.specs.Tables.{Reading}
-use Rattle.wt_body.specs.Body.{is_list_line, is_pre_line, one_block, same_block, block_stretches, run_stretches, blocks_by}
+use Rattle.wt_body.specs.Body.{is_list_line, is_pre_line, one_block, same_block, run_stretches, blocks_by}
 use Rattle.wt_build.specs.Views.{row_view, rows_view}
 use Rattle.wt_build.specs.Units.{kind_at, unit_len}
 use Rattle.wt_build.specs.Blocks.{joined_len, run_of, IsBlockLen, is_lone, AreOneBlock}

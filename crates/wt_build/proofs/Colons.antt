@@ -1,5 +1,5 @@
 -- The first `:` of a line that lies in no tile.
-use Rattle.std.proofs.Common.{◌≡◌, ◌<◌, ◌≤◌, ℕ, zero, suc, ◌+◌, ◌-◌, Bool, true, false, not, Option, Some, None, List, [], ◌∷◌, ◌++◌, length, take, drop, map, replicate, get_or, refl, sym, ap, ◌∙◌, subst, cond, arith, append_assoc, length-drop}
+use Rattle.std.proofs.Common.{◌≡◌, ◌<◌, ◌≤◌, ℕ, suc, ◌+◌, Bool, true, false, not, Some, None, List, [], ◌∷◌, ◌++◌, length, take, drop, map, replicate, get_or, refl, sym, ap, ◌∙◌, subst, cond, arith, append_assoc, length-drop}
 use Rattle.std.specs.Prelude.{nat_lt, ◌==◌, if◌then◌else◌}
 use Rattle.std.specs.List.{prefix_len, flat_map}
 use Rattle.std.proofs.lemmas.Bool.Decides.{nat_tests}
@@ -94,7 +94,8 @@ term_none xs l = rw l refl
 term_some : (n : ℕ) (xs : List Item) → nat_lt (colon_at xs) (length xs) ≡ true → colon_at xs ≡ n → term_len 59 xs ≡ Some n
 term_some n xs l is = rw l (ap (λ k. Some k) is)
 
-pub term_ends : (xs : List Item) (ss given : List Sign) (at len : ℕ) → numbers ss ≡ line_signs xs → given ≡ ss → at ≡ prefix_len (λ s. not (s == 58)) (numbers given)
+pub term_ends : (xs : List Item) (ss given : List Sign) (at len : ℕ) → numbers ss ≡ line_signs xs → given ≡ ss
+    → at ≡ prefix_len (λ s. not (s == 58)) (numbers given)
     → len ≡ length ss → len ≤ at → None ≡ term_len 59 xs
 term_ends xs ss given at len en eg ea el h =
     let is : colon_at xs ≡ at = colon_is xs (numbers given) at (ap numbers eg ∙ en) ea in
@@ -103,7 +104,8 @@ term_ends xs ss given at len en eg ea el h =
     let l : nat_lt (colon_at xs) (length xs) ≡ false = grind (arith, nat_tests) in
     sym (term_none xs l)
 
-pub term_goes : (xs : List Item) (ss given : List Sign) (at len : ℕ) → numbers ss ≡ line_signs xs → given ≡ ss → at ≡ prefix_len (λ s. not (s == 58)) (numbers given)
+pub term_goes : (xs : List Item) (ss given : List Sign) (at len : ℕ) → numbers ss ≡ line_signs xs → given ≡ ss
+    → at ≡ prefix_len (λ s. not (s == 58)) (numbers given)
     → len ≡ length ss → at < len → Some at ≡ term_len 59 xs
 term_goes xs ss given at len en eg ea el h =
     let is : colon_at xs ≡ at = colon_is xs (numbers given) at (ap numbers eg ∙ en) ea in

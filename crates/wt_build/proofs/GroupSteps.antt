@@ -1,13 +1,12 @@
 -- Groups of rows, found one after the other, and as rows of items.
-use Rattle.std.proofs.Common.{◌≡◌, ◌<◌, ◌≤◌, ℕ, zero, suc, ◌+◌, ◌-◌, Bool, true, false, List, [], ◌∷◌, ◌++◌, length, take, drop, map, refl, sym, ap, ◌∙◌, subst, arith, append_assoc, length-drop}
+use Rattle.std.proofs.Common.{◌≡◌, ◌<◌, ◌≤◌, ℕ, zero, suc, ◌+◌, ◌-◌, List, [], ◌∷◌, ◌++◌, length, take, drop, map, refl, sym, ap, ◌∙◌, arith, append_assoc, length-drop}
 use Rattle.std.proofs.lemmas.List.{drop-drop, drop-map, take-map, map-append}
 use Rattle.wt_span.specs.declared.form.Piece.{Piece}
-use Rattle.wt_lines.specs.declared.kind.LineKind.{LineKind}
 use Rattle.wt_tables.specs.Extents.{inner_len}
 use Rattle.wt_tables.specs.Parts.{taken_len, unit_kind}
 use Rattle.wt_build.specs.declared.row.RowAt.{RowAt}
 use Rattle.wt_build.specs.declared.group.Group.{Group}
-use Rattle.wt_body.specs.Rows.{Row, kind_of}
+use Rattle.wt_body.specs.Rows.{kind_of}
 use Rattle.wt_build.specs.Units.{kind_at, unit_len, plain_count}
 use Rattle.wt_build.specs.Groups.{group_rows}
 use Rattle.wt_build.specs.GroupViews.{group_view, groups_view}
@@ -57,11 +56,13 @@ kind_viewed ps (r ∷ rs) = refl
 len_viewed : (ps : List Piece) (r : RowAt) (rs : List RowAt) → group_len kind_of (row_view ps r) (rows_view ps rs) ≡ group_len kind_at r rs
 len_viewed ps r rs =
     let t = taken_len r.kind (inner_len (map kind_at rs)) in
-    ap (λ ks. suc (taken_len r.kind (inner_len ks) + plain_count 0 (map kind_of (drop (taken_len r.kind (inner_len ks)) (rows_view ps rs))))) (kinds_viewed ps rs)
+    ap (λ ks. suc (taken_len r.kind (inner_len ks) + plain_count 0 (map kind_of (drop (taken_len r.kind (inner_len ks)) (rows_view ps rs)))))
+    (kinds_viewed ps rs)
     ∙ ap (λ ss. suc (t + plain_count 0 (map kind_of ss))) (drop-map (row_view ps) t rs)
     ∙ ap (λ ks. suc (t + plain_count 0 ks)) (kinds_viewed ps (drop t rs))
 
-viewed_by : (ps : List Piece) (fuel : ℕ) (rs : List RowAt) → length rs ≤ fuel → group_rows kind_of (rows_view ps rs) ≡ map (rows_view ps) (group_rows kind_at rs)
+viewed_by : (ps : List Piece) (fuel : ℕ) (rs : List RowAt) → length rs ≤ fuel
+    → group_rows kind_of (rows_view ps rs) ≡ map (rows_view ps) (group_rows kind_at rs)
 viewed_by ps fuel [] h = refl
 viewed_by ps zero (r ∷ rs) h = absurd (omega arith)
 viewed_by ps (suc fuel) (r ∷ rs) h =

@@ -1,17 +1,15 @@
 -- Units and groups of rows, cut from the front.
-use Rattle.std.proofs.Common.{◌≡◌, ◌<◌, ◌≤◌, ℕ, zero, suc, ◌+◌, ◌-◌, Bool, true, false, not, List, [], ◌∷◌, ◌++◌, length, take, drop, map, refl, sym, ap, ◌∙◌, subst, cond, arith, append_assoc, length-drop}
-use Rattle.std.specs.Prelude.{min, if◌then◌else◌}
-use Rattle.std.specs.List.{flat_map, prefix_len, AllByRecursion}
-use Rattle.std.proofs.lemmas.List.{take_all, drop-drop, take-map, drop-map, drop_all}
-use Rattle.std.proofs.lemmas.List.{take-append-drop}
-use Rattle.std.proofs.lemmas.Grind.{flat_map-append}
+use Rattle.std.proofs.Common.{◌≡◌, ◌≤◌, ℕ, zero, suc, ◌+◌, Bool, true, false, not, List, [], ◌∷◌, ◌++◌, length, take, drop, map, refl, sym, ap, ◌∙◌, subst, cond, arith, length-drop}
+use Rattle.std.specs.Prelude.{if◌then◌else◌}
+use Rattle.std.specs.List.{prefix_len, AllByRecursion}
+use Rattle.std.proofs.lemmas.List.{take_all, drop-drop, drop-map}
 use Rattle.wt_span.specs.Runs.{put, runs}
 use Rattle.wt_lines.specs.declared.kind.LineKind.{LineKind}
 use Rattle.wt_lines.specs.declared.kind.LineKind.TheVariants as line
 use Rattle.wt_tables.specs.Extents.{inner_len}
-use Rattle.wt_tables.specs.Parts.{joined, taken_len, put_first, units_from, units, unit_kind, begins_part, begins_group, groups, group_kind, plain_len, is_row, is_caption, captions_len}
-use Rattle.wt_build.specs.Units.{unit_len, plain_count}
-use Rattle.wt_build.specs.Groups.{group_rows, goes_on, row_groups, captions_count}
+use Rattle.wt_tables.specs.Parts.{joined, taken_len, put_first, units_from, units, unit_kind, begins_part, begins_group, groups, group_kind, plain_len}
+use Rattle.wt_build.specs.Units.{plain_count}
+use Rattle.wt_build.specs.Groups.{group_rows}
 
 -- ---- runs of a list in which only the second of two neighbours tells whether they join
 
@@ -104,20 +102,25 @@ pub record ArePlain {A : Type 0} (kind_of : A → LineKind) (us : List (List A))
 abbrev plain_rows : {A : Type 0} → (A → LineKind) → List A → ℕ
 plain_rows kind_of ls = plain_count 0 (map kind_of ls)
 
-plain_front : {A : Type 0} (kind_of : A → LineKind) (t : Bool) (p : ℕ) (l : A) (ls : List A) (us : List (List A)) → ArePlain kind_of us p (drop (taken kind_of l ls) ls)
-    → joined (take (cond (not t) (1 + plain_len kind_of us) 0) ((l ∷ take (taken kind_of l ls) ls) ∷ us)) ≡ take (if t then 0 else suc (taken kind_of l ls + p)) (l ∷ ls)
+plain_front : {A : Type 0} (kind_of : A → LineKind) (t : Bool) (p : ℕ) (l : A) (ls : List A) (us : List (List A))
+    → ArePlain kind_of us p (drop (taken kind_of l ls) ls)
+    → joined (take (cond (not t) (1 + plain_len kind_of us) 0) ((l ∷ take (taken kind_of l ls) ls) ∷ us))
+    ≡ take (if t then 0 else suc (taken kind_of l ls + p)) (l ∷ ls)
 plain_front kind_of true p l ls us h = refl
 plain_front kind_of false p l ls us h =
     let n = taken kind_of l ls in
     ap (λ m. joined (take m ((l ∷ take n ls) ∷ us))) (one_more (plain_len kind_of us))
     ∙ ap (λ ys. l ∷ ys) (ap (λ zs. take n ls ++ zs) h.front ∙ sym (take_join n p ls))
 
-plain_back : {A : Type 0} (kind_of : A → LineKind) (t : Bool) (p : ℕ) (l : A) (ls : List A) (us : List (List A)) → us ≡ units kind_of (drop (taken kind_of l ls) ls)
+plain_back : {A : Type 0} (kind_of : A → LineKind) (t : Bool) (p : ℕ) (l : A) (ls : List A) (us : List (List A))
+    → us ≡ units kind_of (drop (taken kind_of l ls) ls)
     → ArePlain kind_of us p (drop (taken kind_of l ls) ls)
-    → drop (cond (not t) (1 + plain_len kind_of us) 0) ((l ∷ take (taken kind_of l ls) ls) ∷ us) ≡ units kind_of (drop (if t then 0 else suc (taken kind_of l ls + p)) (l ∷ ls))
+    → drop (cond (not t) (1 + plain_len kind_of us) 0) ((l ∷ take (taken kind_of l ls) ls) ∷ us)
+    ≡ units kind_of (drop (if t then 0 else suc (taken kind_of l ls + p)) (l ∷ ls))
 plain_back kind_of true p l ls us e h = ap (λ vs. (l ∷ take (taken kind_of l ls) ls) ∷ vs) e ∙ sym (units_front kind_of l ls)
 plain_back kind_of false p l ls us e h =
-    ap (λ m. drop m ((l ∷ take (taken kind_of l ls) ls) ∷ us)) (one_more (plain_len kind_of us)) ∙ h.back ∙ ap (units kind_of) (drop-drop p (taken kind_of l ls) ls)
+    ap (λ m. drop m ((l ∷ take (taken kind_of l ls) ls) ∷ us)) (one_more (plain_len kind_of us)) ∙ h.back
+    ∙ ap (units kind_of) (drop-drop p (taken kind_of l ls) ls)
 
 plain_count_is : {A : Type 0} (kind_of : A → LineKind) (l : A) (ls : List A)
     → plain_count (taken kind_of l ls) (map kind_of ls) ≡ taken kind_of l ls + plain_rows kind_of (drop (taken kind_of l ls) ls)
@@ -152,7 +155,8 @@ group_len kind_of l ls = suc (taken kind_of l ls + plain_rows kind_of (drop (tak
 
 groups_front : {A : Type 0} (kind_of : A → LineKind) (l : A) (ls : List A)
     → groups kind_of (units kind_of (l ∷ ls))
-    ≡ ((l ∷ take (taken kind_of l ls) ls) ∷ take (plain_len kind_of (units kind_of (drop (taken kind_of l ls) ls))) (units kind_of (drop (taken kind_of l ls) ls)))
+    ≡ ((l ∷ take (taken kind_of l ls) ls) ∷ take (plain_len kind_of (units kind_of (drop (taken kind_of l ls) ls)))
+    (units kind_of (drop (taken kind_of l ls) ls)))
     ∷ groups kind_of (units kind_of (drop (group_len kind_of l ls) (l ∷ ls)))
 groups_front kind_of l ls =
     let n = taken kind_of l ls in

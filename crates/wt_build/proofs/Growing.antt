@@ -18,7 +18,8 @@ stretches_step ps g h i all before rest s e grows r =
     rest_step g h i all (stretch_parts (stretch_view ps s)) (stretches_parts (stretches_view ps before)) (stretches_parts (stretches_view ps rest))
     (ap (λ ss. stretches_parts (stretches_view ps ss)) e) grows r
 
-pub stretches_done : (ps : List Piece) (g h : Grown) (rest given all : List StretchAt) → IsRest g (stretches_parts (stretches_view ps given)) h (stretches_parts (stretches_view ps rest))
+pub stretches_done : (ps : List Piece) (g h : Grown) (rest given all : List StretchAt)
+    → IsRest g (stretches_parts (stretches_view ps given)) h (stretches_parts (stretches_view ps rest))
     → length rest ≡ 0 → given ≡ all → Grows g (stretches_parts (stretches_view ps all)) h
 stretches_done ps g h [] given all r len e qs = r qs ∙ ap (λ ss. made g (stretches_parts (stretches_view ps ss) ++ qs)) e
 stretches_done ps g h (s ∷ rest) given all r len e qs = absurd (omega arith)

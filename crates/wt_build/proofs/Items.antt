@@ -1,9 +1,9 @@
 -- Items of lists: their delimiters, and what they hold.
-use Rattle.std.proofs.Common.{◌≡◌, ◌<◌, ◌≤◌, inl, inr, ℕ, zero, suc, ◌+◌, ◌-◌, Bool, true, false, not, None, List, [], ◌∷◌, ◌++◌, length, take, drop, map, get_or, refl, sym, ap, ◌∙◌, subst, cond, arith, append_assoc, append-nil, length-drop}
-use Rattle.std.specs.Prelude.{reverse, nat_lt, min, ◌==◌}
-use Rattle.std.specs.List.{prefix_len, list_all}
+use Rattle.std.proofs.Common.{◌≡◌, ◌<◌, ◌≤◌, ℕ, zero, suc, ◌+◌, ◌-◌, true, None, List, [], ◌∷◌, ◌++◌, length, take, drop, map, get_or, refl, sym, ap, ◌∙◌, subst, arith, length-drop}
+use Rattle.std.specs.Prelude.{reverse, min}
+use Rattle.std.specs.List.{prefix_len}
 use Rattle.std.proofs.lemmas.Bool.Decides.{nat_tests}
-use Rattle.std.proofs.lemmas.List.{get_or-drop, length-map, reverse-append, length-take-le, length-reverse, drop-map}
+use Rattle.std.proofs.lemmas.List.{get_or-drop, length-map, reverse-append, length-take-le, length-reverse}
 use Rattle.std.proofs.lemmas.List.Sums.{prefix_len-le-length, prefix_len_passes}
 use Rattle.wt_span.specs.Bytes.{is_blank}
 use Rattle.wt_span.specs.declared.form.Form.{Form}
@@ -13,8 +13,8 @@ use Rattle.wt_blocks.specs.Nesting.{is_list_sign}
 use Rattle.wt_tiles.specs.Glyphs.{glyph_of, glyph_of_form}
 use Rattle.wt_tiles.specs.Edges.{is_low, low_at}
 use Rattle.wt_tiles.specs.Cutting.{IsEdgeIn}
-use Rattle.wt_tiles.proofs.Words.{edge_after, edge_at}
-use Rattle.wt_inline.specs.ItemTree.{Head, ItemTree, inner, forest}
+use Rattle.wt_tiles.proofs.Words.{edge_after}
+use Rattle.wt_inline.specs.ItemTree.{Head, inner, forest}
 use Rattle.wt_inline.specs.Parts.{Part, children}
 use Rattle.wt_inline.specs.Grown.{Grown, Grows, made}
 use Rattle.wt_body.specs.Rows.{signs}

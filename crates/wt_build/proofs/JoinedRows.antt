@@ -1,5 +1,5 @@
 -- Rows that follow one another are a slice of the pieces.
-use Rattle.std.proofs.Common.{◌≡◌, ◌<◌, ◌≤◌, ℕ, zero, suc, ◌+◌, ◌-◌, List, [], ◌∷◌, ◌++◌, length, min, take, drop, get_or, refl, sym, ap, ◌∙◌, subst, arith, append_assoc, append-nil}
+use Rattle.std.proofs.Common.{◌≡◌, ◌<◌, ◌≤◌, ℕ, zero, suc, ◌+◌, ◌-◌, List, [], ◌∷◌, ◌++◌, length, min, take, drop, get_or, refl, sym, ap, ◌∙◌, subst, arith, append-nil}
 use Rattle.std.proofs.lemmas.List.{take_all, drop-drop, drop-take, length-take}
 use Rattle.wt_span.specs.declared.form.Piece.{Piece}
 use Rattle.wt_span.specs.Items.{items}
@@ -8,7 +8,7 @@ use Rattle.wt_lines.specs.Lines.{content}
 use Rattle.wt_lines.specs.Pieces.{AllParted}
 use Rattle.wt_headings.specs.Lines.{ending}
 use Rattle.wt_build.specs.declared.row.RowAt.{RowAt}
-use Rattle.wt_body.specs.Rows.{Row, row_items, all_items}
+use Rattle.wt_body.specs.Rows.{row_items, all_items}
 use Rattle.wt_body.specs.Tables.{from_sign}
 use Rattle.wt_build.specs.Ready.{IsReadyRow, AreInOrder}
 use Rattle.wt_build.specs.Delimiters.{IsJoined}
@@ -35,7 +35,8 @@ end_within ps r (s ∷ rs) h =
     let d = row.ending in
     omega (arith, more, at, a, b, d)
 
-rows_slice : (ps : List Piece) (r : RowAt) (rs : List RowAt) → AreInOrder ps (r ∷ rs) → all_items (rows_view ps (r ∷ rs)) ≡ items (slice r.start (last_end r rs) ps)
+rows_slice : (ps : List Piece) (r : RowAt) (rs : List RowAt) → AreInOrder ps (r ∷ rs)
+    → all_items (rows_view ps (r ∷ rs)) ≡ items (slice r.start (last_end r rs) ps)
 rows_slice ps r [] h = append-nil (row_items (row_view ps r)) ∙ sym (row_slice ps r h.0)
 rows_slice ps r (s ∷ rs) h =
     let row : IsReadyRow ps r = h.0 in
@@ -48,7 +49,8 @@ rows_slice ps r (s ∷ rs) h =
     ∙ ap (λ xs. items (slice r.start r.end ps) ++ xs) (rows_slice ps s rs h.2 ∙ ap (λ n. items (slice n (last_end s rs) ps)) (sym at))
     ∙ sym (slices_join ps r.start r.end (last_end s rs) (omega (arith, a, b, d)) w)
 
-pub sign_slice : (ps : List Piece) (r : RowAt) (rs : List RowAt) → AreInOrder ps (r ∷ rs) → from_sign (rows_view ps (r ∷ rs)) ≡ items (slice r.from (last_end r rs) ps)
+pub sign_slice : (ps : List Piece) (r : RowAt) (rs : List RowAt) → AreInOrder ps (r ∷ rs)
+    → from_sign (rows_view ps (r ∷ rs)) ≡ items (slice r.from (last_end r rs) ps)
 sign_slice ps r [] h =
     let row : IsReadyRow ps r = h.0 in
     ap (λ xs. items (slice r.from r.to ps) ++ xs) (append-nil (items (slice r.to r.end ps))) ∙ sym (slices_join ps r.from r.to r.end row.items row.ending)
@@ -58,7 +60,8 @@ sign_slice ps r (s ∷ rs) h =
     let d = row.ending in
     let at : r.end ≡ s.start = h.1 in
     let w = end_within ps r (s ∷ rs) h in
-    ap (λ xs. items (slice r.from r.to ps) ++ (items (slice r.to r.end ps) ++ xs)) (rows_slice ps s rs h.2 ∙ ap (λ n. items (slice n (last_end s rs) ps)) (sym at))
+    ap (λ xs. items (slice r.from r.to ps) ++ (items (slice r.to r.end ps) ++ xs)) (rows_slice ps s rs h.2
+    ∙ ap (λ n. items (slice n (last_end s rs) ps)) (sym at))
     ∙ ap (λ xs. items (slice r.from r.to ps) ++ xs) (sym (slices_join ps r.to r.end (last_end s rs) d w))
     ∙ sym (slices_join ps r.from r.to (last_end s rs) b (omega (arith, d, w)))
 
@@ -70,7 +73,8 @@ take_take (suc n) m (x ∷ xs) =
     ap (λ k. take (suc n) (take k (x ∷ xs))) e ∙ ap (λ ys. x ∷ ys) (take_take n m xs)
 
 -- a slice that is cut behind so many pieces
-pub slice_cut : (ps all : List Piece) (from end n : ℕ) → all ≡ slice from end ps → n ≤ end - from → (take n all ≡ slice from (from + n) ps) × (drop n all ≡ slice (from + n) end ps)
+pub slice_cut : (ps all : List Piece) (from end n : ℕ) → all ≡ slice from end ps → n ≤ end - from
+    → (take n all ≡ slice from (from + n) ps) × (drop n all ≡ slice (from + n) end ps)
 slice_cut ps all from end n e w =
     let k = end - (from + n) in
     let len : end - from ≡ n + k = omega arith in
@@ -92,8 +96,10 @@ joined_are ps all r rs k n h e w ec ee =
       ending = ap items (sym cut.1) ∙ sym ee ∙ ap ending is;
     }
 
-pub joined_some : (ps all : List Piece) (rs : List RowAt) (first last d e : RowAt) (n : ℕ) → 0 < length rs → first ≡ get_or rs 0 d → last ≡ get_or rs (length rs - 1) e
-    → AreInOrder ps rs → all ≡ slice first.from last.end ps → n ≤ length all → content (items all) ≡ items (take n all) → ending (items all) ≡ items (drop n all)
+pub joined_some : (ps all : List Piece) (rs : List RowAt) (first last d e : RowAt) (n : ℕ) → 0 < length rs → first ≡ get_or rs 0 d
+    → last ≡ get_or rs (length rs - 1) e
+    → AreInOrder ps rs → all ≡ slice first.from last.end ps → n ≤ length all → content (items all) ≡ items (take n all)
+    → ending (items all) ≡ items (drop n all)
     → IsJoined (row_view ps (record { kind = first.kind; start = first.start; from = first.from; to = first.from + n; end = last.end })) (rows_view ps rs)
 joined_some ps all [] first last d e n some ef el h ea w ec ee = absurd (omega arith)
 joined_some ps all (r ∷ rs) first last d e n some ef el h ea w ec ee =
@@ -102,8 +108,10 @@ joined_some ps all (r ∷ rs) first last d e n some ef el h ea w ec ee =
     let whole : all ≡ slice r.from (last_end r rs) ps = ea ∙ ap (λ (s : RowAt). slice s.from last.end ps) ef ∙ ap (λ k. slice r.from k ps) end in
     let len : length all ≡ min (last_end r rs - r.from) (length (drop r.from ps)) = ap length whole ∙ length-take (last_end r rs - r.from) (drop r.from ps) in
     let few : n ≤ last_end r rs - r.from = omega (arith, len, w) in
-    subst (λ (s : RowAt). IsJoined (row_view ps (record { kind = s.kind; start = s.start; from = s.from; to = s.from + n; end = last.end })) (rows_view ps (r ∷ rs))) (sym ef)
-    (subst (λ (k : ℕ). IsJoined (row_view ps (record { kind = r.kind; start = r.start; from = r.from; to = r.from + n; end = k })) (rows_view ps (r ∷ rs))) (sym end)
+    subst (λ (s : RowAt). IsJoined (row_view ps (record { kind = s.kind; start = s.start; from = s.from; to = s.from + n; end = last.end }))
+    (rows_view ps (r ∷ rs))) (sym ef)
+    (subst (λ (k : ℕ). IsJoined (row_view ps (record { kind = r.kind; start = r.start; from = r.from; to = r.from + n; end = k })) (rows_view ps (r ∷ rs)))
+    (sym end)
     (joined_are ps all r rs r.kind n h whole few ec ee))
 
 -- ---- pieces of a slice are parted

@@ -1,5 +1,5 @@
 -- Later lines of a block.
-use Rattle.std.proofs.Common.{◌≡◌, ◌≤◌, inr, ℕ, zero, suc, ◌+◌, ◌-◌, true, List, [], ◌∷◌, ◌++◌, length, take, drop, refl, sym, ap, ◌∙◌, arith, append_assoc, length-drop}
+use Rattle.std.proofs.Common.{◌≡◌, ◌≤◌, inr, ℕ, ◌+◌, ◌-◌, true, List, [], ◌∷◌, ◌++◌, length, take, drop, refl, sym, ap, ◌∙◌, arith, append_assoc}
 use Rattle.std.specs.Prelude.{codes, nat_lt}
 use Rattle.std.proofs.lemmas.Bool.Decides.{nat_tests}
 use Rattle.std.proofs.lemmas.List.{drop-drop}
@@ -15,7 +15,7 @@ use Rattle.wt_tiles.specs.Edges.{is_low}
 use Rattle.wt_tiles.specs.Cutting.{IsEdgeIn}
 use Rattle.wt_inline.specs.declared.loose.Loose.TheVariants.{Text}
 use Rattle.wt_inline.specs.ItemTree.{ItemTree}
-use Rattle.wt_inline.specs.Parts.{Part, node, parts}
+use Rattle.wt_inline.specs.Parts.{node, parts}
 use Rattle.wt_inline.specs.Grown.{Grown, Grows, made}
 use Rattle.wt_context.specs.Line.{line_parts}
 use Rattle.wt_body.specs.Rows.{Row, signs}

@@ -139,7 +139,8 @@ signs_are k n m l h i =
     let text : cut_row line.Text (marks_len seen) seen (ending l) ≡ whole_row line.Text (marks_len rest) rest =
     ap (λ xs. cut_row line.Text (marks_len xs) xs (ending l)) left ∙ ap (cut_row line.Text (marks_len (content rest)) (content rest)) end
     ∙ marked_row line.Text rest in
-    ap (λ xs. sign_by k xs (take m (drop n (content l))) seen (seen ++ ending l) (cut_row line.Text (marks_len seen) seen (ending l))) (sym (take_content n l h))
+    ap (λ xs. sign_by k xs (take m (drop n (content l))) seen (seen ++ ending l) (cut_row line.Text (marks_len seen) seen (ending l)))
+    (sym (take_content n l h))
     ∙ ap (λ xs. sign_by k (take n l) xs seen (seen ++ ending l) (cut_row line.Text (marks_len seen) seen (ending l))) own
     ∙ ap (λ t. sign_by k (take n l) (take m behind) seen (seen ++ ending l) t) text
     ∙ ap (λ xs. sign_by k (take n l) (take m behind) seen xs (whole_row line.Text (marks_len rest) rest))
@@ -147,11 +148,13 @@ signs_are k n m l h i =
     ∙ ap (λ xs. sign_by k (take n l) (take m behind) xs rest (whole_row line.Text (marks_len rest) rest)) left
 
 pub end_rows : (l : List Item) → 2 ≤ length (drop (idle_len (content l)) (content l))
-    → signed_rows line.TableEnd (take (idle_len (content l)) (content l)) 2 (drop (idle_len (content l)) (content l)) (ending l) ≡ sign_rows line.TableEnd (idle_len l) 2 l
+    → signed_rows line.TableEnd (take (idle_len (content l)) (content l)) 2 (drop (idle_len (content l)) (content l)) (ending l)
+    ≡ sign_rows line.TableEnd (idle_len l) 2 l
 end_rows l h = signs_are line.TableEnd (idle_len (content l)) 2 l (idle_within (content l)) h ∙ ap (λ n. sign_rows line.TableEnd n 2 l) (sym (idle_content l))
 
 pub rule_rows : (l : List Item)
-    → signed_rows line.Rule (take (marks_len (content l)) (content l)) (dashes (drop (marks_len (content l)) (content l))) (drop (marks_len (content l)) (content l)) (ending l)
+    → signed_rows line.Rule (take (marks_len (content l)) (content l)) (dashes (drop (marks_len (content l)) (content l)))
+    (drop (marks_len (content l)) (content l)) (ending l)
     ≡ sign_rows line.Rule (marks_len l) (dashes (drop (marks_len l) l)) l
 rule_rows l =
     let n = marks_len (content l) in

@@ -1,5 +1,5 @@
 -- Lists by the nodes of their nest, and rows of lists.
-use Rattle.std.proofs.Common.{◌≡◌, ◌<◌, ◌≤◌, ℕ, zero, suc, ◌+◌, ◌-◌, Bool, true, false, Option, Some, None, List, [], ◌∷◌, ◌++◌, length, take, drop, map, get_or, refl, sym, ap, ◌∙◌, subst, cond, arith, append_assoc, append-nil}
+use Rattle.std.proofs.Common.{◌≡◌, ◌<◌, ◌≤◌, ℕ, zero, suc, ◌+◌, Bool, true, false, Some, None, List, [], ◌∷◌, ◌++◌, length, take, refl, sym, ap, ◌∙◌, subst, cond, arith, append_assoc, append-nil}
 use Rattle.std.specs.Prelude.{All, min, slice_get, ◌==◌, ◌&&◌, if◌then◌else◌}
 use Rattle.std.specs.List.{prefix_len, list_all}
 use Rattle.std.proofs.lemmas.List.{length-take-le, map-append}
@@ -8,9 +8,9 @@ use Rattle.std.proofs.lemmas.List.Elements.{All-cons, All-tail, All-head}
 use Rattle.wt_span.specs.declared.form.Piece.{Piece}
 use Rattle.wt_lines.specs.declared.kind.LineKind.{LineKind}
 use Rattle.wt_lines.specs.declared.kind.LineKind.TheVariants as line
-use Rattle.wt_blocks.specs.ListTree.{ListTree, node as list_node, ListTrees, none, more, forest as list_forest}
+use Rattle.wt_blocks.specs.ListTree.{ListTree, node as list_node, ListTrees, more, forest as list_forest}
 use Rattle.wt_blocks.specs.Nesting.{is_list_sign, IsPrefix}
-use Rattle.wt_blocks.specs.declared.nest.ListNode.{ListNode, ListNode-F, out-ListNode, fold_out-ListNode}
+use Rattle.wt_blocks.specs.declared.nest.ListNode.{ListNode, out-ListNode, fold_out-ListNode}
 use Rattle.wt_blocks.specs.View.{view_step, list_tree, list_trees}
 use Rattle.wt_inline.specs.ItemTree.{plain}
 use Rattle.wt_build.specs.declared.row.RowAt.{RowAt}
@@ -20,7 +20,7 @@ use Rattle.wt_body.specs.Stretches.{Stretch, enclosed}
 use Rattle.wt_body.specs.Lists.{item_kind, line_item, begins_at, row_at, list_stretches, all_lists, prefixes, prefix_of}
 use Rattle.wt_build.specs.Prefixes.{list_signs}
 use Rattle.wt_build.specs.Nodes.{node_by}
-use Rattle.wt_build.specs.Ready.{Begins, IsReadyRow, BeginAt, AreInOrder, AreListRows}
+use Rattle.wt_build.specs.Ready.{Begins, AreInOrder, AreListRows}
 use Rattle.wt_build.specs.Views.{row_view, rows_view, stretch_view, stretches_view}
 
 -- ---- nodes
@@ -37,7 +37,8 @@ stretches_by rs true sign line ts = own_by rs (begins_at line ts) sign line (all
 
 pub node_is : (rs : List Row) (n : ListNode)
     → list_stretches rs (list_tree n)
-    ≡ node_by rs (out-ListNode n).item (out-ListNode n).sign (out-ListNode n).line (begins_at (out-ListNode n).line (list_forest (list_trees (out-ListNode n).children)))
+    ≡ node_by rs (out-ListNode n).item (out-ListNode n).sign (out-ListNode n).line
+    (begins_at (out-ListNode n).line (list_forest (list_trees (out-ListNode n).children)))
     (all_lists rs (list_forest (list_trees (out-ListNode n).children)))
 node_is rs n =
     let f = out-ListNode n in

@@ -1,5 +1,5 @@
 -- Rows of tables, and tables, with the lines that open them.
-use Rattle.std.proofs.Common.{◌≡◌, ◌<◌, ℕ, None, List, [], ◌∷◌, ◌++◌, length, take, drop, get_or, refl, sym, ap, ◌∙◌, subst, arith, append-nil}
+use Rattle.std.proofs.Common.{◌≡◌, ◌<◌, ℕ, None, List, [], ◌∷◌, ◌++◌, length, take, drop, get_or, refl, sym, ap, ◌∙◌, arith, append-nil}
 use Rattle.std.proofs.lemmas.List.{take-map, drop-map, map-append}
 use Rattle.wt_tree.specs.declared.kind.Kind.{Kind}
 use Rattle.wt_tree.specs.declared.kind.Kind.TheVariants as kind
@@ -17,7 +17,7 @@ use Rattle.wt_headings.specs.Lines.{ending}
 use Rattle.wt_build.specs.declared.row.RowAt.{RowAt}
 use Rattle.wt_build.specs.declared.stretch.StretchAt.{StretchAt}
 use Rattle.wt_build.specs.declared.stretch.StretchAt.TheVariants as at
-use Rattle.wt_body.specs.Rows.{Row, first_lead}
+use Rattle.wt_body.specs.Rows.{first_lead}
 use Rattle.wt_body.specs.Stretches.{Stretch, gap, tree_block, stretches_parts, before_end, end_gaps, opened_by}
 use Rattle.wt_body.specs.Tables.{with_attrs, gaps, from_sign, stray_len, delimiter, behind_delimiter, delimiter_lead, first_items, row_by}
 use Rattle.wt_build.specs.Delimiters.{IsJoined, table_with}
@@ -29,7 +29,8 @@ pub record IsDelimiter (ps : List Piece) (rows : List RowAt) (d : RowAt) (blank 
   pub items : (row_view ps d).items ≡ delimiter (rows_view ps rows)
   pub behind : gap (row_view ps d).ending ∷ gaps (rows_view ps blank) ≡ behind_delimiter (rows_view ps rows)
 
-pub is_delimiter : (ps : List Piece) (rows front blank : List RowAt) (d : RowAt) (n : ℕ) → n ≡ stray_len (rows_view ps rows) → front ≡ take n rows → blank ≡ drop n rows
+pub is_delimiter : (ps : List Piece) (rows front blank : List RowAt) (d : RowAt) (n : ℕ) → n ≡ stray_len (rows_view ps rows) → front ≡ take n rows
+    → blank ≡ drop n rows
     → IsJoined (row_view ps d) (rows_view ps front) → IsDelimiter ps rows d blank
 is_delimiter ps rows front blank d n en ef eb j =
     let vs = rows_view ps rows in
@@ -55,7 +56,8 @@ head_with k s a = record { kind = k; shown = s; attrs = a; mw = None }
 pub head_is : (k : Kind) (s : List ℕ) (a b : List Named) → s ≡ [] → a ≡ b → head_with k s a ≡ with_attrs k b
 head_is k s a b es ea = ap (λ t. head_with k t a) es ∙ ap (λ c. with_attrs k c) ea
 
-opened_is : (h : Head) (o : List Item) (g : Grown) (ss ls : List Stretch) → g ≡ record { trees = []; run = None } → IsOpenedBy h o g ss ls → ls ≡ opened_by h o ss
+opened_is : (h : Head) (o : List Item) (g : Grown) (ss ls : List Stretch) → g ≡ record { trees = []; run = None } → IsOpenedBy h o g ss ls
+    → ls ≡ opened_by h o ss
 opened_is h o g ss ls eg is =
     is ∙ ap (λ (k : Grown). tree_block (inner h o (forest (made k (stretches_parts (before_end ss)))) []) ∷ end_gaps ss) eg
 
@@ -77,7 +79,8 @@ opened_row_is ps rows blank d h own g after node l cells some is ea eh eo eg ope
     ∙ ap (λ ss. opened_by (with_attrs kind.Tr (row_attributes (first_items vs))) (delimiter vs) ss) held)
     ∙ sym (row_form ps rows cs some)
 
-pub table_is : (ps : List Piece) (rows blank : List RowAt) (d end : RowAt) (h : Head) (own closing : List Item) (f g : Grown) (ts : List ItemTree) (tree : PieceTree) (node : StretchAt)
+pub table_is : (ps : List Piece) (rows blank : List RowAt) (d end : RowAt) (h : Head) (own closing : List Item) (f g : Grown) (ts : List ItemTree)
+    (tree : PieceTree) (node : StretchAt)
     (held after l inside : List StretchAt) → IsDelimiter ps rows d blank → held ≡ inside ++ at.Gap end.start end.from ∷ []
     → stretches_view ps after ≡ gap (row_view ps d).ending ∷ (gaps (rows_view ps blank) ++ stretches_view ps held)
     → f ≡ record { trees = []; run = None } → Grows f (stretches_parts (stretches_view ps after)) g → ts ≡ made g []
@@ -96,11 +99,13 @@ table_is ps rows blank d end h own closing f g ts tree node held after l inside 
     et ∙ grows [] ∙ ap (made f) (append-nil (stretches_parts (stretches_view ps after)))
     ∙ ap (λ (k : Grown). made k (stretches_parts (stretches_view ps after))) ef
     ∙ ap (λ ss. children (stretches_parts ss)) all in
-    let whole : item_tree tree ≡ inner (with_attrs kind.Table (table_attributes (first_items vs))) (delimiter vs) (forest (children (stretches_parts (behind_delimiter vs ++ cs)))) v.items =
+    let whole : item_tree tree ≡ inner (with_attrs kind.Table (table_attributes (first_items vs))) (delimiter vs)
+    (forest (children (stretches_parts (behind_delimiter vs ++ cs)))) v.items =
     en ∙ ap (λ (k : Head). inner k own (forest ts) closing) eh
     ∙ ap (λ xs. inner (with_attrs kind.Table (table_attributes (first_items vs))) xs (forest ts) closing) (eo ∙ is.items)
     ∙ ap (λ us. inner (with_attrs kind.Table (table_attributes (first_items vs))) (delimiter vs) (forest us) closing) nodes
-    ∙ ap (λ xs. inner (with_attrs kind.Table (table_attributes (first_items vs))) (delimiter vs) (forest (children (stretches_parts (behind_delimiter vs ++ cs)))) xs) ec in
+    ∙ ap (λ xs. inner (with_attrs kind.Table (table_attributes (first_items vs))) (delimiter vs)
+    (forest (children (stretches_parts (behind_delimiter vs ++ cs)))) xs) ec in
     ap (stretches_view ps) el
     ∙ ap (λ s. gap (row_view ps d).lead ∷ s ∷ gap v.ending ∷ []) eb
     ∙ ap (λ xs. gap xs ∷ tree_block (item_tree tree) ∷ gap v.ending ∷ []) is.lead

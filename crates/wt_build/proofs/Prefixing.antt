@@ -48,4 +48,5 @@ pub signs_end : (done whole s : List ℕ) (n : ℕ) → list_signs n s ≡ [] �
 signs_end done whole s n e h = sym (append-nil done) ∙ ap (λ ss. done ++ ss) (sym e) ∙ h
 
 pub no_more : (done whole s : List ℕ) (n : ℕ) → n ≡ 0 → done ++ list_signs n s ≡ whole → done ≡ whole
-no_more done whole s n e h = signs_end done whole s n (ap (λ k. take (min k (prefix_len is_list_sign s)) s) e ∙ ap (λ k. take k s) (zero-min (prefix_len is_list_sign s))) h
+no_more done whole s n e h = signs_end done whole s n (ap (λ k. take (min k (prefix_len is_list_sign s)) s) e
+    ∙ ap (λ k. take k s) (zero-min (prefix_len is_list_sign s))) h

@@ -1,5 +1,5 @@
 -- A page is cut into sections: its units, blocks and the parts of its body are those of the sections, one after the other.
-use Rattle.std.proofs.Common.{◌≡◌, ◌<◌, ℕ, zero, suc, ◌+◌, ◌-◌, Bool, true, false, List, [], ◌∷◌, ◌++◌, length, drop, map, replicate, refl, sym, ap, ◌∙◌, arith, append_assoc, append-nil, None, inl, inr}
+use Rattle.std.proofs.Common.{◌≡◌, ◌<◌, ℕ, zero, suc, ◌-◌, Bool, true, false, List, [], ◌∷◌, ◌++◌, length, drop, map, replicate, refl, sym, ap, ◌∙◌, arith, append_assoc, append-nil, None, inl, inr}
 use Rattle.std.specs.List.{flat_map}
 use Rattle.std.specs.Prelude.{◌⊎◌, ◌==◌}
 use Rattle.std.proofs.lemmas.Bool.Decides.{nat_tests}
@@ -257,7 +257,8 @@ section_first made final tables xs left ef et so_far end = first_by made final (
 
 -- ---- the children of the body
 
-pub carries_by : (g h : Grown) (xs ys : List Item) (added : List Part) → body_parts (rows xs) ≡ added ++ body_parts (rows ys) → Grows g added h → Carries g xs h ys
+pub carries_by : (g h : Grown) (xs ys : List Item) (added : List Part) → body_parts (rows xs) ≡ added ++ body_parts (rows ys) → Grows g added h
+    → Carries g xs h ys
 carries_by g h xs ys added e grows qs =
     grows (body_parts (rows ys) ++ qs)
     ∙ ap (made g) (sym (append_assoc added (body_parts (rows ys)) qs) ∙ ap (λ ps. ps ++ qs) (sym e))

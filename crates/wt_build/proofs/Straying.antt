@@ -1,5 +1,5 @@
 -- Rows up to the last one that isn't blank, and rows as gaps.
-use Rattle.std.proofs.Common.{◌≡◌, ◌<◌, ◌≤◌, ℕ, zero, suc, ◌+◌, ◌-◌, Bool, true, false, List, [], ◌∷◌, ◌++◌, length, take, drop, map, get_or, refl, sym, ap, ◌∙◌, subst, cond, arith, append_assoc}
+use Rattle.std.proofs.Common.{◌≡◌, ◌<◌, ◌≤◌, ℕ, zero, suc, ◌+◌, ◌-◌, Bool, true, false, List, [], ◌∷◌, ◌++◌, length, take, drop, map, get_or, refl, sym, ap, ◌∙◌, subst, cond, arith}
 use Rattle.std.specs.Prelude.{reverse}
 use Rattle.std.specs.List.{prefix_len}
 use Rattle.std.proofs.lemmas.List.{take_all, take_more, drop-drop, length-map, get_or-map, map-append, reverse-append}
@@ -33,7 +33,8 @@ stop_by false n p q total eq e h = omega (arith, eq, h)
 before_is : (ps : List Piece) (rs : List RowAt) (m : ℕ) (r : RowAt) (d : Row) → m < length rs → get_or (rows_view ps rs) m d ≡ row_view ps (get_or rs m r)
 before_is ps rs m r d l = get_or-map (row_view ps) rs m r d l
 
-pub stray_goes : (ps : List Piece) (rs : List RowAt) (n : ℕ) (r : RowAt) (t : Bool) → 0 < n → n ≤ length rs → t ≡ is_blank_row (row_view ps (get_or rs (n - 1) r)) → t ≡ true
+pub stray_goes : (ps : List Piece) (rs : List RowAt) (n : ℕ) (r : RowAt) (t : Bool) → 0 < n → n ≤ length rs
+    → t ≡ is_blank_row (row_view ps (get_or rs (n - 1) r)) → t ≡ true
     → n - prefix_len is_blank_row (reverse (take n (rows_view ps rs))) ≡ stray_len (rows_view ps rs)
     → n - 1 - prefix_len is_blank_row (reverse (take (n - 1) (rows_view ps rs))) ≡ stray_len (rows_view ps rs)
 stray_goes ps rs n r t some w et e h =
@@ -45,7 +46,8 @@ stray_goes ps rs n r t some w et e h =
     let test : is_blank_row (get_or xs (n - 1) d) ≡ true = ap is_blank_row (before_is ps rs (n - 1) r d (omega arith)) ∙ sym et ∙ e in
     back_by (is_blank_row (get_or xs (n - 1) d)) n (n - 1) _ _ (stray_len xs) (sym at) more test h
 
-pub stray_stops : (ps : List Piece) (rs : List RowAt) (n : ℕ) (r : RowAt) (t : Bool) → 0 < n → n ≤ length rs → t ≡ is_blank_row (row_view ps (get_or rs (n - 1) r)) → t ≡ false
+pub stray_stops : (ps : List Piece) (rs : List RowAt) (n : ℕ) (r : RowAt) (t : Bool) → 0 < n → n ≤ length rs
+    → t ≡ is_blank_row (row_view ps (get_or rs (n - 1) r)) → t ≡ false
     → n - prefix_len is_blank_row (reverse (take n (rows_view ps rs))) ≡ stray_len (rows_view ps rs) → n ≡ stray_len (rows_view ps rs)
 stray_stops ps rs n r t some w et e h =
     let xs = rows_view ps rs in
@@ -86,7 +88,8 @@ pub gaps_are : (ps : List Piece) (rs : List RowAt) (n : ℕ) (out : List Stretch
     → stretches_view ps out ≡ gaps (rows_view ps rs)
 gaps_are ps rs n out h l e = ap (stretches_view ps) (e ∙ ap (map gap_at) (take_all n rs l)) ∙ gaps_of ps rs h
 
-pub behind_is : (ps : List Piece) (x : StretchAt) (found more all rest l others : List StretchAt) (gs : List Stretch) → l ≡ x ∷ rest → rest ≡ all → all ≡ found ++ more
+pub behind_is : (ps : List Piece) (x : StretchAt) (found more all rest l others : List StretchAt) (gs : List Stretch) → l ≡ x ∷ rest → rest ≡ all
+    → all ≡ found ++ more
     → stretches_view ps found ≡ gs → more ≡ others → stretches_view ps l ≡ stretch_view ps x ∷ (gs ++ stretches_view ps others)
 behind_is ps x found more all rest l others gs el er ea ef em =
     ap (stretches_view ps) (el ∙ ap (λ ss. x ∷ ss) (er ∙ ea))

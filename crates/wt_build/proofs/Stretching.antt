@@ -51,7 +51,8 @@ pub enclosed_is : (ps : List Piece) (h : Head) (g : Grown) (ss front rest node l
 enclosed_is ps h g ss front rest node l n eg en ef er opened el =
     let vs = stretches_view ps ss in
     let len : n ≡ front_len vs = en ∙ sym (gaps_viewed ps ss) in
-    let before : stretches_view ps front ≡ take (front_len vs) vs = ap (stretches_view ps) ef ∙ sym (take-map (stretch_view ps) n ss) ∙ ap (λ k. take k vs) len in
+    let before : stretches_view ps front ≡ take (front_len vs) vs = ap (stretches_view ps) ef ∙ sym (take-map (stretch_view ps) n ss)
+    ∙ ap (λ k. take k vs) len in
     let after : stretches_view ps rest ≡ drop (front_len vs) vs = ap (stretches_view ps) er ∙ sym (drop-map (stretch_view ps) n ss) ∙ ap (λ k. drop k vs) len in
     ap (stretches_view ps) el ∙ map-append (stretch_view ps) front node
     ∙ ap (λ us. us ++ stretches_view ps node) before

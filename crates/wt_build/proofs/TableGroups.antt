@@ -1,18 +1,16 @@
 -- The parts of a table by groups of its rows.
-use Rattle.std.proofs.Common.{◌≡◌, ◌≤◌, ℕ, zero, suc, ◌+◌, ◌-◌, Bool, true, false, not, List, [], ◌∷◌, ◌++◌, length, take, drop, map, refl, sym, ap, ◌∙◌, subst, cond, arith, append_assoc, length-drop}
-use Rattle.std.specs.List.{flat_map, prefix_len, AllByRecursion}
+use Rattle.std.proofs.Common.{◌≡◌, ◌≤◌, ℕ, zero, suc, Bool, true, false, not, List, [], ◌∷◌, ◌++◌, length, take, drop, map, refl, sym, ap, ◌∙◌, arith, append_assoc, length-drop}
+use Rattle.std.specs.List.{flat_map, prefix_len}
 use Rattle.std.proofs.lemmas.List.{take-map, drop-map, take-append-drop}
 use Rattle.std.proofs.lemmas.Grind.{flat_map-append}
 use Rattle.wt_tree.specs.declared.kind.Kind.TheVariants as kind
-use Rattle.wt_span.specs.Runs.{runs}
-use Rattle.wt_lines.specs.declared.kind.LineKind.{LineKind}
-use Rattle.wt_tables.specs.Parts.{joined, units, unit_kind, groups, group_kind, plain_len, with_stray, past_stray, stray_len, is_row, is_caption, captions_len, row_by, row_of, rows_of, table_of}
+use Rattle.wt_tables.specs.Parts.{joined, units, unit_kind, groups, group_kind, plain_len, stray_len, is_row, is_caption, captions_len, row_by, row_of, rows_of, table_of}
 use Rattle.wt_inline.specs.ItemTree.{plain}
 use Rattle.wt_body.specs.Rows.{Row, kind_of}
-use Rattle.wt_body.specs.Stretches.{Stretch, enclosed}
+use Rattle.wt_body.specs.Stretches.{enclosed}
 use Rattle.wt_body.specs.Tables.{Reading, cell_stretches, row_by as row_stretches_by, row_stretches, rows_stretches, table_inside}
 use Rattle.wt_build.specs.Units.{plain_count}
-use Rattle.wt_build.specs.Groups.{group_rows, goes_on, row_groups, row_with, row_of_groups, rows_of_groups, body_of_groups, captions_count, inside_groups}
+use Rattle.wt_build.specs.Groups.{group_rows, goes_on, row_with, row_of_groups, rows_of_groups, body_of_groups, captions_count, inside_groups}
 use Rattle.wt_build.proofs.Grouping.{runs_front, plain_are, AreFirst, first_are, first_rest, count_same}
 
 stray_all : (n : ℕ) (u : List Row) (us : List (List Row)) → (u ++ joined (take n us)) ++ joined (drop n us) ≡ u ++ joined us
@@ -25,7 +23,8 @@ row_with_is : (read : Reading) (t : Bool) (g : List (List Row)) (gs : List (List
 unfolding row_stretches cell_stretches
 row_with_is read true [] gs e = cc
 row_with_is read false [] gs e = refl
-row_with_is read true (u ∷ us) gs e = ap (λ ls. row_stretches_by ls (flat_map (cell_stretches read false) (map joined gs))) (stray_all (stray_len kind_of us) u us)
+row_with_is read true (u ∷ us) gs e = ap (λ ls. row_stretches_by ls (flat_map (cell_stretches read false) (map joined gs)))
+    (stray_all (stray_len kind_of us) u us)
 row_with_is read false (u ∷ us) gs e = refl
 
 row_is : (read : Reading) (g : List (List Row)) (gs : List (List (List Row))) → group_kind kind_of g ≡ unit_kind kind_of (joined g)
@@ -63,7 +62,8 @@ body_is read (g ∷ gs) f =
     ∙ ap (enclosed (plain kind.Tbody)) (rows_by read (length (g ∷ gs)) (g ∷ gs) (omega arith) f)
 
 inside_by : (read : Reading) (gs : List (List (List Row))) → AreFirst kind_of gs
-    → flat_map (cell_stretches read true) (map joined (take (captions_len kind_of gs) gs)) ++ rows_stretches read (rows_of kind_of (drop (captions_len kind_of gs) gs))
+    → flat_map (cell_stretches read true) (map joined (take (captions_len kind_of gs) gs)) ++ rows_stretches read
+    (rows_of kind_of (drop (captions_len kind_of gs) gs))
     ≡ inside_groups read (map joined gs)
 inside_by read gs f =
     let c = captions_len kind_of gs in
@@ -81,7 +81,8 @@ inside_is read first inside =
     let gs = groups kind_of (drop (plain_len kind_of us) us) in
     let rest = drop (plain_count 0 (map kind_of inside)) inside in
     let cut : gs ≡ groups kind_of (units kind_of rest) = ap (groups kind_of) (plain_are kind_of inside).back in
-    ap (λ fs. flat_map (cell_stretches read true) (map joined (take (captions_len kind_of fs) fs)) ++ rows_stretches read (rows_of kind_of (drop (captions_len kind_of fs) fs))) cut
+    ap (λ fs. flat_map (cell_stretches read true) (map joined (take (captions_len kind_of fs) fs)) ++ rows_stretches read
+    (rows_of kind_of (drop (captions_len kind_of fs) fs))) cut
     ∙ inside_by read (groups kind_of (units kind_of rest)) (first_are kind_of rest)
 
 -- its open delimiter with all lines before the first that begins a part

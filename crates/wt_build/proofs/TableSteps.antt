@@ -1,5 +1,5 @@
 -- Tables by groups of their rows: steps.
-use Rattle.std.proofs.Common.{◌≡◌, ◌<◌, ◌≤◌, ℕ, zero, suc, ◌+◌, ◌-◌, Bool, true, false, List, [], ◌∷◌, ◌++◌, length, take, drop, map, get_or, refl, sym, ap, ◌∙◌, subst, arith, append-nil}
+use Rattle.std.proofs.Common.{◌≡◌, ◌<◌, ◌≤◌, ℕ, zero, suc, ◌+◌, ◌-◌, Bool, List, [], ◌∷◌, ◌++◌, length, drop, get_or, refl, sym, ap, ◌∙◌, subst, arith, append-nil}
 use Rattle.std.specs.List.{flat_map}
 use Rattle.std.proofs.lemmas.List.{drop_more, drop_all}
 use Rattle.wt_span.specs.declared.form.Piece.{Piece}
@@ -12,7 +12,7 @@ use Rattle.wt_body.specs.Stretches.{Stretch, gap}
 use Rattle.wt_body.specs.Tables.{Reading, gaps, cells_by, cell_stretches}
 use Rattle.wt_body.specs.Body.{within}
 use Rattle.wt_build.specs.Ready.{BeginsCell, AreReadyRows, reading_at}
-use Rattle.wt_build.specs.GroupViews.{group_view, groups_view}
+use Rattle.wt_build.specs.GroupViews.{group_view}
 use Rattle.wt_build.specs.CellGroups.{groups_rows, FirstBegins, AllBegin}
 use Rattle.wt_build.specs.Views.{row_view, rows_view, stretches_view}
 use Rattle.wt_build.proofs.Celling.{made_added}
@@ -68,9 +68,11 @@ group_begins ps rows own gs i d caption l e h =
 
 pub group_read : (ps : List Piece) (rows own : List RowAt) (gs : List Group) (i : ℕ) (d : Group) (f : List Row → List Stretch) (out made all : List StretchAt)
     (whole : List Stretch) → i < length gs → own ≡ group_view rows (get_or gs i d) → stretches_view ps made ≡ f (rows_view ps own) → all ≡ out ++ made
-    → stretches_view ps out ++ flat_map f (groups_rows ps rows (drop i gs)) ≡ whole → stretches_view ps all ++ flat_map f (groups_rows ps rows (drop (i + 1) gs)) ≡ whole
+    → stretches_view ps out ++ flat_map f (groups_rows ps rows (drop i gs)) ≡ whole
+    → stretches_view ps all ++ flat_map f (groups_rows ps rows (drop (i + 1) gs)) ≡ whole
 group_read ps rows own gs i d f out made all whole l e is a h =
-    made_added ps f out made all (rows_view ps (group_view rows (get_or gs i d))) (groups_rows ps rows (drop i gs)) (groups_rows ps rows (drop (i + 1) gs)) whole
+    made_added ps f out made all (rows_view ps (group_view rows (get_or gs i d))) (groups_rows ps rows (drop i gs))
+    (groups_rows ps rows (drop (i + 1) gs)) whole
     (group_more ps rows gs i d l) (is ∙ ap (λ rs. f (rows_view ps rs)) e) a h
 
 pub groups_done : (ps : List Piece) (rows : List RowAt) (gs : List Group) (i : ℕ) (f : List Row → List Stretch) (out l : List StretchAt) (whole : List Stretch)

@@ -1,5 +1,5 @@
 -- A table from the row that opens it to the one that ends it.
-use Rattle.std.proofs.Common.{◌≡◌, ◌<◌, ◌≤◌, ℕ, zero, suc, ◌+◌, ◌-◌, List, [], ◌∷◌, ◌++◌, length, min, take, drop, map, get_or, refl, sym, ap, ◌∙◌, subst, arith}
+use Rattle.std.proofs.Common.{◌≡◌, ◌≤◌, ℕ, suc, ◌+◌, ◌-◌, List, [], ◌∷◌, ◌++◌, length, min, take, drop, map, get_or, refl, sym, ap, ◌∙◌, arith}
 use Rattle.std.proofs.lemmas.List.{take-map, drop-map, length-map, length-take}
 use Rattle.wt_span.specs.declared.form.Piece.{Piece}
 use Rattle.wt_tables.specs.Parts.{table_of}
@@ -64,7 +64,8 @@ table_whole read ps (r ∷ s ∷ rs) inner behind front rest d n held ls w eb ei
     let whole : k ≡ n + (k - n) = omega (arith, len, few, same, en) in
     let cut : take n inner ≡ take n (s ∷ rs) = ap (take n) is ∙ ap (λ m. take n (take m (s ∷ rs))) whole ∙ take_take n (k - n) (s ∷ rs) in
     let fv : rows_view ps front ≡ row_view ps r ∷ take n (rows_view ps inner) =
-    ap (rows_view ps) (ef ∙ ap (λ m. take m (r ∷ s ∷ rs)) one ∙ ap (λ us. r ∷ us) (sym cut)) ∙ ap (λ us. row_view ps r ∷ us) (sym (take-map (row_view ps) n inner)) in
+    ap (rows_view ps) (ef ∙ ap (λ m. take m (r ∷ s ∷ rs)) one ∙ ap (λ us. r ∷ us) (sym cut))
+    ∙ ap (λ us. row_view ps r ∷ us) (sym (take-map (row_view ps) n inner)) in
     let rv : rows_view ps rest ≡ drop n (rows_view ps inner) = ap (rows_view ps) er ∙ sym (drop-map (row_view ps) n inner) in
     let end = row_view ps (get_or (r ∷ s ∷ rs) (length (r ∷ s ∷ rs) - 1) d) in
     let ends : end ≡ last_of (row_view ps s) (rows_view ps rs) = ap (λ m. row_view ps (get_or (r ∷ s ∷ rs) m d)) last ∙ sym (last_is ps s d rs) in

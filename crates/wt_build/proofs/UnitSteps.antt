@@ -1,5 +1,5 @@
 -- Units of rows, found one after the other.
-use Rattle.std.proofs.Common.{◌≡◌, ◌<◌, ◌≤◌, ℕ, zero, suc, ◌+◌, ◌-◌, Bool, true, false, List, [], ◌∷◌, ◌++◌, length, take, drop, map, get_or, refl, sym, ap, ◌∙◌, subst, cond, arith, length-drop}
+use Rattle.std.proofs.Common.{◌≡◌, ◌<◌, ◌≤◌, ℕ, zero, suc, ◌+◌, Bool, true, false, List, ◌∷◌, length, drop, map, get_or, refl, sym, ap, ◌∙◌, subst, arith}
 use Rattle.std.specs.Prelude.{if◌then◌else◌}
 use Rattle.std.proofs.lemmas.List.{drop_more, drop_all, drop-drop, drop-map, length-map}
 use Rattle.wt_lines.specs.declared.kind.LineKind.{LineKind}
@@ -9,7 +9,7 @@ use Rattle.wt_tables.specs.Parts.{taken_len, begins_part}
 use Rattle.wt_tables.proofs.Ends.{after_line, depth_len, inner_is}
 use Rattle.wt_build.specs.declared.row.RowAt.{RowAt}
 use Rattle.wt_build.specs.Units.{kind_at, after_kind, unit_len, plain_count}
-use Rattle.wt_build.proofs.Grouping.{taken_within, plain_from, plain_within}
+use Rattle.wt_build.proofs.Grouping.{taken_within, plain_from}
 
 -- the two tables of what a row of a kind does to the depth are one
 same_after : (k : LineKind) (d : ℕ) (go : ℕ → ℕ) → after_line k d go ≡ after_kind k d go
@@ -33,7 +33,8 @@ kinds_more i rs r d0 l is =
     ∙ ap (λ ks. r.kind ∷ ks) (sym (drop-map kind_at (i + 1) rs))
 
 pub depth_ends : (i d : ℕ) (rs : List RowAt) (r d0 : RowAt) → i < length rs → r ≡ get_or rs i d0
-    → ((go : ℕ → ℕ) → after_kind r.kind d go ≡ 1) → i + depth_len (drop i (map kind_at rs)) d ≡ depth_len (map kind_at rs) 0 → i + 1 ≡ inner_len (map kind_at rs)
+    → ((go : ℕ → ℕ) → after_kind r.kind d go ≡ 1) → i + depth_len (drop i (map kind_at rs)) d ≡ depth_len (map kind_at rs) 0
+    → i + 1 ≡ inner_len (map kind_at rs)
 depth_ends i d rs r d0 l is step h =
     let now = drop (i + 1) (map kind_at rs) in
     let s : depth_len (drop i (map kind_at rs)) d ≡ 1 =

@@ -1,8 +1,8 @@
 -- What a mark says of the bytes where it stands.
-use Rattle.std.proofs.Common.{◌≡◌, ℕ, zero, suc, ◌+◌, ◌-◌, ◌<◌, ◌≤◌, ◌⊎◌, inl, inr, Bool, true, false, Some, List, [], ◌∷◌, ◌++◌, length, get_or, take, drop, refl, sym, ap, ◌∙◌, subst, arith, length-take, length-drop}
+use Rattle.std.proofs.Common.{◌≡◌, ℕ, zero, suc, ◌+◌, ◌-◌, ◌<◌, ◌≤◌, Bool, true, false, Some, List, [], ◌∷◌, ◌++◌, length, take, drop, refl, sym, ap, ◌∙◌, subst, arith, length-take}
 use Rattle.std.specs.Prelude.{replicate, slice_index, nat_lt}
 use Rattle.std.proofs.lemmas.Bool.Decides.{nat_tests}
-use Rattle.std.proofs.lemmas.List.{drop-drop, drop_at, get_or-drop, length-replicate, drop-append-le, replicate-append-replicate}
+use Rattle.std.proofs.lemmas.List.{drop-drop, drop_at, get_or-drop}
 use Rattle.wt_span.specs.declared.form.Mode.{Mode}
 use Rattle.wt_span.specs.declared.form.LexKind.{LexKind}
 use Rattle.wt_span.specs.declared.form.LexKind.TheVariants as lex
@@ -58,7 +58,8 @@ from_mark : (mode : Mode) (kind : LexKind) (n j k i : ℕ) (bs : List ℕ) (m : 
     → drop i (marks_from kind n j k ++ more) ≡ m ∷ rest → m ≡ of kind n (j + i)
 from_mark mode kind n j zero i bs m rest more l e = absurd (omega (arith, l))
 from_mark mode kind n j (suc k) zero bs m rest more l e = let z : of kind n j ≡ m = cc in sym z ∙ ap (of kind n) (omega arith)
-from_mark mode kind n j (suc k) (suc i) bs m rest more l e = from_mark mode kind n (suc j) k i bs m rest more (omega (arith, l)) e ∙ ap (of kind n) (omega arith)
+from_mark mode kind n j (suc k) (suc i) bs m rest more l e = from_mark mode kind n (suc j) k i bs m rest more (omega (arith, l)) e
+    ∙ ap (of kind n) (omega arith)
 
 form_says : (mode : Mode) (kind : LexKind) (n i : ℕ) (bs : List ℕ) → IsWordHere mode kind n bs → Says mode (of kind n i) (drop i bs)
 form_says mode kind n zero bs h = h

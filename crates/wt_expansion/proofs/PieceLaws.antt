@@ -1,6 +1,6 @@
 -- Pieces that give an expanded page are what the items of a page owe each other.
-use Rattle.std.proofs.Common.{◌≡◌, ℕ, zero, suc, ◌+◌, ◌<◌, ◌≤◌, Bool, true, false, Option, Some, None, List, [], ◌∷◌, ◌++◌, length, map, refl, sym, ap, ◌∙◌, subst, arith, append_assoc, append-nil, length-append}
-use Rattle.std.specs.Prelude.{slice_get, if◌then◌else◌, ◌==◌, All}
+use Rattle.std.proofs.Common.{◌≡◌, ℕ, suc, ◌+◌, ◌<◌, ◌≤◌, true, false, Option, Some, None, List, [], ◌∷◌, ◌++◌, length, map, refl, sym, ap, ◌∙◌, subst, arith, append_assoc, length-append}
+use Rattle.std.specs.Prelude.{slice_get, if◌then◌else◌, All}
 use Rattle.std.specs.Str.{IsUtf8}
 use Rattle.std.proofs.lemmas.Bool.Decides.{nat_tests}
 use Rattle.std.proofs.lemmas.List.Concat.{flat_map-append}
@@ -12,15 +12,15 @@ use Rattle.wt_span.specs.declared.origin.Origin.{Origin}
 use Rattle.wt_span.specs.declared.origin.Origin.TheVariants as origin
 use Rattle.wt_span.specs.Slice.{bytes_of, start_of, end_of}
 use Rattle.wt_span.specs.Whole.{IsWhole}
-use Rattle.wt_span.specs.Items.{Item, char, sources, call_of_origin, items_by, items_of, items}
-use Rattle.wt_span.specs.Origins.{OuterCall, Span, span_of, span_of_call, span_of_entry, span_of_origin, same_call, origin_before, once, FollowFrom, IsOther, AreApart, IsAmong, IsPlaced, FitsOrigin, IsSoundPiece, IsSoundCall, AreInOrder, Expanded, AreItems}
+use Rattle.wt_span.specs.Items.{Item, sources, call_of_origin, items_by, items_of, items}
+use Rattle.wt_span.specs.Origins.{OuterCall, Span, span_of_entry, span_of_origin, same_call, origin_before, once, FollowFrom, IsOther, AreApart, IsAmong, IsPlaced, FitsOrigin, IsSoundPiece, IsSoundCall, AreInOrder, Expanded, AreItems}
 use Rattle.wt_expand.specs.Made.{IsOfPage}
 use Rattle.wt_expand.specs.Work.{Pages}
 use Rattle.wt_expand.specs.PageCalls.{Stretch, own, outer, text_call, outer_items, numbered, outer_calls, text_spans, page_stretches, expanded_page}
 use Rattle.wt_expand.proofs.MadePieces.{once_page}
 use Rattle.wt_expand.proofs.PiecePlaces.{get_mid}
-use Rattle.wt_expansion.specs.Made.{IsOwn, AreOwn, AreCalled, Give, AreAlike}
-use Rattle.wt_expansion.specs.Sound.{IsSoundItem, AreSoundItems}
+use Rattle.wt_expansion.specs.Made.{AreOwn, AreCalled, Give, AreAlike}
+use Rattle.wt_expansion.specs.Sound.{AreSoundItems}
 use Rattle.wt_expansion.proofs.SoundCalls.{page_calls_sound}
 use Rattle.wt_expansion.proofs.SoundItems.{page_items_sound}
 use Rattle.wt_expansion.proofs.TextOrder.{spans_in_order}
@@ -62,7 +62,11 @@ set_own : (at : ℕ) (ps : List Piece) (to : ℕ) → AreOwn at ps to → AllSet
 set_own at [] to f = tt
 set_own at (p ∷ ps) to f =
     let s = f.0.start in (
-      record { some = f.0.some; placed = own_placed p.origin (at, end_of p.text) (start_of p.text, end_of p.text) f.0.origin (ap (λ (n : ℕ). (n, end_of p.text)) (sym s)) },
+      record {
+        some = f.0.some;
+        placed = own_placed p.origin (at, end_of p.text) (start_of p.text, end_of p.text) f.0.origin
+            (ap (λ (n : ℕ). (n, end_of p.text)) (sym s));
+      },
       set_own (end_of p.text) ps to f.1,
     )
 
@@ -279,7 +283,12 @@ page_pieces pages page ss ps u a g =
     }
 
 expanded_is : (pages : Pages) (page : List ℕ) → expanded_page pages page
-    ≡ record { items = numbered 0 (page_stretches pages page); outer = outer_calls (page_stretches pages page); text_calls = text_spans (page_stretches pages page) }
+    ≡ record {
+      items = numbered 0 (page_stretches pages page);
+      outer = outer_calls (page_stretches pages page);
+      text_calls = text_spans
+          (page_stretches pages page);
+    }
 unfolding expanded_page
 expanded_is pages page = refl
 
@@ -289,5 +298,10 @@ page_is_items pages page ss ps a g =
     let same = give_items 0 0 ss ps g ∙ a.items 0 in
     ap (λ xs. let r : Expanded = record { items = xs; outer = outer_calls ss; text_calls = text_spans ss } in r) same
     ∙ ap (λ cs. let r : Expanded = record { items = numbered 0 (page_stretches pages page); outer = cs; text_calls = text_spans ss } in r) a.calls
-    ∙ ap (λ ts. let r : Expanded = record { items = numbered 0 (page_stretches pages page); outer = outer_calls (page_stretches pages page); text_calls = ts } in r) a.text_calls
+    ∙ ap (λ ts. let r : Expanded = record {
+      items = numbered 0 (page_stretches pages page);
+      outer = outer_calls
+          (page_stretches pages page);
+      text_calls = ts;
+    } in r) a.text_calls
     ∙ sym (expanded_is pages page)

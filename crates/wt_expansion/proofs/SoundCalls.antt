@@ -1,5 +1,5 @@
 -- The outermost calls of an expanded page: their parts lie in order at character borders.
-use Rattle.std.proofs.Common.{◌≡◌, ℕ, zero, suc, ◌+◌, ◌-◌, ◌<◌, ◌≤◌, Bool, true, false, Option, Some, None, List, [], ◌∷◌, ◌++◌, length, get_or, map, take, drop, refl, sym, ap, ◌∙◌, subst, arith, length-take, length-drop}
+use Rattle.std.proofs.Common.{◌≡◌, ℕ, suc, ◌+◌, ◌-◌, ◌<◌, ◌≤◌, Bool, true, false, Option, Some, None, List, [], ◌∷◌, ◌++◌, length, map, take, drop, refl, sym, ap, ◌∙◌, subst, arith, length-take, length-drop}
 use Rattle.std.specs.Prelude.{slice_index, ◌==◌, not, is_some, if◌then◌else◌, All}
 use Rattle.std.specs.Str.{IsUtf8, IsCharBoundary}
 use Rattle.std.proofs.lemmas.Str.{IsCharBoundary-before_ascii, IsCharBoundary-after_ascii}
@@ -16,12 +16,11 @@ use Rattle.wt_lex.proofs.Fronts.{byte_front}
 use Rattle.wt_braces.specs.PartMembers.{PartMembers, joined, rejoined, part_members, split_members, with_member, with_equals, with_sign_of, later_after, placed, width_of, name_width, name_end}
 use Rattle.wt_braces.proofs.Rejoins.{parts_join}
 use Rattle.wt_transclusion.proofs.PartLaws.{call_places}
-use Rattle.wt_transclusion.proofs.Full.{text_bytes}
 use Rattle.wt_transclusion.proofs.StretchLaws.{width_append, members_listed}
 use Rattle.wt_expand.specs.Targets.{Called, argument, function, page, text, called, called_by, is_function, title_of_target}
 use Rattle.wt_names.specs.declared.title.Title.{Title}
 use Rattle.wt_expand.specs.Work.{Pages}
-use Rattle.wt_expand.specs.Expansion.{Output, Reading, chars, target_part, part_outputs, front_braces, back_braces, output_of, outputs_of, text_members, page_reading}
+use Rattle.wt_expand.specs.Expansion.{Reading, chars, target_part, part_outputs, back_braces, output_of, outputs_of, text_members, page_reading}
 use Rattle.wt_expand.specs.PageCalls.{Stretch, own, outer, text_call, link_of, outer_at, call_stretches, stretches_of, all_stretches, outer_calls, page_stretches, expanded_page}
 use Rattle.wt_expansion.proofs.SoundMembers.{IsCallHere, IsSoundMember, AreSoundMembers, text_sound, text_width}
 use Rattle.wt_expansion.proofs.SoundItems.{stretches_are}
@@ -130,7 +129,8 @@ lie_parts t c n h (q ∷ r ∷ ps) before p e low l b d m w f =
       lie_parts t c n h (r ∷ ps) to (to + q.bar) e (omega (arith, low, l)) (omega arith) next d m (omega (arith, sum, z, w)) later,
     )
 
-name_ends : (t : List ℕ) (c : OuterCall) (n : ℕ) → IsCallIn t c n → (p e : ℕ) (name : Option (List Member × ℕ)) (value : List Member) → c.start ≤ p → e ≤ c.start + n
+name_ends : (t : List ℕ) (c : OuterCall) (n : ℕ) → IsCallIn t c n → (p e : ℕ) (name : Option (List Member × ℕ)) (value : List Member) → c.start ≤ p
+    → e ≤ c.start + n
     → p + width_of (joined name value) ≤ e → AreSoundMembers mode.Page (drop p t) (members (joined name value))
     → IsNameEnd c (p, p + (name_width name + width_of value)) (name_end p name)
 name_ends t c n h p e None value low m w f = tt
@@ -186,7 +186,8 @@ some_split : (later : Bool) (at : ℕ) (before xs : List Member) → 0 < length 
 some_split later at before [] = omega arith
 some_split later at before (x ∷ xs) =
     let ss = if in_link before xs then [] else sign_of x at in
-    some_sign later x ss (split_members (later_after later ss) (at + width x) (x ∷ before) xs) (some_split (later_after later ss) (at + width x) (x ∷ before) xs)
+    some_sign later x ss (split_members (later_after later ss) (at + width x) (x ∷ before) xs)
+    (some_split (later_after later ss) (at + width x) (x ∷ before) xs)
 
 placed_len : (p : ℕ) (ps : List PartMembers) → length (spans (placed p ps)) ≡ length ps
 placed_len p [] = refl
@@ -268,7 +269,8 @@ calls_append (text_call s ∷ ss) ts = calls_append ss ts
 both_sound : (ss ts : List Stretch) → All IsSoundCall (outer_calls ss) → All IsSoundCall (outer_calls ts) → All IsSoundCall (outer_calls (ss ++ ts))
 both_sound ss ts f g = subst (All IsSoundCall) (sym (calls_append ss ts)) (All-append IsSoundCall (outer_calls ss) (outer_calls ts) f g)
 
-sound_call : (c : Called) (at k : ℕ) (source : List ℕ) (target : List Item) (ms : Members) (given : List Item) (inside : List Stretch) → called k source target ≡ c
+sound_call : (c : Called) (at k : ℕ) (source : List ℕ) (target : List Item) (ms : Members) (given : List Item) (inside : List Stretch)
+    → called k source target ≡ c
     → ((d : Called) → is_some (link_of d) ≡ not (k == 3) → IsSoundCall (outer_at at k source ms d))
     → All IsSoundCall (outer_calls inside) → All IsSoundCall (outer_calls (call_stretches c at k source ms given inside))
 sound_call argument at k source target ms given inside e f g =

@@ -12,13 +12,12 @@ use Rattle.wt_span.specs.Items.{Item, char, whole, items_by}
 use Rattle.wt_span.specs.Origins.{FitsOrigin, OuterCall}
 use Rattle.wt_span.specs.Braces.{Member, Members, lexeme, call, none, more, width, width_of_all, IsCall}
 use Rattle.wt_braces.specs.PartMembers.{part_members}
-use Rattle.wt_expand.specs.PageItems.{raw_form_by, raw_form, form_of}
+use Rattle.wt_expand.specs.PageItems.{raw_form_by}
 use Rattle.wt_expand.specs.Targets.{Called, argument, function, page, text, called}
 use Rattle.wt_expand.specs.Work.{Pages}
-use Rattle.wt_expand.specs.Expansion.{Output, chars, lexeme_items, target_part, part_outputs, front_braces, back_braces, output_of, outputs_of, called_output, text_members, page_reading}
+use Rattle.wt_expand.specs.Expansion.{Output, chars, lexeme_items, target_part, part_outputs, front_braces, back_braces, outputs_of, called_output, text_members, page_reading}
 use Rattle.wt_expand.specs.PageCalls.{Stretch, own, outer, text_call, call_stretches, stretches_of, all_stretches, from_call, outer_items, numbered, page_stretches, expanded_page}
-use Rattle.wt_expansion.specs.Sound.{IsSoundItem, AreSoundItems}
-use Rattle.wt_expansion.proofs.MarkBytes.{IsWordHere}
+use Rattle.wt_expansion.specs.Sound.{AreSoundItems}
 use Rattle.wt_expansion.proofs.SoundMembers.{IsSoundLexeme, IsCallHere, IsSoundMember, AreSoundMembers, text_sound}
 use Rattle.wt_expansion.proofs.WholeOutputs.{AllWhole, whole_lexeme, whole_one, page_whole}
 
@@ -80,8 +79,11 @@ sound_call argument pages start at k bs ms os inside h w f = ((w, h.is_call), tt
 sound_call function pages start at k bs ms os inside h w f = (((w.0, h.is_call), tt), tt)
 sound_call (page t) pages start at k bs ms os inside h w f = ((w, h.is_call), tt)
 sound_call text pages start at k bs ms os inside h w f =
-    let source = take (k + width_of_all ms + k) bs in
-    (sound_chars None (front_braces k source), stretches_append inside (own (chars (back_braces k source)) ∷ []) f (sound_chars None (back_braces k source), tt))
+    let source = take (k + width_of_all ms + k) bs in (
+      sound_chars None (front_braces k source),
+      stretches_append inside (own (chars (back_braces k source)) ∷ []) f
+          (sound_chars None (back_braces k source), tt),
+    )
 
 mutual
   sound_one : (pages : Pages) (at : ℕ) (start : Bool) (bs : List ℕ) (m : Member) → IsSoundMember mode.Page bs m

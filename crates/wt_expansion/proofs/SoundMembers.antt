@@ -1,24 +1,22 @@
 -- The members of a text, by the bytes that they begin: lexemes are whole, and calls are calls with braces at both ends.
-use Rattle.std.proofs.Common.{◌≡◌, ℕ, zero, suc, ◌+◌, ◌-◌, ◌<◌, ◌≤◌, List, [], ◌∷◌, ◌++◌, length, get_or, take, drop, refl, sym, ap, ◌∙◌, subst, arith, append_assoc, append-nil, length-append}
+use Rattle.std.proofs.Common.{◌≡◌, ℕ, zero, suc, ◌+◌, ◌-◌, ◌≤◌, List, [], ◌∷◌, ◌++◌, length, take, drop, refl, sym, ap, ◌∙◌, subst, arith, append_assoc, append-nil, length-append}
 use Rattle.std.specs.Prelude.{replicate, slice_index, slice_range, Contains, ◌==◌, None, Some}
 use Rattle.std.proofs.lemmas.List.{drop-drop, drop_at, get_or-drop, length-replicate, take_all}
 use Rattle.wt_span.specs.declared.form.Mode.{Mode}
 use Rattle.wt_span.specs.declared.form.LexKind.{LexKind}
 use Rattle.wt_span.specs.declared.form.LexKind.TheVariants as lex
-use Rattle.wt_span.specs.Lexemes.{Word, words}
+use Rattle.wt_span.specs.Lexemes.{words}
 use Rattle.wt_span.specs.Braces.{Member, Members, lexeme, call, none, more, members, width, width_of_all, CallAt, calls, calls_of_all, parts_of, reduced, IsCall}
-use Rattle.wt_lex.specs.WholeWords.{IsWholeWord}
 use Rattle.wt_braces.specs.Alone.{IsAlone, AreAlone}
 use Rattle.wt_braces.proofs.AloneLaws.{calls_are_alone}
 use Rattle.wt_transclusion.specs.Marks.{Mark, opens, closes, of, marks_from, word_marks, words_marks, member_marks, marks_of_all}
 use Rattle.wt_transclusion.specs.Stretch.{IsFull, AreFull}
 use Rattle.wt_transclusion.proofs.Full.{full_text, text_bytes}
 use Rattle.wt_transclusion.proofs.MarkLaws.{text_marks}
-use Rattle.wt_transclusion.proofs.StretchCuts.{marks_len, word_len}
+use Rattle.wt_transclusion.proofs.StretchCuts.{marks_len}
 use Rattle.wt_transclusion.proofs.StretchLaws.{full_members}
 use Rattle.wt_expand.specs.Expansion.{text_members}
-use Rattle.wt_expansion.proofs.SignBytes.{HasSign}
-use Rattle.wt_expansion.proofs.MarkBytes.{IsWordHere, Says, text_says}
+use Rattle.wt_expansion.proofs.MarkBytes.{IsWordHere, text_says}
 
 -- of what is left of a run of braces nothing is said but that something is left
 abbrev pub IsSoundLexeme : Mode → LexKind → ℕ → List ℕ → Type 0
@@ -86,7 +84,8 @@ one_call : (mode : Mode) (bs : List ℕ) (k : ℕ) (ms : Members) → reduced (w
 one_call mode bs k ms e =
     let n : ℕ = k + width_of_all ms + k in
     let c : CallAt = record { argument = k == 3; from = 0; to = 0 + n; parts = parts_of (0 + k) ms; parent = None } in
-    let is : calls 0 (words mode bs) ≡ c ∷ (calls_of_all (0 + k) (Some 0) (0 + 1) ms ++ []) = calls_are mode bs ∙ ap (λ xs. calls_of_all 0 None 0 (members xs)) e in
+    let is : calls 0 (words mode bs) ≡ c ∷ (calls_of_all (0 + k) (Some 0) (0 + 1) ms ++ []) = calls_are mode bs
+    ∙ ap (λ xs. calls_of_all 0 None 0 (members xs)) e in
     let wide : n ≡ length bs = let z = ap (λ xs. width_of_all (members xs)) e in let y = text_bytes mode bs in omega (arith, z, y) in
     let all : slice_range bs 0 (0 + n) ≡ bs = take_all (0 + n - 0) bs (omega (arith, wide)) in
     (bs, c, subst (λ cs. Contains cs c) (sym is) (0, omega arith, refl), sym all)

@@ -1,5 +1,5 @@
 -- The text calls of an expanded page stand in order.
-use Rattle.std.proofs.Common.{◌≡◌, ℕ, ◌+◌, ◌-◌, ◌≤◌, Bool, true, false, List, [], ◌∷◌, ◌++◌, length, take, drop, refl, sym, ap, ◌∙◌, subst, arith}
+use Rattle.std.proofs.Common.{◌≡◌, ℕ, ◌+◌, ◌-◌, ◌≤◌, Bool, true, false, List, [], ◌∷◌, ◌++◌, take, drop, refl, sym, ap, subst, arith}
 use Rattle.std.specs.Prelude.{slice_index}
 use Rattle.wt_span.specs.declared.form.Mode.TheVariants as mode
 use Rattle.wt_span.specs.Bytes.{is_break}
@@ -9,7 +9,7 @@ use Rattle.wt_span.specs.Braces.{Member, Members, lexeme, call, none, more, widt
 use Rattle.wt_braces.specs.PartMembers.{part_members}
 use Rattle.wt_expand.specs.Targets.{Called, argument, function, page, text, called}
 use Rattle.wt_expand.specs.Work.{Pages}
-use Rattle.wt_expand.specs.Expansion.{Reading, chars, front_braces, back_braces, target_part, part_outputs, output_of, outputs_of, text_members, page_reading}
+use Rattle.wt_expand.specs.Expansion.{Reading, chars, back_braces, target_part, part_outputs, output_of, outputs_of, text_members, page_reading}
 use Rattle.wt_expand.specs.PageCalls.{Stretch, own, outer, text_call, call_stretches, stretches_of, all_stretches, text_spans, page_stretches, expanded_page}
 use Rattle.wt_expansion.specs.Sound.{RiseTo}
 use Rattle.wt_expansion.proofs.SoundItems.{stretches_are}
@@ -36,10 +36,12 @@ rise_call function at k source ms given inside f = omega arith
 rise_call (page t) at k source ms given inside f = omega arith
 rise_call text at k source ms given inside f =
     let to : ℕ = at + (k + width_of_all ms + k) in
-    let e : text_spans (inside ++ own (chars (back_braces k source)) ∷ []) ≡ text_spans inside ++ [] = spans_append inside (own (chars (back_braces k source)) ∷ []) in (
+    let e : text_spans (inside ++ own (chars (back_braces k source)) ∷ [])
+    ≡ text_spans inside ++ [] = spans_append inside (own (chars (back_braces k source)) ∷ []) in (
       omega arith,
       subst (λ ss. RiseTo at ss to) (sym e)
-          (rise_append at (text_spans inside) [] (at + k + width_of_all ms) to (rise_from at (at + k) (text_spans inside) (at + k + width_of_all ms) (omega arith) f)
+          (rise_append at (text_spans inside) [] (at + k + width_of_all ms) to
+          (rise_from at (at + k) (text_spans inside) (at + k + width_of_all ms) (omega arith) f)
           (omega arith)),
     )
 

@@ -1,6 +1,6 @@
 -- The items that texts, calls and arguments give have whole bytes, whatever the folder has.
-use Rattle.std.proofs.Common.{◌≡◌, ℕ, zero, suc, ◌+◌, ◌-◌, ◌⊎◌, inl, inr, Bool, true, false, Option, Some, None, List, [], ◌∷◌, ◌++◌, length, map, take, drop, refl, sym, ap, ◌∙◌, subst, arith, codes, ⊎_elim}
-use Rattle.std.specs.Prelude.{reverse, slice_index, if◌then◌else◌, ◌&&◌, not, decimal}
+use Rattle.std.proofs.Common.{◌≡◌, ℕ, zero, suc, ◌+◌, ◌-◌, ◌⊎◌, inl, inr, Bool, true, false, Option, Some, None, List, [], ◌∷◌, ◌++◌, length, map, take, drop, refl, sym, ap, ◌∙◌, subst, codes, ⊎_elim}
+use Rattle.std.specs.Prelude.{reverse, slice_index, if◌then◌else◌, ◌&&◌, not}
 use Rattle.std.specs.Option.{option_or}
 use Rattle.std.specs.Str.{bytes_eq}
 use Rattle.std.proofs.lemmas.List.{reverse-append}
@@ -17,15 +17,13 @@ use Rattle.wt_span.specs.Items.{Item, char, whole, is_char_in, items_by}
 use Rattle.wt_span.specs.Braces.{Member, Members, lexeme, call, none, more, width, width_of_all}
 use Rattle.wt_names.specs.declared.title.Title.{Title}
 use Rattle.wt_names.specs.Namespace.{full_name_of}
-use Rattle.wt_lex.specs.WholeWords.{IsWholeWord}
 use Rattle.wt_braces.specs.PartMembers.{PartMembers, part_members}
-use Rattle.wt_expand.specs.PageItems.{raw_form_by, raw_form, form_of}
-use Rattle.wt_expand.specs.Texts.{is_space, without_front, trimmed_by, trimmed_items, name_text}
+use Rattle.wt_expand.specs.PageItems.{raw_form_by, raw_form}
+use Rattle.wt_expand.specs.Texts.{is_space, without_front, trimmed_items, name_text}
 use Rattle.wt_expand.specs.Targets.{Called, argument, function, page, text, called}
 use Rattle.wt_expand.specs.Templates.{template_text}
 use Rattle.wt_expand.specs.Work.{Pages, is_among}
-use Rattle.wt_expand.specs.Expansion.{Output, just, then_output, joined, chars, is_removed, lexeme_items, PartOutput, member_count, part_by, part_outputs, target_part, later_parts, Frame, value_of, values_from, Reading, default_output, if_value, argument_output, opens_block, with_break, page_output, front_braces, back_braces, text_output, called_output, output_of, outputs_of, text_members, text_given, loop_text, depth_text, absent_text, fetched_output, template_output, most_templates, page_reading}
-use Rattle.wt_expansion.proofs.MarkBytes.{IsWordHere}
+use Rattle.wt_expand.specs.Expansion.{Output, just, joined, chars, lexeme_items, PartOutput, member_count, part_by, part_outputs, target_part, later_parts, Frame, value_of, values_from, Reading, default_output, if_value, opens_block, with_break, front_braces, back_braces, called_output, output_of, outputs_of, text_members, text_given, loop_text, depth_text, absent_text, fetched_output, template_output, most_templates, page_reading}
 use Rattle.wt_expansion.proofs.SoundMembers.{IsSoundLexeme, IsCallHere, IsSoundMember, AreSoundMembers, text_sound}
 
 -- ---- items

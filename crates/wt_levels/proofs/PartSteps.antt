@@ -12,7 +12,7 @@ use Rattle.wt_braces.specs.declared.call.PartAt.{PartAt as PartOf}
 use Rattle.wt_braces.specs.PartMembers.{PartMembers, joined, placed, width_of, name_end}
 use Rattle.wt_braces.specs.Views.{part_of}
 use Rattle.wt_expand.specs.Texts.{name_text}
-use Rattle.wt_expand.specs.Expansion.{Output, Reading, PartOutput, Frame, just, then_output, lexeme_items, chars, value_of, values_from, default_output, if_value, part_outputs, target_part, later_parts, parts_work, called_output, front_braces, back_braces, output_of, outputs_of, text_given, text_members}
+use Rattle.wt_expand.specs.Expansion.{Output, Reading, PartOutput, Frame, just, values_from}
 use Rattle.wt_expand.specs.Expansion as outputs
 use Rattle.wt_transclusion.specs.declared.handing.Handed.{Handed}
 use Rattle.wt_transclusion.specs.Cursors.{starts}

@@ -17,7 +17,7 @@ use Rattle.wt_braces.specs.Views.{part_of}
 use Rattle.wt_braces.proofs.Rejoins.{parts_join}
 use Rattle.wt_expand.specs.Targets.{argument, function, called, called_by, is_function, title_of_target}
 use Rattle.wt_expand.specs.Work.{Entry, begun, ended}
-use Rattle.wt_expand.specs.Expansion.{Output, Reading, PartOutput, Frame, just, then_output, lexeme_items, chars, value_of, values_from, default_output, if_value, part_outputs, target_part, later_parts, parts_work, called_output, front_braces, back_braces, output_of, outputs_of, text_given, text_members}
+use Rattle.wt_expand.specs.Expansion.{Output, Reading, PartOutput, just, then_output, lexeme_items, chars, values_from, part_outputs, target_part, later_parts, parts_work, called_output, front_braces, back_braces, outputs_of, text_given, text_members}
 use Rattle.wt_expand.specs.Expansion as outputs
 use Rattle.wt_transclusion.specs.declared.read.Braces.{Braces}
 use Rattle.wt_transclusion.specs.declared.cursor.Next.TheVariants as next

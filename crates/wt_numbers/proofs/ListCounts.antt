@@ -126,7 +126,8 @@ Nest rs n = (ls : List ListLine) → Fits n ls → total (all_lists rs (list_for
 
 -- an item, which leaves one number for its list, by whether its first line goes on
 item_count : (rs : List Row) (n : ℕ) → Nest rs n → (l : ListLine) (ms : List ListLine) (v : Bool) → goes_on l ≡ v → AllGoOn ms → Fits (suc n) (l ∷ ms)
-    → 1 + total (list_stretches rs (node_of true (l ∷ ms) (nested_lists n (map without_sign (cond v (l ∷ filter goes_on ms) (filter goes_on ms)))))) ≤ costs rs (l ∷ ms)
+    → 1 + total (list_stretches rs (node_of true (l ∷ ms) (nested_lists n (map without_sign (cond v (l ∷ filter goes_on ms) (filter goes_on ms)))))) ≤ costs
+    rs (l ∷ ms)
 item_count rs n h l ms true e g f =
     let ls = map without_sign (l ∷ ms) in
     let fits = fits_inner n (l ∷ ms) (e, g) f in

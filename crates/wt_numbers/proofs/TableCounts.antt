@@ -56,7 +56,8 @@ one_more zero k = omega arith
 one_more (suc n) zero = omega arith
 one_more (suc n) (suc k) = omega arith
 
-split_few : (x : Item) (xs : List Item) (by : Splits) (v : Bool) → length (parts by 1 xs) ≤ most_parts 1 (length xs) → length (parts by 0 xs) ≤ most_parts 0 (length xs)
+split_few : (x : Item) (xs : List Item) (by : Splits) (v : Bool) → length (parts by 1 xs) ≤ most_parts 1 (length xs)
+    → length (parts by 0 xs) ≤ most_parts 0 (length xs)
     → length (if v then [] ∷ onto x (parts by 1 xs) else onto x (parts by 0 xs)) ≤ 2 + length xs
 split_few x xs by true a b = omega (arith, onto_few x (parts by 1 xs) (1 + length xs) (omega arith) (omega (arith, one_more 1 (length xs))))
 split_few x xs by false a b = onto_few x (parts by 0 xs) (2 + length xs) (omega arith) (omega arith)
@@ -120,7 +121,8 @@ abbrev BeginsCell : List Row → Type 0
 BeginsCell [] = Unit {0}
 BeginsCell (r ∷ rs) = begins_part r.kind ≡ true
 
-line_few : (read : Reading) → IsFew read → (caption : Bool) (rs : List Row) → BeginsCell rs → AreFit rs → total (cell_stretches read caption rs) ≤ allowed_all rs
+line_few : (read : Reading) → IsFew read → (caption : Bool) (rs : List Row) → BeginsCell rs → AreFit rs
+    → total (cell_stretches read caption rs) ≤ allowed_all rs
 unfolding cell_stretches
 line_few read h caption [] b f = omega arith
 line_few read h caption (r ∷ rs) b f =
@@ -330,7 +332,8 @@ group_cells : (gs : List (List (List Row))) → AreBegun gs → BeginCells (map 
 group_cells [] h = tt
 group_cells (g ∷ gs) h = (group_cell g h.0, group_cells gs h.1)
 
-row_cells : (v : Bool) (g : List (List Row)) (gs : List (List (List Row))) → Begins (begins_group kind_of) g → AreBegun gs → BeginCells (row_parts kind_of v g gs).cells
+row_cells : (v : Bool) (g : List (List Row)) (gs : List (List (List Row))) → Begins (begins_group kind_of) g → AreBegun gs
+    → BeginCells (row_parts kind_of v g gs).cells
 row_cells v [] gs b h = absurd b
 row_cells true (u ∷ us) gs b h = group_cells gs h
 row_cells false (u ∷ us) gs b h = (group_cell (u ∷ us) b, group_cells gs h)
@@ -343,7 +346,8 @@ unit_opens : (u rest : List Row) → is_row (unit_kind kind_of u) ≡ true → O
 unit_opens [] rest e = absurd cc
 unit_opens (r ∷ u) rest e = tt
 
-row_opens : (v : Bool) (g : List (List Row)) (gs : List (List (List Row))) → is_row (group_kind kind_of g) ≡ true → v ≡ true → Opens (row_parts kind_of v g gs).opening
+row_opens : (v : Bool) (g : List (List Row)) (gs : List (List (List Row))) → is_row (group_kind kind_of g) ≡ true → v ≡ true
+    → Opens (row_parts kind_of v g gs).opening
 row_opens v [] gs e d = absurd cc
 row_opens true (u ∷ us) gs e d = unit_opens u _ e
 row_opens false (u ∷ us) gs e d = absurd cc
@@ -355,7 +359,8 @@ run_opens (g ∷ gs) h = row_opens (is_row (group_kind kind_of g)) g gs h h
 abbrev starts_row : List (List Row) → Bool
 starts_row g = is_row (group_kind kind_of g)
 
-runs_opened : (rs : List (List (List (List Row)))) (gs : List (List (List Row))) → AreRuns (λ g h. not (starts_row h)) rs gs → AreBegun gs → Starts starts_row gs
+runs_opened : (rs : List (List (List (List Row)))) (gs : List (List (List Row))) → AreRuns (λ g h. not (starts_row h)) rs gs → AreBegun gs
+    → Starts starts_row gs
     → AllByRecursion IsOpened (map (row_of kind_of) rs)
 runs_opened [] gs h b s = tt
 runs_opened (r ∷ rs) gs h b s =
@@ -446,7 +451,8 @@ opening_allows : (r : Row) (rs : List Row) → is_open r.kind ≡ true → AreFi
 opening_allows r rs e f = omega (arith, makes_append (row_items r) (all_items rs), open_allows r f.0 e, rows_allow rs f.1)
 
 -- the table of rows of which the first opens it
-pub table_count : (read : Reading) → IsFew read → (r : Row) (rs : List Row) → is_open r.kind ≡ true → AreFit (r ∷ rs) → total (table read (r ∷ rs)) ≤ allowed_all (r ∷ rs)
+pub table_count : (read : Reading) → IsFew read → (r : Row) (rs : List Row) → is_open r.kind ≡ true → AreFit (r ∷ rs)
+    → total (table read (r ∷ rs)) ≤ allowed_all (r ∷ rs)
 table_count read h r [] e f = gaps_few (r ∷ []) f
 table_count read h r (s ∷ rs) e f =
     let front = without_last s rs in

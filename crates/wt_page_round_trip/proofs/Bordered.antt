@@ -77,7 +77,8 @@ text_tree at next b bs =
       mw = None;
     }) none) (own_chars (b ∷ bs)) (shown_chars (b ∷ bs))
 
-separator_tree : (at next b : ℕ) (bs : List ℕ) → annotated_at at next (loose_leaf Sep (map (char None) (b ∷ bs))) ≡ sep_leaf (span at (length (b ∷ bs))) (b ∷ bs)
+separator_tree : (at next b : ℕ) (bs : List ℕ)
+    → annotated_at at next (loose_leaf Sep (map (char None) (b ∷ bs))) ≡ sep_leaf (span at (length (b ∷ bs))) (b ∷ bs)
 unfolding label_at
 separator_tree at next b bs =
     ap (λ own. tree (record {
@@ -318,7 +319,8 @@ text_last at next b bs us e h = elim h.begins [
       let ts : Trees = all_annotated_at (place + width (tree_items here)) (next + numbered here) (forest s.rest) in
       let is : annotated_at place next here ≡ sep_leaf (span place (length (10 ∷ s.more))) (10 ∷ s.more) = separator_tree place next 10 s.more in
       let cut : AreCut false (more (sep_leaf (span place (length (10 ∷ s.more))) (10 ∷ s.more)) ts) =
-      subst (λ u. AreCut false (more u ts)) is (subst (λ (vs : List ItemTree). AreCut false (all_annotated_at place next (forest vs))) s.are (h.cut place next)) in
+      subst (λ u. AreCut false (more u ts)) is
+      (subst (λ (vs : List ItemTree). AreCut false (all_annotated_at place next (forest vs))) s.are (h.cut place next)) in
       subst (λ (vs : List ItemTree). AreCut false (more (text_leaf (span at (length (b ∷ bs))) (b ∷ bs)) (all_annotated_at place next (forest vs))))
       (sym s.are)
       (subst (λ u. AreCut false (more (text_leaf (span at (length (b ∷ bs))) (b ∷ bs)) (more u ts))) (sym is)
@@ -368,8 +370,11 @@ runs_cut ((loose j o b ∷ r) ∷ []) ps us h a f at next =
     let cut = subst (λ n. AreCut false (more (text_leaf (span at (length (b ∷ s.more))) (b ∷ s.more))
     (all_annotated_at (at + n) (next + numbered t) (forest us)))) (sym wide)
     (text_last at (next + numbered t) b s.more us s.unbroken f) in
-    subst (λ u. IsCutBefore (more u (all_annotated_at (at + width (tree_items t)) (next + numbered t) (forest us)))) (sym is)
-    (cut, text_leads at (b ∷ s.more) (all_annotated_at (at + width (tree_items t)) (next + numbered t) (forest us)) (f.leads (at + width (tree_items t)) (next + numbered t)))
+    subst (λ u. IsCutBefore (more u (all_annotated_at (at + width (tree_items t)) (next + numbered t) (forest us)))) (sym is) (
+      cut,
+      text_leads at (b ∷ s.more) (all_annotated_at (at + width (tree_items t)) (next + numbered t) (forest us))
+          (f.leads (at + width (tree_items t)) (next + numbered t)),
+    )
 runs_cut ((loose j o b ∷ r) ∷ w ∷ rs) ps us h a f at next =
     let v = subst (λ (ts : List Part). AllByRecursion IsLinePart ts) h.1 a in
     let s : IsTextRunOf b (loose j o b ∷ r) h.0 = text_run_of j o b r h.0 h.2 v in

@@ -190,7 +190,8 @@ td_bordered = record {
   takes = record { kind = inr refl; stands = λ bs e. refl };
   parent = record {
     text = refl;
-    elements = λ k h. inline_held (is_anywhere (shape k).class) _ (or_more (is_class (shape k).class Inline) (is_class (shape k).class Character) (is_class (shape k).class Block)
+    elements = λ k h. inline_held (is_anywhere (shape k).class) _
+        (or_more (is_class (shape k).class Inline) (is_class (shape k).class Character) (is_class (shape k).class Block)
         (is_class (shape k).class ListClass) h);
   };
   block = refl;
@@ -204,7 +205,8 @@ th_bordered = record {
   takes = record { kind = inr refl; stands = λ bs e. refl };
   parent = record {
     text = refl;
-    elements = λ k h. inline_held (is_anywhere (shape k).class) _ (or_more (is_class (shape k).class Inline) (is_class (shape k).class Character) (is_class (shape k).class Block)
+    elements = λ k h. inline_held (is_anywhere (shape k).class) _
+        (or_more (is_class (shape k).class Inline) (is_class (shape k).class Character) (is_class (shape k).class Block)
         (is_class (shape k).class ListClass) h);
   };
   block = refl;
@@ -218,7 +220,8 @@ caption_bordered = record {
   takes = record { kind = inr refl; stands = λ bs e. refl };
   parent = record {
     text = refl;
-    elements = λ k h. inline_held (is_anywhere (shape k).class) _ (or_more (is_class (shape k).class Inline) (is_class (shape k).class Character) (is_class (shape k).class Block)
+    elements = λ k h. inline_held (is_anywhere (shape k).class) _
+        (or_more (is_class (shape k).class Inline) (is_class (shape k).class Character) (is_class (shape k).class Block)
         (is_class (shape k).class ListClass) h);
   };
   block = refl;

@@ -179,10 +179,15 @@ line_opened k parent q b attrs opening x xs h l ss a f small s =
     let inside : IsInside (suc k) q (forest (children (line_parts xs ++ stretches_parts front))) =
     line_inside (suc k) q b (omega (arith, small)) xs h l (stretches_parts front) (placed_parts (suc k) q (omega (arith, small)) front placed) f in
     let n : IsBlockIn k parent (node_of (with_attrs q attrs) opening (block (line_parts xs) ∷ front) []) = (
-      (box_written k parent q b.round attrs opening [] x (forest (children (line_parts xs ++ stretches_parts front))) (omega (arith, small)) s.held inside, b.block),
+      (
+        box_written k parent q b.round attrs opening [] x (forest (children (line_parts xs ++ stretches_parts front)))
+            (omega (arith, small)) s.held inside,
+        b.block,
+      ),
       s.shows,
     ) in
-    subst (λ m. ArePlaced k parent (tree_block (node_of (with_attrs q attrs) opening (take m (block (line_parts xs) ∷ ss)) []) ∷ drop m (block (line_parts xs) ∷ ss)))
+    subst (λ m. ArePlaced k parent (tree_block (node_of (with_attrs q attrs) opening (take m (block (line_parts xs) ∷ ss)) []) ∷ drop m
+    (block (line_parts xs) ∷ ss)))
     (sym (block_first (line_parts xs) ss)) (n, gaps_behind k (suc k) parent q ss a)
 
 -- a gap that begins with a line break

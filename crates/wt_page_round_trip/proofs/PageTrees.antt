@@ -115,6 +115,7 @@ small_items page xs room items =
 pub small_page : (page : List ℕ) (calls : List OuterCall) (xs : List Item) (t : ItemTree) → length page ≤ 2097152 → t ≡ meaning xs
     → xs ≡ page_items page → calls ≡ [] → length (page_of calls (tree_items t)) < 2 ^ 32
 small_page page calls xs t room is items without =
-    let len : length (page_of [] (tree_items t)) ≡ length page = ap (λ u. length (page_of [] (tree_items u))) (is ∙ ap meaning items) ∙ ap length (page_is page) in
+    let len : length (page_of [] (tree_items t)) ≡ length page = ap (λ u. length (page_of [] (tree_items u))) (is ∙ ap meaning items)
+    ∙ ap length (page_is page) in
     let same : length (page_of calls (tree_items t)) ≡ length (page_of [] (tree_items t)) = ap (λ cs. length (page_of cs (tree_items t))) without in
     omega (arith, room, len, same)

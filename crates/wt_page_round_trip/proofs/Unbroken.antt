@@ -80,7 +80,8 @@ link_line : (n : ℕ) (xs opening closing trail : List Item) (ps : List Part) �
 unfolding link_head
 link_line n xs opening closing trail ps = by_test (n == 0)
   where
-    by_test : (t : Bool) → IsInlineKind (head_of (if t then link_by (link_head xs) 0 opening closing trail ps else link_by (link_head xs) 1 opening closing trail ps)).kind
+    by_test : (t : Bool) → IsInlineKind (head_of
+        (if t then link_by (link_head xs) 0 opening closing trail ps else link_by (link_head xs) 1 opening closing trail ps)).kind
     by_test true = record { block = refl; group = refl; text = refl }
     by_test false = record { block = refl; group = refl; text = refl }
 

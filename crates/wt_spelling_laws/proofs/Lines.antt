@@ -21,7 +21,8 @@ unfolding nowiki line_start_hazard
 lines_nowiki true rest h = h
 lines_nowiki false rest h = h
 
-lines_reference : (start : Bool) (c : ℕ) (rest : List ℕ) → is_escapable c ≡ true → are_text_lines false rest ≡ true → are_text_lines start (reference c ++ rest) ≡ true
+lines_reference : (start : Bool) (c : ℕ) (rest : List ℕ) → is_escapable c ≡ true → are_text_lines false rest ≡ true
+    → are_text_lines start (reference c ++ rest) ≡ true
 unfolding reference digits line_start_hazard
 lines_reference true c rest e h = each_escapable (λ k. are_text_lines true (reference k ++ rest) ≡ true) h h h h h h h h h h h h h c e
 lines_reference false c rest e h = each_escapable (λ k. are_text_lines false (reference k ++ rest) ≡ true) h h h h h h h h h h h h h c e

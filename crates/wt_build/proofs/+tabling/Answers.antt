@@ -1,4 +1,4 @@
-use Rattle.std.proofs.Common.{ap, arith, drop, length, length-drop, refl, ◌++◌, ◌+◌, ◌<◌, ◌∙◌, ◌≡◌, ◌≤◌}
+use Rattle.std.proofs.Common.{ap, arith, length, length-drop, ◌++◌, ◌+◌, ◌<◌, ◌∙◌, ◌≡◌, ◌≤◌}
 use Rattle.std.proofs.lemmas.Bool.Decides.{nat_tests}
 use Rattle.std.proofs.lemmas.List.{length-take}
 use Rattle.std.proofs.lemmas.Result.{IfOk-weaker}
@@ -58,21 +58,24 @@ table::all_rows-loop-at-preserved t c =
 pub table::inside-returns : goal.table::inside-returns
 table::inside-returns t c =
     let captions = c.in_ok-captions.captions in
-    inside_read (reading_at c.args.depth) c.args.pieces.now c.args.rows.now c.in_ok-found.found c.as_slice-parts.result.now c.front_of.result.now c.rest_of.result.now
+    inside_read (reading_at c.args.depth) c.args.pieces.now c.args.rows.now c.in_ok-found.found c.as_slice-parts.result.now c.front_of.result.now
+    c.rest_of.result.now
     c.captions_len-n.result captions c.in_ok-made.made c.append.new.self.items c.from_vec.result c.in_ok-found.ensures c.as_slice-parts.ensures
     c.captions_len-n.ensures.value c.front_of.ensures c.rest_of.ensures c.in_ok-captions.ensures c.in_ok-made.ensures
     (c.in_ok-append.ensures.items ∙ ap (λ xs. xs ++ c.into_vec-more.result.items) c.into_vec-out.ensures ∙ ap (λ xs. captions ++ xs) c.into_vec-more.ensures)
     c.from_vec.ensures
 
 pub table::table-whole_table-requires-clause-ready : goal.table::table-whole_table-requires-clause-ready
-table::table-whole_table-requires-clause-ready t c = ready_front c.args.pieces.now c.args.rows.now c.front_of-front.result.now _ c.requires.ready c.front_of-front.ensures
+table::table-whole_table-requires-clause-ready t c = ready_front c.args.pieces.now c.args.rows.now c.front_of-front.result.now _ c.requires.ready
+    c.front_of-front.ensures
 
 pub table::table-returns : goal.table::table-returns
 table::table-returns t c =
     let ps = c.args.pieces.now in
     let rows = c.args.rows.now in
     IfOk-weaker c.whole_table.result _ _ (λ l e.
-    table_whole (reading_at c.args.depth) ps rows c.front_of-inner.result.now c.rest_of-behind.result.now c.front_of-front.result.now c.rest_of-parts.result.now _
+    table_whole (reading_at c.args.depth) ps rows c.front_of-inner.result.now c.rest_of-behind.result.now c.front_of-front.result.now
+    c.rest_of-parts.result.now _
     c.plain_len-n.result (stretches_view ps c.in_ok-held.held) (stretches_view ps l) c.if-rows-lt2.false c.rest_of-behind.ensures c.front_of-inner.ensures
     c.plain_len-n.ensures.value c.rest_of-parts.ensures c.front_of-front.ensures c.in_ok-held.ensures e) c.whole_table.ensures
 
@@ -89,11 +92,14 @@ table::all_rows-table_row-requires t c =
         (
           c.requires.ready,
           (
-            row_first c.args.pieces.now c.args.rows.now c.args.groups.now c.rest_of-rest.result.now c.front_of.result.now c.loop-at.at _ c.rest_of-rest.ensures c.front_of.ensures
-                c.loop-at.invariant.parts,
-            row_others c.args.pieces.now c.args.rows.now c.args.groups.now c.rest_of-rest.result.now c.front_of.result.now c.loop-at.at (1 + c.going_len-n.result)
+            row_first c.args.pieces.now c.args.rows.now c.args.groups.now c.rest_of-rest.result.now c.front_of.result.now c.loop-at.at _
                 c.rest_of-rest.ensures c.front_of.ensures
-                (ap (λ m. 1 + m) (c.going_len-n.ensures.value ∙ ap (λ gs. prefix_len (goes_on kind_at) (groups_view c.args.rows.now gs)) c.rest_of.ensures)) c.loop-at.invariant.parts,
+                c.loop-at.invariant.parts,
+            row_others c.args.pieces.now c.args.rows.now c.args.groups.now c.rest_of-rest.result.now c.front_of.result.now c.loop-at.at
+                (1 + c.going_len-n.result)
+                c.rest_of-rest.ensures c.front_of.ensures
+                (ap (λ m. 1 + m) (c.going_len-n.ensures.value ∙ ap (λ gs. prefix_len (goes_on kind_at) (groups_view c.args.rows.now gs)) c.rest_of.ensures))
+                c.loop-at.invariant.parts,
           ),
         ),
       ),
@@ -106,7 +112,8 @@ table::inside-all_cells-requires t c =
       omega arith,
       (
         c.requires.ready,
-        front_begins ps rows c.in_ok-found.found c.as_slice-parts.result.now c.front_of.result.now c.captions_len-n.result c.as_slice-parts.ensures c.front_of.ensures
+        front_begins ps rows c.in_ok-found.found c.as_slice-parts.result.now c.front_of.result.now c.captions_len-n.result c.as_slice-parts.ensures
+            c.front_of.ensures
             c.captions_len-n.ensures.value (parts_are ps rows c.in_ok-found.found c.requires.ready.rows c.requires.part c.in_ok-found.ensures),
       ),
     )
@@ -118,7 +125,8 @@ table::inside-body-requires t c =
       omega arith,
       (
         c.requires.ready,
-        rest_parts ps rows c.in_ok-found.found c.as_slice-parts.result.now c.rest_of.result.now c.captions_len-n.result c.as_slice-parts.ensures c.rest_of.ensures
+        rest_parts ps rows c.in_ok-found.found c.as_slice-parts.result.now c.rest_of.result.now c.captions_len-n.result c.as_slice-parts.ensures
+            c.rest_of.ensures
             (parts_are ps rows c.in_ok-found.found c.requires.ready.rows c.requires.part c.in_ok-found.ensures),
       ),
     )
@@ -129,7 +137,8 @@ table::table-inside-requires t c =
       omega arith,
       (
         ready_rest ps c.front_of-inner.result.now c.rest_of-parts.result.now c.plain_len-n.result
-            (ready_front ps c.rest_of-behind.result.now c.front_of-inner.result.now _ (ready_rest ps c.args.rows.now c.rest_of-behind.result.now 1 c.requires.ready c.rest_of-behind.ensures)
+            (ready_front ps c.rest_of-behind.result.now c.front_of-inner.result.now _
+            (ready_rest ps c.args.rows.now c.rest_of-behind.result.now 1 c.requires.ready c.rest_of-behind.ensures)
             c.front_of-inner.ensures) c.rest_of-parts.ensures,
         rest_starts c.front_of-inner.result.now c.rest_of-parts.result.now c.plain_len-n.result c.plain_len-n.ensures.value c.rest_of-parts.ensures,
       ),

@@ -12,7 +12,8 @@ use Rattle.wt_build.proofs.BlockNodes.{IsSoFar}
 abbrev pub invariant-table::all_cells-loop-group : goal.invariant-table::all_cells-loop-group
 invariant-table::all_cells-loop-group l = record {
   sign : AllBegin l.caption (groups_rows l.pieces l.rows (drop l.group-index l.groups));
-  rest : stretches_view l.pieces l.out.items ++ flat_map (cell_stretches (reading_at l.depth) l.caption) (groups_rows l.pieces l.rows (drop l.group-index l.groups))
+  rest : stretches_view l.pieces l.out.items ++ flat_map (cell_stretches (reading_at l.depth) l.caption)
+      (groups_rows l.pieces l.rows (drop l.group-index l.groups))
       ≡ flat_map (cell_stretches (reading_at l.depth) l.caption) (groups_rows l.pieces l.rows l.groups);
 }
 

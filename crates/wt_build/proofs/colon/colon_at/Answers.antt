@@ -1,4 +1,4 @@
-use Rattle.std.proofs.Common.{ℕ, Bool, not, sym, ap, ◌∙◌, arith}
+use Rattle.std.proofs.Common.{ℕ, Bool, not, sym, ◌∙◌, arith}
 use Rattle.std.specs.Prelude.{◌==◌}
 use Rattle.wt_tables.specs.Views.{numbers}
 use Rattle.wt_tables.proofs.Numbers.{numbers_len, number_at, scan_goes, scan_stops}

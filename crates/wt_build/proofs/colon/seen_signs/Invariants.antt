@@ -1,4 +1,4 @@
-use Rattle.std.proofs.Common.{◌≡◌, take, map}
+use Rattle.std.proofs.Common.{◌≡◌, take}
 use Rattle.std.specs.List.{flat_map}
 use Rattle.wt_tables.specs.Views.{numbers}
 use Rattle.wt_tiles.specs.Cutting.{tile_of}

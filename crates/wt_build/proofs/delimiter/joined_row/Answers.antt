@@ -13,5 +13,6 @@ unfolding none
 returns c =
     let rows = c.args.rows.now in
     let some : 0 < length rows = grind (arith, nat_tests, c.is_empty.ensures, c.if-is_empty.false) in
-    joined_some c.args.pieces.now c.between.result.now rows (get_or rows 0 none) (get_or rows (length rows - 1) none) none none c.content_len-n.result some refl refl
+    joined_some c.args.pieces.now c.between.result.now rows (get_or rows 0 none)
+    (get_or rows (length rows - 1) none) none none c.content_len-n.result some refl refl
     c.requires.rows c.between.ensures c.content_len-n.ensures.within c.content_len-n.ensures.content c.content_len-n.ensures.ending

@@ -6,4 +6,5 @@ use Rattle.wt_build.proofs.list.lists.Goals as goal
 
 pub nest_lists-requires-clause-signs : goal.nest_lists-requires-clause-signs
 nest_lists-requires-clause-signs c =
-    subst (λ (ps : List (List ℕ)). All IsPrefix ps) (sym c.in_ok-prefixes.ensures) (prefixes_are c.args.pieces.now c.args.rows.now c.requires.ready.rows c.requires.listed)
+    subst (λ (ps : List (List ℕ)). All IsPrefix ps) (sym c.in_ok-prefixes.ensures)
+    (prefixes_are c.args.pieces.now c.args.rows.now c.requires.ready.rows c.requires.listed)

@@ -13,8 +13,11 @@ with_row-requires-clause-row c =
     let lead = c.in_ok-lead.lead in
     let rest = c.in_ok-lead.rest in
     record {
-      lead = whole_front xs lead c.as_slice.result.now c.in_ok-n.n c.as_slice.ensures c.in_ok-lead.ensures.sound_front c.in_ok-lead.ensures.front c.requires.unbroken;
-      inside = whole_back xs rest c.as_slice-2.result.now c.in_ok-n.n c.as_slice-2.ensures c.in_ok-lead.ensures.sound_back c.in_ok-lead.ensures.back c.requires.unbroken;
+      lead = whole_front xs lead c.as_slice.result.now c.in_ok-n.n c.as_slice.ensures c.in_ok-lead.ensures.sound_front c.in_ok-lead.ensures.front
+          c.requires.unbroken;
+      inside = whole_back xs rest c.as_slice-2.result.now c.in_ok-n.n c.as_slice-2.ensures c.in_ok-lead.ensures.sound_back c.in_ok-lead.ensures.back
+          c.requires.unbroken;
       ending = c.requires.ending;
-      begins = idle_begins c.args.kind xs rest c.as_slice-2.result.now c.in_ok-n.n c.as_slice-2.ensures c.in_ok-lead.ensures.back c.in_ok-n.ensures c.requires.begins;
+      begins = idle_begins c.args.kind xs rest c.as_slice-2.result.now c.in_ok-n.n c.as_slice-2.ensures c.in_ok-lead.ensures.back c.in_ok-n.ensures
+          c.requires.begins;
     }
