@@ -14,8 +14,8 @@ use Rattle.wt_pagetool.specs.declared.output.Output.{Output}
 use Rattle.wt_pagetool.specs.declared.refusal.Refusal.{Refusal}
 use Rattle.wt_pagetool.specs.declared.command.Command.TheVariants.{Expand}
 use Rattle.wt_pagetool.specs.Words.{command_of}
-use Rattle.wt_pagetool.specs.Answers.{done, refused, title_answer, expansion_by, expansion_of, refusal_of_page, answer_told, IsText}
-use Rattle.wt_pagetool.specs.Causes.{Answered, IsFetched, Refuses, IsOfTitle, IsKept, refusal_of_expansion}
+use Rattle.wt_pagetool.specs.Answers.{done, title_answer, expansion_by, expansion_of, refusal_of_page, answer_told, IsText}
+use Rattle.wt_pagetool.specs.Causes.{IsFetched, Refuses, IsOfTitle, IsKept, refusal_of_expansion}
 use Rattle.wt_pagetool.specs.Devices.{FolderUse, AnswersExpansion}
 use Rattle.wt_pagetool.specs.Reports.{WroteExpansion}
 use Rattle.wt_pagetool.proofs.PageLaws.{title_stands}
