@@ -12,7 +12,7 @@ use Rattle.wt_tree.specs.Tree.{Tree}
 use Rattle.wt_html_grammar.specs.declared.why.HtmlWhy.TheVariants as ill_why
 use Rattle.wt_fitting.specs.declared.why.FitWhy.TheVariants as fit_whys
 use Rattle.wt_fitting.specs.Read.{page as as_page, misfit}
-use Rattle.wt_pagetool.specs.Answers.{refused, page_answer, made, source_answer, answer_told}
+use Rattle.wt_pagetool.specs.Answers.{refused, title_answer, page_answer, made, source_answer, answer_told}
 use Rattle.wt_pagetool.specs.Refusals.{html_why, fit_why, text_of, line_of}
 
 -- the words
