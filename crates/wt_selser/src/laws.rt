@@ -1,0 +1,17 @@
+//! Laws of the new page, which do nothing when they are called.
+
+ghost use Rattle.std.specs.Prelude.{◌≡◌, ℕ, List, [], length};
+ghost use Rattle.wt_selser.specs.Splice.{Change, spliced, AreApart, OutsideStands};
+
+/// Where the slices stand in the page one after the other, what stands outside them stands in the
+/// new page byte for byte and in its order, and between it what was written for each slice.
+#[tactic(auto, using(crate::proofs::Outside::outside_stands))]
+pub fn outside_stands()
+    ensures { (page : List ℕ) (changes : List Change) → AreApart 0 changes (length page) → OutsideStands page (spliced page changes) changes }
+{}
+
+/// A page without marks is its own new page.
+#[tactic(auto, using(crate::proofs::Outside::nothing_changes))]
+pub fn nothing_changes()
+    ensures { (page : List ℕ) → spliced page [] ≡ page }
+{}
