@@ -33,7 +33,8 @@ last_sign (c ∷ e ∷ p) = last_sign (e ∷ p)
 -- for each sign a list with an item in it, one in another, from a depth on
 abbrev pub opened : ℕ → ℕ → List ℕ → List Row
 opened d line [] = []
-opened d line (c ∷ p) = record { depth = d; item = false; sign = c; line = line } ∷ record { depth = suc d; item = true; sign = c; line = line } ∷ opened (suc (suc d)) line p
+opened d line (c ∷ p) = record { depth = d; item = false; sign = c; line = line } ∷ record { depth = suc d; item = true; sign = c; line = line }
+    ∷ opened (suc (suc d)) line p
 
 -- What begins at a line whose prefix has so many signs in common with the line before: an item of the innermost list of the
 -- prefix where these are all its signs; else, in the item that began last, a list with an item for each further sign.

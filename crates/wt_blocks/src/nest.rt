@@ -148,7 +148,8 @@ fn inside_item(item: &[Str], depth: usize) -> &[Str]
     requires front { IsItem depth item.now }
     ensures left { AreLeft (depth + 1) result.now }
     ensures within { length result.now ≤ length item.entry.now }
-    ensures lines { (first : ℕ) → inner (lines_from first depth item.entry.now) ≡ lines_from (first + (length item.entry.now - length result.now)) (depth + 1) result.now }
+    ensures lines { (first : ℕ) → inner (lines_from first depth item.entry.now)
+        ≡ lines_from (first + (length item.entry.now - length result.now)) (depth + 1) result.now }
 {
     if goes_on(&item[0], depth) {
         item

@@ -65,7 +65,8 @@ row_by ss (suc k) e s low =
     let is : get_or (drop 1 ss) k 0 ≡ get_or ss (suc k) 0 = get_or-drop 1 ss k 0 ∙ ap (λ i. get_or ss i 0) at in
     (omega (arith, le, e, length-drop 1 ss), dash_low (get_or ss (suc k) 0) (ap is_dash (sym is) ∙ passes))
 
-pub row_cut : (xs : List Item) (n : ℕ) → begins (codes "|-") (signs xs) ≡ true → n ≡ 1 + prefix_len is_dash (drop 1 (signs xs)) → (n ≤ length xs) × (0 < n → IsEdgeIn xs n)
+pub row_cut : (xs : List Item) (n : ℕ) → begins (codes "|-") (signs xs) ≡ true → n ≡ 1 + prefix_len is_dash (drop 1 (signs xs))
+    → (n ≤ length xs) × (0 < n → IsEdgeIn xs n)
 row_cut xs n e en =
     let h = row_signs xs e in
     let s = h.some in
@@ -76,7 +77,8 @@ row_cut xs n e en =
     let w : 1 + k ≤ length xs = omega (arith, len, r.0) in
     (omega (arith, en, w), λ some. edge_after (map glyph_of xs) k n (omega (arith, en)) (low_sign xs k (omega (arith, w)) r.1))
 
-pub row_read : (xs : List Item) (n : ℕ) → begins (codes "|-") (signs xs) ≡ true → n ≡ 1 + prefix_len is_dash (drop 1 (signs xs)) → attributes (drop n xs) ≡ row_attributes xs
+pub row_read : (xs : List Item) (n : ℕ) → begins (codes "|-") (signs xs) ≡ true → n ≡ 1 + prefix_len is_dash (drop 1 (signs xs))
+    → attributes (drop n xs) ≡ row_attributes xs
 unfolding row_attributes
 row_read xs n e en =
     ap (λ m. attributes (drop m xs)) en

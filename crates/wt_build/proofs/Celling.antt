@@ -41,7 +41,8 @@ pub last_sound : (cs : List CellAt) (c : CellAt) → All IsSoundCell (cs ++ c �
 last_sound [] c h = All-head IsSoundCell c [] h
 last_sound (d ∷ cs) c h = last_sound cs c (All-tail IsSoundCell d (cs ++ c ∷ []) h)
 
-viewed_flat : (caption : Bool) (cs : List CellAt) → flat_map (λ d. cell_by caption d []) (map cell_view cs) ≡ flat_map (λ d. cell_by caption (cell_view d) []) cs
+viewed_flat : (caption : Bool) (cs : List CellAt)
+    → flat_map (λ d. cell_by caption d []) (map cell_view cs) ≡ flat_map (λ d. cell_by caption (cell_view d) []) cs
 viewed_flat caption [] = refl
 viewed_flat caption (c ∷ cs) = ap (λ us. cell_by caption (cell_view c) [] ++ us) (viewed_flat caption cs)
 
@@ -52,7 +53,8 @@ viewed_last caption cs c ss =
     ∙ ap (λ us. us ++ cell_by caption (cell_view c) ss) (viewed_flat caption cs)
 
 pub cells_end : (ps : List Piece) (caption : Bool) (cells others : List CellAt) (c : CellAt) (out made all l after : List StretchAt) → cells ≡ others ++ c ∷ []
-    → stretches_view ps out ≡ flat_map (λ d. cell_by caption (cell_view d) []) others → stretches_view ps made ≡ cell_by caption (cell_view c) (stretches_view ps after)
+    → stretches_view ps out ≡ flat_map (λ d. cell_by caption (cell_view d) []) others
+    → stretches_view ps made ≡ cell_by caption (cell_view c) (stretches_view ps after)
     → all ≡ out ++ made → l ≡ all → stretches_view ps l ≡ cells_by caption (map cell_view cells) (stretches_view ps after)
 cells_end ps caption cells others c out made all l after ec eo em ea el =
     ap (stretches_view ps) (el ∙ ea) ∙ map-append (stretch_view ps) out made

@@ -63,7 +63,8 @@ part_row ps r h e = let p = part_by r.kind (signs (row_view ps r).items) e h.beg
 
 -- ---- each group begins a part
 
-stops_by : (t : Bool) (n : ℕ) (r : RowAt) (rs : List RowAt) → begins_part r.kind ≡ t → StartsPart (drop n rs) → StartsPart (drop (if t then 0 else suc n) (r ∷ rs))
+stops_by : (t : Bool) (n : ℕ) (r : RowAt) (rs : List RowAt) → begins_part r.kind ≡ t → StartsPart (drop n rs)
+    → StartsPart (drop (if t then 0 else suc n) (r ∷ rs))
 stops_by true n r rs e h = e
 stops_by false n r rs e h = h
 
@@ -89,7 +90,8 @@ order_rest ps zero rs h = h
 order_rest ps (suc n) [] h = tt
 order_rest ps (suc n) (r ∷ rs) h = order_rest ps n rs h.2
 
-parts_by : (ps : List Piece) (fuel : ℕ) (rs : List RowAt) → length rs ≤ fuel → AreInOrder ps rs → StartsPart rs → AreParts (map (rows_view ps) (group_rows kind_at rs))
+parts_by : (ps : List Piece) (fuel : ℕ) (rs : List RowAt) → length rs ≤ fuel → AreInOrder ps rs → StartsPart rs
+    → AreParts (map (rows_view ps) (group_rows kind_at rs))
 parts_by ps fuel [] l h s = tt
 parts_by ps zero (r ∷ rs) l h s = absurd (omega arith)
 parts_by ps (suc fuel) (r ∷ rs) l h s =
@@ -104,7 +106,8 @@ pub parts_are : (ps : List Piece) (rs : List RowAt) (gs : List Group) → AreInO
 parts_are ps rs gs h s e =
     subst (λ (fs : List (List RowAt)). AreParts (map (rows_view ps) fs)) (sym e) (parts_by ps (length rs) rs (omega arith) h s)
 
-pub groups_are : (ps : List Piece) (rs : List RowAt) (gs : List Group) → groups_view rs gs ≡ group_rows kind_at rs → groups_rows ps rs gs ≡ group_rows kind_of (rows_view ps rs)
+pub groups_are : (ps : List Piece) (rs : List RowAt) (gs : List Group) → groups_view rs gs ≡ group_rows kind_at rs
+    → groups_rows ps rs gs ≡ group_rows kind_of (rows_view ps rs)
 groups_are ps rs gs e = ap (map (rows_view ps)) e ∙ sym (groups_viewed ps rs)
 
 -- ---- captions
@@ -113,7 +116,8 @@ part_caption : (ps : List Piece) (g : List RowAt) → is_caption (unit_kind kind
 part_caption ps [] e h = cc
 part_caption ps (r ∷ g) e h = h.caption e
 
-caption_by : (v : Bool) (m k : ℕ) (own : List RowAt) → is_caption (unit_kind kind_at own) ≡ v → suc m ≤ cond v (1 + k) 0 → (is_caption (unit_kind kind_at own) ≡ true) × (m ≤ k)
+caption_by : (v : Bool) (m k : ℕ) (own : List RowAt) → is_caption (unit_kind kind_at own) ≡ v → suc m ≤ cond v (1 + k) 0
+    → (is_caption (unit_kind kind_at own) ≡ true) × (m ≤ k)
 caption_by true m k own e h = (e, omega arith)
 caption_by false m k own e h = absurd (omega arith)
 
@@ -126,7 +130,8 @@ captions_begin ps rows (suc m) (g ∷ gs) l h =
     let by = caption_by (is_caption (unit_kind kind_at own)) m (captions_count kind_at (groups_view rows gs)) own refl l in
     (part_caption ps own by.0 h.0, captions_begin ps rows m gs by.1 h.1)
 
-pub front_begins : (ps : List Piece) (rows : List RowAt) (gs given front : List Group) (n : ℕ) → given ≡ gs → front ≡ take n given → n ≡ captions_count kind_at (groups_view rows given)
+pub front_begins : (ps : List Piece) (rows : List RowAt) (gs given front : List Group) (n : ℕ) → given ≡ gs → front ≡ take n given
+    → n ≡ captions_count kind_at (groups_view rows given)
     → AreParts (groups_rows ps rows gs) → AllBegin true (groups_rows ps rows front)
 front_begins ps rows gs given front n eg ef en h =
     subst (λ (fs : List Group). AllBegin true (groups_rows ps rows fs)) (sym ef)
@@ -137,12 +142,14 @@ some_drop ps rows zero gs h = h
 some_drop ps rows (suc n) [] h = tt
 some_drop ps rows (suc n) (g ∷ gs) h = some_drop ps rows n gs h.1
 
-pub rest_parts : (ps : List Piece) (rows : List RowAt) (gs given rest : List Group) (n : ℕ) → given ≡ gs → rest ≡ drop n given → AreParts (groups_rows ps rows gs)
+pub rest_parts : (ps : List Piece) (rows : List RowAt) (gs given rest : List Group) (n : ℕ) → given ≡ gs → rest ≡ drop n given
+    → AreParts (groups_rows ps rows gs)
     → AreParts (groups_rows ps rows rest)
 rest_parts ps rows gs given rest n eg er h =
     subst (λ (fs : List Group). AreParts (groups_rows ps rows fs)) (sym (er ∙ ap (drop n) eg)) (some_drop ps rows n gs h)
 
-count_viewed : (ps : List Piece) (rows : List RowAt) (gs : List Group) → captions_count kind_of (groups_rows ps rows gs) ≡ captions_count kind_at (groups_view rows gs)
+count_viewed : (ps : List Piece) (rows : List RowAt) (gs : List Group)
+    → captions_count kind_of (groups_rows ps rows gs) ≡ captions_count kind_at (groups_view rows gs)
 count_viewed ps rows [] = refl
 count_viewed ps rows (g ∷ gs) =
     let own = group_view rows g in
@@ -150,7 +157,8 @@ count_viewed ps rows (g ∷ gs) =
     ∙ ap (λ m. cond (is_caption (unit_kind kind_at own)) (1 + m) 0) (count_viewed ps rows gs)
 
 pub inside_read : (read : Reading) (ps : List Piece) (rows : List RowAt) (gs given front rest : List Group) (n : ℕ) (captions made all l : List StretchAt)
-    → groups_view rows gs ≡ group_rows kind_at rows → given ≡ gs → n ≡ captions_count kind_at (groups_view rows given) → front ≡ take n given → rest ≡ drop n given
+    → groups_view rows gs ≡ group_rows kind_at rows → given ≡ gs → n ≡ captions_count kind_at (groups_view rows given) → front ≡ take n given
+    → rest ≡ drop n given
     → stretches_view ps captions ≡ flat_map (cell_stretches read true) (groups_rows ps rows front)
     → stretches_view ps made ≡ body_of_groups read (groups_rows ps rows rest) → all ≡ captions ++ made → l ≡ all
     → stretches_view ps l ≡ inside_groups read (group_rows kind_of (rows_view ps rows))

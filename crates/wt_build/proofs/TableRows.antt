@@ -84,7 +84,8 @@ all_begin ps rows gs d t some et is h others =
 
 -- ---- rows, one after the other
 
-goes_viewed : (ps : List Piece) (rows : List RowAt) (gs : List Group) → prefix_len (goes_on kind_of) (groups_rows ps rows gs) ≡ prefix_len (goes_on kind_at) (groups_view rows gs)
+goes_viewed : (ps : List Piece) (rows : List RowAt) (gs : List Group)
+    → prefix_len (goes_on kind_of) (groups_rows ps rows gs) ≡ prefix_len (goes_on kind_at) (groups_view rows gs)
 goes_viewed ps rows [] = refl
 goes_viewed ps rows (g ∷ gs) =
     let own = group_view rows g in
@@ -110,7 +111,8 @@ run_of ps rows (g ∷ gs) n some e =
     ∙ ap (λ us. (f ∷ groups_rows ps rows (take m gs)) ∷ row_groups kind_of us) (map_map ps rows m gs)
     ∙ ap (λ k. groups_rows ps rows (take k (g ∷ gs)) ∷ row_groups kind_of (groups_rows ps rows (drop k (g ∷ gs)))) (sym is)
 
-pub row_added : (read : Reading) (ps : List Piece) (rows : List RowAt) (gs rest front : List Group) (at n : ℕ) (out made all : List StretchAt) (whole : List Stretch)
+pub row_added : (read : Reading) (ps : List Piece) (rows : List RowAt) (gs rest front : List Group) (at n : ℕ) (out made all : List StretchAt)
+    (whole : List Stretch)
     → 0 < length rest → rest ≡ drop at gs → n ≡ 1 + prefix_len (goes_on kind_at) (groups_view rows (drop 1 rest)) → front ≡ take n rest
     → stretches_view ps made ≡ row_of_groups read (groups_rows ps rows front) → all ≡ out ++ made
     → stretches_view ps out ++ rows_of_groups read (groups_rows ps rows (drop at gs)) ≡ whole

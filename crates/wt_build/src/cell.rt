@@ -133,7 +133,9 @@ pub fn row_cells<'a>(
 ) -> Result<List<StretchAt<'a>>, NoMemory>
     requires sound { All IsSoundPiece pieces.now }
     requires sign { BeginsCell caption (signs (row_view pieces.now row).items) }
-    ensures { IfOk result (λ l. stretches_view pieces.now l ≡ gap (row_view pieces.now row).lead ∷ cells_by caption (cells_from caption (row_view pieces.now row).items) (gap (row_view pieces.now row).ending ∷ stretches_view pieces.now inside.entry)) }
+    ensures { IfOk result (λ l. stretches_view pieces.now l
+        ≡ gap (row_view pieces.now row).lead ∷ cells_by caption (cells_from caption (row_view pieces.now row).items)
+        (gap (row_view pieces.now row).ending ∷ stretches_view pieces.now inside.entry)) }
 {
     let line = between(pieces, row.from, row.to);
     let ending = StretchAt::Gap {

@@ -172,7 +172,8 @@ pub fn behind_delimiter<'a>(
     others: List<StretchAt<'a>>,
 ) -> Result<List<StretchAt<'a>>, NoMemory>
     requires { AreReadyRows pieces.now blank.now }
-    ensures { IfOk result (λ l. stretches_view pieces.now l ≡ gap (row_view pieces.now delimiter).ending ∷ (gaps (rows_view pieces.now blank.now) ++ stretches_view pieces.now others.entry)) }
+    ensures { IfOk result (λ l. stretches_view pieces.now l
+        ≡ gap (row_view pieces.now delimiter).ending ∷ (gaps (rows_view pieces.now blank.now) ++ stretches_view pieces.now others.entry)) }
 {
     let mut found = gaps(alloc, pieces, blank)?;
     let mut more = others.into_vec();

@@ -58,7 +58,8 @@ pub fn opened_line<'a>(
     after: List<StretchAt<'a>>,
 ) -> Result<List<StretchAt<'a>>, NoMemory>
     requires { All IsSoundPiece line.now }
-    ensures { IfOk result (λ l. stretches_view pieces.now l ≡ opened_by (head_of head) (items opening.entry) (block (line_parts (items line.now)) ∷ stretches_view pieces.now after.entry)) }
+    ensures { IfOk result (λ l. stretches_view pieces.now l
+        ≡ opened_by (head_of head) (items opening.entry) (block (line_parts (items line.now)) ∷ stretches_view pieces.now after.entry)) }
 {
     let children = with_content(alloc, Children::new(alloc), line)?;
     opened_by(alloc, head, opening, children, pieces, after)
@@ -102,7 +103,8 @@ fn term_and_definition<'a>(
 ) -> Result<List<StretchAt<'a>>, NoMemory>
     requires sound { All IsSoundPiece line.now }
     requires colon { term_len 59 (items line.now) ≡ Some n }
-    ensures { IfOk result (λ l. stretches_view pieces.now l ≡ item_by 59 (Some n) (items opening.entry) (items line.now) (stretches_view pieces.now after.entry)) }
+    ensures { IfOk result (λ l. stretches_view pieces.now l
+        ≡ item_by 59 (Some n) (items opening.entry) (items line.now) (stretches_view pieces.now after.entry)) }
 {
     let (front, rest) = cut(alloc, line, n)?;
     let term = term(alloc, opening, front.as_slice())?;
@@ -125,7 +127,8 @@ fn item_by<'a>(
     after: List<StretchAt<'a>>,
 ) -> Result<List<StretchAt<'a>>, NoMemory>
     requires { All IsSoundPiece line.now }
-    ensures { IfOk result (λ l. stretches_view pieces.now l ≡ item_by sign (term_len sign (items line.now)) (items opening.entry) (items line.now) (stretches_view pieces.now after.entry)) }
+    ensures { IfOk result (λ l. stretches_view pieces.now l
+        ≡ item_by sign (term_len sign (items line.now)) (items opening.entry) (items line.now) (stretches_view pieces.now after.entry)) }
 {
     match term_len(alloc, sign, line)? {
         None => {

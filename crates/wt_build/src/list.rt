@@ -70,7 +70,8 @@ fn item_stretches<'a>(
     inside: List<StretchAt<'a>>,
 ) -> Result<List<StretchAt<'a>>, NoMemory>
     requires { All IsSoundPiece pieces.now }
-    ensures { IfOk result (λ l. stretches_view pieces.now l ≡ node_by (rows_view pieces.now rows.now) true sign line own (stretches_view pieces.now inside.entry)) }
+    ensures { IfOk result (λ l. stretches_view pieces.now l
+        ≡ node_by (rows_view pieces.now rows.now) true sign line own (stretches_view pieces.now inside.entry)) }
 {
     if own {
         let head = NodeHead::plain(alloc, item_kind(sign));
@@ -91,7 +92,8 @@ fn node_stretches<'a>(
     inside: List<StretchAt<'a>>,
 ) -> Result<List<StretchAt<'a>>, NoMemory>
     requires { All IsSoundPiece pieces.now }
-    ensures { IfOk result (λ l. stretches_view pieces.now l ≡ node_by (rows_view pieces.now rows.now) item sign line own (stretches_view pieces.now inside.entry)) }
+    ensures { IfOk result (λ l. stretches_view pieces.now l
+        ≡ node_by (rows_view pieces.now rows.now) item sign line own (stretches_view pieces.now inside.entry)) }
 {
     if item {
         return item_stretches(alloc, pieces, rows, sign, line, own, inside);

@@ -63,7 +63,8 @@ fn table_node<'a>(
     children: List<PieceTree<'a>>,
     closing: List<Piece<'a>>,
 ) -> PieceTree<'a>
-    ensures { item_tree result ≡ inner (with_attrs node_kind.Table (attrs_of attrs)) (items opening.entry) (forest (item_trees children.entry)) (items closing.entry) }
+    ensures { item_tree result ≡ inner (with_attrs node_kind.Table (attrs_of attrs)) (items opening.entry) (forest (item_trees children.entry))
+        (items closing.entry) }
 {
     PieceTree {
         head: NodeHead {
@@ -89,7 +90,8 @@ pub fn whole_table<'a>(
     requires some { 0 < length rows.now }
     requires ready { AreReadyRows pieces.now rows.now }
     requires opens { begins (codes "{|") (signs (first_items (rows_view pieces.now rows.now))) ≡ true }
-    ensures { IfOk result (λ l. stretches_view pieces.now l ≡ table_with (rows_view pieces.now rows.now) (stretches_view pieces.now inside.entry) (row_view pieces.now end)) }
+    ensures { IfOk result (λ l. stretches_view pieces.now l
+        ≡ table_with (rows_view pieces.now rows.now) (stretches_view pieces.now inside.entry) (row_view pieces.now end)) }
 {
     let n = stray_len(pieces, rows);
     let delimiter = joined_row(pieces, front_of(rows, n));

@@ -31,7 +31,8 @@ fn list_sign(sign: Sign) -> Option<&'static str>
 
 /// The sign of lists that stands first, and what is left behind it.
 fn split_list_sign<'p, 'a>(signs: Signs<'p, 'a>) -> Option<(&'static str, Signs<'p, 'a>)>
-    ensures { MatchOption result ((n : ℕ) → list_signs n (left signs.entry) ≡ []) (λ r. (n : ℕ) → list_signs (suc n) (left signs.entry) ≡ r.0.now ++ list_signs n (left r.1)) }
+    ensures { MatchOption result ((n : ℕ) → list_signs n (left signs.entry) ≡ []) (λ r. (n : ℕ)
+        → list_signs (suc n) (left signs.entry) ≡ r.0.now ++ list_signs n (left r.1)) }
 {
     let (sign, rest) = signs.split_first()?;
     let text = list_sign(sign)?;

@@ -158,7 +158,8 @@ impl<'a> PageRows<'a> {
         requires content { AreWhole content.now }
         requires ending { AreWhole ending.now }
         requires begins { Begins kind (past is_mark_sign (signs (items content.now))) }
-        ensures rows { IfOk result (λ r. made_rows r ≡ made_rows self.entry ++ cut_row kind (marks_len (items content.now)) (items content.now) (items ending.now) ∷ []) }
+        ensures rows { IfOk result (λ r. made_rows r
+            ≡ made_rows self.entry ++ cut_row kind (marks_len (items content.now)) (items content.now) (items ending.now) ∷ []) }
         ensures made_after { IfOk result (λ r. ArePageRows r) }
     {
         let n = lead_len(content);
@@ -179,7 +180,8 @@ impl<'a> PageRows<'a> {
         requires unbroken { IsUnbroken (items content.now) }
         requires edge { IsIdleCut (items content.now) }
         requires begins { Begins kind (past is_idle (signs (items content.now))) }
-        ensures rows { IfOk result (λ r. made_rows r ≡ made_rows self.entry ++ cut_row kind (idle_len (items content.now)) (items content.now) (items ending.now) ∷ []) }
+        ensures rows { IfOk result (λ r. made_rows r
+            ≡ made_rows self.entry ++ cut_row kind (idle_len (items content.now)) (items content.now) (items ending.now) ∷ []) }
         ensures made_after { IfOk result (λ r. ArePageRows r) }
     {
         let n = idle_len(content)?;

@@ -160,7 +160,8 @@ pub fn opened_by<'a>(
     pieces: &[Piece<'a>],
     stretches: List<StretchAt<'a>>,
 ) -> Result<List<StretchAt<'a>>, NoMemory>
-    ensures { IfOk result (λ l. IsOpenedBy (head_of head) (items opening.entry) (growth children.entry) (stretches_view pieces.now stretches.entry) (stretches_view pieces.now l)) }
+    ensures { IfOk result (λ l. IsOpenedBy (head_of head) (items opening.entry) (growth children.entry) (stretches_view pieces.now stretches.entry)
+        (stretches_view pieces.now l)) }
 {
     let n = block_len(stretches.as_slice());
     let (inside, after) = split_at(stretches, n)?;

@@ -76,7 +76,8 @@ fn all_cells<'a>(
 ) -> Result<List<StretchAt<'a>>, NoMemory>
     requires ready { AreReadyRows pieces.now rows.now }
     requires sign { AllBegin caption (groups_rows pieces.now rows.now groups.now) }
-    ensures { IfOk result (λ l. stretches_view pieces.now l ≡ flat_map (cell_stretches (reading_at depth) caption) (groups_rows pieces.now rows.now groups.now)) }
+    ensures { IfOk result (λ l. stretches_view pieces.now l
+        ≡ flat_map (cell_stretches (reading_at depth) caption) (groups_rows pieces.now rows.now groups.now)) }
 {
     let mut out = Vec::new(alloc);
     for group in groups {

@@ -1,12 +1,12 @@
 -- The text of `data-parsoid` is its pieces.
-use Rattle.std.proofs.Common.{◌≡◌, ℕ, List, [], ◌∷◌, ◌++◌, Option, Some, None, codes, decimal, refl, ap, sym, ◌∙◌, append_assoc}
+use Rattle.std.proofs.Common.{◌≡◌, ℕ, List, [], ◌∷◌, ◌++◌, Option, Some, None, codes, decimal, ap, ◌∙◌, append_assoc}
 use Rattle.json.specs.Print.{quoted}
 use Rattle.serde_json.specs.Data.{object, no_members}
 use Rattle.serde_json.specs.Written.{compact_text}
 use Rattle.wt_tree.specs.declared.kind.Ranges.{Ranges}
 use Rattle.wt_datamw.specs.declared.sync.Sync.{Sync}
 use Rattle.wt_datamw.specs.Sync.{dsr_data, put_dsr, put_text, put_source, sync_members, sync_text}
-use Rattle.wt_datamw.specs.SyncPieces.{closing_text, dsr_text, later_text, opening_text, source_text, sync_pieces}
+use Rattle.wt_datamw.specs.SyncPieces.{closing_text, dsr_text, opening_text, source_text, sync_pieces}
 
 four : (k a b c d rest : List ℕ) → k ++ (58 ∷ 91 ∷ (a ++ 44 ∷ (b ++ 44 ∷ (c ++ 44 ∷ (d ++ 93 ∷ rest)))))
     ≡ (k ++ (58 ∷ 91 ∷ (a ++ ((44 ∷ b) ++ ((44 ∷ c) ++ ((44 ∷ d) ++ 93 ∷ [])))))) ++ rest

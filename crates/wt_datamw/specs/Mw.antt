@@ -27,7 +27,8 @@ target_data href source = object (member (codes "href") (string href) (member (c
 unfoldable pub template_data : List ℕ → List ℕ → List (List ℕ × List ℕ) → ℕ → Data
 template_data target href ps i =
     object (member (codes "template")
-    (object (member (codes "i") (number (unsigned i)) (member (codes "params") (params_data ps) (member (codes "target") (target_data href target) no_members))))
+    (object (member (codes "i") (number (unsigned i))
+    (member (codes "params") (params_data ps) (member (codes "target") (target_data href target) no_members))))
     no_members)
 
 -- a part of a group: a transclusion, an argument by its source, or the slice between two of these

@@ -136,7 +136,8 @@ params_in d = option_and_then as_object (get (codes "params") d)
 
 unfoldable pub template_of : Data → Part
 template_of d =
-    part.Template (text_or_empty (text_below (codes "target") (codes "wt") d)) (text_or_empty (text_below (codes "target") (codes "href") d)) (params_if_any (params_in d)) (unwrap_or (number_in d) 0)
+    part.Template (text_or_empty (text_below (codes "target") (codes "wt") d)) (text_or_empty (text_below (codes "target") (codes "href") d))
+    (params_if_any (params_in d)) (unwrap_or (number_in d) 0)
 
 -- a text is a literal slice, an object with `template` a transclusion, one with `param` an argument
 abbrev pub part_from : Option (List ℕ) → Option Data → Data → Part

@@ -60,7 +60,8 @@ is_sync_key = is_among (codes "c" ∷ codes "dsr" ∷ codes "o" ∷ codes "src" 
 -- texts, and no other keys.
 unfoldable pub is_sync_shape : Data → Bool
 is_sync_shape d =
-    has_only is_sync_key (as_object d) && (is_dsr (dsr_in d) && (is_text_if_any (get (codes "c") d) && (is_text_if_any (get (codes "o") d) && is_text_if_any (get (codes "src") d))))
+    has_only is_sync_key (as_object d) && (is_dsr (dsr_in d) &&
+    (is_text_if_any (get (codes "c") d) && (is_text_if_any (get (codes "o") d) && is_text_if_any (get (codes "src") d))))
 
 -- ---- values
 

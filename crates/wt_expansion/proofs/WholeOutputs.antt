@@ -235,7 +235,8 @@ whole_if false v f = tt
 
 whole_value : (name : List ℕ) (frame : Frame) → IsWholeFrame frame → IsWholeValue (value_of name frame)
 whole_value name [] f = tt
-whole_value name ((n, v) ∷ vs) f = whole_or (value_of name vs) (if bytes_eq n name then Some v else None) (whole_value name vs f.1) (whole_if (bytes_eq n name) v f.0)
+whole_value name ((n, v) ∷ vs) f = whole_or (value_of name vs) (if bytes_eq n name then Some v else None) (whole_value name vs f.1)
+    (whole_if (bytes_eq n name) v f.0)
 
 -- ---- calls
 
@@ -273,7 +274,8 @@ function_whole mode.Page bs k ms h = inl h.is_call
 function_whole mode.Template bs k ms h = inr h.is_call
 
 mutual
-  pub whole_one : (r : Reading) (start : Bool) (bs : List ℕ) (m : Member) → IsWholeReading r → IsSoundMember r.mode bs m → AllWhole (output_of r start bs m).items
+  pub whole_one : (r : Reading) (start : Bool) (bs : List ℕ) (m : Member) → IsWholeReading r → IsSoundMember r.mode bs m
+      → AllWhole (output_of r start bs m).items
   whole_one r start bs (lexeme (kind, n)) w f = whole_lexeme r.mode kind n bs f
   whole_one r start bs (call k ms) w f =
       let source = take (k + width_of_all ms + k) bs in
@@ -311,8 +313,12 @@ whole_template pages (suc n) titles t frame f =
     (whole_fetched full (text_given r) (pages full)
     (λ bs. whole_text r bs (record { frame = f; template = λ u v h. whole_template pages n (full ∷ titles) u v h })))
   where
-    by_test : (b : Bool) → AllWhole (fetched_output (full_name_of t) (text_given (record { mode = mode.Template; frame = frame; template = template_output pages n (full_name_of t ∷ titles) })) (pages (full_name_of t))).items
-        → AllWhole (if b then just (chars (loop_text t)) else fetched_output (full_name_of t) (text_given (record { mode = mode.Template; frame = frame; template = template_output pages n (full_name_of t ∷ titles) })) (pages (full_name_of t))).items
+    by_test : (b : Bool) → AllWhole (fetched_output (full_name_of t)
+        (text_given (record { mode = mode.Template; frame = frame; template = template_output pages n (full_name_of t ∷ titles) }))
+        (pages (full_name_of t))).items
+        → AllWhole (if b then just (chars (loop_text t)) else fetched_output (full_name_of t)
+        (text_given (record { mode = mode.Template; frame = frame; template = template_output pages n (full_name_of t ∷ titles) }))
+        (pages (full_name_of t))).items
     by_test true h = whole_chars (loop_text t)
     by_test false h = h
 

@@ -72,7 +72,8 @@ both s d = None
 abbrev pub data_of : Kind → List Pair → Option Data
 data_of k ps =
     if has (codes "about") ps then None
-    else both (sync_fits k (value_of (codes "data-parsoid") ps)) (mw_fits (is_extension_of k (value_of (attribute_name attr.Typeof) ps)) (value_of (codes "data-mw") ps))
+    else both (sync_fits k (value_of (codes "data-parsoid") ps))
+    (mw_fits (is_extension_of k (value_of (attribute_name attr.Typeof) ps)) (value_of (codes "data-mw") ps))
 
 -- the number, of kinds that have one
 abbrev pub id_for : Kind → List Pair → ℕ

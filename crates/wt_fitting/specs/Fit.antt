@@ -1,6 +1,6 @@
 -- Which trees of elements are pages, and what page each is. The elements are counted from 1 in
 -- document order; the first that doesn't fit is told, with the first reason for it.
-use Rattle.std.specs.Prelude.{ℕ, suc, ◌+◌, ◌++◌, ◌==◌, ◌&&◌, ◌||◌, Bool, true, false, not, Option, Some, None, Result, Ok, Err, List, [], ◌∷◌, codes, if◌then◌else◌}
+use Rattle.std.specs.Prelude.{ℕ, suc, ◌+◌, ◌++◌, ◌==◌, ◌&&◌, ◌||◌, Bool, true, false, not, Option, Some, None, Result, Ok, Err, List, [], codes, if◌then◌else◌}
 use Rattle.std.specs.Str.{bytes_eq}
 use Rattle.wt_tree.specs.declared.kind.Kind.{Kind}
 use Rattle.wt_tree.specs.declared.kind.Kind.TheVariants as kind
@@ -37,7 +37,19 @@ with_sync l (Some s) = record l { ranges = Some s.dsr; opening = s.opening; clos
 -- an element of this kind with this data, and these characters in it
 abbrev pub label_for : Kind → List Pair → Data → List ℕ → Label
 label_for k ps d shown =
-    with_sync (record { kind = k; id = id_for k ps; ranges = None; opening = []; closing = []; own = []; shown = if shows_text k then shown else []; attrs = attrs_for k ps; origin = None; mark = mark_of ps; mw = d.mw }) d.sync
+    with_sync (record {
+      kind = k;
+      id = id_for k ps;
+      ranges = None;
+      opening = [];
+      closing = [];
+      own = [];
+      shown = if shows_text k then shown else [];
+      attrs = attrs_for k ps;
+      origin = None;
+      mark = mark_of ps;
+      mw = d.mw;
+    }) d.sync
 
 -- ---- counting
 
@@ -155,7 +167,8 @@ elements_in (more (node name ps c) ts) = more (node name ps c) (elements_in ts)
 -- attributes that the root may not have
 abbrev pub is_marked_root : List Pair → Bool
 is_marked_root ps =
-    has (codes "about") ps || (has (codes "data-mw") ps || (has (codes "data-parsoid") ps || (has (codes "data-wt-edit") ps || (is_typed ps || not (id_of ps == 0)))))
+    has (codes "about") ps || (has (codes "data-mw") ps ||
+    (has (codes "data-parsoid") ps || (has (codes "data-wt-edit") ps || (is_typed ps || not (id_of ps == 0)))))
 
 -- the body of a document: the number of its element, its attributes and its contents
 pub record Found : Type 0 where
@@ -167,7 +180,9 @@ pub record Found : Type 0 where
 abbrev pub body_in : Markups → Option Found
 body_in (more (node name ps c) empty) = if bytes_eq name (codes "body") then Some (record { number = 2; attributes = ps; contents = c }) else None
 body_in (more (node head hs hc) (more (node name ps c) empty)) =
-    if bytes_eq head (codes "head") && bytes_eq name (codes "body") then Some (record { number = 3 + elements_of_all hc; attributes = ps; contents = c }) else None
+    if bytes_eq head (codes "head") && bytes_eq name (codes "body")
+    then Some (record { number = 3 + elements_of_all hc; attributes = ps; contents = c })
+    else None
 body_in ts = None
 
 abbrev pub body_of : Markup → Option Found

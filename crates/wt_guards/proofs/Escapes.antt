@@ -1,5 +1,5 @@
 -- The characters that are ever written as references: thirteen.
-use Rattle.std.proofs.Common.{◌≡◌, ℕ, Bool, true, false, refl, sym, ap, ◌∙◌, subst, inl, inr, ◌⊎◌, List}
+use Rattle.std.proofs.Common.{◌≡◌, ℕ, Bool, true, false, refl, sym, ◌∙◌, subst, inl, inr, ◌⊎◌, List}
 use Rattle.std.specs.Prelude.{not, ◌||◌, ◌&&◌, ◌==◌, if◌then◌else◌}
 use Rattle.std.proofs.lemmas.Bool.Decides.{Decides-eqb}
 use Rattle.wt_guards.specs.declared.side.Place.{Place}
@@ -21,7 +21,8 @@ chain false false false false false false true h u v w x y z s i = cc
 chain false false false false false false false true u v w x y z s i = cc
 chain false false false false false false false false u v w x y z s i = refl
 
-pub others_stay : (within : Bool) (p : Place) (before : List Sign) (c : ℕ) (after : List Sign) → is_escapable c ≡ false → is_escaped within p before c after ≡ false
+pub others_stay : (within : Bool) (p : Place) (before : List Sign) (c : ℕ) (after : List Sign) → is_escapable c ≡ false
+    → is_escaped within p before c after ≡ false
 unfolding is_escaped
 others_stay within p before c after e =
     chain (is_bracket c) (c == 60) (c == 38) (c == 39) (c == 95) (c == 58) (c == 61) (c == 33) (opens_tag (nearest after)) (opens_entity (nearest after))

@@ -1,16 +1,15 @@
 -- Worked cases of the guards and of the characters of text, by computing: rows that were decided, each with its page in words.
-use Rattle.std.proofs.Common.{◌≡◌, ℕ, Some, None, List, [], ◌∷◌, ◌++◌, refl, map, Option}
-use Rattle.std.specs.Prelude.{codes, Bool, true, false}
+use Rattle.std.proofs.Common.{◌≡◌, ℕ, Some, None, List, [], ◌∷◌, ◌++◌, refl, map}
+use Rattle.std.specs.Prelude.{codes, true, false}
 use Rattle.std.specs.Fmt.{digits}
 use Rattle.wt_guards.specs.declared.role.Role.{Role}
 use Rattle.wt_guards.specs.declared.role.Role.TheVariants as role
 use Rattle.wt_guards.specs.declared.role.Transclusion.{Transclusion}
-use Rattle.wt_guards.specs.declared.role.Stretch.{Stretch}
 use Rattle.wt_guards.specs.declared.side.Place.{Place}
-use Rattle.wt_guards.specs.declared.side.Place.TheVariants.{Paragraph, Heading, Item, Term, Cell, Header}
+use Rattle.wt_guards.specs.declared.side.Place.TheVariants.{Paragraph, Heading, Term, Header}
 use Rattle.wt_guards.specs.declared.side.Side.TheVariants as side
 use Rattle.wt_guards.specs.Table.{hazard, line_start_hazard}
-use Rattle.wt_guards.specs.Content.{Thing, Sign, letter, thing}
+use Rattle.wt_guards.specs.Content.{Sign, letter, thing}
 use Rattle.wt_guards.specs.Letters.{is_escaped, reference}
 use Rattle.wt_guards.specs.Guards.{Setting, is_start_guard, is_end_guard, is_blank_guard, is_parted, is_between_guard, is_guarded, nowiki, spelled}
 

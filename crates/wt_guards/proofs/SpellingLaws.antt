@@ -4,10 +4,10 @@ use Rattle.std.specs.Prelude.{encode_utf8}
 use Rattle.std.specs.List.{flat_map}
 use Rattle.std.specs.Str.{chars}
 use Rattle.wt_guards.specs.declared.side.Place.{Place}
-use Rattle.wt_guards.specs.Content.{Thing, Sign, letter, thing, letters}
+use Rattle.wt_guards.specs.Content.{Sign, letter, thing, letters}
 use Rattle.wt_guards.specs.Letters.{is_bracket, is_escaped, reference, written_by, written}
 use Rattle.wt_guards.specs.Guards.{Setting, nowiki, nowiki_if, is_guarded, sign_written, spelled_from, spelled}
-use Rattle.wt_guards.specs.WrittenLaws.{itself, IsAsItIs, IsQuiet, Piece, guard, referred, plain, piece_bytes, IsHarmless, AreHarmless, characters_of, Pieces}
+use Rattle.wt_guards.specs.WrittenLaws.{itself, IsAsItIs, IsQuiet, guard, referred, plain, Pieces}
 
 as_it_is : (s : Setting) (before : List Sign) (sign : Sign) (after : List Sign) → IsAsItIs s before sign after → sign_written s before sign after ≡ itself sign
 as_it_is s before (letter c) after e = ap (λ b. written_by b c) e

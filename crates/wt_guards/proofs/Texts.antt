@@ -1,9 +1,9 @@
 -- The characters of a text, one after another.
 use Rattle.std.proofs.Common.{arith, ◌≡◌, ℕ, List, [], ◌∷◌, ◌++◌, map, ap, length}
 use Rattle.std.specs.Prelude.{encode_utf8}
-use Rattle.std.specs.Str.{chars, IsUtf8}
+use Rattle.std.specs.Str.{IsUtf8}
 use Rattle.std.proofs.lemmas.Str.{chars-nil, chars_past_char}
-use Rattle.wt_guards.specs.Content.{Sign, letter, letters}
+use Rattle.wt_guards.specs.Content.{letter, letters}
 
 pub letters_nil : letters [] ≡ []
 letters_nil = ap (λ cs. map letter cs) chars-nil

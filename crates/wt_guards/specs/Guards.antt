@@ -294,7 +294,8 @@ pub record Setting : Type 0 where
 
 unfoldable pub is_guarded : Setting → List Sign → List Sign → Bool
 is_guarded s before after =
-    is_between_guard (nearest before) (nearest after) || (not s.within && (is_start_guard before after || (is_end_guard s.place before after || is_blank_guard s.source before after)))
+    is_between_guard (nearest before) (nearest after) ||
+    (not s.within && (is_start_guard before after || (is_end_guard s.place before after || is_blank_guard s.source before after)))
 
 unfoldable pub nowiki : List ℕ
 nowiki = codes "<nowiki/>"
@@ -310,7 +311,8 @@ sign_written s before (thing t) after = t.source
 -- The content from a place on: `<nowiki/>` where a guard holds, the next sign as it is written, and the rest.
 abbrev pub spelled_from : Setting → List Sign → List Sign → List ℕ
 spelled_from s before [] = nowiki_if (is_guarded s before [])
-spelled_from s before (sign ∷ after) = nowiki_if (is_guarded s before (sign ∷ after)) ++ (sign_written s before sign after ++ spelled_from s (sign ∷ before) after)
+spelled_from s before (sign ∷ after) =
+    nowiki_if (is_guarded s before (sign ∷ after)) ++ (sign_written s before sign after ++ spelled_from s (sign ∷ before) after)
 
 abbrev pub spelled : Setting → List Sign → List ℕ
 spelled s signs = spelled_from s [] signs

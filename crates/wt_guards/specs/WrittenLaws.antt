@@ -1,7 +1,7 @@
 -- What the laws of the spelling speak of.
-use Rattle.std.specs.Prelude.{◌≡◌, ℕ, suc, ◌==◌, false, List, [], ◌∷◌, ◌++◌, if◌then◌else◌, encode_utf8}
+use Rattle.std.specs.Prelude.{◌≡◌, ℕ, suc, ◌==◌, false, List, [], ◌∷◌, if◌then◌else◌, encode_utf8}
 use Rattle.std.specs.List.{flat_map}
-use Rattle.wt_guards.specs.Content.{Thing, Sign, letter, thing}
+use Rattle.wt_guards.specs.Content.{Sign, letter, thing}
 use Rattle.wt_guards.specs.Letters.{is_bracket, is_escaped, reference}
 use Rattle.wt_guards.specs.Guards.{Setting, nowiki, is_guarded}
 

@@ -37,7 +37,8 @@ fn push_guard(
     known: Option<bool>,
 ) -> Result<(), AllocError>
     requires { Knows known (signs_left after) }
-    ensures { (before : List AnySign) → IsBehind setting.entry.source.now before behind.entry → OnOk result (string_bytes out.new ≡ string_bytes out.old ++ nowiki_if (is_guarded (setting_of setting.entry) before (signs_left after.entry))) }
+    ensures { (before : List AnySign) → IsBehind setting.entry.source.now before behind.entry
+        → OnOk result (string_bytes out.new ≡ string_bytes out.old ++ nowiki_if (is_guarded (setting_of setting.entry) before (signs_left after.entry))) }
 {
     let is_guarded = is_guarded(setting, behind, after, known);
     push_nowiki_if(out, is_guarded)
@@ -51,7 +52,9 @@ fn push_sign(
     sign: Sign<'_>,
     after: Signs<'_, '_>,
 ) -> Result<(), AllocError>
-    ensures { (before : List AnySign) → IsBehind setting.entry.source.now before behind.entry → OnOk result (string_bytes out.new ≡ string_bytes out.old ++ sign_written (setting_of setting.entry) before (sign_of sign.entry) (signs_left after.entry)) }
+    ensures { (before : List AnySign) → IsBehind setting.entry.source.now before behind.entry
+        → OnOk result (string_bytes out.new ≡ string_bytes out.old ++ sign_written (setting_of setting.entry) before (sign_of sign.entry)
+        (signs_left after.entry)) }
 {
     match sign {
         Sign::Letter(c) => push_letter(out, setting.within, setting.place, behind, c, after),
@@ -75,7 +78,8 @@ fn step<'u, 't>(
     walk: Walk<'u, 't>,
 ) -> Result<Option<Walk<'u, 't>>, AllocError>
     requires { Knows walk.known (signs_left walk.rest) }
-    ensures { (before : List AnySign) → IsBehind setting.entry.source.now before walk.entry.behind → Steps (setting_of setting.entry) before (signs_left walk.entry.rest) (string_bytes out.old) (string_bytes out.new) result }
+    ensures { (before : List AnySign) → IsBehind setting.entry.source.now before walk.entry.behind
+        → Steps (setting_of setting.entry) before (signs_left walk.entry.rest) (string_bytes out.old) (string_bytes out.new) result }
 {
     let known = learn(walk.known, walk.behind, walk.rest);
     push_guard(out, setting, walk.behind, walk.rest, known)?;

@@ -217,7 +217,8 @@ pub fn is_guarded(
     known: Option<bool>,
 ) -> bool
     requires { Knows known (signs_left after) }
-    ensures { (before : List AnySign) → IsBehind setting.entry.source.now before behind.entry → result ≡ is_guarded (setting_of setting.entry) before (signs_left after.entry) }
+    ensures { (before : List AnySign) → IsBehind setting.entry.source.now before behind.entry
+        → result ≡ is_guarded (setting_of setting.entry) before (signs_left after.entry) }
 {
     if is_between_guard(behind.last, after.peek()) {
         return true;

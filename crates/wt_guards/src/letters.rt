@@ -40,7 +40,8 @@ fn is_header(place: Place) -> bool
 /// of a link or tag (`within`) no line begins.
 #[tactic(auto, unfolding(crate::specs::Letters::is_escaped))]
 fn is_escaped(within: bool, place: Place, behind: Behind<'_>, c: char, after: Signs<'_, '_>) -> bool
-    ensures { (source : List ℕ) (before : List AnySign) → IsBehind source before behind.entry → result ≡ is_escaped within place before c (signs_left after.entry) }
+    ensures { (source : List ℕ) (before : List AnySign) → IsBehind source before behind.entry
+        → result ≡ is_escaped within place before c (signs_left after.entry) }
 {
     if is_bracket(c) {
         return true;
@@ -104,7 +105,8 @@ pub fn push_letter(
     c: char,
     after: Signs<'_, '_>,
 ) -> Result<(), AllocError>
-    ensures { (source : List ℕ) (before : List AnySign) → IsBehind source before behind.entry → OnOk result (string_bytes out.new ≡ string_bytes out.old ++ written within place before c (signs_left after.entry)) }
+    ensures { (source : List ℕ) (before : List AnySign) → IsBehind source before behind.entry
+        → OnOk result (string_bytes out.new ≡ string_bytes out.old ++ written within place before c (signs_left after.entry)) }
 {
     let is_escaped = is_escaped(within, place, behind, c, after);
     push_written(out, is_escaped, c)

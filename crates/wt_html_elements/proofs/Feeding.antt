@@ -139,7 +139,8 @@ abbrev token_after : Machine → ℕ → ℕ → ℕ → ℕ
 token_after m taken n at = if is_between (view m) then taken + n else at
 
 -- a run of bytes that was taken
-pub run_ok : (r p q : Reader) (bs : List ℕ) (n : ℕ) → r.failed ≡ None → p.failed ≡ r.failed → p.taken ≡ r.taken → p.token_at ≡ r.token_at → p.machine ≡ r.machine
+pub run_ok : (r p q : Reader) (bs : List ℕ) (n : ℕ) → r.failed ≡ None → p.failed ≡ r.failed → p.taken ≡ r.taken → p.token_at ≡ r.token_at
+    → p.machine ≡ r.machine
     → building p.builder ≡ put_run (building r.builder) (view r.machine) bs
     → q.failed ≡ p.failed → q.taken ≡ p.taken + n → q.token_at ≡ (if is_between (view p.machine) then p.taken + n else p.token_at)
     → q.machine ≡ p.machine → q.builder ≡ p.builder → n ≡ length bs → 0 < length bs → list_all (stays (view r.machine)) bs ≡ true

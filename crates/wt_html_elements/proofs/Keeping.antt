@@ -65,7 +65,8 @@ kept_once bytes m n h g = kept_counted bytes m h ∙ sym (kept_counted bytes n g
 
 -- the tokens of a document
 space_whole : (c : ℕ) → is_space c ≡ true → IsWhole (c ∷ [])
-space_whole c e = whole_as (spell_piece (plain c)) (c ∷ []) (encode_ascii c (low c e)) (whole_one (sign (plain c)) (low_scalar c (omega (arith, low c e)), not_mark c e))
+space_whole c e = whole_as (spell_piece (plain c)) (c ∷ []) (encode_ascii c (low c e))
+    (whole_one (sign (plain c)) (low_scalar c (omega (arith, low c e)), not_mark c e))
   where
     low : (c : ℕ) → is_space c ≡ true → c < 128
     low c e = grind (arith, nat_tests)

@@ -145,8 +145,11 @@ each_other p r f (b ∷ bs) h = (f b h.0, each_other p r f bs h.1)
 escape_others : (q : ℕ) (e : Begun) → is_quote q ≡ true → IsBegunEscape e → Others q (escape_bytes e)
 escape_others q b_ampersand i h = (and_other q i, tt)
 escape_others q b_apart i h = (and_other q i, (name_other q 97 i refl, tt))
-escape_others q (b_letters n got left) i h =
-    (and_other q i, each_other is_name_byte (λ b. not (b == q)) (λ b. name_other q b i) got (letters_front got left (letters_of n) is_name_byte h (letters_named n)))
+escape_others q (b_letters n got left) i h = (
+  and_other q i,
+  each_other is_name_byte (λ b. not (b == q)) (λ b. name_other q b i) got
+      (letters_front got left (letters_of n) is_name_byte h (letters_named n)),
+)
 escape_others q b_sharp i h = (and_other q i, (sharp_other q i, tt))
 escape_others q (b_digits r ds) i h = digits_others q r ds i h.0
 escape_others q (b_wide b got low high n) i h =
@@ -174,9 +177,11 @@ value_some o g a lg rg q ps more h k =
     (opening_some o _ (inside_value q) h.0.0 h.0.1 h.0.2 h.0.3
     (value_lead g a lg rg q ps more (inside_value q) h.1 h.2 h.6 h.7 h.5 h.4 (others_lead q more k)))
 
-end_some : (l : Level) (ls : List Level) (more : List ℕ) → IsLevel (length ls) l → AreLevels ls → Leads in_tag more in_tag → 0 < counted outside 0 (in_end l ls more)
+end_some : (l : Level) (ls : List Level) (more : List ℕ) → IsLevel (length ls) l → AreLevels ls → Leads in_tag more in_tag
+    → 0 < counted outside 0 (in_end l ls more)
 end_some l ls more i a h =
-    behind_some (levels ls ++ opened l) (60 ∷ 47 ∷ more) (whole_join (levels ls) (opened l) (levels_whole ls a) (opened_whole (length ls) l i)) (in_tag, (tt, h))
+    behind_some (levels ls ++ opened l) (60 ∷ 47 ∷ more) (whole_join (levels ls) (opened l) (levels_whole ls a) (opened_whole (length ls) l i))
+    (in_tag, (tt, h))
 
 partial_tells : (p : Partial) → Sound p → TellsOf (seen p) (written p)
 partial_tells (p_text l ls) h = whole_zero (levels ls ++ opened l) (whole_join (levels ls) (opened l) (levels_whole ls h.1) (opened_whole (length ls) l h.0))

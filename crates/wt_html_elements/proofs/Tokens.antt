@@ -1,5 +1,5 @@
 -- The bytes of a token come outside at its end and not before.
-use Rattle.std.proofs.Common.{◌≡◌, ℕ, zero, suc, ◌+◌, ◌<◌, ◌≤◌, Bool, true, false, Option, Some, None, List, [], ◌∷◌, ◌++◌, length, map, refl, sym, ap, ◌∙◌, subst, nat_lt, append_assoc, arith, codes, inl, inr, ⊎_elim, lit<, lit≤}
+use Rattle.std.proofs.Common.{◌≡◌, ℕ, zero, suc, ◌<◌, ◌≤◌, Bool, true, false, Option, Some, None, List, [], ◌∷◌, ◌++◌, length, map, refl, sym, ap, ◌∙◌, subst, nat_lt, append_assoc, arith, codes, inl, inr, ⊎_elim, lit<, lit≤}
 use Rattle.std.specs.Prelude.{◌==◌, ◌&&◌, ◌⊎◌, not, encode_utf8}
 use Rattle.std.specs.Char.{to_ascii_lowercase}
 use Rattle.std.proofs.lemmas.Bool.{eqb-true}
@@ -217,8 +217,11 @@ quoted q e =
     ⊎_elim (λ (is : q ≡ 34). subst P (sym is) refl) (λ (is : q ≡ 39). subst P (sym is) refl) (quote_cases q e)
 
 pub value_leads : (q : ℕ) (ps : List Piece) → is_quote q ≡ true → ArePieces (in_value q) ps → Leads in_tag (q ∷ spell_pieces ps) (inside_value q)
-value_leads q ps e h =
-    (tt, let P : Scan → Type 0 = λ m. Leads m (spell_pieces ps) (inside_value q) in subst P (sym (quoted q e)) (others_lead q (spell_pieces ps) (pieces_others q ps e h)))
+value_leads q ps e h = (
+  tt,
+  let P : Scan → Type 0 = λ m. Leads m (spell_pieces ps) (inside_value q) in subst P (sym (quoted q e))
+      (others_lead q (spell_pieces ps) (pieces_others q ps e h)),
+)
 
 pub equals_leads : (bs : List ℕ) (m : Scan) → Leads in_tag bs m → Leads in_tag (61 ∷ bs) m
 equals_leads bs m h = (tt, h)
@@ -248,7 +251,8 @@ attributes_lead before (a ∷ others) h =
 pub begun_tag : (name : List ℕ) (before : List (List ℕ)) (xs : List Attribute) (more : List ℕ) (m : Scan) → IsName name → AreAttributes before xs
     → Leads in_tag more m → Leads in_tag (name ++ (spell_attributes xs ++ more)) m
 begun_tag name before xs more m n h g =
-    leads_then in_tag name in_tag _ m (names_lead name (name_each name n)) (leads_then in_tag (spell_attributes xs) in_tag more m (attributes_lead before xs h) g)
+    leads_then in_tag name in_tag _ m (names_lead name (name_each name n))
+    (leads_then in_tag (spell_attributes xs) in_tag more m (attributes_lead before xs h) g)
 
 closes_tag : (bs : List ℕ) → Leads in_tag bs in_tag → Closes in_tag (bs ++ 62 ∷ [])
 closes_tag bs h = closes_then in_tag bs in_tag (62 ∷ []) h refl
@@ -366,7 +370,47 @@ word_closes (b ∷ bs) (c ∷ cs) e h =
     subst P (sym (word_byte b c (first_eq _ _ _ _ e) h.0 h.1 h.2)) (word_closes bs cs (others_eq _ _ _ _ e) h.3)
 
 pub middle : AreMiddle (codes "!doctype html")
-middle = (refl, refl, refl, (refl, refl, refl, (refl, refl, refl, (refl, refl, refl, (refl, refl, refl, (refl, refl, refl, (refl, refl, refl, (refl, refl, refl, (refl, refl, refl, (refl, refl, refl, (refl, refl, refl, (refl, refl, refl, (refl, refl, refl, tt)))))))))))))
+middle = (
+  refl,
+  refl,
+  refl,
+  (
+    refl,
+    refl,
+    refl,
+    (
+      refl,
+      refl,
+      refl,
+      (
+        refl,
+        refl,
+        refl,
+        (
+          refl,
+          refl,
+          refl,
+          (
+            refl,
+            refl,
+            refl,
+            (
+              refl,
+              refl,
+              refl,
+              (
+                refl,
+                refl,
+                refl,
+                (refl, refl, refl, (refl, refl, refl, (refl, refl, refl, (refl, refl, refl, (refl, refl, refl, tt))))),
+              ),
+            ),
+          ),
+        ),
+      ),
+    ),
+  ),
+)
 
 word_one : (word : List ℕ) → map to_ascii_lowercase word ≡ doctype_word → IsOne word
 word_one [] e = absurd cc
@@ -379,7 +423,8 @@ word_one (b ∷ bs) e =
 -- a doctype in part
 pub word_leads : (bs cs left : List ℕ) → map to_ascii_lowercase bs ++ left ≡ cs ++ 62 ∷ [] → AreMiddle cs → 0 < length left → Leads in_tag bs in_tag
 word_leads [] cs left e h lt = (refl, tt)
-word_leads (b ∷ bs) [] left e h lt = absurd (omega (arith, ap length (others_eq _ _ _ _ e), Rattle.std.proofs.Common.length-append (map to_ascii_lowercase bs) left))
+word_leads (b ∷ bs) [] left e h lt = absurd
+    (omega (arith, ap length (others_eq _ _ _ _ e), Rattle.std.proofs.Common.length-append (map to_ascii_lowercase bs) left))
 word_leads (b ∷ bs) (c ∷ cs) left e h lt =
     let P : Scan → Type 0 = λ m. Leads m bs in_tag in
     (tt, subst P (sym (word_byte b c (first_eq _ _ _ _ e) h.0 h.1 h.2)) (word_leads bs cs left (others_eq _ _ _ _ e) h.3 lt))

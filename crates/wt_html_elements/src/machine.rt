@@ -307,7 +307,8 @@ impl Machine {
     fn in_naming(&mut self, alloc: Global, byte: u8) -> Result<Event, Fault>
         requires within { self.old.within ≡ Within.Nothing }
         requires mode { self.old.mode ≡ Mode.Naming }
-        ensures { Takes (step (naming (stack self.old) self.old.name.items) byte) (out (naming (stack self.old) self.old.name.items) byte) result (view self.new) }
+        ensures { Takes (step (naming (stack self.old) self.old.name.items) byte) (out (naming (stack self.old) self.old.name.items) byte) result
+            (view self.new) }
     {
         if is_name_byte(byte) {
             self.name.push(byte)?;
@@ -349,7 +350,8 @@ impl Machine {
 
     fn end_attribute_name(&mut self, alloc: Global, byte: u8) -> Result<Event, Fault>
         requires within { self.old.within ≡ Within.Nothing }
-        ensures { Takes (if is_among self.old.word.items (tag_of self.old).seen then Err HtmlWhy.Repeated else at_name (with_seen (tag_of self.old) self.old.word.items) byte) ev.Quiet result (view self.new) }
+        ensures { Takes (if is_among self.old.word.items (tag_of self.old).seen then Err HtmlWhy.Repeated else at_name
+            (with_seen (tag_of self.old) self.old.word.items) byte) ev.Quiet result (view self.new) }
     {
         let word = mem::replace(&mut self.word, Vec::new(alloc));
         let added = self.seen.insert(word)?;
@@ -363,7 +365,8 @@ impl Machine {
     fn in_attribute(&mut self, alloc: Global, byte: u8) -> Result<Event, Fault>
         requires within { self.old.within ≡ Within.Nothing }
         requires mode { self.old.mode ≡ Mode.Attribute }
-        ensures { Takes (step (attribute (tag_of self.old) self.old.word.items) byte) (out (attribute (tag_of self.old) self.old.word.items) byte) result (view self.new) }
+        ensures { Takes (step (attribute (tag_of self.old) self.old.word.items) byte) (out (attribute (tag_of self.old) self.old.word.items) byte) result
+            (view self.new) }
     {
         if is_attribute_byte(byte) {
             self.word.push(byte)?;
@@ -445,7 +448,8 @@ impl Machine {
     fn in_closing(&mut self, byte: u8) -> Result<Event, Fault>
         requires within { self.old.within ≡ Within.Nothing }
         requires mode { self.old.mode ≡ Mode.Closing }
-        ensures { Takes (step (closing (drop self.old.at self.old.name.items) (stack self.old)) byte) (out (closing (drop self.old.at self.old.name.items) (stack self.old)) byte) result (view self.new) }
+        ensures { Takes (step (closing (drop self.old.at self.old.name.items) (stack self.old)) byte)
+            (out (closing (drop self.old.at self.old.name.items) (stack self.old)) byte) result (view self.new) }
     {
         match self.name.get(self.at) {
             Some(letter) => {
@@ -503,7 +507,8 @@ impl Machine {
     }
 
     fn in_escape(&mut self, escape: EscapeAt, byte: u8) -> Result<Event, Fault>
-        ensures { Takes (turned (place_of self.old) (escape_of escape) (in_escape (escape_of escape) byte)) (out_escape (place_of self.old) (escape_of escape) byte) result (view self.new) }
+        ensures { Takes (turned (place_of self.old) (escape_of escape) (in_escape (escape_of escape) byte))
+            (out_escape (place_of self.old) (escape_of escape) byte) result (view self.new) }
     {
         match turn(escape, byte) {
             TurnTo::Stop => Err(Fault::Html(HtmlWhy::Escape)),
@@ -519,7 +524,8 @@ impl Machine {
     }
 
     fn in_character(&mut self, following: Following, byte: u8) -> Result<Event, Fault>
-        ensures { Takes (turned (place_of self.old) (wide following.low following.high following.more) (in_escape (wide following.low following.high following.more) byte)) (unit_byte (place_of self.old) byte) result (view self.new) }
+        ensures { Takes (turned (place_of self.old) (wide following.low following.high following.more)
+            (in_escape (wide following.low following.high following.more) byte)) (unit_byte (place_of self.old) byte) result (view self.new) }
     {
         if byte < following.low || following.high < byte {
             return Err(Fault::Html(HtmlWhy::NotUtf8));

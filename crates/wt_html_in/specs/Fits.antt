@@ -17,7 +17,19 @@ use Rattle.wt_html_in.specs.declared.walk.Walk.{Walk}
 
 -- the label of an element without its source
 abbrev pub bare_label : Head → Label
-bare_label h = record { kind = h.kind; id = h.id; ranges = None; opening = []; closing = []; own = []; shown = h.shown; attrs = attrs_of h.attrs; origin = None; mark = h.mark; mw = h.mw }
+bare_label h = record {
+  kind = h.kind;
+  id = h.id;
+  ranges = None;
+  opening = [];
+  closing = [];
+  own = [];
+  shown = h.shown;
+  attrs = attrs_of h.attrs;
+  origin = None;
+  mark = h.mark;
+  mw = h.mw;
+}
 
 abbrev pub label_of_head : Head → Label
 label_of_head h = with_sync (bare_label h) h.sync

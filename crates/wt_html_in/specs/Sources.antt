@@ -24,4 +24,16 @@ source_told (Some s) = record { ranges = Some s.dsr; opening = s.opening; closin
 -- the label of an element with this source
 abbrev pub sourced_label : Head → Told → Label
 sourced_label h t =
-    record { kind = h.kind; id = h.id; ranges = t.ranges; opening = t.opening; closing = t.closing; own = t.own; shown = h.shown; attrs = attrs_of h.attrs; origin = None; mark = h.mark; mw = h.mw }
+    record {
+      kind = h.kind;
+      id = h.id;
+      ranges = t.ranges;
+      opening = t.opening;
+      closing = t.closing;
+      own = t.own;
+      shown = h.shown;
+      attrs = attrs_of h.attrs;
+      origin = None;
+      mark = h.mark;
+      mw = h.mw;
+    }

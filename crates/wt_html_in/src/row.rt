@@ -147,7 +147,8 @@ fn is_row(
     rel: Option<&[u8]>,
     kind: Kind,
 ) -> bool
-    ensures { result ≡ is_row name.now (option_map (λ v. v.now) type_name.entry) (option_map (λ v. v.now) property.entry) (option_map (λ v. v.now) rel.entry) kind }
+    ensures { result ≡ is_row name.now (option_map (λ v. v.now) type_name.entry) (option_map (λ v. v.now) property.entry)
+        (option_map (λ v. v.now) rel.entry) kind }
 {
     is_named(name, kind)
         && (tells(AttrName::Typeof, type_name, kind)

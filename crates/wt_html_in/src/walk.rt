@@ -51,7 +51,8 @@ fn begin(
     requires few { walk.old.next + 1 < 2 ^ 32 }
     requires values { are_utf8_values (pairs attributes.items) ≡ true }
     requires texts { are_utf8_markups (views contents.now) ≡ true }
-    ensures head { RowFits (λ inside. fit_row walk.old.next outer behind (row name.items (pairs attributes.items)) (pairs attributes.items) (views contents.now) inside) result }
+    ensures head { RowFits (λ inside. fit_row walk.old.next outer behind (row name.items (pairs attributes.items)) (pairs attributes.items)
+        (views contents.now) inside) result }
     ensures passed { Passed walk.old walk.new 1 (unsourced_here walk.old.next (pairs attributes.items)) }
 {
     let number = enter(walk, attributes.as_slice());

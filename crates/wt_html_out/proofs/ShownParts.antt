@@ -69,7 +69,8 @@ part_step Characters l held inside within p q k g rest h i = text_go l.shown p k
 part_step Inside l held inside within p q k g rest h i = i rest
 part_step Nothing l held inside within p q k g rest h i = refl
 part_step Element l held inside within p q k g rest h i =
-    ap (λ x. text_end p ++ (group_element (is_start p) k g l.kind (fixed_attributes l.kind ++ l.attrs) x ++ go at.Behind k g rest)) (h ended ∙ append-nil inside)
+    ap (λ x. text_end p ++ (group_element (is_start p) k g l.kind (fixed_attributes l.kind ++ l.attrs) x ++ go at.Behind k g rest)) (h ended
+    ∙ append-nil inside)
     ∙ sym (append_assoc (text_end p) (group_element (is_start p) k g l.kind (fixed_attributes l.kind ++ l.attrs) inside) (go at.Behind k g rest))
 
 mutual
@@ -165,11 +166,13 @@ group_pushed k g ts us old mid now p d e f h =
 
 -- a node that is an element, by one level
 part_level : (p : Progress) (k : ℕ) (g : Label) (n : Node) → part p k g (view n)
-    ≡ part_by (showing (out-Node n).kind) p k g (label_of (out-Node n)) (parts p k g (views (out-Node n).children)) (shown_html_of_all (views (out-Node n).children))
+    ≡ part_by (showing (out-Node n).kind) p k g (label_of (out-Node n)) (parts p k g (views (out-Node n).children))
+    (shown_html_of_all (views (out-Node n).children))
 part_level p k g n = rw (view_out n)
 
 pub part_element : (p : Progress) (k : ℕ) (g : Label) (n : Node) → showing (out-Node n).kind ≡ Element → part p k g (view n)
-    ≡ text_end p ++ group_element (is_start p) k g (out-Node n).kind (fixed_attributes (out-Node n).kind ++ (label_of (out-Node n)).attrs) (shown_html_of_all (views (out-Node n).children))
+    ≡ text_end p ++ group_element (is_start p) k g (out-Node n).kind (fixed_attributes (out-Node n).kind ++ (label_of (out-Node n)).attrs)
+    (shown_html_of_all (views (out-Node n).children))
 part_element p k g n e =
     part_level p k g n
     ∙ ap (λ s. part_by s p k g (label_of (out-Node n)) (parts p k g (views (out-Node n).children)) (shown_html_of_all (views (out-Node n).children))) e

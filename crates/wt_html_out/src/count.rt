@@ -147,7 +147,8 @@ fn spend_group(
     left: Left,
     node: &Node<'_>,
 ) -> Result<Option<Left>, NoMemory>
-    ensures { IfOk result (SpendsNodes left (group_html (suc left.groups) (label_of (out-Node node.now)) (plains_before (views (out-Node node.now).children) ended)) 1) }
+    ensures { IfOk result (SpendsNodes left (group_html (suc left.groups) (label_of (out-Node node.now))
+        (plains_before (views (out-Node node.now).children) ended)) 1) }
 {
     let number = next_group(left.groups)?;
     scratch.clear();
@@ -168,7 +169,9 @@ fn spend_round_children(
     left: Left,
     node: &Node<'_>,
 ) -> Result<Option<Left>, NoMemory>
-    ensures { IfOk result (SpendsNodes left (start_tag (label_of (out-Node node.now)) ++ (html_of_all left.groups (views (out-Node node.now).children) ++ end_tag (label_of (out-Node node.now)))) (groups_of_all (views (out-Node node.now).children))) }
+    ensures { IfOk result (SpendsNodes left (start_tag
+        (label_of (out-Node node.now)) ++ (html_of_all left.groups (views (out-Node node.now).children) ++ end_tag (label_of (out-Node node.now))))
+        (groups_of_all (views (out-Node node.now).children))) }
 {
     let Some(bytes) = spend_start(alloc, scratch, left.bytes, node)? else {
         return Ok(None);

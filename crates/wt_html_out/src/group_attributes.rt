@@ -86,7 +86,8 @@ fn push_word(
     fixed: Option<Fixed>,
     attrs: &[Attr],
 ) -> Result<(), NoMemory>
-    ensures { OnOk result (out.new.items ≡ out.old.items ++ attributes (with_type (((word.now).name, (word.now).value) ∷ []) (one_if_any (fixed_of fixed) ++ attrs_of attrs.now))) }
+    ensures { OnOk result (out.new.items ≡ out.old.items ++ attributes
+        (with_type (((word.now).name, (word.now).value) ∷ []) (one_if_any (fixed_of fixed) ++ attrs_of attrs.now))) }
 {
     match fixed {
         None => push_before_own(out, word, attrs),
@@ -122,7 +123,8 @@ fn push_first(
     kind: Kind,
     attrs: &[Attr],
 ) -> Result<(), NoMemory>
-    ensures { OnOk result (out.new.items ≡ out.old.items ++ first_attributes number (label_of (out-Node group.now)) (fixed_attributes kind ++ attrs_of attrs.now)) }
+    ensures { OnOk result (out.new.items ≡ out.old.items ++ first_attributes number (label_of (out-Node group.now))
+        (fixed_attributes kind ++ attrs_of attrs.now)) }
 {
     push_about(out, number)?;
     push_typed(out, group.attrs.as_slice(), kind, attrs)?;
@@ -151,7 +153,8 @@ pub fn push_group_attributes(
     kind: Kind,
     attrs: &[Attr],
 ) -> Result<(), NoMemory>
-    ensures { OnOk result (out.new.items ≡ out.old.items ++ group_attributes first number (label_of (out-Node group.now)) (fixed_attributes kind ++ attrs_of attrs.now)) }
+    ensures { OnOk result (out.new.items ≡ out.old.items ++ group_attributes first number (label_of (out-Node group.now))
+        (fixed_attributes kind ++ attrs_of attrs.now)) }
 {
     if first {
         push_first(alloc, out, number, group, kind, attrs)

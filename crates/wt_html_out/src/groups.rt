@@ -43,7 +43,8 @@ fn push_group_tag(
     attrs: &[Attr],
     end: &[u8],
 ) -> Result<(), NoMemory>
-    ensures { OnOk result (out.new.items ≡ out.old.items ++ tag_of kind (group_attributes first number (label_of (out-Node group.now)) (fixed_attributes kind ++ attrs_of attrs.now)) end.now) }
+    ensures { OnOk result (out.new.items ≡ out.old.items ++ tag_of kind
+        (group_attributes first number (label_of (out-Node group.now)) (fixed_attributes kind ++ attrs_of attrs.now)) end.now) }
 {
     push(out, b"<")?;
     push_name(out, kind)?;
@@ -142,7 +143,8 @@ fn push_group_element(
     group: &Node<'_>,
     node: &Node<'_>,
 ) -> Result<(), NoMemory>
-    ensures { OnOk result (out.new.items ≡ out.old.items ++ group_element first number (label_of (out-Node group.now)) (out-Node node.now).kind (fixed_attributes (out-Node node.now).kind ++ attrs_of (out-Node node.now).attrs) (shown_html_of_all (views (out-Node node.now).children))) }
+    ensures { OnOk result (out.new.items ≡ out.old.items ++ group_element first number (label_of (out-Node group.now)) (out-Node node.now).kind
+        (fixed_attributes (out-Node node.now).kind ++ attrs_of (out-Node node.now).attrs) (shown_html_of_all (views (out-Node node.now).children))) }
 {
     let attrs = node.attrs.as_slice();
     match node.kind.writing() {
@@ -245,7 +247,8 @@ pub fn push_group(
     number: u32,
     group: &Node<'_>,
 ) -> Result<(), NoMemory>
-    ensures { OnOk result (out.new.items ≡ out.old.items ++ group_html number (label_of (out-Node group.now)) (plains_before (views (out-Node group.now).children) ended)) }
+    ensures { OnOk result (out.new.items ≡ out.old.items ++ group_html number (label_of (out-Node group.now))
+        (plains_before (views (out-Node group.now).children) ended)) }
 {
     let nodes = group.children.as_slice();
     let progress = push_parts(alloc, out, Progress::Start, number, nodes, group)?;

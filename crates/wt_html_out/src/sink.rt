@@ -19,7 +19,8 @@ pub fn write_html<W: Sink>(
 ) -> Result<(), WriteRefusal>
     ensures all { OnOk result (Appends (W.taken out.old) (W.taken out.new) (html_text (view t.now.body))) }
     ensures kept { OnOk result (W.fault_count out.new ≡ W.fault_count out.old) }
-    ensures refused { IfErr result (WroteFront (html_text (view t.now.body)) (W.taken out.old) (W.taken out.new) (W.fault_count out.old) (W.fault_count out.new)) }
+    ensures refused { IfErr result (WroteFront (html_text (view t.now.body)) (W.taken out.old) (W.taken out.new) (W.fault_count out.old)
+        (W.fault_count out.new)) }
 {
     let Ok(bytes) = html_bytes(alloc, t) else {
         return Err(WriteRefusal::NoMemory);

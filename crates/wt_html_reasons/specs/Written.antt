@@ -52,5 +52,6 @@ spell_unended a = a.gap ++ (a.name ++ (a.left ++ (61 ∷ (a.right ++ (a.quote �
 -- in the value of an attribute
 abbrev pub InValue : List ℕ → Type 0
 InValue bytes =
-    (attributes : List Attribute) × (tag : List ℕ) × (a : Attribute) × InStartTag attributes tag × IsAttribute a × (is_among a.name (names_of attributes) ≡ false)
+    (attributes : List Attribute) × (tag : List ℕ) × (a : Attribute) × InStartTag attributes tag × IsAttribute a ×
+    (is_among a.name (names_of attributes) ≡ false)
     × (bytes ≡ tag ++ spell_unended a)

@@ -9,7 +9,8 @@ ghost use Rattle.wt_html_reasons.specs.Reasons.{Holds, comes_before};
 pub fn first_reason()
     ensures holds { (bytes : List ℕ) (place : ℕ) (w : HtmlWhy) → Refused bytes place w → Holds w bytes place }
     ensures first { (bytes : List ℕ) (place : ℕ) (v w : HtmlWhy) → Refused bytes place w → comes_before v w ≡ true → Holds v bytes place → ⊥ }
-    ensures only { (bytes : List ℕ) (place : ℕ) (w : HtmlWhy) → IsPlace bytes place → Holds w bytes place → ((v : HtmlWhy) → comes_before v w ≡ true → Holds v bytes place → ⊥) → Refused bytes place w }
+    ensures only { (bytes : List ℕ) (place : ℕ) (w : HtmlWhy) → IsPlace bytes place → Holds w bytes place
+        → ((v : HtmlWhy) → comes_before v w ≡ true → Holds v bytes place → ⊥) → Refused bytes place w }
 {}
 
 /// An input is refused at one place, for one reason.

@@ -1,6 +1,5 @@
 -- The ends of lines, gathered from the last item on.
-use Rattle.std.proofs.Common.{arith, ◌≡◌, ℕ, zero, suc, ◌+◌, ◌-◌, ◌<◌, ◌≤◌, Bool, true, List, [], ◌∷◌, ◌++◌, length, take, drop, get_or, refl, sym, ap, ◌∙◌, length-append, Option, Some, None}
-use Rattle.std.specs.Prelude.{slice_get}
+use Rattle.std.proofs.Common.{arith, ◌≡◌, ℕ, zero, suc, ◌+◌, ◌-◌, ◌<◌, ◌≤◌, Bool, true, List, [], ◌∷◌, ◌++◌, length, take, drop, get_or, refl, sym, ap, ◌∙◌, length-append}
 use Rattle.std.proofs.lemmas.List.{drop_more, drop_all}
 use Rattle.wt_kept.specs.declared.gather.Item.{Item as Read}
 use Rattle.wt_tree.specs.declared.node.Node.{Node, out-Node}
@@ -32,7 +31,8 @@ ends_at (x ∷ xs) zero d lt =
 ends_at (x ∷ xs) (suc i) d lt =
     let n : length (x ∷ xs) - 1 - suc i ≡ length xs - 1 - i = omega arith in
     let m : length xs - 1 - i < length (blank_ends xs) = omega (arith, lt, ends_length xs) in
-    ap (λ (k : ℕ). get_or (blank_ends (x ∷ xs)) k d) n ∙ get_front (blank_ends xs) (are_blank_to_end (x ∷ xs) ∷ []) (length xs - 1 - i) d m ∙ ends_at xs i d (omega (arith, lt))
+    ap (λ (k : ℕ). get_or (blank_ends (x ∷ xs)) k d) n ∙ get_front (blank_ends xs) (are_blank_to_end (x ∷ xs) ∷ []) (length xs - 1 - i) d m
+    ∙ ends_at xs i d (omega (arith, lt))
 
 pub ends_past : (xs : List Item) (i : ℕ) → length xs ≤ i → true ≡ are_blank_to_end (drop i xs)
 ends_past xs i le = sym (ap are_blank_to_end (drop_all i xs le))

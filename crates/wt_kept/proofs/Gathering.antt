@@ -1,7 +1,6 @@
 -- What is gathered of a node is gathered of its parts, one after another.
-use Rattle.std.proofs.Common.{arith, ◌≡◌, ℕ, zero, suc, ◌+◌, ◌<◌, Bool, true, false, List, [], ◌∷◌, ◌++◌, length, map, take, drop, get_or, refl, sym, ap, ◌∙◌, append_assoc, append-nil, length-append}
+use Rattle.std.proofs.Common.{arith, ◌≡◌, ℕ, zero, suc, ◌+◌, ◌<◌, Bool, true, false, List, [], ◌∷◌, ◌++◌, length, map, drop, get_or, refl, sym, ap, ◌∙◌, append_assoc, append-nil, length-append}
 use Rattle.std.specs.Prelude.{not, ◌&&◌, if◌then◌else◌, slice_set}
-use Rattle.std.specs.List.{flat_map}
 use Rattle.std.proofs.lemmas.List.{drop_more}
 use Rattle.wt_tree.specs.Tree.{Label, Tree, tree, Trees, none, more}
 use Rattle.wt_tree.specs.Kinds.{is_leaf}
@@ -9,13 +8,12 @@ use Rattle.wt_tree.specs.Source.{flat, flat_of_all}
 use Rattle.wt_tree.specs.View.{label_of, view, views}
 use Rattle.wt_tree.specs.declared.node.Node.{Node, out-Node}
 use Rattle.wt_tree.proofs.Views.{view_out}
-use Rattle.wt_kept.specs.declared.block.Found.{Found as Pointed}
 use Rattle.wt_kept.specs.declared.block.Gathered.{Gathered}
 use Rattle.wt_kept.specs.declared.kinds.ItemsOf.{ItemsOf}
 use Rattle.wt_kept.specs.declared.kinds.ItemsOf.TheVariants.{Delimited, Characters, Opaque, Invisible, Nodes}
 use Rattle.wt_kept.specs.Kinds.{shape}
-use Rattle.wt_kept.specs.Kept.{Item, character, opaque, invisible, characters, items, items_of_all, items_by, visible, is_delimited, holds_kept, Found, found_at, found_if, found_from, found_in}
-use Rattle.wt_kept.specs.Gathered.{found_of, bytes_so_far, seen_so_far, found_so_far, begun, ended, Adds, inside_found, own_found, all_found, list_found}
+use Rattle.wt_kept.specs.Kept.{Item, character, opaque, invisible, characters, items, items_of_all, visible, is_delimited, holds_kept, Found, found_in}
+use Rattle.wt_kept.specs.Gathered.{bytes_so_far, seen_so_far, found_so_far, begun, ended, Adds, inside_found, own_found, all_found, list_found}
 
 pub visible_append : (xs ys : List Item) → visible (xs ++ ys) ≡ visible xs ++ visible ys
 visible_append [] ys = refl

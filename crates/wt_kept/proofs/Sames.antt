@@ -1,9 +1,8 @@
 -- The comparison of plain views, in which groups are looked up.
-use Rattle.std.proofs.Common.{◌≡◌, ℕ, ◌+◌, ◌<◌, Bool, true, false, List, [], ◌∷◌, ◌++◌, length, map, drop, get_or, refl, sym, ap, ◌∙◌}
+use Rattle.std.proofs.Common.{◌≡◌, Bool, true, false, List, [], ◌∷◌, ◌++◌, refl, sym, ap, ◌∙◌}
 use Rattle.std.specs.Prelude.{◌||◌}
 use Rattle.std.specs.List.{flat_map}
 use Rattle.std.specs.Bool.{Decides}
-use Rattle.std.proofs.lemmas.List.{drop_more}
 use Rattle.wt_tree.specs.declared.node.Node.{Node, out-Node}
 use Rattle.wt_tree.specs.Plain.{Face, plain}
 use Rattle.wt_tree.specs.declared.kind.Kind.{Kind}
@@ -11,14 +10,13 @@ use Rattle.wt_tree.specs.Tiling.{is_group}
 use Rattle.wt_tree.specs.Tree.{Tree, label}
 use Rattle.wt_tree.proofs.Views.{view_out}
 use Rattle.wt_tree.specs.Stream.{Sign, signs, signs_of_all}
-use Rattle.wt_tree.specs.View.{view, views, attrs_of}
+use Rattle.wt_tree.specs.View.{view, views}
 use Rattle.wt_tree.proofs.Adding.{attrs_one}
 use Rattle.wt_tree.proofs.Streams.{same_plain, same_signs}
 use Rattle.wt_kept.specs.declared.same.Face.{Face as Pointed}
-use Rattle.wt_kept.specs.declared.same.Shown.{Shown}
 use Rattle.wt_kept.specs.Kept.{Kept}
 use Rattle.wt_kept.specs.Page.{Page, TellsSame, restored, restored_all, is_unchanged}
-use Rattle.wt_kept.specs.PageViews.{face_of, mark_of, marks_of}
+use Rattle.wt_kept.specs.PageViews.{face_of}
 
 pub restored_views : (ks : List Kept) (ns : List Node) → signs_of_all (restored_all ks (views ns)) ≡ flat_map (λ n. signs (restored ks (view n))) ns
 restored_views ks [] = refl
@@ -38,7 +36,8 @@ pub kind_seen : (n : Node) → (label (view n)).kind ≡ (out-Node n).kind
 kind_seen n = ap (λ (t : Tree). (label t).kind) (view_out n)
 
 -- a group of the page
-pub unchanged_group : (p : Page) (k : Kept) (t : Tree) (n : Node) (b : Bool) → k.node ≡ view n → b ≡ is_group (out-Node n).kind → b ≡ true → true ≡ is_unchanged p k t
+pub unchanged_group : (p : Page) (k : Kept) (t : Tree) (n : Node) (b : Bool) → k.node ≡ view n → b ≡ is_group (out-Node n).kind → b ≡ true
+    → true ≡ is_unchanged p k t
 unchanged_group p k t n b e g i =
     let h : is_group (label k.node).kind ≡ true = ap (λ (u : Tree). is_group (label u).kind) e ∙ ap is_group (kind_seen n) ∙ sym g ∙ i in
     sym (ap (λ (c : Bool). c || p.same (restored p.kept t) k.node) h)

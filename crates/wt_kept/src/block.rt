@@ -205,7 +205,8 @@ fn gather_numbered<'t, 'a>(
     out: &mut Gathered<'t, 'a>,
     node: &'t Node<'a>,
 ) -> Result<(), NoMemory>
-    ensures { OnOk result (Adds out.old out.new (flat (view node.now)) (visible (items (view node.now))) (own_found out.old (view node.now) ∷ inside_found out.old (label_of (out-Node node.now)) (views (out-Node node.now).children))) }
+    ensures { OnOk result (Adds out.old out.new (flat (view node.now)) (visible (items (view node.now)))
+        (own_found out.old (view node.now) ∷ inside_found out.old (label_of (out-Node node.now)) (views (out-Node node.now).children))) }
 {
     let index = count(out);
     let spot = begin(out);
@@ -222,7 +223,8 @@ fn gather_inside<'t, 'a>(
     out: &mut Gathered<'t, 'a>,
     node: &'t Node<'a>,
 ) -> Result<(), NoMemory>
-    ensures { OnOk result (Adds out.old out.new (flat (view node.now)) (visible (items (view node.now))) (inside_found out.old (label_of (out-Node node.now)) (views (out-Node node.now).children))) }
+    ensures { OnOk result (Adds out.old out.new (flat (view node.now)) (visible (items (view node.now)))
+        (inside_found out.old (label_of (out-Node node.now)) (views (out-Node node.now).children))) }
 {
     if holds_kept(node.kind) {
         gather_delimited(alloc, out, node)?;
@@ -239,7 +241,8 @@ fn gather_delimited<'t, 'a>(
     node: &'t Node<'a>,
 ) -> Result<(), NoMemory>
     requires { holds_kept (label_of (out-Node node.now)) ≡ true }
-    ensures { OnOk result (Adds out.old out.new (flat (view node.now)) (visible (items (view node.now))) (inside_found out.old (label_of (out-Node node.now)) (views (out-Node node.now).children))) }
+    ensures { OnOk result (Adds out.old out.new (flat (view node.now)) (visible (items (view node.now)))
+        (inside_found out.old (label_of (out-Node node.now)) (views (out-Node node.now).children))) }
 {
     gather_texts(out, node.opening.as_slice())?;
     gather_all(alloc, out, node.children.as_slice())?;
@@ -253,7 +256,8 @@ fn gather_all<'t, 'a>(
     out: &mut Gathered<'t, 'a>,
     nodes: &'t [Node<'a>],
 ) -> Result<(), NoMemory>
-    ensures { OnOk result (Adds out.old out.new (flat_of_all (views nodes.now)) (visible (items_of_all (views nodes.now))) (list_found out.old (views nodes.now))) }
+    ensures { OnOk result (Adds out.old out.new (flat_of_all (views nodes.now)) (visible (items_of_all (views nodes.now)))
+        (list_found out.old (views nodes.now))) }
 {
     for node in nodes {
         gather(alloc, out, node)?;

@@ -50,7 +50,8 @@ fn push_item(out: &mut Vec<Item>, item: Item) -> Result<(), AllocError>
 /// Appends the items of a node that has delimiters round what it holds.
 #[cycle(pushing)]
 fn push_delimited(out: &mut Vec<Item>, node: &Node<'_>) -> Result<(), AllocError>
-    ensures { OnOk result (items_seen out.new.items ≡ items_seen out.old.items ++ items_by item.Delimited (label_of (out-Node node.now)) (items_of_all (views (out-Node node.now).children))) }
+    ensures { OnOk result (items_seen out.new.items
+        ≡ items_seen out.old.items ++ items_by item.Delimited (label_of (out-Node node.now)) (items_of_all (views (out-Node node.now).children))) }
 {
     push_texts(out, node.opening.as_slice())?;
     push_items_of_all(out, node.children.as_slice())?;

@@ -280,7 +280,8 @@ fn url_of(alloc: Global, node: &Node<'_>) -> Result<Role, AllocError>
 }
 
 fn mark_of(alloc: Global, facts: Facts<'_>, spot: Spot, node: &Node<'_>) -> Result<Role, NoMemory>
-    ensures { (block : Tree) → IsFactsOf block facts.entry → IfOk result (λ r. r ≡ role.Mark (ends_with nat_eq (flat (view node.now)) (10 ∷ [])) (began_line block spot)) }
+    ensures { (block : Tree) → IsFactsOf block facts.entry
+        → IfOk result (λ r. r ≡ role.Mark (ends_with nat_eq (flat (view node.now)) (10 ∷ [])) (began_line block spot)) }
 {
     let source = flat(alloc, node)?;
     Ok(Role::Mark {

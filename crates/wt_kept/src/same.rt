@@ -146,7 +146,8 @@ fn show_restored_inside<'n>(
     page: &'n Page<'_, '_>,
     node: &'n Node<'_>,
 ) -> Result<(), AllocError>
-    ensures { OnOk result (marks_of out.new.items ≡ marks_of out.old.items ++ signs (tree (label_of (out-Node node.now)) (restored_all (kept_in page.now) (views (out-Node node.now).children)))) }
+    ensures { OnOk result (marks_of out.new.items
+        ≡ marks_of out.old.items ++ signs (tree (label_of (out-Node node.now)) (restored_all (kept_in page.now) (views (out-Node node.now).children)))) }
 {
     match node.kind.showing() {
         Showing::Characters => push_bytes(out, node.shown.as_str().as_bytes())?,
@@ -310,7 +311,9 @@ fn is_same(
     node: &Node<'_>,
     old: &Node<'_>,
 ) -> Result<bool, AllocError>
-    ensures { IfOk result (λ same. Decides same (((label (restored (kept_in page.now) (view node.now))).kind ≡ (label (view old.now)).kind) × (plain (restored (kept_in page.now) (view node.now)) ≡ plain (view old.now)))) }
+    ensures { IfOk result (λ same. Decides same
+        (((label (restored (kept_in page.now) (view node.now))).kind ≡ (label (view old.now)).kind) ×
+        (plain (restored (kept_in page.now) (view node.now)) ≡ plain (view old.now)))) }
 {
     if !same_kinds(page, node, old) {
         return Ok(false);
@@ -327,7 +330,8 @@ pub fn is_unchanged(
     old: Kept<'_, '_>,
     node: &Node<'_>,
 ) -> Result<bool, AllocError>
-    ensures { (same : Tree → Tree → Bool) → TellsSame same → IfOk result (λ answer. answer ≡ is_unchanged (page_view same page.now) (kept_view old.entry) (view node.now)) }
+    ensures { (same : Tree → Tree → Bool) → TellsSame same
+        → IfOk result (λ answer. answer ≡ is_unchanged (page_view same page.now) (kept_view old.entry) (view node.now)) }
 {
     if is_group(old.node.kind) {
         return Ok(true);

@@ -75,7 +75,8 @@ IsLineCut ps n = full_lines (items ps) ≡ items (take n ps) ∷ full_lines (ite
 
 -- so many pieces are the marks that stand at the front
 abbrev pub AreLeadingMarks : List Piece → ℕ → Type 0
-AreLeadingMarks ps n = (take (prefix_len is_mark (items ps)) (items ps) ≡ items (take n ps)) × (drop (prefix_len is_mark (items ps)) (items ps) ≡ items (drop n ps))
+AreLeadingMarks ps n = (take (prefix_len is_mark (items ps)) (items ps) ≡ items (take n ps)) ×
+    (drop (prefix_len is_mark (items ps)) (items ps) ≡ items (drop n ps))
 
 -- ---- cuts
 

@@ -147,7 +147,8 @@ impl<'p, 'a> Signs<'p, 'a> {
 
     /// What is left after a word, where the word stands there.
     pub fn after(self, word: &[u8]) -> Option<Signs<'p, 'a>>
-        ensures { MatchOption result (begins word.now (left self.entry) ≡ false) (λ r. (begins word.now (left self.entry) ≡ true) × (left r ≡ drop (length word.now) (left self.entry))) }
+        ensures { MatchOption result (begins word.now (left self.entry) ≡ false)
+            (λ r. (begins word.now (left self.entry) ≡ true) × (left r ≡ drop (length word.now) (left self.entry))) }
     {
         let mut rest = self;
         for byte in word {

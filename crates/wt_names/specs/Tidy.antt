@@ -18,7 +18,8 @@ is_no_name_byte b = is_no_fragment_byte b || b == 35
 abbrev pub IsTidyFragment : List ℕ → Type 0
 IsTidyFragment fragment = (list_any is_no_fragment_byte fragment ≡ false) × (trimmed fragment ≡ fragment)
 
--- the name has its bytes, single spaces, no space at its ends and a raised first letter; the name of a title in the main namespace doesn't begin as one of another namespace; the conditions hold
+-- the name has its bytes, single spaces, no space at its ends and a raised first letter; the name of a title in the main namespace
+-- doesn't begin as one of another namespace; the conditions hold
 pub record IsTidy (t : Title) : Type 0 where
   pub bytes : list_any is_no_name_byte t.name ≡ false
   pub single : squeezed t.name ≡ t.name

@@ -80,7 +80,11 @@ li_bordered = record {
   round = record { class = ItemClass; holding = InlinesThenLists; texts = Bordered; shape_is = refl; level = refl; shows = refl };
   texts = refl;
   takes = record { kind = inr refl; stands = λ bs e. refl };
-  parent = record { text = refl; elements = λ k h. inline_held (is_anywhere (shape k).class) _ (or_more (is_class (shape k).class Inline) (is_class (shape k).class Character) (is_class (shape k).class ListClass) h) };
+  parent = record {
+    text = refl;
+    elements = λ k h. inline_held (is_anywhere (shape k).class) _
+        (or_more (is_class (shape k).class Inline) (is_class (shape k).class Character) (is_class (shape k).class ListClass) h);
+  };
   block = refl;
 }
 
@@ -90,7 +94,11 @@ dt_bordered = record {
   round = record { class = Term; holding = InlinesThenLists; texts = Bordered; shape_is = refl; level = refl; shows = refl };
   texts = refl;
   takes = record { kind = inr refl; stands = λ bs e. refl };
-  parent = record { text = refl; elements = λ k h. inline_held (is_anywhere (shape k).class) _ (or_more (is_class (shape k).class Inline) (is_class (shape k).class Character) (is_class (shape k).class ListClass) h) };
+  parent = record {
+    text = refl;
+    elements = λ k h. inline_held (is_anywhere (shape k).class) _
+        (or_more (is_class (shape k).class Inline) (is_class (shape k).class Character) (is_class (shape k).class ListClass) h);
+  };
   block = refl;
 }
 
@@ -100,7 +108,11 @@ dd_bordered = record {
   round = record { class = Term; holding = InlinesThenLists; texts = Bordered; shape_is = refl; level = refl; shows = refl };
   texts = refl;
   takes = record { kind = inr refl; stands = λ bs e. refl };
-  parent = record { text = refl; elements = λ k h. inline_held (is_anywhere (shape k).class) _ (or_more (is_class (shape k).class Inline) (is_class (shape k).class Character) (is_class (shape k).class ListClass) h) };
+  parent = record {
+    text = refl;
+    elements = λ k h. inline_held (is_anywhere (shape k).class) _
+        (or_more (is_class (shape k).class Inline) (is_class (shape k).class Character) (is_class (shape k).class ListClass) h);
+  };
   block = refl;
 }
 
@@ -158,9 +170,24 @@ item_lists : (c : ℕ) → HoldsLists (item_kind c)
 item_lists c = by_test (c == 59) (c == 58)
   where
     by_test : (a b : Bool) → HoldsLists (if a then kind.Dt else if b then kind.Dd else kind.Li)
-    by_test true b = record { ul = record { held = refl; shows = λ e. refl }; ol = record { held = refl; shows = λ e. refl }; dl = record { held = refl; shows = λ e. refl } }
-    by_test false true = record { ul = record { held = refl; shows = λ e. refl }; ol = record { held = refl; shows = λ e. refl }; dl = record { held = refl; shows = λ e. refl } }
-    by_test false false = record { ul = record { held = refl; shows = λ e. refl }; ol = record { held = refl; shows = λ e. refl }; dl = record { held = refl; shows = λ e. refl } }
+    by_test true b = record {
+      ul = record { held = refl; shows = λ e. refl };
+      ol = record { held = refl; shows = λ e. refl };
+      dl = record
+          { held = refl; shows = λ e. refl };
+    }
+    by_test false true = record {
+      ul = record { held = refl; shows = λ e. refl };
+      ol = record { held = refl; shows = λ e. refl };
+      dl = record
+          { held = refl; shows = λ e. refl };
+    }
+    by_test false false = record {
+      ul = record { held = refl; shows = λ e. refl };
+      ol = record { held = refl; shows = λ e. refl };
+      dl = record
+          { held = refl; shows = λ e. refl };
+    }
 
 -- a list holds the items of its sign
 fits : (c : ℕ) → is_list_sign c ≡ true → may_hold (list_kind c) (item_kind c) ≡ true
@@ -248,7 +275,8 @@ item_placed k c d l same (Some n) opening xs o h u is e ss g f a small =
     let unbroken : IsUnbroken (drop m rest) = all_dropped (λ x. is_break_item x ≡ false) m rest (all_dropped (λ x. is_break_item x ≡ false) n xs u) in (
       term_in k (list_kind c) opening (take n xs) o t.term (all_taken (λ x. is_break_item x ≡ false) n xs u) small (item_stands c 59 refl definitions),
       line_opened k (list_kind c) kind.Dd dd_bordered [] (take m rest) (item_box 58 (take m rest) (items_utf8 (take m rest) t.colon)) (drop m rest) t.rest
-          (line_items (drop m rest) t.rest unbroken) (gap e ∷ ss) (g, a kind.Dd (item_lists 58)) (breaks_first e ss f) small (item_stands c 58 refl definitions),
+          (line_items (drop m rest) t.rest unbroken) (gap e ∷ ss) (g, a kind.Dd (item_lists 58)) (breaks_first e ss f) small
+          (item_stands c 58 refl definitions),
     )
 
 line_placed : (k c d : ℕ) → is_list_sign d ≡ true → list_kind d ≡ list_kind c → (r : Row) → IsGoodRow r → IsUnbroken r.items → (ss : List Stretch)
@@ -387,7 +415,8 @@ item_by_lines rs n h k c small l ms true e g a f w same =
     (h (suc k) (item_kind (sign_of l)) (item_lists (sign_of l)) small ls (lines_inner rs n (l ∷ ms) (e, g) f a) (short_inner n (l ∷ ms) (e, g) f)
     (ended_inner rs (l ∷ ms) w))
     (omega (arith, small)) (item_stands c (sign_of l) sign same)))
-item_by_lines rs n h k c small l ms false e g a f w same = rw (all_stay ms g) (by_test (begins_at l.number (list_forest (nested_lists n (map without_sign ms)))))
+item_by_lines rs n h k c small l ms false e g a f w same = rw (all_stay ms g)
+    (by_test (begins_at l.number (list_forest (nested_lists n (map without_sign ms)))))
   where
     ls : List ListLine
     ls = map without_sign ms

@@ -166,7 +166,8 @@ row_styles xs h e =
     let at : get_or (signs xs) 0 0 ≡ 124 = begins_get (codes "|-") (signs xs) e 0 (omega arith) in
     let n : ℕ = prefix_len is_dash (drop 1 (signs xs)) in
     let dashes : AllByRecursion IsLowItem (take n (drop 1 xs)) =
-    subst (λ (ss : List ℕ). AllByRecursion IsLowItem (take (prefix_len is_dash ss) (drop 1 xs))) (sym (drop-map sign 1 xs)) (passing_low is_dash dash_low (drop 1 xs)) in
+    subst (λ (ss : List ℕ). AllByRecursion IsLowItem (take (prefix_len is_dash ss) (drop 1 xs))) (sym (drop-map sign 1 xs))
+    (passing_low is_dash dash_low (drop 1 xs)) in
     let low : AllByRecursion IsLowItem (take (1 + n) xs) = more_taken IsLowItem 1 n xs (first_low xs (omega (arith, at))) dashes in
     let behind : ArePageItems (drop (row_sign_len (signs xs)) xs) = (behind_items (1 + n) xs h (low_ends (take (1 + n) xs) low)).1 in
     subst (λ m. AreStyles (attributes (drop (row_sign_len (signs (drop m xs))) (drop m xs)))) (sym (first_seen (codes "|-") xs e (omega arith) refl))
@@ -222,7 +223,12 @@ pub record HoldsBlocks (q : Kind) : Type 0 where
 
 pub body_blocks : HoldsBlocks kind.Body
 body_blocks = record {
-  lists = record { ul = record { held = refl; shows = λ e. refl }; ol = record { held = refl; shows = λ e. refl }; dl = record { held = refl; shows = λ e. refl } };
+  lists = record {
+    ul = record { held = refl; shows = λ e. refl };
+    ol = record { held = refl; shows = λ e. refl };
+    dl = record
+        { held = refl; shows = λ e. refl };
+  };
   para = record { held = refl; shows = λ e. refl };
   pre = record { held = refl; shows = λ e. refl };
   rule = record { held = refl; shows = λ e. refl };
@@ -232,7 +238,12 @@ body_blocks = record {
 
 cell_blocks : (caption header : Bool) → HoldsBlocks (cell_kind caption header)
 cell_blocks true header = record {
-  lists = record { ul = record { held = refl; shows = λ e. refl }; ol = record { held = refl; shows = λ e. refl }; dl = record { held = refl; shows = λ e. refl } };
+  lists = record {
+    ul = record { held = refl; shows = λ e. refl };
+    ol = record { held = refl; shows = λ e. refl };
+    dl = record
+        { held = refl; shows = λ e. refl };
+  };
   para = record { held = refl; shows = λ e. refl };
   pre = record { held = refl; shows = λ e. refl };
   rule = record { held = refl; shows = λ e. refl };
@@ -240,7 +251,12 @@ cell_blocks true header = record {
   heading = λ n. record { held = refl; shows = λ e. refl };
 }
 cell_blocks false true = record {
-  lists = record { ul = record { held = refl; shows = λ e. refl }; ol = record { held = refl; shows = λ e. refl }; dl = record { held = refl; shows = λ e. refl } };
+  lists = record {
+    ul = record { held = refl; shows = λ e. refl };
+    ol = record { held = refl; shows = λ e. refl };
+    dl = record
+        { held = refl; shows = λ e. refl };
+  };
   para = record { held = refl; shows = λ e. refl };
   pre = record { held = refl; shows = λ e. refl };
   rule = record { held = refl; shows = λ e. refl };
@@ -248,7 +264,12 @@ cell_blocks false true = record {
   heading = λ n. record { held = refl; shows = λ e. refl };
 }
 cell_blocks false false = record {
-  lists = record { ul = record { held = refl; shows = λ e. refl }; ol = record { held = refl; shows = λ e. refl }; dl = record { held = refl; shows = λ e. refl } };
+  lists = record {
+    ul = record { held = refl; shows = λ e. refl };
+    ol = record { held = refl; shows = λ e. refl };
+    dl = record
+        { held = refl; shows = λ e. refl };
+  };
   para = record { held = refl; shows = λ e. refl };
   pre = record { held = refl; shows = λ e. refl };
   rule = record { held = refl; shows = λ e. refl };
@@ -360,7 +381,8 @@ table_by_placed read m i k parent s small t h end g =
       lead_gap rs h.delimiter,
       (
         holder_node k parent kind.Table table_holder attrs (delimiter rs) end.items
-            (table_box attrs (delimiter rs) end.items (open_styles (first_items rs) h.first h.opens) (delimiter_utf8 rs h.delimiter) (items_utf8 end.items g.items))
+            (table_box attrs (delimiter rs) end.items (open_styles (first_items rs) h.first h.opens) (delimiter_utf8 rs h.delimiter)
+            (items_utf8 end.items g.items))
             (behind_delimiter rs ++ (table_inside read t ++ (gap end.lead ∷ []))) (omega (arith, small)) s all,
         (g.ending, tt),
       ),

@@ -160,7 +160,8 @@ front_word ss e =
     let at : get_or ss 0 0 ≡ 124 = begins_get (codes "|+") ss e 0 (omega arith) in
     record { some = omega arith; within = omega (arith, le); low = omega (arith, at) }
 
-cells_seen : (k : LineKind) (xs : List Item) → IsSeen k xs → is_row k ≡ false → begins_part k ≡ true → IsUnbroken xs × HasSign 1 (signs xs) × (needs_end k ≡ true)
+cells_seen : (k : LineKind) (xs : List Item) → IsSeen k xs → is_row k ≡ false → begins_part k ≡ true
+    → IsUnbroken xs × HasSign 1 (signs xs) × (needs_end k ≡ true)
 cells_seen line.Caption xs s e f = (s.0, front_word (signs xs) s.1, refl)
 cells_seen line.Row xs s e f = absurd cc
 cells_seen line.Cell xs s e f = (s.0, word_sign (codes "|") (signs xs) (omega arith) (omega arith) s.1, refl)

@@ -18,7 +18,8 @@ ghost use Rattle.wt_page_round_trip.specs.PageTree.{page_tree};
 /// has; forms that aren't built are read as text.
 pub fn page_is_read()
     ensures written { (bytes : List ℕ) → IsUtf8 bytes → length bytes < 2 ^ 31 → HasNoGroup (page_tree bytes) → IsWritten (page_tree bytes) }
-    ensures read { (bytes : List ℕ) → IsUtf8 bytes → length bytes < 2 ^ 31 → HasNoGroup (page_tree bytes) → read (html_text (page_tree bytes)) ≡ page (unranged (page_tree bytes)) None }
+    ensures read { (bytes : List ℕ) → IsUtf8 bytes → length bytes < 2 ^ 31 → HasNoGroup (page_tree bytes)
+        → read (html_text (page_tree bytes)) ≡ page (unranged (page_tree bytes)) None }
     ensures source { (bytes : List ℕ) → flat (unranged (page_tree bytes)) ≡ bytes }
 {}
 

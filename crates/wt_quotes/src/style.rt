@@ -183,7 +183,8 @@ fn push_both(
 ) -> Result<(), NoMemory>
     requires fits { Fits total turn.now }
     requires fit { All (Fits total) turns.now }
-    ensures { OnOk result (styles.new ≡ styles.old ++ (begun turn.now.bold_outside total turn.now turns.now ++ begun (not turn.now.bold_outside) total turn.now turns.now)) }
+    ensures { OnOk result (styles.new ≡ styles.old
+        ++ (begun turn.now.bold_outside total turn.now turns.now ++ begun (not turn.now.bold_outside) total turn.now turns.now)) }
 {
     push_begun(styles, turn.bold_outside, total, turn, turns)?;
     push_begun(styles, !turn.bold_outside, total, turn, turns)?;

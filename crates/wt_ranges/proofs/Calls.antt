@@ -182,5 +182,6 @@ mutual
             (behind all n (tree_items t) (held_by_all ts ++ after) one),
       )
 
-pub all_calls : (t : ItemTree) → is_clean (tree_items t) 0 t ≡ true → calls_in_groups (tree_items t) (grouped (tree_items t) 0 t) ≡ begun (tree_items t) 0 (length (tree_items t))
+pub all_calls : (t : ItemTree) → is_clean (tree_items t) 0 t ≡ true
+    → calls_in_groups (tree_items t) (grouped (tree_items t) 0 t) ≡ begun (tree_items t) 0 (length (tree_items t))
 all_calls t q = calls_at (tree_items t) 0 t [] (sym (append-nil (tree_items t))) q

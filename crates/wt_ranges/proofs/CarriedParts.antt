@@ -12,7 +12,7 @@ use Rattle.wt_span.specs.Slice.{bytes_of}
 use Rattle.wt_ranges.specs.declared.carried.Found.{Found}
 use Rattle.wt_ranges.specs.DataSoFar.{begins_at, TextFound, CallFound, all_parts, nothing_found, Continues}
 use Rattle.wt_ranges.specs.GroupData.{call_parts, next_number, data_parts, group_data, literal_if_any}
-use Rattle.wt_ranges.specs.GroupParts.{Part, called, between}
+use Rattle.wt_ranges.specs.GroupParts.{Part, called}
 use Rattle.wt_ranges.specs.Pieces.{is_hollow}
 use Rattle.wt_ranges.specs.Seams.{last_of, parted}
 use Rattle.wt_ranges.specs.Walked.{longer, slice_since, part_step, parts_from}

@@ -70,7 +70,8 @@ near_child calls o at p t = record {
 
 abbrev pub nears_from : List OuterCall → Option ℕ → ℕ → List Pair → List Near
 nears_from calls o at [] = []
-nears_from calls o at (b ∷ bs) = near_child calls o at b.1 b.0 ∷ nears_from calls (last_of o (tree_items b.0)) (at + length (text_from calls o (tree_items b.0))) bs
+nears_from calls o at (b ∷ bs) = near_child calls o at b.1 b.0 ∷ nears_from calls (last_of o (tree_items b.0))
+    (at + length (text_from calls o (tree_items b.0))) bs
 
 abbrev pub held_from : List Pair → List Item
 held_from [] = []

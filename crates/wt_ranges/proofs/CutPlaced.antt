@@ -1,11 +1,11 @@
 -- What is known of a placed tree before its texts are cut: no text has a closing delimiter, and no leaf but a group has children.
-use Rattle.std.proofs.Common.{◌≡◌, ℕ, ◌+◌, Bool, true, false, List, [], refl, ap, subst, cond}
+use Rattle.std.proofs.Common.{◌≡◌, ℕ, ◌+◌, Bool, true, false, List, [], refl, ap}
 use Rattle.wt_tree.specs.declared.kind.Kind.{Kind}
 use Rattle.wt_tree.specs.declared.kind.Kind.TheVariants as kind
 use Rattle.wt_tree.specs.Kinds.{writing, is_leaf}
 use Rattle.wt_tree.specs.Recut.{is_as_text}
 use Rattle.wt_tree.specs.Tiling.{is_group}
-use Rattle.wt_tree.specs.Tree.{Trees, none}
+use Rattle.wt_tree.specs.Tree.{Trees}
 use Rattle.wt_span.specs.Cuts.{text_between}
 use Rattle.wt_span.specs.Items.{Item}
 use Rattle.wt_span.specs.Origins.{OuterCall}

@@ -111,7 +111,8 @@ sits_rest calls o at (c ∷ cs) ds s =
     let b : at + length (text_from calls o (tree_items c.tree)) + bytes_of_all calls (last_of o (tree_items c.tree)) cs ≡ at + bytes_of_all calls o (c ∷ cs) =
     omega (arith, bytes_more calls o (tree_items c.tree) (held_by_all (near_nodes cs))) in
     subst (λ (n : ℕ). Sits calls (last_of o (held_by_all (near_nodes (c ∷ cs)))) n ds) b
-    (subst (λ (q : Option ℕ). Sits calls q (at + length (text_from calls o (tree_items c.tree)) + bytes_of_all calls (last_of o (tree_items c.tree)) cs) ds) a r)
+    (subst (λ (q : Option ℕ). Sits calls q (at + length (text_from calls o (tree_items c.tree)) + bytes_of_all calls (last_of o (tree_items c.tree)) cs) ds)
+    a r)
 
 bytes_parts : (calls : List OuterCall) (o : Option ℕ) (cs ds : List Near)
     → bytes_of_all calls o (cs ++ ds) ≡ bytes_of_all calls o cs + bytes_of_all calls (last_of o (held_by_all (near_nodes cs))) ds

@@ -97,7 +97,13 @@ inner_kept calls c f ns u e g h v =
     ∙ ap (λ at. us (opened c.before n) at f.after) g.byte ∙ ap (λ a. us (opened c.before n) (c.byte + length front) a) g.after in
     let source : List ℕ = text_from calls c.before (tree_items (inner k o ts d)) in
     let r : frame_ranges calls c ≡ record { start = c.byte; end = c.byte + length source; open_w = length front; close_w = length back } =
-    ap (λ (x : ItemTree). record { start = c.byte; end = c.byte + length (text_from calls c.before (tree_items x)); open_w = length front; close_w = length back })
+    ap (λ (x : ItemTree). record {
+      start = c.byte;
+      end = c.byte + length
+          (text_from calls c.before (tree_items x));
+      open_w = length front;
+      close_w = length back;
+    })
     (item_tree_out n) in
     h
     ∙ ap (λ (x : Ranges). tree (node_label k (Some x) (texts_of f.sources.opening) (texts_of f.sources.closing) (texts_of f.sources.own)) (views ns))
@@ -123,7 +129,8 @@ parts_fit calls o n =
     let a : List Item = items (out-PieceTree n).opening in
     let i : List Item = held_by_all (forest (item_trees (out-PieceTree n).children)) in
     let d : List Item = items (out-PieceTree n).closing in
-    let e : text_from calls o (tree_items (item_tree n)) ≡ text_from calls o a ++ (text_from calls (last_of o a) i ++ text_from calls (last_of (last_of o a) i) d) =
+    let e : text_from calls o (tree_items (item_tree n))
+    ≡ text_from calls o a ++ (text_from calls (last_of o a) i ++ text_from calls (last_of (last_of o a) i) d) =
     ap (λ t. text_from calls o (tree_items t)) (item_tree_out n) ∙ text_append_from calls o a (i ++ d)
     ∙ ap (λ bs. text_from calls o a ++ bs) (text_append_from calls (last_of o a) i d) in
     omega (

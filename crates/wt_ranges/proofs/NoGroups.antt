@@ -1,13 +1,13 @@
 -- A page's tree without groups comes of items of the page alone, and has no empty node.
-use Rattle.std.proofs.Common.{◌≡◌, ℕ, ◌+◌, Bool, true, false, Option, List, [], ◌∷◌, ◌++◌, length, map, refl, sym, ap, ◌∙◌, subst, cond}
+use Rattle.std.proofs.Common.{◌≡◌, ℕ, ◌+◌, Bool, true, false, Option, List, [], ◌∷◌, ◌++◌, length, refl, sym, subst, cond}
 use Rattle.std.specs.Prelude.{◌&&◌, ◌||◌}
 use Rattle.std.specs.List.{AllByRecursion, flat_map, list_all}
 use Rattle.wt_tree.specs.declared.kind.Kind.TheVariants as kind
 use Rattle.wt_tree.specs.declared.kind.Ranges.{Ranges}
 use Rattle.wt_tree.specs.declared.row.Texts.{Texts}
 use Rattle.wt_tree.specs.declared.row.Texts.TheVariants.{Separators, Page, Bordered, OwnCharacter}
-use Rattle.wt_tree.specs.Kinds.{writing, is_leaf, texts_of_kind}
-use Rattle.wt_tree.specs.Recut.{is_as_text, is_blank, is_text, is_border, leads_to_block, front_ranges, rest_ranges, joined_ranges, text_leaf, sep_leaf, text_onto, joined_texts, from_start, front_of, rest_of, parts_before, text_before, cut_from}
+use Rattle.wt_tree.specs.Kinds.{is_leaf, texts_of_kind}
+use Rattle.wt_tree.specs.Recut.{is_blank, is_text, is_border, leads_to_block, front_ranges, rest_ranges, joined_ranges, text_leaf, sep_leaf, text_onto, joined_texts, from_start, front_of, rest_of, parts_before, text_before, cut_from}
 use Rattle.wt_tree.specs.Tiling.{is_group}
 use Rattle.wt_tree.specs.Tree.{Tree, tree, Trees, none, more, label}
 use Rattle.wt_span.specs.Cuts.{is_free}

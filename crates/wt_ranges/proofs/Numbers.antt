@@ -9,12 +9,12 @@ use Rattle.wt_tree.specs.Tree.{Tree, tree, Trees, none, more}
 use Rattle.wt_tree.specs.Tiling.{is_group, numbers, numbers_of_all, ids, ids_of_all, others, others_of_all, InPreorder}
 use Rattle.wt_span.specs.Items.{Item}
 use Rattle.wt_span.specs.Origins.{OuterCall}
-use Rattle.wt_inline.specs.ItemTree.{ItemTree, inner, ItemTrees, nothing, further, tree_items}
+use Rattle.wt_inline.specs.ItemTree.{ItemTree, inner, ItemTrees, nothing, further}
 use Rattle.wt_ranges.specs.Labels.{label_at}
 use Rattle.wt_ranges.specs.Numbering.{next_after, count, count_all, with_numbers, all_with_numbers}
 use Rattle.wt_ranges.specs.WithoutCalls.{inside_by}
-use Rattle.wt_ranges.specs.Grouped.{Grouped, kept, group, GroupedAll, ended, along, grouped}
-use Rattle.wt_ranges.specs.Annotated.{unplaced, all_unplaced, placed, all_placed, annotated}
+use Rattle.wt_ranges.specs.Grouped.{Grouped, kept, group, GroupedAll, ended, along}
+use Rattle.wt_ranges.specs.Annotated.{unplaced, all_unplaced, placed, all_placed}
 use Rattle.wt_ranges.proofs.Tiles.{Carried, group_leaf}
 
 -- ---- those that have one

@@ -1,5 +1,5 @@
 -- Without calls no more stands on the page than the items have as source.
-use Rattle.std.proofs.Common.{◌≡◌, ℕ, zero, suc, ◌≤◌, Bool, true, false, Option, Some, None, List, [], ◌∷◌, ◌++◌, length, ap, cond, arith, length-append}
+use Rattle.std.proofs.Common.{ℕ, zero, suc, ◌≤◌, Bool, true, false, Option, Some, None, List, [], ◌∷◌, length, ap, cond, arith, length-append}
 use Rattle.wt_span.specs.Cuts.{page_of, text_by}
 use Rattle.wt_span.specs.Items.{Item, source, sources, call_of}
 use Rattle.wt_span.specs.Origins.{OuterCall}

@@ -1,5 +1,5 @@
 -- Slices of a page, joined and parted.
-use Rattle.std.proofs.Common.{◌≡◌, ℕ, zero, suc, ◌+◌, ◌-◌, ◌≤◌, List, [], ◌∷◌, ◌++◌, length, take, drop, refl, sym, ap, ◌∙◌, arith, length-append, length-take, length-drop}
+use Rattle.std.proofs.Common.{◌≡◌, ℕ, zero, suc, ◌-◌, ◌≤◌, List, [], ◌∷◌, ◌++◌, length, take, drop, refl, sym, ap, ◌∙◌, arith, length-take, length-drop}
 use Rattle.wt_ranges.specs.Slices.{slice}
 
 take_front : (xs ys : List ℕ) → take (length xs) (xs ++ ys) ≡ xs

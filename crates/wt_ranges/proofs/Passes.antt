@@ -69,7 +69,8 @@ leaf_made at next place number k o c ts u e f p n = record {
   number_is = n ∙ number_leaf k o c ts next e;
 }
 
-inside_cut : (g is : Bool) (x : Texts) (us : Trees) → (g ≡ true → is ≡ true) → is ≡ false → (if g then us else cut_as x (all_cut_texts us)) ≡ cut_as x (all_cut_texts us)
+inside_cut : (g is : Bool) (x : Texts) (us : Trees) → (g ≡ true → is ≡ true) → is ≡ false
+    → (if g then us else cut_as x (all_cut_texts us)) ≡ cut_as x (all_cut_texts us)
 inside_cut true true x us h e = cc
 inside_cut true false x us h e = absurd (let f : false ≡ true = h refl in cc)
 inside_cut false is x us h e = refl

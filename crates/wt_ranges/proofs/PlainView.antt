@@ -5,7 +5,7 @@ use Rattle.wt_tree.specs.declared.kind.Showing.TheVariants.{Characters, Inside, 
 use Rattle.wt_tree.specs.Kinds.{showing, is_leaf}
 use Rattle.wt_tree.specs.Tiling.{is_group}
 use Rattle.wt_tree.specs.Tree.{Label, Tree, tree, Trees, none, more}
-use Rattle.wt_tree.specs.Plain.{Face, face, Plains, ended as end, text_before, along as beside, element, shown_before, plain, plain_before, plains_before}
+use Rattle.wt_tree.specs.Plain.{Face, face, Plains, ended as end, text_before, along as beside, element, shown_before, plain_before, plains_before}
 use Rattle.wt_span.specs.Items.{Item}
 use Rattle.wt_span.specs.Origins.{OuterCall}
 use Rattle.wt_span.specs.Cuts.{place, text_between}
@@ -16,7 +16,7 @@ use Rattle.wt_ranges.specs.Labels.{label_at}
 use Rattle.wt_ranges.specs.Numbering.{number_of, next_after, count, with_id, with_numbers, all_with_numbers}
 use Rattle.wt_ranges.specs.WithoutCalls.{inside_by}
 use Rattle.wt_ranges.specs.Grouped.{group, Child, is_tied, nodes_of, of_runs, grouped, children}
-use Rattle.wt_ranges.specs.Annotated.{no_place, unplaced, all_unplaced, kept_label, placed, all_placed, annotated}
+use Rattle.wt_ranges.specs.Annotated.{no_place, unplaced, all_unplaced, kept_label, placed, all_placed}
 use Rattle.wt_ranges.proofs.Tiles.{Carried}
 
 -- ---- one node

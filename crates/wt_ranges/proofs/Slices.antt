@@ -10,16 +10,14 @@ use Rattle.wt_tree.specs.Tree.{Label, Tree, tree, Trees, none, more}
 use Rattle.wt_span.specs.Items.{Item}
 use Rattle.wt_span.specs.Origins.{OuterCall}
 use Rattle.wt_span.specs.Cuts.{place, text_between, page_of}
-use Rattle.wt_inline.specs.ItemTree.{Head, ItemTree, tree_items}
+use Rattle.wt_inline.specs.ItemTree.{Head}
 use Rattle.wt_ranges.specs.Labels.{leaf_open}
 use Rattle.wt_ranges.specs.Numbering.{number_of, next_after, count, with_id, with_numbers, all_with_numbers}
 use Rattle.wt_ranges.specs.WithoutCalls.{inside_by}
 use Rattle.wt_ranges.specs.Slices.{slice, opening_by, StandsAt, StandsIn, IsSlice}
-use Rattle.wt_ranges.specs.Clean.{is_clean}
-use Rattle.wt_ranges.specs.Grouped.{Grouped, kept, group, GroupedAll, ended, along, grouped}
-use Rattle.wt_ranges.specs.Annotated.{open_by, kept_label, placed, all_placed, annotated}
+use Rattle.wt_ranges.specs.Grouped.{Grouped, kept, group, GroupedAll, ended, along}
+use Rattle.wt_ranges.specs.Annotated.{open_by, kept_label, placed, all_placed}
 use Rattle.wt_ranges.specs.Reached.{reached, reached_in_all, AreReachedSlices, start_of, size_of, Fills, FillFrom}
-use Rattle.wt_ranges.proofs.Ends.{start_is, size_is, stand}
 use Rattle.wt_ranges.proofs.Places.{place_between, text_append}
 use Rattle.wt_ranges.proofs.Tiles.{Carried, source, fill_up, flat_numbered}
 

@@ -10,17 +10,15 @@ use Rattle.wt_tree.specs.Tree.{Tree, tree, Trees, none, more, label}
 use Rattle.wt_tree.specs.Tiling.{BeginsAt, end_of, TiledBy, Tiled, TiledFrom, is_group}
 use Rattle.wt_span.specs.Items.{Item}
 use Rattle.wt_span.specs.Origins.{OuterCall}
-use Rattle.wt_span.specs.Cuts.{place, text_between, page_of}
-use Rattle.wt_inline.specs.ItemTree.{Head, ItemTree, tree_items}
+use Rattle.wt_span.specs.Cuts.{place, text_between}
+use Rattle.wt_inline.specs.ItemTree.{Head}
 use Rattle.wt_ranges.specs.Labels.{if_leaf, if_inner}
 use Rattle.wt_ranges.specs.Numbering.{next_after, count, with_numbers, all_with_numbers}
 use Rattle.wt_ranges.specs.WithoutCalls.{inside_by}
-use Rattle.wt_ranges.specs.Clean.{is_clean}
-use Rattle.wt_ranges.specs.Grouped.{Grouped, kept, group, GroupedAll, ended, along, grouped}
+use Rattle.wt_ranges.specs.Grouped.{Grouped, kept, group, GroupedAll, ended, along}
 use Rattle.wt_ranges.specs.GroupParts.{Part}
-use Rattle.wt_ranges.specs.Annotated.{kept_label, placed, all_placed, annotated}
+use Rattle.wt_ranges.specs.Annotated.{kept_label, placed, all_placed}
 use Rattle.wt_ranges.specs.Reached.{start_of, size_of, Fills, FillFrom}
-use Rattle.wt_ranges.proofs.Ends.{start_is, size_is, stand}
 use Rattle.wt_ranges.proofs.Places.{place_between, text_append, text_three, width_three}
 
 abbrev pub Carried : Type 0

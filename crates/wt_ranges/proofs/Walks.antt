@@ -134,7 +134,8 @@ group_is calls carried all n k ts us after e l m =
     ∙ ap (λ ps. tree (group_label (place calls all n) (text_between calls all n k) (carried ps)) (all_unplaced ts))
     (sym (parts_are calls all n (held_by_all ts) after e) ∙ ap (parts calls all n) (sym l))
 
-one_is : (calls : List OuterCall) (carried : Carried) (all : List Item) (c : Child) (after : List Item) (v : Bool) → drop c.from all ≡ tree_items c.tree ++ after
+one_is : (calls : List OuterCall) (carried : Carried) (all : List Item) (c : Child) (after : List Item) (v : Bool)
+    → drop c.from all ≡ tree_items c.tree ++ after
     → c.size ≡ length (tree_items c.tree)
     → cond v (placed calls carried all c.whole) (group_at calls carried (before_call all c.from) (place calls all c.from) (further c.tree nothing))
     ≡ placed calls carried all (cond v c.whole (group c.from c.size (further c.tree nothing)))
@@ -277,7 +278,8 @@ mutual
       ∙ sym (place_between calls all (length (tree_items t)) n) in
       let p : Option ℕ = after_call all (n + length (tree_items t ++ held_by_all ts)) in
       ap (λ q. near_one calls carried (before_call all n) (place calls all n) q t
-      ∷ near calls carried (last_of (before_call all n) (tree_items t)) (place calls all n + length (text_from calls (before_call all n) (tree_items t))) p ts) a2
+      ∷ near calls carried (last_of (before_call all n) (tree_items t))
+      (place calls all n + length (text_from calls (before_call all n) (tree_items t))) p ts) a2
       ∙ ap (λ q. near_one calls carried (before_call all n) (place calls all n) (after_call all (n + length (tree_items t))) t
       ∷ near calls carried q (place calls all n + length (text_from calls (before_call all n) (tree_items t))) p ts) b2
       ∙ ap (λ m. near_one calls carried (before_call all n) (place calls all n) (after_call all (n + length (tree_items t))) t
@@ -292,6 +294,7 @@ mutual
 pub walk_all : (calls : List OuterCall) (carried : Carried) (t : ItemTree)
     → walked calls carried None 0 None t ≡ placed calls carried (tree_items t) (grouped (tree_items t) 0 t)
 walk_all calls carried t =
-    let end : after_call (tree_items t) (0 + length (tree_items t)) ≡ None = let z : 0 + length (tree_items t) ≡ length (tree_items t) = omega arith in ap (after_call (tree_items t)) z
+    let end : after_call (tree_items t) (0 + length (tree_items t)) ≡ None = let z : 0 + length (tree_items t)
+    ≡ length (tree_items t) = omega arith in ap (after_call (tree_items t)) z
     ∙ none_is (tree_items t) in
     ap (λ p. walked calls carried None 0 p t) (sym end) ∙ walk calls carried (tree_items t) 0 t [] (sym (append-nil (tree_items t)))

@@ -10,11 +10,10 @@ use Rattle.wt_span.specs.Cuts.{call_of_item, is_free, text_by, origin_text, page
 use Rattle.wt_span.specs.Runs.{put, runs}
 use Rattle.wt_inline.specs.ItemTree.{Head, ItemTree, inner, ItemTrees, nothing, further, tree_items, held_by_all}
 use Rattle.wt_ranges.specs.Labels.{width, label_at}
-use Rattle.wt_ranges.specs.Numbering.{with_numbers}
 use Rattle.wt_ranges.specs.WithoutCalls.{inside_by, placed as placed_behind, all_placed as all_placed_behind, InsideOf, holds_page, NoneEmpty, AllNonEmpty}
-use Rattle.wt_ranges.specs.Clean.{is_no_call, is_page, is_body, own_by, is_clean}
+use Rattle.wt_ranges.specs.Clean.{is_no_call, is_page, own_by, is_clean}
 use Rattle.wt_ranges.specs.Grouped.{group, Child, is_tied, of_runs, grouped, children}
-use Rattle.wt_ranges.specs.Annotated.{kept_label, placed, all_placed, annotated}
+use Rattle.wt_ranges.specs.Annotated.{kept_label, placed, all_placed}
 use Rattle.wt_ranges.proofs.Calls.{at_get, at_rest, all_split}
 use Rattle.wt_ranges.proofs.Ends.{false_true, both}
 use Rattle.wt_ranges.proofs.Slices.{place_is}
@@ -126,7 +125,8 @@ inside_same true us vs A m e = refl
 inside_same false us vs A m e = e m
 
 mutual
-  pub same_placed : (calls : List OuterCall) (carried : Carried) (all before after : List Item) (t : ItemTree) → all ≡ before ++ (tree_items t ++ after) → OfPage all
+  pub same_placed : (calls : List OuterCall) (carried : Carried) (all before after : List Item) (t : ItemTree) → all ≡ before ++ (tree_items t ++ after)
+      → OfPage all
       → NoneEmpty t
       → placed calls carried all (grouped all (length before) t) ≡ placed_behind before t
   same_placed calls carried all before after (inner h o ts c) e p m =
@@ -170,7 +170,8 @@ mutual
   all_same calls carried all before after nothing e p m = refl
   all_same calls carried all before after (further t ts) e p m =
       let n : ℕ = length before in
-      let first : all ≡ before ++ (tree_items t ++ (held_by_all ts ++ after)) = e ∙ ap (λ xs. before ++ xs) (append_assoc (tree_items t) (held_by_all ts) after) in
+      let first : all ≡ before ++ (tree_items t ++ (held_by_all ts ++ after)) = e
+      ∙ ap (λ xs. before ++ xs) (append_assoc (tree_items t) (held_by_all ts) after) in
       let rest : all ≡ (before ++ tree_items t) ++ (held_by_all ts ++ after) = first ∙ sym (append_assoc before (tree_items t) (held_by_all ts ++ after)) in
       let k : length (before ++ tree_items t) ≡ n + length (tree_items t) = length-append before (tree_items t) in
       let clean : is_clean all n t ≡ true = all_clean all n t p (part_page all before (tree_items t) (held_by_all ts ++ after) first p) m.0 in

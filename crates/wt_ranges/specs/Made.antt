@@ -14,7 +14,8 @@ use Rattle.wt_ranges.specs.WithoutCalls.{inside_by}
 abbrev mutual
   pub annotated_at : ℕ → ℕ → ItemTree → Tree
   annotated_at at next (inner h opening ts closing) =
-      tree (label_at at (number_of h.kind next) (is_leaf h.kind) h opening (opening ++ (held_by_all ts ++ closing)) closing) (inside_by (is_leaf h.kind) (all_annotated_at (at + width opening) (next_after h.kind next) ts))
+      tree (label_at at (number_of h.kind next) (is_leaf h.kind) h opening (opening ++ (held_by_all ts ++ closing)) closing)
+      (inside_by (is_leaf h.kind) (all_annotated_at (at + width opening) (next_after h.kind next) ts))
 
   pub all_annotated_at : ℕ → ℕ → ItemTrees → Trees
   all_annotated_at at next nothing = none

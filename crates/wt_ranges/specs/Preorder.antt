@@ -1,5 +1,5 @@
 -- That numbers are in preorder can hold in one way only, so that a value may keep it as it is.
-use Rattle.std.specs.Prelude.{◌≡◌, ℕ, length, All}
+use Rattle.std.specs.Prelude.{◌≡◌, length, All}
 use Rattle.std.specs.List.{range_with_len}
 use Rattle.std.proofs.Props.{props}
 use Rattle.wt_tree.specs.Tiling.{InPreorder, numbers, others}

@@ -19,7 +19,8 @@ inside_by false ts = ts
 -- a tree behind these items, whose nodes have no numbers so far
 abbrev mutual
   pub placed : List Item → ItemTree → Tree
-  placed before (inner h opening ts closing) = tree (label_at (width before) 0 (is_leaf h.kind) h opening (opening ++ (held_by_all ts ++ closing)) closing) (inside_by (is_leaf h.kind) (all_placed (before ++ opening) ts))
+  placed before (inner h opening ts closing) = tree (label_at (width before) 0 (is_leaf h.kind) h opening (opening ++ (held_by_all ts ++ closing)) closing)
+      (inside_by (is_leaf h.kind) (all_placed (before ++ opening) ts))
 
   pub all_placed : List Item → ItemTrees → Trees
   all_placed before nothing = none

@@ -99,7 +99,8 @@ fn group_of<'a>(
     requires sound { All IsSoundCall (outer_calls calls.now) }
     requires held { items held.now ≡ held_by_all (forest (item_trees trees)) }
     requires fits { start.byte + length (text_from (outer_calls calls.now) start.before (items held.now)) < 2 ^ 32 }
-    ensures { IfOk result (λ n. view n ≡ group_at (outer_calls calls.now) (group_data (outer_calls calls.now)) start.before start.byte (forest (item_trees trees.entry))) }
+    ensures { IfOk result (λ n. view n ≡ group_at (outer_calls calls.now) (group_data (outer_calls calls.now)) start.before start.byte
+        (forest (item_trees trees.entry))) }
 {
     let width = page_width(calls, start.before, held);
     let own = page_texts(alloc, calls, start.before, held)?;
@@ -116,7 +117,8 @@ pub fn group_node<'a>(
 ) -> Result<Node<'a>, NoMemory>
     requires sound { All IsSoundCall (outer_calls calls.now) }
     requires fit { NearsFit (outer_calls calls.now) (nears_of (outer_calls calls.now) children) }
-    ensures { IfOk result (λ n. view n ≡ near_group (outer_calls calls.now) (group_data (outer_calls calls.now)) (nears_of (outer_calls calls.now) children.entry)) }
+    ensures { IfOk result (λ n. view n ≡ near_group (outer_calls calls.now) (group_data (outer_calls calls.now))
+        (nears_of (outer_calls calls.now) children.entry)) }
 {
     let start = group_start(children.as_slice());
     let trees = trees_of(alloc, children)?;

@@ -103,7 +103,8 @@ fn inner_sources<'a>(
     child: &Child<'a>,
     filled: Option<u32>,
 ) -> Result<Sources<'a>, NoMemory>
-    ensures opening { IfOk result (λ s. texts_of s.opening ≡ text_from (outer_calls calls.now) child.now.before (items (out-PieceTree child.now.tree).opening)) }
+    ensures opening { IfOk result (λ s. texts_of s.opening
+        ≡ text_from (outer_calls calls.now) child.now.before (items (out-PieceTree child.now.tree).opening)) }
     ensures closing { IfOk result (λ s. texts_of s.closing ≡ text_from (outer_calls calls.now) filled (items (out-PieceTree child.now.tree).closing)) }
     ensures own { IfOk result (λ s. texts_of s.own ≡ []) }
 {
@@ -142,7 +143,8 @@ pub fn inner_frame<'a>(
 
 /// The node round these children, in its frame.
 pub fn kept_inner<'a>(frame: Frame<'a>, head: NodeHead, children: List<Node<'a>>) -> Node<'a>
-    ensures { view result ≡ tree (node_label (head_of head) (Some frame.entry.ranges) (texts_of frame.entry.sources.opening) (texts_of frame.entry.sources.closing) (texts_of frame.entry.sources.own)) (views children.entry) }
+    ensures { view result ≡ tree (node_label (head_of head) (Some frame.entry.ranges) (texts_of frame.entry.sources.opening)
+        (texts_of frame.entry.sources.closing) (texts_of frame.entry.sources.own)) (views children.entry) }
 {
     node(head, Some(frame.ranges), frame.sources, children)
 }

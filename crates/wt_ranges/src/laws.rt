@@ -52,25 +52,33 @@ pub fn groups_are_smallest()
 /// The calls that begin in groups, group after group, are all calls, in their order: each lies in
 /// one group.
 pub fn each_call_in_one_group()
-    ensures { (t : ItemTree) → is_clean (tree_items t) 0 t ≡ true → calls_in_groups (tree_items t) (grouped (tree_items t) 0 t) ≡ begun (tree_items t) 0 (length (tree_items t)) }
+    ensures { (t : ItemTree) → is_clean (tree_items t) 0 t ≡ true
+        → calls_in_groups (tree_items t) (grouped (tree_items t) 0 t) ≡ begun (tree_items t) 0 (length (tree_items t)) }
 {}
 
 /// The ranges of the annotated tree tile it, that of a body covers the page, each range of a node
 /// that is reached is a slice of the page, the tree's source is the page, and its numbers are in
 /// preorder.
 pub fn annotated_page()
-    ensures tiled { (calls : List OuterCall) (carried : List Part → Option DataMw) (t : ItemTree) → is_clean (tree_items t) 0 t ≡ true → Tiled (annotated calls carried t) }
-    ensures covers { (calls : List OuterCall) (carried : List Part → Option DataMw) (ts : ItemTrees) → Covers (length (page_of calls (tree_items (inner (plain node_kind.Body) [] ts [])))) (annotated calls carried (inner (plain node_kind.Body) [] ts [])) }
-    ensures slices { (calls : List OuterCall) (carried : List Part → Option DataMw) (t : ItemTree) → is_clean (tree_items t) 0 t ≡ true → AreReachedSlices (page_of calls (tree_items t)) (annotated calls carried t) }
-    ensures source { (calls : List OuterCall) (carried : List Part → Option DataMw) (t : ItemTree) → is_clean (tree_items t) 0 t ≡ true → flat (annotated calls carried t) ≡ page_of calls (tree_items t) }
+    ensures tiled { (calls : List OuterCall) (carried : List Part → Option DataMw) (t : ItemTree) → is_clean (tree_items t) 0 t ≡ true
+        → Tiled (annotated calls carried t) }
+    ensures covers { (calls : List OuterCall) (carried : List Part → Option DataMw) (ts : ItemTrees)
+        → Covers (length (page_of calls (tree_items (inner (plain node_kind.Body) [] ts []))))
+        (annotated calls carried (inner (plain node_kind.Body) [] ts [])) }
+    ensures slices { (calls : List OuterCall) (carried : List Part → Option DataMw) (t : ItemTree) → is_clean (tree_items t) 0 t ≡ true
+        → AreReachedSlices (page_of calls (tree_items t)) (annotated calls carried t) }
+    ensures source { (calls : List OuterCall) (carried : List Part → Option DataMw) (t : ItemTree) → is_clean (tree_items t) 0 t ≡ true
+        → flat (annotated calls carried t) ≡ page_of calls (tree_items t) }
     ensures numbered { (calls : List OuterCall) (carried : List Part → Option DataMw) (t : ItemTree) → InPreorder (annotated calls carried t) }
 {}
 
 /// Grouping leaves the plain view as it is: a group shows its own nodes and no others. Beyond that
 /// the annotated tree shows what it shows when its texts and separators are cut anew.
 pub fn plain_view_stays()
-    ensures groups { (calls : List OuterCall) (carried : List Part → Option DataMw) (t : ItemTree) → plain_view (placed calls carried (tree_items t) (grouped (tree_items t) 0 t)) ≡ plain_view (unplaced t) }
-    ensures numbers { (calls : List OuterCall) (carried : List Part → Option DataMw) (t : ItemTree) → plain_view (annotated calls carried t) ≡ plain_view (cut_texts (placed calls carried (tree_items t) (grouped (tree_items t) 0 t))) }
+    ensures groups { (calls : List OuterCall) (carried : List Part → Option DataMw) (t : ItemTree)
+        → plain_view (placed calls carried (tree_items t) (grouped (tree_items t) 0 t)) ≡ plain_view (unplaced t) }
+    ensures numbers { (calls : List OuterCall) (carried : List Part → Option DataMw) (t : ItemTree)
+        → plain_view (annotated calls carried t) ≡ plain_view (cut_texts (placed calls carried (tree_items t) (grouped (tree_items t) 0 t))) }
 {}
 
 /// Texts and separators cut anew: in each node that is reached they stand as they should, a tree in
@@ -86,20 +94,25 @@ pub fn texts_cut_anew()
 /// that of a page without calls, its texts and separators cut anew; and just that tree, where they
 /// stand as they should. The tree of a body has no group only where it is so.
 pub fn annotated_without_calls()
-    ensures anew { (calls : List OuterCall) (carried : List Part → Option DataMw) (t : ItemTree) → IsPlain t → annotated calls carried t ≡ cut_texts (annotated_plainly t) }
-    ensures same { (calls : List OuterCall) (carried : List Part → Option DataMw) (t : ItemTree) → IsPlain t → AllByRecursion HasCutTexts (reached (annotated_plainly t)) → annotated calls carried t ≡ annotated_plainly t }
-    ensures only { (calls : List OuterCall) (carried : List Part → Option DataMw) (ts : ItemTrees) → HasNoGroup (annotated calls carried (inner (plain node_kind.Body) [] ts [])) → IsPlain (inner (plain node_kind.Body) [] ts []) }
+    ensures anew { (calls : List OuterCall) (carried : List Part → Option DataMw) (t : ItemTree) → IsPlain t
+        → annotated calls carried t ≡ cut_texts (annotated_plainly t) }
+    ensures same { (calls : List OuterCall) (carried : List Part → Option DataMw) (t : ItemTree) → IsPlain t
+        → AllByRecursion HasCutTexts (reached (annotated_plainly t)) → annotated calls carried t ≡ annotated_plainly t }
+    ensures only { (calls : List OuterCall) (carried : List Part → Option DataMw) (ts : ItemTrees)
+        → HasNoGroup (annotated calls carried (inner (plain node_kind.Body) [] ts [])) → IsPlain (inner (plain node_kind.Body) [] ts []) }
 {}
 
 /// A walk over the tree that knows only the calls of the items beside it, and the byte at which it
 /// stands, makes the tree with its groups.
 pub fn groups_by_walking()
-    ensures { (calls : List OuterCall) (carried : List Part → Option DataMw) (t : ItemTree) → walked calls carried None 0 None t ≡ placed calls carried (tree_items t) (grouped (tree_items t) 0 t) }
+    ensures { (calls : List OuterCall) (carried : List Part → Option DataMw) (t : ItemTree)
+        → walked calls carried None 0 None t ≡ placed calls carried (tree_items t) (grouped (tree_items t) 0 t) }
 {}
 
 /// At most as many nodes and groups have a number as the tree has nodes.
 pub fn few_numbers_with_groups()
-    ensures { (calls : List OuterCall) (carried : List Part → Option DataMw) (t : ItemTree) → count (cut_texts (placed calls carried (tree_items t) (grouped (tree_items t) 0 t))) ≤ nodes t }
+    ensures { (calls : List OuterCall) (carried : List Part → Option DataMw) (t : ItemTree)
+        → count (cut_texts (placed calls carried (tree_items t) (grouped (tree_items t) 0 t))) ≤ nodes t }
 {}
 
 /// A tree with groups gives back the tree that it comes from: each group has its own nodes in their

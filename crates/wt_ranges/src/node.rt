@@ -27,7 +27,8 @@ pub fn node<'a>(
     sources: Sources<'a>,
     children: List<Node<'a>>,
 ) -> Node<'a>
-    ensures { view result ≡ tree (node_label (head_of head) ranges (texts_of sources.entry.opening) (texts_of sources.entry.closing) (texts_of sources.entry.own)) (views children.entry) }
+    ensures { view result ≡ tree (node_label (head_of head) ranges (texts_of sources.entry.opening) (texts_of sources.entry.closing)
+        (texts_of sources.entry.own)) (views children.entry) }
 {
     let Sources {
         opening,

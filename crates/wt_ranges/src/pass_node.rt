@@ -67,7 +67,8 @@ pub fn inner_node<'a>(
 ) -> Result<Node<'a>, NoMemory>
     requires opening { width (items opening.now) < 2 ^ 32 }
     requires closing { width (items closing.now) < 2 ^ 32 }
-    ensures { IfOk result (λ n. view n ≡ tree (inner_label at.place at.next (head_of head) end (items opening.now) (items closing.now)) (views children.entry)) }
+    ensures { IfOk result (λ n. view n ≡ tree (inner_label at.place at.next (head_of head) end (items opening.now) (items closing.now))
+        (views children.entry)) }
 {
     let id = at.number(head.kind);
     let ranges = Ranges {

@@ -106,7 +106,8 @@ is_written RoundCharacter = true
 is_written RoundChildren = true
 is_written Unwritten = false
 
-pub written_by : (w : Writing) (k : ℕ) (parent : Kind) (l : Label) (childless : Bool) (H : Type 0) → NodeIsWritten w k parent l childless H → is_written w ≡ true
+pub written_by : (w : Writing) (k : ℕ) (parent : Kind) (l : Label) (childless : Bool) (H : Type 0) → NodeIsWritten w k parent l childless H
+    → is_written w ≡ true
 written_by AsText k parent l childless H h = refl
 written_by AsVoid k parent l childless H h = refl
 written_by RoundCharacter k parent l childless H h = refl

@@ -185,7 +185,8 @@ is_childless (more t ts) = false
 abbrev pub NodeIsWritten : Writing → ℕ → Kind → Label → Bool → Type 0 → Type 0
 NodeIsWritten AsText k parent l childless inside = IsTextIn parent l × (childless ≡ true)
 NodeIsWritten Unwritten k parent l childless inside = ⊥
-NodeIsWritten w k parent l childless inside = (k < 200) × (may_hold parent l.kind ≡ true) × IsElementLabel l × ((not (is_leaf l.kind) || childless) ≡ true) × inside
+NodeIsWritten w k parent l childless inside = (k < 200) × (may_hold parent l.kind ≡ true) × IsElementLabel l ×
+    ((not (is_leaf l.kind) || childless) ≡ true) × inside
 
 -- Two texts that stand next to each other would be read as one: that is well where they are cut again.
 abbrev pub joins : Texts → Bool → Bool
@@ -209,11 +210,13 @@ IsCutIn OwnCharacter ts = Unit {0}
 
 abbrev mutual
   pub WrittenIn : ℕ → Kind → Tree → Type 0
-  WrittenIn k parent (tree l ts) = NodeIsWritten (writing l.kind) k parent l (is_childless ts) (IsCutIn (texts_of_kind l.kind) ts × AllWrittenIn (suc k) l.kind ts)
+  WrittenIn k parent (tree l ts) = NodeIsWritten (writing l.kind) k parent l (is_childless ts)
+      (IsCutIn (texts_of_kind l.kind) ts × AllWrittenIn (suc k) l.kind ts)
 
   pub AllWrittenIn : ℕ → Kind → Trees → Type 0
   AllWrittenIn k parent none = Unit {0}
-  AllWrittenIn k parent (more t ts) = WrittenIn k parent t × (joins (texts_of_kind parent) (is_text t && begins_with_text ts) ≡ false) × AllWrittenIn k parent ts
+  AllWrittenIn k parent (more t ts) = WrittenIn k parent t ×
+      (joins (texts_of_kind parent) (is_text t && begins_with_text ts) ≡ false) × AllWrittenIn k parent ts
 
 -- the tree of a page: a body, which stands within `html`
 abbrev pub IsWritten : Tree → Type 0

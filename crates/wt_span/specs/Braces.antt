@@ -54,7 +54,9 @@ rewritten (closing, before) =
     let n = position_or_len has_two before in
     let opening = open_left (slice_get before n) in
     let k = taken opening closing in
-    if nat_le 2 opening && nat_le 2 closing then (closing - k, call k (members (reverse (take n before))) ∷ (left_over Opens (opening - k) ++ drop (n + 1) before)) else (closing, before)
+    if nat_le 2 opening && nat_le 2 closing
+    then (closing - k, call k (members (reverse (take n before))) ∷ (left_over Opens (opening - k) ++ drop (n + 1) before))
+    else (closing, before)
 
 abbrev pub again : {A : Type 0} → ℕ → (A → A) → A → A
 again zero f x = x
@@ -171,7 +173,9 @@ abbrev mutual
 abbrev mutual
   pub calls_of : ℕ → Option ℕ → ℕ → Member → List CallAt
   calls_of at parent n (lexeme w) = []
-  calls_of at parent n (call k ms) = record { argument = k == 3; from = at; to = at + (k + width_of_all ms + k); parts = parts_of (at + k) ms; parent = parent } ∷ calls_of_all (at + k) (Some n) (n + 1) ms
+  calls_of at parent n (call k ms) =
+      record { argument = k == 3; from = at; to = at + (k + width_of_all ms + k); parts = parts_of (at + k) ms; parent = parent }
+      ∷ calls_of_all (at + k) (Some n) (n + 1) ms
 
   pub calls_of_all : ℕ → Option ℕ → ℕ → Members → List CallAt
   calls_of_all at parent n none = []

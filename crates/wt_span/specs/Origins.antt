@@ -33,7 +33,14 @@ pub record OuterCall : Type 0 where
   pub href : Option (List ℕ)
 
 abbrev pub outer_call : Outer → OuterCall
-outer_call o = record { start = start_of o.source; source = bytes_of o.source; argument = o.argument; parts = map span_of o.parts; equals = o.equals; href = o.href }
+outer_call o = record {
+  start = start_of o.source;
+  source = bytes_of o.source;
+  argument = o.argument;
+  parts = map span_of o.parts;
+  equals = o.equals;
+  href = o.href;
+}
 
 abbrev pub span_of_call : OuterCall → Span
 span_of_call c = (c.start, c.start + length c.source)

@@ -33,7 +33,9 @@ closes_itself bs = nat_lt 0 (length bs) && slice_index bs (length bs - 1) == 47
 unfoldable pub tag_after : List ℕ → List ℕ → Option Tag
 tag_after name bs =
     let inside = take (prefix_len is_tag_byte bs) bs in
-    if slice_index bs (length inside) == 62 && is_tag_inside inside then Some (record { name = lower name; len = 2 + length name + length inside; alone = closes_itself inside }) else None
+    if slice_index bs (length inside) == 62 && is_tag_inside inside
+    then Some (record { name = lower name; len = 2 + length name + length inside; alone = closes_itself inside })
+    else None
 
 -- an opening tag: `<`, a name, what stands in it, `>`
 unfoldable pub opening_tag : List ℕ → Option Tag
@@ -46,7 +48,9 @@ unfoldable pub closing_tag : List ℕ → Option Tag
 closing_tag bs =
     let n = name_len (drop 2 bs) in
     let k = blank_len (drop (2 + n) bs) in
-    if begins (codes "</") bs && (nat_lt 0 n && slice_index bs (2 + n + k) == 62) then Some (record { name = lower (take n (drop 2 bs)); len = 3 + n + k; alone = false }) else None
+    if begins (codes "</") bs && (nat_lt 0 n && slice_index bs (2 + n + k) == 62)
+    then Some (record { name = lower (take n (drop 2 bs)); len = 3 + n + k; alone = false })
+    else None
 
 -- how many bytes a tag takes where it has this name
 abbrev pub len_if_named : List ℕ → Option Tag → Option ℕ
@@ -111,7 +115,8 @@ hidden_len t bs = unwrap_or (with_inside t bs) (length bs)
 
 abbrev pub opening_include : Mode → Option Tag → List ℕ → Option (LexKind × ℕ)
 opening_include mode None bs = None
-opening_include mode (Some t) bs = if hides mode t.name then Some (Hidden, hidden_len t bs) else (if is_left_out mode t.name then Some (Include, t.len) else None)
+opening_include mode (Some t) bs =
+    if hides mode t.name then Some (Hidden, hidden_len t bs) else (if is_left_out mode t.name then Some (Include, t.len) else None)
 
 abbrev pub closing_include : Mode → Option Tag → Option (LexKind × ℕ)
 closing_include mode None = None

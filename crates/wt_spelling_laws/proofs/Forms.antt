@@ -101,7 +101,8 @@ both_true false b e = cc
 lt_is : (m n : ℕ) → nat_lt m n ≡ true → m < n
 lt_is m n e = grind (arith, nat_tests)
 
-named_not : (entries : List (List ℕ × ℕ)) (x : ℕ) (bs : List ℕ) → are_named entries ≡ true → is_ascii_alphabetic x ≡ false → named_in entries (38 ∷ x ∷ bs) ≡ None
+named_not : (entries : List (List ℕ × ℕ)) (x : ℕ) (bs : List ℕ) → are_named entries ≡ true → is_ascii_alphabetic x ≡ false
+    → named_in entries (38 ∷ x ∷ bs) ≡ None
 named_not [] x bs e h = refl
 named_not ((name, c) ∷ entries) x bs e h =
     let p = both_true (nat_lt 1 (length name) && is_ascii_alphabetic (get_or name 1 0)) (are_named entries) e in

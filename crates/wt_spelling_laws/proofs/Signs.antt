@@ -156,7 +156,8 @@ calm_colon s before (d ∷ ds) e c =
 calm_small : (s : Setting) (before : List Sign) (c : ℕ) (cs : List ℕ) → is_escaped s.within s.place before c (map letter cs) ≡ false
     → Calm (after_it s c before cs) → Calm (c ∷ after_it s c before cs)
 calm_small s before c cs e q =
-    let P : ℕ → Type 0 = λ k. is_escaped s.within s.place before k (map letter cs) ≡ false → Calm (after_it s k before cs) → Calm (k ∷ after_it s k before cs) in
+    let P : ℕ → Type 0 = λ k. is_escaped s.within s.place before k (map letter cs) ≡ false → Calm (after_it s k before cs)
+    → Calm (k ∷ after_it s k before cs) in
     elim (equal_or c 39) [
       | inl i ↦ subst P (sym i) (calm_apostrophe s before cs) e q
       | inr a ↦ elim (equal_or c 95) [

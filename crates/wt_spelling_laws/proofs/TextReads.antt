@@ -35,7 +35,8 @@ record Good (mode : Mode) (bs t : List ℕ) : Type 0 where
 good_nothing : (mode : Mode) → Good mode [] []
 good_nothing mode = record { reads = reads_nothing mode; clean = tt }
 
-good_byte : (mode : Mode) (b : ℕ) (bs t : List ℕ) → form_at mode false (b ∷ bs) ≡ None → comment_len (b ∷ bs) ≡ None → Good mode bs t → Good mode (b ∷ bs) (b ∷ t)
+good_byte : (mode : Mode) (b : ℕ) (bs t : List ℕ) → form_at mode false (b ∷ bs) ≡ None → comment_len (b ∷ bs) ≡ None → Good mode bs t
+    → Good mode (b ∷ bs) (b ∷ t)
 good_byte mode b bs t f c g = record {
   reads = reads_byte mode b bs t (λ after. without_line mode after (b ∷ bs) (c, g.clean) ∙ f) g.reads;
   clean = (c, g.clean);
@@ -53,7 +54,8 @@ good_form mode kind b q rest t u f e c g = record {
 good_nowiki : (mode : Mode) (rest t : List ℕ) → Good mode rest t → Good mode (nowiki ++ rest) t
 unfolding nowiki comment_len
 good_nowiki mode rest t g =
-    good_form mode Raw 60 (codes "nowiki/>") rest t [] (nowiki_form mode rest) refl (refl, (refl, (refl, (refl, (refl, (refl, (refl, (refl, (refl, g.clean))))))))) g
+    good_form mode Raw 60 (codes "nowiki/>") rest t [] (nowiki_form mode rest) refl
+    (refl, (refl, (refl, (refl, (refl, (refl, (refl, (refl, (refl, g.clean))))))))) g
 
 good_guard : (mode : Mode) (guarded : Bool) (rest t : List ℕ) → Good mode rest t → Good mode (nowiki_if guarded ++ rest) t
 good_guard mode true rest t g = good_nowiki mode rest t g
@@ -133,7 +135,8 @@ and_false true = refl
 and_false false = refl
 
 -- nothing is put after a character that is neither a blank nor a line break, where a character follows
-pub unguarded : (s : Setting) (c d : ℕ) (before after : List Sign) → (c == 10) ≡ false → is_blank c ≡ false → is_guarded s (letter c ∷ before) (letter d ∷ after) ≡ false
+pub unguarded : (s : Setting) (c d : ℕ) (before after : List Sign) → (c == 10) ≡ false → is_blank c ≡ false
+    → is_guarded s (letter c ∷ before) (letter d ∷ after) ≡ false
 unfolding is_guarded is_between_guard is_start_guard is_end_guard is_blank_guard
 unguarded s c d before after e f = rw (e, f, and_false (d == 10), and_false (not s.within)) refl
 
@@ -154,7 +157,8 @@ pub or_parts : (a b : Bool) → (a || b) ≡ false → (a ≡ false) × (b ≡ f
 or_parts true b e = cc
 or_parts false b e = (refl, e)
 
-pub bracket_escaped : (within : Bool) (p : Place) (before : List Sign) (c : ℕ) (after : List Sign) → is_bracket c ≡ true → is_escaped within p before c after ≡ true
+pub bracket_escaped : (within : Bool) (p : Place) (before : List Sign) (c : ℕ) (after : List Sign) → is_bracket c ≡ true
+    → is_escaped within p before c after ≡ true
 unfolding is_escaped
 bracket_escaped within p before c after e = rw e refl
 
@@ -254,7 +258,8 @@ good_plain : (mode : Mode) (s : Setting) (before : List Sign) (c : ℕ) (cs t : 
     → Good mode (encode_utf8 c ++ spelled_from s (letter c ∷ before) (map letter cs)) (encode_utf8 c ++ t)
 good_plain mode s before c cs t e g = elim (cases_lt c 128) [
   | inl small ↦
-      subst (λ bs. Good mode (bs ++ spelled_from s (letter c ∷ before) (map letter cs)) (bs ++ t)) (sym (encode_ascii c small)) (good_small mode s before c cs t e g)
+      subst (λ bs. Good mode (bs ++ spelled_from s (letter c ∷ before) (map letter cs)) (bs ++ t)) (sym (encode_ascii c small))
+      (good_small mode s before c cs t e g)
   | inr wide ↦ good_wide mode (encode_utf8 c) (spelled_from s (letter c ∷ before) (map letter cs)) t (encode_wide c wide) g
 ]
 

@@ -33,15 +33,18 @@ live_name gs =
 -- tags that are kept as islands: of styles, of words, of blocks, of headings and lists, of tables, and those of includes
 unfoldable pub is_style_name : List Glyph → Bool
 is_style_name gs =
-    is_among (codes "b" ∷ codes "i" ∷ codes "em" ∷ codes "strong" ∷ codes "del" ∷ codes "ins" ∷ codes "big" ∷ codes "tt" ∷ codes "font" ∷ codes "strike" ∷ []) gs
+    is_among (codes "b" ∷ codes "i" ∷ codes "em" ∷ codes "strong" ∷ codes "del" ∷ codes "ins" ∷ codes "big" ∷ codes "tt" ∷ codes "font"
+    ∷ codes "strike" ∷ []) gs
 
 unfoldable pub is_phrase_name : List Glyph → Bool
 is_phrase_name gs =
-    is_among (codes "kbd" ∷ codes "samp" ∷ codes "var" ∷ codes "cite" ∷ codes "dfn" ∷ codes "abbr" ∷ codes "mark" ∷ codes "q" ∷ codes "bdi" ∷ codes "bdo" ∷ codes "wbr" ∷ []) gs
+    is_among (codes "kbd" ∷ codes "samp" ∷ codes "var" ∷ codes "cite" ∷ codes "dfn" ∷ codes "abbr" ∷ codes "mark" ∷ codes "q" ∷ codes "bdi"
+    ∷ codes "bdo" ∷ codes "wbr" ∷ []) gs
 
 unfoldable pub is_block_name : List Glyph → Bool
 is_block_name gs =
-    is_among (codes "div" ∷ codes "p" ∷ codes "center" ∷ codes "blockquote" ∷ codes "hr" ∷ codes "h1" ∷ codes "h2" ∷ codes "h3" ∷ codes "h4" ∷ codes "h5" ∷ codes "h6" ∷ []) gs
+    is_among (codes "div" ∷ codes "p" ∷ codes "center" ∷ codes "blockquote" ∷ codes "hr" ∷ codes "h1" ∷ codes "h2" ∷ codes "h3" ∷ codes "h4"
+    ∷ codes "h5" ∷ codes "h6" ∷ []) gs
 
 unfoldable pub is_list_name : List Glyph → Bool
 is_list_name gs = is_among (codes "ul" ∷ codes "ol" ∷ codes "li" ∷ codes "dl" ∷ codes "dt" ∷ codes "dd" ∷ []) gs
@@ -96,7 +99,9 @@ unfoldable pub closing_tag : List Glyph → Option Tag
 closing_tag gs =
     let n = name_len (drop 2 gs) in
     let k = run_len class.Blank (drop (2 + n) gs) in
-    if begins (codes "</") gs && (nat_lt 0 n && first_is (class.Only 62) (drop (2 + n + k) gs)) then tag_of Closing (3 + n + k) (name_of (take n (drop 2 gs))) else None
+    if begins (codes "</") gs && (nat_lt 0 n && first_is (class.Only 62) (drop (2 + n + k) gs))
+    then tag_of Closing (3 + n + k) (name_of (take n (drop 2 gs)))
+    else None
 
 -- the tag that begins the items, if its name counts
 unfoldable pub tag_at : List Glyph → Option Tag

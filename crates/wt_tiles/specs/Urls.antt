@@ -12,7 +12,9 @@ use Rattle.wt_tiles.specs.Links.{place}
 
 -- how many items the beginning of a URL takes, 0 where none begins
 unfoldable pub scheme_len : List Glyph → ℕ
-scheme_len gs = if begins_like (codes "http://") gs then 7 else (if begins_like (codes "https://") gs then 8 else (if begins_like (codes "ftp://") gs then 6 else 0))
+scheme_len gs =
+    if begins_like (codes "http://") gs then 7 else
+    (if begins_like (codes "https://") gs then 8 else (if begins_like (codes "ftp://") gs then 6 else 0))
 
 -- the characters of URLs: above the space, but for U+007F and `[ ] < > "`
 unfoldable pub is_url_char : ℕ → Bool

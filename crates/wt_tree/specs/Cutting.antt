@@ -35,7 +35,8 @@ IsWhole behind leads t = (is_empty (label t).own ≡ false) × IsWholeBy (is_sep
 abbrev pub IsFront : Bool → Tree → Trees → Type 0
 IsFront behind t none = ⊥
 IsFront behind t (more s ts) =
-    (behind ≡ false) × (has_break (label t).own ≡ false) × (is_empty (label t).own ≡ false) × (begins_with_break (label s).own ≡ true) × (is_blank (label s).own ≡ true)
+    (behind ≡ false) × (has_break (label t).own ≡ false) × (is_empty (label t).own ≡ false) × (begins_with_break (label s).own ≡ true) ×
+    (is_blank (label s).own ≡ true)
     × (t ≡ text_leaf (front_ranges (length (label t).own) (joined_ranges (label t).ranges (label s).ranges)) (label t).own)
     × (s ≡ sep_leaf (rest_ranges (length (label t).own) (joined_ranges (label t).ranges (label s).ranges)) (label s).own)
 

@@ -29,7 +29,8 @@ row_attrs-requires-clause-sound c =
 
 pub row_attrs-requires-clause-sign : goal.row_attrs-requires-clause-sign
 row_attrs-requires-clause-sign c =
-    subst (λ (xs : List Item). begins (codes "|-") (signs xs) ≡ true) (sym (ap items c.between.ensures ∙ first_of c.args.pieces.now c.args.rows.now _ c.requires.some)) c.requires.opens
+    subst (λ (xs : List Item). begins (codes "|-") (signs xs) ≡ true)
+    (sym (ap items c.between.ensures ∙ first_of c.args.pieces.now c.args.rows.now _ c.requires.some)) c.requires.opens
 
 pub returns : goal.returns
 returns c =
@@ -37,11 +38,13 @@ returns c =
     let rows = c.args.rows.now in
     let d = c.joined_row-delimiter.result in
     let first = ap items c.between.ensures ∙ first_of ps rows _ c.requires.some in
-    let is = is_delimiter ps rows c.front_of.result.now c.rest_of.result.now d c.stray_len-n.result c.stray_len-n.ensures.value c.front_of.ensures c.rest_of.ensures
+    let is = is_delimiter ps rows c.front_of.result.now c.rest_of.result.now d c.stray_len-n.result c.stray_len-n.ensures.value c.front_of.ensures
+    c.rest_of.ensures
     c.joined_row-delimiter.ensures in
     let head = head_is kind.Tr c.new.result (attrs_of c.in_ok-attrs.attrs) (row_attributes (first_items (rows_view ps rows))) c.new.ensures
     (c.in_ok-attrs.ensures ∙ ap row_attributes first) in
     IfOk-weaker c.before-2.result _ _ (λ l e.
-    opened_row_is ps rows c.rest_of.result.now d (head_with kind.Tr c.new.result (attrs_of c.in_ok-attrs.attrs)) (items c.from_vec-opening.result) (growth c.new-2.result)
+    opened_row_is ps rows c.rest_of.result.now d (head_with kind.Tr c.new.result (attrs_of c.in_ok-attrs.attrs)) (items c.from_vec-opening.result)
+    (growth c.new-2.result)
     c.in_ok-after.after c.in_ok-node.node l c.args.cells c.requires.some is c.in_ok-after.ensures head
     (ap items (c.from_vec-opening.ensures ∙ c.in_ok-own.ensures.items ∙ c.between-2.ensures)) c.new-2.ensures c.in_ok-node.ensures e) c.before-2.ensures

@@ -30,7 +30,8 @@ table_attrs-requires-clause-sound c =
 
 pub table_attrs-requires-clause-sign : goal.table_attrs-requires-clause-sign
 table_attrs-requires-clause-sign c =
-    subst (λ (xs : List Item). begins (codes "{|") (signs xs) ≡ true) (sym (ap items c.between.ensures ∙ first_of c.args.pieces.now c.args.rows.now _ c.requires.some)) c.requires.opens
+    subst (λ (xs : List Item). begins (codes "{|") (signs xs) ≡ true)
+    (sym (ap items c.between.ensures ∙ first_of c.args.pieces.now c.args.rows.now _ c.requires.some)) c.requires.opens
 
 pub returns : goal.returns
 returns c =
@@ -41,14 +42,17 @@ returns c =
     let tree = c.table_node-tree.result in
     let node = at.Tree c.in_ok-node.node in
     let first = ap items c.between.ensures ∙ first_of ps rows _ c.requires.some in
-    let is = is_delimiter ps rows c.front_of.result.now c.rest_of.result.now d c.stray_len-n.result c.stray_len-n.ensures.value c.front_of.ensures c.rest_of.ensures
+    let is = is_delimiter ps rows c.front_of.result.now c.rest_of.result.now d c.stray_len-n.result c.stray_len-n.ensures.value c.front_of.ensures
+    c.rest_of.ensures
     c.joined_row-delimiter.ensures in
     let held = c.from_vec-inner.ensures ∙ c.in_ok-push.ensures.items ∙ ap (λ xs. xs ++ at.Gap end.start end.from ∷ []) c.into_vec-held.ensures in
     let all = c.in_ok-push-4.ensures.ok ∙ ap (λ xs. xs ++ at.Gap end.to end.end ∷ []) (c.in_ok-push-3.ensures.ok
     ∙ ap (λ xs. xs ++ node ∷ []) (c.in_ok-push-2.ensures.ok ∙ ap (λ xs. xs ++ at.Gap d.start d.from ∷ []) c.new-out.ensures)) in
     table_is ps rows c.rest_of.result.now d end (with_attrs kind.Table (attrs_of c.in_ok-attrs.attrs)) (items c.from_vec.result) (items c.from_vec-2.result)
-    (growth c.new.result) (growth c.in_ok-made.made) (item_trees c.in_ok-children.children) tree node c.from_vec-inner.result c.in_ok-after.after c.push-4.new.self c.args.inside
+    (growth c.new.result) (growth c.in_ok-made.made)
+    (item_trees c.in_ok-children.children) tree node c.from_vec-inner.result c.in_ok-after.after c.push-4.new.self c.args.inside
     is held c.in_ok-after.ensures c.new.ensures c.in_ok-made.ensures c.in_ok-children.ensures c.table_node-tree.ensures
-    (ap (with_attrs kind.Table) (c.in_ok-attrs.ensures ∙ ap table_attributes first)) (ap items (c.from_vec.ensures ∙ c.in_ok-opening.ensures.items ∙ c.between-2.ensures))
+    (ap (with_attrs kind.Table) (c.in_ok-attrs.ensures ∙ ap table_attributes first))
+    (ap items (c.from_vec.ensures ∙ c.in_ok-opening.ensures.items ∙ c.between-2.ensures))
     (ap items (c.from_vec-2.ensures ∙ c.in_ok-closing.ensures.items ∙ c.between-3.ensures)) all
     (ap (λ t. tree_block (item_tree t)) c.in_ok-node.ensures.ok)

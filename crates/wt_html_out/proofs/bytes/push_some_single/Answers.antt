@@ -7,7 +7,8 @@ use Rattle.wt_html_out.proofs.bytes.push_some_single.Goals as goal
 
 pub returns-in_ok-push-clause-wrote : goal.returns-in_ok-push-clause-wrote
 returns-in_ok-push-clause-wrote c =
-    wrote_run escape_single c.args.out.now.items c.push.new.out.items c.args.bytes.now c.front_of.result.now c.plain_len-run.result c.front_of.ensures c.in_ok-push.ensures
+    wrote_run escape_single c.args.out.now.items c.push.new.out.items c.args.bytes.now c.front_of.result.now c.plain_len-run.result c.front_of.ensures
+    c.in_ok-push.ensures
     (run_single c.front_of.result.now (ap (list_all (is_plain 39)) c.front_of.ensures ∙ c.plain_len-run.ensures.plain))
 
 pub returns-in_ok-push_byte_single-clause-wrote : goal.returns-in_ok-push_byte_single-clause-wrote

@@ -1,10 +1,10 @@
-use Rattle.std.proofs.Common.{◌≡◌, ℕ, List, ap, ◌∙◌, length}
+use Rattle.std.proofs.Common.{ℕ, ap, ◌∙◌, length}
 use Rattle.std.specs.Prelude.{slice_set}
 use Rattle.wt_tree.specs.View.{view, views, label_of}
 use Rattle.wt_tree.specs.declared.node.Node.{out-Node}
 use Rattle.wt_kept.specs.declared.block.Spot.{Spot}
 use Rattle.wt_kept.specs.Kept.{Found}
-use Rattle.wt_kept.specs.Gathered.{found_so_far, begun, ended}
+use Rattle.wt_kept.specs.Gathered.{found_so_far, ended}
 use Rattle.wt_kept.proofs.Gathering.{delimited_node, numbered}
 use Rattle.wt_kept.proofs.block.+gathering.Goals as goal
 

@@ -1,8 +1,7 @@
-use Rattle.std.proofs.Common.{arith, sym, ap, ◌∙◌, ◌++◌}
+use Rattle.std.proofs.Common.{arith}
 use Rattle.std.proofs.lemmas.Grind.{common_steps}
-use Rattle.wt_kept.specs.Gathered.{items_seen}
 use Rattle.wt_kept.specs.declared.kinds.ItemsOf.TheVariants as item
-use Rattle.wt_kept.proofs.Nodes.{items_views, items_is}
+use Rattle.wt_kept.proofs.Nodes.{items_views}
 use Rattle.wt_kept.proofs.gather.+pushing.Goals as goal
 
 pub push_items_of_all-returns : goal.push_items_of_all-returns

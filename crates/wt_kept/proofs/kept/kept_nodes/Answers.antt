@@ -13,7 +13,12 @@ returns c =
     c.in_ok-kept.ensures b (record {
       source = grind (arith, common_steps, c.requires.bytes);
       seen_items = grind (arith, common_steps, c.requires.items);
-      ends = grind (arith, common_steps, ends_inside c.args.gathered.now.seen.items b c.in_ok-closing.closing c.requires.items (grind (arith, common_steps, k)));
+      ends = grind (
+        arith,
+        common_steps,
+        ends_inside c.args.gathered.now.seen.items b c.in_ok-closing.closing c.requires.items
+            (grind (arith, common_steps, k)),
+      );
       opening = grind (arith, common_steps, o);
       closing = grind (arith, common_steps, k);
     })

@@ -1,4 +1,4 @@
-use Rattle.std.proofs.Common.{arith, map, sym, ◌∙◌}
+use Rattle.std.proofs.Common.{map, sym, ◌∙◌}
 use Rattle.wt_kept.specs.Gathered.{kept_view}
 use Rattle.wt_kept.proofs.Numbers.{below_all, at_its_number}
 use Rattle.wt_kept.proofs.page.find_by_place.Goals as goal

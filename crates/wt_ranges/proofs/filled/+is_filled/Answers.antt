@@ -23,4 +23,5 @@ returns t c =
     sym (filled_by n true true
     (round_is n c.as_slice-2.result.now c.as_slice-3.result.now c.as_slice.result.now c.is_round.result c.are_some-some.result
     c.as_slice-2.ensures c.as_slice.ensures c.as_slice-3.ensures c.are_some-some.ensures c.is_round.ensures ∙ c.if-not-is_round.false)
-    (none_left n ns c.loop-child.child-index c.as_slice-child-items.ensures (drop_all c.loop-child.child-index ns c.loop-child-test.false) c.loop-child.invariant))
+    (none_left n ns c.loop-child.child-index c.as_slice-child-items.ensures
+    (drop_all c.loop-child.child-index ns c.loop-child-test.false) c.loop-child.invariant))

@@ -1,6 +1,5 @@
-use Rattle.std.proofs.Common.{◌≡◌, length, ap, ◌∙◌, arith}
+use Rattle.std.proofs.Common.{length, ap, ◌∙◌, arith}
 use Rattle.std.proofs.lemmas.Result.{IfOk-weaker}
-use Rattle.wt_tree.specs.View.{view}
 use Rattle.wt_ranges.specs.Numbering.{with_numbers}
 use Rattle.wt_inline.specs.ItemTree.{tree_items}
 use Rattle.wt_inline.specs.View.{item_tree}

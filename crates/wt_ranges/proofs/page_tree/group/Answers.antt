@@ -1,7 +1,6 @@
-use Rattle.std.proofs.Common.{◌≡◌, sym, ap, ◌∙◌, subst}
+use Rattle.std.proofs.Common.{sym, ap, ◌∙◌, subst}
 use Rattle.wt_tree.specs.Tiling.{InPreorder, Tiled}
 use Rattle.wt_tree.specs.Tree.{Tree}
-use Rattle.wt_tree.specs.View.{view}
 use Rattle.wt_inline.specs.View.{item_tree}
 use Rattle.wt_ranges.specs.Annotated.{annotated}
 use Rattle.wt_ranges.specs.GroupData.{group_data}

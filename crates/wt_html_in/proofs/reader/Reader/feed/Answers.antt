@@ -21,4 +21,5 @@ returns-in-Err-clause-ill c = λ bytes h. ill_at bytes c.in-Err.refusal c.refusa
 pub returns-in-Err-clause-place : goal.returns-in-Err-clause-place
 unfolding failed_of taken_of
 returns-in-Err-clause-place c = λ going.
-    place_at c.args.self.now.elements.taken c.in-Err.refusal c.refusal_of.result c.refusal_of.ensures (c.in-Err.ensures.place (none_told c.args.self.now.elements.failed going))
+    place_at c.args.self.now.elements.taken c.in-Err.refusal c.refusal_of.result c.refusal_of.ensures
+    (c.in-Err.ensures.place (none_told c.args.self.now.elements.failed going))
