@@ -1,5 +1,5 @@
 -- Worked cases of reading, each by computing.
-use Rattle.std.proofs.Common.{◌≡◌, ℕ, [], ◌∷◌, Some, None, refl, codes}
+use Rattle.std.proofs.Common.{◌≡◌, ℕ, List, [], ◌∷◌, ◌++◌, Some, None, refl, codes}
 use Rattle.wt_span.specs.Tags.{is_extension}
 use Rattle.wt_tree.specs.declared.kind.AttrName.TheVariants as attr
 use Rattle.wt_tree.specs.declared.kind.Kind.{Kind}
@@ -13,6 +13,10 @@ use Rattle.wt_tree.specs.Kinds.{spelling, tag_name, attribute_name}
 use Rattle.wt_tree.specs.Values.{extension_prefix, placeholder, no_include, no_include_end, only_include, only_include_end, include_only, switch_prefix, is_switch}
 use Rattle.std.specs.Fmt.{digits}
 use Rattle.wt_tree.specs.declared.kind.TagName.TheVariants as tag
+use Rattle.wt_tree.specs.declared.node.DataMw.TheVariants as parts
+use Rattle.serde_json.proofs.OnLiterals.{serde_json_on_literals}
+use Rattle.wt_datamw.specs.MwRead.{is_mw_shape, has_small_numbers, mw_of_data, mw_told}
+use Rattle.wt_fitting.specs.Groups.{transclusion, param}
 use Rattle.wt_fitting.specs.Rows.{link_read}
 use Rattle.wt_tree.specs.Recut.{leaf_label, text_leaf, sep_leaf}
 use Rattle.wt_fitting.specs.Read.{page, ill, misfit, read_tree, read}
@@ -176,3 +180,51 @@ block_in_cell : read (codes "<html><body><table class='c'><caption></caption><tb
     (one_more (bare kind.Para 0 no_trees) no_trees)) no_trees)) no_trees)) no_trees))) no_trees)) (Some 3)
 unfolding read read_tree spelling tag_name attribute_name digits placeholder switch_prefix is_switch
 block_in_cell = refl
+
+-- ---- groups
+
+-- a group with this number and word
+abbrev group : ℕ → Trees → Tree
+group id ts = tree (record (leaf_label kind.Group None [] []) { id = id; attrs = (attr.Typeof, codes "mw:Transclusion") ∷ []; mw = Some (parts.Parts []) }) ts
+
+-- Two elements, white space apart, are one node; the text behind them isn't of the group. The first has
+-- a `typeof` of its own behind the group's word.
+abbrev two_elements_html : List ℕ
+two_elements_html =
+    codes "<html><body><p><span about='#mwt1' typeof='mw:Transclusion mw:Placeholder' id='mw2' data-mw='{\"parts\":[]}'></span>"
+    ++ codes " <b about='#mwt1'>y</b> z</p></body></html>"
+
+two_elements : read two_elements_html
+    ≡ page (bare kind.Body 0 (one_more (bare kind.Para 0
+    (one_more (group 2 (one_more (tree (record (label_with kind.Island 0 mark.Nothing) { attrs = (attr.Typeof, codes "mw:Placeholder") ∷ [] }) no_trees)
+    (one_more (bare kind.Bold 0 (one_more (text_leaf None (codes "y")) no_trees)) no_trees)))
+    (one_more (text_leaf None (codes " z")) no_trees))) no_trees)) (Some 3)
+unfolding read read_tree spelling tag_name attribute_name digits placeholder switch_prefix is_switch extension_prefix transclusion param
+    mw_told mw_of_data is_mw_shape has_small_numbers serde_json_on_literals
+two_elements = refl
+
+-- An empty `span` may stand in the body, as a group that shows nothing. Of the group alone it is asked
+-- where it comes from.
+nothing_shown : read (codes "<html><body><span about='#mwt1' typeof='mw:Transclusion' id='mw1' data-mw='{\"parts\":[]}'></span></body></html>")
+    ≡ page (bare kind.Body 0 (one_more (group 1 (one_more (bare (kind.Tag tag.Span) 0 no_trees) no_trees)) no_trees)) (Some 3)
+unfolding read read_tree spelling tag_name attribute_name digits placeholder switch_prefix is_switch transclusion param
+    mw_told mw_of_data is_mw_shape has_small_numbers serde_json_on_literals
+nothing_shown = refl
+
+-- a text between two elements ends the group, so the second is astray; so is one of another group
+text_between : read (codes "<html><body><p><b about='#mwt1' typeof='mw:Transclusion' data-mw='{\"parts\":[]}'></b>x<b about='#mwt1'></b></p></body></html>")
+    ≡ misfit 5 why.Data
+unfolding read read_tree spelling tag_name attribute_name digits placeholder switch_prefix is_switch transclusion param
+    mw_told mw_of_data is_mw_shape has_small_numbers serde_json_on_literals
+text_between = refl
+
+-- in a group nothing has a number of its own, and a group's first element must fit its parent
+numbered_inside : read (codes "<html><body><p about='#mwt1' typeof='mw:Param' data-mw='{\"parts\":[]}'><i id='mw3'></i></p></body></html>") ≡ misfit 4 why.Data
+unfolding read read_tree spelling tag_name attribute_name digits placeholder switch_prefix is_switch transclusion param
+    mw_told mw_of_data is_mw_shape has_small_numbers serde_json_on_literals
+numbered_inside = refl
+
+no_place_for_group : read (codes "<html><body><b about='#mwt1' typeof='mw:Param' data-mw='{\"parts\":[]}'></b></body></html>") ≡ misfit 3 why.Place
+unfolding read read_tree spelling tag_name attribute_name digits placeholder switch_prefix is_switch transclusion param
+    mw_told mw_of_data is_mw_shape has_small_numbers serde_json_on_literals
+no_place_for_group = refl

@@ -5,14 +5,15 @@ use Rattle.std.specs.List.{AllByRecursion}
 use Rattle.std.specs.Option.{option_or}
 use Rattle.wt_tree.specs.declared.kind.Kind.{Kind}
 use Rattle.wt_tree.specs.declared.kind.Kind.TheVariants as kind
-use Rattle.wt_tree.specs.Tree.{Label, Tree, Trees}
+use Rattle.wt_tree.specs.Tree.{Label, Tree}
 use Rattle.wt_html_grammar.specs.Markup.{Pair, Markup, Markups, text, node, empty, more}
 use Rattle.wt_html_grammar.proofs.Steps.{if_true, if_false}
 use Rattle.wt_fitting.specs.declared.why.FitWhy.{FitWhy}
 use Rattle.wt_fitting.specs.declared.why.FitWhy.TheVariants as why
-use Rattle.wt_fitting.specs.Rows.{row}
-use Rattle.wt_fitting.specs.Data.{Data, data_of}
-use Rattle.wt_fitting.specs.Fit.{Misfit, Found, elements, label_for, texts_in, onto, onto_told, with_children, one_tree, is_block_element, has_place, text_fits, fit_told, fit_as, fit_row, fit_node, fit_nodes, fit_body, fit, body_of}
+use Rattle.wt_fitting.specs.declared.standing.Standing.{Standing}
+use Rattle.wt_fitting.specs.Groups.{standing, open_after, Piece}
+use Rattle.wt_fitting.specs.Data.{Data, data_for}
+use Rattle.wt_fitting.specs.Fit.{Misfit, Found, elements, label_for, label_as, texts_in, onto, onto_told, with_children, one_piece, Spot, within, row_as, is_block_element, behind_it, fits_place, is_inside, text_fits, fit_told, fit_as, fit_row, fit_node, fit_nodes, fit_body_told, body_data, fit_body, fit, body_of}
 use Rattle.wt_fitting.specs.Misfits.{Place, place, places, places_of_all, places_of_body, is_wrong, IsReason, FitsAlone, FirstMisfit}
 
 -- ---- the first in a list
@@ -50,71 +51,83 @@ agrees_at : {A : Type 0} (r : Result A Misfit) (o p : Option Misfit) → o ≡ p
 agrees_at (Ok a) o p e h = e ∙ h
 agrees_at (Err m) o p e h = e ∙ h
 
-onto_agrees : (t : Tree) (s : Result Trees Misfit) (o p : Option Misfit) → o ≡ None → Agrees s p → Agrees (onto t s) (option_or o p)
-onto_agrees t (Ok ts) o p h k = ap₂ option_or h k
-onto_agrees t (Err e) o p h k = ap₂ option_or h k
+onto_agrees : (x : Piece) (s : Result (List Piece) Misfit) (o p : Option Misfit) → o ≡ None → Agrees s p → Agrees (onto x s) (option_or o p)
+onto_agrees x (Ok xs) o p h k = ap₂ option_or h k
+onto_agrees x (Err e) o p h k = ap₂ option_or h k
 
-none_agrees : (s : Result Trees Misfit) (o p : Option Misfit) → o ≡ None → Agrees s p → Agrees s (option_or o p)
+none_agrees : (s : Result (List Piece) Misfit) (o p : Option Misfit) → o ≡ None → Agrees s p → Agrees s (option_or o p)
 none_agrees s o p h k = agrees_at s (option_or o p) p (ap (λ x. option_or x p) h) k
 
-told_agrees : (r : Result (Option Tree) Misfit) (s : Result Trees Misfit) (o p : Option Misfit) → Agrees r o → Agrees s p
+told_agrees : (r : Result (Option Piece) Misfit) (s : Result (List Piece) Misfit) (o p : Option Misfit) → Agrees r o → Agrees s p
     → Agrees (onto_told r s) (option_or o p)
 told_agrees (Ok None) s o p h k = none_agrees s o p h k
-told_agrees (Ok (Some t)) s o p h k = onto_agrees t s o p h k
+told_agrees (Ok (Some x)) s o p h k = onto_agrees x s o p h k
 told_agrees (Err e) s o p h k = ap (λ x. option_or x p) h
 
 -- an element by itself, before what stands in it
-inside_agrees : (k : Kind) (l : Label) (r : Result Trees Misfit) (o : Option Misfit) → Agrees r o → Agrees (with_children k l r) o
-inside_agrees k l (Ok ts) o h = h
-inside_agrees k l (Err e) o h = h
+inside_agrees : (i : Bool) (k : Kind) (l : Label) (r : Result (List Piece) Misfit) (o : Option Misfit) → Agrees r o → Agrees (with_children i k l r) o
+inside_agrees i k l (Ok xs) o h = h
+inside_agrees i k l (Err e) o h = h
 
-text_agrees : (t : Bool) (n : ℕ) (k : Kind) (l : Label) (r : Result Trees Misfit) (o : Option Misfit) → Agrees r o
-    → Agrees (if t then with_children k l r else Err (n, why.Text)) (option_or (misfit_at n (chain false false false (not t))) o)
-text_agrees true n k l r o h = inside_agrees k l r o h
-text_agrees false n k l r o h = refl
+one_agrees : (s : Standing) (ps : List Pair) (d : Data) (r : Result Tree Misfit) (o : Option Misfit) → Agrees r o → Agrees (one_piece s ps d r) o
+one_agrees s ps d (Ok t) o h = h
+one_agrees s ps d (Err e) o h = h
 
-data_agrees : (d : Option Data) (n : ℕ) (k : Kind) (ps : List Pair) (c : Markups) (r : Result Trees Misfit) (o : Option Misfit) → Agrees r o
-    → Agrees (fit_told n k ps d c r) (option_or (misfit_at n (chain false false (not (is_some d)) (not (text_fits k c)))) o)
-data_agrees None n k ps c r o h = refl
-data_agrees (Some d) n k ps c r o h = text_agrees (text_fits k c) n k (label_for k ps d (texts_in c)) r o h
+text_agrees : {A : Type 0} (t : Bool) (n : ℕ) (r : Result A Misfit) (o : Option Misfit) → Agrees r o
+    → Agrees (if t then r else Err (n, why.Text)) (option_or (misfit_at n (chain false false false (not t))) o)
+text_agrees true n r o h = h
+text_agrees false n r o h = refl
 
-one_agrees : (r : Result Tree Misfit) (o : Option Misfit) → Agrees r o → Agrees (one_tree r) o
-one_agrees (Ok t) o h = h
-one_agrees (Err e) o h = h
+data_agrees : (d : Option Data) (n : ℕ) (i : Bool) (s : Standing) (k : Kind) (ps : List Pair) (c : Markups)
+    (r : Result (List Piece) Misfit) (o : Option Misfit) → Agrees r o
+    → Agrees (fit_told n i s k ps d c r) (option_or (misfit_at n (chain false false (not (is_some d)) (not (text_fits k c)))) o)
+data_agrees None n i s k ps c r o h = refl
+data_agrees (Some d) n i s k ps c r o h =
+    text_agrees (text_fits k c) n (one_piece s ps d (with_children i k (label_as s k ps d (texts_in c)) r)) o
+    (one_agrees s ps d (with_children i k (label_as s k ps d (texts_in c)) r) o (inside_agrees i k (label_as s k ps d (texts_in c)) r o h))
 
-place_agrees : (b : Bool) (n : ℕ) (k : Kind) (ps : List Pair) (c : Markups) (r : Result Trees Misfit) (o : Option Misfit) → Agrees r o
-    → Agrees (if b then one_tree (fit_as n k ps c r) else Err (n, why.Place))
-    (option_or (misfit_at n (chain false (not b) (not (is_some (data_of k ps))) (not (text_fits k c)))) o)
-place_agrees true n k ps c r o h = one_agrees (fit_as n k ps c r) _ (data_agrees (data_of k ps) n k ps c r o h)
-place_agrees false n k ps c r o h = refl
+place_agrees : (b : Bool) (n : ℕ) (x : Spot) (s : Standing) (k : Kind) (ps : List Pair) (c : Markups)
+    (r : Result (List Piece) Misfit) (o : Option Misfit) → Agrees r o
+    → Agrees (if b then fit_as n x s k ps c r else Err (n, why.Place))
+    (option_or (misfit_at n (chain false (not b) (not (is_some (data_for x.inside s k ps))) (not (text_fits k c)))) o)
+place_agrees true n x s k ps c r o h = data_agrees (data_for x.inside s k ps) n (is_inside x s) s k ps c r o h
+place_agrees false n x s k ps c r o h = refl
 
-row_agrees : (j : Option Kind) (n : ℕ) (parent : Kind) (behind : Bool) (ps : List Pair) (c : Markups)
-    (inside : Kind → Result Trees Misfit) (below : Option Kind → Option Misfit) → ((k : Kind) → Agrees (inside k) (below (Some k)))
-    → Agrees (fit_row n parent behind j ps c inside) (option_or (misfit_at n (wrong_of (place n (Some parent) behind j ps c))) (below j))
-row_agrees None n parent behind ps c inside below h = refl
-row_agrees (Some k) n parent behind ps c inside below h = place_agrees (has_place parent behind k) n k ps c (inside k) (below (Some k)) (h k)
+row_agrees : (j : Option Kind) (n : ℕ) (x : Spot) (s : Standing) (ps : List Pair) (c : Markups)
+    (held : Kind → Result (List Piece) Misfit) (below : Option Kind → Option Misfit) → ((k : Kind) → Agrees (held k) (below (Some k)))
+    → Agrees (fit_row n x s j ps c held) (option_or (misfit_at n (wrong_of (place n (Some x.parent) x.inside x.behind s j ps c))) (below j))
+row_agrees None n x s ps c held below h = refl
+row_agrees (Some k) n x s ps c held below h = place_agrees (fits_place x.parent x.behind s k c) n x s k ps c (held k) (below (Some k)) (h k)
 
 mutual
-  node_agrees : (t : Markup) (n : ℕ) (parent : Kind) (behind : Bool) → Agrees (fit_node n parent behind t) (first_wrong (places n (Some parent) behind t))
-  node_agrees (text bs) n parent behind = refl
-  node_agrees (node name ps c) n parent behind =
-      row_agrees (row name ps) n parent behind ps c (λ k. fit_nodes (suc n) k false c)
-      (λ j. first_wrong (places_of_all (suc n) j false c)) (λ k. nodes_agree c (suc n) k false)
+  node_agrees : (t : Markup) (ts : Markups) (n : ℕ) (x : Spot)
+      → Agrees (fit_node n x t ts) (first_wrong (places n (Some x.parent) x.inside x.behind x.group t))
+  node_agrees (text bs) ts n x = refl
+  node_agrees (node name ps c) ts n x =
+      let s = standing x.group ps in
+      row_agrees (row_as s name ps) n x s ps c (λ k. fit_nodes (suc n) (within k (is_inside x s)) c)
+      (λ j. first_wrong (places_of_all (suc n) j (is_inside x s) false None c)) (λ k. nodes_agree c (suc n) (within k (is_inside x s)))
 
-  nodes_agree : (ts : Markups) (n : ℕ) (parent : Kind) (behind : Bool)
-      → Agrees (fit_nodes n parent behind ts) (first_wrong (places_of_all n (Some parent) behind ts))
-  nodes_agree empty n parent behind = refl
-  nodes_agree (more t ts) n parent behind =
+  nodes_agree : (ts : Markups) (n : ℕ) (x : Spot) → Agrees (fit_nodes n x ts) (first_wrong (places_of_all n (Some x.parent) x.inside x.behind x.group ts))
+  nodes_agree empty n x = refl
+  nodes_agree (more t ts) n x =
       let m = n + elements t in
-      let b = behind || is_block_element t in
-      agrees_at (onto_told (fit_node n parent behind t) (fit_nodes m parent b ts)) _ _
-      (first_append (places n (Some parent) behind t) (places_of_all m (Some parent) b ts))
-      (told_agrees (fit_node n parent behind t) (fit_nodes m parent b ts) _ _ (node_agrees t n parent behind) (nodes_agree ts m parent b))
+      agrees_at (onto_told (fit_node n x t ts) (fit_nodes m (behind_it x t ts) ts)) _ _
+      (first_append (places n (Some x.parent) x.inside x.behind x.group t)
+      (places_of_all m (Some x.parent) x.inside (x.behind || is_block_element x.group t) (open_after x.group t ts) ts))
+      (told_agrees (fit_node n x t ts) (fit_nodes m (behind_it x t ts) ts) _ _ (node_agrees t ts n x) (nodes_agree ts m (behind_it x t ts)))
+
+body_told_agrees : (d : Option Data) (n : ℕ) (ps : List Pair) (c : Markups) (r : Result (List Piece) Misfit) (o : Option Misfit) → Agrees r o
+    → Agrees (fit_body_told n ps d c r) (option_or (misfit_at n (chain false false (not (is_some d)) (not (text_fits kind.Body c)))) o)
+body_told_agrees None n ps c r o h = refl
+body_told_agrees (Some d) n ps c r o h =
+    text_agrees (text_fits kind.Body c) n (with_children false kind.Body (label_for kind.Body ps d (texts_in c)) r) o
+    (inside_agrees false kind.Body (label_for kind.Body ps d (texts_in c)) r o h)
 
 body_agrees : (f : Found) → Agrees (fit_body (Some f)) (first_wrong (places_of_body f))
 body_agrees f =
-    data_agrees (data_of kind.Body f.attributes) f.number kind.Body f.attributes f.contents
-    (fit_nodes (suc f.number) kind.Body false f.contents) _ (nodes_agree f.contents (suc f.number) kind.Body false)
+    body_told_agrees (body_data f.attributes) f.number f.attributes f.contents
+    (fit_nodes (suc f.number) (within kind.Body false) f.contents) _ (nodes_agree f.contents (suc f.number) (within kind.Body false))
 
 -- ---- what the first is
 

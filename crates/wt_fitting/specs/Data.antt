@@ -1,6 +1,7 @@
 -- What an element's `data-parsoid` and `data-mw` say, or that they are bad.
-use Rattle.std.specs.Prelude.{ℕ, ◌&&◌, Bool, true, false, not, is_some, Option, Some, None, Result, Ok, Err, List, [], ◌∷◌, codes, if◌then◌else◌}
+use Rattle.std.specs.Prelude.{ℕ, ◌==◌, ◌&&◌, ◌||◌, Bool, true, false, not, is_some, Option, Some, None, Result, Ok, Err, List, [], ◌∷◌, codes, if◌then◌else◌}
 use Rattle.wt_tree.specs.declared.kind.Kind.{Kind}
+use Rattle.wt_tree.specs.declared.kind.Kind.TheVariants as kind
 use Rattle.wt_tree.specs.declared.kind.AttrName.TheVariants as attr
 use Rattle.wt_tree.specs.declared.row.Payload.{Payload}
 use Rattle.wt_tree.specs.declared.row.Payload.TheVariants.{NoData, ExtensionTag, GroupParts}
@@ -13,6 +14,8 @@ use Rattle.wt_datamw.specs.declared.refusal.DataWhy.{DataWhy}
 use Rattle.wt_datamw.specs.SyncRead.{sync_told}
 use Rattle.wt_datamw.specs.MwRead.{mw_told}
 use Rattle.wt_html_grammar.specs.Markup.{Pair}
+use Rattle.wt_fitting.specs.declared.standing.Standing.{Standing}
+use Rattle.wt_fitting.specs.declared.standing.Standing.TheVariants as stands
 use Rattle.wt_fitting.specs.Attributes.{value_of, has, id_of}
 
 abbrev pub is_empty : List ℕ → Bool
@@ -68,12 +71,61 @@ abbrev pub both : Option (Option Sync) → Option (Option DataMw) → Option Dat
 both (Some s) (Some d) = Some (record { sync = s; mw = d })
 both s d = None
 
--- the data of a node that stands in no group; None where it is bad
+-- the data of a node by itself, in no group; None where it is bad
 abbrev pub data_of : Kind → List Pair → Option Data
 data_of k ps =
-    if has (codes "about") ps then None
-    else both (sync_fits k (value_of (codes "data-parsoid") ps))
+    both (sync_fits k (value_of (codes "data-parsoid") ps))
     (mw_fits (is_extension_of k (value_of (attribute_name attr.Typeof) ps)) (value_of (codes "data-mw") ps))
+
+-- ---- groups
+
+-- a node in a group has neither a number nor a source of its own
+abbrev pub has_own : List Pair → Bool
+has_own ps = has (codes "data-parsoid") ps || not (id_of ps == 0)
+
+abbrev pub no_data : Data
+no_data = record { sync = None; mw = None }
+
+abbrev pub no_data_if_good : Option (Option DataMw) → Option Data
+no_data_if_good None = None
+no_data_if_good (Some d) = Some no_data
+
+-- `data-mw` in a group isn't needed: what is there must be good, and counts for nothing
+abbrev pub mw_given : Bool → Option (List ℕ) → Option (Option DataMw)
+mw_given x None = Some None
+mw_given x (Some v) = mw_for x (mw_told v)
+
+abbrev pub inner_data : Kind → List Pair → Option Data
+inner_data k ps =
+    if has_own ps then None
+    else no_data_if_good (mw_given (is_extension_of k (value_of (attribute_name attr.Typeof) ps)) (value_of (codes "data-mw") ps))
+
+-- a group has its parts
+abbrev pub parts_in : Result DataMw DataWhy → Option (Option DataMw)
+parts_in (Err w) = None
+parts_in (Ok (mw.Extension name body)) = None
+parts_in (Ok (mw.Parts parts)) = Some (Some (mw.Parts parts))
+
+abbrev pub parts_of : Option (List ℕ) → Option (Option DataMw)
+parts_of None = None
+parts_of (Some v) = parts_in (mw_told v)
+
+-- the data of a group, which stands in another one or not
+abbrev pub group_data : Bool → List Pair → Option Data
+group_data true ps = if has_own ps then None else both (Some None) (parts_of (value_of (codes "data-mw") ps))
+group_data false ps = both (sync_fits kind.Group (value_of (codes "data-parsoid") ps)) (parts_of (value_of (codes "data-mw") ps))
+
+-- of a node by itself, in a group or not
+abbrev pub data_alone : Bool → Kind → List Pair → Option Data
+data_alone true k ps = inner_data k ps
+data_alone false k ps = data_of k ps
+
+-- by how an element stands, in a group or not
+abbrev pub data_for : Bool → Standing → Kind → List Pair → Option Data
+data_for x stands.Alone k ps = data_alone x k ps
+data_for x stands.First k ps = group_data x ps
+data_for x stands.Further k ps = inner_data k ps
+data_for x stands.Astray k ps = None
 
 -- the number, of kinds that have one
 abbrev pub id_for : Kind → List Pair → ℕ

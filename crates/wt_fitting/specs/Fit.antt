@@ -1,22 +1,26 @@
 -- Which trees of elements are pages, and what page each is. The elements are counted from 1 in
 -- document order; the first that doesn't fit is told, with the first reason for it.
-use Rattle.std.specs.Prelude.{ℕ, suc, ◌+◌, ◌++◌, ◌==◌, ◌&&◌, ◌||◌, Bool, true, false, not, Option, Some, None, Result, Ok, Err, List, [], codes, if◌then◌else◌}
+use Rattle.std.specs.Prelude.{ℕ, suc, ◌+◌, ◌++◌, ◌==◌, ◌&&◌, ◌||◌, Bool, true, false, not, Option, Some, None, Result, Ok, Err, List, [], ◌∷◌, codes, if◌then◌else◌}
+use Rattle.std.specs.Option.{option_map}
 use Rattle.std.specs.Str.{bytes_eq}
 use Rattle.wt_tree.specs.declared.kind.Kind.{Kind}
 use Rattle.wt_tree.specs.declared.kind.Kind.TheVariants as kind
 use Rattle.wt_tree.specs.declared.kind.Mark.TheVariants as mark
-use Rattle.wt_tree.specs.Tree.{Label, Tree, tree, Trees, none as no_trees, more as one_more}
+use Rattle.wt_tree.specs.Tree.{Label, Tree, tree, Trees}
 use Rattle.wt_datamw.specs.declared.sync.Sync.{Sync}
 use Rattle.wt_html_grammar.specs.Markup.{Pair, Markup, Markups, text, node, empty, more}
 use Rattle.wt_fitting.specs.declared.why.FitWhy.{FitWhy}
 use Rattle.wt_fitting.specs.declared.why.FitWhy.TheVariants as why
+use Rattle.wt_fitting.specs.declared.standing.Standing.{Standing}
+use Rattle.wt_fitting.specs.declared.standing.Standing.TheVariants as stands
+use Rattle.wt_fitting.specs.Groups.{standing, open_after, is_grouped, is_dropped, group_attributes, own_pairs, pairs_for, is_span, is_none, Piece, single, begun, further, gathered}
 use Rattle.wt_fitting.specs.Attributes.{has, is_typed, id_of, mark_of}
 use Rattle.wt_tree.specs.declared.row.Texts.{Texts}
 use Rattle.wt_tree.specs.declared.row.Texts.TheVariants.{Separators, Page, Bordered, OwnCharacter}
 use Rattle.wt_tree.specs.Kinds.{may_hold, may_follow, is_block, texts_of_kind}
 use Rattle.wt_tree.specs.Recut.{is_blank, text_leaf, sep_leaf, recut}
 use Rattle.wt_fitting.specs.Rows.{row, holds_text, shows_text, attrs_for}
-use Rattle.wt_fitting.specs.Data.{Data, data_of, id_for}
+use Rattle.wt_fitting.specs.Data.{Data, no_data, data_of, data_for, id_for}
 
 -- ---- labels
 
@@ -51,6 +55,23 @@ label_for k ps d shown =
       mw = d.mw;
     }) d.sync
 
+-- the label of a group, by its first element
+abbrev pub group_label : List Pair → Data → Label
+group_label ps d = record (label_for kind.Group ps d []) { attrs = group_attributes ps }
+
+-- The label of an element by how it stands: of a group's first one the data are the group's.
+abbrev pub label_as : Standing → Kind → List Pair → Data → List ℕ → Label
+label_as stands.Alone k ps d shown = label_for k ps d shown
+label_as stands.First k ps d shown = label_for k (own_pairs ps) no_data shown
+label_as stands.Further k ps d shown = label_for k ps d shown
+label_as stands.Astray k ps d shown = label_for k ps d shown
+
+abbrev pub piece_as : Standing → List Pair → Data → Tree → Piece
+piece_as stands.Alone ps d t = single t
+piece_as stands.First ps d t = begun (group_label ps d) t
+piece_as stands.Further ps d t = further t
+piece_as stands.Astray ps d t = single t
+
 -- ---- counting
 
 -- how many elements
@@ -83,14 +104,14 @@ are_blank (more (node name ps c) ts) = are_blank ts
 abbrev pub Misfit : Type 0
 Misfit = ℕ × FitWhy
 
-abbrev pub onto : Tree → Result Trees Misfit → Result Trees Misfit
-onto t (Ok ts) = Ok (one_more t ts)
-onto t (Err e) = Err e
+abbrev pub onto : Piece → Result (List Piece) Misfit → Result (List Piece) Misfit
+onto x (Ok xs) = Ok (x ∷ xs)
+onto x (Err e) = Err e
 
--- a tree, or none, before others; its misfit comes first
-abbrev pub onto_told : Result (Option Tree) Misfit → Result Trees Misfit → Result Trees Misfit
+-- a piece, or none, before others; its misfit comes first
+abbrev pub onto_told : Result (Option Piece) Misfit → Result (List Piece) Misfit → Result (List Piece) Misfit
 onto_told (Ok None) r = r
-onto_told (Ok (Some t)) r = onto t r
+onto_told (Ok (Some x)) r = onto x r
 onto_told (Err e) r = Err e
 
 -- in an item, a cell or a caption texts and separators are cut at the border between them
@@ -100,61 +121,97 @@ held_as Page ts = ts
 held_as Bordered ts = recut ts
 held_as OwnCharacter ts = ts
 
--- what an element of this kind holds, when all that stands in it fits
-abbrev pub children_in : Kind → Trees → Trees
-children_in k ts = held_as (texts_of_kind k) ts
+-- What an element of this kind holds, when all that stands in it fits. In a group no separator is
+-- written, so there all texts stay whole.
+abbrev pub children_in : Bool → Kind → List Piece → Trees
+children_in inside k xs = if inside then gathered xs else held_as (texts_of_kind k) (gathered xs)
 
--- a node of this kind with this label
-abbrev pub with_children : Kind → Label → Result Trees Misfit → Result Tree Misfit
-with_children k l (Ok ts) = Ok (tree l (children_in k ts))
-with_children k l (Err e) = Err e
+-- a node of this kind with this label, in a group or not
+abbrev pub with_children : Bool → Kind → Label → Result (List Piece) Misfit → Result Tree Misfit
+with_children inside k l (Ok xs) = Ok (tree l (children_in inside k xs))
+with_children inside k l (Err e) = Err e
 
-abbrev pub one_tree : Result Tree Misfit → Result (Option Tree) Misfit
-one_tree (Ok t) = Ok (Some t)
-one_tree (Err e) = Err e
+abbrev pub one_piece : Standing → List Pair → Data → Result Tree Misfit → Result (Option Piece) Misfit
+one_piece s ps d (Ok t) = Ok (Some (piece_as s ps d t))
+one_piece s ps d (Err e) = Err e
 
 -- whether the texts directly in an element of this kind may stand there
 abbrev pub text_fits : Kind → Markups → Bool
 text_fits k c = holds_text k || are_blank c
 
--- element n is of this kind, with this data and this inside
-abbrev pub fit_told : ℕ → Kind → List Pair → Option Data → Markups → Result Trees Misfit → Result Tree Misfit
-fit_told n k ps None c inside = Err (n, why.Data)
-fit_told n k ps (Some d) c inside = if text_fits k c then with_children k (label_for k ps d (texts_in c)) inside else Err (n, why.Text)
+-- ---- where something stands
 
-abbrev pub fit_as : ℕ → Kind → List Pair → Markups → Result Trees Misfit → Result Tree Misfit
-fit_as n k ps c inside = fit_told n k ps (data_of k ps) c inside
+-- in a parent of this kind, in a group or not, behind a block or not, and with this group open
+pub record Spot : Type 0 where
+  pub parent : Kind
+  pub inside : Bool
+  pub behind : Bool
+  pub group : Option (List ℕ)
 
--- ---- places
+-- what stands first in an element of this kind
+abbrev pub within : Kind → Bool → Spot
+within k inside = record { parent = k; inside = inside; behind = false; group = None }
 
 abbrev pub is_block_row : Option Kind → Bool
 is_block_row None = false
 is_block_row (Some k) = is_block k
 
+-- the row of an element, by how it stands
+abbrev pub row_as : Standing → List ℕ → List Pair → Option Kind
+row_as s name ps = row name (pairs_for s ps)
+
 -- a block or a list
-abbrev pub is_block_element : Markup → Bool
-is_block_element (text bs) = false
-is_block_element (node name ps c) = is_block_row (row name ps)
+abbrev pub is_block_element : Option (List ℕ) → Markup → Bool
+is_block_element group (text bs) = false
+is_block_element group (node name ps c) = is_block_row (row_as (standing group ps) name ps)
+
+-- behind a text or an element, and before these
+abbrev pub behind_it : Spot → Markup → Markups → Spot
+behind_it x t ts = record x { behind = x.behind || is_block_element x.group t; group = open_after x.group t ts }
 
 -- in a parent of that kind, behind a block or not
 abbrev pub has_place : Kind → Bool → Kind → Bool
 has_place parent behind k = may_hold parent k && may_follow behind k
 
--- element n in a parent of that kind, by its row
-abbrev pub fit_row : ℕ → Kind → Bool → Option Kind → List Pair → Markups → (Kind → Result Trees Misfit) → Result (Option Tree) Misfit
-fit_row n parent behind None ps c inside = Err (n, why.Element)
-fit_row n parent behind (Some k) ps c inside = if has_place parent behind k then one_tree (fit_as n k ps c (inside k)) else Err (n, why.Place)
+-- in a group an empty `span` may stand anywhere
+abbrev pub fits_place : Kind → Bool → Standing → Kind → Markups → Bool
+fits_place parent behind s k c = has_place parent behind k || (is_grouped s && (is_span k && is_none c))
 
--- What stands in a parent of that kind, behind a block or not: its first element, if it has one, is
--- number n.
+-- what stands in an element is in a group where the element is, or is part of one
+abbrev pub is_inside : Spot → Standing → Bool
+is_inside x s = x.inside || is_grouped s
+
+-- ---- elements
+
+-- element n is of this kind, with this data and this inside
+abbrev pub fit_told : ℕ → Bool → Standing → Kind → List Pair → Option Data → Markups → Result (List Piece) Misfit → Result (Option Piece) Misfit
+fit_told n inside s k ps None c held = Err (n, why.Data)
+fit_told n inside s k ps (Some d) c held =
+    if text_fits k c then one_piece s ps d (with_children inside k (label_as s k ps d (texts_in c)) held) else Err (n, why.Text)
+
+abbrev pub fit_as : ℕ → Spot → Standing → Kind → List Pair → Markups → Result (List Piece) Misfit → Result (Option Piece) Misfit
+fit_as n x s k ps c held = fit_told n (is_inside x s) s k ps (data_for x.inside s k ps) c held
+
+-- element n where it stands, by its row
+abbrev pub fit_row : ℕ → Spot → Standing → Option Kind → List Pair → Markups → (Kind → Result (List Piece) Misfit) → Result (Option Piece) Misfit
+fit_row n x s None ps c held = Err (n, why.Element)
+fit_row n x s (Some k) ps c held = if fits_place x.parent x.behind s k c then fit_as n x s k ps c (held k) else Err (n, why.Place)
+
+-- a text before these: white space between two elements of a group is nothing
+abbrev pub fit_text : Spot → List ℕ → Markups → Option Piece
+fit_text x bs ts = if is_dropped x.group bs ts then None else option_map single (leaf_in x.parent bs)
+
+-- What stands there, and before these: its first element, if it has one, is number n.
 abbrev mutual
-  pub fit_node : ℕ → Kind → Bool → Markup → Result (Option Tree) Misfit
-  fit_node n parent behind (text bs) = Ok (leaf_in parent bs)
-  fit_node n parent behind (node name ps c) = fit_row n parent behind (row name ps) ps c (λ k. fit_nodes (suc n) k false c)
+  pub fit_node : ℕ → Spot → Markup → Markups → Result (Option Piece) Misfit
+  fit_node n x (text bs) ts = Ok (fit_text x bs ts)
+  fit_node n x (node name ps c) ts =
+      fit_row n x (standing x.group ps) (row_as (standing x.group ps) name ps) ps c
+      (λ k. fit_nodes (suc n) (within k (is_inside x (standing x.group ps))) c)
 
-  pub fit_nodes : ℕ → Kind → Bool → Markups → Result Trees Misfit
-  fit_nodes n parent behind empty = Ok no_trees
-  fit_nodes n parent behind (more t ts) = onto_told (fit_node n parent behind t) (fit_nodes (n + elements t) parent (behind || is_block_element t) ts)
+  pub fit_nodes : ℕ → Spot → Markups → Result (List Piece) Misfit
+  fit_nodes n x empty = Ok []
+  fit_nodes n x (more t ts) = onto_told (fit_node n x t ts) (fit_nodes (n + elements t) (behind_it x t ts) ts)
 
 -- ---- the frame
 
@@ -189,9 +246,19 @@ abbrev pub body_of : Markup → Option Found
 body_of (text bs) = None
 body_of (node name ps c) = if bytes_eq name (codes "html") && not (is_marked_root ps) then body_in (elements_in c) else None
 
+-- The body stands by itself.
+abbrev pub fit_body_told : ℕ → List Pair → Option Data → Markups → Result (List Piece) Misfit → Result Tree Misfit
+fit_body_told n ps None c held = Err (n, why.Data)
+fit_body_told n ps (Some d) c held =
+    if text_fits kind.Body c then with_children false kind.Body (label_for kind.Body ps d (texts_in c)) held else Err (n, why.Text)
+
+-- its `about` is no group's, and asks for `data-mw` too
+abbrev pub body_data : List Pair → Option Data
+body_data ps = if has (codes "about") ps && not (has (codes "data-mw") ps) then None else data_of kind.Body ps
+
 abbrev pub fit_body : Option Found → Result Tree Misfit
 fit_body None = Err (1, why.Root)
-fit_body (Some f) = fit_as f.number kind.Body f.attributes f.contents (fit_nodes (suc f.number) kind.Body false f.contents)
+fit_body (Some f) = fit_body_told f.number f.attributes (body_data f.attributes) f.contents (fit_nodes (suc f.number) (within kind.Body false) f.contents)
 
 -- the page that a tree of elements is, or its first misfit
 abbrev pub fit : Markup → Result Tree Misfit

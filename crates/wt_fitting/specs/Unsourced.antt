@@ -3,7 +3,10 @@
 use Rattle.std.specs.Prelude.{ℕ, suc, ◌+◌, ◌||◌, Bool, not, Option, Some, None, List, codes, if◌then◌else◌}
 use Rattle.std.specs.Option.{option_or}
 use Rattle.wt_html_grammar.specs.Markup.{Pair, Markup, Markups, text, node, empty, more}
+use Rattle.wt_fitting.specs.declared.standing.Standing.{Standing}
+use Rattle.wt_fitting.specs.declared.standing.Standing.TheVariants as stands
 use Rattle.wt_fitting.specs.Attributes.{has}
+use Rattle.wt_fitting.specs.Groups.{standing, open_after}
 use Rattle.wt_fitting.specs.Fit.{Found, elements, body_of}
 
 abbrev pub is_marked : List Pair → Bool
@@ -12,19 +15,28 @@ is_marked ps = has (codes "data-wt-edit") ps
 abbrev pub is_unsourced : List Pair → Bool
 is_unsourced ps = not (has (codes "data-parsoid") ps) || is_marked ps
 
--- the first in preorder; the first element of what is given has number n
-abbrev mutual
-  pub unsourced_node : ℕ → Markup → Option ℕ
-  unsourced_node n (text bs) = None
-  unsourced_node n (node name ps c) = if is_unsourced ps then Some n else unsourced_nodes (suc n) c
+-- An element by how it stands: a group's first element is asked for the group, and nothing else in a
+-- group is.
+abbrev pub unsourced_as : Standing → ℕ → List Pair → Option ℕ → Option ℕ
+unsourced_as stands.Alone n ps inside = if is_unsourced ps then Some n else inside
+unsourced_as stands.First n ps inside = if is_unsourced ps then Some n else None
+unsourced_as stands.Further n ps inside = None
+unsourced_as stands.Astray n ps inside = if is_unsourced ps then Some n else inside
 
-  pub unsourced_nodes : ℕ → Markups → Option ℕ
-  unsourced_nodes n empty = None
-  unsourced_nodes n (more t ts) = option_or (unsourced_node n t) (unsourced_nodes (n + elements t) ts)
+-- the first in preorder, outside groups; `group` is the group that is open, and the first element of what
+-- is given has number n
+abbrev mutual
+  pub unsourced_node : ℕ → Option (List ℕ) → Markup → Option ℕ
+  unsourced_node n group (text bs) = None
+  unsourced_node n group (node name ps c) = unsourced_as (standing group ps) n ps (unsourced_nodes (suc n) None c)
+
+  pub unsourced_nodes : ℕ → Option (List ℕ) → Markups → Option ℕ
+  unsourced_nodes n group empty = None
+  unsourced_nodes n group (more t ts) = option_or (unsourced_node n group t) (unsourced_nodes (n + elements t) (open_after group t ts) ts)
 
 abbrev pub unsourced_body : Option Found → Option ℕ
 unsourced_body None = None
-unsourced_body (Some f) = if is_marked f.attributes then Some f.number else unsourced_nodes (suc f.number) f.contents
+unsourced_body (Some f) = if is_marked f.attributes then Some f.number else unsourced_nodes (suc f.number) None f.contents
 
 abbrev pub unsourced : Markup → Option ℕ
 unsourced m = unsourced_body (body_of m)

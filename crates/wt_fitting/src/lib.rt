@@ -4,7 +4,9 @@
 #![tactic(auto)]
 
 mod laws;
+mod standing;
 mod why;
 
 pub use laws::{first_misfit, first_without_source, one_reading};
+pub use standing::Standing;
 pub use why::FitWhy;
