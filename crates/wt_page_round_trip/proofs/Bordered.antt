@@ -15,12 +15,12 @@ use Rattle.wt_tree.specs.declared.row.Texts.{Texts}
 use Rattle.wt_tree.specs.declared.row.Texts.TheVariants.{Bordered}
 use Rattle.wt_tree.specs.Tiling.{is_group}
 use Rattle.wt_tree.specs.Tree.{Tree, tree, Trees, none, more, label}
-use Rattle.wt_tree.specs.Kinds.{texts_of_kind, writing, is_block, is_inline, may_follow}
+use Rattle.wt_tree.specs.Kinds.{texts_of_kind, writing, is_block, is_inline}
 use Rattle.wt_tree.specs.Recut.{is_break, is_space, is_blank as is_white, are_spaces, has_break, from_break, is_as_text, is_text, shows_block, is_border, is_passed, leads_to_block, place_in, text_leaf, sep_leaf}
 use Rattle.wt_tree.specs.Recutting.{is_empty}
 use Rattle.wt_tree.specs.Cutting.{begins_with_text, begins_with_break, is_sep_at, IsWholeBy, IsWhole, IsFront, StandsBy, AreCut}
 use Rattle.wt_tree.proofs.CutOnly.{and_none, or_true}
-use Rattle.wt_round_trip.specs.Written.{joins, are_ordered, AllWrittenIn}
+use Rattle.wt_round_trip.specs.Written.{joins, goes_behind, are_ordered, AllWrittenIn}
 use Rattle.wt_inline.specs.declared.loose.Loose.{Loose}
 use Rattle.wt_inline.specs.declared.loose.Loose.TheVariants.{Text, Sep}
 use Rattle.wt_inline.specs.ItemTree.{ItemTree, inner, forest, tree_items, held_by_all}
@@ -29,7 +29,7 @@ use Rattle.wt_ranges.specs.Labels.{width, label_at}
 use Rattle.wt_ranges.specs.Counted.{numbered, numbered_in_all}
 use Rattle.wt_ranges.specs.Made.{annotated_at, all_annotated_at}
 use Rattle.wt_page_round_trip.proofs.Parts.{wide_append, own_chars, shown_chars}
-use Rattle.wt_page_round_trip.proofs.Separated.{head_of, IsPartIn, IsSeparatorRun, begins_loose, all_behind, separator_run, no_text_first}
+use Rattle.wt_page_round_trip.proofs.Separated.{goes_first, head_of, IsPartIn, IsSeparatorRun, begins_loose, all_behind, separator_run, no_text_first}
 
 -- ---- what a line gives
 
@@ -392,14 +392,14 @@ runs_cut ((loose j o b ∷ r) ∷ w ∷ rs) ps us h a f at next =
 -- ---- their order
 
 abbrev pub NoInline : ItemTree → Type 0
-NoInline t = is_inline (head_of t).kind ≡ false
+NoInline t = goes_first (head_of t).kind ≡ false
 
 abbrev pub NoBlock : ItemTree → Type 0
-NoBlock t = is_block (head_of t).kind ≡ false
+NoBlock t = (is_block (head_of t).kind ≡ false) × (is_group (head_of t).kind ≡ false)
 
 loose_order : (j : Loose) (xs : List Item) → NoInline (loose_leaf j xs) × NoBlock (loose_leaf j xs)
-loose_order Text xs = (refl, refl)
-loose_order Sep xs = (refl, refl)
+loose_order Text xs = (refl, (refl, refl))
+loose_order Sep xs = (refl, (refl, refl))
 
 pub runs_no_inline : (k : ℕ) (q : Kind) (rs : List (List Part)) (ps : List Part) → AreRuns one_leaf rs ps → AllByRecursion (IsPartIn k q) ps
     → AllByRecursion NoInline (map child rs)
@@ -417,25 +417,38 @@ runs_no_block [] ps h a = tt
 runs_no_block ([] ∷ rs) ps h a = absurd h.2
 runs_no_block ((node t ∷ r) ∷ rs) ps h a =
     let v = subst (λ (ts : List Part). AllByRecursion IsLinePart ts) h.1 a in
-    (v.0.block, runs_no_block rs h.0 h.3 (lines_behind (node t ∷ r) h.0 v))
+    ((v.0.block, v.0.group), runs_no_block rs h.0 h.3 (lines_behind (node t ∷ r) h.0 v))
 runs_no_block ((loose j o b ∷ r) ∷ rs) ps h a =
     let v = subst (λ (ts : List Part). AllByRecursion IsLinePart ts) h.1 a in
     ((loose_order j (char o b ∷ held_parts r)).1, runs_no_block rs h.0 h.3 (lines_behind (loose j o b ∷ r) h.0 v))
 
+or_parts : (a b : Bool) → (a || b) ≡ false → (a ≡ false) × (b ≡ false)
+or_parts true b e = cc
+or_parts false b e = (refl, e)
+
+goes_plainly : (b : Bool) (t : Tree) → goes_first (label t).kind ≡ false → goes_behind b t ≡ true
+goes_plainly b (tree l ts) e =
+    let q = or_parts (is_inline l.kind) (is_group l.kind) e in
+    if_false (is_group l.kind) _ _ q.1 ∙ ap (λ x. not (b && x)) q.0 ∙ ap not (and_none b)
+
+shows_no_block : (t : Tree) → is_block (label t).kind ≡ false → is_group (label t).kind ≡ false
+    → (goes_behind false t ≡ true) × (shows_block t ≡ false)
+shows_no_block (tree l ts) e g = (if_false (is_group l.kind) _ _ g, if_false (is_group l.kind) _ _ g ∙ e)
+
 pub behind_ordered : (us : List ItemTree) (b : Bool) (at next : ℕ) → AllByRecursion NoInline us → are_ordered b (all_annotated_at at next (forest us)) ≡ true
 behind_ordered [] b at next a = refl
 behind_ordered (u ∷ us) b at next a =
-    let may : may_follow b (label (annotated_at at next u)).kind ≡ true =
-    ap (may_follow b) (kind_is at next u) ∙ ap (λ x. not (b && x)) a.0 ∙ ap not (and_none b) in
-    ap₂ (λ x y. x && y) may (behind_ordered us (b || is_block (label (annotated_at at next u)).kind) (at + width (tree_items u)) (next + numbered u) a.1)
+    ap₂ (λ x y. x && y) (goes_plainly b (annotated_at at next u) (ap goes_first (kind_is at next u) ∙ a.0))
+    (behind_ordered us (b || shows_block (annotated_at at next u)) (at + width (tree_items u)) (next + numbered u) a.1)
 
 pub all_ordered : (ts us : List ItemTree) (at next : ℕ) → AllByRecursion NoBlock ts → AllByRecursion NoInline us
     → are_ordered false (all_annotated_at at next (forest (ts ++ us))) ≡ true
 all_ordered [] us at next a b = behind_ordered us false at next b
 all_ordered (t ∷ ts) us at next a b =
     let rest : Trees = all_annotated_at (at + width (tree_items t)) (next + numbered t) (forest (ts ++ us)) in
-    let no_block : is_block (label (annotated_at at next t)).kind ≡ false = ap is_block (kind_is at next t) ∙ a.0 in
-    ap (λ x. are_ordered x rest) no_block ∙ all_ordered ts us (at + width (tree_items t)) (next + numbered t) a.1 b
+    let none : (goes_behind false (annotated_at at next t) ≡ true) × (shows_block (annotated_at at next t) ≡ false) =
+    shows_no_block (annotated_at at next t) (ap is_block (kind_is at next t) ∙ a.0.0) (ap is_group (kind_is at next t) ∙ a.0.1) in
+    ap₂ (λ x y. x && are_ordered y rest) none.0 none.1 ∙ all_ordered ts us (at + width (tree_items t)) (next + numbered t) a.1 b
 
 -- ---- both are written
 

@@ -18,7 +18,7 @@ use Rattle.wt_tree.specs.Tree.{Label, Trees}
 use Rattle.wt_tree.specs.Kinds.{row, shape, texts_of_kind, is_leaf, is_numbered, may_hold, spelling}
 use Rattle.wt_tree.specs.Recut.{is_as_text}
 use Rattle.wt_fitting.specs.Rows.{shows_text}
-use Rattle.wt_round_trip.specs.Written.{has_level, IsNumber, HasSource, IsShown, HasAttributes, HasData, is_extension_label, IsElementLabel, NodeIsWritten, is_childless, IsCutIn, AllWrittenIn}
+use Rattle.wt_round_trip.specs.Written.{has_level, IsNumber, HasSource, IsShown, HasAttributes, HasData, is_extension_label, IsElementLabel, IsWrittenGroup, NodeIsWritten, is_childless, IsCutIn, AllWrittenIn}
 use Rattle.wt_inline.specs.ItemTree.{plain, ItemTrees, inner, leaf, forest, held_by_all}
 use Rattle.wt_inline.specs.Parts.{Part, children}
 use Rattle.wt_ranges.specs.Labels.{width, label_at}
@@ -94,7 +94,9 @@ box_written k parent q r attrs opening closing b ts small holds inside = record 
       (label_at at (if y.is_numbered then next else 0) y.is_leaf (with_attrs q attrs) opening own closing)
       (is_childless (inside_by y.is_leaf (all_annotated_at (at + width opening) (if y.is_numbered then next + 1 else next) ts)))
       (IsCutIn y.texts (inside_by y.is_leaf (all_annotated_at (at + width opening) (if y.is_numbered then next + 1 else next) ts))
-      × AllWrittenIn (suc k) q (inside_by y.is_leaf (all_annotated_at (at + width opening) (if y.is_numbered then next + 1 else next) ts))))
+      × AllWrittenIn (suc k) q (inside_by y.is_leaf (all_annotated_at (at + width opening) (if y.is_numbered then next + 1 else next) ts)))
+      (IsWrittenGroup k parent (label_at at (if y.is_numbered then next else 0) y.is_leaf (with_attrs q attrs) opening own closing)
+      (inside_by y.is_leaf (all_annotated_at (at + width opening) (if y.is_numbered then next + 1 else next) ts))))
       (sym r.shape_is)
       (written_box k at next own us small l (subst (λ (y : Shape). IsCutIn y.texts us) r.shape_is i.0) i.1);
 }
@@ -103,6 +105,7 @@ box_written k parent q r attrs opening closing b ts small holds inside = record 
         → IsElementLabel (label_at at next false (with_attrs q attrs) opening own closing) → IsCutIn r.texts us → AllWrittenIn (suc k) q us
         → NodeIsWritten RoundChildren k parent (label_at at next false (with_attrs q attrs) opening own closing) (is_childless us)
         (IsCutIn r.texts us × AllWrittenIn (suc k) q us)
+        (IsWrittenGroup k parent (label_at at next false (with_attrs q attrs) opening own closing) us)
     written_box k at next own us small l i w =
         (omega (arith, small), holds, l, ap (λ (y : Shape). not y.is_leaf || is_childless us) r.shape_is, (i, w))
 

@@ -13,7 +13,7 @@ use Rattle.wt_tree.specs.declared.kind.Kind.TheVariants as kind
 use Rattle.wt_tree.specs.declared.row.Texts.TheVariants.{Bordered}
 use Rattle.wt_tree.specs.Tiling.{is_group}
 use Rattle.wt_tree.specs.Tree.{Tree, Trees}
-use Rattle.wt_tree.specs.Kinds.{texts_of_kind, is_block, is_inline}
+use Rattle.wt_tree.specs.Kinds.{texts_of_kind, is_block}
 use Rattle.wt_tree.specs.Recut.{is_text, shows_block, is_border, leads_to_block}
 use Rattle.wt_tree.specs.Cutting.{begins_with_text, IsWhole, IsFront, StandsBy, AreCut}
 use Rattle.wt_tree.proofs.CutOnly.{only_cut}
@@ -33,7 +33,7 @@ use Rattle.wt_page_round_trip.proofs.PageLines.{all_taken, all_dropped}
 use Rattle.wt_page_round_trip.proofs.Parts.{wide_append, children_written}
 use Rattle.wt_page_round_trip.proofs.Inline.{IsInlineParent}
 use Rattle.wt_page_round_trip.proofs.ContextParts.{line_fits}
-use Rattle.wt_page_round_trip.proofs.Separated.{head_of, IsPartIn, TakesSeparators, separated_written}
+use Rattle.wt_page_round_trip.proofs.Separated.{goes_first, head_of, IsPartIn, TakesSeparators, separated_written}
 use Rattle.wt_page_round_trip.proofs.Boxes.{IsInside, IsRound, IsBox, box_written}
 use Rattle.wt_page_round_trip.proofs.Stretched.{StandsIn, IsBlockIn, IsPlaced, ArePlaced, placed_parts, block_first, gap_first, gaps_behind, enclosed_placed}
 use Rattle.wt_page_round_trip.proofs.Bordered.{IsLinePart, BreaksFirst, lines_behind, behind_cut, behind_by, runs_cut, runs_no_inline, runs_no_block, behind_ordered, all_ordered, both_written}
@@ -45,7 +45,7 @@ pub record IsBordered (q : Kind) : Type 0 where
   pub texts : texts_of_kind q ≡ Bordered
   pub takes : TakesSeparators q
   pub parent : IsInlineParent q
-  pub block : is_inline q ≡ false
+  pub block : goes_first q ≡ false
 
 -- ---- children of a line, and those behind it
 

@@ -1,12 +1,15 @@
 -- The annotated tree of a page with all its blocks is written, and its source is the page.
 use Rattle.std.proofs.Common.{◌≡◌, ℕ, ◌+◌, ◌*◌, ◌<◌, ◌≤◌, ◌^◌, List, [], ◌++◌, length, IsUtf8, refl, sym, ap, ◌∙◌, subst, arith}
-use Rattle.std.specs.Prelude.{None}
+use Rattle.std.specs.Prelude.{None, if◌then◌else◌}
 use Rattle.std.proofs.lemmas.Str.{IsUtf8-nil}
 use Rattle.wt_span.specs.Items.{Item}
 use Rattle.wt_tree.specs.declared.kind.Kind.TheVariants as kind
 use Rattle.wt_tree.specs.Source.{flat}
-use Rattle.wt_markup.specs.Html.{html_text}
-use Rattle.wt_tree.specs.Kinds.{spelling}
+use Rattle.wt_markup.specs.Html.{groups_by, groups, groups_of_all, html_text}
+use Rattle.wt_tree.specs.declared.row.Writing.{Writing}
+use Rattle.wt_tree.specs.declared.row.Writing.TheVariants.{AsText, AsVoid, RoundCharacter, RoundChildren, Unwritten}
+use Rattle.wt_tree.specs.Tree.{Tree, tree, Trees, none, more}
+use Rattle.wt_tree.specs.Kinds.{writing, spelling}
 use Rattle.wt_fitting.specs.Read.{read, page as read_page}
 use Rattle.wt_round_trip.specs.Written.{unranged, IsWritten}
 use Rattle.wt_round_trip.proofs.Again.{same_source}
@@ -21,7 +24,7 @@ use Rattle.wt_body.specs.Body.{blocks, meaning}
 use Rattle.wt_body.proofs.HeldBody.{sources_meaning}
 use Rattle.wt_ranges.specs.Labels.{width, label_at}
 use Rattle.wt_ranges.specs.Counted.{numbered, numbered_in_all}
-use Rattle.wt_ranges.specs.WithoutCalls.{annotated, HasNoGroup}
+use Rattle.wt_ranges.specs.WithoutCalls.{annotated, HasNoGroup, NoneIsGroup}
 use Rattle.wt_ranges.specs.Made.{annotated_at}
 use Rattle.wt_ranges.proofs.OnePass.{annotated_is}
 use Rattle.wt_page_round_trip.proofs.OfPage.{page_texts, page_of_page}
@@ -72,9 +75,28 @@ page_written page u room few h =
     subst IsWritten (sym (annotated_is (meaning (page_items page)))) (written_at page u room few) in
     subst IsWritten (sym (plainly page h ∙ written_stays (annotated (meaning (page_items page))) w)) w
 
+-- no groups are written
+written_groups : (w : Writing) (n : ℕ) → n ≡ 0 → groups_by w n ≡ 0
+written_groups AsText n e = refl
+written_groups AsVoid n e = refl
+written_groups RoundCharacter n e = refl
+written_groups RoundChildren n e = e
+written_groups Unwritten n e = refl
+
+mutual
+  no_groups : (t : Tree) → HasNoGroup t → groups t ≡ 0
+  no_groups (tree l ts) h =
+      ap (λ x. if x then 1 else groups_by (writing l.kind) (groups_of_all ts)) h.0
+      ∙ written_groups (writing l.kind) (groups_of_all ts) (none_groups ts h.1)
+
+  none_groups : (ts : Trees) → NoneIsGroup ts → groups_of_all ts ≡ 0
+  none_groups none h = refl
+  none_groups (more t ts) h = omega (arith, no_groups t h.0, none_groups ts h.1)
+
 pub page_is_read : (page : List ℕ) → IsUtf8 page → length page < 2 ^ 31 → numbered (meaning (page_items page)) ≤ 2 * length page
     → HasNoGroup (page_tree page) → read (html_text (page_tree page)) ≡ read_page (unranged (page_tree page)) None
-page_is_read page u room few h = written_read (page_tree page) (page_written page u room few h)
+page_is_read page u room few h =
+    written_read (page_tree page) (page_written page u room few h) (omega (arith, no_groups (page_tree page) h))
 
 -- ---- its source
 

@@ -14,6 +14,7 @@ use Rattle.wt_span.proofs.RunLaws.{runs_are}
 use Rattle.wt_tree.specs.declared.kind.Kind.{Kind}
 use Rattle.wt_tree.specs.declared.kind.Kind.TheVariants as kind
 use Rattle.wt_tree.specs.Kinds.{texts_of_kind, is_inline}
+use Rattle.wt_tree.specs.Tiling.{is_group}
 use Rattle.wt_tree.specs.Recut.{is_text, is_blank as is_white}
 use Rattle.wt_tree.specs.Cutting.{begins_with_text}
 use Rattle.wt_round_trip.specs.Written.{leaf_kind, may_stand, HasLeafKind, WrittenIn, AllWrittenIn}
@@ -33,9 +34,13 @@ use Rattle.wt_page_round_trip.proofs.Forms.{mark_node}
 abbrev pub head_of : ItemTree → Head
 head_of (inner h opening ts closing) = h
 
+-- an inline element may not stand behind a block, and a group not everywhere
+abbrev pub goes_first : Kind → Bool
+goes_first k = is_inline k || is_group k
+
 -- a node that is written there, and may stand behind a block
 abbrev pub IsNodeIn : ℕ → Kind → ItemTree → Type 0
-IsNodeIn k parent t = IsWrittenNode k parent t × (is_inline (head_of t).kind ≡ false)
+IsNodeIn k parent t = IsWrittenNode k parent t × (goes_first (head_of t).kind ≡ false)
 
 -- a white character of a separator, or such a node
 abbrev pub IsPartIn : ℕ → Kind → Part → Type 0
@@ -186,7 +191,7 @@ separated_written k parent s ps at next a room some few = runs_written k parent 
 
 -- ---- gaps
 
-mark_stands : (f : Form) (o : Option ℕ) (bs : List ℕ) → is_mark_form f ≡ true → is_inline (head_of (whole_tree f o bs)).kind ≡ false
+mark_stands : (f : Form) (o : Option ℕ) (bs : List ℕ) → is_mark_form f ≡ true → goes_first (head_of (whole_tree f o bs)).kind ≡ false
 mark_stands form.Chars o bs e = absurd cc
 mark_stands (form.Entity c) o bs e = absurd cc
 mark_stands form.Nowiki o bs e = absurd cc

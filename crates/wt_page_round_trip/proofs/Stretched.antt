@@ -13,7 +13,7 @@ use Rattle.wt_span.specs.Items.{Item}
 use Rattle.wt_tree.specs.declared.kind.AttrName.{AttrName}
 use Rattle.wt_tree.specs.declared.kind.Kind.{Kind}
 use Rattle.wt_tree.specs.declared.row.Texts.TheVariants.{Bordered}
-use Rattle.wt_tree.specs.Kinds.{texts_of_kind, is_inline, is_block, may_hold}
+use Rattle.wt_tree.specs.Kinds.{texts_of_kind, is_block, may_hold}
 use Rattle.wt_inline.specs.declared.loose.Loose.TheVariants.{Sep}
 use Rattle.wt_inline.specs.ItemTree.{Head, ItemTree, forest}
 use Rattle.wt_inline.specs.Parts.{Part, loose, node, parts, children}
@@ -21,7 +21,7 @@ use Rattle.wt_body.specs.Stretches.{Stretch, gap, block, is_gap, stretches_parts
 use Rattle.wt_page_round_trip.proofs.InlineNodes.{with_attrs}
 use Rattle.wt_page_round_trip.proofs.OfPage.{AreOfPage}
 use Rattle.wt_page_round_trip.proofs.PageLines.{IsBetween, all_both, all_taken, all_dropped}
-use Rattle.wt_page_round_trip.proofs.Separated.{head_of, IsNodeIn, IsPartIn, gap_parts}
+use Rattle.wt_page_round_trip.proofs.Separated.{goes_first, head_of, IsNodeIn, IsPartIn, gap_parts}
 use Rattle.wt_page_round_trip.proofs.Boxes.{IsRound, IsBox, HoldsSeparators, box_written, separated_inside}
 
 -- a kind of element that may stand there, in an item or a cell as a block
@@ -149,7 +149,7 @@ enclosed_placed k j parent other h ss n a =
 pub record IsHolder (q : Kind) : Type 0 where
   pub round : IsRound q
   pub holds : HoldsSeparators q
-  pub block : is_inline q ≡ false
+  pub block : goes_first q ≡ false
 
 pub holder_node : (k : ℕ) (parent q : Kind) → IsHolder q → (attrs : List (AttrName × List ℕ)) (opening closing : List Item)
     → IsBox q attrs opening closing → (ss : List Stretch) → k < 199 → StandsIn parent q → ArePlaced (suc k) q ss

@@ -4,19 +4,24 @@ use Rattle.wt_tree.specs.declared.kind.AttrName.TheVariants as attr
 use Rattle.wt_tree.specs.declared.kind.Kind.{Kind}
 use Rattle.wt_tree.specs.declared.kind.Kind.TheVariants as kind
 use Rattle.wt_tree.specs.declared.kind.Mark.TheVariants.{Nothing}
+use Rattle.wt_tree.specs.declared.kind.TagName.TheVariants as tag
 use Rattle.wt_tree.specs.declared.node.DataMw.TheVariants as mw
+use Rattle.wt_tree.specs.declared.node.Part.{Part}
+use Rattle.wt_tree.specs.declared.node.Part.TheVariants as part
+use Rattle.wt_tree.specs.Recut.{leaf_label, text_leaf as bare_text}
 use Rattle.wt_tree.specs.Tree.{Label, Tree, tree, Trees, none, more}
 use Rattle.std.specs.Fmt.{digits}
 use Rattle.serde_json.proofs.OnLiterals.{serde_json_on_literals}
 use Rattle.wt_span.specs.Tags.{is_extension}
-use Rattle.wt_datamw.specs.Mw.{mw_text}
-use Rattle.wt_datamw.specs.MwRead.{is_mw_shape, has_small_numbers, mw_of_data, mw_told}
+use Rattle.wt_datamw.specs.Mw.{template_data, params_data, mw_text}
+use Rattle.wt_datamw.specs.MwRead.{template_of, is_mw_shape, has_small_numbers, mw_of_data, mw_told}
 use Rattle.wt_datamw.specs.Sync.{sync_text, sync_members}
 use Rattle.wt_datamw.specs.SyncRead.{sync_told, sync_of_data, is_sync_shape}
 use Rattle.wt_tree.specs.Kinds.{spelling, tag_name, attribute_name}
 use Rattle.wt_markup.specs.Escapes.{escape, escape_double, escape_single}
-use Rattle.wt_markup.specs.Html.{attribute, id_attribute, mw_attribute, sync_of, sync_start, sync_value, sync_attribute, attributes_of, start_tag, void_tag, end_tag, frame_start, frame_end, html_text}
+use Rattle.wt_markup.specs.Html.{attribute, id_attribute, mw_attribute, sync_of, sync_start, sync_value, sync_attribute, attributes_of, start_tag, void_tag, end_tag, about_attribute, first_attributes, next_attributes, frame_start, frame_end, html_text}
 use Rattle.wt_tree.specs.Values.{placeholder, extension_prefix, no_include, no_include_end, only_include, only_include_end, include_only}
+use Rattle.wt_fitting.specs.Groups.{transclusion, param}
 use Rattle.wt_fitting.specs.Read.{read, read_tree, page}
 use Rattle.wt_round_trip.specs.Written.{unranged}
 
@@ -164,3 +169,74 @@ unfolding read read_tree sync_told sync_of_data is_sync_shape html_text frame_st
     id_attribute mw_attribute sync_of sync_start sync_value sync_attribute spelling attribute_name placeholder sync_text
     sync_members escape escape_single serde_json_on_literals digits tag_name
 one_item = refl
+
+-- ---- groups
+
+-- a group with this word, source and these parts
+abbrev called : ℕ → ℕ → ℕ → List ℕ → List ℕ → List Part → Trees → Tree
+called id start end word own parts ts =
+    tree (record (blank kind.Group id start end) { own = own; attrs = (attr.Typeof, word) ∷ []; mw = Some (mw.Parts parts) }) ts
+
+abbrev transcluded : ℕ → ℕ → ℕ → Trees → Tree
+transcluded id start end ts = called id start end (codes "mw:Transclusion") (codes "{{t}}") (part.Template (codes "t") (codes "./Template:T") [] 0 ∷ []) ts
+
+-- what stands in a group has neither a number nor ranges
+abbrev inner : Kind → Trees → Tree
+inner k ts = tree (leaf_label k None [] []) ts
+
+abbrev one : Tree → Trees
+one t = more t none
+
+-- a called letter in a paragraph: it is read as a `span` round a text
+abbrev letter_in : Tree → Tree
+letter_in t = body 6 (one (tree (blank kind.Para 1 0 6) (more (transcluded 2 0 5 (one t)) (one (text_leaf 5 6 (codes "b"))))))
+
+called_letter : read (html_text (letter_in (bare_text None (codes "a"))))
+    ≡ page (unranged (letter_in (inner (kind.Tag tag.Span) (one (bare_text None (codes "a")))))) None
+unfolding read read_tree sync_told sync_of_data is_sync_shape html_text frame_start frame_end start_tag end_tag attributes_of
+    id_attribute mw_attribute sync_of sync_start sync_value sync_attribute spelling attribute attribute_name placeholder sync_text
+    sync_members escape escape_double escape_single serde_json_on_literals digits tag_name mw_text mw_told mw_of_data is_mw_shape
+    has_small_numbers extension_prefix is_extension transclusion param about_attribute first_attributes next_attributes
+    template_data params_data template_of
+called_letter = refl
+
+-- two paragraphs, each an element of the group
+abbrev two_paragraphs : Tree
+two_paragraphs =
+    body 5 (one (transcluded 1 0 5 (more (inner kind.Para (one (bare_text None (codes "a"))))
+    (one (inner kind.Para (one (bare_text None (codes "b"))))))))
+
+called_paragraphs : read (html_text two_paragraphs) ≡ page two_paragraphs None
+unfolding read read_tree sync_told sync_of_data is_sync_shape html_text frame_start frame_end start_tag end_tag attributes_of
+    id_attribute mw_attribute sync_of sync_start sync_value sync_attribute spelling attribute attribute_name placeholder sync_text
+    sync_members escape escape_double escape_single serde_json_on_literals digits tag_name mw_text mw_told mw_of_data is_mw_shape
+    has_small_numbers extension_prefix is_extension transclusion param about_attribute first_attributes next_attributes
+    template_data params_data template_of
+called_paragraphs = refl
+
+-- a group that shows nothing, as an empty style: an empty `span`
+abbrev style_in : Trees → Tree
+style_in ts = body 5 (one (tree (blank kind.Para 1 0 5)
+    (more (text_leaf 0 1 (codes "a")) (one (called 2 1 5 (codes "mw:Transclusion") (codes "''''") (part.Literal (codes "''''") ∷ []) ts)))))
+
+empty_style : read (html_text (style_in none)) ≡ page (unranged (style_in (one (inner (kind.Tag tag.Span) none)))) None
+unfolding read read_tree sync_told sync_of_data is_sync_shape html_text frame_start frame_end start_tag end_tag attributes_of
+    id_attribute mw_attribute sync_of sync_start sync_value sync_attribute spelling attribute attribute_name placeholder sync_text
+    sync_members escape escape_double escape_single serde_json_on_literals digits tag_name mw_text mw_told mw_of_data is_mw_shape
+    has_small_numbers extension_prefix is_extension transclusion param about_attribute first_attributes next_attributes
+empty_style = refl
+
+-- an argument without a value, in a cell, before a text
+abbrev cell_in : Tree → Tree
+cell_in t =
+    body 9 (one (tree (blank kind.Table 1 0 9) (one (tree (blank kind.Tbody 2 0 9) (one (tree (blank kind.Tr 3 0 9)
+    (one (tree (blank kind.Td 4 0 9)
+    (more (called 5 0 7 (codes "mw:Param") (codes "{{{1}}}") (part.Param (codes "{{{1}}}") ∷ []) (one t)) (one (text_leaf 7 8 (codes "b"))))))))))))
+
+argument_in_cell : read (html_text (cell_in (bare_text None (codes "c"))))
+    ≡ page (unranged (cell_in (inner (kind.Tag tag.Span) (one (bare_text None (codes "c")))))) None
+unfolding read read_tree sync_told sync_of_data is_sync_shape html_text frame_start frame_end start_tag end_tag attributes_of
+    id_attribute mw_attribute sync_of sync_start sync_value sync_attribute spelling attribute attribute_name placeholder sync_text
+    sync_members escape escape_double escape_single serde_json_on_literals digits tag_name mw_text mw_told mw_of_data is_mw_shape
+    has_small_numbers extension_prefix is_extension transclusion param about_attribute first_attributes next_attributes
+argument_in_cell = refl

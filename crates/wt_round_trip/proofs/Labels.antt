@@ -22,7 +22,7 @@ use Rattle.wt_datamw.specs.SyncRead.{sync_told}
 use Rattle.wt_markup.specs.Html.{leaf_sync, inner_sync, sync_of}
 use Rattle.wt_html_grammar.specs.Markup.{Pair}
 use Rattle.wt_html_grammar.proofs.Steps.{if_true, if_false}
-use Rattle.wt_fitting.specs.Attributes.{value_of, has, or_zero, id_of_value, id_of, mark_of_value}
+use Rattle.wt_fitting.specs.Attributes.{value_of, or_zero, id_of_value, id_of, mark_of_value}
 use Rattle.wt_fitting.specs.Rows.{row_by, row, shows_text, own_of, attrs_for}
 use Rattle.wt_fitting.specs.Data.{Data, is_for, sync_for, some_sync, sync_fits, is_extension_of, mw_for, mw_fits, both, data_of, id_for}
 use Rattle.wt_fitting.specs.Fit.{source_of, label_for}
@@ -31,23 +31,23 @@ use Rattle.wt_round_trip.specs.Written.{label_read, HasPlaces, IsNumber, IsLeafS
 use Rattle.wt_datamw.proofs.SyncTold.{sync_read}
 use Rattle.wt_round_trip.proofs.Json.{ascii_then, sync_utf8, extension_utf8, extension_read}
 use Rattle.wt_round_trip.proofs.Said.{Said, double, single, own_said, id_said, mw_said, sync_said, whole, said_of, AreGood}
-use Rattle.wt_round_trip.proofs.Order.{pairs, look, Rise, good_from, value_is, no_edit, look_before, look_of, look_past, Rising, whole_rising, rising_said, value_before, value_behind, own_read}
+use Rattle.wt_round_trip.proofs.Order.{pairs, look, Rise, good_from, value_is, no_edit, look_before, look_of, look_past, Rising, rising_weaken, whole_rising, rising_said, value_before, value_behind, own_read}
 use Rattle.wt_round_trip.proofs.Numbers.{number_told}
 use Rattle.wt_round_trip.proofs.Rows.{IsElementKind}
 
 -- ---- the attributes behind the node's own: the number and the data, where there is one, and the source
 
-abbrev number_said : Bool → ℕ → List Said
+abbrev pub number_said : Bool → ℕ → List Said
 number_said true id = []
 number_said false id = double attr.Id (109 ∷ 119 ∷ decimal id) ∷ []
 
-abbrev source_said : List ℕ → List Said
+abbrev pub source_said : List ℕ → List Said
 source_said t = single attr.DataParsoid t ∷ []
 
-abbrev tail : Bool → ℕ → Option DataMw → List ℕ → List Said
+abbrev pub tail : Bool → ℕ → Option DataMw → List ℕ → List Said
 tail b id d t = number_said b id ++ (mw_said d ++ source_said t)
 
-number_is : (id : ℕ) → id_said id ≡ number_said (id == 0) id
+pub number_is : (id : ℕ) → id_said id ≡ number_said (id == 0) id
 number_is id = by_test (id == 0)
   where
     by_test : (b : Bool) → (if b then [] else double attr.Id (109 ∷ 119 ∷ decimal id) ∷ []) ≡ number_said b id
@@ -59,10 +59,10 @@ said_full l r e = ap₂ (λ (x y : List Said). map own_said (whole l) ++ (x ++ y
 
 -- ---- they are good
 
-id_utf8 : (id : ℕ) → id < 2 ^ 64 → IsUtf8 (109 ∷ 119 ∷ decimal id)
+pub id_utf8 : (id : ℕ) → id < 2 ^ 64 → IsUtf8 (109 ∷ 119 ∷ decimal id)
 id_utf8 id h = ascii_then 109 _ (omega arith) (ascii_then 119 _ (omega arith) (IsUtf8-from_ascii (decimal id) (IsAscii-decimal id h)))
 
-tail_rise : (b : Bool) (id : ℕ) (d : Option DataMw) (t : List ℕ) → IsUtf8 (109 ∷ 119 ∷ decimal id)
+pub tail_rise : (b : Bool) (id : ℕ) (d : Option DataMw) (t : List ℕ) → IsUtf8 (109 ∷ 119 ∷ decimal id)
     → IsUtf8IfAny (option_map mw_text d) → IsUtf8 t → Rise 11 (tail b id d t)
 tail_rise true id None t i d u = (omega arith, u, tt)
 tail_rise true id (Some x) t i d u = (omega arith, d, (omega arith, u, tt))
@@ -72,16 +72,16 @@ tail_rise false id (Some x) t i d u = (omega arith, i, (omega arith, d, (omega a
 -- ---- what they say
 
 -- the value of the number's attribute
-abbrev number_value : Bool → ℕ → Option (List ℕ)
+abbrev pub number_value : Bool → ℕ → Option (List ℕ)
 number_value true id = None
 number_value false id = Some (109 ∷ 119 ∷ decimal id)
 
-record IsTail (b : Bool) (n : ℕ) (d : Option DataMw) (t : List ℕ) (ss : List Said) : Type 0 where
+pub record IsTail (b : Bool) (n : ℕ) (d : Option DataMw) (t : List ℕ) (ss : List Said) : Type 0 where
   pub id : look 11 ss ≡ number_value b n
   pub mw : look 12 ss ≡ option_map mw_text d
   pub source : look 13 ss ≡ Some t
 
-tail_said : (b : Bool) (n : ℕ) (d : Option DataMw) (t : List ℕ) → IsTail b n d t (tail b n d t)
+pub tail_said : (b : Bool) (n : ℕ) (d : Option DataMw) (t : List ℕ) → IsTail b n d t (tail b n d t)
 tail_said true n None t = record { id = refl; mw = refl; source = refl }
 tail_said true n (Some x) t = record { id = refl; mw = refl; source = refl }
 tail_said false n None t = record { id = refl; mw = refl; source = refl }
@@ -103,6 +103,33 @@ about_value : (ss : List Said) → value_of (codes "about") (pairs ss) ≡ look 
 unfolding attribute_name
 about_value ss = value_is attr.About ss
 
+-- what is found among attributes in their order, and others behind them
+pub record AreSaid (xs : List (AttrName × List ℕ)) (ss : List Said) (ps : List Pair) : Type 0 where
+  pub about : value_of (codes "about") ps ≡ value_at 0 xs
+  pub type : value_of (attribute_name attr.Typeof) ps ≡ value_at 1 xs
+  pub property : value_of (attribute_name attr.Property) ps ≡ value_at 2 xs
+  pub rel : value_of (attribute_name attr.Rel) ps ≡ value_at 3 xs
+  pub id : value_of (codes "id") ps ≡ look 11 ss
+  pub mw : value_of (codes "data-mw") ps ≡ look 12 ss
+  pub source : value_of (codes "data-parsoid") ps ≡ look 13 ss
+  pub edit : value_of (codes "data-wt-edit") ps ≡ None
+
+pub are_said : (xs : List (AttrName × List ℕ)) (ts : List Said) → Rising 0 xs → Rise 11 ts → AreSaid xs ts (pairs (map own_said xs ++ ts))
+are_said xs ts h r =
+    let ss : List Said = map own_said xs ++ ts in
+    let early : (k : ℕ) → k < 11 → look k ss ≡ value_at k xs = λ k l. look_of k xs ts (look_before k 11 ts l r) in
+    let late : (k : ℕ) → 11 ≤ k → look k ss ≡ look k ts = λ k l. look_past k xs ts (value_behind xs 0 k l h) in
+    record {
+      about = about_value ss ∙ early 0 (omega arith);
+      type = value_is attr.Typeof ss ∙ early 1 (omega arith);
+      property = value_is attr.Property ss ∙ early 2 (omega arith);
+      rel = value_is attr.Rel ss ∙ early 3 (omega arith);
+      id = id_value ss ∙ late 11 (omega arith);
+      mw = mw_value ss ∙ late 12 (omega arith);
+      source = source_value ss ∙ late 13 (omega arith);
+      edit = no_edit ss;
+    }
+
 -- the values that attributes have, and none of other names
 record IsSaid (xs : List (AttrName × List ℕ)) (b : Bool) (n : ℕ) (d : Option DataMw) (t : List ℕ) (ps : List Pair) : Type 0 where
   pub type : value_of (attribute_name attr.Typeof) ps ≡ value_at 1 xs
@@ -117,25 +144,22 @@ record IsSaid (xs : List (AttrName × List ℕ)) (b : Bool) (n : ℕ) (d : Optio
 full_said : (xs : List (AttrName × List ℕ)) (b : Bool) (n : ℕ) (d : Option DataMw) (t : List ℕ) → Rising 1 xs
     → Rise 11 (tail b n d t) → IsSaid xs b n d t (pairs (map own_said xs ++ tail b n d t))
 full_said xs b n d t h r =
-    let ts : List Said = tail b n d t in
-    let ss : List Said = map own_said xs ++ ts in
     let q = tail_said b n d t in
-    let early : (k : ℕ) → k < 11 → look k ss ≡ value_at k xs = λ k l. look_of k xs ts (look_before k 11 ts l r) in
-    let late : (k : ℕ) → 11 ≤ k → look k ss ≡ look k ts = λ k l. look_past k xs ts (value_behind xs 1 k l h) in
+    let v = are_said xs (tail b n d t) (rising_weaken 1 0 xs (omega arith) h) r in
     record {
-      type = value_is attr.Typeof ss ∙ early 1 (omega arith);
-      property = value_is attr.Property ss ∙ early 2 (omega arith);
-      rel = value_is attr.Rel ss ∙ early 3 (omega arith);
-      id = id_value ss ∙ late 11 (omega arith) ∙ q.id;
-      mw = mw_value ss ∙ late 12 (omega arith) ∙ q.mw;
-      source = source_value ss ∙ late 13 (omega arith) ∙ q.source;
-      about = about_value ss ∙ early 0 (omega arith) ∙ value_before xs 1 0 (omega arith) h;
-      edit = no_edit ss;
+      type = v.type;
+      property = v.property;
+      rel = v.rel;
+      id = v.id ∙ q.id;
+      mw = v.mw ∙ q.mw;
+      source = v.source ∙ q.source;
+      about = v.about ∙ value_before xs 1 0 (omega arith) h;
+      edit = v.edit;
     }
 
 -- ---- the number
 
-number_said_is : (id : ℕ) → id < 2 ^ 32 → id_of_value (number_value (id == 0) id) ≡ id
+pub number_said_is : (id : ℕ) → id < 2 ^ 32 → id_of_value (number_value (id == 0) id) ≡ id
 number_said_is id h = by_test (id == 0) refl
   where
     some : (id : ℕ) → (id == 0) ≡ false → 0 < id
@@ -145,7 +169,7 @@ number_said_is id h = by_test (id == 0) refl
     by_test true e = sym (eqb-true id 0 e)
     by_test false e = ap or_zero (number_told id (some id e) h)
 
-small_number : (b : Bool) (n : ℕ) → IsNumber b n → n < 2 ^ 32
+pub small_number : (b : Bool) (n : ℕ) → IsNumber b n → n < 2 ^ 32
 small_number true n h = h.1
 small_number false n h = omega arith
 
@@ -162,7 +186,7 @@ id_is k ps id h e = by_test (is_numbered k) h
 -- ---- the source
 
 -- what the source of a label is written as
-record IsSync (l : Label) (r : Ranges) (s : Sync) : Type 0 where
+pub record IsSync (l : Label) (r : Ranges) (s : Sync) : Type 0 where
   pub places : s.dsr ≡ r
   pub kind : is_for l.kind s ≡ true
   pub opening : s.opening ≡ l.opening
@@ -196,7 +220,7 @@ inner_is l r e h = record {
   own_utf8 = tt;
 }
 
-sync_is : (l : Label) (r : Ranges) → HasSource (is_leaf l.kind) l → IsSync l r (sync_of l r)
+pub sync_is : (l : Label) (r : Ranges) → HasSource (is_leaf l.kind) l → IsSync l r (sync_of l r)
 unfolding sync_of
 sync_is l r h = by_test (is_leaf l.kind) refl h
   where
@@ -204,7 +228,7 @@ sync_is l r h = by_test (is_leaf l.kind) refl h
     by_test true e h = leaf_is l r e h
     by_test false e h = inner_is l r e h
 
-sync_fits_is : (k : Kind) (s : Sync) (t : List ℕ) → sync_told t ≡ Ok s → is_for k s ≡ true → sync_fits k (Some t) ≡ Some (Some s)
+pub sync_fits_is : (k : Kind) (s : Sync) (t : List ℕ) → sync_told t ≡ Ok s → is_for k s ≡ true → sync_fits k (Some t) ≡ Some (Some s)
 sync_fits_is k s t e f = ap (λ o. some_sync (sync_for k o)) e ∙ ap some_sync (if_true (is_for k s) _ _ f)
 
 -- ---- the data of an extension
@@ -229,15 +253,16 @@ pub record IsTold (l : Label) : Type 0 where
   pub row : is_numbered l.kind ≡ true → row (element_name l.kind) (pairs (said_of l)) ≡ Some l.kind
   pub sourced : is_unsourced (pairs (said_of l)) ≡ false
   pub marked : is_marked (pairs (said_of l)) ≡ false
+  pub alone : value_of (codes "about") (pairs (said_of l)) ≡ None
   pub told : Data
   pub data_is : data_of l.kind (pairs (said_of l)) ≡ Some told
   pub label_is : (bs : List ℕ) → (if shows_text l.kind then bs else []) ≡ l.shown → label_for l.kind (pairs (said_of l)) told bs ≡ label_read l
 
-with_places : (P : Option Ranges → Type 0) → ((r : Ranges) → HasPlaces (Some r) → P (Some r)) → (o : Option Ranges) → HasPlaces o → P o
+pub with_places : (P : Option Ranges → Type 0) → ((r : Ranges) → HasPlaces (Some r) → P (Some r)) → (o : Option Ranges) → HasPlaces o → P o
 with_places P f None h = absurd h
 with_places P f (Some r) h = f r h
 
-abbrev parts_label : Kind → ℕ → Option Ranges → List ℕ → List ℕ → List ℕ → List ℕ → List (AttrName × List ℕ) → Option Origin → Mark → Option DataMw → Label
+abbrev pub parts_label : Kind → ℕ → Option Ranges → List ℕ → List ℕ → List ℕ → List ℕ → List (AttrName × List ℕ) → Option Origin → Mark → Option DataMw → Label
 parts_label k id r o c w s a g m d = record {
   kind = k;
   id = id;
@@ -253,13 +278,13 @@ parts_label k id r o c w s a g m d = record {
   mw = d;
 }
 
-same_label : (k : Kind) (d : Option DataMw) {i j : ℕ} {q r : Option Ranges} {o p c e w v s t : List ℕ} {a b : List
+pub same_label : (k : Kind) (d : Option DataMw) {i j : ℕ} {q r : Option Ranges} {o p c e w v s t : List ℕ} {a b : List
     (AttrName × List ℕ)} {g h : Option Origin} {m n : Mark}
     → i ≡ j → q ≡ r → o ≡ p → c ≡ e → w ≡ v → s ≡ t → a ≡ b → g ≡ h → m ≡ n
     → parts_label k i q o c w s a g m d ≡ parts_label k j r p e v t b h n d
 same_label k d ei eq eo ec ew es ea eg em = rw (ei, eq, eo, ec, ew, es, ea, eg, em)
 
-row_is : (name : List ℕ) (xs : List (AttrName × List ℕ)) (ps : List Pair) (k : Kind)
+pub row_is : (name : List ℕ) (xs : List (AttrName × List ℕ)) (ps : List Pair) (k : Kind)
     → value_of (attribute_name attr.Typeof) ps ≡ value_at 1 xs → value_of (attribute_name attr.Property) ps ≡ value_at 2 xs
     → value_of (attribute_name attr.Rel) ps ≡ value_at 3 xs → row_by name (value_at 1 xs) (value_at 2 xs) (value_at 3 xs) ≡ Some k → row name ps ≡ Some k
 row_is name xs ps k t p r f =
@@ -289,9 +314,9 @@ told_by l r s k h p e y q =
       row = λ n. row_is (element_name l.kind) (whole l) ps l.kind v.type v.property v.rel (k.row n);
       sourced = ap₂ (λ x z. not (is_some x) || is_some z) v.source v.edit;
       marked = ap is_some v.edit;
+      alone = v.about;
       told = record { sync = Some s; mw = l.mw };
-      data_is = if_false (has (codes "about") ps) _ _ (ap is_some v.about)
-          ∙ ap₂ both (ap (sync_fits l.kind) v.source ∙ sync_fits_is l.kind s (sync_text s) (sync_read s places) y.kind)
+      data_is = ap₂ both (ap (sync_fits l.kind) v.source ∙ sync_fits_is l.kind s (sync_text s) (sync_read s places) y.kind)
           (ap₂ mw_fits (ap (is_extension_of l.kind) v.type) v.mw ∙ mw_fits_is (is_extension_label l) l.mw h.mw);
       label_is = λ bs f. same_label l.kind l.mw (id_is l.kind ps l.id h.number (ap id_of_value v.id ∙ number_said_is l.id small))
           (ap Some y.places ∙ sym e ∙ sym (k.placed l.ranges)) y.opening y.closing y.own f

@@ -8,8 +8,17 @@ pub mod Order
 pub mod Numbers
 pub mod Rows
 pub mod Labels
+pub mod Faces
+pub mod Firsts
+pub mod Tags
+pub mod GroupItems
 pub mod Elements
 pub mod Bare
+pub mod Steps
+pub mod GroupFits
+pub mod Merged
+pub mod Ordered
 pub mod Fits
 pub mod Whole
+pub mod ShownAgain
 pub mod Again

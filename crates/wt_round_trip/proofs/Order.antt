@@ -153,7 +153,7 @@ abbrev pub Rising : ℕ → List (AttrName × List ℕ) → Type 0
 Rising b [] = Unit {0}
 Rising b (x ∷ xs) = (b ≤ order x.0) × (order x.0 < 11) × IsUtf8 x.1 × Rising (suc (order x.0)) xs
 
-rising_weaken : (b c : ℕ) (xs : List (AttrName × List ℕ)) → c ≤ b → Rising b xs → Rising c xs
+pub rising_weaken : (b c : ℕ) (xs : List (AttrName × List ℕ)) → c ≤ b → Rising b xs → Rising c xs
 rising_weaken b c [] l h = tt
 rising_weaken b c (x ∷ xs) l h = (omega (arith, l, h.0), h.1, h.2, h.3)
 
@@ -196,14 +196,14 @@ own_before os xs b k l q h = value_before xs b k l (own_rising os xs b q h)
 
 -- ---- the node's own are read as they are
 
-abbrev own_look : List Own → List Said → List (AttrName × List ℕ)
+abbrev pub own_look : List Own → List Said → List (AttrName × List ℕ)
 own_look os ss = flat_map (λ (o : Own). own_told o (look (order o.name) ss)) os
 
-own_values : (os : List Own) (ss : List Said) → own_of os (pairs ss) ≡ own_look os ss
+pub own_values : (os : List Own) (ss : List Said) → own_of os (pairs ss) ≡ own_look os ss
 own_values [] ss = refl
 own_values (o ∷ os) ss = ap₂ (λ (x y : List (AttrName × List ℕ)). x ++ y) (ap (own_told o) (value_is o.name ss)) (own_values os ss)
 
-own_skip : (os : List Own) (b : ℕ) (s : Said) (ss : List Said) → rises b (names_of os) ≡ true → place s < b → own_look os (s ∷ ss) ≡ own_look os ss
+pub own_skip : (os : List Own) (b : ℕ) (s : Said) (ss : List Said) → rises b (names_of os) ≡ true → place s < b → own_look os (s ∷ ss) ≡ own_look os ss
 own_skip [] b s ss q l = refl
 own_skip (o ∷ os) b s ss q l =
     let r = rises_by b o.name (names_of os) q in
@@ -238,7 +238,7 @@ rises_weaken b c (n ∷ ns) l q =
     to_le : (m n : ℕ) → m ≤ n → nat_le m n ≡ true
     to_le m n h = grind (arith, nat_tests)
 
-rises_behind : (b : ℕ) (ms ns : List AttrName) → rises b (ms ++ ns) ≡ true → rises b ns ≡ true
+pub rises_behind : (b : ℕ) (ms ns : List AttrName) → rises b (ms ++ ns) ≡ true → rises b ns ≡ true
 rises_behind b [] ns q = q
 rises_behind b (m ∷ ms) ns q =
     let r = rises_by b m (ms ++ ns) q in

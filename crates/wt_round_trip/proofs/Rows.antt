@@ -621,7 +621,7 @@ switch_kind xs h =
 
 -- ---- all of them
 
-abbrev is_somewhere : Class → Bool
+abbrev pub is_somewhere : Class → Bool
 is_somewhere Nowhere = false
 is_somewhere c = true
 
@@ -646,7 +646,7 @@ level_of : (n : ℕ) → has_level (kind.Heading n) ≡ true → (nat_le 1 n && 
 unfolding spelling
 level_of n h = h
 
-element_kind : (k : Kind) (xs : List (AttrName × List ℕ)) → is_somewhere (shape k).class ≡ true → has_level k ≡ true → HasAttributes k xs → IsElementKind k xs
+pub element_kind : (k : Kind) (xs : List (AttrName × List ℕ)) → is_somewhere (shape k).class ≡ true → has_level k ≡ true → HasAttributes k xs → IsElementKind k xs
 element_kind kind.Para xs e l h = para_kind xs h
 element_kind kind.Rule xs e l h = rule_kind xs h
 element_kind kind.Pre xs e l h = pre_kind xs h
@@ -683,13 +683,13 @@ element_kind kind.Caption xs e l h = caption_kind xs h
 element_kind kind.Td xs e l h = td_kind xs h
 element_kind kind.Th xs e l h = th_kind xs h
 
-numbered : (k : Kind) → is_somewhere (shape k).class ≡ true → is_numbered k ≡ true
+pub numbered : (k : Kind) → is_somewhere (shape k).class ≡ true → is_numbered k ≡ true
 numbered kind.Body e = absurd (not_true e)
 numbered kind.Sep e = absurd (not_true e)
 numbered kind.Text e = absurd (not_true e)
 numbered k e = refl
 
-held : (parent k : Kind) → may_hold parent k ≡ true → is_somewhere (shape k).class ≡ true
+pub held : (parent k : Kind) → may_hold parent k ≡ true → is_somewhere (shape k).class ≡ true
 held parent k h = somewhere (shape parent).holding (shape k).class h
 
 pub held_kind : (parent : Kind) (l : Label) → may_hold parent l.kind ≡ true → IsElementLabel l → IsElementKind l.kind l.attrs

@@ -15,7 +15,7 @@ use Rattle.wt_datamw.specs.Sync.{sync_text}
 use Rattle.wt_datamw.specs.Mw.{mw_text}
 use Rattle.wt_tree.specs.Kinds.{attribute_name, fixed_attributes}
 use Rattle.wt_markup.specs.Escapes.{is_control, escape, escape_double, escaped_double, escaped_single}
-use Rattle.wt_markup.specs.Html.{attribute, attributes, id_attribute, mw_attribute, sync_of, sync_start, sync_value, sync_attribute, attributes_of}
+use Rattle.wt_markup.specs.Html.{attribute, attributes, id_attribute, mw_attribute, sync_of, sync_start, sync_value, sync_attribute, carried_attributes, attributes_of, about_attribute, with_type, first_attributes, next_attributes}
 use Rattle.wt_html_grammar.specs.Signs.{is_among, IsAttributeName}
 use Rattle.wt_html_grammar.specs.Grammar.{Attribute, spell_attribute, spell_attributes, IsAttribute, AreAttributes}
 use Rattle.wt_html_grammar.specs.Markup.{Pair, pair_of}
@@ -68,7 +68,7 @@ said_of l = map own_said (whole l) ++ (id_said l.id ++ (mw_said l.mw ++ sync_sai
 
 -- ---- they are spelled as they are written
 
-own_text : (xs : List (AttrName × List ℕ)) → flat_map said_text (map own_said xs) ≡ attributes xs
+pub own_text : (xs : List (AttrName × List ℕ)) → flat_map said_text (map own_said xs) ≡ attributes xs
 unfolding attribute
 own_text [] = refl
 own_text (x ∷ xs) = ap (λ y. said_text (own_said x) ++ y) (own_text xs)
@@ -113,15 +113,56 @@ unfolding sync_attribute sync_value sync_start attribute_name
 sync_said_text l None = refl
 sync_said_text l (Some r) = append-nil _
 
+-- the number and the data
+abbrev pub carried : Label → List Said
+carried l = id_said l.id ++ (mw_said l.mw ++ sync_said l l.ranges)
+
+carried_is : (l : Label) → l.id < 2 ^ 64 → flat_map said_text (carried l) ≡ carried_attributes l
+carried_is l h =
+    flat_map-append said_text (id_said l.id) _
+    ∙ ap₂ (λ (x y : List ℕ). x ++ y) (id_text l.id h)
+    (flat_map-append said_text (mw_said l.mw) _ ∙ ap₂ (λ (x y : List ℕ). x ++ y) (mw_said_text l.mw) (sync_said_text l l.ranges))
+
 pub said_is : (l : Label) → l.id < 2 ^ 64 → flat_map said_text (said_of l) ≡ attributes_of l
 unfolding attributes_of
 said_is l h =
     flat_map-append said_text (map own_said (whole l)) _
-    ∙ ap₂ (λ (x y : List ℕ). x ++ y) (own_text (whole l) ∙ flat_map-append attribute (fixed_attributes l.kind) l.attrs)
-    (flat_map-append said_text (id_said l.id) _
-    ∙ ap₂ (λ (x y : List ℕ). x ++ y) (id_text l.id h)
-    (flat_map-append said_text (mw_said l.mw) _ ∙ ap₂ (λ (x y : List ℕ). x ++ y) (mw_said_text l.mw) (sync_said_text l l.ranges)))
+    ∙ ap₂ (λ (x y : List ℕ). x ++ y) (own_text (whole l) ∙ flat_map-append attribute (fixed_attributes l.kind) l.attrs) (carried_is l h)
     ∙ append_assoc (attributes (fixed_attributes l.kind)) (attributes l.attrs) _
+
+-- ---- the attributes of elements in a group
+
+abbrev pub face_said : List (AttrName × List ℕ) → List Said
+face_said xs = map own_said xs ++ []
+
+abbrev pub about_value : ℕ → List ℕ
+about_value k = codes "#mwt" ++ decimal k
+
+-- with the group's number before them, and in the first element the group's word, number and data
+abbrev pub next_said : ℕ → List (AttrName × List ℕ) → List Said
+next_said k xs = face_said ((attr.About, about_value k) ∷ xs)
+
+abbrev pub first_said : ℕ → Label → List (AttrName × List ℕ) → List Said
+first_said k l xs = map own_said ((attr.About, about_value k) ∷ with_type l.attrs xs) ++ carried l
+
+pub face_is : (xs : List (AttrName × List ℕ)) → flat_map said_text (face_said xs) ≡ attributes xs
+face_is xs = ap (flat_map said_text) (append-nil (map own_said xs)) ∙ own_text xs
+
+about_text : (k : ℕ) → k < 2 ^ 64 → said_text (double attr.About (about_value k)) ≡ about_attribute k
+unfolding about_attribute escape_double escape attribute_name
+about_text k h = ap (λ x. codes " about=\"#mwt" ++ (x ++ codes "\"")) (digits_plain (decimal k) (decimal_is_IsNumeral k h).0.1)
+
+pub next_is : (k : ℕ) (xs : List (AttrName × List ℕ)) → k < 2 ^ 64 → flat_map said_text (next_said k xs) ≡ next_attributes k xs
+unfolding next_attributes
+next_is k xs h = ap₂ (λ (x y : List ℕ). x ++ y) (about_text k h) (face_is xs)
+
+pub first_is : (k : ℕ) (l : Label) (xs : List (AttrName × List ℕ)) → k < 2 ^ 64 → l.id < 2 ^ 64
+    → flat_map said_text (first_said k l xs) ≡ first_attributes k l xs
+unfolding first_attributes
+first_is k l xs h small =
+    ap₂ (λ (x y : List ℕ). x ++ y) (about_text k h)
+    (flat_map-append said_text (map own_said (with_type l.attrs xs)) _
+    ∙ ap₂ (λ (x y : List ℕ). x ++ y) (own_text (with_type l.attrs xs)) (carried_is l small))
 
 -- ---- they are attributes of the grammar
 

@@ -1,23 +1,25 @@
 -- The page round the body, and the law.
-use Rattle.std.proofs.Common.{◌≡◌, ℕ, false, Option, Some, None, List, [], ◌∷◌, ◌++◌, map, refl, sym, ap, ap₂, ◌∙◌, subst, append-nil, codes, arith}
-use Rattle.std.specs.Prelude.{Ok, ◌&&◌, if◌then◌else◌}
+use Rattle.std.proofs.Common.{◌≡◌, ℕ, ◌+◌, ◌<◌, ◌^◌, true, false, Option, Some, None, List, [], ◌∷◌, ◌++◌, map, refl, sym, ap, ap₂, ◌∙◌, subst, append-nil, codes, arith}
+use Rattle.std.specs.Prelude.{Result, Ok, is_some, not, ◌&&◌, if◌then◌else◌}
 use Rattle.std.specs.Str.{bytes_eq}
 use lib.Utf8.{encode}
 use Rattle.wt_tree.specs.declared.kind.Kind.TheVariants as kind
 use Rattle.wt_tree.specs.Tree.{Label, Tree, tree, Trees}
-use Rattle.wt_tree.specs.Kinds.{writing, spelling, element_name}
+use Rattle.wt_tree.specs.Kinds.{writing, spelling, element_name, texts_of_kind}
 use Rattle.wt_tree.specs.Plain.{ended, plains_before}
 use Rattle.wt_tree.specs.Tiling.{is_group}
-use Rattle.wt_markup.specs.Html.{written, group_html, html, html_of_all, frame_start, frame_end, html_text}
+use Rattle.wt_markup.specs.Html.{written, group_html, groups, groups_of_all, html, html_of_all, frame_start, frame_end, html_text}
 use Rattle.wt_html_grammar.specs.Grammar.{plain, Attribute, slash, Element, element, void, none, child, spell, IsElement, Document, spell_document, IsDocument}
 use Rattle.wt_html_grammar.specs.Markup.{Pair, Markup, Markups, node, empty, more, meaning, Stands}
 use Rattle.wt_html_grammar.specs.Events.{Building}
 use Rattle.wt_html_grammar.proofs.Steps.{if_true, if_false}
 use Rattle.wt_html_grammar.proofs.Reading.{well_read}
 use Rattle.wt_html_grammar.proofs.Telling.{stands_told}
-use Rattle.wt_fitting.specs.Data.{data_of}
+use Rattle.wt_fitting.specs.Attributes.{value_of, has}
+use Rattle.wt_fitting.specs.Groups.{Piece}
+use Rattle.wt_fitting.specs.Data.{Data, data_of}
 use Rattle.wt_fitting.specs.Rows.{shows_text}
-use Rattle.wt_fitting.specs.Fit.{Found, texts_in, label_for, fit_nodes, fit_body, body_of, fit}
+use Rattle.wt_fitting.specs.Fit.{Misfit, Found, texts_in, label_for, held_as, with_children, text_fits, within, fit_nodes, fit_body_told, body_data, fit_body, body_of, fit}
 use Rattle.wt_fitting.specs.Unsourced.{is_marked, unsourced_body, unsourced}
 use Rattle.wt_fitting.specs.Read.{page, read_fit, read_tree, read_root, read_run, read}
 use Rattle.wt_round_trip.specs.Written.{unranged, unranged_all, IsShown, IsElementLabel, AllWrittenIn, IsWritten}
@@ -25,8 +27,11 @@ use Rattle.wt_round_trip.proofs.Said.{said_of}
 use Rattle.wt_round_trip.proofs.Rows.{is_as_void, IsElementKind, body_is_kind}
 use Rattle.wt_round_trip.proofs.Order.{pairs}
 use Rattle.wt_round_trip.proofs.Labels.{IsTold, told, small_id}
-use Rattle.wt_round_trip.proofs.Elements.{element_for, attributes_spelled, element_spelled, items_of, items_spelled, element_good, items_good, node_for, markups_of, element_stands, items_stand}
-use Rattle.wt_round_trip.proofs.Fits.{texts_fit, fit_whole, held_fit, items_sourced}
+use Rattle.wt_round_trip.proofs.Bare.{others_read}
+use Rattle.wt_round_trip.proofs.Elements.{element_for, attributes_spelled, element_spelled, items_of, items_spelled, inside_groups, element_good, items_good, node_for, markups_of, element_stands, items_stand}
+use Rattle.wt_round_trip.proofs.Steps.{ungathered, gathered_again}
+use Rattle.wt_round_trip.proofs.Ordered.{texts_fit}
+use Rattle.wt_round_trip.proofs.Fits.{held_fit, items_sourced}
 
 -- ---- the document
 
@@ -98,45 +103,65 @@ unfolding spelling
 body_found l m e = if_true (bytes_eq (codes "head") (codes "head") && bytes_eq (element_name l.kind) (codes "body")) _ _
     (ap (λ k. bytes_eq (codes "head") (codes "head") && bytes_eq (element_name k) (codes "body")) e)
 
-body_fits : (l : Label) (ts : Trees) → l.kind ≡ kind.Body → IsElementLabel l → IsTold l → AllWrittenIn 2 kind.Body ts
-    → fit (page_markup (node_for l (markups_of ts))) ≡ Ok (unranged (tree l ts))
-body_fits l ts e w t h =
+-- the body is in no group
+body_data_is : (l : Label) (d : Data) → l.kind ≡ kind.Body → value_of (codes "about") (pairs (said_of l)) ≡ None
+    → data_of l.kind (pairs (said_of l)) ≡ Some d → body_data (pairs (said_of l)) ≡ Some d
+body_data_is l d e a f =
+    ap (λ o. if is_some o && not (has (codes "data-mw") (pairs (said_of l))) then None else data_of kind.Body (pairs (said_of l))) a
+    ∙ ap (λ k. data_of k (pairs (said_of l))) (sym e) ∙ f
+
+body_whole : (n : ℕ) (ps : List Pair) (d : Data) (m : Markups) (us : Trees) (o : Option Data) (held : Result (List Piece) Misfit) → o ≡ Some d
+    → text_fits kind.Body m ≡ true → held ≡ Ok (ungathered us)
+    → fit_body_told n ps o m held ≡ Ok (tree (label_for kind.Body ps d (texts_in m)) (held_as (texts_of_kind kind.Body) us))
+body_whole n ps d m us o held e f i =
+    ap (λ x. fit_body_told n ps x m held) e ∙ if_true (text_fits kind.Body m) _ _ f
+    ∙ ap (with_children false kind.Body (label_for kind.Body ps d (texts_in m))) i
+    ∙ ap (λ ts. Ok (tree (label_for kind.Body ps d (texts_in m)) (held_as (texts_of_kind kind.Body) ts))) (gathered_again us)
+
+body_fits : (l : Label) (ts : Trees) → l.kind ≡ kind.Body → IsElementLabel l → IsTold l → AllWrittenIn 2 kind.Body ts → groups_of_all ts < 2 ^ 64
+    → fit (page_markup (node_for l (markups_of 0 ts))) ≡ Ok (unranged (tree l ts))
+body_fits l ts e w t h b =
     let ps : List Pair = pairs (said_of l) in
-    let m : Markups = markups_of ts in
+    let m : Markups = markups_of 0 ts in
     let s : [] ≡ l.shown = sym (subst (λ k. IsShown (shows_text k) l.shown) e w.shown) in
-    let f = held_fit ts 2 kind.Body refl tt h 5 in
+    let f = held_fit ts 2 kind.Body 0 refl tt h (omega (arith, b)) 5 in
     ap fit_body (body_found l m e)
-    ∙ fit_whole 4 kind.Body ps t.told m f.0 (fit_nodes 5 kind.Body false m) (ap (λ k. data_of k ps) (sym e) ∙ t.data_is) (texts_fit ts 2 kind.Body h) f.1
+    ∙ body_whole 4 ps t.told m f.0 (body_data ps) (fit_nodes 5 (within kind.Body false) m) (body_data_is l t.told e t.alone t.data_is)
+    (texts_fit ts 2 kind.Body 0 h) f.1
     ∙ ap (λ us. Ok (tree (label_for kind.Body ps t.told (texts_in m)) us)) f.2
     ∙ ap (λ x. Ok (tree x (unranged_all ts)))
     (ap (λ k. label_for k ps t.told (texts_in m)) (sym e) ∙ t.label_is (texts_in m) (ap (λ k. if shows_text k then texts_in m else []) e ∙ s))
+    ∙ ap Ok (sym (others_read l ts (ap is_group e)))
 
-body_sourced : (l : Label) (ts : Trees) → l.kind ≡ kind.Body → IsTold l → AllWrittenIn 2 kind.Body ts
-    → unsourced (page_markup (node_for l (markups_of ts))) ≡ None
-body_sourced l ts e t h =
-    ap unsourced_body (body_found l (markups_of ts) e)
-    ∙ if_false (is_marked (pairs (said_of l))) _ _ t.marked ∙ items_sourced ts 2 kind.Body 5 h
+body_sourced : (l : Label) (ts : Trees) → l.kind ≡ kind.Body → IsTold l → AllWrittenIn 2 kind.Body ts → groups_of_all ts < 2 ^ 64
+    → unsourced (page_markup (node_for l (markups_of 0 ts))) ≡ None
+body_sourced l ts e t h b =
+    ap unsourced_body (body_found l (markups_of 0 ts) e)
+    ∙ if_false (is_marked (pairs (said_of l))) _ _ t.marked ∙ items_sourced ts 2 kind.Body 0 5 h (omega (arith, b))
 
 -- ---- the law
 
-pub written_stands : (t : Tree) → IsWritten t → (m : Markup) × Stands (html_text t) m × (fit m ≡ Ok (unranged t)) × (unsourced m ≡ None)
+pub written_stands : (t : Tree) → IsWritten t → groups t < 2 ^ 64
+    → (m : Markup) × Stands (html_text t) m × (fit m ≡ Ok (unranged t)) × (unsourced m ≡ None)
 unfolding html_text
-written_stands (tree l ts) h =
+written_stands (tree l ts) h few =
+    let b : groups_of_all ts < 2 ^ 64 = omega (arith, few, inside_groups l ts (ap writing h.0)) in
+    let z : 0 + groups_of_all ts < 2 ^ 64 = omega (arith, b) in
     let k : IsElementKind l.kind l.attrs = body_is_kind l h.0 h.1 in
     let t : IsTold l = told l k h.1 in
-    let e : Element = element_for l (items_of ts) in
+    let e : Element = element_for l (items_of 0 ts) in
     let same : html 0 (tree l ts) ≡ spell e =
     ap (λ j. if is_group j then group_html 1 l (plains_before ts ended) else written (writing j) l (html_of_all 0 ts)) h.0
-    ∙ sym (element_spelled l (items_of ts) (html_of_all 0 ts) (attributes_spelled l t (small_id l h.1)) (items_spelled ts 2 kind.Body 0 h.2)) in (
-      page_markup (node_for l (markups_of ts)),
+    ∙ sym (element_spelled l (items_of 0 ts) (html_of_all 0 ts) (attributes_spelled l t (small_id l h.1)) (items_spelled ts 2 kind.Body 0 h.2 z)) in (
+      page_markup (node_for l (markups_of 0 ts)),
       (
         document e,
-        document_good e (element_good l 1 (items_of ts) (omega arith) k (ap (λ j. is_as_void (writing j)) h.0) t (items_good ts 2 kind.Body h.2)),
+        document_good e (element_good l 1 (items_of 0 ts) (omega arith) k (ap (λ j. is_as_void (writing j)) h.0) t (items_good ts 2 kind.Body 0 h.2 z)),
         ap (λ x. frame_start ++ (x ++ frame_end)) same ∙ document_spelled e,
-        document_stands e ∙ ap page_markup (element_stands l (items_of ts) (markups_of ts) t (items_stand ts 2 kind.Body [] h.2)),
+        document_stands e ∙ ap page_markup (element_stands l (items_of 0 ts) (markups_of 0 ts) t (items_stand ts 2 kind.Body [] 0 h.2 z)),
       ),
-      body_fits l ts h.0 h.1 t h.2,
-      body_sourced l ts h.0 t h.2,
+      body_fits l ts h.0 h.1 t h.2 b,
+      body_sourced l ts h.0 t h.2 b,
     )
 
 -- what stands for a tree of elements that fits is read as its page
@@ -147,5 +172,5 @@ stands_read bytes m t u s f e =
     ∙ ap (λ (x : Building). read_root bytes x.root) (stands_told bytes m s)
     ∙ ap₂ read_fit e f
 
-pub written_read : (t : Tree) → IsWritten t → read (html_text t) ≡ page (unranged t) None
-written_read t h = let w = written_stands t h in stands_read (html_text t) w.0 (unranged t) None w.1 w.2 w.3
+pub written_read : (t : Tree) → IsWritten t → groups t < 2 ^ 64 → read (html_text t) ≡ page (unranged t) None
+written_read t h few = let w = written_stands t h few in stands_read (html_text t) w.0 (unranged t) None w.1 w.2 w.3

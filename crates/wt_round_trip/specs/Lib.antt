@@ -1,1 +1,2 @@
+pub mod GroupNodes
 pub mod Written

@@ -1,5 +1,5 @@
 -- The trees for which HTML is written: what each kind of node may be, and what is read of it again.
-use Rattle.std.specs.Prelude.{◌≡◌, ℕ, suc, ◌<◌, ◌^◌, ◌&&◌, ◌||◌, Bool, true, false, not, nat_le, IsUtf8, Option, Some, None, List, [], ◌∷◌, ◌++◌, ◌==◌, ◌⊎◌, if◌then◌else◌}
+use Rattle.std.specs.Prelude.{◌≡◌, ℕ, suc, ◌<◌, ◌^◌, ◌&&◌, ◌||◌, Bool, true, false, not, nat_le, IsUtf8, Option, Some, None, Ok, List, [], ◌∷◌, ◌++◌, ◌==◌, ◌⊎◌, if◌then◌else◌}
 use Rattle.wt_tree.specs.declared.kind.AttrName.{AttrName}
 use Rattle.wt_tree.specs.declared.kind.AttrName.TheVariants as attr
 use Rattle.wt_tree.specs.declared.kind.Kind.{Kind}
@@ -11,13 +11,19 @@ use Rattle.wt_tree.specs.declared.node.DataMw.TheVariants as mw
 use Rattle.wt_tree.specs.declared.row.Own.{Own}
 use Rattle.wt_tree.specs.declared.row.Texts.{Texts}
 use Rattle.wt_tree.specs.declared.row.Texts.TheVariants.{Separators, Page, Bordered, OwnCharacter}
-use Rattle.wt_tree.specs.Kinds.{writing, is_leaf, is_numbered, may_hold, may_follow, is_block, order, spelling, fixed_attributes, texts_of_kind}
+use Rattle.wt_tree.specs.Kinds.{writing, is_leaf, is_numbered, may_hold, may_follow, order, spelling, fixed_attributes, texts_of_kind}
 use Rattle.wt_tree.specs.Values.{passes, is_needed}
 use Rattle.wt_tree.specs.Tree.{Label, Tree, tree, Trees, none, more, label}
 use Rattle.wt_tree.specs.declared.row.Writing.{Writing}
 use Rattle.wt_tree.specs.declared.row.Writing.TheVariants.{AsText, Unwritten}
 use Rattle.wt_fitting.specs.Data.{is_empty, is_extension_of}
-use Rattle.wt_tree.specs.Recut.{is_blank, is_text, recut}
+use Rattle.wt_tree.specs.Plain.{Face, Plain, text, element, Plains, ended, along}
+use Rattle.wt_tree.specs.Tiling.{is_group}
+use Rattle.wt_tree.specs.Recut.{is_blank, is_text, shows_block, any_shows_block, recut}
+use Rattle.wt_datamw.specs.Mw.{mw_text}
+use Rattle.wt_datamw.specs.MwRead.{mw_told}
+use Rattle.wt_fitting.specs.Groups.{transclusion, param}
+use Rattle.wt_round_trip.specs.GroupNodes.{elements_for, group_nodes, is_ended, is_empty_span, in_order, all_follow}
 use Rattle.wt_tree.specs.Cutting.{begins_with_text}
 use Rattle.wt_fitting.specs.Rows.{holds_text, shows_text, read_as}
 
@@ -43,14 +49,24 @@ label_read l = record {
   mw = l.mw;
 }
 
--- the tree without the ranges of its texts and separators
+-- The tree that is read again: without the ranges of its texts and separators, and with the nodes of a
+-- group's elements in place of those from which they were made.
 abbrev mutual
   pub unranged : Tree → Tree
-  unranged (tree l ts) = tree (label_read l) (unranged_all ts)
+  unranged (tree l ts) = tree (label_read l) (if is_group l.kind then group_nodes ts else unranged_all ts)
 
   pub unranged_all : Trees → Trees
   unranged_all none = none
   unranged_all (more t ts) = more (unranged t) (unranged_all ts)
+
+-- whether it has a group
+abbrev mutual
+  pub has_group : Tree → Bool
+  has_group (tree l ts) = is_group l.kind || any_has_group ts
+
+  pub any_has_group : Trees → Bool
+  any_has_group none = false
+  any_has_group (more t ts) = has_group t || any_has_group ts
 
 -- ---- texts
 
@@ -174,6 +190,77 @@ pub record IsElementLabel (l : Label) : Type 0 where
   pub mark : l.mark ≡ mark.Nothing
   pub mw : HasData (is_extension_label l) l.mw
 
+-- ---- groups
+
+-- an element in a group: a kind with its attributes, which shows no characters of its own
+pub record IsFace (f : Face) : Type 0 where
+  pub level : has_level f.kind ≡ true
+  pub attrs : HasAttributes f.kind f.attrs
+  pub shows : shows_text f.kind ≡ false
+
+-- within k elements; no leaf has anything in it
+abbrev pub FaceIsWritten : ℕ → Face → Bool → Type 0 → Type 0
+FaceIsWritten k f childless inside = (k < 200) × IsFace f × ((not (is_leaf f.kind) || childless) ≡ true) × inside
+
+abbrev pub is_characters : Plain → Bool
+is_characters (text bs) = true
+is_characters (element f qs) = false
+
+abbrev pub begins_with_characters : Plains → Bool
+begins_with_characters ended = false
+begins_with_characters (along p ps) = is_characters p
+
+-- what stands in an element of a group: no two texts stand next to each other
+abbrev mutual
+  pub PlainIn : ℕ → Kind → Plain → Type 0
+  PlainIn k parent (text bs) = (holds_text parent ≡ true) × IsUtf8 bs × (is_empty bs ≡ false)
+  PlainIn k parent (element f qs) = (may_hold parent f.kind ≡ true) ×
+      FaceIsWritten k f (is_ended qs) ((in_order false qs ≡ true) × PlainsIn (suc k) f.kind qs)
+
+  pub PlainsIn : ℕ → Kind → Plains → Type 0
+  PlainsIn k parent ended = Unit {0}
+  PlainsIn k parent (along p ps) = PlainIn k parent p × ((is_characters p && begins_with_characters ps) ≡ false) × PlainsIn k parent ps
+
+-- an element of a group fits where the group stands; an empty `span` does so anywhere
+abbrev pub TopIn : ℕ → Kind → Plain → Type 0
+TopIn k parent (text bs) = ⊥
+TopIn k parent (element f qs) = ((may_hold parent f.kind || is_empty_span f qs) ≡ true) ×
+    FaceIsWritten k f (is_ended qs) ((in_order false qs ≡ true) × PlainsIn (suc k) f.kind qs)
+
+abbrev pub TopsIn : ℕ → Kind → Plains → Type 0
+TopsIn k parent ended = Unit {0}
+TopsIn k parent (along p ps) = TopIn k parent p × TopsIn k parent ps
+
+-- the word of a group is `mw:Transclusion` or `mw:Param`
+abbrev pub IsWord : List ℕ → Type 0
+IsWord w = (w ≡ transclusion) ⊎ (w ≡ param)
+
+abbrev pub HasWord : List (AttrName × List ℕ) → Type 0
+HasWord xs = (w : List ℕ) × (xs ≡ (attr.Typeof, w) ∷ []) × IsWord w
+
+-- its parts are read as they are written
+abbrev pub HasParts : Option DataMw → Type 0
+HasParts None = ⊥
+HasParts (Some (mw.Extension name body)) = ⊥
+HasParts (Some (mw.Parts parts)) = IsUtf8 (mw_text (mw.Parts parts)) × (mw_told (mw_text (mw.Parts parts)) ≡ Ok (mw.Parts parts))
+
+pub record IsGroupLabel (l : Label) : Type 0 where
+  pub kind : l.kind ≡ kind.Group
+  pub number : IsNumber true l.id
+  pub places : HasPlaces l.ranges
+  pub source : IsLeafSource l
+  pub shown : l.shown ≡ []
+  pub attrs : HasWord l.attrs
+  pub origin : l.origin ≡ None
+  pub mark : l.mark ≡ mark.Nothing
+  pub mw : HasParts l.mw
+
+-- A group that holds these nodes. Where it shows a block one of its elements is one.
+pub record IsWrittenGroup (k : ℕ) (parent : Kind) (l : Label) (ts : Trees) : Type 0 where
+  pub label : IsGroupLabel l
+  pub elements : TopsIn k parent (elements_for ts)
+  pub blocks : any_shows_block (group_nodes ts) ≡ any_shows_block ts
+
 -- ---- trees
 
 abbrev pub is_childless : Trees → Bool
@@ -181,11 +268,11 @@ is_childless none = true
 is_childless (more t ts) = false
 
 -- A node by how it is written, within k elements, the innermost of which has the kind `parent`. HTML
--- nests at most 200 elements. No leaf has children.
-abbrev pub NodeIsWritten : Writing → ℕ → Kind → Label → Bool → Type 0 → Type 0
-NodeIsWritten AsText k parent l childless inside = IsTextIn parent l × (childless ≡ true)
-NodeIsWritten Unwritten k parent l childless inside = ⊥
-NodeIsWritten w k parent l childless inside = (k < 200) × (may_hold parent l.kind ≡ true) × IsElementLabel l ×
+-- nests at most 200 elements. No leaf has children. A group is written as its elements.
+abbrev pub NodeIsWritten : Writing → ℕ → Kind → Label → Bool → Type 0 → Type 0 → Type 0
+NodeIsWritten AsText k parent l childless inside group = IsTextIn parent l × (childless ≡ true)
+NodeIsWritten Unwritten k parent l childless inside group = group
+NodeIsWritten w k parent l childless inside group = (k < 200) × (may_hold parent l.kind ≡ true) × IsElementLabel l ×
     ((not (is_leaf l.kind) || childless) ≡ true) × inside
 
 -- Two texts that stand next to each other would be read as one: that is well where they are cut again.
@@ -196,9 +283,12 @@ joins Bordered b = false
 joins OwnCharacter b = b
 
 -- no inline element stands behind a block
+abbrev pub goes_behind : Bool → Tree → Bool
+goes_behind behind (tree l ts) = if is_group l.kind then all_follow behind (elements_for ts) else may_follow behind l.kind
+
 abbrev pub are_ordered : Bool → Trees → Bool
 are_ordered behind none = true
-are_ordered behind (more t ts) = may_follow behind (label t).kind && are_ordered (behind || is_block (label t).kind) ts
+are_ordered behind (more t ts) = goes_behind behind t && are_ordered (behind || shows_block t) ts
 
 -- In an item, a cell or a caption texts and separators are cut at their border, and the inline elements
 -- come first.
@@ -211,7 +301,7 @@ IsCutIn OwnCharacter ts = Unit {0}
 abbrev mutual
   pub WrittenIn : ℕ → Kind → Tree → Type 0
   WrittenIn k parent (tree l ts) = NodeIsWritten (writing l.kind) k parent l (is_childless ts)
-      (IsCutIn (texts_of_kind l.kind) ts × AllWrittenIn (suc k) l.kind ts)
+      (IsCutIn (texts_of_kind l.kind) ts × AllWrittenIn (suc k) l.kind ts) (IsWrittenGroup k parent l ts)
 
   pub AllWrittenIn : ℕ → Kind → Trees → Type 0
   AllWrittenIn k parent none = Unit {0}
