@@ -1,5 +1,7 @@
 -- Worked cases by computing: small pages are read as their own trees.
-use Rattle.std.proofs.Common.{◌++◌, ◌≡◌, ℕ, Some, None, List, [], ◌∷◌, refl, codes}
+use Rattle.std.proofs.Common.{◌++◌, ◌≡◌, ℕ, ◌<◌, ◌^◌, inl, inr, Some, None, List, [], ◌∷◌, refl, arith, codes}
+use Rattle.std.proofs.lemmas.Str.{IsUtf8-nil}
+use Rattle.json.proofs.Printed.Utf8.{IsUtf8-are_ascii}
 use Rattle.wt_tree.specs.declared.kind.AttrName.TheVariants as attr
 use Rattle.wt_tree.specs.declared.kind.Kind.{Kind}
 use Rattle.wt_tree.specs.declared.kind.Kind.TheVariants as kind
@@ -23,7 +25,7 @@ use Rattle.wt_markup.specs.Html.{attribute, id_attribute, mw_attribute, sync_of,
 use Rattle.wt_tree.specs.Values.{placeholder, extension_prefix, no_include, no_include_end, only_include, only_include_end, include_only}
 use Rattle.wt_fitting.specs.Groups.{transclusion, param}
 use Rattle.wt_fitting.specs.Read.{read, read_tree, page}
-use Rattle.wt_round_trip.specs.Written.{unranged}
+use Rattle.wt_round_trip.specs.Written.{unranged, IsWritten}
 
 abbrev blank : Kind → ℕ → ℕ → ℕ → Label
 blank k id start end = record {
@@ -225,6 +227,101 @@ unfolding read read_tree sync_told sync_of_data is_sync_shape html_text frame_st
     sync_members escape escape_double escape_single serde_json_on_literals digits tag_name mw_text mw_told mw_of_data is_mw_shape
     has_small_numbers extension_prefix is_extension transclusion param about_attribute first_attributes next_attributes
 empty_style = refl
+
+-- and it is written as a group may be
+style_written : IsWritten (style_in none)
+unfolding spelling tag_name digits mw_text mw_told mw_of_data is_mw_shape has_small_numbers serde_json_on_literals transclusion param
+style_written = (
+  refl,
+  record {
+    level = refl;
+    number = refl;
+    places = (omega arith, omega arith, omega arith, omega arith);
+    source = record { own = refl; opening = IsUtf8-nil; closing = IsUtf8-nil };
+    shown = refl;
+    attrs = refl;
+    origin = refl;
+    mark = refl;
+    mw = refl;
+  },
+  (
+    (
+      omega arith,
+      refl,
+      record {
+        level = refl;
+        number = (omega arith, omega arith);
+        places = (omega arith, omega arith, omega arith, omega arith);
+        source = record { own = refl; opening = IsUtf8-nil; closing = IsUtf8-nil };
+        shown = refl;
+        attrs = refl;
+        origin = refl;
+        mark = refl;
+        mw = refl;
+      },
+      refl,
+      (
+        tt,
+        (
+          (
+            record {
+              kind = refl;
+              characters = IsUtf8-are_ascii (codes "a") refl;
+              some = refl;
+              stands = refl;
+              shown = refl;
+              id = refl;
+              opening = refl;
+              closing = refl;
+              attrs = refl;
+              origin = refl;
+              mark = refl;
+              mw = refl;
+            },
+            refl,
+          ),
+          refl,
+          (
+            record {
+              label = record {
+                kind = refl;
+                number = (omega arith, omega arith);
+                places = (omega arith, omega arith, omega arith, omega arith);
+                source = record { own = IsUtf8-are_ascii (codes "''''") refl; opening = refl; closing = refl };
+                shown = refl;
+                attrs = (codes "mw:Transclusion", refl, inl refl);
+                origin = refl;
+                mark = refl;
+                mw = (IsUtf8-are_ascii (mw_text (mw.Parts (part.Literal (codes "''''") ∷ []))) refl, refl);
+              };
+              elements = (
+                (
+                  refl,
+                  (
+                    omega arith,
+                    record {
+                      level = refl;
+                      attrs = inr (refl, inr (refl, inr (refl, inr (refl, inr (refl, inr (refl, refl))))));
+                      shows = refl;
+                    },
+                    refl,
+                    (refl, tt),
+                  ),
+                ),
+                tt,
+              );
+              blocks = refl;
+            },
+            refl,
+            tt,
+          ),
+        ),
+      ),
+    ),
+    refl,
+    tt,
+  ),
+)
 
 -- an argument without a value, in a cell, before a text
 abbrev cell_in : Tree → Tree
