@@ -2,9 +2,11 @@
 use Rattle.std.proofs.Common.{◌≡◌, ℕ, Bool, true, false, Option, Some, None, List, [], ◌∷◌, ◌++◌, refl, sym, ap, ◌∙◌}
 use Rattle.std.specs.Prelude.{is_some}
 use Rattle.wt_tree.specs.Tree.{Label, Tree, tree, Trees, none, more}
+use Rattle.wt_tree.specs.View.{view, views}
+use Rattle.wt_tree.specs.declared.node.Node.{Node}
 use Rattle.wt_tree.specs.Recutting.{appended}
 use Rattle.wt_fitting.specs.Groups.{Piece, single, begun, further, furthers, gathered}
-use Rattle.wt_html_in.specs.Gathering.{into_last, gathered_with}
+use Rattle.wt_html_in.specs.Gathering.{with_child, into_last, gathered_with}
 use Rattle.wt_html_in.proofs.Blocks.{Moves}
 
 -- one piece, or none
@@ -175,3 +177,14 @@ stays_open g h xs (Some (single t)) m e f = closed h m f
     closed (Some a) m f = cc
 stays_open g h xs (Some (begun l t)) m e f = ends_begun false xs l t
 stays_open g h xs (Some (further t)) m e f = ends_further false xs t ∙ e m
+
+-- ---- nodes in a vector
+
+pub views_push : (ns : List Node) (n : Node) → views (ns ++ n ∷ []) ≡ appended (views ns) (more (view n) none)
+views_push [] n = refl
+views_push (m ∷ ns) n = ap (more (view m)) (views_push ns n)
+
+pub into_pushed : (ns : List Node) (last : Node) (t : Tree) → into_last (views (ns ++ last ∷ [])) t ≡ appended (views ns) (more (with_child (view last) t) none)
+into_pushed [] last t = refl
+into_pushed (m ∷ []) last t = refl
+into_pushed (m ∷ n ∷ ns) last t = ap (more (view m)) (into_pushed (n ∷ ns) last t)

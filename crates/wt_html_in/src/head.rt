@@ -1,6 +1,6 @@
 ghost use Rattle.std.specs.Prelude.{◌≡◌, ◌||◌, true, IfOk, IfErr};
 ghost use Rattle.wt_html_elements.specs.Built.{pairs, views};
-ghost use Rattle.wt_fitting.specs.Groups.{is_grouped, is_span, pairs_for};
+ghost use Rattle.wt_fitting.specs.Groups.{is_grouped, is_none, is_span, pairs_for};
 ghost use Rattle.wt_fitting.specs.Rows.{row};
 ghost use Rattle.wt_fitting.specs.Data.{data_for};
 ghost use Rattle.wt_fitting.specs.Fit.{texts_in, group_label, row_as, has_place, fits_place, fit_told, fit_row, fit_body_told, body_data};
@@ -212,6 +212,15 @@ fn is_span(kind: Kind) -> bool
     matches!(kind, Kind::Tag(TagName::Span))
 }
 
+fn is_none(contents: &[Content]) -> bool
+    ensures { result ≡ is_none (views contents.now) }
+{
+    match contents {
+        [] => true,
+        [_, ..] => false,
+    }
+}
+
 /// The same of an element by how it stands: in a group an empty `span` may stand anywhere.
 fn fits_place(
     outer: Kind,
@@ -223,7 +232,7 @@ fn fits_place(
     ensures { result ≡ fits_place outer behind standing kind (views contents.now) }
 {
     has_place(outer, behind, kind)
-        || (is_grouped(standing) && (is_span(kind) && contents.is_empty()))
+        || (is_grouped(standing) && (is_span(kind) && is_none(contents)))
 }
 
 /// Where something stands: in an element of this kind, in a group or not, behind a block or not.

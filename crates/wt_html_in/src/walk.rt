@@ -133,6 +133,7 @@ fn is_behind(behind: bool, made: &Made<'_>) -> bool
 }
 
 /// A node with one more child.
+#[tactic(auto, using(crate::proofs::Pieces::views_push))]
 fn with_child<'a>(node: Node<'a>, child: Node<'a>) -> Result<Node<'a>, FitFault>
     ensures node { IfOk result (λ n. view n ≡ with_child (view node.entry) (view child.entry)) }
     ensures memory { IfErr result (λ e. e ≡ FitFault.NoMemory) }
@@ -143,6 +144,7 @@ fn with_child<'a>(node: Node<'a>, child: Node<'a>) -> Result<Node<'a>, FitFault>
 }
 
 /// Puts a node into the last one, where there is one.
+#[tactic(auto, using(crate::proofs::Pieces::views_push, crate::proofs::Pieces::into_pushed))]
 fn push_into_last<'a>(nodes: &mut Vec<Node<'a>>, node: Node<'a>) -> Result<(), FitFault>
     ensures pushed { OnOk result (trees nodes.new.items ≡ into_last (trees nodes.old.items) (view node.entry)) }
     ensures memory { IfErr result (λ e. e ≡ FitFault.NoMemory) }
@@ -157,6 +159,7 @@ fn push_into_last<'a>(nodes: &mut Vec<Node<'a>>, node: Node<'a>) -> Result<(), F
     }
 }
 
+#[tactic(auto, using(crate::proofs::Pieces::views_push))]
 fn push_node<'a>(nodes: &mut Vec<Node<'a>>, node: Node<'a>) -> Result<(), FitFault>
     ensures pushed { OnOk result (trees nodes.new.items ≡ appended (trees nodes.old.items) (one_more (view node.entry) no_trees)) }
     ensures memory { IfErr result (λ e. e ≡ FitFault.NoMemory) }
