@@ -1,16 +1,18 @@
 -- Labels and kinds of elements, by what is gathered of them.
-use Rattle.std.proofs.Common.{◌≡◌, ℕ, Bool, true, false, Option, Some, None, Result, Ok, Err, List, refl, sym, ap, ap₂, ◌∙◌, subst}
+use Rattle.std.proofs.Common.{◌≡◌, ◌≤◌, [], ◌∷◌, length, arith, ℕ, Bool, true, false, Option, Some, None, Result, Ok, Err, List, refl, sym, ap, ap₂, ◌∙◌, subst}
 use Rattle.std.specs.Prelude.{IfOk, IfErr, ◌||◌}
 use Rattle.wt_tree.specs.declared.kind.Kind.{Kind}
 use Rattle.wt_tree.specs.declared.kind.Kind.TheVariants as kind
 use Rattle.wt_tree.specs.Tree.{Tree}
 use Rattle.wt_datamw.specs.declared.sync.Sync.{Sync}
 use Rattle.wt_html_grammar.specs.Markup.{Pair, Markups}
+use Rattle.wt_html_elements.specs.declared.content.Content.{Content}
+use Rattle.wt_html_elements.specs.Built.{views}
 use Rattle.wt_html_grammar.proofs.Steps.{if_true}
 use Rattle.wt_fitting.specs.declared.why.FitWhy.TheVariants as why
 use Rattle.wt_fitting.specs.declared.standing.Standing.{Standing}
 use Rattle.wt_fitting.specs.declared.standing.Standing.TheVariants as stands
-use Rattle.wt_fitting.specs.Groups.{Piece, begun, is_grouped, own_pairs, pairs_for}
+use Rattle.wt_fitting.specs.Groups.{Piece, begun, is_grouped, is_none, own_pairs, pairs_for}
 use Rattle.wt_fitting.specs.Rows.{row}
 use Rattle.wt_fitting.specs.Data.{Data, no_data, data_for}
 use Rattle.wt_fitting.specs.Fit.{Misfit, Spot as Place, texts_in, with_sync, label_for, label_as, group_label, piece_as, with_children, one_piece, row_as, fits_place, text_fits, fit_told, fit_as, fit_row, fit_body_told, body_data}
@@ -149,3 +151,7 @@ pub row_memory : (n : ℕ) (p : Spot) (s : Standing) (o : Option Kind) (ps : Lis
 row_memory n p s o ps c e h =
     let P : FitFault → Type 0 = λ f. RowFits (p.inside || is_grouped s) (λ group held. fit_row n (spot_with p group) s o ps c held) (Err f) in
     subst P (sym h) (λ group. tt)
+
+pub some_there : (xs : List Content) → 1 ≤ length xs → false ≡ is_none (views xs)
+some_there [] h = absurd (omega (arith, h))
+some_there (x ∷ xs) h = refl

@@ -1,5 +1,5 @@
 -- The attributes of its own that a group's first element has.
-use Rattle.std.proofs.Common.{◌≡◌, ℕ, suc, ◌+◌, ◌<◌, Bool, true, false, List, [], ◌∷◌, ◌++◌, refl, sym, ap, ◌∙◌, codes, drop, length, arith}
+use Rattle.std.proofs.Common.{◌≡◌, ℕ, ◌+◌, ◌<◌, Bool, true, false, List, [], ◌∷◌, ◌++◌, refl, sym, ap, ◌∙◌, codes, drop, length, arith}
 use Rattle.std.specs.Prelude.{◌&&◌, ◌||◌, if◌then◌else◌, nat_eq, get_or}
 use Rattle.std.specs.Str.{bytes_eq, is_utf8}
 use Rattle.std.proofs.lemmas.Bool.{eqb-true}
@@ -35,7 +35,7 @@ after_word (a ∷ w) (x ∷ xs) e =
 
 spaced_length : (w : List ℕ) → length (spaced w) ≡ length w + 1
 spaced_length [] = refl
-spaced_length (a ∷ w) = ap suc (spaced_length w)
+spaced_length (a ∷ w) = let h = spaced_length w in omega (arith, h)
 
 drop_utf8 : (w t : List ℕ) → is_utf8 t ≡ true → begins (spaced w) t ≡ true → is_utf8 (drop (length (spaced w)) t) ≡ true
 drop_utf8 w t u e =

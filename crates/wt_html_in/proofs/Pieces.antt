@@ -1,9 +1,10 @@
 -- Pieces are gathered one after another.
-use Rattle.std.proofs.Common.{◌≡◌, ℕ, Bool, true, false, Option, Some, None, List, [], ◌∷◌, ◌++◌, refl, sym, ap, ◌∙◌}
+use Rattle.std.proofs.Common.{◌≡◌, ℕ, Bool, true, false, Option, Some, None, List, [], ◌∷◌, ◌++◌, refl, sym, ap, ap₂, ◌∙◌}
 use Rattle.std.specs.Prelude.{is_some}
 use Rattle.wt_tree.specs.Tree.{Label, Tree, tree, Trees, none, more}
-use Rattle.wt_tree.specs.View.{view, views}
-use Rattle.wt_tree.specs.declared.node.Node.{Node}
+use Rattle.wt_tree.specs.View.{label_of, view, views}
+use Rattle.wt_tree.specs.declared.node.Node.{Node, out-Node}
+use Rattle.wt_tree.proofs.Views.{view_out}
 use Rattle.wt_tree.specs.Recutting.{appended}
 use Rattle.wt_fitting.specs.Groups.{Piece, single, begun, further, furthers, gathered}
 use Rattle.wt_html_in.specs.Gathering.{with_child, into_last, gathered_with}
@@ -188,3 +189,9 @@ pub into_pushed : (ns : List Node) (last : Node) (t : Tree) → into_last (views
 into_pushed [] last t = refl
 into_pushed (m ∷ []) last t = refl
 into_pushed (m ∷ n ∷ ns) last t = ap (more (view m)) (into_pushed (n ∷ ns) last t)
+
+pub child_added : (n m c : Node) → label_of (out-Node m) ≡ label_of (out-Node n) → (out-Node m).children ≡ (out-Node n).children ++ c ∷ []
+    → view m ≡ with_child (view n) (view c)
+child_added n m c e f =
+    view_out m ∙ ap₂ (λ l cs. tree l (views cs)) e f ∙ ap (tree (label_of (out-Node n))) (views_push (out-Node n).children c)
+    ∙ sym (ap (λ t. with_child t (view c)) (view_out n))

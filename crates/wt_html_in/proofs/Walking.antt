@@ -1,6 +1,6 @@
 -- A walk over elements, one after another.
 use Rattle.std.proofs.Common.{◌≡◌, ℕ, zero, suc, ◌+◌, ◌<◌, ◌^◌, Bool, true, false, Option, Some, None, Result, Ok, Err, List, [], ◌∷◌, ◌++◌, refl, sym, ap, ap₂, ◌∙◌, arith, subst, drop}
-use Rattle.std.specs.Prelude.{◌||◌, ◌&&◌, if◌then◌else◌, length, is_some, slice_get}
+use Rattle.std.specs.Prelude.{◌||◌, ◌&&◌, if◌then◌else◌, length, is_some, slice_get, IfOk, IfErr}
 use Rattle.std.specs.Option.{option_or, option_map}
 use Rattle.wt_tree.specs.declared.kind.Kind.{Kind}
 use Rattle.wt_tree.specs.Tree.{Tree, tree}
@@ -113,11 +113,14 @@ role_first [] (suc n) r q qs e f = cc
 role_first (x ∷ xs) zero r q qs e f = cc
 role_first (x ∷ xs) (suc n) r q qs e f = role_first xs n r q qs e f
 
+role_behind : (rs : List Role) (n : ℕ) (q : Role) (qs : List Role) → drop n rs ≡ q ∷ qs → drop (suc n) rs ≡ qs
+role_behind [] zero q qs f = cc
+role_behind [] (suc n) q qs f = cc
+role_behind (x ∷ xs) zero q qs f = cc
+role_behind (x ∷ xs) (suc n) q qs f = role_behind xs n q qs f
+
 pub role_rest : (rs : List Role) (n : ℕ) (q : Role) (qs : List Role) → drop n rs ≡ q ∷ qs → drop (n + 1) rs ≡ qs
-role_rest [] zero q qs f = cc
-role_rest [] (suc n) q qs f = cc
-role_rest (x ∷ xs) zero q qs f = cc
-role_rest (x ∷ xs) (suc n) q qs f = role_rest xs n q qs f
+role_rest rs n q qs f = let next : n + 1 ≡ suc n = omega arith in ap (λ m. drop m rs) next ∙ role_behind rs n q qs f
 
 pub role_there : (rs : List Role) (n : ℕ) (q : Role) (qs : List Role) → drop n rs ≡ q ∷ qs → n < length rs
 role_there [] zero q qs f = cc
@@ -214,6 +217,12 @@ text_ok w s r bs o e = λ g ts q. (
   },
 )
 
+pub text_result : (w : Walk) (s : Spot) (r : Role) (bs : List ℕ) (o : Result Made FitFault) → IfOk o (λ m. piece_of m ≡ text_piece r s.outer bs)
+    → IfErr o (λ e. e ≡ faults.NoMemory) → FitsPiece w s r (text bs) w o
+text_result w s r bs (Ok m) e f = text_ok w s r bs m e
+text_result w s r bs (Err faults.NoMemory) e f = tt
+text_result w s r bs (Err (faults.Unfit n y)) e f = absurd cc
+
 -- ---- an element, by what it is and by what stands in it
 
 abbrev pub Begun : Walk → Spot → Standing → List ℕ → List Pair → Markups → Result Headed FitFault → Type 0
@@ -307,6 +316,14 @@ pub nodes_memory : (w x : Walk) (k : Kind) (i : Bool) (ms : Markups) (e : FitFau
 nodes_memory w x k i ms e h = let P : FitFault → Type 0 = λ f. FitsNodes w k i ms x (Err f) in subst P (sym h) tt
 
 -- the same, seen in other words
+pub begun_by : (w : Walk) (s : Spot) (z : Standing) (name name' : List ℕ) (ps ps' : List Pair) (c : Markups) (n : ℕ) (r : Result Headed FitFault)
+    → name' ≡ name → ps' ≡ ps → n ≡ w.next
+    → RowFits (s.inside || is_grouped z) (λ group held. fit_row n (spot_with s group) z (row_as z name' ps') ps' c held) r → Begun w s z name ps c r
+begun_by w s z name name' ps ps' c n r a b e h = rw (sym a, sym b, sym e) h
+
+pub within_at : (w v : Walk) (k : Kind) (i j : Bool) (ms : Markups) (r : Result (List Node) FitFault) → j ≡ i → FitsNodes w k j ms v r → FitsNodes w k i ms v r
+within_at w v k i j ms r e h = let P : Bool → Type 0 = λ b. FitsNodes w k b ms v r in subst P e h
+
 pub begun_at : (w : Walk) (s : Spot) (z : Standing) (name : List ℕ) (ps : List Pair) (xs ys : List Content) (r : Result Headed FitFault) → xs ≡ ys
     → Begun w s z name ps (markups xs) r → Begun w s z name ps (markups ys) r
 begun_at w s z name ps xs ys r e h = let P : List Content → Type 0 = λ zs. Begun w s z name ps (markups zs) r in subst P e h

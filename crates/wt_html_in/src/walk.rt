@@ -239,6 +239,13 @@ fn text_made<'a>(
     }
 }
 
+/// Whether what stands in an element is in a group.
+fn is_within(inside: bool, standing: Standing) -> bool
+    ensures { result ≡ (inside || is_grouped standing) }
+{
+    inside || is_grouped(standing)
+}
+
 /// What a text or an element of this role is made into, where it stands.
 #[cycle(fitting)]
 fn piece<'a>(
@@ -275,7 +282,7 @@ fn piece<'a>(
                 group,
                 head,
             } = headed;
-            let inside = spot.inside || is_grouped(standing);
+            let inside = is_within(spot.inside, standing);
             let children = nodes(alloc, arena, walk, head.kind, inside, contents)?;
             let node = node_of(alloc, arena, inside, head, children)?;
             Ok(made_of(told, group, node))
