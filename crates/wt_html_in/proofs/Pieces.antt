@@ -1,9 +1,9 @@
 -- Pieces are gathered one after another.
-use Rattle.std.proofs.Common.{◌≡◌, ℕ, Bool, true, false, Option, Some, None, List, [], ◌∷◌, ◌++◌, refl, sym, ap, ap₂, ◌∙◌}
+use Rattle.std.proofs.Common.{◌≡◌, ℕ, Bool, true, false, Option, Some, None, List, [], ◌∷◌, ◌++◌, refl, sym, ap, ap₂, ◌∙◌, rules}
 use Rattle.std.specs.Prelude.{is_some}
 use Rattle.wt_tree.specs.Tree.{Label, Tree, tree, Trees, none, more}
 use Rattle.wt_tree.specs.View.{label_of, view, views}
-use Rattle.wt_tree.specs.declared.node.Node.{Node, out-Node}
+use Rattle.wt_tree.specs.declared.node.Node.{Node, Node-F, out-Node, roll-Node, out-roll-Node}
 use Rattle.wt_tree.proofs.Views.{view_out}
 use Rattle.wt_tree.specs.Recutting.{appended}
 use Rattle.wt_fitting.specs.Groups.{Piece, single, begun, further, furthers, gathered}
@@ -195,3 +195,10 @@ pub child_added : (n m c : Node) → label_of (out-Node m) ≡ label_of (out-Nod
 child_added n m c e f =
     view_out m ∙ ap₂ (λ l cs. tree l (views cs)) e f ∙ ap (tree (label_of (out-Node n))) (views_push (out-Node n).children c)
     ∙ sym (ap (λ t. with_child t (view c)) (view_out n))
+
+pub child_rolled : (n c : Node) (cs : List Node) → cs ≡ (out-Node n).children ++ c ∷ []
+    → view (roll-Node (record (out-Node n) { children = cs })) ≡ with_child (view n) (view c)
+child_rolled n c cs e =
+    let m : Node = roll-Node (record (out-Node n) { children = cs }) in
+    let is : out-Node m ≡ record (out-Node n) { children = cs } = search (rules, out-roll-Node) in
+    child_added n m c (ap label_of is) (ap (λ (r : Node-F Node). r.children) is ∙ e)

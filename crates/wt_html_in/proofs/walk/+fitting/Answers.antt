@@ -1,4 +1,4 @@
-use Rattle.std.proofs.Common.{◌≡◌, rules, Some, Ok, Err, [], ◌∷◌, sym, refl, ap, ◌∙◌}
+use Rattle.std.proofs.Common.{◌≡◌, rules, false, None, Some, Ok, Err, [], ◌∷◌, sym, refl, ap, ◌∙◌}
 use Rattle.std.specs.Vec.Iter.{into_iter_items}
 use Rattle.wt_tree.specs.View.{views}
 use Rattle.wt_html_grammar.specs.Markup.{text, node}
