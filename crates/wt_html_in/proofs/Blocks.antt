@@ -13,10 +13,10 @@ use Rattle.wt_fitting.specs.declared.why.FitWhy.TheVariants as why
 use Rattle.wt_fitting.specs.declared.standing.Standing.{Standing}
 use Rattle.wt_fitting.specs.declared.standing.Standing.TheVariants as stands
 use Rattle.wt_fitting.specs.Attributes.{value_of, has}
-use Rattle.wt_fitting.specs.Groups.{Piece, single, begun, further, standing, standing_by, open_by, open_after, is_dropped, is_grouped, own_pairs}
+use Rattle.wt_fitting.specs.Groups.{Piece, single, begun, further, standing, standing_by, open_by, open_after, is_dropped}
 use Rattle.wt_fitting.specs.Rows.{shows_text, holds_text}
-use Rattle.wt_fitting.specs.Data.{Data, no_data, data_for}
-use Rattle.wt_fitting.specs.Fit.{Misfit, Spot as Place, within, with_sync, label_for, label_as, piece_as, texts_in, leaf_in, is_block_row, is_block_element, row_as, fits_place, is_inside, with_children, one_piece, text_fits, fit_told, fit_as, fit_row, fit_text, fit_node, fit_nodes}
+use Rattle.wt_fitting.specs.Data.{Data, data_for}
+use Rattle.wt_fitting.specs.Fit.{Misfit, Spot as Place, within, with_sync, label_as, piece_as, texts_in, leaf_in, is_block_row, is_block_element, row_as, fits_place, is_inside, with_children, one_piece, text_fits, fit_told, fit_as, fit_row, fit_text, fit_node, fit_nodes}
 use Rattle.wt_html_in.specs.Fits.{is_block_piece}
 
 -- ---- blocks
@@ -115,8 +115,8 @@ one_moves : (s : Standing) (g a : Option (List ℕ)) (ps : List Pair) (d : Data)
 one_moves s g a ps d (Ok t) f = piece_moves s g a ps d t f
 one_moves s g a ps d (Err e) f = tt
 
-told_moves : (n : ℕ) (i : Bool) (s : Standing) (k : Kind) (g a : Option (List ℕ)) (ps : List Pair) (d : Option Data) (c : Markups) (held : Result (List Piece) Misfit)
-    → (s ≡ stands.Further → is_some g ≡ true) → Moving g (open_by s g a) (fit_told n i s k ps d c held)
+told_moves : (n : ℕ) (i : Bool) (s : Standing) (k : Kind) (g a : Option (List ℕ)) (ps : List Pair) (d : Option Data) (c : Markups)
+    (held : Result (List Piece) Misfit) → (s ≡ stands.Further → is_some g ≡ true) → Moving g (open_by s g a) (fit_told n i s k ps d c held)
 told_moves n i s k g a ps None c held f = tt
 told_moves n i s k g a ps (Some d) c held f = by_test (text_fits k c)
   where
@@ -126,7 +126,8 @@ told_moves n i s k g a ps (Some d) c held f = by_test (text_fits k c)
     by_test false = tt
 
 row_moves : (n : ℕ) (x : Place) (s : Standing) (o : Option Kind) (a : Option (List ℕ)) (ps : List Pair) (c : Markups)
-    (held : Kind → Result (List Piece) Misfit) → (s ≡ stands.Further → is_some x.group ≡ true) → Moving x.group (open_by s x.group a) (fit_row n x s o ps c held)
+    (held : Kind → Result (List Piece) Misfit) → (s ≡ stands.Further → is_some x.group ≡ true)
+    → Moving x.group (open_by s x.group a) (fit_row n x s o ps c held)
 row_moves n x s None a ps c held f = tt
 row_moves n x s (Some k) a ps c held f = by_test (fits_place x.parent x.behind s k c)
   where

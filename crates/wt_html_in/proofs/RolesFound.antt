@@ -1,5 +1,5 @@
 -- What each text and element is, found one after another.
-use Rattle.std.proofs.Common.{◌≡◌, ℕ, ◌+◌, Bool, true, false, Option, Some, None, List, [], ◌∷◌, ◌++◌, refl, sym, ap, ◌∙◌, drop}
+use Rattle.std.proofs.Common.{◌≡◌, ℕ, ◌+◌, Bool, true, false, Option, None, List, [], ◌∷◌, ◌++◌, refl, sym, ap, ◌∙◌, drop}
 use Rattle.std.specs.Prelude.{if◌then◌else◌}
 use Rattle.wt_html_grammar.specs.Markup.{Markup, Markups, text, node}
 use Rattle.wt_html_elements.specs.declared.content.Content.{Content}

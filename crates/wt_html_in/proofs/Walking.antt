@@ -1,9 +1,9 @@
 -- A walk over elements, one after another.
 use Rattle.std.proofs.Common.{◌≡◌, ℕ, zero, suc, ◌+◌, ◌<◌, ◌^◌, Bool, true, false, Option, Some, None, Result, Ok, Err, List, [], ◌∷◌, ◌++◌, refl, sym, ap, ap₂, ◌∙◌, arith, subst, drop}
-use Rattle.std.specs.Prelude.{◌||◌, ◌&&◌, if◌then◌else◌, length, is_some, slice_get, IfOk, IfErr}
+use Rattle.std.specs.Prelude.{◌||◌, if◌then◌else◌, length, is_some, slice_get, IfOk, IfErr}
 use Rattle.std.specs.Option.{option_or, option_map}
 use Rattle.wt_tree.specs.declared.kind.Kind.{Kind}
-use Rattle.wt_tree.specs.Tree.{Tree, tree}
+use Rattle.wt_tree.specs.Tree.{tree}
 use Rattle.wt_tree.specs.View.{view, views}
 use Rattle.wt_tree.specs.declared.node.Node.{Node}
 use Rattle.wt_html_grammar.specs.Markup.{Pair, Markup, Markups, text, node, empty, more}
@@ -13,7 +13,7 @@ use Rattle.wt_fitting.specs.declared.standing.Standing.{Standing}
 use Rattle.wt_fitting.specs.declared.standing.Standing.TheVariants as stands
 use Rattle.wt_fitting.specs.Groups.{Piece, single, gathered, standing, is_grouped, is_dropped, open_after}
 use Rattle.wt_fitting.specs.Fit.{Misfit, Spot as Place, within, onto, onto_told, with_children, is_block_element, behind_it, elements, elements_of_all, row_as, leaf_in, fit_row, fit_text, fit_node, fit_nodes}
-use Rattle.wt_fitting.specs.Unsourced.{is_unsourced, unsourced_as, unsourced_node, unsourced_nodes}
+use Rattle.wt_fitting.specs.Unsourced.{is_unsourced, unsourced_as, unsourced_nodes}
 use Rattle.wt_html_in.specs.Texts.{is_utf8_markup, are_utf8_markups}
 use Rattle.wt_html_in.specs.declared.refusal.FitFault.{FitFault}
 use Rattle.wt_html_in.specs.declared.refusal.FitFault.TheVariants as faults
@@ -25,7 +25,7 @@ use Rattle.wt_html_in.specs.declared.roles.Role.{Role}
 use Rattle.wt_html_in.specs.declared.roles.Role.TheVariants as are
 use Rattle.wt_html_in.specs.Roles.{text_role, role_at, roles, standing_in, text_piece}
 use Rattle.wt_html_in.specs.Gathering.{gathered_with}
-use Rattle.wt_html_in.specs.Fits.{label_of_head, piece_by, made_by, held_in, RowFits, spot_with, is_asked, unsourced_here, unsourced_among, unsourced_one, Passed, piece_of, is_block_piece, FitsPiece, FitsNodes}
+use Rattle.wt_html_in.specs.Fits.{label_of_head, piece_by, made_by, held_in, RowFits, spot_with, unsourced_here, unsourced_among, unsourced_one, Passed, piece_of, is_block_piece, FitsPiece, FitsNodes}
 use Rattle.wt_html_in.proofs.Blocks.{block_made, node_moves}
 use Rattle.wt_html_in.proofs.Pieces.{listed, ends_open, append_none, gathered_add, follows, stays_open}
 use Rattle.wt_html_in.proofs.Values.{and_right}
@@ -256,14 +256,16 @@ one_element false n g name ps c = refl
 stood_is : (w v : Walk) (s : Spot) (g : Option (List ℕ)) (z : Standing) (name : List ℕ) (ps : List Pair) (c : Markups) (h : Headed)
     → Begun w s z name ps c (Ok h) → v.next ≡ w.next + 1
     → stood w.next s g z name ps c
-    ≡ made_by h (with_children (s.inside || is_grouped z) h.head.kind (label_of_head h.head) (fit_nodes v.next (within h.head.kind (s.inside || is_grouped z)) c))
+    ≡ made_by h (with_children (s.inside || is_grouped z) h.head.kind (label_of_head h.head)
+    (fit_nodes v.next (within h.head.kind (s.inside || is_grouped z)) c))
 stood_is w v s g z name ps c h f e =
     let j = s.inside || is_grouped z in
     let next : suc w.next ≡ v.next = omega (arith, e) in
     f g (λ k. fit_nodes (suc w.next) (within k j) c)
     ∙ ap (λ n. made_by h (with_children j h.head.kind (label_of_head h.head) (fit_nodes n (within h.head.kind j) c))) next
 
-pub element_ok : (w v u : Walk) (s : Spot) (r : Role) (z : Standing) (name : List ℕ) (ps : List Pair) (c : Markups) (h : Headed) (ns : List Node) (n : Node) (o : Made)
+pub element_ok : (w v u : Walk) (s : Spot) (r : Role) (z : Standing) (name : List ℕ) (ps : List Pair) (c : Markups) (h : Headed)
+    (ns : List Node) (n : Node) (o : Made)
     → z ≡ standing_in r → Begun w s z name ps c (Ok h) → Passed w v 1 (unsourced_here s.inside z w.next ps)
     → FitsNodes v h.head.kind (s.inside || is_grouped z) c u (Ok ns)
     → view n ≡ tree (label_of_head h.head) (held_in (s.inside || is_grouped z) h.head.kind (views ns))
@@ -271,8 +273,7 @@ pub element_ok : (w v u : Walk) (s : Spot) (r : Role) (z : Standing) (name : Lis
     → FitsPiece w s r (node name ps c) u (Ok o)
 element_ok w v u s r z name ps c h ns n o y f p g e m = λ group ts q.
     let j = s.inside || is_grouped z in
-    let is : z ≡ standing group ps = y ∙ ap standing_in q in
-    (
+    let is : z ≡ standing group ps = y ∙ ap standing_in q in (
       ap (λ x. stood w.next s group x name ps c) (sym is)
           ∙ stood_is w v s group z name ps c h f p.next
           ∙ ap (λ x. made_by h (with_children j h.head.kind (label_of_head h.head) x)) g.1
@@ -335,7 +336,8 @@ piece_at w v s q m n r t e f h = rw (e, f) h
 pub nodes_at : (w v : Walk) (k : Kind) (i : Bool) (ms : Markups) (r s : Result (List Node) FitFault) → r ≡ s → FitsNodes w k i ms v s → FitsNodes w k i ms v r
 nodes_at w v k i ms r s f h = rw f h
 
-pub going_at : (w : Walk) (k : Kind) (i : Bool) (ns ms : List Node) (v : Walk) (b : Bool) (rs : List Role) (cs bs xs ys : List Content) → ms ≡ ns → bs ≡ cs → ys ≡ xs
+pub going_at : (w : Walk) (k : Kind) (i : Bool) (ns ms : List Node) (v : Walk) (b : Bool) (rs : List Role) (cs bs xs ys : List Content)
+    → ms ≡ ns → bs ≡ cs → ys ≡ xs
     → Going w k i (markups cs) ns v b rs (markups xs) → Going w k i (markups bs) ms v b rs (markups ys)
 going_at w k i ns ms v b rs cs bs xs ys d e f h = rw (d, e, f) h
 

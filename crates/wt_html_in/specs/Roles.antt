@@ -1,5 +1,5 @@
 -- What each text and element is among its siblings.
-use Rattle.std.specs.Prelude.{ℕ, Option, Some, None, List, [], ◌∷◌, codes, if◌then◌else◌}
+use Rattle.std.specs.Prelude.{ℕ, Option, None, List, [], ◌∷◌, codes, if◌then◌else◌}
 use Rattle.std.specs.Option.{option_map}
 use Rattle.wt_tree.specs.declared.kind.Kind.{Kind}
 use Rattle.wt_html_grammar.specs.Markup.{Markup, Markups, text, node, empty, more}

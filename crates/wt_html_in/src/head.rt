@@ -162,7 +162,7 @@ fn headed_as(
     requires texts { are_utf8_markups (views contents.now) ≡ true }
     ensures { HeadFits (inside || is_grouped standing)
         (λ held. fit_told number (inside || is_grouped standing) standing kind (pairs attributes.now)
-            (data_for inside standing kind (pairs attributes.now)) (views contents.now) (held kind)) result }
+        (data_for inside standing kind (pairs attributes.now)) (views contents.now) (held kind)) result }
 {
     match data_for(alloc, inside, standing, kind, attributes)? {
         Data::Bad => Err(misfit(number, FitWhy::Data)),
@@ -231,8 +231,7 @@ fn fits_place(
 ) -> bool
     ensures { result ≡ fits_place outer behind standing kind (views contents.now) }
 {
-    has_place(outer, behind, kind)
-        || (is_grouped(standing) && (is_span(kind) && is_none(contents)))
+    has_place(outer, behind, kind) || (is_grouped(standing) && (is_span(kind) && is_none(contents)))
 }
 
 /// Where something stands: in an element of this kind, in a group or not, behind a block or not.
@@ -260,7 +259,7 @@ fn headed_in(
     requires texts { are_utf8_markups (views contents.now) ≡ true }
     ensures { RowFits (spot.inside || is_grouped standing)
         (λ group held. fit_row number (spot_with spot group) standing (row name.now (pairs own.now)) (pairs attributes.now)
-            (views contents.now) held) result }
+        (views contents.now) held) result }
 {
     match row(name, own) {
         None => Err(misfit(number, FitWhy::Element)),
@@ -297,7 +296,7 @@ pub fn headed_by(
     requires texts { are_utf8_markups (views contents.now) ≡ true }
     ensures { RowFits (spot.inside || is_grouped standing)
         (λ group held. fit_row number (spot_with spot group) standing (row_as standing name.now (pairs attributes.now)) (pairs attributes.now)
-            (views contents.now) held) result }
+        (views contents.now) held) result }
 {
     if is_first(standing) {
         let own = own_attributes(alloc, attributes)?;

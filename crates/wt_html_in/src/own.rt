@@ -144,11 +144,7 @@ fn push_copy(
 }
 
 /// Puts a `typeof` behind other attributes, where there is one.
-fn push_type(
-    alloc: Global,
-    own: &mut Vec<Attribute>,
-    value: Option<&[u8]>,
-) -> Result<(), FitFault>
+fn push_type(alloc: Global, own: &mut Vec<Attribute>, value: Option<&[u8]>) -> Result<(), FitFault>
     ensures pushed { OnOk result (pairs own.new.items ≡ pairs own.old.items ++ type_pairs (option_map (λ v. v.now) value.entry)) }
     ensures memory { IfErr result (λ e. e ≡ FitFault.NoMemory) }
 {

@@ -124,7 +124,10 @@ fn role_at(group: Option<&[u8]>, content: &Content, behind: &[Content]) -> Role
 {
     match content {
         Content::Text(bytes) => text_role(group, bytes.as_slice(), behind),
-        Content::Element { attributes, .. } => Role::Element(standing(group, attributes.as_slice())),
+        Content::Element { attributes, .. } => Role::Element(standing(
+            group,
+            attributes.as_slice(),
+        )),
     }
 }
 
@@ -165,11 +168,7 @@ fn open_by<'t>(
 }
 
 /// The group that is open behind a text or an element of this role.
-fn open_behind<'t>(
-    role: Role,
-    group: Option<&'t [u8]>,
-    content: &'t Content,
-) -> Option<&'t [u8]>
+fn open_behind<'t>(role: Role, group: Option<&'t [u8]>, content: &'t Content) -> Option<&'t [u8]>
     ensures { option_map (λ v. v.now) result ≡ open_behind role (option_map (λ v. v.now) group.entry) (view_content content.now) }
 {
     match role {

@@ -80,7 +80,7 @@ fn begin(
     requires texts { are_utf8_markups (views contents.now) ≡ true }
     ensures headed { RowFits (spot.inside || is_grouped standing)
         (λ group held. fit_row walk.old.next (spot_with spot group) standing (row_as standing name.items (pairs attributes.items)) (pairs attributes.items)
-            (views contents.now) held) result }
+        (views contents.now) held) result }
     ensures passed { Passed walk.old walk.new 1 (unsourced_here spot.inside standing walk.old.next (pairs attributes.items)) }
 {
     let number = enter(walk, spot.inside, standing, attributes.as_slice());
@@ -315,7 +315,14 @@ pub fn nodes<'a>(
             inside,
             behind,
         };
-        let made = piece(alloc, arena, walk, spot, role_in(roles.as_slice(), at), content)?;
+        let made = piece(
+            alloc,
+            arena,
+            walk,
+            spot,
+            role_in(roles.as_slice(), at),
+            content,
+        )?;
         behind = is_behind(behind, &made);
         push_made(alloc, arena, &mut children, made)?;
         at += 1;

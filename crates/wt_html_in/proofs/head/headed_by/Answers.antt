@@ -1,4 +1,4 @@
-use Rattle.std.proofs.Common.{◌≡◌, true, sym, ap, ◌∙◌}
+use Rattle.std.proofs.Common.{true, sym, ap, ◌∙◌}
 use Rattle.wt_html_elements.specs.Built.{pairs, views}
 use Rattle.wt_html_in.specs.Texts.{are_utf8_values}
 use Rattle.wt_html_in.proofs.Labels.{first_pairs, other_pairs, row_own}

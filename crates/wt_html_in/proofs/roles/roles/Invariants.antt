@@ -1,5 +1,4 @@
-use Rattle.std.proofs.Common.{◌≡◌, drop, option_map}
-use Rattle.wt_html_elements.specs.Built.{views}
+use Rattle.std.proofs.Common.{option_map}
 use Rattle.wt_html_in.proofs.RolesFound.{Found}
 use Rattle.wt_html_in.proofs.roles.roles.Given as goal
 

@@ -1,11 +1,10 @@
-use Rattle.std.proofs.Common.{◌≡◌, rules, false, None, Some, Ok, Err, [], ◌∷◌, sym, refl, ap, ◌∙◌}
+use Rattle.std.proofs.Common.{◌≡◌, rules, false, None, Ok, Err, [], ◌∷◌, sym, refl, ap, ◌∙◌}
 use Rattle.std.specs.Vec.Iter.{into_iter_items}
-use Rattle.wt_tree.specs.View.{views}
 use Rattle.wt_html_grammar.specs.Markup.{text, node}
 use Rattle.wt_html_elements.specs.declared.content.Content.{fold-roll-Content, the_lemmas}
 use Rattle.wt_html_elements.specs.Built.{view_content, pairs, views as markups}
 use Rattle.wt_html_in.specs.Roles.{roles}
-use Rattle.wt_html_in.proofs.Walking.{begun_at, within_at, piece_at, nodes_at, piece_memory, text_result, element_ok, element_misfit, element_inside, no_items, going_start, going_on, going_end, going_err, going_at}
+use Rattle.wt_html_in.proofs.Walking.{begun_at, within_at, piece_at, nodes_at, text_result, element_ok, element_misfit, element_inside, no_items, going_start, going_on, going_end, going_err, going_at}
 use Rattle.wt_html_in.proofs.walk.+fitting.Goals as goal
 
 pub piece-returns-in-Text : goal.piece-returns-in-Text
