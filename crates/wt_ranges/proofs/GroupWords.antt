@@ -1,5 +1,5 @@
 -- The word of a group by its first call.
-use Rattle.std.proofs.Common.{◌≡◌, ℕ, Bool, true, false, Option, Some, None, List, [], ◌∷◌, refl, ap, ◌∙◌}
+use Rattle.std.proofs.Common.{◌≡◌, ℕ, Bool, true, false, Option, Some, List, [], ◌∷◌, refl, ap, ◌∙◌}
 use Rattle.std.specs.Prelude.{◌++◌, slice_get, if◌then◌else◌}
 use Rattle.wt_tree.specs.declared.node.Part.TheVariants as datum
 use Rattle.wt_span.specs.Origins.{OuterCall}

@@ -4,7 +4,7 @@ use Rattle.std.specs.Prelude.{◌&&◌, ◌||◌}
 use Rattle.wt_span.specs.declared.text.Text.{Text}
 use Rattle.wt_span.specs.Slice.{bytes_of}
 use Rattle.wt_tree.specs.declared.node.Node.{Node}
-use Rattle.wt_tree.specs.Cutting.{begins_with_break, begins_with_text, is_sep_at, has_tail, IsWholeBy, IsWhole, IsFront, StandsBy, AreCut}
+use Rattle.wt_tree.specs.Cutting.{begins_with_break, is_sep_at, IsWholeBy, IsWhole, IsFront, StandsBy, AreCut}
 use Rattle.wt_tree.specs.Recut.{is_blank, is_break, are_spaces, has_break, from_break, front_ranges, rest_ranges, joined_ranges, is_border, is_text, leads_to_block, sep_leaf, text_leaf, recut}
 use Rattle.wt_tree.specs.Recutting.{is_empty}
 use Rattle.wt_tree.specs.Tree.{Tree, Trees, none, more, label}
@@ -40,9 +40,10 @@ gap_whole behind leads t h =
     ((begun own h.2).1, subst (λ x. IsWholeBy x behind (label t).ranges own t) (sym e) h.0)
 
 pub gap_stands : (behind : Bool) (t : Tree) → IsGap t → WholeStands behind t (Some true)
-gap_stands behind t h =
-    (λ leads. gap_whole behind leads t h,
-    sym (ap (λ x. behind || x) (text_border t (gap_text t h) ∙ (begun (label t).own h.2).0) ∙ or_true behind))
+gap_stands behind t h = (
+  λ leads. gap_whole behind leads t h,
+  sym (ap (λ x. behind || x) (text_border t (gap_text t h) ∙ (begun (label t).own h.2).0) ∙ or_true behind),
+)
 
 -- ---- texts
 
@@ -72,9 +73,11 @@ words_no_sep leads own e f =
 
 words_whole : (leads : Bool) (t : Tree) → IsWords t → IsWhole false leads t
 words_whole leads t h =
-    let own = (label t).own in
-    (words_some own h.2, subst (λ x. IsWholeBy x false (label t).ranges own t) (sym (words_no_sep leads own h.1 h.2))
-    (h.0, ap (λ x. x && is_blank (from_break own)) h.1))
+    let own = (label t).own in (
+      words_some own h.2,
+      subst (λ x. IsWholeBy x false (label t).ranges own t) (sym (words_no_sep leads own h.1 h.2))
+          (h.0, ap (λ x. x && is_blank (from_break own)) h.1),
+    )
 
 pub words_stand : (t : Tree) → IsWords t → WholeStands false t (Some false)
 words_stand t h = (λ leads. words_whole leads t h, sym (words_border t h))
@@ -89,10 +92,18 @@ front_stands t s h g e f =
     let r = joined_ranges (label t).ranges (label s).ranges in
     let shown : (label t).shown ≡ (label t).own = ap (λ x. (label x).shown) h.0 in
     let first : (label t).ranges ≡ front_ranges (length (label t).own) r = e ∙ ap (λ bs. front_ranges (length bs) r) shown in
-    let next : (label s).ranges ≡ rest_ranges (length (label t).own) r = f ∙ ap (λ bs. rest_ranges (length bs) r) shown in
-    (λ ts. (refl, h.1, words_some (label t).own h.2, g.2, g.1, h.0 ∙ ap (λ x. text_leaf x (label t).own) first,
-    g.0 ∙ ap (λ x. sep_leaf x (label s).own) next),
-    sym (words_border t h))
+    let next : (label s).ranges ≡ rest_ranges (length (label t).own) r = f ∙ ap (λ bs. rest_ranges (length bs) r) shown in (
+      λ ts. (
+        refl,
+        h.1,
+        words_some (label t).own h.2,
+        g.2,
+        g.1,
+        h.0 ∙ ap (λ x. text_leaf x (label t).own) first,
+        g.0 ∙ ap (λ x. sep_leaf x (label s).own) next,
+      ),
+      sym (words_border t h),
+    )
 
 -- ---- by what follows
 
@@ -114,10 +125,11 @@ whole_alone behind t (Some now) e h =
 pub front_before : (behind : Bool) (t s : Tree) (r : Option Bool) → is_text t ≡ true → is_text s ≡ true → FrontStands behind t s r
     → BeforeStands behind t s r
 front_before behind t s None e f h = tt
-front_before behind t s (Some now) e f h =
-    (λ ts. subst (λ x. StandsBy x (is_text s) (IsWhole behind (leads_to_block (more s ts)) t) (IsFront behind t (more s ts))) (sym e)
-    (subst (λ x. StandsBy true x (IsWhole behind (leads_to_block (more s ts)) t) (IsFront behind t (more s ts))) (sym f) (h.0 ts)),
-    h.1)
+front_before behind t s (Some now) e f h = (
+  λ ts. subst (λ x. StandsBy x (is_text s) (IsWhole behind (leads_to_block (more s ts)) t) (IsFront behind t (more s ts))) (sym e)
+      (subst (λ x. StandsBy true x (IsWhole behind (leads_to_block (more s ts)) t) (IsFront behind t (more s ts))) (sym f) (h.0 ts)),
+  h.1,
+)
 
 pub alone_before : (behind : Bool) (t s : Tree) (r : Option Bool) → (is_text t && is_text s) ≡ false → AloneStands behind t r
     → BeforeStands behind t s r

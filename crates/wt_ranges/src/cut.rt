@@ -14,6 +14,7 @@ use wt_span::{List, NoMemory};
 use wt_tree::{Kind, Node, Texts, recut_texts};
 
 /// What stands in an item, a cell or a caption, cut anew; where it is known to stand cut, as it is.
+#[tactic(auto, using(crate::proofs::StandsCut::stay))]
 fn cut_bordered<'a>(alloc: Global, nodes: List<Node<'a>>) -> Result<List<Node<'a>>, NoMemory>
     ensures { IfOk result (λ ns. views ns ≡ recut (views nodes.entry)) }
 {
