@@ -1,6 +1,6 @@
 -- Worked cases of the definitions, each computed: the nodes that are reached with their numbers and ranges, and the parts of groups.
 use Rattle.std.proofs.Common.{◌≡◌, ℕ, List, [], ◌∷◌, Option, Some, None, map, refl}
-use Rattle.std.specs.Prelude.{codes, false}
+use Rattle.std.specs.Prelude.{codes, false, true}
 use Rattle.wt_tree.specs.declared.kind.Kind.{Kind}
 use Rattle.wt_tree.specs.declared.kind.Kind.TheVariants as kind
 use Rattle.wt_tree.specs.declared.kind.Ranges.{Ranges}
@@ -16,6 +16,7 @@ use Rattle.wt_ranges.specs.Labels.{label_at}
 use Rattle.wt_call_data.specs.CallData.{call_part}
 use Rattle.wt_ranges.specs.GroupData.{group_data}
 use Rattle.wt_ranges.specs.GroupParts.{Part, called, between, parts}
+use Rattle.wt_ranges.specs.GroupWord.{argument_word, group_word, transclusion_word}
 use Rattle.wt_ranges.specs.Annotated.{annotated}
 use Rattle.wt_ranges.specs.Reached.{reached}
 
@@ -67,6 +68,19 @@ argument : lines_of (call (codes "{{{x}}}") ∷ [])
     ≡ line 0 kind.Body 0 11 0 0 ∷ line 1 kind.Para 0 11 0 0 ∷ line 0 kind.Text 0 2 0 0 ∷ line 2 kind.Group 2 9 0 0 ∷ line 0 kind.Text 9 11 0 0 ∷ []
 unfolding annotated label_at
 argument = refl
+
+-- the group's word is that of its first call: an argument, then a call; a call, then an argument
+abbrev argument_call : List ℕ → OuterCall
+argument_call bs = record (call bs) { argument = true }
+
+argument_first : group_word (group_data (argument_call (codes "{{{x}}}") ∷ call (codes "{{y}}") ∷ []) (called 0 ∷ called 1 ∷ [])) ≡ codes "mw:Param"
+unfolding group_data call_part argument_word
+argument_first = refl
+
+call_first : group_word (group_data (call (codes "{{y}}") ∷ argument_call (codes "{{{x}}}") ∷ []) (called 0 ∷ between (codes " ") ∷ called 1 ∷ []))
+    ≡ codes "mw:Transclusion"
+unfolding group_data call_part transclusion_word
+call_first = refl
 
 -- a call alone, of a page that is absent
 alone : lines_of (call (codes "{{m}}") ∷ []) (body (para (text (given 0 (codes "[[:Template:M]]")) ∷ []) ∷ []))
@@ -170,6 +184,10 @@ reopened_style = refl
 reopened_data : group_data [] (parts [] (tree_items reopened_page) 9 0) ≡ Some (mw.Parts [])
 unfolding group_data
 reopened_data = refl
+
+reopened_word : group_word (group_data [] (parts [] (tree_items reopened_page) 9 0)) ≡ codes "mw:Transclusion"
+unfolding group_data transclusion_word
+reopened_word = refl
 
 -- an entity within the `nowiki` of the page is a node, and a `nowiki` of a call is a group
 raw_page : lines_of [] (body (node kind.Nowiki (page (codes "<nowiki>"))

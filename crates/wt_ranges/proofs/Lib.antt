@@ -13,6 +13,7 @@ pub mod CutTexts
 pub mod Ends
 pub mod Groupings
 pub mod GroupNodes
+pub mod GroupWords
 pub mod HeldPieces
 pub mod KeptNodes
 pub mod NoGroups
@@ -32,6 +33,7 @@ pub mod RunCuts
 pub mod Seams
 pub mod Slices
 pub mod Smallest
+pub mod StandsCut
 pub mod TakenApart
 pub mod Tiles
 pub mod UnplacedNodes

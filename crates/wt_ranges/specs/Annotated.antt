@@ -15,6 +15,7 @@ use Rattle.wt_ranges.specs.Labels.{leaf_open, if_leaf, if_inner, label_at}
 use Rattle.wt_ranges.specs.Numbering.{with_numbers}
 use Rattle.wt_ranges.specs.WithoutCalls.{inside_by}
 use Rattle.wt_ranges.specs.CutTexts.{cut_texts}
+use Rattle.wt_ranges.specs.GroupWord.{group_attrs}
 use Rattle.wt_ranges.specs.Grouped.{Grouped, kept, group, GroupedAll, ended, along, grouped}
 use Rattle.wt_ranges.specs.GroupParts.{Part, parts}
 
@@ -58,7 +59,8 @@ kept_label is h at source opening closing = record {
   mw = h.mw;
 }
 
--- the label of a group, from a byte on, by what stands on the page for it and by what its element carries
+-- the label of a group, from a byte on, by what stands on the page for it and by what its element carries; its word is an
+-- attribute
 abbrev pub group_label : ℕ → List ℕ → Option DataMw → Label
 group_label at source mw = record {
   kind = kind.Group;
@@ -68,7 +70,7 @@ group_label at source mw = record {
   closing = [];
   own = source;
   shown = [];
-  attrs = [];
+  attrs = group_attrs mw;
   origin = None;
   mark = marks.Nothing;
   mw = mw;

@@ -8,6 +8,7 @@ pub mod GroupData
 pub mod Filled
 pub mod Grouped
 pub mod GroupParts
+pub mod GroupWord
 pub mod Kept
 pub mod Labels
 pub mod Made
@@ -22,6 +23,7 @@ pub mod Reached
 pub mod RunTrees
 pub mod Seams
 pub mod Slices
+pub mod StandsCut
 pub mod Ungrouped
 pub mod Walked
 pub mod WithoutCalls

@@ -2,14 +2,27 @@
 
 ghost use Rattle.std.specs.Prelude.{◌≡◌, IfOk, if◌then◌else◌};
 ghost use Rattle.wt_tree.specs.Kinds.{texts_of_kind};
+ghost use Rattle.wt_tree.specs.Recut.{recut};
 ghost use Rattle.wt_tree.specs.Tiling.{is_group};
 ghost use Rattle.wt_tree.specs.View.{view, views};
 ghost use Rattle.wt_ranges.specs.CutTexts.{all_cut_texts, cut_as, cut_texts};
 
 use crate::node::is_group;
+use crate::stands_cut::stand_cut;
 use std::alloc::Global;
 use wt_span::{List, NoMemory};
 use wt_tree::{Kind, Node, Texts, recut_texts};
+
+/// What stands in an item, a cell or a caption, cut anew; where it is known to stand cut, as it is.
+#[tactic(auto, using(crate::proofs::StandsCut::stay))]
+fn cut_bordered<'a>(alloc: Global, nodes: List<Node<'a>>) -> Result<List<Node<'a>>, NoMemory>
+    ensures { IfOk result (λ ns. views ns ≡ recut (views nodes.entry)) }
+{
+    if stand_cut(nodes.as_slice()) {
+        return Ok(nodes);
+    }
+    recut_texts(alloc, nodes)
+}
 
 /// What stands in a node of this kind, cut as its kind asks.
 pub fn cut_as<'a>(
@@ -20,7 +33,7 @@ pub fn cut_as<'a>(
     ensures { IfOk result (λ ns. views ns ≡ cut_as (texts_of_kind kind) (views nodes.entry)) }
 {
     match kind.shape().texts {
-        Texts::Bordered => recut_texts(alloc, nodes),
+        Texts::Bordered => cut_bordered(alloc, nodes),
         Texts::Separators => Ok(nodes),
         Texts::Page => Ok(nodes),
         Texts::OwnCharacter => Ok(nodes),

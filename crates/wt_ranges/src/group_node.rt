@@ -17,6 +17,7 @@ ghost use Rattle.wt_ranges.specs.Walked.{group_at, near_group};
 
 use crate::carried::group_data;
 use crate::child::Child;
+use crate::group_word::group_attrs;
 use crate::held::pieces_of_all;
 use crate::node::{leaf_sources, node};
 use crate::page_text::{page_texts, page_width};
@@ -68,15 +69,16 @@ fn group_leaf<'a>(
     own: List<Text<'a>>,
     mw: Option<DataMw>,
     children: List<Node<'a>>,
-) -> Node<'a>
+) -> Result<Node<'a>, NoMemory>
     requires fits { byte + width < 2 ^ 32 }
     requires width { width ≡ length (texts_of own) }
-    ensures { view result ≡ tree (group_label byte (texts_of own.entry) mw) (views children.entry) }
+    ensures { IfOk result (λ n. view n ≡ tree (group_label byte (texts_of own.entry) mw) (views children.entry)) }
 {
+    let attrs = group_attrs(alloc, &mw)?;
     let head = NodeHead {
         kind: Kind::Group,
         shown: Str::new(alloc),
-        attrs: List::new(alloc),
+        attrs,
         mw,
     };
     let ranges = Ranges {
@@ -85,7 +87,8 @@ fn group_leaf<'a>(
         open_w: 0,
         close_w: 0,
     };
-    node(head, Some(ranges), leaf_sources(alloc, own), children)
+    let sources = leaf_sources(alloc, own);
+    Ok(node(head, Some(ranges), sources, children))
 }
 
 /// A group of trees that begins there and holds these pieces.
@@ -106,7 +109,7 @@ fn group_of<'a>(
     let own = page_texts(alloc, calls, start.before, held)?;
     let mw = group_data(alloc, calls, start.before, held)?;
     let children = unplaced_nodes(alloc, trees)?;
-    Ok(group_leaf(alloc, start.byte, width, own, mw, children))
+    group_leaf(alloc, start.byte, width, own, mw, children)
 }
 
 /// The group of these children.

@@ -1,6 +1,6 @@
 //! What holds of the groups of any tree over items.
 
-ghost use Rattle.std.specs.Prelude.{◌≡◌, ◌≤◌, ℕ, [], List, Option, None, length, true};
+ghost use Rattle.std.specs.Prelude.{◌≡◌, ◌≤◌, ◌∷◌, ℕ, [], List, Option, None, Some, if◌then◌else◌, length, slice_get, true};
 ghost use Rattle.wt_span.specs.Items.{Item};
 ghost use Rattle.wt_span.specs.Cuts.{page_of};
 ghost use Rattle.wt_span.specs.Origins.{OuterCall};
@@ -18,7 +18,9 @@ ghost use Rattle.wt_ranges.specs.Counted.{nodes};
 ghost use Rattle.wt_ranges.specs.CutTexts.{HasCutTexts, cut_texts};
 ghost use Rattle.wt_ranges.specs.Clean.{is_clean, is_page};
 ghost use Rattle.wt_ranges.specs.Grouped.{grouped};
-ghost use Rattle.wt_ranges.specs.GroupParts.{Part, begun};
+ghost use Rattle.wt_ranges.specs.GroupData.{group_data};
+ghost use Rattle.wt_ranges.specs.GroupParts.{Part, begun, called};
+ghost use Rattle.wt_ranges.specs.GroupWord.{argument_word, group_word, transclusion_word};
 ghost use Rattle.wt_ranges.specs.Reached.{
   AreReachedSlices,
   AreSmallest,
@@ -100,6 +102,14 @@ pub fn annotated_without_calls()
         → AllByRecursion HasCutTexts (reached (annotated_plainly t)) → annotated calls carried t ≡ annotated_plainly t }
     ensures only { (calls : List OuterCall) (carried : List Part → Option DataMw) (ts : ItemTrees)
         → HasNoGroup (annotated calls carried (inner (plain node_kind.Body) [] ts [])) → IsPlain (inner (plain node_kind.Body) [] ts []) }
+{}
+
+/// A group's word is `mw:Param` where its first call is an argument, and `mw:Transclusion` where it is
+/// another call, or where the group has no parts, as that of an empty style.
+pub fn group_words()
+    ensures called { (calls : List OuterCall) (k : ℕ) (ps : List Part) (c : OuterCall) → slice_get calls k ≡ Some c
+        → group_word (group_data calls (called k ∷ ps)) ≡ (if c.argument then argument_word else transclusion_word) }
+    ensures empty { (calls : List OuterCall) → group_word (group_data calls []) ≡ transclusion_word }
 {}
 
 /// A walk over the tree that knows only the calls of the items beside it, and the byte at which it

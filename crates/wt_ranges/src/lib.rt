@@ -7,6 +7,7 @@ mod cursor;
 mod cut;
 mod filled;
 mod group_node;
+mod group_word;
 mod grouping;
 mod held;
 mod kept;
@@ -20,11 +21,12 @@ mod pass_node;
 mod piece;
 mod run;
 mod seam;
+mod stands_cut;
 mod unplaced;
 
 pub use laws::{
     annotated_page, annotated_without_calls, body_is_clean, each_call_in_one_group,
-    few_numbers_with_groups, groups_are_smallest, groups_by_walking, groups_end_at_free_cuts,
-    groups_taken_apart, plain_view_stays, texts_cut_anew,
+    few_numbers_with_groups, group_words, groups_are_smallest, groups_by_walking,
+    groups_end_at_free_cuts, groups_taken_apart, plain_view_stays, texts_cut_anew,
 };
 pub use page_tree::{Annotated, group};
