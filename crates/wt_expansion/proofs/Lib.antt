@@ -1,3 +1,4 @@
+pub mod FoundLaws
 pub mod MarkBytes
 pub mod PieceLaws
 pub mod SignBytes
@@ -5,4 +6,8 @@ pub mod SoundCalls
 pub mod SoundItems
 pub mod SoundMembers
 pub mod TextOrder
+pub mod WalkCalls
+pub mod WalkLaws
+pub mod WalkSteps
+pub mod WalkTargets
 pub mod WholeOutputs
