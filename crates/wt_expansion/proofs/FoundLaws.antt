@@ -1,5 +1,5 @@
 -- What is appended to what was found.
-use Rattle.std.proofs.Common.{◌≡◌, ℕ, zero, suc, ◌+◌, ◌<◌, ◌≤◌, Bool, true, false, Option, Some, None, List, [], ◌∷◌, ◌++◌, length, map, take, drop, get_or, refl, sym, ap, ◌∙◌, subst, arith, append_assoc, append-nil, length-append}
+use Rattle.std.proofs.Common.{◌≡◌, ℕ, zero, suc, ◌+◌, ◌<◌, ◌≤◌, min, Bool, true, false, Option, Some, None, List, [], ◌∷◌, ◌++◌, length, map, take, drop, get_or, refl, sym, ap, ◌∙◌, subst, arith, append_assoc, append-nil, length-append}
 use Rattle.std.proofs.lemmas.List.{take_more, take_all, take_at, map-append, length-map, take-map}
 use Rattle.std.proofs.lemmas.List.Concat.{flat_map-append}
 use Rattle.wt_span.specs.declared.form.Form.{Form}
@@ -196,3 +196,30 @@ pub outer_same : (source : Text) (b : Braces) (href : Option (List ℕ)) (rs : L
 outer_same source b href rs es e f =
     ap (λ xs. let c : OuterCall = record { start = start_of source; source = bytes_of source; argument = b.argument; parts = xs; equals = es; href = href } in c) e
     ∙ ap (λ xs. let c : OuterCall = record { start = start_of source; source = bytes_of source; argument = b.argument; parts = map (λ p. (p.from, p.to)) (map part_of b.parts.now); equals = xs; href = href } in c) f
+
+-- ---- pieces from a number on
+
+drop_none : {A : Type 0} → (n : ℕ) → drop {A = A} n [] ≡ []
+drop_none zero = refl
+drop_none (suc n) = refl
+
+pub drop_most : {A : Type 0} → (i j : ℕ) (xs : List A) → j ≡ min i (length xs) → drop j xs ≡ drop i xs
+drop_most zero j xs e = let z : j ≡ 0 = omega (arith, e) in ap (λ n. drop n xs) z
+drop_most (suc i) j [] e = drop_none j ∙ sym (drop_none (suc i))
+drop_most (suc i) zero (x ∷ xs) e = absurd (omega (arith, e))
+drop_most (suc i) (suc j) (x ∷ xs) e = drop_most i j xs (omega (arith, e))
+
+-- ---- what was found since a time is taken back
+
+pub adds_marked : (old mid back new : Found) (p o t : ℕ) (at : ℕ) (ss : List Stretch) (to : ℕ) (from : ℕ) (ts : List Stretch) (end : ℕ)
+    → p ≡ length old.pieces.items → o ≡ length old.outer.items → t ≡ length old.text_calls.items → Adds old mid at ss to
+    → back.pieces.items ≡ take p mid.pieces.items → back.outer.items ≡ take o mid.outer.items → back.text_calls.items ≡ take t mid.text_calls.items
+    → Adds back new from ts end → Adds old new from ts end
+adds_marked old mid back new p o t at ss to from ts end pn on tn f pb ob tb g =
+    adds_back old back new from ts end
+    (pb ∙ ap (λ n. take n mid.pieces.items) pn ∙ ap (take (length old.pieces.items)) f.pieces_are
+    ∙ take_at old.pieces.items f.pieces (length old.pieces.items) refl)
+    (ap (map outer_call) (ob ∙ ap (λ n. take n mid.outer.items) on) ∙ taken_back outer_call old.outer.items mid.outer.items (outer_calls ss) f.outer_are)
+    (ap (map span_of) (tb ∙ ap (λ n. take n mid.text_calls.items) tn)
+    ∙ taken_back span_of old.text_calls.items mid.text_calls.items (text_spans ss) f.texts_are)
+    g

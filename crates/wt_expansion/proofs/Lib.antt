@@ -8,6 +8,8 @@ pub mod SoundMembers
 pub mod TextOrder
 pub mod WalkCalls
 pub mod WalkLaws
+pub mod WalkPages
 pub mod WalkSteps
 pub mod WalkTargets
+pub mod WalkTexts
 pub mod WholeOutputs

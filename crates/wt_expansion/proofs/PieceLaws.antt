@@ -12,7 +12,7 @@ use Rattle.wt_span.specs.declared.origin.Origin.{Origin}
 use Rattle.wt_span.specs.declared.origin.Origin.TheVariants as origin
 use Rattle.wt_span.specs.Slice.{bytes_of, start_of, end_of}
 use Rattle.wt_span.specs.Whole.{IsWhole}
-use Rattle.wt_span.specs.Items.{Item, sources, call_of_origin, items_by, items_of, items}
+use Rattle.wt_span.specs.Items.{Item, char, sources, call_of_origin, items_by, items_of, items}
 use Rattle.wt_span.specs.Origins.{OuterCall, Span, span_of_entry, span_of_origin, same_call, origin_before, once, FollowFrom, IsOther, AreApart, IsAmong, IsPlaced, FitsOrigin, IsSoundPiece, IsSoundCall, AreInOrder, Expanded, AreItems}
 use Rattle.wt_expand.specs.Made.{IsOfPage}
 use Rattle.wt_expand.specs.Work.{Pages}

@@ -1,15 +1,16 @@
 -- What a walk over the page finds.
-use Rattle.std.specs.Prelude.{◌≡◌, ◌≤◌, ℕ, ◌+◌, Bool, Option, Some, None, List, [], ◌∷◌, ◌++◌, Result, Ok, Err, length, map, drop}
+use Rattle.std.specs.Prelude.{◌≡◌, ◌≤◌, ℕ, ◌+◌, Bool, false, Option, List, [], ◌∷◌, ◌++◌, Result, Ok, Err, length, map, drop}
 use Rattle.wt_span.specs.declared.form.Mode.TheVariants as mode
 use Rattle.wt_span.specs.declared.form.Piece.{Piece}
 use Rattle.wt_span.specs.Origins.{outer_call, span_of}
-use Rattle.wt_span.specs.Braces.{Member, call, members}
+use Rattle.wt_span.specs.Braces.{Member, call, members, width_of_all}
 use Rattle.wt_expand.specs.Work.{Pages, Entry, refusal_from}
 use Rattle.wt_names.specs.declared.title.Title.{Title}
-use Rattle.wt_braces.specs.PartMembers.{part_members}
-use Rattle.wt_expand.specs.Expansion.{Reading, output_of, chars, back_braces}
+use Rattle.wt_braces.specs.PartMembers.{PartMembers, joined, part_members}
+use Rattle.wt_expand.specs.Expansion.{Output, Reading, output_of, chars, front_braces, back_braces}
 use Rattle.wt_expand.specs.Targets as targets
-use Rattle.wt_expand.specs.PageCalls.{Stretch, own, outer, outer_at, outer_calls, text_spans, stretches_of, all_stretches}
+use Rattle.wt_expand.specs.Targets.{title_of_target}
+use Rattle.wt_expand.specs.PageCalls.{Stretch, own, outer, text_call, outer_at, outer_calls, text_spans, stretches_of, all_stretches}
 use Rattle.wt_transclusion.specs.declared.read.Braces.{Braces}
 use Rattle.wt_transclusion.specs.declared.refusal.ExpandRefusal.{ExpandRefusal}
 use Rattle.wt_transclusion.specs.declared.store.Store.{Store}
@@ -61,6 +62,7 @@ pub record Walked (pages : Pages) (page : List ℕ) (before : Ledger) (ss : List
   pub finds : Finds old new at ss to
   pub works : Works pages page before work store spent answered []
 
+-- stretches are found, or their work is refused
 abbrev pub AnswersWalk : Pages → List ℕ → Ledger → List Stretch → List Entry → ℕ → ℕ → Found → Found → Store → ℕ → Option (List (List ℕ))
     → Result Unit ExpandRefusal → Type 0
 AnswersWalk pages page before ss work at to old new store spent answered (Ok u) = Walked pages page before ss work at to old new store spent answered
@@ -78,9 +80,11 @@ pub record Left (pages : Pages) (page : List ℕ) (before : Ledger) (ss : List S
   pub adds : Adds old new at done place
   pub works : Works pages page before work store spent answered (given_from (at_page pages) at_start page place left).work
 
+-- a step is done, or refused
 abbrev pub AnswersStep : Pages → List ℕ → Ledger → List Stretch → List Entry → ℕ → ℕ → Found → Found → Store → ℕ → Option (List (List ℕ))
     → Result ℕ ExpandRefusal → Type 0
-AnswersStep pages page before ss work at end old new store spent answered (Ok to) = (at ≤ to) × Left pages page before ss work at to end (starts page to) old new store spent answered
+AnswersStep pages page before ss work at end old new store spent answered (Ok to) =
+    (at ≤ to) × Left pages page before ss work at to end (starts page to) old new store spent answered
 AnswersStep pages page before ss work at end old new store spent answered (Err e) = RefusesWork pages page before work e
 
 -- where the reader of a walk stands
@@ -113,6 +117,34 @@ page_stretch pages page b c s title =
 
 abbrev pub page_work_at : (pages : Pages) (page : List ℕ) (b : Braces) → IsCallOf mode.Page page b → Bool → Title → List Entry
 page_work_at pages page b c s title = (page_called (at_page pages) page b c s title).work
+
+-- the members of the first part, which is the target
+abbrev pub target_members : List PartMembers → List Member
+target_members [] = []
+target_members (p ∷ ps) = joined p.name p.value
+
+-- what the target of a call gives
+abbrev pub target_output : (pages : Pages) (page : List ℕ) (b : Braces) → IsCallOf mode.Page page b → Output
+target_output pages page b c = given_from (at_page pages) false page (c.at + c.braces) (target_members (part_members 0 c.inside))
+
+-- what is found of a call up to the end of its target, where it turns out to be text
+abbrev pub front_stretches : (pages : Pages) (page : List ℕ) (b : Braces) → IsCallOf mode.Page page b → List Stretch
+front_stretches pages page b c =
+    let at : ℕ = c.at + c.braces in
+    text_call (c.at, c.at + (c.braces + width_of_all c.inside + c.braces)) ∷ (own (chars (front_braces c.braces (source_of mode.Page page b c)))
+    ∷ all_stretches (at_page pages) at false (drop at page) (members (target_members (part_members 0 c.inside))))
+
+-- the target of a call is read, and this is the title that it says
+pub record TargetRead (pages : Pages) (page : List ℕ) (before : Ledger) (b : Braces) (c : IsCallOf mode.Page page b) (title : Option Title)
+    (old new : Found) (store : Store) (spent : ℕ) (answered : Option (List (List ℕ))) : Type 0 where
+  pub title_is : title ≡ title_of_target (target_output pages page b c).items
+  pub finds : Finds old new c.at (front_stretches pages page b c) (first_end (c.at + c.braces) (part_members 0 c.inside))
+  pub works : Works pages page before (target_output pages page b c).work store spent answered []
+
+abbrev pub AnswersTarget : (pages : Pages) (page : List ℕ) → Ledger → (b : Braces) → IsCallOf mode.Page page b → Found → Found → Store → ℕ
+    → Option (List (List ℕ)) → Result (Option Title) ExpandRefusal → Type 0
+AnswersTarget pages page before b c old new store spent answered (Ok title) = TargetRead pages page before b c title old new store spent answered
+AnswersTarget pages page before b c old new store spent answered (Err e) = RefusesWork pages page before (target_output pages page b c).work e
 
 -- what stands behind the target of a call that is text
 abbrev pub behind_stretches : (pages : Pages) (page : List ℕ) (b : Braces) → IsCallOf mode.Page page b → List Stretch

@@ -1,5 +1,5 @@
 //! What was found of the page so far.
-ghost use Rattle.std.specs.Prelude.{◌≡◌, ◌<◌, ◌∷◌, ◌++◌, [], ℕ, List, None, true, false, IfOk, OnOk, length, map, take};
+ghost use Rattle.std.specs.Prelude.{◌≡◌, ◌<◌, ◌∷◌, ◌++◌, [], ℕ, List, None, true, false, IfOk, OnOk, drop, length, map, take};
 ghost use Rattle.wt_span.specs.Slice.{bytes_of, start_of, end_of};
 ghost use Rattle.wt_span.specs.Items.{items, items_by, items_of};
 ghost use Rattle.wt_span.specs.Origins.{span_of};
@@ -11,7 +11,7 @@ ghost use Rattle.wt_expansion.specs.Walks.{Adds};
 
 use std::alloc::Global;
 use wt_braces::PartAt;
-use wt_span::{Form, List, NoMemory, Origin, Outer, Piece, Range, Str, Text};
+use wt_span::{Form, List, NoMemory, Origin, Outer, Piece, Range, Str, Text, rest_of};
 use wt_transclusion::Braces;
 
 /// The pieces, the outermost calls and the text calls of the page up to a place.
@@ -150,6 +150,13 @@ impl<'a> Found<'a> {
         }
     }
 
+    /// The pieces from a number on.
+    pub fn pieces_from(&self, from: usize) -> &[Piece<'a>]
+        ensures { result.now ≡ drop from self.now.pieces.items }
+    {
+        rest_of(self.pieces.as_slice(), from.min(self.pieces.len()))
+    }
+
     /// Only what was found up to a time is left.
     pub fn back_to(&mut self, mark: Mark)
         ensures pieces { self.new.pieces.items ≡ take mark.pieces self.old.pieces.items }
@@ -163,7 +170,8 @@ impl<'a> Found<'a> {
 
     /// A piece of the page itself.
     pub fn push_own(&mut self, text: Text<'a>, form: Form) -> Result<(), NoMemory>
-        ensures { OnOk result (0 < length (items_by form None (bytes_of text.entry)) → Adds self.old self.new (start_of text.entry) (own (items_by form None (bytes_of text.entry)) ∷ []) (end_of text.entry)) }
+        ensures { OnOk result (0 < length (items_by form None (bytes_of text.entry))
+            → Adds self.old self.new (start_of text.entry) (own (items_by form None (bytes_of text.entry)) ∷ []) (end_of text.entry)) }
     {
         self.pieces.push(Piece {
             text,
@@ -190,7 +198,8 @@ impl<'a> Found<'a> {
         href: Option<Str>,
         given: &[Piece<'a>],
     ) -> Result<(), NoMemory>
-        ensures { OnOk result (Adds self.old self.new (start_of source.entry) (outer (outer_of source.entry call.entry href) (items given.now) ∷ []) (end_of source.entry)) }
+        ensures { OnOk result (Adds self.old self.new (start_of source.entry) (outer (outer_of source.entry call.entry href) (items given.now) ∷ [])
+            (end_of source.entry)) }
     {
         if self.outer.len() >= 4_294_967_295 {
             return Err(NoMemory);

@@ -1,17 +1,20 @@
 //! The walk over the page: its own pieces, its outermost calls and its text calls.
-ghost use Rattle.std.specs.Prelude.{◌≡◌, ◌<◌, ◌∷◌, [], ℕ, List, Bool, None, Some, false, true, IfOk, OnOk, drop, slice_get, slice_range};
+ghost use Rattle.std.specs.Prelude.{◌≡◌, ◌+◌, ◌≤◌, ◌<◌, ◌∷◌, [], ℕ, List, Bool, None, Some, false, true, IfOk, OnOk, drop, length, slice_get, slice_range};
 ghost use Rattle.wt_span.specs.declared.form.Mode.TheVariants as text_mode;
 ghost use Rattle.wt_span.specs.Braces.{Member as TextMember, members};
 ghost use Rattle.wt_span.specs.Items.{items_by};
+ghost use Rattle.wt_braces.specs.PartMembers.{part_members};
 ghost use Rattle.wt_expand.specs.Expansion.{lexeme_items};
 ghost use Rattle.wt_expand.specs.PageCalls.{all_stretches, own};
 ghost use Rattle.wt_expand.specs.Targets.{is_function};
 ghost use Rattle.wt_expand.specs.Work.{Pages};
 ghost use Rattle.wt_transclusion.specs.Answers.{IsCounted};
 ghost use Rattle.wt_transclusion.specs.Steps.{IsStretchOf, given_from};
+ghost use Rattle.wt_transclusion.specs.Stores.{Concerns, Grows};
+ghost use Rattle.wt_levels.specs.Calls.{first_end};
 ghost use Rattle.wt_levels.specs.Ledgers.{ledger};
 ghost use Rattle.wt_levels.specs.Readers.{IsReading};
-ghost use Rattle.wt_expansion.specs.Walks.{Adds, AnswersStep, AnswersWalk, IsCallNext, IsFree, at_page, behind_stretches, behind_work, call_stretches_at, call_work, page_stretch, page_work_at};
+ghost use Rattle.wt_expansion.specs.Walks.{Adds, AnswersStep, AnswersTarget, AnswersWalk, IsCallNext, IsFree, at_page, behind_stretches, behind_work, call_stretches_at, call_work, page_stretch, page_work_at};
 
 use crate::found::Found;
 use std::alloc::Global;
@@ -20,7 +23,7 @@ use wt_expand::form_of;
 use wt_levels::{Expansion, MOST_TEMPLATES, Reader};
 use wt_names::{Title, href_of};
 use wt_outer::Folder;
-use wt_span::{Form, LexKind, Mode, NoMemory, rest_of};
+use wt_span::{Form, LexKind, Mode, NoMemory};
 use wt_transclusion::{Braces, ExpandRefusal, Next, Values, is_function, title_of_target};
 
 /// More calls than may lie one inside another on a page.
@@ -52,7 +55,9 @@ fn push_slice<'a>(
     to: u32,
     form: Form,
 ) -> Result<(), NoMemory>
-    ensures { OnOk result ((page : List ℕ) (p : ℕ) (s : Bool) → IsReading text_mode.Page page reader.entry p s → from < to → Adds found.old found.new from (own (items_by form None (slice_range page from to)) ∷ []) to) }
+    ensures adds { OnOk result ((page : List ℕ) (p : ℕ) (s : Bool) → IsReading text_mode.Page page reader.entry p s → from < to
+        → Adds found.old found.new from (own (items_by form None (slice_range page from to)) ∷ []) to) }
+    ensures within { OnOk result (to ≤ length reader.entry.text.text.now) }
 {
     let text = reader.slice(from, to)?;
     found.push_own(text, form)
@@ -65,7 +70,8 @@ fn push_chunk<'a>(
     kind: LexKind,
     to: u32,
 ) -> Result<(), NoMemory>
-    ensures { OnOk result ((page : List ℕ) (p : ℕ) (s : Bool) → IsReading text_mode.Page page reader.entry p s → p < to → Adds found.old found.new p (own (lexeme_items text_mode.Page kind (slice_range page p to)) ∷ []) to) }
+    ensures { OnOk result ((page : List ℕ) (p : ℕ) (s : Bool) → IsReading text_mode.Page page reader.entry p s → p < to
+        → Adds found.old found.new p (own (lexeme_items text_mode.Page kind (slice_range page p to)) ∷ []) to) }
 {
     let text = reader.slice(reader.cursor.at, to)?;
     push_slice(found, reader, reader.cursor.at, to, form_of(kind, text.as_str()))
@@ -107,7 +113,13 @@ impl<'a> Walk<'a> {
         end: u32,
         nested: u32,
     ) -> Result<(), ExpandRefusal>
-        ensures given { (pages : Pages) (page : List ℕ) (met : List (List ℕ)) (p : ℕ) (s : Bool) (xs : List TextMember) → F.pages folder.old ≡ Some pages → IsFree pages met self.old.expansion → IsReading text_mode.Page page reader.entry p s → IsStretchOf text_mode.Page page p end xs → AnswersWalk pages page (ledger self.old.expansion.spent met (F.answered folder.old)) (all_stretches (at_page pages) p s (drop p page) (members xs)) (given_from (at_page pages) s page p xs).work p end self.old.found self.new.found self.new.expansion.store self.new.expansion.spent (F.answered folder.new) result }
+        ensures given { (pages : Pages) (page : List ℕ) (met : List (List ℕ)) (p : ℕ) (s : Bool) (xs : List TextMember)
+            → Concerns (F.pages folder.old) pages self.new.expansion.store result → IsFree pages met self.old.expansion
+            → IsReading text_mode.Page page reader.entry p s → IsStretchOf text_mode.Page page p end xs
+            → AnswersWalk pages page (ledger self.old.expansion.spent met (F.answered folder.old))
+            (all_stretches (at_page pages) p s (drop p page) (members xs)) (given_from (at_page pages) s page p xs).work p end
+            self.old.found self.new.found self.new.expansion.store self.new.expansion.spent (F.answered folder.new) result }
+        ensures grown { OnOk result (Grows (F.pages folder.old) self.old.expansion.store self.new.expansion.store) }
         ensures kept { F.pages folder.new ≡ F.pages folder.old }
         ensures count { IsCounted (F.fault_count folder.old) (F.fault_count folder.new) result }
         ensures names { OnOk result (self.new.expansion.names ≡ self.old.expansion.names) }
@@ -133,7 +145,13 @@ impl<'a> Walk<'a> {
         nested: u32,
     ) -> Result<u32, ExpandRefusal>
         requires { reader.cursor.at < end }
-        ensures given { (pages : Pages) (page : List ℕ) (met : List (List ℕ)) (p : ℕ) (s : Bool) (xs : List TextMember) → F.pages folder.old ≡ Some pages → IsFree pages met self.old.expansion → IsReading text_mode.Page page reader.entry p s → IsStretchOf text_mode.Page page p end xs → AnswersStep pages page (ledger self.old.expansion.spent met (F.answered folder.old)) (all_stretches (at_page pages) p s (drop p page) (members xs)) (given_from (at_page pages) s page p xs).work p end self.old.found self.new.found self.new.expansion.store self.new.expansion.spent (F.answered folder.new) result }
+        ensures given { (pages : Pages) (page : List ℕ) (met : List (List ℕ)) (p : ℕ) (s : Bool) (xs : List TextMember)
+            → Concerns (F.pages folder.old) pages self.new.expansion.store result → IsFree pages met self.old.expansion
+            → IsReading text_mode.Page page reader.entry p s → IsStretchOf text_mode.Page page p end xs
+            → AnswersStep pages page (ledger self.old.expansion.spent met (F.answered folder.old))
+            (all_stretches (at_page pages) p s (drop p page) (members xs)) (given_from (at_page pages) s page p xs).work p end
+            self.old.found self.new.found self.new.expansion.store self.new.expansion.spent (F.answered folder.new) result }
+        ensures grown { OnOk result (Grows (F.pages folder.old) self.old.expansion.store self.new.expansion.store) }
         ensures kept { F.pages folder.new ≡ F.pages folder.old }
         ensures count { IsCounted (F.fault_count folder.old) (F.fault_count folder.new) result }
         ensures names { OnOk result (self.new.expansion.names ≡ self.old.expansion.names) }
@@ -160,7 +178,12 @@ impl<'a> Walk<'a> {
         call: Braces<'a>,
         nested: u32,
     ) -> Result<(), ExpandRefusal>
-        ensures given { (pages : Pages) (page : List ℕ) (met : List (List ℕ)) (s : Bool) (n : IsCallNext page call.entry reader.entry s) → F.pages folder.old ≡ Some pages → IsFree pages met self.old.expansion → AnswersWalk pages page (ledger self.old.expansion.spent met (F.answered folder.old)) (call_stretches_at pages page call.entry n.is s) (call_work pages page call.entry n.is s) n.is.at call.entry.at.end self.old.found self.new.found self.new.expansion.store self.new.expansion.spent (F.answered folder.new) result }
+        ensures given { (pages : Pages) (page : List ℕ) (met : List (List ℕ)) (s : Bool) (n : IsCallNext page call.entry reader.entry s)
+            → Concerns (F.pages folder.old) pages self.new.expansion.store result → IsFree pages met self.old.expansion
+            → AnswersWalk pages page (ledger self.old.expansion.spent met (F.answered folder.old))
+            (call_stretches_at pages page call.entry n.is s) (call_work pages page call.entry n.is s) n.is.at call.entry.at.end
+            self.old.found self.new.found self.new.expansion.store self.new.expansion.spent (F.answered folder.new) result }
+        ensures grown { OnOk result (Grows (F.pages folder.old) self.old.expansion.store self.new.expansion.store) }
         ensures kept { F.pages folder.new ≡ F.pages folder.old }
         ensures count { IsCounted (F.fault_count folder.old) (F.fault_count folder.new) result }
         ensures names { OnOk result (self.new.expansion.names ≡ self.old.expansion.names) }
@@ -188,7 +211,13 @@ impl<'a> Walk<'a> {
         reader: Reader<'a>,
         call: Braces<'a>,
     ) -> Result<(), ExpandRefusal>
-        ensures given { (pages : Pages) (page : List ℕ) (met : List (List ℕ)) (s : Bool) (n : IsCallNext page call.entry reader.entry s) → F.pages folder.old ≡ Some pages → IsFree pages met self.old.expansion → call.entry.argument ≡ true → AnswersWalk pages page (ledger self.old.expansion.spent met (F.answered folder.old)) (call_stretches_at pages page call.entry n.is s) (call_work pages page call.entry n.is s) n.is.at call.entry.at.end self.old.found self.new.found self.new.expansion.store self.new.expansion.spent (F.answered folder.new) result }
+        ensures given { (pages : Pages) (page : List ℕ) (met : List (List ℕ)) (s : Bool) (n : IsCallNext page call.entry reader.entry s)
+            → Concerns (F.pages folder.old) pages self.new.expansion.store result → IsFree pages met self.old.expansion
+            → call.entry.argument ≡ true
+            → AnswersWalk pages page (ledger self.old.expansion.spent met (F.answered folder.old))
+            (call_stretches_at pages page call.entry n.is s) (call_work pages page call.entry n.is s) n.is.at call.entry.at.end
+            self.old.found self.new.found self.new.expansion.store self.new.expansion.spent (F.answered folder.new) result }
+        ensures grown { OnOk result (Grows (F.pages folder.old) self.old.expansion.store self.new.expansion.store) }
         ensures kept { F.pages folder.new ≡ F.pages folder.old }
         ensures count { IsCounted (F.fault_count folder.old) (F.fault_count folder.new) result }
         ensures names { OnOk result (self.new.expansion.names ≡ self.old.expansion.names) }
@@ -217,7 +246,14 @@ impl<'a> Walk<'a> {
         call: Braces<'a>,
         nested: u32,
     ) -> Result<(), ExpandRefusal>
-        ensures given { (pages : Pages) (page : List ℕ) (met : List (List ℕ)) (s : Bool) (n : IsCallNext page call.entry reader.entry s) → F.pages folder.old ≡ Some pages → IsFree pages met self.old.expansion → call.entry.argument ≡ false → is_function (slice_range reader.entry.text.text.now call.entry.at.start call.entry.at.end) ≡ false → AnswersWalk pages page (ledger self.old.expansion.spent met (F.answered folder.old)) (call_stretches_at pages page call.entry n.is s) (call_work pages page call.entry n.is s) n.is.at call.entry.at.end self.old.found self.new.found self.new.expansion.store self.new.expansion.spent (F.answered folder.new) result }
+        ensures given { (pages : Pages) (page : List ℕ) (met : List (List ℕ)) (s : Bool) (n : IsCallNext page call.entry reader.entry s)
+            → Concerns (F.pages folder.old) pages self.new.expansion.store result → IsFree pages met self.old.expansion
+            → call.entry.argument ≡ false
+            → is_function (slice_range reader.entry.text.text.now call.entry.at.start call.entry.at.end) ≡ false
+            → AnswersWalk pages page (ledger self.old.expansion.spent met (F.answered folder.old))
+            (call_stretches_at pages page call.entry n.is s) (call_work pages page call.entry n.is s) n.is.at call.entry.at.end
+            self.old.found self.new.found self.new.expansion.store self.new.expansion.spent (F.answered folder.new) result }
+        ensures grown { OnOk result (Grows (F.pages folder.old) self.old.expansion.store self.new.expansion.store) }
         ensures kept { F.pages folder.new ≡ F.pages folder.old }
         ensures count { IsCounted (F.fault_count folder.old) (F.fault_count folder.new) result }
         ensures names { OnOk result (self.new.expansion.names ≡ self.old.expansion.names) }
@@ -227,6 +263,36 @@ impl<'a> Walk<'a> {
         };
         let mark = self.found.mark();
         let target = first_part(call)?;
+        match self.target(folder, reader, call, target, nested)? {
+            Some(title) => {
+                self.found.back_to(mark);
+                self.page(folder, reader, call, title)
+            }
+            None => self.behind_target(folder, reader, call, target, nested),
+        }
+    }
+
+    /// The target of a call with the braces in front of it, as those of text, and the title that it
+    /// says.
+    #[cycle(walking)]
+    fn target<F: Folder>(
+        &mut self,
+        folder: &mut F,
+        reader: Reader<'a>,
+        call: Braces<'a>,
+        target: PartAt,
+        nested: u32,
+    ) -> Result<Option<Title>, ExpandRefusal>
+        ensures given { (pages : Pages) (page : List ℕ) (met : List (List ℕ)) (s : Bool) (n : IsCallNext page call.entry reader.entry s)
+            → Concerns (F.pages folder.old) pages self.new.expansion.store result → IsFree pages met self.old.expansion
+            → slice_get call.entry.parts.now 0 ≡ Some target
+            → AnswersTarget pages page (ledger self.old.expansion.spent met (F.answered folder.old)) call.entry n.is
+            self.old.found self.new.found self.new.expansion.store self.new.expansion.spent (F.answered folder.new) result }
+        ensures grown { OnOk result (Grows (F.pages folder.old) self.old.expansion.store self.new.expansion.store) }
+        ensures kept { F.pages folder.new ≡ F.pages folder.old }
+        ensures count { IsCounted (F.fault_count folder.old) (F.fault_count folder.new) result }
+        ensures names { OnOk result (self.new.expansion.names ≡ self.old.expansion.names) }
+    {
         self.found.push_text_call(call.at)?;
         push_slice(
             &mut self.found,
@@ -237,14 +303,8 @@ impl<'a> Walk<'a> {
         )?;
         let begun = self.found.pieces.len();
         self.stretch(folder, reader.within(target.at.start)?, target.at.end, nested)?;
-        let title = title_of_target(self.alloc, rest_of(self.found.pieces.as_slice(), begun))?;
-        match title {
-            Some(title) => {
-                self.found.back_to(mark);
-                self.page(folder, reader, call, title)
-            }
-            None => self.behind_target(folder, reader, call, target, nested),
-        }
+        let title = title_of_target(self.alloc, self.found.pieces_from(begun))?;
+        Ok(title)
     }
 
     /// What stands behind the target of a call that is text.
@@ -257,7 +317,14 @@ impl<'a> Walk<'a> {
         target: PartAt,
         nested: u32,
     ) -> Result<(), ExpandRefusal>
-        ensures given { (pages : Pages) (page : List ℕ) (met : List (List ℕ)) (s : Bool) (n : IsCallNext page call.entry reader.entry s) → F.pages folder.old ≡ Some pages → IsFree pages met self.old.expansion → slice_get call.entry.parts.now 0 ≡ Some target → AnswersWalk pages page (ledger self.old.expansion.spent met (F.answered folder.old)) (behind_stretches pages page call.entry n.is) (behind_work pages page call.entry n.is) target.at.end call.entry.at.end self.old.found self.new.found self.new.expansion.store self.new.expansion.spent (F.answered folder.new) result }
+        ensures given { (pages : Pages) (page : List ℕ) (met : List (List ℕ)) (s : Bool) (n : IsCallNext page call.entry reader.entry s)
+            → Concerns (F.pages folder.old) pages self.new.expansion.store result → IsFree pages met self.old.expansion
+            → slice_get call.entry.parts.now 0 ≡ Some target
+            → AnswersWalk pages page (ledger self.old.expansion.spent met (F.answered folder.old))
+            (behind_stretches pages page call.entry n.is) (behind_work pages page call.entry n.is)
+            (first_end (n.is.at + n.is.braces) (part_members 0 n.is.inside)) call.entry.at.end
+            self.old.found self.new.found self.new.expansion.store self.new.expansion.spent (F.answered folder.new) result }
+        ensures grown { OnOk result (Grows (F.pages folder.old) self.old.expansion.store self.new.expansion.store) }
         ensures kept { F.pages folder.new ≡ F.pages folder.old }
         ensures count { IsCounted (F.fault_count folder.old) (F.fault_count folder.new) result }
         ensures names { OnOk result (self.new.expansion.names ≡ self.old.expansion.names) }
@@ -277,7 +344,13 @@ impl<'a> Walk<'a> {
         call: Braces<'a>,
         title: Title,
     ) -> Result<(), ExpandRefusal>
-        ensures given { (pages : Pages) (page : List ℕ) (met : List (List ℕ)) (s : Bool) (n : IsCallNext page call.entry reader.entry s) → F.pages folder.old ≡ Some pages → IsFree pages met self.old.expansion → call.entry.argument ≡ false → AnswersWalk pages page (ledger self.old.expansion.spent met (F.answered folder.old)) (page_stretch pages page call.entry n.is s title) (page_work_at pages page call.entry n.is s title) n.is.at call.entry.at.end self.old.found self.new.found self.new.expansion.store self.new.expansion.spent (F.answered folder.new) result }
+        ensures given { (pages : Pages) (page : List ℕ) (met : List (List ℕ)) (s : Bool) (n : IsCallNext page call.entry reader.entry s)
+            → Concerns (F.pages folder.old) pages self.new.expansion.store result → IsFree pages met self.old.expansion
+            → call.entry.argument ≡ false
+            → AnswersWalk pages page (ledger self.old.expansion.spent met (F.answered folder.old))
+            (page_stretch pages page call.entry n.is s title) (page_work_at pages page call.entry n.is s title) n.is.at call.entry.at.end
+            self.old.found self.new.found self.new.expansion.store self.new.expansion.spent (F.answered folder.new) result }
+        ensures grown { OnOk result (Grows (F.pages folder.old) self.old.expansion.store self.new.expansion.store) }
         ensures kept { F.pages folder.new ≡ F.pages folder.old }
         ensures count { IsCounted (F.fault_count folder.old) (F.fault_count folder.new) result }
         ensures names { OnOk result (self.new.expansion.names ≡ self.old.expansion.names) }
