@@ -152,7 +152,7 @@ call_step pages t l p end s xs b reader h old new store spent answered w =
       };
     })
 
-refused_more : (pages : Pages) (t : List ℕ) (l : Ledger) (w v : List Entry) (x : ExpandRefusal) → RefusesWork pages t l w x → RefusesWork pages t l (w ++ v) x
+pub refused_more : (pages : Pages) (t : List ℕ) (l : Ledger) (w v : List Entry) (x : ExpandRefusal) → RefusesWork pages t l w x → RefusesWork pages t l (w ++ v) x
 refused_more pages t l w v x h = λ rest. subst (λ es. IsRefused (refusal_from pages t l.spent es) x) (sym (append_assoc w v rest)) (h (v ++ rest))
 
 pub call_step_refused : (pages : Pages) (t : List ℕ) (l : Ledger) (p end : ℕ) (s : Bool) (xs : List Member) (b : Braces) (reader : Reader) (h : CallThere t p end xs b reader s)

@@ -13,7 +13,7 @@ use Rattle.wt_names.specs.declared.title.Title.{Title}
 use Rattle.wt_braces.specs.PartMembers.{PartMembers, joined, rejoined, part_members, width_of}
 use Rattle.wt_braces.specs.declared.call.PartAt.{PartAt as PartOf}
 use Rattle.wt_braces.proofs.Rejoins.{parts_join}
-use Rattle.wt_expand.specs.Targets.{page, text, title_of_target}
+use Rattle.wt_expand.specs.Targets.{page, text, called_by, title_of_target}
 use Rattle.wt_expand.specs.Work.{Pages, Entry, refusal_from}
 use Rattle.wt_expand.specs.Expansion.{Output, Reading, then_output, just, chars, front_braces, back_braces}
 use Rattle.wt_expand.specs.Expansion as outputs
@@ -40,6 +40,7 @@ use Rattle.wt_expansion.proofs.FoundLaws.{adds_then, adds_marked}
 use Rattle.wt_expansion.proofs.PieceLaws.{give_items}
 use Rattle.wt_expansion.proofs.WalkCalls.{what, stretches_is, output_is}
 use Rattle.wt_expansion.proofs.WalkLaws.{strs, strs_append, alike_same, alike_then, alike_append}
+use Rattle.wt_expansion.proofs.WalkSteps.{refused_more}
 use Rattle.wt_expansion.proofs.WalkTargets.{TargetStands, title_read, page_found, page_work_is}
 
 -- ---- the members of a call are those of its target and those behind it
@@ -321,3 +322,13 @@ page_walked_on pages t l b c s title old mid back new before store now spent tol
 page_walked_on pages t l b c s title old mid back new before store now spent told answered p o u (Err x) e f pn on un pb ob ub g =
     subst (λ es. RefusesWork pages t l es x) (sym (page_work_is pages t b c s title e))
     (refused_then pages t l (target_output pages t b c).work (page_work_at pages t b c s title) before now told x f.works g)
+
+-- whatever it is, the work of the target is its first
+pub target_refused : (pages : Pages) (t : List ℕ) (l : Ledger) (b : Braces) (c : IsCallOf mode.Page t b) (s : Bool) (x : ExpandRefusal) (o : Option Title)
+    → what pages t b c ≡ called_by o → RefusesWork pages t l (target_output pages t b c).work x → RefusesWork pages t l (call_work pages t b c s) x
+target_refused pages t l b c s x None e h =
+    subst (λ es. RefusesWork pages t l es x) (sym (text_work pages t b c s e))
+    (refused_more pages t l (target_output pages t b c).work (behind_work pages t b c) x h)
+target_refused pages t l b c s x (Some title) e h =
+    subst (λ es. RefusesWork pages t l es x) (sym (page_work_is pages t b c s title e))
+    (refused_more pages t l (target_output pages t b c).work (page_work_at pages t b c s title) x h)

@@ -162,9 +162,9 @@ impl<'a> Walk<'a> {
                 Ok(to)
             }
             Next::Call(number) => {
-                let call = reader.call(number)?;
-                self.call(folder, reader, call, nested)?;
-                Ok(call.at.end)
+                let braces = reader.call(number)?;
+                self.call(folder, reader, braces, nested)?;
+                Ok(braces.at.end)
             }
         }
     }
@@ -191,7 +191,8 @@ impl<'a> Walk<'a> {
         if call.argument {
             return self.argument(folder, reader, call);
         }
-        if begins_function(reader, call)? {
+        let function = begins_function(reader, call)?;
+        if function {
             push_slice(
                 &mut self.found,
                 reader,
@@ -258,17 +259,19 @@ impl<'a> Walk<'a> {
         ensures count { IsCounted (F.fault_count folder.old) (F.fault_count folder.new) result }
         ensures names { OnOk result (self.new.expansion.names ≡ self.old.expansion.names) }
     {
-        let Some(nested) = nested.checked_sub(1) else {
+        if nested == 0 {
             return Err(ExpandRefusal::NoMemory);
-        };
+        }
+        let less = nested - 1;
         let mark = self.found.mark();
-        let target = first_part(call)?;
-        match self.target(folder, reader, call, target, nested)? {
+        let part = first_part(call)?;
+        let title = self.target(folder, reader, call, part, less)?;
+        match title {
             Some(title) => {
                 self.found.back_to(mark);
                 self.page(folder, reader, call, title)
             }
-            None => self.behind_target(folder, reader, call, target, nested),
+            None => self.behind_target(folder, reader, call, part, less),
         }
     }
 
@@ -280,12 +283,12 @@ impl<'a> Walk<'a> {
         folder: &mut F,
         reader: Reader<'a>,
         call: Braces<'a>,
-        target: PartAt,
+        part: PartAt,
         nested: u32,
     ) -> Result<Option<Title>, ExpandRefusal>
         ensures given { (pages : Pages) (page : List ℕ) (met : List (List ℕ)) (s : Bool) (n : IsCallNext page call.entry reader.entry s)
             → Concerns (F.pages folder.old) pages self.new.expansion.store result → IsFree pages met self.old.expansion
-            → slice_get call.entry.parts.now 0 ≡ Some target
+            → slice_get call.entry.parts.now 0 ≡ Some part
             → AnswersTarget pages page (ledger self.old.expansion.spent met (F.answered folder.old)) call.entry n.is
             self.old.found self.new.found self.new.expansion.store self.new.expansion.spent (F.answered folder.new) result }
         ensures grown { OnOk result (Grows (F.pages folder.old) self.old.expansion.store self.new.expansion.store) }
@@ -298,11 +301,11 @@ impl<'a> Walk<'a> {
             &mut self.found,
             reader,
             call.at.start,
-            target.at.start,
+            part.at.start,
             Form::Chars,
         )?;
         let begun = self.found.pieces.len();
-        self.stretch(folder, reader.within(target.at.start)?, target.at.end, nested)?;
+        self.stretch(folder, reader.within(part.at.start)?, part.at.end, nested)?;
         let title = title_of_target(self.alloc, self.found.pieces_from(begun))?;
         Ok(title)
     }
@@ -314,12 +317,12 @@ impl<'a> Walk<'a> {
         folder: &mut F,
         reader: Reader<'a>,
         call: Braces<'a>,
-        target: PartAt,
+        part: PartAt,
         nested: u32,
     ) -> Result<(), ExpandRefusal>
         ensures given { (pages : Pages) (page : List ℕ) (met : List (List ℕ)) (s : Bool) (n : IsCallNext page call.entry reader.entry s)
             → Concerns (F.pages folder.old) pages self.new.expansion.store result → IsFree pages met self.old.expansion
-            → slice_get call.entry.parts.now 0 ≡ Some target
+            → slice_get call.entry.parts.now 0 ≡ Some part
             → AnswersWalk pages page (ledger self.old.expansion.spent met (F.answered folder.old))
             (behind_stretches pages page call.entry n.is) (behind_work pages page call.entry n.is)
             (first_end (n.is.at + n.is.braces) (part_members 0 n.is.inside)) call.entry.at.end
@@ -329,9 +332,9 @@ impl<'a> Walk<'a> {
         ensures count { IsCounted (F.fault_count folder.old) (F.fault_count folder.new) result }
         ensures names { OnOk result (self.new.expansion.names ≡ self.old.expansion.names) }
     {
-        let braces = target.at.start.saturating_sub(call.at.start);
+        let braces = part.at.start.saturating_sub(call.at.start);
         let end = call.at.end.saturating_sub(braces);
-        self.stretch(folder, reader.seek(target.at.end)?, end, nested)?;
+        self.stretch(folder, reader.seek(part.at.end)?, end, nested)?;
         push_slice(&mut self.found, reader, end, call.at.end, Form::Chars)?;
         Ok(())
     }
