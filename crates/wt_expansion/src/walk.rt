@@ -163,7 +163,7 @@ impl<'a> Walk<'a> {
             }
             Next::Call(number) => {
                 let braces = reader.call(number)?;
-                self.call(folder, reader, braces, nested)?;
+                self.walk_call(folder, reader, braces, nested)?;
                 Ok(braces.at.end)
             }
         }
@@ -171,7 +171,7 @@ impl<'a> Walk<'a> {
 
     /// A call that stands next.
     #[cycle(walking)]
-    fn call<F: Folder>(
+    fn walk_call<F: Folder>(
         &mut self,
         folder: &mut F,
         reader: Reader<'a>,

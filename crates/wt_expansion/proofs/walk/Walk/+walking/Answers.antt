@@ -110,11 +110,11 @@ behind_target-returns-clause-given g t c = λ pages page met s n concerns free f
     now.expansion.store now.expansion.spent (g.F.Folder.answered c.stretch.new.folder) walked
     (c.in_ok-push_slice.ensures.adds page n.is.at s n.reading (omega (arith, place, closes, two)))
 
-pub call-returns-then-call-clause-given : goal.call-returns-then-call-clause-given
-call-returns-then-call-clause-given g t c = λ pages page met s n concerns free. c.argument.ensures.given pages page met s n concerns free c.if-call.true
+pub walk_call-returns-then-call-clause-given : goal.walk_call-returns-then-call-clause-given
+walk_call-returns-then-call-clause-given g t c = λ pages page met s n concerns free. c.argument.ensures.given pages page met s n concerns free c.if-call.true
 
-pub call-returns-then-function-clause-given : goal.call-returns-then-function-clause-given
-call-returns-then-function-clause-given g t c = λ pages page met s n concerns free.
+pub walk_call-returns-then-function-clause-given : goal.walk_call-returns-then-function-clause-given
+walk_call-returns-then-function-clause-given g t c = λ pages page met s n concerns free.
     let self = c.args.self.now in
     let start = n.is.start_is in
     let closes = n.is.end_is in
@@ -123,8 +123,8 @@ call-returns-then-function-clause-given g t c = λ pages page met s n concerns f
     self.expansion.store c.if-call.false (sym c.in_ok-function.ensures ∙ c.if-function.true) free.stored
     (c.in_ok-push_slice.ensures.adds page n.is.at s n.reading (omega (arith, start, closes, two)))
 
-pub call-returns-clause-given : goal.call-returns-clause-given
-call-returns-clause-given g t c = λ pages page met s n concerns free.
+pub walk_call-returns-clause-given : goal.walk_call-returns-clause-given
+walk_call-returns-clause-given g t c = λ pages page met s n concerns free.
     c.with_target.ensures.given pages page met s n concerns free c.if-call.false (sym c.in_ok-function.ensures ∙ c.if-function.false)
 
 pub with_target-returns-in_err-title-clause-given : goal.with_target-returns-in_err-title-clause-given
@@ -196,31 +196,31 @@ step-returns-in_ok-push_chunk-in-Chunk-clause-given g t c = λ pages page met p 
     chunk_step pages page met self.expansion.spent (g.F.Folder.answered c.args.folder.now) p s c.args.end xs c.in-Chunk.kind c.in-Chunk.to self.found
     c.push_chunk.new.found self.expansion.store st a free.stored (c.in_ok-push_chunk-in-Chunk.ensures page p s reading a.0)
 
-pub step-returns-in_err-call-in-Call-clause-given : goal.step-returns-in_err-call-in-Call-clause-given
-step-returns-in_err-call-in-Call-clause-given g t c = λ pages page met p s xs concerns free reading st.
+pub step-returns-in_err-walk_call-in-Call-clause-given : goal.step-returns-in_err-walk_call-in-Call-clause-given
+step-returns-in_err-walk_call-in-Call-clause-given g t c = λ pages page met p s xs concerns free reading st.
     let self = c.args.self.now in
     let b = c.in_ok-braces-in-Call.braces in
     let l = ledger self.expansion.spent met (g.F.Folder.answered c.args.folder.now) in
-    let now = c.call.new.self in
-    let x = c.in_err-call-in-Call.field-0.0 in
-    let e : c.from_residual-in_err-call-in-Call.result ≡ Err x = search rules in
+    let now = c.walk_call.new.self in
+    let x = c.in_err-walk_call-in-Call.field-0.0 in
+    let e : c.from_residual-in_err-walk_call-in-Call.result ≡ Err x = search rules in
     let told = subst (λ (y : Result ℕ ExpandRefusal). Concerns (g.F.Folder.pages c.args.folder.now) pages now.expansion.store y) e concerns in
     let h = call_there page p c.args.end s xs c.args.reader c.in-Call.number b reading st (c.in-Call.ensures mode.Page page p s xs reading st)
     c.in_ok-braces-in-Call.ensures in
     subst (λ (y : Result ℕ ExpandRefusal). AnswersStep pages page l (strs (at_page pages) s page p xs) (given_from (at_page pages) s page p xs).work p c.args.end
-    self.found now.found now.expansion.store now.expansion.spent (g.F.Folder.answered c.call.new.folder) y) (sym e)
-    (call_step_refused pages page l p c.args.end s xs b c.args.reader h x (c.in_err-call-in-Call.ensures.given pages page met s h.here told free))
+    self.found now.found now.expansion.store now.expansion.spent (g.F.Folder.answered c.walk_call.new.folder) y) (sym e)
+    (call_step_refused pages page l p c.args.end s xs b c.args.reader h x (c.in_err-walk_call-in-Call.ensures.given pages page met s h.here told free))
 
-pub step-returns-in_ok-call-in-Call-clause-given : goal.step-returns-in_ok-call-in-Call-clause-given
-step-returns-in_ok-call-in-Call-clause-given g t c = λ pages page met p s xs concerns free reading st.
+pub step-returns-in_ok-walk_call-in-Call-clause-given : goal.step-returns-in_ok-walk_call-in-Call-clause-given
+step-returns-in_ok-walk_call-in-Call-clause-given g t c = λ pages page met p s xs concerns free reading st.
     let self = c.args.self.now in
     let b = c.in_ok-braces-in-Call.braces in
     let l = ledger self.expansion.spent met (g.F.Folder.answered c.args.folder.now) in
-    let now = c.call.new.self in
+    let now = c.walk_call.new.self in
     let h = call_there page p c.args.end s xs c.args.reader c.in-Call.number b reading st (c.in-Call.ensures mode.Page page p s xs reading st)
     c.in_ok-braces-in-Call.ensures in
     call_step pages page l p c.args.end s xs b c.args.reader h self.found now.found now.expansion.store now.expansion.spent
-    (g.F.Folder.answered c.call.new.folder) (c.in_ok-call-in-Call.ensures.given pages page met s h.here concerns free)
+    (g.F.Folder.answered c.walk_call.new.folder) (c.in_ok-walk_call-in-Call.ensures.given pages page met s h.here concerns free)
 
 pub stretch-steps-init : goal.stretch-steps-init
 stretch-steps-init g t c =

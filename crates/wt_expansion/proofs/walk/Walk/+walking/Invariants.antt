@@ -22,8 +22,8 @@ decreases-stretch g l = l.nested * 5 + 3
 abbrev pub decreases-step : goal.decreases-step
 decreases-step g l = l.nested * 5 + 2
 
-abbrev pub decreases-call : goal.decreases-call
-decreases-call g l = l.nested * 5 + 1
+abbrev pub decreases-walk_call : goal.decreases-walk_call
+decreases-walk_call g l = l.nested * 5 + 1
 
 abbrev pub decreases-with_target : goal.decreases-with_target
 decreases-with_target g l = l.nested * 5
