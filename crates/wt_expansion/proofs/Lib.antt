@@ -1,3 +1,4 @@
+pub mod FoundLaws
 pub mod MarkBytes
 pub mod PieceLaws
 pub mod SignBytes
@@ -5,4 +6,10 @@ pub mod SoundCalls
 pub mod SoundItems
 pub mod SoundMembers
 pub mod TextOrder
+pub mod WalkCalls
+pub mod WalkLaws
+pub mod WalkPages
+pub mod WalkSteps
+pub mod WalkTargets
+pub mod WalkTexts
 pub mod WholeOutputs
