@@ -70,15 +70,16 @@ appends_one k old new p q some text_is form_is origin_is pushed =
 
 pub appends_then : (k i : ℕ) (given old mid new : List Piece) (p : Piece) → i < length given → p ≡ get_or given i p
     → Appends k (take i given) old mid → Appends k (p ∷ []) mid new → Appends k (take (i + 1) given) old new
-appends_then k i given old mid new p l e (qs, is, f, same) (rs, next, g, one) = (
-  qs ++ rs,
-  next ∙ ap (λ ps. ps ++ rs) is ∙ append_assoc old qs rs,
-  called_append k qs rs f g,
-  flat_map-append items_of qs rs ∙ ap (λ xs. xs ++ items rs) same ∙ ap (λ xs. map (from_call k) (items (take i given)) ++ xs) one
-      ∙ sym (map-append (from_call k) (items (take i given)) (items (p ∷ [])))
-      ∙ ap (map (from_call k)) (sym (flat_map-append items_of (take i given) (p ∷ [])))
-      ∙ ap (λ ps. map (from_call k) (items ps)) (sym (take_more given i p l ∙ ap (λ q. take i given ++ q ∷ []) (sym e))),
-)
+appends_then k i given old mid new p l e (qs, is, f, same) (rs, next, g, one) =
+    (
+      qs ++ rs,
+      next ∙ ap (λ ps. ps ++ rs) is ∙ append_assoc old qs rs,
+      called_append k qs rs f g,
+      flat_map-append items_of qs rs ∙ ap (λ xs. xs ++ items rs) same ∙ ap (λ xs. map (from_call k) (items (take i given)) ++ xs) one
+          ∙ sym (map-append (from_call k) (items (take i given)) (items (p ∷ [])))
+          ∙ ap (map (from_call k)) (sym (flat_map-append items_of (take i given) (p ∷ [])))
+          ∙ ap (λ ps. map (from_call k) (items ps)) (sym (take_more given i p l ∙ ap (λ q. take i given ++ q ∷ []) (sym e))),
+    )
 
 pub appends_all : (k i : ℕ) (given old new : List Piece) → length given ≤ i → Appends k (take i given) old new → Appends k given old new
 appends_all k i given old new l a = subst (λ ps. Appends k ps old new) (take_all i given l) a

@@ -67,7 +67,8 @@ page_found pages page old new to ps cs ts utf8 no_pieces no_outer no_texts f ps_
     record {
       owed = subst (λ (x : List Piece). AreItems x (map outer_call cs) (map span_of ts)) (sym same_ps)
           (subst (λ (x : List OuterCall). AreItems f.adds.pieces x (map span_of ts)) (sym same_cs)
-          (subst (λ (x : List Span). AreItems f.adds.pieces (outer_calls done) x) (sym same_ts) (page_pieces pages page done f.adds.pieces to utf8 alike give)));
+          (subst (λ (x : List Span). AreItems f.adds.pieces (outer_calls done) x) (sym same_ts)
+          (page_pieces pages page done f.adds.pieces to utf8 alike give)));
       same =
           ap (λ (x : List Piece). let r : Expanded = record { items = items x; outer = map outer_call cs; text_calls = map span_of ts } in r) same_ps
           ∙ ap (λ (x : List OuterCall). let r : Expanded = record { items = items f.adds.pieces; outer = x; text_calls = map span_of ts } in r) same_cs

@@ -49,18 +49,16 @@ chunk_step pages t met spent answered p s end xs kind to old new store st (low, 
     let r = at_page pages in
     let z : p + (to - p) ≡ to = omega (arith, low) in
     let alike = leads_alike kind (to - p) xs taken.left taken.leads r s t p st.full in
-    let moved = subst (λ q. AreAlike (own (lexeme_items mode.Page kind (slice_range t p to)) ∷ strs r (starts t q) t q taken.left) (strs r s t p xs)) z alike in (
-      omega (arith, low),
-      record {
-        left = taken.left;
-        stretch = taken.stretch;
-        done = own (lexeme_items mode.Page kind (slice_range t p to)) ∷ [];
-        alike = moved;
-        adds = a;
-        works = works_none pages t met spent answered store (given_from r s t p xs).work (given_from r (starts t to) t to taken.left).work stored
-            (ap (λ (o : Output). o.work) (taken.gives r s));
-      },
-    )
+    let moved = subst (λ q. AreAlike (own (lexeme_items mode.Page kind (slice_range t p to)) ∷ strs r (starts t q) t q taken.left) (strs r s t p xs)) z alike in
+    (omega (arith, low), record {
+      left = taken.left;
+      stretch = taken.stretch;
+      done = own (lexeme_items mode.Page kind (slice_range t p to)) ∷ [];
+      alike = moved;
+      adds = a;
+      works = works_none pages t met spent answered store (given_from r s t p xs).work (given_from r (starts t to) t to taken.left).work stored
+          (ap (λ (o : Output). o.work) (taken.gives r s));
+    })
 
 -- ---- a call
 
@@ -138,23 +136,21 @@ call_step pages t l p end s xs b reader h old new store spent answered w =
     let rest = strs r (starts t b.at.end) t b.at.end h.after in
     let more = (given_from r (starts t b.at.end) t b.at.end h.after).work in
     let z = h.here.is.end_is in
-    let y = h.at_is in (
-      omega (arith, z, y),
-      record {
-        left = h.after;
-        stretch = h.stretch;
-        done = w.finds.done;
-        alike = alike_then _ _ _ (alike_append w.finds.done (call_stretches_at pages t b h.here.is s) rest rest w.finds.alike (alike_same rest rest refl))
-            (alike_same _ _ (sym e.found));
-        adds = subst (λ n. Adds old new n w.finds.done b.at.end) h.at_is w.finds.adds;
-        works = record {
-          met = w.works.met;
-          stored = w.works.stored;
-          comes = subst (λ es. Comes pages t l es (ledger spent w.works.met answered) more) (sym e.work)
-              (comes_before pages t l (ledger spent w.works.met answered) (call_work pages t b h.here.is s) more w.works.comes);
-        };
-      },
-    )
+    let y = h.at_is in
+    (omega (arith, z, y), record {
+      left = h.after;
+      stretch = h.stretch;
+      done = w.finds.done;
+      alike = alike_then _ _ _ (alike_append w.finds.done (call_stretches_at pages t b h.here.is s) rest rest w.finds.alike (alike_same rest rest refl))
+          (alike_same _ _ (sym e.found));
+      adds = subst (λ n. Adds old new n w.finds.done b.at.end) h.at_is w.finds.adds;
+      works = record {
+        met = w.works.met;
+        stored = w.works.stored;
+        comes = subst (λ es. Comes pages t l es (ledger spent w.works.met answered) more) (sym e.work)
+            (comes_before pages t l (ledger spent w.works.met answered) (call_work pages t b h.here.is s) more w.works.comes);
+      };
+    })
 
 pub refused_more : (pages : Pages) (t : List ℕ) (l : Ledger) (w v : List Entry) (x : ExpandRefusal) → RefusesWork pages t l w x → RefusesWork pages t l (w ++ v) x
 refused_more pages t l w v x h = λ rest. subst (λ es. IsRefused (refusal_from pages t l.spent es) x) (sym (append_assoc w v rest)) (h (v ++ rest))
