@@ -1,5 +1,6 @@
 pub mod FoundLaws
 pub mod MarkBytes
+pub mod PageWalk
 pub mod PieceLaws
 pub mod SignBytes
 pub mod SoundCalls

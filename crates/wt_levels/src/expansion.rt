@@ -250,7 +250,8 @@ impl<'a> Expansion<'a> {
         left: u32,
     ) -> Result<List<Piece<'a>>, ExpandRefusal>
         ensures given { (pages : Pages) (page t : List ℕ) (frame : Frame) (met : List (List ℕ))
-            → Concerns (F.pages folder.old) pages self.new.store result → IsStore pages met self.old.store → AreValues values.now frame → IsRead mode t text.entry
+            → Concerns (F.pages folder.old) pages self.new.store result → IsStore pages met self.old.store → AreValues values.now frame
+            → IsRead mode t text.entry
             → AnswersOutput pages page (ledger self.old.spent met (F.answered folder.old))
             (text_given (reading_of pages mode frame left self.old.names) t) self.new.store self.new.spent (F.answered folder.new) result }
         ensures grown { OnOk result (Grows (F.pages folder.old) self.old.store self.new.store) }

@@ -19,7 +19,11 @@ use wt_span::{Mode, Piece, Str};
 use wt_transclusion::{ExpandRefusal, ReadText, Values, read_in};
 
 /// The page as it is read.
-fn read_page<'a>(
+///
+/// # Errors
+///
+/// `BracesTooDeep`, with the place in the page; want of memory.
+pub fn read_page<'a>(
     alloc: Global,
     page: &'a str,
     arena: &'a Bump<Global>,

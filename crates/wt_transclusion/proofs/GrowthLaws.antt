@@ -72,7 +72,7 @@ title_kept pages met full found old new n k a s =
     let f = a full found (put_known full found old new k) in
     let shut = unmet pages full (is_among full met) (get_by_text old.pages full) (s full) n in
     let h : IsStore pages (full ∷ met) new =
-        λ name. known_put pages met full found (get_by_text old.pages name) (get_by_text new.pages name) name (k name) f (s name) in
+    λ name. known_put pages met full found (get_by_text old.pages name) (get_by_text new.pages name) name (k name) f (s name) in
     (f, subst (λ (b : Bool). IsStore pages (cond b met (full ∷ met)) new) (sym shut) h)
 
 kept_by : (full name : List ℕ) (b : Bool) (found x : Option ReadText) (old : Option (Option ReadText)) → (b ≡ true → old ≡ None) → old ≡ Some x

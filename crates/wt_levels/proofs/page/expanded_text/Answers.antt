@@ -66,7 +66,7 @@ returns-clause-whole g c = λ pages told.
     let free = subst (λ (ns : List (List ℕ)). AnswersOutput pages bytes (ledger 0 [] answered) (text_given (reading_of pages text_mode.Page [] 40 ns) bytes)
     c.text.new.self.store c.text.new.self.spent told_now (Ok ps)) c.new-expansion.ensures.names spent in
     let shows = page_shown pages bytes answered told_now c.text.new.self.store c.text.new.self.spent ps c.in_ok-read.ensures.fits free in
-    shows.allowed
+    shows.worked.allowed
 
 pub returns-clause-named : goal.returns-clause-named
 returns-clause-named g c = λ pages told.
@@ -83,4 +83,4 @@ returns-clause-named g c = λ pages told.
     let free = subst (λ (ns : List (List ℕ)). AnswersOutput pages bytes (ledger 0 [] answered) (text_given (reading_of pages text_mode.Page [] 40 ns) bytes)
     c.text.new.self.store c.text.new.self.spent told_now (Ok ps)) c.new-expansion.ensures.names spent in
     let shows = page_shown pages bytes answered told_now c.text.new.self.store c.text.new.self.spent ps c.in_ok-read.ensures.fits free in
-    shows.named
+    shows.worked.named

@@ -185,7 +185,8 @@ page-returns-in_err-given-in-Page-clause-given g t c = λ pages page frame met t
     c.take.new.store c.finish.new.self.store x c.as_slice-names.ensures c.in-Page.is some inside (c.in_ok-pieces.ensures.taken pages met agrees s)
     (c.in_ok-pieces.ensures.named pages met s)
     c.in_ok-run-in-Page.ensures
-    (λ bs now_met all stored holds. c.in_err-given-in-Page.ensures.given pages page bs _ frame now_met all (c.in_ok-pieces.ensures.kept ∙ named_pages) stored v holds))
+    (λ bs now_met all stored holds. c.in_err-given-in-Page.ensures.given pages page bs _ frame now_met all (c.in_ok-pieces.ensures.kept ∙ named_pages) stored v
+    holds))
 
 pub page-returns-in_ok-given-in-Page-clause-given : goal.page-returns-in_ok-given-in-Page-clause-given
 page-returns-in_ok-given-in-Page-clause-given g t c = λ pages page frame met told s v.

@@ -1,4 +1,4 @@
-use Rattle.std.proofs.Common.{◌≡◌, Err, List, Ok, Option, [], refl, rules, subst, sym, ◌∙◌, ℕ}
+use Rattle.std.proofs.Common.{◌≡◌, Err, List, Ok, Option, [], refl, rules, subst, sym, ℕ}
 use Rattle.std.specs.Prelude.{OnOk}
 use Rattle.wt_span.specs.declared.list.List.{List as Listed}
 use Rattle.wt_span.specs.declared.form.Piece.{Piece}
@@ -87,8 +87,8 @@ returns-clause-given g c = λ pages page t frame met p s b told st v reading low
     let now = c.advance.new.self in
     let told_now = g.F.Folder.answered c.advance.new.folder in
     let after = subst (λ o. OnOk c.finish.result (Grows o now.store c.finish.new.self.store)) c.in_ok-pieces.ensures.kept c.finish.ensures.grown in
-    let agrees = agrees_between (g.F.Folder.pages c.args.folder.now) pages self.store now.store c.finish.new.self.store c.finish.result c.in_ok-pieces.ensures.grown after
-    (agrees_known pages met self.store st) told in
+    let agrees = agrees_between (g.F.Folder.pages c.args.folder.now) pages self.store now.store c.finish.new.self.store c.finish.result
+    c.in_ok-pieces.ensures.grown after (agrees_known pages met self.store st) told in
     let left = subst (λ (x : Option (Listed Piece)). AnswersAdvance pages page r t before all c.advance.new.run now.store now.spent told_now (Ok x))
     c.in_default.is
     (c.in_ok-pieces.ensures.given pages page t c.args.mode frame before all agrees step) in
