@@ -1,5 +1,5 @@
 -- What is appended to what was found.
-use Rattle.std.proofs.Common.{◌≡◌, ℕ, zero, suc, ◌+◌, ◌<◌, ◌≤◌, min, Bool, true, false, Option, Some, None, List, [], ◌∷◌, ◌++◌, length, map, take, drop, get_or, refl, sym, ap, ◌∙◌, subst, arith, append_assoc, append-nil, length-append}
+use Rattle.std.proofs.Common.{◌≡◌, ℕ, zero, suc, ◌+◌, ◌<◌, ◌≤◌, min, Option, Some, List, [], ◌∷◌, ◌++◌, length, map, take, drop, get_or, refl, sym, ap, ◌∙◌, subst, arith, append_assoc, append-nil, length-append}
 use Rattle.std.proofs.lemmas.List.{take_more, take_all, take_at, map-append, length-map, take-map}
 use Rattle.std.proofs.lemmas.List.Concat.{flat_map-append}
 use Rattle.wt_span.specs.declared.form.Form.{Form}
@@ -8,18 +8,17 @@ use Rattle.wt_span.specs.declared.form.Piece.{Piece}
 use Rattle.wt_span.specs.declared.form.Outer.{Outer}
 use Rattle.wt_span.specs.declared.origin.Origin.TheVariants as origin
 use Rattle.wt_span.specs.declared.range.Range.{Range}
-use Rattle.wt_span.specs.Slice.{bytes_of, start_of, end_of}
+use Rattle.wt_span.specs.Slice.{bytes_of, start_of}
 use Rattle.wt_span.specs.Items.{Item, char, whole, items_by, items_of, items, call_of_origin}
-use Rattle.wt_span.specs.Origins.{OuterCall, Span, outer_call, span_of}
-use Rattle.wt_expand.specs.Made.{IsOfPage}
-use Rattle.wt_expand.specs.PageCalls.{Stretch, own, outer, text_call, from_call, outer_items, outer_calls, text_spans}
+use Rattle.wt_span.specs.Origins.{OuterCall, outer_call, span_of}
+use Rattle.wt_expand.specs.PageCalls.{Stretch, outer, from_call, outer_items, outer_calls, text_spans}
 use Rattle.wt_span.specs.declared.text.Text.{Text}
 use Rattle.wt_braces.specs.Views.{part_of}
 use Rattle.wt_transclusion.specs.declared.read.Braces.{Braces}
 use Rattle.wt_expansion.specs.Calls.{outer_of}
 use Rattle.wt_expansion.specs.declared.found.Found.{Found}
 use Rattle.wt_expansion.specs.Made.{AreCalled, Give, Appends, items_of_call, AppendsCall}
-use Rattle.wt_expansion.specs.Walks.{Adds, Finds}
+use Rattle.wt_expansion.specs.Walks.{Adds}
 use Rattle.wt_expansion.proofs.PieceLaws.{give_append}
 use Rattle.wt_expansion.proofs.SoundCalls.{calls_append}
 use Rattle.wt_expansion.proofs.TextOrder.{spans_append}
@@ -70,16 +69,15 @@ appends_one k old new p q some text_is form_is origin_is pushed =
 
 pub appends_then : (k i : ℕ) (given old mid new : List Piece) (p : Piece) → i < length given → p ≡ get_or given i p
     → Appends k (take i given) old mid → Appends k (p ∷ []) mid new → Appends k (take (i + 1) given) old new
-appends_then k i given old mid new p l e (qs, is, f, same) (rs, next, g, one) =
-    (
-      qs ++ rs,
-      next ∙ ap (λ ps. ps ++ rs) is ∙ append_assoc old qs rs,
-      called_append k qs rs f g,
-      flat_map-append items_of qs rs ∙ ap (λ xs. xs ++ items rs) same ∙ ap (λ xs. map (from_call k) (items (take i given)) ++ xs) one
-          ∙ sym (map-append (from_call k) (items (take i given)) (items (p ∷ [])))
-          ∙ ap (map (from_call k)) (sym (flat_map-append items_of (take i given) (p ∷ [])))
-          ∙ ap (λ ps. map (from_call k) (items ps)) (sym (take_more given i p l ∙ ap (λ q. take i given ++ q ∷ []) (sym e))),
-    )
+appends_then k i given old mid new p l e (qs, is, f, same) (rs, next, g, one) = (
+  qs ++ rs,
+  next ∙ ap (λ ps. ps ++ rs) is ∙ append_assoc old qs rs,
+  called_append k qs rs f g,
+  flat_map-append items_of qs rs ∙ ap (λ xs. xs ++ items rs) same ∙ ap (λ xs. map (from_call k) (items (take i given)) ++ xs) one
+      ∙ sym (map-append (from_call k) (items (take i given)) (items (p ∷ [])))
+      ∙ ap (map (from_call k)) (sym (flat_map-append items_of (take i given) (p ∷ [])))
+      ∙ ap (λ ps. map (from_call k) (items ps)) (sym (take_more given i p l ∙ ap (λ q. take i given ++ q ∷ []) (sym e))),
+)
 
 pub appends_all : (k i : ℕ) (given old new : List Piece) → length given ≤ i → Appends k (take i given) old new → Appends k given old new
 appends_all k i given old new l a = subst (λ ps. Appends k ps old new) (take_all i given l) a
@@ -144,7 +142,8 @@ outer_adds old new o c given to (qs, is, f, items_are) outers texts same to_is =
 
 -- ---- one after another
 
-map_len : (old new : Found) (at : ℕ) (ss : List Stretch) (to : ℕ) → Adds old new at ss to → length new.outer.items ≡ length old.outer.items + length (outer_calls ss)
+map_len : (old new : Found) (at : ℕ) (ss : List Stretch) (to : ℕ) → Adds old new at ss to
+    → length new.outer.items ≡ length old.outer.items + length (outer_calls ss)
 map_len old new at ss to a =
     sym (length-map new.outer.items outer_call) ∙ ap length a.outer_are
     ∙ length-append (map outer_call old.outer.items) (outer_calls ss) ∙ ap (λ n. n + length (outer_calls ss)) (length-map old.outer.items outer_call)
@@ -194,8 +193,17 @@ pub outer_same : (source : Text) (b : Braces) (href : Option (List ℕ)) (rs : L
     → map span_of rs ≡ map (λ p. (p.from, p.to)) (map part_of b.parts.now) → es ≡ map (λ p. p.equals_at) (map part_of b.parts.now)
     → outer_call (record { source = source; argument = b.argument; parts = rs; equals = es; href = href }) ≡ outer_of source b href
 outer_same source b href rs es e f =
-    ap (λ xs. let c : OuterCall = record { start = start_of source; source = bytes_of source; argument = b.argument; parts = xs; equals = es; href = href } in c) e
-    ∙ ap (λ xs. let c : OuterCall = record { start = start_of source; source = bytes_of source; argument = b.argument; parts = map (λ p. (p.from, p.to)) (map part_of b.parts.now); equals = xs; href = href } in c) f
+    ap (λ xs. let c : OuterCall = record { start = start_of source; source = bytes_of source; argument = b.argument; parts = xs; equals = es; href = href }
+    in c) e
+    ∙ ap (λ xs. let c : OuterCall = record {
+      start = start_of source;
+      source = bytes_of source;
+      argument = b.argument;
+      parts = map (λ p. (p.from, p.to))
+          (map part_of b.parts.now);
+      equals = xs;
+      href = href;
+    } in c) f
 
 -- ---- pieces from a number on
 

@@ -12,7 +12,7 @@ use Rattle.wt_span.specs.declared.origin.Origin.{Origin}
 use Rattle.wt_span.specs.declared.origin.Origin.TheVariants as origin
 use Rattle.wt_span.specs.Slice.{bytes_of, start_of, end_of}
 use Rattle.wt_span.specs.Whole.{IsWhole}
-use Rattle.wt_span.specs.Items.{Item, char, sources, call_of_origin, items_by, items_of, items}
+use Rattle.wt_span.specs.Items.{Item, char, call_of_origin, items_by, items_of, items}
 use Rattle.wt_span.specs.Origins.{OuterCall, Span, span_of_entry, span_of_origin, same_call, origin_before, once, FollowFrom, IsOther, AreApart, IsAmong, IsPlaced, FitsOrigin, IsSoundPiece, IsSoundCall, AreInOrder, Expanded, AreItems}
 use Rattle.wt_expand.specs.Made.{IsOfPage}
 use Rattle.wt_expand.specs.Work.{Pages}
@@ -48,9 +48,15 @@ give_append at k [] ts ps qs mid to g h =
 give_append at k (own xs ∷ ss) ts ps qs mid to (us, rs, m, is, xs_are, o, g) h =
     (us, rs ++ qs, m, ap (λ vs. vs ++ qs) is ∙ append_assoc us rs qs, xs_are, o, give_append m k ss ts rs qs mid to g h)
 give_append at k (outer c xs ∷ ss) ts ps qs mid to (us, rs, is, xs_are, o, s, g) h =
-    let z : k + suc (length (outer_calls ss)) ≡ suc k + length (outer_calls ss) = omega arith in
-    (us, rs ++ qs, ap (λ vs. vs ++ qs) is ∙ append_assoc us rs qs, xs_are, o, s,
-    give_append (at + length c.source) (suc k) ss ts rs qs mid to g (subst (λ n. Give mid n ts qs to) z h))
+    let z : k + suc (length (outer_calls ss)) ≡ suc k + length (outer_calls ss) = omega arith in (
+      us,
+      rs ++ qs,
+      ap (λ vs. vs ++ qs) is ∙ append_assoc us rs qs,
+      xs_are,
+      o,
+      s,
+      give_append (at + length c.source) (suc k) ss ts rs qs mid to g (subst (λ n. Give mid n ts qs to) z h),
+    )
 give_append at k (text_call s ∷ ss) ts ps qs mid to g h = give_append at k ss ts ps qs mid to g h
 
 -- ---- pieces by themselves

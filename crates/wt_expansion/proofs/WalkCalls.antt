@@ -1,7 +1,6 @@
 -- Calls of the page: what is found of each, and its work.
-use Rattle.std.proofs.Common.{◌≡◌, ℕ, zero, suc, ◌+◌, ◌-◌, ◌<◌, ◌≤◌, Bool, true, false, Option, Some, None, List, [], ◌∷◌, ◌++◌, Ok, Err, length, map, take, drop, refl, sym, ap, ◌∙◌, subst, arith, append_assoc, append-nil}
+use Rattle.std.proofs.Common.{◌≡◌, ℕ, ◌+◌, ◌-◌, ◌≤◌, Bool, true, false, Option, Some, None, List, [], ◌∷◌, Ok, map, take, drop, refl, sym, ap, ◌∙◌, subst, arith, append-nil}
 use Rattle.std.specs.Prelude.{◌==◌, slice_range, if◌then◌else◌}
-use Rattle.std.proofs.lemmas.List.{drop-drop}
 use Rattle.wt_span.specs.declared.form.Mode.TheVariants as mode
 use Rattle.wt_span.specs.declared.form.Form.TheVariants as form
 use Rattle.wt_span.specs.declared.form.Piece.{Piece}
@@ -9,30 +8,27 @@ use Rattle.wt_span.specs.declared.text.Text.{Text}
 use Rattle.wt_span.specs.Slice.{bytes_of, start_of, end_of}
 use Rattle.wt_span.specs.Items.{Item, whole, items}
 use Rattle.wt_span.specs.Origins.{OuterCall}
-use Rattle.wt_span.specs.Braces.{Member, Members, call, members, listed, width_of_all, parts_of, PartAt}
+use Rattle.wt_span.specs.Braces.{call, width_of_all, parts_of, PartAt}
 use Rattle.wt_names.specs.declared.title.Title.{Title}
-use Rattle.wt_braces.specs.PartMembers.{PartMembers, part_members, placed}
+use Rattle.wt_braces.specs.PartMembers.{PartMembers, part_members}
 use Rattle.wt_braces.specs.Views.{part_of}
 use Rattle.wt_expand.specs.Targets.{Called, argument, function, page, text, called, called_by, is_function, title_of_target}
-use Rattle.wt_expand.specs.Work.{Pages, Entry, begun, ended, refusal_from}
-use Rattle.wt_expand.specs.Expansion.{Output, Reading, PartOutput, just, then_output, target_part, later_parts, parts_work, part_outputs, called_output, output_of, outputs_of}
-use Rattle.wt_expand.specs.PageCalls.{Stretch, own, outer, text_call, link_of, outer_at, call_stretches, stretches_of, all_stretches}
+use Rattle.wt_expand.specs.Work.{Pages, Entry}
+use Rattle.wt_expand.specs.Expansion.{Output, PartOutput, target_part, part_outputs, called_output, output_of, outputs_of}
+use Rattle.wt_expand.specs.PageCalls.{Stretch, own, outer, link_of, outer_at, call_stretches, all_stretches}
 use Rattle.wt_transclusion.specs.declared.read.Braces.{Braces}
 use Rattle.wt_transclusion.specs.declared.refusal.ExpandRefusal.{ExpandRefusal}
 use Rattle.wt_transclusion.specs.declared.store.Store.{Store}
-use Rattle.wt_transclusion.specs.Answers.{IsRefused}
-use Rattle.wt_transclusion.specs.Steps.{IsStretchOf, given_from}
+use Rattle.wt_transclusion.specs.Steps.{given_from}
 use Rattle.wt_transclusion.specs.Stores.{IsStore}
-use Rattle.wt_transclusion.proofs.PartLaws.{call_parts, call_places}
-use Rattle.wt_transclusion.proofs.StretchLaws.{members_listed}
+use Rattle.wt_transclusion.proofs.PartLaws.{call_places}
 use Rattle.wt_levels.specs.declared.reader.Reader.{Reader}
-use Rattle.wt_levels.specs.Calls.{IsCallOf, source_of, parts_of_call, outs_of_call, first_end}
-use Rattle.wt_levels.specs.Ledgers.{Ledger, AnswersOutput, Comes, ledger}
+use Rattle.wt_levels.specs.Calls.{IsCallOf, source_of, first_end}
+use Rattle.wt_levels.specs.Ledgers.{Ledger, AnswersOutput, ledger}
 use Rattle.wt_levels.specs.Runs.{page_called}
 use Rattle.wt_expansion.specs.declared.found.Found.{Found}
 use Rattle.wt_expansion.specs.Calls.{outer_of}
-use Rattle.wt_expansion.specs.Made.{AreAlike}
-use Rattle.wt_expansion.specs.Walks.{at_page, Adds, Finds, Works, Walked, AnswersWalk, RefusesWork, IsCallNext, call_stretches_at, call_work, page_stretch, page_work_at}
+use Rattle.wt_expansion.specs.Walks.{at_page, Adds, Works, Walked, RefusesWork, IsCallNext, call_stretches_at, call_work, page_stretch, page_work_at}
 use Rattle.wt_expansion.proofs.WalkLaws.{alike_same}
 
 -- ---- what a call is
@@ -96,11 +92,44 @@ outer_is t b c source href d s_is b_is h_is =
     let f : PartAt → ℕ × ℕ = λ p. (p.from, p.to) in
     let g : PartAt → Option ℕ = λ p. p.equals_at in
     let places : map part_of b.parts.now ≡ parts_of (c.at + c.braces) c.inside = c.parts_are ∙ sym (call_places (c.at + c.braces) c.inside) in
-    ap (λ n. let o : OuterCall = record { start = n; source = bytes_of source; argument = b.argument; parts = map f (map part_of b.parts.now); equals = map g (map part_of b.parts.now); href = href } in o) s_is
-    ∙ ap (λ bs. let o : OuterCall = record { start = c.at; source = bs; argument = b.argument; parts = map f (map part_of b.parts.now); equals = map g (map part_of b.parts.now); href = href } in o) b_is
-    ∙ ap (λ x. let o : OuterCall = record { start = c.at; source = src; argument = x; parts = map f (map part_of b.parts.now); equals = map g (map part_of b.parts.now); href = href } in o) c.kind_is
-    ∙ ap (λ ps. let o : OuterCall = record { start = c.at; source = src; argument = c.braces == 3; parts = map f ps; equals = map g ps; href = href } in o) places
-    ∙ ap (λ x. let o : OuterCall = record { start = c.at; source = src; argument = c.braces == 3; parts = map f (parts_of (c.at + c.braces) c.inside); equals = map g (parts_of (c.at + c.braces) c.inside); href = x } in o) h_is
+    ap (λ n. let o : OuterCall = record {
+      start = n;
+      source = bytes_of source;
+      argument = b.argument;
+      parts = map f (map part_of b.parts.now);
+      equals = map g
+          (map part_of b.parts.now);
+      href = href;
+    } in o) s_is
+    ∙ ap (λ bs. let o : OuterCall = record {
+      start = c.at;
+      source = bs;
+      argument = b.argument;
+      parts = map f (map part_of b.parts.now);
+      equals = map g
+          (map part_of b.parts.now);
+      href = href;
+    } in o) b_is
+    ∙ ap (λ x. let o : OuterCall = record {
+      start = c.at;
+      source = src;
+      argument = x;
+      parts = map f (map part_of b.parts.now);
+      equals = map g
+          (map part_of b.parts.now);
+      href = href;
+    } in o) c.kind_is
+    ∙ ap (λ ps. let o : OuterCall = record { start = c.at; source = src; argument = c.braces == 3; parts = map f ps; equals = map g ps; href = href } in o)
+    places
+    ∙ ap (λ x. let o : OuterCall = record {
+      start = c.at;
+      source = src;
+      argument = c.braces == 3;
+      parts = map f
+          (parts_of (c.at + c.braces) c.inside);
+      equals = map g (parts_of (c.at + c.braces) c.inside);
+      href = x;
+    } in o) h_is
 
 pub source_same : (t bs : List ℕ) (b : Braces) (c : IsCallOf mode.Page t b) → bs ≡ t → slice_range bs b.at.start b.at.end ≡ source_of mode.Page t b c
 source_same t bs b c same =
@@ -109,7 +138,8 @@ source_same t bs b c same =
     ∙ ap (λ n. take n (drop b.at.start t)) z ∙ ap (λ n. take (c.braces + width_of_all c.inside + c.braces) (drop n t)) c.start_is
 
 -- one outermost call is found where the source stands
-pub outer_found : (t : List ℕ) (b : Braces) (c : IsCallOf mode.Page t b) (source : Text) (href : Option (List ℕ)) (d : Called) (old new : Found) (given xs : List Item)
+pub outer_found : (t : List ℕ) (b : Braces) (c : IsCallOf mode.Page t b) (source : Text) (href : Option (List ℕ)) (d : Called) (old new : Found)
+    (given xs : List Item)
     → start_of source ≡ b.at.start → end_of source ≡ b.at.end → bytes_of source ≡ source_of mode.Page t b c → href ≡ link_of d → given ≡ xs
     → Adds old new (start_of source) (outer (outer_of source b href) given ∷ []) (end_of source)
     → Adds old new c.at (outer (outer_at c.at c.braces (source_of mode.Page t b c) c.inside d) xs ∷ []) b.at.end
@@ -134,7 +164,8 @@ works_of pages t l o store spent answered ps h = record { met = h.1; stored = h.
 
 -- ---- an argument
 
-pub argument_walked : (pages : Pages) (t : List ℕ) (l : Ledger) (b : Braces) (reader : Reader) (s : Bool) (n : IsCallNext t b reader s) (source : Text) (old new : Found)
+pub argument_walked : (pages : Pages) (t : List ℕ) (l : Ledger) (b : Braces) (reader : Reader) (s : Bool) (n : IsCallNext t b reader s) (source : Text)
+    (old new : Found)
     (store : Store) (spent : ℕ) (answered : Option (List (List ℕ))) (ps : List Piece) → b.argument ≡ true
     → AnswersOutput pages t l (given_from (at_page pages) s t n.is.at (call n.is.braces n.is.inside ∷ [])) store spent answered (Ok ps)
     → start_of source ≡ b.at.start → end_of source ≡ b.at.end → bytes_of source ≡ slice_range reader.text.text.now b.at.start b.at.end
@@ -144,19 +175,23 @@ argument_walked pages t l b reader s n source old new store spent answered ps is
     let c = n.is in
     let e : what pages t b c ≡ argument = called_argument c.braces (source_of mode.Page t b c) _ (sym c.kind_is ∙ is) in
     let o = output_of (at_page pages) s (drop c.at t) (call c.braces c.inside) in
-    let given : items ps ≡ (output_by pages t b c s argument).items = h.0 ∙ append-nil o.items ∙ ap (λ (x : Output). x.items) (output_is pages t b c s argument e) in
-    let found = outer_found t b c source None argument old new (items ps) _ s_is e_is (b_is ∙ source_same t reader.text.text.now b c n.reading.read.text_is) refl given a in
+    let given : items ps ≡ (output_by pages t b c s argument).items = h.0 ∙ append-nil o.items
+    ∙ ap (λ (x : Output). x.items) (output_is pages t b c s argument e) in
+    let found = outer_found t b c source None argument old new (items ps) _ s_is e_is (b_is
+    ∙ source_same t reader.text.text.now b c n.reading.read.text_is) refl given a in
     walked_by pages t l (call_stretches_at pages t b c s) (stretches_by pages t b c s argument) (call_work pages t b c s)
     (given_from (at_page pages) s t c.at (call c.braces c.inside ∷ [])).work c.at b.at.end old new store spent answered
     (sym (stretches_is pages t b c s argument e)) (append-nil o.work) found (works_of pages t l _ store spent answered ps h)
 
 pub refused_one : (pages : Pages) (t : List ℕ) (l : Ledger) (b : Braces) (c : IsCallOf mode.Page t b) (s : Bool) (e : ExpandRefusal)
     → RefusesWork pages t l (given_from (at_page pages) s t c.at (call c.braces c.inside ∷ [])).work e → RefusesWork pages t l (call_work pages t b c s) e
-refused_one pages t l b c s e h = subst (λ es. RefusesWork pages t l es e) (append-nil (output_of (at_page pages) s (drop c.at t) (call c.braces c.inside)).work) h
+refused_one pages t l b c s e h = subst (λ es. RefusesWork pages t l es e)
+    (append-nil (output_of (at_page pages) s (drop c.at t) (call c.braces c.inside)).work) h
 
 -- ---- a function
 
-pub function_walked : (pages : Pages) (t : List ℕ) (met : List (List ℕ)) (spent : ℕ) (answered : Option (List (List ℕ))) (b : Braces) (reader : Reader) (s : Bool)
+pub function_walked : (pages : Pages) (t : List ℕ) (met : List (List ℕ)) (spent : ℕ) (answered : Option (List (List ℕ))) (b : Braces) (reader : Reader)
+    (s : Bool)
     (n : IsCallNext t b reader s) (old new : Found) (store : Store) → b.argument ≡ false
     → is_function (slice_range reader.text.text.now b.at.start b.at.end) ≡ true → IsStore pages met store
     → Adds old new b.at.start (own (whole form.Function None (slice_range t b.at.start b.at.end) ∷ []) ∷ []) b.at.end
@@ -175,7 +210,8 @@ function_walked pages t met spent answered b reader s n old new store is fn stor
 
 -- ---- the call of a page
 
-pub page_walked : (pages : Pages) (t : List ℕ) (l : Ledger) (b : Braces) (reader : Reader) (s : Bool) (n : IsCallNext t b reader s) (title : Title) (href : List ℕ)
+pub page_walked : (pages : Pages) (t : List ℕ) (l : Ledger) (b : Braces) (reader : Reader) (s : Bool) (n : IsCallNext t b reader s) (title : Title)
+    (href : List ℕ)
     (source : Text) (old new : Found) (store : Store) (spent : ℕ) (answered : Option (List (List ℕ))) (ps : List Piece)
     → AnswersOutput pages t l (page_called (at_page pages) t b n.is s title) store spent answered (Ok ps) → Some href ≡ link_of (page title)
     → start_of source ≡ b.at.start → end_of source ≡ b.at.end → bytes_of source ≡ slice_range reader.text.text.now b.at.start b.at.end
@@ -183,8 +219,10 @@ pub page_walked : (pages : Pages) (t : List ℕ) (l : Ledger) (b : Braces) (read
     → Walked pages t l (page_stretch pages t b n.is s title) (page_work_at pages t b n.is s title) n.is.at b.at.end old new store spent answered
 page_walked pages t l b reader s n title href source old new store spent answered ps h link s_is e_is b_is a =
     let c = n.is in
-    let found = outer_found t b c source (Some href) (page title) old new (items ps) _ s_is e_is (b_is ∙ source_same t reader.text.text.now b c n.reading.read.text_is) link h.0 a in
-    walked_by pages t l (page_stretch pages t b c s title) (page_stretch pages t b c s title) (page_work_at pages t b c s title) (page_work_at pages t b c s title)
+    let found = outer_found t b c source (Some href) (page title) old new (items ps) _ s_is e_is (b_is
+    ∙ source_same t reader.text.text.now b c n.reading.read.text_is) link h.0 a in
+    walked_by pages t l (page_stretch pages t b c s title) (page_stretch pages t b c s title) (page_work_at pages t b c s title)
+    (page_work_at pages t b c s title)
     c.at b.at.end old new store spent answered refl refl found (works_of pages t l _ store spent answered ps h)
 
 -- the target ends behind the call's first brace

@@ -1,11 +1,10 @@
 -- The stretches of members that stand one behind the other, and stretches that make the same page.
-use Rattle.std.proofs.Common.{◌≡◌, ℕ, zero, suc, ◌+◌, ◌-◌, ◌<◌, ◌≤◌, Bool, true, false, Option, Some, None, List, [], ◌∷◌, ◌++◌, length, map, take, drop, refl, sym, ap, ◌∙◌, subst, arith, append_assoc, append-nil, length-append}
-use Rattle.std.specs.Prelude.{slice_index, if◌then◌else◌}
+use Rattle.std.proofs.Common.{◌≡◌, ℕ, zero, suc, ◌+◌, ◌-◌, ◌≤◌, Bool, false, Option, Some, None, List, [], ◌∷◌, ◌++◌, length, map, take, drop, refl, sym, ap, ◌∙◌, subst, arith, append_assoc, append-nil}
+use Rattle.std.specs.Prelude.{slice_index}
 use Rattle.std.specs.Option.{option_and_then}
 use Rattle.std.proofs.lemmas.List.{drop-drop, get_or-drop}
 use Rattle.wt_span.specs.declared.form.Mode.{Mode}
 use Rattle.wt_span.specs.declared.form.Mode.TheVariants as mode
-use Rattle.wt_span.specs.declared.form.Form.{Form}
 use Rattle.wt_span.specs.declared.form.Form.TheVariants as form
 use Rattle.wt_span.specs.declared.form.LexKind.{LexKind}
 use Rattle.wt_span.specs.Bytes.{is_break}
@@ -13,20 +12,16 @@ use Rattle.wt_span.specs.Items.{Item, char, whole}
 use Rattle.wt_span.specs.Origins.{OuterCall}
 use Rattle.wt_span.specs.Braces.{Member, Members, lexeme, call, none, more, members, width, width_of_all}
 use Rattle.wt_braces.specs.PartMembers.{part_members, width_of}
-use Rattle.wt_expand.specs.Texts.{target_of_form, target_of, both, target_text}
+use Rattle.wt_expand.specs.Texts.{target_of, both, target_text}
 use Rattle.wt_expand.specs.Targets.{Called, argument, function, page, text, called, title_in_target, title_of_target}
-use Rattle.wt_expand.specs.Work.{Pages}
 use Rattle.wt_expand.specs.Expansion.{Output, joined, chars, lexeme_items, PartOutput, part_outputs, target_part, Reading, front_braces, back_braces, called_output, output_of, outputs_of}
 use Rattle.wt_expand.specs.PageCalls.{Stretch, own, outer, text_call, call_stretches, stretches_of, all_stretches, from_call, outer_items, numbered, outer_calls, text_spans}
 use Rattle.wt_expand.specs.Stretches.{given_items}
 use Rattle.wt_transclusion.specs.Cursors.{starts}
 use Rattle.wt_transclusion.specs.Parts.{start_after}
-use Rattle.wt_transclusion.specs.Steps.{Leads, one_lexeme, one_brace, one_more, given_from}
+use Rattle.wt_transclusion.specs.Steps.{Leads, one_lexeme, one_brace, one_more}
 use Rattle.wt_transclusion.specs.Stretch.{IsFull, AllFull}
-use Rattle.wt_transclusion.proofs.StretchLaws.{width_append}
-use Rattle.wt_levels.specs.Ledgers.{reading_of}
 use Rattle.wt_expansion.specs.Made.{AreAlike}
-use Rattle.wt_expansion.specs.Walks.{at_page}
 use Rattle.wt_expansion.proofs.SoundCalls.{calls_append}
 use Rattle.wt_expansion.proofs.TextOrder.{spans_append}
 

@@ -4,19 +4,19 @@ use Rattle.std.specs.Prelude.{slice_get}
 use Rattle.std.proofs.lemmas.Option.{slice_get-map}
 use Rattle.wt_span.specs.declared.form.Mode.TheVariants as mode
 use Rattle.wt_span.specs.Items.{Item, sources}
-use Rattle.wt_span.specs.Braces.{Member, Members, PartAt, listed, members}
+use Rattle.wt_span.specs.Braces.{Member, PartAt, listed, members}
 use Rattle.wt_names.specs.declared.title.Title.{Title}
 use Rattle.wt_braces.specs.PartMembers.{PartMembers, joined, part_members, placed}
 use Rattle.wt_braces.specs.Views.{part_of}
 use Rattle.wt_braces.specs.declared.call.PartAt.{PartAt as PartOf}
-use Rattle.wt_expand.specs.Targets.{Called, page, called_by, is_function, title_of_target}
+use Rattle.wt_expand.specs.Targets.{page, called_by, is_function, title_of_target}
 use Rattle.wt_expand.specs.Work.{Pages, Entry, begun, ended}
 use Rattle.wt_expand.specs.Expansion.{Output, Reading, PartOutput, target_part, later_parts, parts_work, values_from, with_break}
 use Rattle.wt_expand.specs.PageCalls.{Stretch, outer, outer_at, numbered}
 use Rattle.wt_transclusion.specs.declared.read.Braces.{Braces}
 use Rattle.wt_transclusion.specs.Parts.{part_given, parts_given}
 use Rattle.wt_transclusion.specs.Steps.{IsStretchOf, given_from}
-use Rattle.wt_transclusion.specs.Stretch.{AllFull, AreFull}
+use Rattle.wt_transclusion.specs.Stretch.{AreFull}
 use Rattle.wt_transclusion.proofs.PartLaws.{call_parts}
 use Rattle.wt_transclusion.proofs.StretchLaws.{full_members, members_listed}
 use Rattle.wt_levels.specs.Calls.{ArePartsAt, IsCallOf, source_of, parts_of_call, first_end}

@@ -6,18 +6,18 @@ use Rattle.wt_span.specs.declared.form.Mode.TheVariants as mode
 use Rattle.wt_span.specs.declared.form.Form.TheVariants as form
 use Rattle.wt_span.specs.declared.form.Piece.{Piece}
 use Rattle.wt_span.specs.declared.form.LexKind.TheVariants as lex
-use Rattle.wt_span.specs.Items.{Item, items_by, items}
+use Rattle.wt_span.specs.Items.{items_by, items}
 use Rattle.wt_span.specs.Origins.{Span, span_of}
-use Rattle.wt_span.specs.Braces.{Member, Members, lexeme, listed, members, width_of_all}
+use Rattle.wt_span.specs.Braces.{listed, members, width_of_all}
 use Rattle.wt_names.specs.declared.title.Title.{Title}
 use Rattle.wt_braces.specs.PartMembers.{PartMembers, joined, rejoined, part_members, width_of}
 use Rattle.wt_braces.specs.declared.call.PartAt.{PartAt as PartOf}
 use Rattle.wt_braces.proofs.Rejoins.{parts_join}
 use Rattle.wt_expand.specs.Targets.{page, text, called_by, title_of_target}
-use Rattle.wt_expand.specs.Work.{Pages, Entry, refusal_from}
-use Rattle.wt_expand.specs.Expansion.{Output, Reading, then_output, just, chars, front_braces, back_braces}
+use Rattle.wt_expand.specs.Work.{Pages, Entry}
+use Rattle.wt_expand.specs.Expansion.{Output, Reading, then_output, chars, front_braces, back_braces}
 use Rattle.wt_expand.specs.Expansion as outputs
-use Rattle.wt_expand.specs.PageCalls.{Stretch, own, text_call, numbered, all_stretches}
+use Rattle.wt_expand.specs.PageCalls.{own, text_call, all_stretches}
 use Rattle.wt_transclusion.specs.declared.read.Braces.{Braces}
 use Rattle.wt_transclusion.specs.declared.refusal.ExpandRefusal.{ExpandRefusal}
 use Rattle.wt_transclusion.specs.declared.store.Store.{Store}
@@ -29,13 +29,12 @@ use Rattle.wt_transclusion.specs.Stretch.{AllFull}
 use Rattle.wt_transclusion.proofs.PartLaws.{outs, outs_append}
 use Rattle.wt_transclusion.proofs.StretchLaws.{full_front, members_listed}
 use Rattle.wt_levels.specs.Calls.{IsCallOf, source_of, first_end, members_behind}
-use Rattle.wt_levels.specs.Ledgers.{Ledger, Comes, ledger}
+use Rattle.wt_levels.specs.Ledgers.{Ledger, ledger}
 use Rattle.wt_levels.proofs.CallLaws.{behind_same, behind_stands}
 use Rattle.wt_levels.proofs.LedgerLaws.{comes_then, comes_before}
 use Rattle.wt_levels.proofs.StepLaws.{joined_append}
 use Rattle.wt_expansion.specs.declared.found.Found.{Found}
-use Rattle.wt_expansion.specs.Made.{AreAlike}
-use Rattle.wt_expansion.specs.Walks.{at_page, Adds, Finds, Works, Walked, AnswersWalk, RefusesWork, TargetRead, call_stretches_at, call_work, page_stretch, page_work_at, target_members, target_output, front_stretches, behind_stretches, behind_work}
+use Rattle.wt_expansion.specs.Walks.{at_page, Adds, Works, Walked, AnswersWalk, RefusesWork, TargetRead, call_stretches_at, call_work, page_stretch, page_work_at, target_members, target_output, front_stretches, behind_stretches, behind_work}
 use Rattle.wt_expansion.proofs.FoundLaws.{adds_then, adds_marked}
 use Rattle.wt_expansion.proofs.PieceLaws.{give_items}
 use Rattle.wt_expansion.proofs.WalkCalls.{what, stretches_is, output_is}
@@ -245,7 +244,8 @@ pub behind_walked : (pages : Pages) (t : List ℕ) (l : Ledger) (b : Braces) (c 
     → TargetStands t b c part → end ≡ c.at + c.braces + width_of_all c.inside → b.at.end ≤ length t
     → (old mid new : Found) (store : Store) (spent : ℕ) (answered : Option (List (List ℕ)))
     → Walked pages t l (strs (at_page pages) (starts t part.at.end) t part.at.end (members_behind (part_members 0 c.inside)))
-    (given_from (at_page pages) (starts t part.at.end) t part.at.end (members_behind (part_members 0 c.inside))).work part.at.end end old mid store spent answered
+    (given_from (at_page pages) (starts t part.at.end) t part.at.end (members_behind (part_members 0 c.inside))).work part.at.end end old mid store spent
+    answered
     → Adds mid new end (own (items_by form.Chars None (slice_range t end b.at.end)) ∷ []) b.at.end
     → Walked pages t l (behind_stretches pages t b c) (behind_work pages t b c) (first_end (c.at + c.braces) (part_members 0 c.inside)) b.at.end
     old new store spent answered
@@ -255,7 +255,8 @@ behind_walked pages t l b c part end h e fits old mid new store spent answered w
     let ys = members_behind (part_members 0 c.inside) in
     let back = own (chars (back_braces c.braces (source_of mode.Page t b c))) ∷ [] in
     let last = subst (λ bs. Adds mid new end (own (chars bs) ∷ []) b.at.end) (back_is t b c end e fits) braces in
-    let w = subst (λ n. Walked pages t l (strs r (starts t n) t n ys) (given_from r (starts t n) t n ys).work n end old mid store spent answered) h.to_is walked in
+    let w = subst (λ n. Walked pages t l (strs r (starts t n) t n ys) (given_from r (starts t n) t n ys).work n end old mid store spent answered) h.to_is
+    walked in
     record {
       finds = record {
         done = w.finds.done ++ back;

@@ -71,11 +71,7 @@ fn is_empty(piece: &Piece<'_>) -> bool
 }
 
 /// Appends a piece of an outermost call.
-fn push_one<'a>(
-    pieces: &mut Vec<Piece<'a>>,
-    number: u32,
-    piece: &Piece<'a>,
-) -> Result<(), NoMemory>
+fn push_one<'a>(pieces: &mut Vec<Piece<'a>>, number: u32, piece: &Piece<'a>) -> Result<(), NoMemory>
     ensures { OnOk result (Appends number (piece.now ∷ []) pieces.old.items pieces.new.items) }
 {
     if is_empty(piece) {

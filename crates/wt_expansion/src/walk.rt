@@ -74,7 +74,13 @@ fn push_chunk<'a>(
         → Adds found.old found.new p (own (lexeme_items text_mode.Page kind (slice_range page p to)) ∷ []) to) }
 {
     let text = reader.slice(reader.cursor.at, to)?;
-    push_slice(found, reader, reader.cursor.at, to, form_of(kind, text.as_str()))
+    push_slice(
+        found,
+        reader,
+        reader.cursor.at,
+        to,
+        form_of(kind, text.as_str()),
+    )
 }
 
 /// Whether a call is a function.

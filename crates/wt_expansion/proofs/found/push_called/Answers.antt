@@ -1,4 +1,4 @@
-use Rattle.wt_expansion.proofs.FoundLaws.{appends_none, appends_then, appends_all}
+use Rattle.wt_expansion.proofs.FoundLaws.{appends_then}
 use Rattle.wt_expansion.proofs.found.push_called.Goals as goal
 
 pub loop-piece-preserved : goal.loop-piece-preserved

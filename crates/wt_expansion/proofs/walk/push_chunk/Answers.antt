@@ -1,4 +1,4 @@
-use Rattle.std.proofs.Common.{◌≡◌, ◌∷◌, ◌<◌, [], ℕ, Err, List, None, Ok, ap, arith, subst, ◌∙◌}
+use Rattle.std.proofs.Common.{◌∷◌, [], ℕ, Err, List, None, Ok, ap, arith, subst, ◌∙◌}
 use Rattle.std.specs.Prelude.{OnOk, Result, slice_range}
 use Rattle.wt_span.specs.declared.form.Form.{Form}
 use Rattle.wt_span.specs.Items.{items_by}

@@ -1,17 +1,17 @@
-use Rattle.std.proofs.Common.{◌≡◌, ◌∷◌, ◌+◌, ◌-◌, ◌<◌, ◌≤◌, [], ℕ, Bool, false, Err, Ok, List, None, Option, Some, ap, arith, drop, length, refl, rules, subst, sym, ◌∙◌}
-use Rattle.std.specs.Prelude.{OnOk, Result}
+use Rattle.std.proofs.Common.{◌≡◌, ◌+◌, ◌≤◌, ℕ, false, Err, List, None, Option, Some, ap, arith, drop, length, refl, rules, subst, sym, ◌∙◌}
+use Rattle.std.specs.Prelude.{Result}
 use Rattle.wt_span.specs.declared.form.Mode.TheVariants as mode
 use Rattle.wt_names.specs.declared.title.Title.{Title}
 use Rattle.wt_braces.specs.PartMembers.{part_members}
-use Rattle.wt_expand.specs.Targets.{called_by, is_function, title_of_target}
+use Rattle.wt_expand.specs.Targets.{is_function, title_of_target}
 use Rattle.wt_transclusion.specs.declared.refusal.ExpandRefusal.{ExpandRefusal}
 use Rattle.wt_transclusion.specs.Cursors.{starts}
 use Rattle.wt_transclusion.specs.Steps.{given_from}
 use Rattle.wt_transclusion.specs.Stores.{Concerns, Grows}
 use Rattle.wt_transclusion.proofs.GrowthLaws.{agrees_before, agrees_known, grows_none, grows_then}
-use Rattle.wt_levels.specs.Calls.{first_end, members_behind, source_of}
+use Rattle.wt_levels.specs.Calls.{first_end, members_behind}
 use Rattle.wt_levels.specs.Ledgers.{ledger}
-use Rattle.wt_expansion.specs.Walks.{AnswersStep, AnswersTarget, AnswersWalk, IsFree, RefusesWork, TargetRead, at_page, behind_stretches, behind_work, call_stretches_at, call_work, target_members, target_output}
+use Rattle.wt_expansion.specs.Walks.{AnswersStep, AnswersTarget, AnswersWalk, RefusesWork, TargetRead, at_page, behind_stretches, behind_work, call_stretches_at, call_work, target_members, target_output}
 use Rattle.wt_expansion.proofs.WalkCalls.{function_walked, source_same, target_first}
 use Rattle.wt_expansion.proofs.WalkLaws.{strs}
 use Rattle.wt_expansion.proofs.WalkPages.{agrees_first, grown_then, still_concerns}
@@ -207,7 +207,8 @@ step-returns-in_err-walk_call-in-Call-clause-given g t c = λ pages page met p s
     let told = subst (λ (y : Result ℕ ExpandRefusal). Concerns (g.F.Folder.pages c.args.folder.now) pages now.expansion.store y) e concerns in
     let h = call_there page p c.args.end s xs c.args.reader c.in-Call.number b reading st (c.in-Call.ensures mode.Page page p s xs reading st)
     c.in_ok-braces-in-Call.ensures in
-    subst (λ (y : Result ℕ ExpandRefusal). AnswersStep pages page l (strs (at_page pages) s page p xs) (given_from (at_page pages) s page p xs).work p c.args.end
+    subst (λ (y : Result ℕ ExpandRefusal). AnswersStep pages page l (strs (at_page pages) s page p xs)
+    (given_from (at_page pages) s page p xs).work p c.args.end
     self.found now.found now.expansion.store now.expansion.spent (g.F.Folder.answered c.walk_call.new.folder) y) (sym e)
     (call_step_refused pages page l p c.args.end s xs b c.args.reader h x (c.in_err-walk_call-in-Call.ensures.given pages page met s h.here told free))
 
