@@ -49,7 +49,8 @@ chunk_step pages t met spent answered p s end xs kind to old new store st (low, 
     let r = at_page pages in
     let z : p + (to - p) ≡ to = omega (arith, low) in
     let alike = leads_alike kind (to - p) xs taken.left taken.leads r s t p st.full in
-    let moved = subst (λ q. AreAlike (own (lexeme_items mode.Page kind (slice_range t p to)) ∷ strs r (starts t q) t q taken.left) (strs r s t p xs)) z alike in (
+    let moved = subst (λ q. AreAlike (own (lexeme_items mode.Page kind (slice_range t p to)) ∷ strs r (starts t q) t q taken.left) (strs r s t p xs)) z
+    alike in (
       omega (arith, low),
       record {
         left = taken.left;
