@@ -1,8 +1,16 @@
+pub mod FoundLaws
 pub mod MarkBytes
+pub mod PageWalk
 pub mod PieceLaws
 pub mod SignBytes
 pub mod SoundCalls
 pub mod SoundItems
 pub mod SoundMembers
 pub mod TextOrder
+pub mod WalkCalls
+pub mod WalkLaws
+pub mod WalkPages
+pub mod WalkSteps
+pub mod WalkTargets
+pub mod WalkTexts
 pub mod WholeOutputs

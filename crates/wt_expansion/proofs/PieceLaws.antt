@@ -12,7 +12,7 @@ use Rattle.wt_span.specs.declared.origin.Origin.{Origin}
 use Rattle.wt_span.specs.declared.origin.Origin.TheVariants as origin
 use Rattle.wt_span.specs.Slice.{bytes_of, start_of, end_of}
 use Rattle.wt_span.specs.Whole.{IsWhole}
-use Rattle.wt_span.specs.Items.{Item, sources, call_of_origin, items_by, items_of, items}
+use Rattle.wt_span.specs.Items.{Item, char, call_of_origin, items_by, items_of, items}
 use Rattle.wt_span.specs.Origins.{OuterCall, Span, span_of_entry, span_of_origin, same_call, origin_before, once, FollowFrom, IsOther, AreApart, IsAmong, IsPlaced, FitsOrigin, IsSoundPiece, IsSoundCall, AreInOrder, Expanded, AreItems}
 use Rattle.wt_expand.specs.Made.{IsOfPage}
 use Rattle.wt_expand.specs.Work.{Pages}
@@ -30,20 +30,40 @@ origins ps = map (λ p. p.origin) ps
 
 -- ---- the items
 
-pub give_items : (at k : ℕ) (ss : List Stretch) (ps : List Piece) → Give at k ss ps → items ps ≡ numbered k ss
-give_items at k [] ps g = ap items g
-give_items at k (own xs ∷ ss) ps (qs, rs, is, xs_are, o, g) =
-    ap items is ∙ flat_map-append items_of qs rs ∙ ap (λ ys. ys ++ items rs) xs_are ∙ ap (λ ys. xs ++ ys) (give_items (at + length (sources xs)) k ss rs g)
-give_items at k (outer c xs ∷ ss) ps (qs, rs, is, xs_are, o, s, g) =
+pub give_items : (at k : ℕ) (ss : List Stretch) (ps : List Piece) (to : ℕ) → Give at k ss ps to → items ps ≡ numbered k ss
+give_items at k [] ps to g = ap items g.0
+give_items at k (own xs ∷ ss) ps to (qs, rs, mid, is, xs_are, o, g) =
+    ap items is ∙ flat_map-append items_of qs rs ∙ ap (λ ys. ys ++ items rs) xs_are ∙ ap (λ ys. xs ++ ys) (give_items mid k ss rs to g)
+give_items at k (outer c xs ∷ ss) ps to (qs, rs, is, xs_are, o, s, g) =
     ap items is ∙ flat_map-append items_of qs rs ∙ ap (λ ys. ys ++ items rs) xs_are
-    ∙ ap (λ ys. outer_items k c xs ++ ys) (give_items (at + length c.source) (suc k) ss rs g)
-give_items at k (text_call s ∷ ss) ps g = give_items at k ss ps g
+    ∙ ap (λ ys. outer_items k c xs ++ ys) (give_items (at + length c.source) (suc k) ss rs to g)
+give_items at k (text_call s ∷ ss) ps to g = give_items at k ss ps to g
+
+-- what gives some stretches, and then what gives others
+pub give_append : (at k : ℕ) (ss ts : List Stretch) (ps qs : List Piece) (mid to : ℕ) → Give at k ss ps mid
+    → Give mid (k + length (outer_calls ss)) ts qs to → Give at k (ss ++ ts) (ps ++ qs) to
+give_append at k [] ts ps qs mid to g h =
+    let z : k + 0 ≡ k = omega arith in
+    subst (λ rs. Give at k ts (rs ++ qs) to) (sym g.0) (subst (λ n. Give n k ts qs to) (sym g.1) (subst (λ n. Give mid n ts qs to) z h))
+give_append at k (own xs ∷ ss) ts ps qs mid to (us, rs, m, is, xs_are, o, g) h =
+    (us, rs ++ qs, m, ap (λ vs. vs ++ qs) is ∙ append_assoc us rs qs, xs_are, o, give_append m k ss ts rs qs mid to g h)
+give_append at k (outer c xs ∷ ss) ts ps qs mid to (us, rs, is, xs_are, o, s, g) h =
+    let z : k + suc (length (outer_calls ss)) ≡ suc k + length (outer_calls ss) = omega arith in (
+      us,
+      rs ++ qs,
+      ap (λ vs. vs ++ qs) is ∙ append_assoc us rs qs,
+      xs_are,
+      o,
+      s,
+      give_append (at + length c.source) (suc k) ss ts rs qs mid to g (subst (λ n. Give mid n ts qs to) z h),
+    )
+give_append at k (text_call s ∷ ss) ts ps qs mid to g h = give_append at k ss ts ps qs mid to g h
 
 -- ---- pieces by themselves
 
 -- some bytes at their place
 record IsSet (p : Piece) : Type 0 where
-  pub some : 0 < length (bytes_of p.text)
+  pub some : 0 < length (items_of p)
   pub placed : IsPlaced p.origin (start_of p.text, end_of p.text)
 
 abbrev AllSet : List Piece → Type 0
@@ -81,16 +101,20 @@ set_called k (p ∷ ps) f = (
   set_called k ps f.2,
 )
 
-set_given : (at k : ℕ) (ss : List Stretch) (ps : List Piece) → Give at k ss ps → AllSet ps
-set_given at k [] ps g = subst AllSet (sym g) tt
-set_given at k (own xs ∷ ss) ps (qs, rs, is, xs_are, o, g) =
-    subst AllSet (sym is) (set_append qs rs (set_own at qs (at + length (sources xs)) o) (set_given (at + length (sources xs)) k ss rs g))
-set_given at k (outer c xs ∷ ss) ps (qs, rs, is, xs_are, o, s, g) =
-    subst AllSet (sym is) (set_append qs rs (set_called k qs o) (set_given (at + length c.source) (suc k) ss rs g))
-set_given at k (text_call s ∷ ss) ps g = set_given at k ss ps g
+set_given : (at k : ℕ) (ss : List Stretch) (ps : List Piece) (to : ℕ) → Give at k ss ps to → AllSet ps
+set_given at k [] ps to g = subst AllSet (sym g.0) tt
+set_given at k (own xs ∷ ss) ps to (qs, rs, mid, is, xs_are, o, g) =
+    subst AllSet (sym is) (set_append qs rs (set_own at qs mid o) (set_given mid k ss rs to g))
+set_given at k (outer c xs ∷ ss) ps to (qs, rs, is, xs_are, o, s, g) =
+    subst AllSet (sym is) (set_append qs rs (set_called k qs o) (set_given (at + length c.source) (suc k) ss rs to g))
+set_given at k (text_call s ∷ ss) ps to g = set_given at k ss ps to g
 
-form_sound : (f : Form) (o : Option ℕ) (bs : List ℕ) → 0 < length bs → AreSoundItems (items_by f o bs) → IsWhole f bs × FitsOrigin f o bs
-form_sound form.Chars o bs l h = (l, tt)
+some_chars : (o : Option ℕ) (bs : List ℕ) → 0 < length (map (char o) bs) → 0 < length bs
+some_chars o [] l = l
+some_chars o (b ∷ bs) l = omega arith
+
+form_sound : (f : Form) (o : Option ℕ) (bs : List ℕ) → 0 < length (items_by f o bs) → AreSoundItems (items_by f o bs) → IsWhole f bs × FitsOrigin f o bs
+form_sound form.Chars o bs l h = (some_chars o bs l, tt)
 form_sound (form.Entity c) o bs l h = h.0
 form_sound form.Nowiki o bs l h = h.0
 form_sound form.Extension o bs l h = h.0
@@ -249,32 +273,33 @@ stand_outer : (cs : List OuterCall) (c : OuterCall) (xs : List Item) (at k : ℕ
 stand_outer cs c xs at k [] rs there start l e f s = absurd (outer_some k c xs (sym e))
 stand_outer cs c xs at k (q ∷ qs) rs there start l e f s = stand_called cs c at k q qs rs there start l f s
 
-stand : (ss : List Stretch) (ps : List Piece) (before : List OuterCall) (at k : ℕ) → k ≡ length before → Give at k ss ps
+stand : (ss : List Stretch) (ps : List Piece) (before : List OuterCall) (at k to : ℕ) → k ≡ length before → Give at k ss ps to
     → Stand (before ++ outer_calls ss) at k ps
-stand [] ps before at k e g = subst (Stand (before ++ []) at k) (sym g)
+stand [] ps before at k to e g = subst (Stand (before ++ []) at k) (sym g.0)
     (record { follow = tt; later = tt; later_once = tt; apart = tt; named = All-nil (IsAmong (before ++ [])) })
-stand (own xs ∷ ss) ps before at k e (qs, rs, is, xs_are, o, g) =
+stand (own xs ∷ ss) ps before at k to e (qs, rs, mid, is, xs_are, o, g) =
     let cs = before ++ outer_calls ss in
-    subst (Stand cs at k) (sym is) (stand_own cs at k (at + length (sources xs)) qs rs o (stand ss rs before (at + length (sources xs)) k e g))
-stand (outer c xs ∷ ss) ps before at k e (qs, rs, is, xs_are, o, start, g) =
+    subst (Stand cs at k) (sym is) (stand_own cs at k mid qs rs o (stand ss rs before mid k to e g))
+stand (outer c xs ∷ ss) ps before at k to e (qs, rs, is, xs_are, o, start, g) =
     let cs = before ++ c ∷ outer_calls ss in
     let there : slice_get cs k ≡ Some c = ap (slice_get cs) e ∙ get_mid before c (outer_calls ss) in
     let same : (before ++ c ∷ []) ++ outer_calls ss ≡ cs = append_assoc before (c ∷ []) (outer_calls ss) in
     let next : suc k ≡ length (before ++ c ∷ []) = let y = length-append before (c ∷ []) in omega (arith, e, y) in
     let l : k < length cs = let y = length-append before (c ∷ outer_calls ss) in omega (arith, e, y) in
-    let rest = subst (λ ds. Stand ds (at + length c.source) (suc k) rs) same (stand ss rs (before ++ c ∷ []) (at + length c.source) (suc k) next g) in
+    let rest = subst (λ ds. Stand ds (at + length c.source) (suc k) rs) same (stand ss rs (before ++ c ∷ []) (at + length c.source) (suc k) to next g) in
     subst (Stand cs at k) (sym is) (stand_outer cs c xs at k qs rs there start l xs_are o rest)
-stand (text_call s ∷ ss) ps before at k e g = stand ss ps before at k e g
+stand (text_call s ∷ ss) ps before at k to e g = stand ss ps before at k to e g
 
 -- ---- the page
 
-pub page_pieces : (pages : Pages) (page : List ℕ) (ss : List Stretch) (ps : List Piece) → IsUtf8 page → AreAlike ss (page_stretches pages page) → Give 0 0 ss ps
+pub page_pieces : (pages : Pages) (page : List ℕ) (ss : List Stretch) (ps : List Piece) (to : ℕ) → IsUtf8 page → AreAlike ss (page_stretches pages page)
+    → Give 0 0 ss ps to
     → AreItems ps (outer_calls ss) (text_spans ss)
-page_pieces pages page ss ps u a g =
-    let s = stand ss ps [] 0 0 refl g in
-    let same = give_items 0 0 ss ps g ∙ a.items 0 in
+page_pieces pages page ss ps to u a g =
+    let s = stand ss ps [] 0 0 to refl g in
+    let same = give_items 0 0 ss ps to g ∙ a.items 0 in
     record {
-      sound_pieces = sound_pieces ps (set_given 0 0 ss ps g) (subst AreSoundItems (sym same) (page_items_sound pages page));
+      sound_pieces = sound_pieces ps (set_given 0 0 ss ps to g) (subst AreSoundItems (sym same) (page_items_sound pages page));
       sound_calls = subst (All IsSoundCall) (sym a.calls) (page_calls_sound pages page u);
       named = s.named;
       follow = s.follow;
@@ -292,10 +317,11 @@ expanded_is : (pages : Pages) (page : List ℕ) → expanded_page pages page
 unfolding expanded_page
 expanded_is pages page = refl
 
-pub page_is_items : (pages : Pages) (page : List ℕ) (ss : List Stretch) (ps : List Piece) → AreAlike ss (page_stretches pages page) → Give 0 0 ss ps
+pub page_is_items : (pages : Pages) (page : List ℕ) (ss : List Stretch) (ps : List Piece) (to : ℕ) → AreAlike ss (page_stretches pages page)
+    → Give 0 0 ss ps to
     → record { items = items ps; outer = outer_calls ss; text_calls = text_spans ss } ≡ expanded_page pages page
-page_is_items pages page ss ps a g =
-    let same = give_items 0 0 ss ps g ∙ a.items 0 in
+page_is_items pages page ss ps to a g =
+    let same = give_items 0 0 ss ps to g ∙ a.items 0 in
     ap (λ xs. let r : Expanded = record { items = xs; outer = outer_calls ss; text_calls = text_spans ss } in r) same
     ∙ ap (λ cs. let r : Expanded = record { items = numbered 0 (page_stretches pages page); outer = cs; text_calls = text_spans ss } in r) a.calls
     ∙ ap (λ ts. let r : Expanded = record {

@@ -260,7 +260,7 @@ sound_outer t at k ms c u w h f l =
 
 -- ---- all calls
 
-calls_append : (ss ts : List Stretch) → outer_calls (ss ++ ts) ≡ outer_calls ss ++ outer_calls ts
+pub calls_append : (ss ts : List Stretch) → outer_calls (ss ++ ts) ≡ outer_calls ss ++ outer_calls ts
 calls_append [] ts = refl
 calls_append (own xs ∷ ss) ts = calls_append ss ts
 calls_append (outer c xs ∷ ss) ts = ap (λ cs. c ∷ cs) (calls_append ss ts)

@@ -20,8 +20,8 @@ pub fn page_is_sound()
 /// Pieces that give the stretches of a page one after another are what the items of a page owe each
 /// other, and these are the expanded page.
 pub fn pieces_are_the_page()
-    ensures owed { (pages : Pages) (page : List ℕ) (ss : List Stretch) (ps : List PieceAt) → IsUtf8 page → AreAlike ss (page_stretches pages page)
-        → Give 0 0 ss ps → AreItems ps (outer_calls ss) (text_spans ss) }
-    ensures same { (pages : Pages) (page : List ℕ) (ss : List Stretch) (ps : List PieceAt) → AreAlike ss (page_stretches pages page) → Give 0 0 ss ps
-        → record { items = items ps; outer = outer_calls ss; text_calls = text_spans ss } ≡ expanded_page pages page }
+    ensures owed { (pages : Pages) (page : List ℕ) (ss : List Stretch) (ps : List PieceAt) (to : ℕ) → IsUtf8 page
+        → AreAlike ss (page_stretches pages page) → Give 0 0 ss ps to → AreItems ps (outer_calls ss) (text_spans ss) }
+    ensures same { (pages : Pages) (page : List ℕ) (ss : List Stretch) (ps : List PieceAt) (to : ℕ) → AreAlike ss (page_stretches pages page)
+        → Give 0 0 ss ps to → record { items = items ps; outer = outer_calls ss; text_calls = text_spans ss } ≡ expanded_page pages page }
 {}

@@ -1,0 +1,57 @@
+//! A page with its templates expanded.
+ghost use Rattle.std.specs.Prelude.{◌≡◌, ◌<◌, ◌^◌, ◌++◌, Some, None, IfErr, IfOk, OnOk, length, option_map};
+ghost use Rattle.wt_expand.specs.Expansion.{page_work};
+ghost use Rattle.wt_expand.specs.PageCalls.{expanded_page};
+ghost use Rattle.wt_expand.specs.Work.{Pages, first_refusal, names_asked};
+ghost use Rattle.wt_transclusion.specs.Answers.{IsCounted, IsRefused};
+
+use crate::walk::{MOST_NESTED, Walk};
+use bumpalo::Bump;
+use std::alloc::Global;
+use wt_levels::{Expansion, Reader, read_page};
+use wt_outer::Folder;
+use wt_span::{Items, List};
+use wt_transclusion::ExpandRefusal;
+
+/// The items of a page with its templates expanded, its outermost calls and arguments, and its text
+/// calls. The templates are taken from a folder, each once, and their texts are kept in the arena.
+///
+/// The machine's stack grows by the templates that are expanded one inside another, and by the
+/// targets of the page that stand one inside another.
+///
+/// # Errors
+///
+/// The first refusal in the order of the work; a fault of the folder; want of memory.
+pub fn expand<'a, F: Folder>(
+    alloc: Global,
+    page: &'a str,
+    arena: &'a Bump<Global>,
+    folder: &mut F,
+) -> Result<Items<'a>, ExpandRefusal>
+    requires { length page.now < 2 ^ 32 }
+    ensures items { (pages : Pages) → F.pages folder.old ≡ Some pages → IfOk result (λ items. items ≡ expanded_page pages page.entry.now) }
+    ensures some { IfOk result (λ items. (pages : Pages) × (items ≡ expanded_page pages page.entry.now)) }
+    ensures whole { (pages : Pages) → F.pages folder.old ≡ Some pages
+        → OnOk result (first_refusal pages page.entry.now (page_work pages page.entry.now) ≡ None) }
+    ensures named { (pages : Pages) → F.pages folder.old ≡ Some pages
+        → OnOk result (F.answered folder.new
+        ≡ option_map (λ names. names ++ names_asked (page_work pages page.entry.now)) (F.answered folder.old)) }
+    ensures refused { (pages : Pages) → F.pages folder.old ≡ Some pages
+        → IfErr result (IsRefused (first_refusal pages page.entry.now (page_work pages page.entry.now))) }
+    ensures kept { F.pages folder.new ≡ F.pages folder.old }
+    ensures count { IsCounted (F.fault_count folder.old) (F.fault_count folder.new) result }
+{
+    let text = read_page(alloc, page, arena)?;
+    let expansion = Expansion::new(alloc, arena);
+    let mut walk = Walk::new(alloc, expansion);
+    walk.stretch(folder, Reader::start(text), page.len() as u32, MOST_NESTED)?;
+    let Walk {
+        alloc: _,
+        expansion: _,
+        found,
+    } = walk;
+    let pieces = List::from_vec(found.pieces);
+    let outer = List::from_vec(found.outer);
+    let text_calls = List::from_vec(found.text_calls);
+    Ok(Items::new(pieces, outer, text_calls))
+}
