@@ -12,7 +12,8 @@ use Rattle.wt_html_elements.specs.declared.content.Content.{Content}
 use Rattle.wt_html_elements.specs.Built.{view_content, pairs, views as markups}
 use Rattle.wt_html_grammar.specs.Events.{append}
 use Rattle.wt_html_in.specs.declared.frame.Found.{Found}
-use Rattle.wt_fitting.specs.Fit.{children_in, with_children, elements, elements_of_all, fit_as, fit_nodes, elements_in, body_in, body_of, Found as FoundBody}
+use Rattle.wt_fitting.specs.Groups.{Piece}
+use Rattle.wt_fitting.specs.Fit.{Misfit, within, with_children, elements, elements_of_all, fit_body_told, body_data, fit_nodes, elements_in, body_in, body_of, Found as FoundBody}
 use Rattle.wt_fitting.specs.Unsourced.{is_marked, unsourced_nodes}
 use Rattle.wt_html_in.specs.Texts.{are_utf8_values, is_utf8_markup, are_utf8_markups}
 use Rattle.wt_html_in.specs.declared.refusal.FitFault.{FitFault}
@@ -21,7 +22,7 @@ use Rattle.wt_html_in.specs.declared.head.Head.{Head}
 use Rattle.wt_html_in.specs.declared.walk.Walk.{Walk}
 use Rattle.wt_html_in.specs.declared.edited.Edited.{Edited}
 use Rattle.wt_html_in.specs.Answers.{body_of as body_told, unsourced_of}
-use Rattle.wt_html_in.specs.Fits.{label_of_head, HeadFits, FitsNodes}
+use Rattle.wt_html_in.specs.Fits.{label_of_head, held_in, BodyFits, FitsNodes}
 use Rattle.wt_html_in.specs.Frame.{found_of, found_if_any, is_element, number_behind_one, number_behind, body_as, is_root, marked_here, FitsBody}
 use Rattle.wt_html_in.proofs.Values.{and_left, and_right}
 use Rattle.wt_html_in.proofs.Walking.{here_or}
@@ -128,37 +129,41 @@ found_sound (node name ps c) f e u = root_sound (is_root name ps) c f e (and_rig
 -- ---- the page of a body
 
 abbrev pub Bodied : ℕ → List Pair → Markups → Result Head FitFault → Type 0
-Bodied n ps c r = HeadFits (λ inside. fit_as n kind.Body ps c (inside kind.Body)) r
+Bodied n ps c r = BodyFits (λ held. fit_body_told n ps (body_data ps) c held) r
 
 pub bodied_at : (n : ℕ) (ps qs : List Pair) (xs ys : List Content) (r : Result Head FitFault) → ps ≡ qs → xs ≡ ys
     → Bodied n ps (markups xs) r → Bodied n qs (markups ys) r
 bodied_at n ps qs xs ys r d e h = rw (sym d, sym e) h
 
+-- what stands in the body
+abbrev inner : ℕ → Markups → Result (List Piece) Misfit
+inner n c = fit_nodes n (within kind.Body false) c
+
 pub body_made : (n : ℕ) (ps : List Pair) (c : Markups) (h : Head) (w v : Walk) (ns : List Node) (b : Node) (e : Edited)
-    → Bodied n ps c (Ok h) → w.next ≡ n + 1 → w.unsourced ≡ marked_here n ps → FitsNodes w kind.Body c v (Ok ns)
-    → view b ≡ tree (label_of_head h) (children_in h.kind (views ns)) → body_told e ≡ view b → unsourced_of e ≡ v.unsourced
+    → Bodied n ps c (Ok h) → w.next ≡ n + 1 → w.unsourced ≡ marked_here n ps → FitsNodes w kind.Body false c v (Ok ns)
+    → view b ≡ tree (label_of_head h) (held_in false h.kind (views ns)) → body_told e ≡ view b → unsourced_of e ≡ v.unsourced
     → FitsBody (Some (found_of n ps c)) (Ok e)
 body_made n ps c h w v ns b e f x y g i j k =
     let s : w.next ≡ suc n = omega (arith, x) in (
-      f (λ z. fit_nodes (suc n) kind.Body false c)
-          ∙ ap (λ z. with_children h.kind (label_of_head h) (fit_nodes z kind.Body false c)) (sym s)
-          ∙ ap (with_children h.kind (label_of_head h)) g.0
+      f (inner (suc n) c)
+          ∙ ap (λ z. with_children false h.kind (label_of_head h) (inner z c)) (sym s)
+          ∙ ap (with_children false h.kind (label_of_head h)) g.1
+          ∙ ap (λ z. Ok (tree (label_of_head h) (held_in false h.kind z))) g.2
           ∙ ap (λ z. Ok z) (sym (j ∙ i)),
-      sym (k ∙ g.1.unsourced ∙ ap (λ z. option_or z (unsourced_nodes w.next c)) y
-          ∙ here_or (is_marked ps) n (unsourced_nodes w.next c)
-          ∙ ap (λ z. if is_marked ps then Some n else unsourced_nodes z c) s),
+      sym (k ∙ g.3.unsourced ∙ ap (λ z. option_or z (unsourced_nodes w.next None c)) y
+          ∙ here_or (is_marked ps) n (unsourced_nodes w.next None c)
+          ∙ ap (λ z. if is_marked ps then Some n else unsourced_nodes z None c) s),
     )
 
 pub body_misfit : (n : ℕ) (ps : List Pair) (c : Markups) (e : FitFault) → Bodied n ps c (Err e) → FitsBody (Some (found_of n ps c)) (Err e)
-body_misfit n ps c (faults.Unfit m y) f = f (λ z. fit_nodes (suc n) kind.Body false c)
+body_misfit n ps c (faults.Unfit m y) f = f (inner (suc n) c)
 body_misfit n ps c faults.NoMemory f = tt
 
 pub body_inside : (n : ℕ) (ps : List Pair) (c : Markups) (h : Head) (w v : Walk) (e : FitFault) → Bodied n ps c (Ok h) → w.next ≡ n + 1
-    → FitsNodes w kind.Body c v (Err e) → FitsBody (Some (found_of n ps c)) (Err e)
+    → FitsNodes w kind.Body false c v (Err e) → FitsBody (Some (found_of n ps c)) (Err e)
 body_inside n ps c h w v (faults.Unfit m y) f x g =
     let s : suc n ≡ w.next = omega (arith, x) in
-    f (λ z. fit_nodes (suc n) kind.Body false c) ∙ ap
-    (λ z. with_children h.kind (label_of_head h) (fit_nodes z kind.Body false c)) s ∙ ap (with_children h.kind (label_of_head h)) g
+    f (inner (suc n) c) ∙ ap (λ z. with_children false h.kind (label_of_head h) (inner z c)) s ∙ ap (with_children false h.kind (label_of_head h)) g
 body_inside n ps c h w v faults.NoMemory f x g = tt
 
 pub fits_at : (f g : Option FoundBody) (r s : Result Edited FitFault) → f ≡ g → r ≡ s → FitsBody g s → FitsBody f r

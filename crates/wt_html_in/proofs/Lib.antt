@@ -1,7 +1,10 @@
+pub mod OwnPairs
+pub mod RolesFound
 pub mod Values
 pub mod Labels
 pub mod Joining
 pub mod Blocks
+pub mod Pieces
 pub mod Walking
 pub mod Frames
 pub mod Standing

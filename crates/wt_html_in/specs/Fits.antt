@@ -1,19 +1,28 @@
 -- What fitting in code answers: what the definitions say, unless memory ran out.
-use Rattle.std.specs.Prelude.{◌≡◌, ℕ, ◌+◌, Bool, false, Option, Some, None, Result, Ok, Err, List, [], ◌∷◌, if◌then◌else◌}
-use Rattle.std.specs.Option.{option_or, option_map}
+use Rattle.std.specs.Prelude.{◌≡◌, ℕ, ◌+◌, ◌&&◌, Bool, true, false, not, Option, Some, None, Result, Ok, Err, List, [], if◌then◌else◌}
+use Rattle.std.specs.Option.{option_or}
 use Rattle.wt_tree.specs.declared.kind.Kind.{Kind}
-use Rattle.wt_tree.specs.Kinds.{is_block}
+use Rattle.wt_tree.specs.Kinds.{is_block, texts_of_kind}
 use Rattle.wt_tree.specs.Tree.{Label, Tree, Trees, label}
 use Rattle.wt_tree.specs.View.{view, views, attrs_of}
 use Rattle.wt_tree.specs.declared.node.Node.{Node}
 use Rattle.wt_html_grammar.specs.Markup.{Pair, Markup, Markups}
+use Rattle.wt_fitting.specs.declared.standing.Standing.{Standing}
+use Rattle.wt_fitting.specs.declared.standing.Standing.TheVariants as stands
+use Rattle.wt_fitting.specs.Groups.{Piece, single, begun, further, gathered}
 use Rattle.wt_fitting.specs.Data.{Data}
-use Rattle.wt_fitting.specs.Fit.{Misfit, with_sync, label_for, with_children, one_tree, elements, elements_of_all, fit_node, fit_nodes}
+use Rattle.wt_fitting.specs.Fit.{Misfit, Spot as Place, within, with_sync, label_for, label_as, group_label, held_as, with_children, elements, elements_of_all, fit_node, fit_nodes}
 use Rattle.wt_fitting.specs.Unsourced.{is_unsourced, unsourced_node, unsourced_nodes}
 use Rattle.wt_html_in.specs.declared.refusal.FitFault.{FitFault}
 use Rattle.wt_html_in.specs.declared.refusal.FitFault.TheVariants as faults
 use Rattle.wt_html_in.specs.declared.head.Head.{Head}
+use Rattle.wt_html_in.specs.declared.head.Headed.{Headed}
+use Rattle.wt_html_in.specs.declared.head.Spot.{Spot}
 use Rattle.wt_html_in.specs.declared.walk.Walk.{Walk}
+use Rattle.wt_html_in.specs.declared.walk.Made.{Made}
+use Rattle.wt_html_in.specs.declared.walk.Made.TheVariants as are
+use Rattle.wt_html_in.specs.declared.roles.Role.{Role}
+use Rattle.wt_html_in.specs.Roles.{role_at}
 
 -- the label of an element without its source
 abbrev pub bare_label : Head → Label
@@ -39,43 +48,117 @@ pub record IsHeadOf (k : Kind) (ps : List Pair) (d : Data) (shown : List ℕ) (h
   pub kind : h.kind ≡ k
   pub label : label_of_head h ≡ label_for k ps d shown
 
--- what an element of a known kind is, whatever comes of what stands in it
-abbrev pub HeadFits : ((Kind → Result Trees Misfit) → Result Tree Misfit) → Result Head FitFault → Type 0
-HeadFits told (Ok h) = (inside : Kind → Result Trees Misfit) → told inside ≡ with_children h.kind (label_of_head h) (inside h.kind)
-HeadFits told (Err (faults.Unfit n w)) = (inside : Kind → Result Trees Misfit) → told inside ≡ Err (n, w)
-HeadFits told (Err faults.NoMemory) = Unit {0}
+-- ---- elements, by how they stand
 
--- the same of an element in a parent
-abbrev pub RowFits : ((Kind → Result Trees Misfit) → Result (Option Tree) Misfit) → Result Head FitFault → Type 0
-RowFits told (Ok h) = (inside : Kind → Result Trees Misfit) → told inside ≡ one_tree (with_children h.kind (label_of_head h) (inside h.kind))
-RowFits told (Err (faults.Unfit n w)) = (inside : Kind → Result Trees Misfit) → told inside ≡ Err (n, w)
-RowFits told (Err faults.NoMemory) = Unit {0}
+abbrev pub is_first : Standing → Bool
+is_first stands.Alone = false
+is_first stands.First = true
+is_first stands.Further = false
+is_first stands.Astray = false
 
--- one, or none
-abbrev pub listed : Option Node → List Node
-listed None = []
-listed (Some n) = n ∷ []
+-- of a group's first element the head of the group is made, too
+abbrev pub IsGroupHead : Standing → List Pair → Data → Option Head → Type 0
+IsGroupHead stands.Alone ps d o = o ≡ None
+IsGroupHead stands.First ps d o = (h : Head) × (o ≡ Some h) × (label_of_head h ≡ group_label ps d)
+IsGroupHead stands.Further ps d o = o ≡ None
+IsGroupHead stands.Astray ps d o = o ≡ None
 
--- an element's number, where it has no source
-abbrev pub unsourced_here : ℕ → List Pair → Option ℕ
-unsourced_here n ps = if is_unsourced ps then Some n else None
+pub record IsHeadedAs (s : Standing) (k : Kind) (ps : List Pair) (d : Data) (shown : List ℕ) (h : Headed) : Type 0 where
+  pub standing : h.standing ≡ s
+  pub kind : h.head.kind ≡ k
+  pub label : label_of_head h.head ≡ label_as s k ps d shown
+  pub group : IsGroupHead s ps d h.group
+
+-- the piece that its node is
+abbrev pub piece_by : Option Head → Standing → Tree → Piece
+piece_by (Some g) s t = begun (label_of_head g) t
+piece_by None stands.Alone t = single t
+piece_by None stands.First t = single t
+piece_by None stands.Further t = further t
+piece_by None stands.Astray t = single t
+
+abbrev pub made_by : Headed → Result Tree Misfit → Result (Option Piece) Misfit
+made_by h (Ok t) = Ok (Some (piece_by h.group h.standing t))
+made_by h (Err e) = Err e
+
+-- what an element of a known kind is, in a group or not, whatever comes of what stands in it
+abbrev pub HeadFits : Bool → ((Kind → Result (List Piece) Misfit) → Result (Option Piece) Misfit) → Result Headed FitFault → Type 0
+HeadFits inside told (Ok h) =
+    (held : Kind → Result (List Piece) Misfit)
+    → told held ≡ made_by h (with_children inside h.head.kind (label_of_head h.head) (held h.head.kind))
+HeadFits inside told (Err (faults.Unfit n w)) = (held : Kind → Result (List Piece) Misfit) → told held ≡ Err (n, w)
+HeadFits inside told (Err faults.NoMemory) = Unit {0}
+
+-- the same of an element in a parent, whichever group is open there
+abbrev pub RowFits : Bool → (Option (List ℕ) → (Kind → Result (List Piece) Misfit) → Result (Option Piece) Misfit) → Result Headed FitFault → Type 0
+RowFits inside told r = (group : Option (List ℕ)) → HeadFits inside (told group) r
+
+-- the body
+abbrev pub BodyFits : (Result (List Piece) Misfit → Result Tree Misfit) → Result Head FitFault → Type 0
+BodyFits told (Ok h) = (held : Result (List Piece) Misfit) → told held ≡ with_children false h.kind (label_of_head h) held
+BodyFits told (Err (faults.Unfit n w)) = (held : Result (List Piece) Misfit) → told held ≡ Err (n, w)
+BodyFits told (Err faults.NoMemory) = Unit {0}
+
+-- a place in the definition's words, with the group that is open there
+abbrev pub spot_with : Spot → Option (List ℕ) → Place
+spot_with s g = record { parent = s.outer; inside = s.inside; behind = s.behind; group = g }
+
+-- what an element of this kind holds, in a group or not
+abbrev pub held_in : Bool → Kind → Trees → Trees
+held_in inside k ts = if inside then ts else held_as (texts_of_kind k) ts
+
+-- ---- sources
+
+-- an element that is asked for its source: a group's first one for the group, and nothing else in a group
+abbrev pub is_asked : Bool → Standing → Bool
+is_asked inside stands.Alone = not inside
+is_asked inside stands.First = not inside
+is_asked inside stands.Further = false
+is_asked inside stands.Astray = not inside
+
+abbrev pub unsourced_here : Bool → Standing → ℕ → List Pair → Option ℕ
+unsourced_here inside s n ps = if is_asked inside s && is_unsourced ps then Some n else None
+
+abbrev pub unsourced_among : Bool → ℕ → Option (List ℕ) → Markups → Option ℕ
+unsourced_among true n g ms = None
+unsourced_among false n g ms = unsourced_nodes n g ms
+
+abbrev pub unsourced_one : Bool → ℕ → Option (List ℕ) → Markup → Option ℕ
+unsourced_one true n g m = None
+unsourced_one false n g m = unsourced_node n g m
 
 -- elements were passed: the next one's number, and the first without a source so far
 pub record Passed (w v : Walk) (count : ℕ) (found : Option ℕ) : Type 0 where
   pub next : v.next ≡ w.next + count
   pub unsourced : v.unsourced ≡ option_or w.unsourced found
 
--- what was made is a block or a list
-abbrev pub is_block_node : Option Tree → Bool
-is_block_node None = false
-is_block_node (Some t) = is_block (label t).kind
+-- ---- what is made
 
-abbrev pub FitsNode : Walk → Kind → Bool → Markup → Walk → Result (Option Node) FitFault → Type 0
-FitsNode w k b m v (Ok o) = (fit_node w.next k b m ≡ Ok (option_map view o)) × Passed w v (elements m) (unsourced_node w.next m)
-FitsNode w k b m v (Err (faults.Unfit n y)) = fit_node w.next k b m ≡ Err (n, y)
-FitsNode w k b m v (Err faults.NoMemory) = Unit {0}
+abbrev pub piece_of : Made → Option Piece
+piece_of are.Nothing = None
+piece_of (are.Single n) = Some (single (view n))
+piece_of (are.Begun h n) = Some (begun (label_of_head h) (view n))
+piece_of (are.Further n) = Some (further (view n))
 
-abbrev pub FitsNodes : Walk → Kind → Markups → Walk → Result (List Node) FitFault → Type 0
-FitsNodes w k ms v (Ok ns) = (fit_nodes w.next k false ms ≡ Ok (views ns)) × Passed w v (elements_of_all ms) (unsourced_nodes w.next ms)
-FitsNodes w k ms v (Err (faults.Unfit n y)) = fit_nodes w.next k false ms ≡ Err (n, y)
-FitsNodes w k ms v (Err faults.NoMemory) = Unit {0}
+-- a block or a list
+abbrev pub is_block_piece : Option Piece → Bool
+is_block_piece None = false
+is_block_piece (Some (single t)) = is_block (label t).kind
+is_block_piece (Some (begun l t)) = is_block (label t).kind
+is_block_piece (Some (further t)) = is_block (label t).kind
+
+-- of a text or an element of this role, before these and with this group open
+abbrev pub FitsPiece : Walk → Spot → Role → Markup → Walk → Result Made FitFault → Type 0
+FitsPiece w s r m v (Ok o) =
+    (g : Option (List ℕ)) (ts : Markups) → r ≡ role_at g m ts
+    → (fit_node w.next (spot_with s g) m ts ≡ Ok (piece_of o)) × Passed w v (elements m) (unsourced_one s.inside w.next g m)
+FitsPiece w s r m v (Err (faults.Unfit n y)) =
+    (g : Option (List ℕ)) (ts : Markups) → r ≡ role_at g m ts → fit_node w.next (spot_with s g) m ts ≡ Err (n, y)
+FitsPiece w s r m v (Err faults.NoMemory) = Unit {0}
+
+abbrev pub FitsNodes : Walk → Kind → Bool → Markups → Walk → Result (List Node) FitFault → Type 0
+FitsNodes w k inside ms v (Ok ns) =
+    (xs : List Piece) × (fit_nodes w.next (within k inside) ms ≡ Ok xs) × (gathered xs ≡ views ns)
+    × Passed w v (elements_of_all ms) (unsourced_among inside w.next None ms)
+FitsNodes w k inside ms v (Err (faults.Unfit n y)) = fit_nodes w.next (within k inside) ms ≡ Err (n, y)
+FitsNodes w k inside ms v (Err faults.NoMemory) = Unit {0}

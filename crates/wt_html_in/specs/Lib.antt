@@ -1,6 +1,9 @@
 pub mod Texts
 pub mod Told
 pub mod Sources
+pub mod Words
+pub mod Roles
+pub mod Gathering
 pub mod Fits
 pub mod Answers
 pub mod Frame

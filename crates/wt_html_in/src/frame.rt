@@ -6,7 +6,7 @@ ghost use Rattle.wt_html_in.specs.Frame.{found_of, found_if_any, is_element, num
 
 use crate::attributes::{has, is_marked, is_typed};
 use crate::edited::Edited;
-use crate::head::head_as;
+use crate::head::body_head;
 use crate::nodes::node_of;
 use crate::number::id_of;
 use crate::refusal::FitFault;
@@ -209,16 +209,10 @@ fn edited<'a>(
     requires utf8 { are_utf8_markups (views contents.items) ≡ true }
     ensures { FitsBody (Some (found_of number (pairs attributes.items) (views contents.items))) result }
 {
-    let head = head_as(
-        alloc,
-        number,
-        Kind::Body,
-        attributes.as_slice(),
-        contents.as_slice(),
-    )?;
+    let head = body_head(alloc, number, attributes.as_slice(), contents.as_slice())?;
     let mut walk = walk_in(number, attributes);
-    let children = nodes(alloc, arena, &mut walk, Kind::Body, contents)?;
-    let body = node_of(alloc, arena, head, children)?;
+    let children = nodes(alloc, arena, &mut walk, Kind::Body, false, contents)?;
+    let body = node_of(alloc, arena, false, head, children)?;
     Ok(Edited::of(body, walk.unsourced))
 }
 

@@ -3,8 +3,8 @@ ghost use Rattle.std.specs.Str.{is_utf8};
 ghost use Rattle.wt_tree.specs.Tree.{tree, none as no_trees};
 ghost use Rattle.wt_tree.specs.View.{view, views, texts_of};
 ghost use Rattle.wt_tree.specs.Recut.{leaf_label, text_leaf, sep_leaf};
-ghost use Rattle.wt_fitting.specs.Fit.{leaf_in, children_in, source_of};
-ghost use Rattle.wt_html_in.specs.Fits.{label_of_head};
+ghost use Rattle.wt_fitting.specs.Fit.{leaf_in, source_of};
+ghost use Rattle.wt_html_in.specs.Fits.{label_of_head, held_in};
 ghost use Rattle.wt_html_in.specs.Sources.{source_view, source_told, sourced_label};
 
 use crate::attributes::text_of;
@@ -201,15 +201,19 @@ fn sourced<'a>(head: Head, source: Source<'a>, children: List<Node<'a>>) -> Node
 }
 
 /// What an element of this kind holds, when the nodes that stand in it are these: in an item, a cell or
-/// a caption texts and separators are cut at the border between them.
+/// a caption texts and separators are cut at the border between them, but for those in groups.
 fn children_in<'a>(
     alloc: Global,
+    inside: bool,
     kind: Kind,
     nodes: List<Node<'a>>,
 ) -> Result<List<Node<'a>>, FitFault>
-    ensures children { IfOk result (λ l. views l ≡ children_in kind (views nodes.entry)) }
+    ensures children { IfOk result (λ l. views l ≡ held_in inside kind (views nodes.entry)) }
     ensures memory { IfErr result (λ e. e ≡ FitFault.NoMemory) }
 {
+    if inside {
+        return Ok(nodes);
+    }
     match kind.shape().texts {
         Texts::Bordered => {
             let cut = recut_texts(alloc, nodes)?;
@@ -226,13 +230,14 @@ fn children_in<'a>(
 pub fn node_of<'a>(
     alloc: Global,
     arena: &'a Bump<Global>,
+    inside: bool,
     head: Head,
     nodes: List<Node<'a>>,
 ) -> Result<Node<'a>, FitFault>
-    ensures node { IfOk result (λ n. view n ≡ tree (label_of_head head) (children_in head.kind (views nodes.entry))) }
+    ensures node { IfOk result (λ n. view n ≡ tree (label_of_head head) (held_in inside head.kind (views nodes.entry))) }
     ensures memory { IfErr result (λ e. e ≡ FitFault.NoMemory) }
 {
     let source = source_for(alloc, arena, &head.sync)?;
-    let children = children_in(alloc, head.kind, nodes)?;
+    let children = children_in(alloc, inside, head.kind, nodes)?;
     Ok(sourced(head, source, children))
 }

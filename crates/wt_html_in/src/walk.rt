@@ -1,17 +1,25 @@
-ghost use Rattle.std.specs.Prelude.{◌≡◌, ◌+◌, ◌<◌, ◌^◌, ◌++◌, ◌||◌, true, option_map, OnOk, IfErr};
-ghost use Rattle.wt_tree.specs.View.{view};
+ghost use Rattle.std.specs.Prelude.{◌≡◌, ◌+◌, ◌<◌, ◌^◌, ◌&&◌, ◌||◌, true, Some, option_map, IfOk, OnOk, IfErr};
+ghost use Rattle.std.specs.Str.{is_utf8};
+ghost use Rattle.wt_tree.specs.Tree.{tree, none as no_trees, more as one_more};
+ghost use Rattle.wt_tree.specs.View.{view, views as trees};
+ghost use Rattle.wt_tree.specs.Recutting.{appended};
 ghost use Rattle.wt_html_elements.specs.Built.{view_content, pairs, views};
-ghost use Rattle.wt_fitting.specs.Rows.{row};
-ghost use Rattle.wt_fitting.specs.Fit.{fit_row, elements, elements_of_all};
+ghost use Rattle.wt_fitting.specs.Groups.{is_grouped, single};
+ghost use Rattle.wt_fitting.specs.Fit.{leaf_in, row_as, fit_row, elements, elements_of_all};
+ghost use Rattle.wt_fitting.specs.Unsourced.{is_unsourced};
 ghost use Rattle.wt_html_in.specs.Texts.{are_utf8_values, is_utf8_markup, are_utf8_markups};
-ghost use Rattle.wt_html_in.specs.Fits.{RowFits, listed, is_block_node, FitsNode, FitsNodes, Passed, unsourced_here};
+ghost use Rattle.wt_html_in.specs.Roles.{text_piece};
+ghost use Rattle.wt_html_in.specs.Gathering.{with_child, into_last, gathered_with};
+ghost use Rattle.wt_html_in.specs.Fits.{RowFits, spot_with, label_of_head, piece_by, is_block_piece, piece_of, FitsPiece, FitsNodes, Passed, is_asked, unsourced_here};
 
 use crate::attributes::is_unsourced;
-use crate::head::{Head, head_in};
+use crate::head::{Head, Headed, Spot, headed_by};
 use crate::nodes::{leaf_in, node_of};
 use crate::refusal::FitFault;
+use crate::roles::{Role, is_grouped, role_in, roles, standing_in};
 use bumpalo::Bump;
 use std::alloc::Global;
+use wt_fitting::Standing;
 use wt_html_elements::{Attribute, Content};
 use wt_span::List;
 use wt_tree::{Kind, Node};
@@ -24,14 +32,33 @@ pub struct Walk {
     pub unsourced: Option<u32>,
 }
 
-/// Passes the start of an element; it gives the element's number.
-fn enter(walk: &mut Walk, attributes: &[Attribute]) -> u32
+/// Whether an element is asked for its source: of a group the first one is, and nothing else in one.
+fn is_asked(inside: bool, standing: Standing) -> bool
+    ensures { result ≡ is_asked inside standing }
+{
+    match standing {
+        Standing::Alone => !inside,
+        Standing::First => !inside,
+        Standing::Further => false,
+        Standing::Astray => !inside,
+    }
+}
+
+/// Whether an element is asked for its source and has none.
+fn lacks_source(inside: bool, standing: Standing, attributes: &[Attribute]) -> bool
+    ensures { result ≡ (is_asked inside standing && is_unsourced (pairs attributes.now)) }
+{
+    is_asked(inside, standing) && is_unsourced(attributes)
+}
+
+/// Passes the start of an element, in a group or not; it gives the element's number.
+fn enter(walk: &mut Walk, inside: bool, standing: Standing, attributes: &[Attribute]) -> u32
     requires { walk.old.next + 1 < 2 ^ 32 }
     ensures number { result ≡ walk.old.next }
-    ensures passed { Passed walk.old walk.new 1 (unsourced_here walk.old.next (pairs attributes.now)) }
+    ensures passed { Passed walk.old walk.new 1 (unsourced_here inside standing walk.old.next (pairs attributes.now)) }
 {
     let number = walk.next;
-    if walk.unsourced.is_none() && is_unsourced(attributes) {
+    if walk.unsourced.is_none() && lacks_source(inside, standing, attributes) {
         walk.unsourced = Some(number);
     }
     walk.next = number + 1;
@@ -42,112 +69,263 @@ fn enter(walk: &mut Walk, attributes: &[Attribute]) -> u32
 fn begin(
     alloc: Global,
     walk: &mut Walk,
-    outer: Kind,
-    behind: bool,
+    spot: Spot,
+    standing: Standing,
     name: Vec<u8>,
     attributes: Vec<Attribute>,
     contents: &[Content],
-) -> Result<Head, FitFault>
+) -> Result<Headed, FitFault>
     requires few { walk.old.next + 1 < 2 ^ 32 }
     requires values { are_utf8_values (pairs attributes.items) ≡ true }
     requires texts { are_utf8_markups (views contents.now) ≡ true }
-    ensures head { RowFits (λ inside. fit_row walk.old.next outer behind (row name.items (pairs attributes.items)) (pairs attributes.items)
-        (views contents.now) inside) result }
-    ensures passed { Passed walk.old walk.new 1 (unsourced_here walk.old.next (pairs attributes.items)) }
+    ensures headed { RowFits (spot.inside || is_grouped standing)
+        (λ group held. fit_row walk.old.next (spot_with spot group) standing (row_as standing name.items (pairs attributes.items)) (pairs attributes.items)
+        (views contents.now) held) result }
+    ensures passed { Passed walk.old walk.new 1 (unsourced_here spot.inside standing walk.old.next (pairs attributes.items)) }
 {
-    let number = enter(walk, attributes.as_slice());
-    head_in(
+    let number = enter(walk, spot.inside, standing, attributes.as_slice());
+    headed_by(
         alloc,
         number,
-        outer,
-        behind,
+        spot,
+        standing,
         name.as_slice(),
         attributes.as_slice(),
         contents,
     )
 }
 
-/// Puts a node behind others, where there is one.
-fn push_if_any<'a>(nodes: &mut Vec<Node<'a>>, node: Option<Node<'a>>) -> Result<(), FitFault>
-    ensures pushed { OnOk result (nodes.new.items ≡ nodes.old.items ++ listed node.entry) }
+/// What a text or an element is made into: nothing, a node by itself, the head of a group with its first
+/// node, or one more node of the group before it.
+#[derive(Drop)]
+pub enum Made<'a> {
+    Nothing,
+    Single(Node<'a>),
+    Begun { group: Head, first: Node<'a> },
+    Further(Node<'a>),
+}
+
+/// What the node of an element is, by how it stands.
+fn made_of<'a>(standing: Standing, group: Option<Head>, node: Node<'a>) -> Made<'a>
+    ensures { piece_of result ≡ Some (piece_by group standing (view node.entry)) }
+{
+    match group {
+        Some(group) => Made::Begun { group, first: node },
+        None => match standing {
+            Standing::Alone => Made::Single(node),
+            Standing::First => Made::Single(node),
+            Standing::Further => Made::Further(node),
+            Standing::Astray => Made::Single(node),
+        },
+    }
+}
+
+/// Whether one of the nodes up to this is a block or a list, in a group or not.
+fn is_behind(behind: bool, made: &Made<'_>) -> bool
+    ensures { result ≡ (behind || is_block_piece (piece_of made.now)) }
+{
+    match made {
+        Made::Nothing => behind,
+        Made::Single(node) => behind || node.kind.is_block(),
+        Made::Begun { first, .. } => behind || first.kind.is_block(),
+        Made::Further(node) => behind || node.kind.is_block(),
+    }
+}
+
+/// A node with one more child.
+#[tactic(auto, using(crate::proofs::Pieces::views_push))]
+fn with_child<'a>(node: Node<'a>, child: Node<'a>) -> Result<Node<'a>, FitFault>
+    ensures node { IfOk result (λ n. view n ≡ with_child (view node.entry) (view child.entry)) }
     ensures memory { IfErr result (λ e. e ≡ FitFault.NoMemory) }
 {
-    match node {
+    let mut node = node;
+    node.children.push(child)?;
+    Ok(node)
+}
+
+/// Puts a node into the last one, where there is one.
+#[tactic(auto, using(crate::proofs::Pieces::views_push, crate::proofs::Pieces::into_pushed))]
+fn push_into_last<'a>(nodes: &mut Vec<Node<'a>>, node: Node<'a>) -> Result<(), FitFault>
+    ensures pushed { OnOk result (trees nodes.new.items ≡ into_last (trees nodes.old.items) (view node.entry)) }
+    ensures memory { IfErr result (λ e. e ≡ FitFault.NoMemory) }
+{
+    match nodes.pop() {
         None => Ok(()),
-        Some(node) => {
-            nodes.push(node)?;
+        Some(last) => {
+            let last = with_child(last, node)?;
+            nodes.push(last)?;
             Ok(())
         }
     }
 }
 
-/// Whether the nodes up to this one have a block or a list among them.
-fn is_behind(behind: bool, node: &Option<Node<'_>>) -> bool
-    ensures { result ≡ (behind || is_block_node (option_map view node.now)) }
+#[tactic(auto, using(crate::proofs::Pieces::views_push))]
+fn push_node<'a>(nodes: &mut Vec<Node<'a>>, node: Node<'a>) -> Result<(), FitFault>
+    ensures pushed { OnOk result (trees nodes.new.items ≡ appended (trees nodes.old.items) (one_more (view node.entry) no_trees)) }
+    ensures memory { IfErr result (λ e. e ≡ FitFault.NoMemory) }
 {
-    match node {
-        None => behind,
-        Some(node) => behind || node.kind.is_block(),
+    nodes.push(node)?;
+    Ok(())
+}
+
+/// The node of a group with its first child.
+fn group_node<'a>(
+    alloc: Global,
+    arena: &'a Bump<Global>,
+    group: Head,
+    first: Node<'a>,
+) -> Result<Node<'a>, FitFault>
+    ensures node { IfOk result (λ n. view n ≡ tree (label_of_head group) (one_more (view first.entry) no_trees)) }
+    ensures memory { IfErr result (λ e. e ≡ FitFault.NoMemory) }
+{
+    let children = Vec::from_array(alloc, [first])?;
+    node_of(alloc, arena, true, group, List::from_vec(children))
+}
+
+/// Puts what was made behind others.
+fn push_made<'a>(
+    alloc: Global,
+    arena: &'a Bump<Global>,
+    nodes: &mut Vec<Node<'a>>,
+    made: Made<'a>,
+) -> Result<(), FitFault>
+    ensures pushed { OnOk result (trees nodes.new.items ≡ gathered_with (trees nodes.old.items) (piece_of made.entry)) }
+    ensures memory { IfErr result (λ e. e ≡ FitFault.NoMemory) }
+{
+    match made {
+        Made::Nothing => Ok(()),
+        Made::Single(node) => push_node(nodes, node),
+        Made::Begun { group, first } => {
+            let node = group_node(alloc, arena, group, first)?;
+            push_node(nodes, node)
+        }
+        Made::Further(node) => push_into_last(nodes, node),
     }
 }
 
-/// What a text or an element stands for in one of the kind `outer`, behind a block or not.
+/// What a text is made into.
+fn leaf_made<'a>(
+    alloc: Global,
+    arena: &'a Bump<Global>,
+    outer: Kind,
+    bytes: &[u8],
+) -> Result<Made<'a>, FitFault>
+    requires { is_utf8 bytes.now ≡ true }
+    ensures made { IfOk result (λ m. piece_of m ≡ option_map single (leaf_in outer bytes.now)) }
+    ensures memory { IfErr result (λ e. e ≡ FitFault.NoMemory) }
+{
+    match leaf_in(alloc, arena, outer, bytes)? {
+        None => Ok(Made::Nothing),
+        Some(leaf) => Ok(Made::Single(leaf)),
+    }
+}
+
+/// What a text of this role is made into.
+fn text_made<'a>(
+    alloc: Global,
+    arena: &'a Bump<Global>,
+    role: Role,
+    outer: Kind,
+    bytes: &[u8],
+) -> Result<Made<'a>, FitFault>
+    requires { is_utf8 bytes.now ≡ true }
+    ensures made { IfOk result (λ m. piece_of m ≡ text_piece role outer bytes.now) }
+    ensures memory { IfErr result (λ e. e ≡ FitFault.NoMemory) }
+{
+    match role {
+        Role::Gap => Ok(Made::Nothing),
+        Role::Text => leaf_made(alloc, arena, outer, bytes),
+        Role::Element(_) => leaf_made(alloc, arena, outer, bytes),
+    }
+}
+
+/// Whether what stands in an element is in a group.
+fn is_within(inside: bool, standing: Standing) -> bool
+    ensures { result ≡ (inside || is_grouped standing) }
+{
+    inside || is_grouped(standing)
+}
+
+/// What a text or an element of this role is made into, where it stands.
 #[cycle(fitting)]
-fn node<'a>(
+fn piece<'a>(
     alloc: Global,
     arena: &'a Bump<Global>,
     walk: &mut Walk,
-    outer: Kind,
-    behind: bool,
+    spot: Spot,
+    role: Role,
     content: Content,
-) -> Result<Option<Node<'a>>, FitFault>
+) -> Result<Made<'a>, FitFault>
     requires few { walk.old.next + elements (view_content content) < 2 ^ 32 }
     requires utf8 { is_utf8_markup (view_content content) ≡ true }
-    ensures { FitsNode walk.old outer behind (view_content content) walk.new result }
+    ensures { FitsPiece walk.old spot role (view_content content) walk.new result }
 {
     match content {
-        Content::Text(bytes) => leaf_in(alloc, arena, outer, bytes.as_slice()),
+        Content::Text(bytes) => text_made(alloc, arena, role, spot.outer, bytes.as_slice()),
         Content::Element {
             name,
             attributes,
             contents,
         } => {
-            let head = begin(
+            let standing = standing_in(role);
+            let headed = begin(
                 alloc,
                 walk,
-                outer,
-                behind,
+                spot,
+                standing,
                 name,
                 attributes,
                 contents.as_slice(),
             )?;
-            let children = nodes(alloc, arena, walk, head.kind, contents)?;
-            let node = node_of(alloc, arena, head, children)?;
-            Ok(Some(node))
+            let Headed {
+                standing: told,
+                group,
+                head,
+            } = headed;
+            let inside = is_within(spot.inside, standing);
+            let children = nodes(alloc, arena, walk, head.kind, inside, contents)?;
+            let node = node_of(alloc, arena, inside, head, children)?;
+            Ok(made_of(told, group, node))
         }
     }
 }
 
-/// What stands in an element of the kind `outer`. Each text and element is let go as soon as its
-/// node is made.
+/// What stands in an element of the kind `outer`, in a group or not. Each text and element is let go as
+/// soon as its node is made.
 #[cycle(fitting)]
 pub fn nodes<'a>(
     alloc: Global,
     arena: &'a Bump<Global>,
     walk: &mut Walk,
     outer: Kind,
+    inside: bool,
     contents: Vec<Content>,
 ) -> Result<List<Node<'a>>, FitFault>
     requires few { walk.old.next + elements_of_all (views contents.items) < 2 ^ 32 }
     requires utf8 { are_utf8_markups (views contents.items) ≡ true }
-    ensures { FitsNodes walk.old outer (views contents.items) walk.new result }
+    ensures { FitsNodes walk.old outer inside (views contents.items) walk.new result }
 {
+    let roles = roles(alloc, contents.as_slice())?;
     let mut children = Vec::with_capacity(alloc, contents.len())?;
     let mut behind = false;
+    let mut at = 0;
     for content in contents {
-        let child = node(alloc, arena, walk, outer, behind, content)?;
-        behind = is_behind(behind, &child);
-        push_if_any(&mut children, child)?;
+        let spot = Spot {
+            outer,
+            inside,
+            behind,
+        };
+        let made = piece(
+            alloc,
+            arena,
+            walk,
+            spot,
+            role_in(roles.as_slice(), at),
+            content,
+        )?;
+        behind = is_behind(behind, &made);
+        push_made(alloc, arena, &mut children, made)?;
+        at += 1;
     }
     Ok(List::from_vec(children))
 }

@@ -1,93 +1,109 @@
-use Rattle.std.proofs.Common.{◌≡◌, rules, Some, Ok, Err, [], ◌∷◌, ◌++◌, sym, refl, ◌∙◌}
+use Rattle.std.proofs.Common.{◌≡◌, rules, false, None, Ok, Err, [], ◌∷◌, sym, refl, ap, ◌∙◌}
 use Rattle.std.specs.Vec.Iter.{into_iter_items}
-use Rattle.wt_tree.specs.View.{views}
-use Rattle.wt_html_grammar.specs.Markup.{node}
+use Rattle.wt_html_grammar.specs.Markup.{text, node}
 use Rattle.wt_html_elements.specs.declared.content.Content.{fold-roll-Content, the_lemmas}
 use Rattle.wt_html_elements.specs.Built.{view_content, pairs, views as markups}
-use Rattle.wt_html_in.specs.Fits.{listed}
-use Rattle.wt_html_in.proofs.Walking.{headed_at, node_at, nodes_at, node_memory, element_ok, element_misfit, element_inside, no_items, going_on, going_end, going_err, going_at}
+use Rattle.wt_html_in.specs.Roles.{roles}
+use Rattle.wt_html_in.proofs.Walking.{begun_at, within_at, piece_at, nodes_at, text_result, element_ok, element_misfit, element_inside, no_items, going_start, going_on, going_end, going_err, going_at}
 use Rattle.wt_html_in.proofs.walk.+fitting.Goals as goal
 
-pub node-returns-in_err-head-in-Element : goal.node-returns-in_err-head-in-Element
-node-returns-in_err-head-in-Element t c =
-    let e : view_content c.args.content ≡ node c.in-Element.name.items (pairs c.in-Element.attributes.items)
-    (markups c.in-Element.contents.items) = search (rules, the_lemmas, fold-roll-Content) in
-    let r : c.from_residual.result ≡ Err c.in_err-head-in-Element.field-0.0 = search rules in
-    node_at c.args.walk.now c.begin.new.walk c.args.outer c.args.behind (view_content c.args.content) _ c.from_residual.result
-    (Err c.in_err-head-in-Element.field-0.0) e r
-    (element_misfit c.args.walk.now c.begin.new.walk c.args.outer c.args.behind c.in-Element.name.items
-    (pairs c.in-Element.attributes.items) (markups c.in-Element.contents.items) c.in_err-head-in-Element.field-0.0
-    (headed_at c.args.walk.now c.args.outer c.args.behind c.in-Element.name.items
-    (pairs c.in-Element.attributes.items) c.as_slice-in-Element.result.now c.in-Element.contents.items
-    (Err c.in_err-head-in-Element.field-0.0) c.as_slice-in-Element.ensures.value c.in_err-head-in-Element.ensures.head))
+pub piece-returns-in-Text : goal.piece-returns-in-Text
+piece-returns-in-Text t c =
+    let e : view_content c.args.content ≡ text c.in-Text.bytes.items = search (rules, the_lemmas, fold-roll-Content) in
+    piece_at c.args.walk.now c.args.walk.now c.args.spot c.args.role (view_content c.args.content) (text c.as_slice.result.now)
+    c.text_made.result c.text_made.result (e ∙ sym (ap text c.as_slice.ensures.value)) refl
+    (text_result c.args.walk.now c.args.spot c.args.role c.as_slice.result.now c.text_made.result c.text_made.ensures.made c.text_made.ensures.memory)
 
-pub node-returns-in_err-children-in-Element : goal.node-returns-in_err-children-in-Element
-node-returns-in_err-children-in-Element t c =
+pub piece-returns-in_err-headed-in-Element : goal.piece-returns-in_err-headed-in-Element
+piece-returns-in_err-headed-in-Element t c =
     let e : view_content c.args.content ≡ node c.in-Element.name.items (pairs c.in-Element.attributes.items)
     (markups c.in-Element.contents.items) = search (rules, the_lemmas, fold-roll-Content) in
+    let z = c.standing_in-standing.result in
+    let ps = pairs c.in-Element.attributes.items in
+    let ms = markups c.in-Element.contents.items in
+    let r : c.from_residual.result ≡ Err c.in_err-headed-in-Element.field-0.0 = search rules in
+    piece_at c.args.walk.now c.begin.new.walk c.args.spot c.args.role (view_content c.args.content) _ c.from_residual.result
+    (Err c.in_err-headed-in-Element.field-0.0) e r
+    (element_misfit c.args.walk.now c.begin.new.walk c.args.spot c.args.role z c.in-Element.name.items ps ms c.in_err-headed-in-Element.field-0.0
+    c.standing_in-standing.ensures
+    (begun_at c.args.walk.now c.args.spot z c.in-Element.name.items ps c.as_slice-in-Element.result.now c.in-Element.contents.items
+    (Err c.in_err-headed-in-Element.field-0.0) c.as_slice-in-Element.ensures.value c.in_err-headed-in-Element.ensures.headed))
+
+pub piece-returns-in_err-children-in-Element : goal.piece-returns-in_err-children-in-Element
+piece-returns-in_err-children-in-Element t c =
+    let e : view_content c.args.content ≡ node c.in-Element.name.items (pairs c.in-Element.attributes.items)
+    (markups c.in-Element.contents.items) = search (rules, the_lemmas, fold-roll-Content) in
+    let z = c.standing_in-standing.result in
+    let ps = pairs c.in-Element.attributes.items in
+    let ms = markups c.in-Element.contents.items in
     let r : c.from_residual-in_err-children-in-Element.result ≡ Err c.in_err-children-in-Element.field-0.0 = search rules in
-    node_at c.args.walk.now c.nodes.new.walk c.args.outer c.args.behind (view_content c.args.content) _ c.from_residual-in_err-children-in-Element.result
+    piece_at c.args.walk.now c.nodes.new.walk c.args.spot c.args.role (view_content c.args.content) _ c.from_residual-in_err-children-in-Element.result
     (Err c.in_err-children-in-Element.field-0.0) e r
-    (element_inside c.args.walk.now c.begin.new.walk c.nodes.new.walk c.nodes.new.walk c.args.outer c.args.behind
-    c.in-Element.name.items (pairs c.in-Element.attributes.items)
-    (markups c.in-Element.contents.items) c.in_ok-head-in-Element.head c.in_err-children-in-Element.field-0.0
-    (headed_at c.args.walk.now c.args.outer c.args.behind c.in-Element.name.items
-    (pairs c.in-Element.attributes.items) c.as_slice-in-Element.result.now c.in-Element.contents.items
-    (Ok c.in_ok-head-in-Element.head) c.as_slice-in-Element.ensures.value c.in_ok-head-in-Element.ensures.head)
-    c.begin.ensures.passed c.in_err-children-in-Element.ensures)
+    (element_inside c.args.walk.now c.begin.new.walk c.nodes.new.walk c.nodes.new.walk c.args.spot c.args.role z c.in-Element.name.items ps ms
+    c.in_ok-headed-in-Element.headed c.in_err-children-in-Element.field-0.0 c.standing_in-standing.ensures
+    (begun_at c.args.walk.now c.args.spot z c.in-Element.name.items ps c.as_slice-in-Element.result.now c.in-Element.contents.items
+    (Ok c.in_ok-headed-in-Element.headed) c.as_slice-in-Element.ensures.value c.in_ok-headed-in-Element.ensures.headed)
+    c.begin.ensures.passed
+    (within_at c.begin.new.walk c.nodes.new.walk c.in_ok-headed-in-Element.headed.head.kind _ c.is_within-inside.result ms
+    (Err c.in_err-children-in-Element.field-0.0) c.is_within-inside.ensures c.in_err-children-in-Element.ensures))
 
-pub node-returns-in_err-node-in-Element : goal.node-returns-in_err-node-in-Element
-node-returns-in_err-node-in-Element t c =
-    let e = c.in_err-node-in-Element.field-0.0 in
-    let r : c.from_residual-in_err-node-in-Element.result ≡ Err e = search rules in
-    node_at c.args.walk.now c.nodes.new.walk c.args.outer c.args.behind (view_content c.args.content)
-    (view_content c.args.content) c.from_residual-in_err-node-in-Element.result (Err e) refl r
-    (node_memory c.args.walk.now c.nodes.new.walk c.args.outer c.args.behind (view_content c.args.content) e c.in_err-node-in-Element.ensures.memory)
-
-pub node-returns-in_ok-node-in-Element : goal.node-returns-in_ok-node-in-Element
-node-returns-in_ok-node-in-Element t c =
+pub piece-returns-in_ok-node-in-Element : goal.piece-returns-in_ok-node-in-Element
+piece-returns-in_ok-node-in-Element t c =
     let e : view_content c.args.content ≡ node c.in-Element.name.items (pairs c.in-Element.attributes.items)
     (markups c.in-Element.contents.items) = search (rules, the_lemmas, fold-roll-Content) in
-    let n = c.in_ok-node-in-Element.node in
-    node_at c.args.walk.now c.nodes.new.walk c.args.outer c.args.behind (view_content c.args.content) _ (Ok (Some n)) (Ok (Some n)) e refl
-    (element_ok c.args.walk.now c.begin.new.walk c.nodes.new.walk c.args.outer c.args.behind c.in-Element.name.items
-    (pairs c.in-Element.attributes.items) (markups c.in-Element.contents.items)
-    c.in_ok-head-in-Element.head c.in_ok-children-in-Element.children n
-    (headed_at c.args.walk.now c.args.outer c.args.behind c.in-Element.name.items
-    (pairs c.in-Element.attributes.items) c.as_slice-in-Element.result.now c.in-Element.contents.items
-    (Ok c.in_ok-head-in-Element.head) c.as_slice-in-Element.ensures.value c.in_ok-head-in-Element.ensures.head)
-    c.begin.ensures.passed c.in_ok-children-in-Element.ensures c.in_ok-node-in-Element.ensures.node)
+    let z = c.standing_in-standing.result in
+    let ps = pairs c.in-Element.attributes.items in
+    let ms = markups c.in-Element.contents.items in
+    let h = c.in_ok-headed-in-Element.headed in
+    piece_at c.args.walk.now c.nodes.new.walk c.args.spot c.args.role (view_content c.args.content) _ (Ok c.made_of.result) (Ok c.made_of.result) e refl
+    (element_ok c.args.walk.now c.begin.new.walk c.nodes.new.walk c.args.spot c.args.role z c.in-Element.name.items ps ms
+    h c.in_ok-children-in-Element.children c.in_ok-node-in-Element.node c.made_of.result c.standing_in-standing.ensures
+    (begun_at c.args.walk.now c.args.spot z c.in-Element.name.items ps c.as_slice-in-Element.result.now c.in-Element.contents.items
+    (Ok h) c.as_slice-in-Element.ensures.value c.in_ok-headed-in-Element.ensures.headed)
+    c.begin.ensures.passed
+    (within_at c.begin.new.walk c.nodes.new.walk h.head.kind _ c.is_within-inside.result ms
+    (Ok c.in_ok-children-in-Element.children) c.is_within-inside.ensures c.in_ok-children-in-Element.ensures)
+    (rw (sym c.is_within-inside.ensures) c.in_ok-node-in-Element.ensures.node)
+    c.made_of.ensures)
 
-pub nodes-returns-in_err-child : goal.nodes-returns-in_err-child
-nodes-returns-in_err-child t c =
-    let r : c.from_residual-in_err-child.result ≡ Err c.in_err-child.field-0.0 = search rules in
+pub nodes-loop-content-init : goal.nodes-loop-content-init
+nodes-loop-content-init t c =
+    let b : into_iter_items c.into_iter-content-iterator.result ≡ c.args.contents.items = search rules in
+    going_at c.args.walk.now c.args.outer c.args.inside c.in_ok-children.children.items c.in_ok-children.children.items c.args.walk.now false
+    c.in_ok-roles.roles.items c.args.contents.items _ c.args.contents.items _ refl b b
+    (going_start c.args.walk.now c.args.outer c.args.inside (markups c.args.contents.items) c.in_ok-children.children.items false c.in_ok-roles.roles.items
+    c.in_ok-children.ensures.items refl (c.in_ok-roles.ensures.roles ∙ ap (λ xs. roles None (markups xs)) c.as_slice.ensures.value)
+    c.requires.few c.requires.utf8)
+
+pub nodes-returns-in_err-made : goal.nodes-returns-in_err-made
+nodes-returns-in_err-made t c =
+    let r : c.from_residual-in_err-made.result ≡ Err c.in_err-made.field-0.0 = search rules in
     let s : into_iter_items c.loop-content.content-iterator ≡ c.in-Some.content ∷ into_iter_items c.next.new.self = search rules in
     let b : into_iter_items c.into_iter-content-iterator.result ≡ c.args.contents.items = search rules in
-    nodes_at c.args.walk.now c.node.new.walk c.args.outer (markups c.args.contents.items) c.from_residual-in_err-child.result (Err c.in_err-child.field-0.0) r
-    (going_err c.args.walk.now c.args.outer (markups c.args.contents.items)
-    (views c.loop-content.children.items) c.loop-content.walk c.node.new.walk c.node.new.walk c.loop-content.behind
-    (view_content c.in-Some.content) (markups (into_iter_items c.next.new.self)) c.in_err-child.field-0.0
-    (going_at c.args.walk.now c.args.outer c.loop-content.children.items c.loop-content.children.items c.loop-content.walk
-    c.loop-content.behind _ _ _ _ refl (sym b) (sym s) c.loop-content.invariant)
-    c.in_err-child.ensures)
+    nodes_at c.args.walk.now c.piece.new.walk c.args.outer c.args.inside (markups c.args.contents.items) c.from_residual-in_err-made.result
+    (Err c.in_err-made.field-0.0) r
+    (going_err c.args.walk.now c.args.outer c.args.inside (markups c.args.contents.items) c.loop-content.children.items c.loop-content.walk
+    c.piece.new.walk c.piece.new.walk c.loop-content.behind c.in_ok-roles.roles.items c.loop-content.at c.role_in.result _
+    (view_content c.in-Some.content) (markups (into_iter_items c.next.new.self)) c.in_err-made.field-0.0
+    (going_at c.args.walk.now c.args.outer c.args.inside c.loop-content.children.items c.loop-content.children.items c.loop-content.walk
+    c.loop-content.behind _ _ _ _ _ refl (sym b) (sym s) c.loop-content.invariant)
+    (search rules) refl refl refl c.in_err-made.ensures)
 
 pub nodes-loop-content-preserved : goal.nodes-loop-content-preserved
 nodes-loop-content-preserved t c =
     let s : into_iter_items c.loop-content.content-iterator ≡ c.in-Some.content ∷ into_iter_items c.next.new.self = search rules in
-    going_at c.args.walk.now c.args.outer (c.loop-content.children.items ++ listed c.in_ok-child.child)
-    c.push_if_any.new.nodes.items c.node.new.walk c.is_behind-behind.result _ _ _ _
-    c.in_ok-push_if_any.ensures.pushed refl refl
-    (going_on c.args.walk.now c.args.outer (markups (into_iter_items c.into_iter-content-iterator.result))
-    c.loop-content.children.items c.loop-content.walk c.node.new.walk c.loop-content.behind c.is_behind-behind.result
-    (view_content c.in-Some.content) (markups (into_iter_items c.next.new.self)) c.in_ok-child.child
-    (going_at c.args.walk.now c.args.outer c.loop-content.children.items c.loop-content.children.items c.loop-content.walk
-    c.loop-content.behind _ _ _ _ refl refl (sym s) c.loop-content.invariant)
-    c.in_ok-child.ensures c.is_behind-behind.ensures)
+    going_on c.args.walk.now c.args.outer c.args.inside (markups (into_iter_items c.into_iter-content-iterator.result))
+    c.loop-content.children.items c.push_made.new.nodes.items c.loop-content.walk c.piece.new.walk c.loop-content.behind c.is_behind-behind.result
+    c.in_ok-roles.roles.items c.loop-content.at c.role_in.result _
+    (view_content c.in-Some.content) (markups (into_iter_items c.next.new.self)) c.in_ok-made.made
+    (going_at c.args.walk.now c.args.outer c.args.inside c.loop-content.children.items c.loop-content.children.items c.loop-content.walk
+    c.loop-content.behind _ _ _ _ _ refl refl (sym s) c.loop-content.invariant)
+    (search rules) refl refl refl c.in_ok-made.ensures c.is_behind-behind.ensures c.in_ok-push_made.ensures.pushed
 
 pub nodes-returns : goal.nodes-returns
 nodes-returns t c =
     let s : into_iter_items c.loop-content.content-iterator ≡ [] = no_items _ (sym c.loop-content.content-iterator.rest.ok.0 ∙ c.in-None.ensures.steps.0) in
     let b : into_iter_items c.into_iter-content-iterator.result ≡ c.args.contents.items = search rules in
-    going_end c.args.walk.now c.args.outer (markups c.args.contents.items) c.from_vec.result c.loop-content.walk c.loop-content.behind
-    (going_at c.args.walk.now c.args.outer c.loop-content.children.items c.from_vec.result c.loop-content.walk
-    c.loop-content.behind _ _ _ _ c.from_vec.ensures (sym b) (sym s) c.loop-content.invariant)
+    going_end c.args.walk.now c.args.outer c.args.inside (markups c.args.contents.items) c.from_vec.result c.loop-content.walk c.loop-content.behind _
+    (going_at c.args.walk.now c.args.outer c.args.inside c.loop-content.children.items c.from_vec.result c.loop-content.walk
+    c.loop-content.behind _ _ _ _ _ c.from_vec.ensures (sym b) (sym s) c.loop-content.invariant)
