@@ -3,12 +3,13 @@
 ghost use Rattle.std.specs.Prelude.{◌≡◌, ◌<◌, ◌≤◌, All, take, drop, length, IfOk};
 ghost use Rattle.wt_span.specs.Items.{items};
 ghost use Rattle.wt_span.specs.Origins.{IsSoundPiece};
-ghost use Rattle.wt_tiles.specs.Cutting.{rest_pieces, IsEdgeIn};
+ghost use Rattle.wt_tiles.specs.Cutting.{IsEdgeIn};
 
 use std::alloc::Global;
+use wt_context::take_some;
 use wt_lines::item_count;
 use wt_span::{List, NoMemory, Piece};
-use wt_tiles::{Rest, take_items};
+use wt_tiles::Rest;
 
 /// How many items the pieces hold. More than a machine word counts are answered as want of memory.
 fn items_len(pieces: &[Piece<'_>]) -> Result<usize, NoMemory>
@@ -19,25 +20,6 @@ fn items_len(pieces: &[Piece<'_>]) -> Result<usize, NoMemory>
         len = len.checked_add(item_count(piece)).ok_or(NoMemory)?;
     }
     Ok(len)
-}
-
-/// Takes n items from the front; none need no cut.
-fn take_some<'p, 'a>(
-    alloc: Global,
-    pieces: Rest<'p, 'a>,
-    n: usize,
-) -> Result<(List<Piece<'a>>, Rest<'p, 'a>), NoMemory>
-    requires sound { All IsSoundPiece (rest_pieces pieces) }
-    requires edge { 0 < n → IsEdgeIn (items (rest_pieces pieces)) n }
-    ensures front { IfOk result (λ r. items r.0 ≡ take n (items (rest_pieces pieces.entry))) }
-    ensures back { IfOk result (λ r. items (rest_pieces r.1) ≡ drop n (items (rest_pieces pieces.entry))) }
-    ensures sound_front { IfOk result (λ r. All IsSoundPiece r.0) }
-    ensures sound_back { IfOk result (λ r. All IsSoundPiece (rest_pieces r.1)) }
-{
-    if n == 0 {
-        return Ok((List::new(alloc), pieces));
-    }
-    take_items(alloc, pieces, n)
 }
 
 /// The first n items of pieces, and those behind them. No character may lie on both sides of the

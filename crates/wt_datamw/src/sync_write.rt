@@ -7,23 +7,9 @@ ghost use Rattle.wt_datamw.specs.Sync.{sync_text};
 ghost use Rattle.wt_datamw.specs.SyncPieces.{closing_text, next_text, dsr_text, opening_text, source_text, sync_pieces};
 
 use crate::sync::Sync;
+use wt_outer::{push, push_number};
 use wt_span::{NoMemory, Str};
 use wt_tree::Ranges;
-
-fn push(out: &mut Vec<u8>, bytes: &[u8]) -> Result<(), NoMemory>
-    ensures { OnOk result (out.new.items ≡ out.old.items ++ bytes.now) }
-{
-    out.extend_from_slice(bytes)?;
-    Ok(())
-}
-
-fn push_number(out: &mut Vec<u8>, number: u32) -> Result<(), NoMemory>
-    ensures { OnOk result (out.new.items ≡ out.old.items ++ decimal number) }
-{
-    let mut buffer = itoa::Buffer::new();
-    push(out, buffer.format(number).as_bytes())?;
-    Ok(())
-}
 
 /// The hexadecimal digit of a number.
 fn hex_digit(number: u8) -> u8

@@ -14,4 +14,4 @@ pub use laws::{
 };
 pub use page::page_items;
 pub use piece::form_of;
-pub use shown::expanded;
+pub use shown::{expanded, text_shown};

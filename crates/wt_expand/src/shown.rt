@@ -1,6 +1,6 @@
 //! What the items of a page show.
 ghost use Rattle.std.specs.Prelude.{◌≡◌, ◌++◌, IfOk, OnOk};
-ghost use Rattle.wt_span.specs.Items.{is_mark_form, items_of};
+ghost use Rattle.wt_span.specs.Items.{is_mark_form, items, items_of};
 ghost use Rattle.wt_expand.specs.Texts.{shown_text};
 
 use std::alloc::Global;
@@ -27,14 +27,21 @@ fn push_shown(text: &mut Str, piece: &Piece<'_>) -> Result<(), NoMemory>
     Ok(())
 }
 
-/// The text of an expanded page: its characters, entities and other atoms by their source, and
-/// nothing for marks.
-pub fn expanded(alloc: Global, items: &Items<'_>) -> Result<Str, NoMemory>
-    ensures { IfOk result (λ text. text ≡ shown_text items.now.items) }
+/// The text that pieces show: their characters, entities and other atoms by their source, and nothing
+/// for marks.
+pub fn text_shown(alloc: Global, pieces: &[Piece<'_>]) -> Result<Str, NoMemory>
+    ensures { IfOk result (λ text. text ≡ shown_text (items pieces.now)) }
 {
     let mut text = Str::new(alloc);
-    for piece in items.pieces() {
+    for piece in pieces {
         push_shown(&mut text, piece)?;
     }
     Ok(text)
+}
+
+/// The text of an expanded page: what its pieces show.
+pub fn expanded(alloc: Global, page: &Items<'_>) -> Result<Str, NoMemory>
+    ensures { IfOk result (λ text. text ≡ shown_text page.now.items) }
+{
+    text_shown(alloc, page.pieces())
 }

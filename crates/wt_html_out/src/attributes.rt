@@ -5,9 +5,10 @@ ghost use Rattle.wt_tree.specs.Kinds.{one_if_any, fixed_of, fixed_attributes};
 ghost use Rattle.wt_tree.specs.View.{texts_of, attrs_of, label_of};
 ghost use Rattle.wt_tree.specs.declared.node.Node.{out-Node};
 
-use crate::bytes::{push, push_escaped_double, push_escaped_single, push_number};
+use crate::bytes::{push_escaped_double, push_escaped_single};
 use std::alloc::Global;
 use wt_datamw::{Sync, push_sync_text, to_text};
+use wt_outer::{push, push_number};
 use wt_span::{NoMemory, Str, Text};
 use wt_tree::{Attr, AttrName, DataMw, Fixed, Kind, Node, Ranges};
 

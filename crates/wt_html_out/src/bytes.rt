@@ -3,22 +3,8 @@ ghost use Rattle.std.specs.List.{list_all};
 ghost use Rattle.wt_html_out.specs.Runs.{is_plain};
 ghost use Rattle.wt_markup.specs.Escapes.{escape, escape_double, escape_single, escaped, escaped_double, escaped_single, is_control};
 
+use wt_outer::{push, push_number};
 use wt_span::{NoMemory, front_of, rest_of};
-
-pub fn push(out: &mut Vec<u8>, bytes: &[u8]) -> Result<(), NoMemory>
-    ensures { OnOk result (out.new.items ≡ out.old.items ++ bytes.now) }
-{
-    out.extend_from_slice(bytes)?;
-    Ok(())
-}
-
-pub fn push_number(out: &mut Vec<u8>, number: u32) -> Result<(), NoMemory>
-    ensures { OnOk result (out.new.items ≡ out.old.items ++ decimal number) }
-{
-    let mut buffer = itoa::Buffer::new();
-    push(out, buffer.format(number).as_bytes())?;
-    Ok(())
-}
 
 fn is_control(byte: u8) -> bool
     ensures { result ≡ is_control byte }

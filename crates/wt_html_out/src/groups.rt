@@ -8,12 +8,13 @@ ghost use Rattle.wt_tree.specs.Kinds.{fixed_attributes};
 ghost use Rattle.wt_tree.specs.View.{attrs_of, label_of, view, views};
 ghost use Rattle.wt_tree.specs.declared.node.Node.{out-Node};
 
-use crate::bytes::{push, push_escaped};
+use crate::bytes::push_escaped;
 use crate::group_attributes::push_group_attributes;
 use crate::names::push_name;
 use crate::shown::push_shown_all;
 use crate::tags::push_end_of;
 use std::alloc::Global;
+use wt_outer::push;
 use wt_span::{List, NoMemory};
 use wt_tree::{Attr, Kind, Node, Showing, TagName, Writing};
 

@@ -4,10 +4,11 @@ ghost use Rattle.wt_markup.specs.Html.{html, html_of_all, groups, groups_of_all,
 ghost use Rattle.wt_tree.specs.Tiling.{is_group};
 ghost use Rattle.wt_tree.specs.View.{texts_of, view, views};
 
-use crate::bytes::{push, push_escaped};
+use crate::bytes::push_escaped;
 use crate::groups::push_group;
 use crate::tags::{push_end, push_start, push_void};
 use std::alloc::Global;
+use wt_outer::push;
 use wt_span::{List, NoMemory, Text};
 use wt_tree::{Annotated, Kind, Node, Writing};
 

@@ -8,9 +8,10 @@ ghost use Rattle.wt_tree.specs.View.{attrs_of, view, views};
 ghost use Rattle.wt_tree.specs.declared.node.Node.{out-Node};
 
 use crate::attributes::{push_fixed, push_own};
-use crate::bytes::{push, push_escaped};
+use crate::bytes::push_escaped;
 use crate::names::push_name;
 use crate::tags::push_end_of;
+use wt_outer::push;
 use wt_span::NoMemory;
 use wt_tree::{Node, Showing, Writing};
 

@@ -4,9 +4,9 @@ ghost use Rattle.wt_tree.specs.View.{label_of};
 ghost use Rattle.wt_tree.specs.declared.node.Node.{out-Node};
 
 use crate::attributes::push_attributes;
-use crate::bytes::push;
 use crate::names::push_name;
 use std::alloc::Global;
+use wt_outer::push;
 use wt_span::NoMemory;
 use wt_tree::{Kind, Node};
 

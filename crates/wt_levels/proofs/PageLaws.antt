@@ -9,7 +9,7 @@ use Rattle.wt_expand.specs.Work.{Pages, Entry, Refused, braces_too_deep, deep_pl
 use Rattle.wt_transclusion.specs.declared.refusal.ExpandRefusal.{ExpandRefusal}
 use Rattle.wt_transclusion.specs.declared.store.Store.{Store}
 use Rattle.wt_transclusion.specs.Answers.{IsRefused}
-use Rattle.wt_levels.specs.Ledgers.{Ledger, AnswersOutput, reading_of}
+use Rattle.wt_levels.specs.Ledgers.{AnswersOutput, Comes, Ledger, ledger, reading_of}
 
 pub reading_is : (pages : Pages) → reading_of pages mode.Page [] 40 [] ≡ page_reading pages
 unfolding most_templates
@@ -60,22 +60,33 @@ names_end : (a : Option (List (List ℕ))) → option_map (λ ns. ns ++ []) a �
 names_end None = refl
 names_end (Some ns) = ap Some (append-nil ns)
 
-pub record Shows (pages : Pages) (page : List ℕ) (answered told : Option (List (List ℕ))) (ps : List Piece) : Type 0 where
-  pub items_are : items ps ≡ (text_given (page_reading pages) page).items
+-- the page's work is done
+pub record IsWorked (pages : Pages) (page : List ℕ) (answered told : Option (List (List ℕ))) : Type 0 where
   pub allowed : first_refusal pages page (page_work pages page) ≡ None
   pub named : told ≡ option_map (λ names. names ++ names_asked (page_work pages page)) answered
+
+pub page_worked : (pages : Pages) (page : List ℕ) (answered told : Option (List (List ℕ))) (met : List (List ℕ)) (now : ℕ) → deep_place mode.Page page ≡ None
+    → Comes pages page (at_first answered) (text_given (reading_of pages mode.Page [] 40 []) page).work (ledger now met told) []
+    → IsWorked pages page answered told
+page_worked pages page answered told met now e given =
+    let h = subst (λ (r : Reading). Comes pages page (at_first answered) (text_given r page).work (ledger now met told) []) (reading_is pages) given in
+    let w = (text_given (page_reading pages) page).work in
+    record {
+      allowed = entered_first pages page e ∙ ap (refusal_from pages page 0) (sym (append-nil w)) ∙ h.refusal [];
+      named = sym (ap (λ es. option_map (λ ns. ns ++ es) answered) (asked_is (page_work pages page)
+          ∙ ap (λ es. firsts_after [] (fetches es)) (work_is pages page))
+          ∙ ap (λ es. option_map (λ ns. ns ++ firsts_after [] (fetches es)) answered) (sym (append-nil w)) ∙ h.names [] ∙ names_end told);
+    }
+
+pub record Shows (pages : Pages) (page : List ℕ) (answered told : Option (List (List ℕ))) (ps : List Piece) : Type 0 where
+  pub items_are : items ps ≡ (text_given (page_reading pages) page).items
+  pub worked : IsWorked pages page answered told
 
 pub page_shown : (pages : Pages) (page : List ℕ) (answered told : Option (List (List ℕ))) (store : Store) (now : ℕ) (ps : List Piece)
     → deep_place mode.Page page ≡ None
     → AnswersOutput pages page (at_first answered) (text_given (reading_of pages mode.Page [] 40 []) page) store now told (Ok ps)
     → Shows pages page answered told ps
-page_shown pages page answered told store now ps e given =
-    let h = subst (λ (r : Reading). AnswersOutput pages page (at_first answered) (text_given r page) store now told (Ok ps)) (reading_is pages) given in
-    let w = (text_given (page_reading pages) page).work in
-    record {
-      items_are = h.0;
-      allowed = entered_first pages page e ∙ ap (refusal_from pages page 0) (sym (append-nil w)) ∙ h.3.refusal [];
-      named = sym (ap (λ es. option_map (λ ns. ns ++ es) answered) (asked_is (page_work pages page)
-          ∙ ap (λ es. firsts_after [] (fetches es)) (work_is pages page))
-          ∙ ap (λ es. option_map (λ ns. ns ++ firsts_after [] (fetches es)) answered) (sym (append-nil w)) ∙ h.3.names [] ∙ names_end told);
-    }
+page_shown pages page answered told store now ps e given = record {
+  items_are = given.0 ∙ ap (λ (r : Reading). (text_given r page).items) (reading_is pages);
+  worked = page_worked pages page answered told given.1 now e given.3;
+}

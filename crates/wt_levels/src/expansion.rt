@@ -9,7 +9,7 @@ ghost use Rattle.wt_transclusion.specs.Answers.{IsCounted};
 ghost use Rattle.wt_transclusion.specs.Frames.{AreValues};
 ghost use Rattle.wt_transclusion.specs.Reads.{IsRead};
 ghost use Rattle.wt_transclusion.specs.Steps.{IsStretchOf, given_from};
-ghost use Rattle.wt_transclusion.specs.Stores.{IsStore};
+ghost use Rattle.wt_transclusion.specs.Stores.{IsStore, Concerns, Grows};
 ghost use Rattle.wt_levels.specs.Calls.{IsCallOf, first_end};
 ghost use Rattle.wt_levels.specs.Ledgers.{AnswersAdvance, AnswersOutput, Ledger, TakesStep, ledger, reading_of};
 ghost use Rattle.wt_levels.specs.Names.{TakesName};
@@ -116,9 +116,10 @@ impl<'a> Expansion<'a> {
         left: u32,
     ) -> Result<List<Piece<'a>>, ExpandRefusal>
         ensures given { (pages : Pages) (page t : List ℕ) (mode : TextMode) (frame : Frame) (met : List (List ℕ)) (all : Gives)
-            → F.pages folder.old ≡ Some pages → IsStore pages met self.old.store → AreValues values.now frame
+            → Concerns (F.pages folder.old) pages self.new.store result → IsStore pages met self.old.store → AreValues values.now frame
             → Holds (reading_of pages mode frame left self.old.names) t run.entry (stack run.entry.levels) all
             → AnswersOutput pages page (ledger self.old.spent met (F.answered folder.old)) all self.new.store self.new.spent (F.answered folder.new) result }
+        ensures grown { OnOk result (Grows (F.pages folder.old) self.old.store self.new.store) }
         ensures kept { F.pages folder.new ≡ F.pages folder.old }
         ensures count { IsCounted (F.fault_count folder.old) (F.fault_count folder.new) result }
         ensures names { OnOk result (self.new.names ≡ self.old.names) }
@@ -143,10 +144,12 @@ impl<'a> Expansion<'a> {
         turn: Turn<'a>,
         left: u32,
     ) -> Result<Option<List<Piece<'a>>>, ExpandRefusal>
-        ensures given { (pages : Pages) (page t : List ℕ) (mode : TextMode) (frame : Frame) (before : Ledger) (all : Gives) → F.pages folder.old ≡ Some pages
+        ensures given { (pages : Pages) (page t : List ℕ) (mode : TextMode) (frame : Frame) (before : Ledger) (all : Gives)
+            → Concerns (F.pages folder.old) pages self.new.store result
             → TakesStep pages page (reading_of pages mode frame left self.old.names) t before all run.old self.old.store self.old.spent
             (F.answered folder.old) turn.entry → AnswersAdvance pages page
             (reading_of pages mode frame left self.old.names) t before all run.new self.new.store self.new.spent (F.answered folder.new) result }
+        ensures grown { OnOk result (Grows (F.pages folder.old) self.old.store self.new.store) }
         ensures kept { F.pages folder.new ≡ F.pages folder.old }
         ensures count { IsCounted (F.fault_count folder.old) (F.fault_count folder.new) result }
         ensures names { OnOk result (self.new.names ≡ self.old.names) }
@@ -170,10 +173,11 @@ impl<'a> Expansion<'a> {
         handing: &Handing<'a>,
         left: u32,
     ) -> Result<List<Piece<'a>>, ExpandRefusal>
-        ensures given { (pages : Pages) (page : List ℕ) (frame : Frame) (met : List (List ℕ)) → F.pages folder.old ≡ Some pages
-            → IsStore pages met self.old.store → AreValues handing.now.handed.values frame
+        ensures given { (pages : Pages) (page : List ℕ) (frame : Frame) (met : List (List ℕ))
+            → Concerns (F.pages folder.old) pages self.new.store result → IsStore pages met self.old.store → AreValues handing.now.handed.values frame
             → AnswersOutput pages page (ledger self.old.spent met (F.answered folder.old))
             (template_output pages left self.old.names handing.now.title frame) self.new.store self.new.spent (F.answered folder.new) result }
+        ensures grown { OnOk result (Grows (F.pages folder.old) self.old.store self.new.store) }
         ensures kept { F.pages folder.new ≡ F.pages folder.old }
         ensures count { IsCounted (F.fault_count folder.old) (F.fault_count folder.new) result }
         ensures names { OnOk result (self.new.names ≡ self.old.names) }
@@ -219,9 +223,11 @@ impl<'a> Expansion<'a> {
         left: u32,
     ) -> Result<List<Piece<'a>>, ExpandRefusal>
         ensures given { (pages : Pages) (page t : List ℕ) (frame : Frame) (met : List (List ℕ)) (p : ℕ) (s : Bool) (xs : List TextMember)
-            → F.pages folder.old ≡ Some pages → IsStore pages met self.old.store → AreValues values.now frame → IsReading mode t reader.entry p s
+            → Concerns (F.pages folder.old) pages self.new.store result → IsStore pages met self.old.store → AreValues values.now frame
+            → IsReading mode t reader.entry p s
             → IsStretchOf mode t p end xs → AnswersOutput pages page (ledger self.old.spent met (F.answered folder.old))
             (given_from (reading_of pages mode frame left self.old.names) s t p xs) self.new.store self.new.spent (F.answered folder.new) result }
+        ensures grown { OnOk result (Grows (F.pages folder.old) self.old.store self.new.store) }
         ensures kept { F.pages folder.new ≡ F.pages folder.old }
         ensures count { IsCounted (F.fault_count folder.old) (F.fault_count folder.new) result }
         ensures names { OnOk result (self.new.names ≡ self.old.names) }
@@ -243,10 +249,12 @@ impl<'a> Expansion<'a> {
         values: &Values<'a>,
         left: u32,
     ) -> Result<List<Piece<'a>>, ExpandRefusal>
-        ensures given { (pages : Pages) (page t : List ℕ) (frame : Frame) (met : List (List ℕ)) → F.pages folder.old ≡ Some pages
-            → IsStore pages met self.old.store → AreValues values.now frame → IsRead mode t text.entry
+        ensures given { (pages : Pages) (page t : List ℕ) (frame : Frame) (met : List (List ℕ))
+            → Concerns (F.pages folder.old) pages self.new.store result → IsStore pages met self.old.store → AreValues values.now frame
+            → IsRead mode t text.entry
             → AnswersOutput pages page (ledger self.old.spent met (F.answered folder.old))
             (text_given (reading_of pages mode frame left self.old.names) t) self.new.store self.new.spent (F.answered folder.new) result }
+        ensures grown { OnOk result (Grows (F.pages folder.old) self.old.store self.new.store) }
         ensures kept { F.pages folder.new ≡ F.pages folder.old }
         ensures count { IsCounted (F.fault_count folder.old) (F.fault_count folder.new) result }
         ensures names { OnOk result (self.new.names ≡ self.old.names) }
@@ -273,11 +281,13 @@ impl<'a> Expansion<'a> {
         left: u32,
     ) -> Result<List<Piece<'a>>, ExpandRefusal>
         ensures given { (pages : Pages) (page t : List ℕ) (frame : Frame) (met : List (List ℕ)) (p : ℕ) (s : Bool) (c : IsCallOf mode t call.entry)
-            → F.pages folder.old ≡ Some pages → IsStore pages met self.old.store → AreValues values.now frame → IsReading mode t reader.entry p s
+            → Concerns (F.pages folder.old) pages self.new.store result → IsStore pages met self.old.store → AreValues values.now frame
+            → IsReading mode t reader.entry p s
             → p ≤ first_end (c.at + c.braces) (part_members 0 c.inside)
             → AnswersOutput pages page (ledger self.old.spent met (F.answered folder.old))
             (page_called (reading_of pages mode frame left self.old.names) t call.entry c at_start title) self.new.store self.new.spent
             (F.answered folder.new) result }
+        ensures grown { OnOk result (Grows (F.pages folder.old) self.old.store self.new.store) }
         ensures kept { F.pages folder.new ≡ F.pages folder.old }
         ensures count { IsCounted (F.fault_count folder.old) (F.fault_count folder.new) result }
         ensures names { OnOk result (self.new.names ≡ self.old.names) }

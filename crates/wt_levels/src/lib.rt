@@ -10,6 +10,6 @@ mod run;
 
 pub use expansion::{Expansion, MOST_TEMPLATES, Names};
 pub use level::Handing;
-pub use page::expanded_text;
+pub use page::{expanded_text, read_page};
 pub use reader::{MOST_BYTES, Reader};
 pub use run::{TextRun, Turn};

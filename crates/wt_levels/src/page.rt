@@ -1,6 +1,6 @@
 //! The text that a page shows with its templates expanded.
 ghost use Rattle.std.specs.Prelude.{◌≡◌, ◌<◌, ◌^◌, ◌++◌, Some, None, IfErr, IfOk, OnOk, length, option_map};
-ghost use Rattle.wt_span.specs.Items.{is_mark_form, items, items_of};
+ghost use Rattle.wt_span.specs.Items.{items};
 ghost use Rattle.wt_span.specs.declared.form.Mode.TheVariants as text_mode;
 ghost use Rattle.wt_expand.specs.Expansion.{page_work};
 ghost use Rattle.wt_expand.specs.PageCalls.{expanded_page};
@@ -13,44 +13,17 @@ use crate::expansion::{Expansion, MOST_TEMPLATES};
 use bumpalo::Bump;
 use std::alloc::Global;
 use wt_braces::BraceRefusal;
+use wt_expand::text_shown;
 use wt_outer::Folder;
-use wt_span::{Form, Mode, NoMemory, Piece, Str};
+use wt_span::{Mode, Piece, Str};
 use wt_transclusion::{ExpandRefusal, ReadText, Values, read_in};
 
-/// Whether a form is an invisible mark.
-fn is_mark(form: Form) -> bool
-    ensures { result ≡ is_mark_form form }
-{
-    match form {
-        Form::Chars | Form::Entity(_) | Form::Nowiki | Form::Extension | Form::Function => false,
-        Form::Comment | Form::Include | Form::Hidden | Form::EmptyCall => true,
-    }
-}
-
-/// Appends what a piece shows.
-fn push_shown(text: &mut Str, piece: &Piece<'_>) -> Result<(), NoMemory>
-    ensures { OnOk result (text.new ≡ text.old ++ shown_text (items_of piece.now)) }
-{
-    if is_mark(piece.form) {
-        return Ok(());
-    }
-    text.push_str(piece.text.as_str())?;
-    Ok(())
-}
-
-/// The text that pieces show.
-fn shown(alloc: Global, pieces: &[Piece<'_>]) -> Result<Str, NoMemory>
-    ensures { IfOk result (λ text. text ≡ shown_text (items pieces.now)) }
-{
-    let mut text = Str::new(alloc);
-    for piece in pieces {
-        push_shown(&mut text, piece)?;
-    }
-    Ok(text)
-}
-
 /// The page as it is read.
-fn read_page<'a>(
+///
+/// # Errors
+///
+/// `BracesTooDeep`, with the place in the page; want of memory.
+pub fn read_page<'a>(
     alloc: Global,
     page: &'a str,
     arena: &'a Bump<Global>,
@@ -100,6 +73,6 @@ pub fn expanded_text<'a, F: Folder>(
     let values = Values::new(alloc);
     let mut expansion = Expansion::new(alloc, arena);
     let pieces = expansion.text(folder, read, Mode::Page, &values, MOST_TEMPLATES)?;
-    let text = shown(alloc, pieces.as_slice())?;
+    let text = text_shown(alloc, pieces.as_slice())?;
     Ok(text)
 }

@@ -1,7 +1,8 @@
 ghost use Rattle.std.specs.Prelude.{◌≡◌, ◌++◌, OnOk};
 ghost use Rattle.wt_listing.specs.Listing.{line, line_of, next_number, place_numbers};
 
-use crate::word::{push, push_number, push_word};
+use crate::word::push_word;
+use wt_outer::{push, push_number};
 use wt_span::NoMemory;
 use wt_tree::{Kind, Ranges};
 

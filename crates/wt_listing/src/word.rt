@@ -1,25 +1,9 @@
 ghost use Rattle.std.specs.Prelude.{◌≡◌, ◌++◌, OnOk, decimal};
 ghost use Rattle.wt_tree.specs.Kinds.{level_digits, word};
 
+use wt_outer::{push, push_number};
 use wt_span::NoMemory;
 use wt_tree::Kind;
-
-/// Appends bytes.
-pub fn push(out: &mut Vec<u8>, bytes: &[u8]) -> Result<(), NoMemory>
-    ensures { OnOk result (out.new.items ≡ out.old.items ++ bytes.now) }
-{
-    out.extend_from_slice(bytes)?;
-    Ok(())
-}
-
-/// Appends a number in decimal digits.
-pub fn push_number(out: &mut Vec<u8>, number: u32) -> Result<(), NoMemory>
-    ensures { OnOk result (out.new.items ≡ out.old.items ++ decimal number) }
-{
-    let mut buffer = itoa::Buffer::new();
-    push(out, buffer.format(number).as_bytes())?;
-    Ok(())
-}
 
 /// Appends a level behind a word.
 fn push_level(out: &mut Vec<u8>, level: Option<u8>) -> Result<(), NoMemory>

@@ -1,5 +1,5 @@
 -- The HTML of a tree, as it is written.
-use Rattle.std.specs.Prelude.{ℕ, suc, ◌+◌, List, [], ◌∷◌, ◌++◌, Option, Some, None, Bool, true, false, ◌==◌, codes, if◌then◌else◌}
+use Rattle.std.specs.Prelude.{ℕ, suc, ◌+◌, List, [], ◌∷◌, ◌++◌, Option, Some, None, Bool, true, false, ◌==◌, codes, decimal, if◌then◌else◌}
 use Rattle.std.specs.List.{flat_map}
 use Rattle.wt_tree.specs.declared.kind.AttrName.{AttrName}
 use Rattle.wt_tree.specs.declared.kind.Kind.{Kind}
@@ -16,7 +16,7 @@ use Rattle.wt_datamw.specs.Sync.{sync_text}
 use Rattle.wt_datamw.specs.Mw.{mw_text}
 use Rattle.wt_tree.specs.declared.row.Writing.{Writing}
 use Rattle.wt_tree.specs.declared.row.Writing.TheVariants.{AsText, AsVoid, RoundCharacter, RoundChildren, Unwritten}
-use Rattle.wt_markup.specs.Escapes.{escaped, escaped_single}
+use Rattle.wt_markup.specs.Escapes.{escaped, escaped_double, escaped_single}
 
 -- an attribute with its value
 unfoldable pub attribute : AttrName × List ℕ → List ℕ

@@ -4,6 +4,7 @@
 //! to devices through the three traits alone, so that every promise about a device is one about the trait.
 #![tactic(auto)]
 
+mod bytes;
 mod calls;
 mod device;
 mod directory;
@@ -12,6 +13,7 @@ mod shelf;
 mod streams;
 mod write;
 
+pub use bytes::{push, push_number};
 pub use device::{Failed, FetchRefusal, Fetched, Folder, Sink, Source};
 pub use directory::DirFolder;
 pub use memory::{MemSink, MemSource, NeverFailsSource};

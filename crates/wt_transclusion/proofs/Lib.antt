@@ -4,6 +4,7 @@ pub mod Counts
 pub mod CursorLaws
 pub mod Firsts
 pub mod Full
+pub mod GrowthLaws
 pub mod Insides
 pub mod MarkLaws
 pub mod Openings

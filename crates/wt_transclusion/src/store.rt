@@ -1,9 +1,9 @@
 //! The pages that were fetched, each once, by their full names.
-ghost use Rattle.std.specs.Prelude.{◌≡◌, ◌∷◌, ◌++◌, [], ℕ, List, Some, OnOk, option_map};
+ghost use Rattle.std.specs.Prelude.{◌≡◌, ◌∷◌, ◌++◌, [], ℕ, List, Option, Some, IfOk, OnOk, option_map};
 ghost use Rattle.std.specs.HashMap.{get_by_text};
 ghost use Rattle.wt_expand.specs.Work.{Pages};
 ghost use Rattle.wt_transclusion.specs.Answers.{AnswersTemplate, AnswersFetch, IsCounted, IsFetched};
-ghost use Rattle.wt_transclusion.specs.Stores.{IsStore, AnswersTitle, named_with};
+ghost use Rattle.wt_transclusion.specs.Stores.{IsStore, AnswersTitle, Concerns, Grows, Keeps, named_with};
 
 use crate::only::template_text;
 use crate::read::{ReadText, read_in};
@@ -68,6 +68,7 @@ fn fetch_template<'a, F: Folder>(
     title: &str,
 ) -> Result<Option<ReadText<'a>>, ExpandRefusal>
     ensures page { (pages : Pages) → F.pages folder.old ≡ Some pages → AnswersFetch title.now (pages title.now) result }
+    ensures read { IfOk result (λ found. (page : Option (List ℕ)) × IsFetched title.now page found) }
     ensures kept { F.pages folder.new ≡ F.pages folder.old }
     ensures named { OnOk result (F.answered folder.new ≡ option_map (λ names. names ++ title.now ∷ []) (F.answered folder.old)) }
     ensures count { IsCounted (F.fault_count folder.old) (F.fault_count folder.new) result }
@@ -110,8 +111,7 @@ impl<'a> Store<'a> {
         full: &str,
         found: Option<ReadText<'a>>,
     ) -> Result<(), NoMemory>
-        ensures { OnOk result ((pages : Pages) (met : List (List ℕ)) → IsStore pages met self.old
-            → IsFetched full.now (pages full.now) found.entry → IsStore pages (full.now ∷ met) self.new) }
+        ensures { OnOk result (Keeps full.now found.entry self.old self.new) }
     {
         let name = String::from_str(alloc, full)?;
         match self.pages.insert(name, found) {
@@ -129,8 +129,9 @@ impl<'a> Store<'a> {
         folder: &mut F,
         full: &str,
     ) -> Result<Option<ReadText<'a>>, ExpandRefusal>
-        ensures page { (pages : Pages) (met : List (List ℕ)) → F.pages folder.old ≡ Some pages
+        ensures page { (pages : Pages) (met : List (List ℕ)) → Concerns (F.pages folder.old) pages self.new result
             → IsStore pages met self.old → AnswersTitle pages met full.now self.new result }
+        ensures grown { OnOk result (Grows (F.pages folder.old) self.old self.new) }
         ensures kept { F.pages folder.new ≡ F.pages folder.old }
         ensures named { (pages : Pages) (met : List (List ℕ)) → IsStore pages met self.old
             → OnOk result (F.answered folder.new ≡ named_with full.now met (F.answered folder.old)) }

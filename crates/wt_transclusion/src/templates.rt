@@ -5,7 +5,7 @@ ghost use Rattle.wt_span.specs.Items.{items};
 ghost use Rattle.wt_expand.specs.Work.{Pages, is_among};
 ghost use Rattle.wt_expand.specs.Expansion.{chars};
 ghost use Rattle.wt_transclusion.specs.Answers.{IsCounted};
-ghost use Rattle.wt_transclusion.specs.Stores.{IsStore};
+ghost use Rattle.wt_transclusion.specs.Stores.{IsStore, Concerns, Grows};
 ghost use Rattle.wt_transclusion.specs.Takings.{AnswersTaking, IsNamed};
 
 use crate::item::piece_of;
@@ -70,8 +70,9 @@ pub fn take<'a, F: Folder>(
     left: u32,
     title: &Title,
 ) -> Result<Taken<'a>, ExpandRefusal>
-    ensures taken { (pages : Pages) (met : List (List ℕ)) → F.pages folder.old ≡ Some pages
+    ensures taken { (pages : Pages) (met : List (List ℕ)) → Concerns (F.pages folder.old) pages store.new result
         → IsStore pages met store.old → AnswersTaking pages met (reverse names.now) left title.now store.new result }
+    ensures grown { OnOk result (Grows (F.pages folder.old) store.old store.new) }
     ensures kept { F.pages folder.new ≡ F.pages folder.old }
     ensures named { (pages : Pages) (met : List (List ℕ)) → IsStore pages met store.old
         → IsNamed (full_name_of title.now) met (F.answered folder.old) (F.answered folder.new) result }

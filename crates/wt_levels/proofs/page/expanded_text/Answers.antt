@@ -7,6 +7,7 @@ use Rattle.wt_expand.specs.Texts.{shown_text}
 use Rattle.wt_expand.specs.Work.{first_refusal}
 use Rattle.wt_expand.proofs.Given.{shows_what_is_given}
 use Rattle.wt_transclusion.specs.Answers.{IsRefused}
+use Rattle.wt_transclusion.proofs.GrowthLaws.{agrees_known}
 use Rattle.wt_levels.specs.Ledgers.{AnswersOutput, ledger, reading_of}
 use Rattle.wt_levels.proofs.PageLaws.{page_refused, page_shown}
 use Rattle.wt_levels.proofs.page.expanded_text.Goals as goal
@@ -40,7 +41,8 @@ returns-clause-text g c = λ pages told.
     let answered = g.F.Folder.answered c.args.folder.now in
     let told_now = g.F.Folder.answered c.text.new.folder in
     let ps = c.in_ok-pieces.pieces in
-    let given = c.in_ok-pieces.ensures.given pages bytes bytes [] [] told
+    let agrees = c.in_ok-pieces.ensures.grown.agrees pages told (agrees_known pages [] new.store (c.new-expansion.ensures.store pages)) in
+    let given = c.in_ok-pieces.ensures.given pages bytes bytes [] [] agrees
     (c.new-expansion.ensures.store pages) c.new-values.ensures c.in_ok-read.ensures.read in
     let spent = subst (λ (n : ℕ). AnswersOutput pages bytes (ledger n [] answered) (text_given (reading_of pages text_mode.Page [] 40 new.names) bytes)
     c.text.new.self.store c.text.new.self.spent told_now (Ok ps)) c.new-expansion.ensures.spent given in
@@ -56,14 +58,15 @@ returns-clause-whole g c = λ pages told.
     let answered = g.F.Folder.answered c.args.folder.now in
     let told_now = g.F.Folder.answered c.text.new.folder in
     let ps = c.in_ok-pieces.pieces in
-    let given = c.in_ok-pieces.ensures.given pages bytes bytes [] [] told
+    let agrees = c.in_ok-pieces.ensures.grown.agrees pages told (agrees_known pages [] new.store (c.new-expansion.ensures.store pages)) in
+    let given = c.in_ok-pieces.ensures.given pages bytes bytes [] [] agrees
     (c.new-expansion.ensures.store pages) c.new-values.ensures c.in_ok-read.ensures.read in
     let spent = subst (λ (n : ℕ). AnswersOutput pages bytes (ledger n [] answered) (text_given (reading_of pages text_mode.Page [] 40 new.names) bytes)
     c.text.new.self.store c.text.new.self.spent told_now (Ok ps)) c.new-expansion.ensures.spent given in
     let free = subst (λ (ns : List (List ℕ)). AnswersOutput pages bytes (ledger 0 [] answered) (text_given (reading_of pages text_mode.Page [] 40 ns) bytes)
     c.text.new.self.store c.text.new.self.spent told_now (Ok ps)) c.new-expansion.ensures.names spent in
     let shows = page_shown pages bytes answered told_now c.text.new.self.store c.text.new.self.spent ps c.in_ok-read.ensures.fits free in
-    shows.allowed
+    shows.worked.allowed
 
 pub returns-clause-named : goal.returns-clause-named
 returns-clause-named g c = λ pages told.
@@ -72,11 +75,12 @@ returns-clause-named g c = λ pages told.
     let answered = g.F.Folder.answered c.args.folder.now in
     let told_now = g.F.Folder.answered c.text.new.folder in
     let ps = c.in_ok-pieces.pieces in
-    let given = c.in_ok-pieces.ensures.given pages bytes bytes [] [] told
+    let agrees = c.in_ok-pieces.ensures.grown.agrees pages told (agrees_known pages [] new.store (c.new-expansion.ensures.store pages)) in
+    let given = c.in_ok-pieces.ensures.given pages bytes bytes [] [] agrees
     (c.new-expansion.ensures.store pages) c.new-values.ensures c.in_ok-read.ensures.read in
     let spent = subst (λ (n : ℕ). AnswersOutput pages bytes (ledger n [] answered) (text_given (reading_of pages text_mode.Page [] 40 new.names) bytes)
     c.text.new.self.store c.text.new.self.spent told_now (Ok ps)) c.new-expansion.ensures.spent given in
     let free = subst (λ (ns : List (List ℕ)). AnswersOutput pages bytes (ledger 0 [] answered) (text_given (reading_of pages text_mode.Page [] 40 ns) bytes)
     c.text.new.self.store c.text.new.self.spent told_now (Ok ps)) c.new-expansion.ensures.names spent in
     let shows = page_shown pages bytes answered told_now c.text.new.self.store c.text.new.self.spent ps c.in_ok-read.ensures.fits free in
-    shows.named
+    shows.worked.named

@@ -1,3 +1,4 @@
+use Rattle.std.proofs.Common.{Some}
 use Rattle.wt_outer.specs.declared.device.Fetched.TheVariants.{Found, Absent}
 use Rattle.wt_transclusion.proofs.StoreLaws.{given_page, found_read, found_refused, absent_read}
 use Rattle.wt_transclusion.proofs.store.fetch_template.Goals as goal
@@ -24,3 +25,6 @@ returns-in-Ok-Absent-clause-page g c =
     absent_read c.args.title.now (pages c.args.title.now)
     (given_page (g.F.Folder.pages c.args.folder.now) pages c.args.title.now 2097153 c.in-Ok-Absent.field-0 Absent told c.in-Ok-Absent.field-0-is
     c.in-Ok-Absent.ensures.page)
+
+pub returns-in-Ok-clause-read : goal.returns-in-Ok-clause-read
+returns-in-Ok-clause-read g c = (Some c.as_slice.result.now, c.in-Ok.ensures)

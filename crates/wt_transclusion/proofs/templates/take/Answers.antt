@@ -2,6 +2,7 @@ use Rattle.std.proofs.Common.{ap, sym, ◌∙◌}
 use Rattle.wt_expand.specs.Expansion.{absent_text}
 use Rattle.wt_expand.specs.Work.{is_among}
 use Rattle.wt_transclusion.specs.Stores.{named_with}
+use Rattle.wt_transclusion.proofs.GrowthLaws.{grows_none}
 use Rattle.wt_transclusion.proofs.TakingLaws.{loop_taken, depth_taken, link_taken, page_taken, refused_taken}
 use Rattle.wt_transclusion.proofs.templates.take.Goals as goal
 
@@ -12,6 +13,12 @@ returns-then-is_open-clause-taken g c = λ pages met told s. (
       (sym c.is_open.ensures ∙ c.if-is_open.true) c.in_ok-message.ensures (c.as_str-then-is_open.ensures ∙ c.in_ok-text.ensures),
   s,
 )
+
+pub returns-then-is_open-clause-grown : goal.returns-then-is_open-clause-grown
+returns-then-is_open-clause-grown g c = grows_none (g.F.Folder.pages c.args.folder.now) c.args.store.now
+
+pub returns-then-left-eq0-clause-grown : goal.returns-then-left-eq0-clause-grown
+returns-then-left-eq0-clause-grown g c = grows_none (g.F.Folder.pages c.args.folder.now) c.args.store.now
 
 pub returns-then-left-eq0-clause-taken : goal.returns-then-left-eq0-clause-taken
 returns-then-left-eq0-clause-taken g c = λ pages met told s. (

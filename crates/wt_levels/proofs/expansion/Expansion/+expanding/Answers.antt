@@ -1,14 +1,22 @@
-use Rattle.std.proofs.Common.{◌≡◌, ◌∷◌, Err, List, Ok, Option, ap, rules, subst, sym, ◌∙◌, ℕ}
+use Rattle.std.proofs.Common.{◌≡◌, ◌∷◌, Err, List, Ok, Option, ap, refl, rules, subst, sym, ◌∙◌, ℕ}
 use Rattle.std.specs.Prelude.{Result, reverse}
 use Rattle.wt_names.specs.Namespace.{full_name_of}
 use Rattle.wt_span.specs.declared.list.List.{List as Listed}
 use Rattle.wt_span.specs.declared.form.Piece.{Piece}
 use Rattle.wt_expand.specs.Expansion.{template_output}
 use Rattle.wt_transclusion.specs.Answers.{IsCounted}
+use Rattle.wt_transclusion.specs.Stores.{Concerns, Grows}
+use Rattle.wt_transclusion.proofs.GrowthLaws.{agrees_before, agrees_known, grows_none, grows_then}
 use Rattle.wt_levels.specs.Ledgers.{AnswersAdvance, AnswersOutput, Progress, TakesStep, ledger, reading_of}
 use Rattle.wt_levels.specs.declared.run.Turn.{Turn}
-use Rattle.wt_levels.proofs.LedgerLaws.{link_done, message_done, no_fault_counted, one_less, page_done, page_taken, page_untaken, paged_goes, paged_refused, step_handed, step_refused}
+use Rattle.wt_levels.proofs.LedgerLaws.{begins, link_done, message_done, no_fault_counted, one_less, page_done, page_taken, page_untaken, paged_goes, paged_refused, step_handed, step_refused}
 use Rattle.wt_levels.proofs.expansion.Expansion.+expanding.Goals as goal
+
+pub advance-returns-in-Went-clause-grown : goal.advance-returns-in-Went-clause-grown
+advance-returns-in-Went-clause-grown g t c = grows_none (g.F.Folder.pages c.args.folder.now) c.args.self.now.store
+
+pub advance-returns-in-Done-clause-grown : goal.advance-returns-in-Done-clause-grown
+advance-returns-in-Done-clause-grown g t c = grows_none (g.F.Folder.pages c.args.folder.now) c.args.self.now.store
 
 pub advance-returns-in_err-given-in-Called-clause-given : goal.advance-returns-in_err-given-in-Called-clause-given
 advance-returns-in_err-given-in-Called-clause-given g t c = λ pages page text mode frame before all told h.
@@ -17,10 +25,11 @@ advance-returns-in_err-given-in-Called-clause-given g t c = λ pages page text m
     let answered = g.F.Folder.answered c.args.folder.now in
     let w = subst (λ (k : Turn). TakesStep pages page r text before all c.args.run.now self.store self.spent answered k) c.in-Called.is h in
     let e : c.from_residual.result ≡ Err c.in_err-given-in-Called.field-0.0 = search rules in
+    let named = subst (λ x. Concerns (g.F.Folder.pages c.args.folder.now) pages c.page.new.self.store x) e told in
     subst (λ x. AnswersAdvance pages page r text before all c.args.run.now c.page.new.self.store c.page.new.self.spent
     (g.F.Folder.answered c.page.new.folder) x) (sym e)
     (page_untaken pages page text r before all c.args.run.now self.store self.spent answered c.in-Called.handing c.in_err-given-in-Called.field-0.0 w
-    (c.in_err-given-in-Called.ensures.given pages page w.calls.frame w.met told w.stored w.calls.values))
+    (c.in_err-given-in-Called.ensures.given pages page w.calls.frame w.met named w.stored w.calls.values))
 
 pub advance-returns-in_err-give_page-in-Called-clause-given : goal.advance-returns-in_err-give_page-in-Called-clause-given
 advance-returns-in_err-give_page-in-Called-clause-given g t c = λ pages page text mode frame before all told h.
@@ -30,10 +39,12 @@ advance-returns-in_err-give_page-in-Called-clause-given g t c = λ pages page te
     let w = subst (λ (k : Turn). TakesStep pages page r text before all c.args.run.now self.store self.spent answered k) c.in-Called.is h in
     let e : c.from_residual-in_err-give_page-in-Called.result ≡ Err c.in_err-give_page-in-Called.field-0.0 = search rules in
     let now = c.page.new.self in
+    let named = subst (λ x. Concerns (g.F.Folder.pages c.args.folder.now) pages now.store x) e told in
+    let agrees = c.in_ok-given-in-Called.ensures.grown.agrees pages named (agrees_known pages w.met self.store w.stored) in
     let told_now = g.F.Folder.answered c.page.new.folder in
     let p = page_taken pages page text r before all c.args.run.now self.store now.store self.spent now.spent answered told_now c.in-Called.handing
     c.in_ok-given-in-Called.given w
-    (c.in_ok-given-in-Called.ensures.given pages page w.calls.frame w.met told w.stored w.calls.values) in
+    (c.in_ok-given-in-Called.ensures.given pages page w.calls.frame w.met agrees w.stored w.calls.values) in
     subst (λ x. AnswersAdvance pages page r text before all c.give_page.new.self now.store c.give_page.new.spent told_now x) (sym e)
     (paged_refused pages page text r before all c.args.run.now now.store now.spent told_now c.in-Called.handing c.in_ok-given-in-Called.given
     c.in_err-give_page-in-Called.field-0.0 p (c.in_err-give_page-in-Called.ensures.answer r text p.left p.returns))
@@ -60,14 +71,28 @@ advance-returns-in_ok-give_page-in-Called-clause-given g t c = λ pages page tex
     paged_goes pages page text r before all c.args.run.now c.give_page.new.self now.store now.spent c.give_page.new.spent told_now c.in-Called.handing
     c.in_ok-given-in-Called.given p (c.in_ok-give_page-in-Called.ensures.answer r text p.left p.returns)
 
+pub finish-steps-init : goal.finish-steps-init
+finish-steps-init g t c = record {
+  kept = refl;
+  count = refl;
+  names = refl;
+  grown = grows_none (g.F.Folder.pages c.args.folder.now) c.args.self.now.store;
+  given = λ pages page text mode frame met all told s v h.
+      let self = c.args.self.now in
+      begins pages page text (reading_of pages mode frame c.args.left self.names) (ledger self.spent met (g.F.Folder.answered c.args.folder.now)) all
+      c.args.run self.store s h;
+}
+
 pub finish-returns-in_err-turn-clause-given : goal.finish-returns-in_err-turn-clause-given
 finish-returns-in_err-turn-clause-given g t c = λ pages page text mode frame met all told s v h.
     let self = c.args.self.now in
     let r = reading_of pages mode frame c.args.left self.names in
     let before = ledger self.spent met (g.F.Folder.answered c.args.folder.now) in
     let answered = g.F.Folder.answered c.steps.folder in
-    let p = c.steps.invariant.given pages page text mode frame met all told s v h in
     let e : c.from_residual.result ≡ Err c.in_err-turn.field-0.0 = search rules in
+    let named = subst (λ x. Concerns (g.F.Folder.pages c.args.folder.now) pages c.steps.self.store x) e told in
+    let agrees = c.steps.invariant.grown.agrees pages named (agrees_known pages met self.store s) in
+    let p = c.steps.invariant.given pages page text mode frame met all agrees s v h in
     subst (λ x. AnswersOutput pages page before all c.steps.self.store c.step.new.spent answered x) (sym e)
     (step_refused pages page text r before all c.steps.run c.steps.self.store c.steps.self.spent answered c.in_err-turn.field-0.0 p
     (c.in_err-turn.ensures.answer r text p.total p.holding v))
@@ -86,12 +111,14 @@ finish-returns-in_err-pieces-clause-given g t c = λ pages page text mode frame 
     let r = reading_of pages mode frame c.args.left self.names in
     let before = ledger self.spent met (g.F.Folder.answered c.args.folder.now) in
     let answered = g.F.Folder.answered c.steps.folder in
-    let p = c.steps.invariant.given pages page text mode frame met all told s v h in
     let e : c.from_residual-in_err-pieces.result ≡ Err c.in_err-pieces.field-0.0 = search rules in
+    let named = subst (λ x. Concerns (g.F.Folder.pages c.args.folder.now) pages c.advance.new.self.store x) e told in
+    let agrees = c.steps.invariant.grown.agrees pages named (agrees_known pages met self.store s) in
+    let p = c.steps.invariant.given pages page text mode frame met all agrees s v h in
     let step = step_handed pages page text mode frame c.args.left self.names c.steps.self.names c.steps.invariant.names before all c.steps.run c.step.new.self
     c.steps.self.store c.steps.self.spent c.step.new.spent answered c.in_ok-turn.turn p (c.in_ok-turn.ensures.answer r text p.total p.holding v) in
     subst (λ x. AnswersOutput pages page before all c.advance.new.self.store c.advance.new.self.spent (g.F.Folder.answered c.advance.new.folder) x) (sym e)
-    (c.in_err-pieces.ensures.given pages page text mode frame before all (c.steps.invariant.kept ∙ told) step)
+    (c.in_err-pieces.ensures.given pages page text mode frame before all (c.steps.invariant.kept ∙ named) step)
 
 pub finish-returns-in-Some-clause-given : goal.finish-returns-in-Some-clause-given
 finish-returns-in-Some-clause-given g t c = λ pages page text mode frame met all told s v h.
@@ -99,25 +126,34 @@ finish-returns-in-Some-clause-given g t c = λ pages page text mode frame met al
     let r = reading_of pages mode frame c.args.left self.names in
     let before = ledger self.spent met (g.F.Folder.answered c.args.folder.now) in
     let answered = g.F.Folder.answered c.steps.folder in
-    let p = c.steps.invariant.given pages page text mode frame met all told s v h in
+    let agrees = agrees_before pages c.steps.self.store c.advance.new.self.store c.in_ok-pieces.ensures.grown.kept told in
+    let p = c.steps.invariant.given pages page text mode frame met all agrees s v h in
     let step = step_handed pages page text mode frame c.args.left self.names c.steps.self.names c.steps.invariant.names before all c.steps.run c.step.new.self
     c.steps.self.store c.steps.self.spent c.step.new.spent answered c.in_ok-turn.turn p (c.in_ok-turn.ensures.answer r text p.total p.holding v) in
     subst (λ (o : Option (Listed Piece)). AnswersAdvance pages page
     (reading_of pages mode frame c.args.left c.steps.self.names) text before all c.advance.new.run
     c.advance.new.self.store c.advance.new.self.spent (g.F.Folder.answered c.advance.new.folder) (Ok o)) c.in-Some.is
-    (c.in_ok-pieces.ensures.given pages page text mode frame before all (c.steps.invariant.kept ∙ told) step)
+    (c.in_ok-pieces.ensures.given pages page text mode frame before all told step)
+
+pub finish-returns-in-Some-clause-grown : goal.finish-returns-in-Some-clause-grown
+finish-returns-in-Some-clause-grown g t c =
+    grows_then (g.F.Folder.pages c.args.folder.now) c.args.self.now.store c.steps.self.store c.advance.new.self.store c.steps.invariant.grown
+    (subst (λ o. Grows o c.steps.self.store c.advance.new.self.store) c.steps.invariant.kept c.in_ok-pieces.ensures.grown)
 
 pub finish-steps-preserved : goal.finish-steps-preserved
 finish-steps-preserved g t c = record {
   kept = c.in_ok-pieces.ensures.kept ∙ c.steps.invariant.kept;
   count = c.in_ok-pieces.ensures.count ∙ c.steps.invariant.count;
   names = c.in_ok-pieces.ensures.names ∙ c.steps.invariant.names;
+  grown = grows_then (g.F.Folder.pages c.args.folder.now) c.args.self.now.store c.steps.self.store c.advance.new.self.store c.steps.invariant.grown
+      (subst (λ o. Grows o c.steps.self.store c.advance.new.self.store) c.steps.invariant.kept c.in_ok-pieces.ensures.grown);
   given = λ pages page text mode frame met all told s v h.
       let self = c.args.self.now in
       let r = reading_of pages mode frame c.args.left self.names in
       let before = ledger self.spent met (g.F.Folder.answered c.args.folder.now) in
       let answered = g.F.Folder.answered c.steps.folder in
-      let p = c.steps.invariant.given pages page text mode frame met all told s v h in
+      let agrees = agrees_before pages c.steps.self.store c.advance.new.self.store c.in_ok-pieces.ensures.grown.kept told in
+      let p = c.steps.invariant.given pages page text mode frame met all agrees s v h in
       let step = step_handed pages page text mode frame c.args.left self.names c.steps.self.names c.steps.invariant.names before all c.steps.run c.step.new.self
       c.steps.self.store c.steps.self.spent c.step.new.spent answered c.in_ok-turn.turn p (c.in_ok-turn.ensures.answer r text p.total p.holding v) in
       subst (λ (ns : List (List ℕ)). Progress pages page (reading_of pages mode frame c.args.left ns) text before all c.advance.new.run c.advance.new.self.store
@@ -125,7 +161,7 @@ finish-steps-preserved g t c = record {
       (subst (λ (o : Option (Listed Piece)). AnswersAdvance pages page
       (reading_of pages mode frame c.args.left c.steps.self.names) text before all c.advance.new.run
       c.advance.new.self.store c.advance.new.self.spent (g.F.Folder.answered c.advance.new.folder) (Ok o)) c.in_default.is
-      (c.in_ok-pieces.ensures.given pages page text mode frame before all (c.steps.invariant.kept ∙ told) step));
+      (c.in_ok-pieces.ensures.given pages page text mode frame before all told step));
 }
 
 pub page-returns-in_err-given-in-Page-clause-given : goal.page-returns-in_err-given-in-Page-clause-given
@@ -134,6 +170,8 @@ page-returns-in_err-given-in-Page-clause-given g t c = λ pages page frame met t
     let answered = g.F.Folder.answered c.args.folder.now in
     let named = g.F.Folder.answered c.take.new.folder in
     let e : c.from_residual-in_err-given-in-Page.result ≡ Err c.in_err-given-in-Page.field-0.0 = search rules in
+    let named_pages = subst (λ y. Concerns (g.F.Folder.pages c.args.folder.now) pages c.finish.new.self.store y) e told in
+    let agrees = c.in_ok-pieces.ensures.grown.agrees pages named_pages (agrees_known pages met self.store s) in
     let x : Result (Listed Piece) _ = Err c.in_err-given-in-Page.field-0.0 in
     let inside : c.push.new.self ≡ full_name_of c.args.handing.now.title ∷ self.names = c.in_ok-push-in-Page.ensures
     ∙ ap (λ n. n ∷ self.names) c.in_ok-full_name-in-Page.ensures in
@@ -144,16 +182,18 @@ page-returns-in_err-given-in-Page-clause-given g t c = λ pages page frame met t
     (page_done pages page self.spent c.finish.new.self.spent met answered named (g.F.Folder.answered c.finish.new.folder) c.args.left c.in-Some.less
     (reverse c.as_slice-names.result.now) self.names c.push.new.self c.args.handing.now.title frame c.in_ok-pieces.field-0 c.in-Page.read
     c.in_ok-run-in-Page.run'
-    c.take.new.store c.finish.new.self.store x c.as_slice-names.ensures c.in-Page.is some inside (c.in_ok-pieces.ensures.taken pages met told s)
+    c.take.new.store c.finish.new.self.store x c.as_slice-names.ensures c.in-Page.is some inside (c.in_ok-pieces.ensures.taken pages met agrees s)
     (c.in_ok-pieces.ensures.named pages met s)
     c.in_ok-run-in-Page.ensures
-    (λ bs now_met all stored holds. c.in_err-given-in-Page.ensures.given pages page bs _ frame now_met all (c.in_ok-pieces.ensures.kept ∙ told) stored v holds))
+    (λ bs now_met all stored holds. c.in_err-given-in-Page.ensures.given pages page bs _ frame now_met all (c.in_ok-pieces.ensures.kept ∙ named_pages) stored v
+    holds))
 
 pub page-returns-in_ok-given-in-Page-clause-given : goal.page-returns-in_ok-given-in-Page-clause-given
 page-returns-in_ok-given-in-Page-clause-given g t c = λ pages page frame met told s v.
     let self = c.args.self.now in
     let answered = g.F.Folder.answered c.args.folder.now in
     let named = g.F.Folder.answered c.take.new.folder in
+    let agrees = agrees_before pages c.take.new.store c.finish.new.self.store c.in_ok-given-in-Page.ensures.grown.kept told in
     let x : Result (Listed Piece) _ = Ok c.in_ok-given-in-Page.given in
     let inside : c.push.new.self ≡ full_name_of c.args.handing.now.title ∷ self.names = c.in_ok-push-in-Page.ensures
     ∙ ap (λ n. n ∷ self.names) c.in_ok-full_name-in-Page.ensures in
@@ -161,10 +201,15 @@ page-returns-in_ok-given-in-Page-clause-given g t c = λ pages page frame met to
     page_done pages page self.spent c.finish.new.self.spent met answered named (g.F.Folder.answered c.finish.new.folder) c.args.left c.in-Some.less
     (reverse c.as_slice-names.result.now) self.names c.push.new.self c.args.handing.now.title frame c.in_ok-pieces.field-0 c.in-Page.read
     c.in_ok-run-in-Page.run'
-    c.take.new.store c.finish.new.self.store x c.as_slice-names.ensures c.in-Page.is some inside (c.in_ok-pieces.ensures.taken pages met told s)
+    c.take.new.store c.finish.new.self.store x c.as_slice-names.ensures c.in-Page.is some inside (c.in_ok-pieces.ensures.taken pages met agrees s)
     (c.in_ok-pieces.ensures.named pages met s)
     c.in_ok-run-in-Page.ensures
-    (λ bs now_met all stored holds. c.in_ok-given-in-Page.ensures.given pages page bs _ frame now_met all (c.in_ok-pieces.ensures.kept ∙ told) stored v holds)
+    (λ bs now_met all stored holds. c.in_ok-given-in-Page.ensures.given pages page bs _ frame now_met all told stored v holds)
+
+pub page-returns-in_ok-given-in-Page-clause-grown : goal.page-returns-in_ok-given-in-Page-clause-grown
+page-returns-in_ok-given-in-Page-clause-grown g t c =
+    grows_then (g.F.Folder.pages c.args.folder.now) c.args.self.now.store c.take.new.store c.finish.new.self.store c.in_ok-pieces.ensures.grown
+    (subst (λ o. Grows o c.take.new.store c.finish.new.self.store) c.in_ok-pieces.ensures.kept c.in_ok-given-in-Page.ensures.grown)
 
 pub page-returns-in-Message-clause-given : goal.page-returns-in-Message-clause-given
 page-returns-in-Message-clause-given g t c = λ pages page frame met told s v.

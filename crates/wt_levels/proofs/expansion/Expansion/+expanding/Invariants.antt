@@ -1,9 +1,9 @@
-use Rattle.std.proofs.Common.{◌≡◌, ◌*◌, ◌+◌, List, Some, ℕ}
+use Rattle.std.proofs.Common.{◌≡◌, ◌*◌, ◌+◌, List, ℕ}
 use Rattle.wt_span.specs.declared.form.Mode.{Mode}
 use Rattle.wt_expand.specs.Expansion.{Frame, Output}
 use Rattle.wt_expand.specs.Work.{Pages}
 use Rattle.wt_transclusion.specs.Frames.{AreValues}
-use Rattle.wt_transclusion.specs.Stores.{IsStore}
+use Rattle.wt_transclusion.specs.Stores.{Agrees, Grows, IsStore}
 use Rattle.wt_levels.specs.Ledgers.{Progress, ledger, reading_of}
 use Rattle.wt_levels.specs.Runs.{Holds}
 use Rattle.wt_levels.specs.Stacks.{stack}
@@ -23,8 +23,9 @@ invariant-finish-steps g l = record {
   kept : g.F.Folder.pages l.folder ≡ g.F.Folder.pages l.initial.folder;
   count : g.F.Folder.fault_count l.folder ≡ g.F.Folder.fault_count l.initial.folder;
   names : l.self.names ≡ l.initial.self.names;
+  grown : Grows (g.F.Folder.pages l.initial.folder) l.initial.self.store l.self.store;
   given : (pages : Pages) (page t : List ℕ) (mode : Mode) (frame : Frame) (met : List (List ℕ)) (all : Output)
-      → g.F.Folder.pages l.initial.folder ≡ Some pages → IsStore pages met l.initial.self.store → AreValues l.values frame
+      → Agrees pages l.self.store → IsStore pages met l.initial.self.store → AreValues l.values frame
       → Holds (reading_of pages mode frame l.left l.initial.self.names) t l.initial.run (stack l.initial.run.levels) all
       → Progress pages page (reading_of pages mode frame l.left l.initial.self.names) t
       (ledger l.initial.self.spent met (g.F.Folder.answered l.initial.folder)) all l.run l.self.store l.self.spent (g.F.Folder.answered l.folder);

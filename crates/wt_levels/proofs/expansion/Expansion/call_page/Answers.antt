@@ -1,7 +1,10 @@
-use Rattle.std.proofs.Common.{◌≡◌, Err, List, Ok, Option, [], refl, rules, subst, sym, ◌∙◌, ℕ}
+use Rattle.std.proofs.Common.{◌≡◌, Err, List, Ok, Option, [], refl, rules, subst, sym, ℕ}
+use Rattle.std.specs.Prelude.{OnOk}
 use Rattle.wt_span.specs.declared.list.List.{List as Listed}
 use Rattle.wt_span.specs.declared.form.Piece.{Piece}
 use Rattle.wt_expand.specs.Expansion.{later_parts}
+use Rattle.wt_transclusion.specs.Stores.{Concerns, Grows}
+use Rattle.wt_transclusion.proofs.GrowthLaws.{agrees_between, agrees_known, grows_through}
 use Rattle.wt_levels.specs.Calls.{parts_of_call}
 use Rattle.wt_levels.specs.Ledgers.{AnswersAdvance, AnswersOutput, Progress, ledger, reading_of}
 use Rattle.wt_levels.specs.Readers.{IsReading}
@@ -34,8 +37,9 @@ returns-in_err-pieces-clause-given g c = λ pages page t frame met p s b told st
     (begun_spent self.spent c.charge.new.spent all o refl c.in_ok-charge.ensures.large c.in_ok-charge.ensures.spent) (c.in_ok-turn.ensures r t o first) in
     let before = ledger self.spent met answered in
     let e : c.from_residual-in_err-pieces.result ≡ Err c.in_err-pieces.field-0.0 = search rules in
+    let named = subst (λ x. Concerns (g.F.Folder.pages c.args.folder.now) pages c.advance.new.self.store x) e told in
     subst (λ x. AnswersOutput pages page before all c.advance.new.self.store c.advance.new.self.spent (g.F.Folder.answered c.advance.new.folder) x) (sym e)
-    (c.in_err-pieces.ensures.given pages page t c.args.mode frame before all told step)
+    (c.in_err-pieces.ensures.given pages page t c.args.mode frame before all named step)
 
 pub returns-in-Some-clause-given : goal.returns-in-Some-clause-given
 returns-in-Some-clause-given g c = λ pages page t frame met p s b told st v reading low.
@@ -82,12 +86,22 @@ returns-clause-given g c = λ pages page t frame met p s b told st v reading low
     let before = ledger self.spent met answered in
     let now = c.advance.new.self in
     let told_now = g.F.Folder.answered c.advance.new.folder in
+    let after = subst (λ o. OnOk c.finish.result (Grows o now.store c.finish.new.self.store)) c.in_ok-pieces.ensures.kept c.finish.ensures.grown in
+    let agrees = agrees_between (g.F.Folder.pages c.args.folder.now) pages self.store now.store c.finish.new.self.store c.finish.result
+    c.in_ok-pieces.ensures.grown after (agrees_known pages met self.store st) told in
     let left = subst (λ (x : Option (Listed Piece)). AnswersAdvance pages page r t before all c.advance.new.run now.store now.spent told_now (Ok x))
     c.in_default.is
-    (c.in_ok-pieces.ensures.given pages page t c.args.mode frame before all told step) in
+    (c.in_ok-pieces.ensures.given pages page t c.args.mode frame before all agrees step) in
     let there = subst (λ (ns : List (List ℕ)). Progress pages page
     (reading_of pages c.args.mode frame c.args.left ns) t before all c.advance.new.run now.store now.spent told_now)
     (sym c.in_ok-pieces.ensures.names) left in
     finished pages page t (reading_of pages c.args.mode frame c.args.left now.names) before all c.advance.new.run now.store c.finish.new.self.store now.spent
     c.finish.new.self.spent told_now (g.F.Folder.answered c.finish.new.folder) c.finish.result there
-    (c.finish.ensures.given pages page t c.args.mode frame there.met there.total (c.in_ok-pieces.ensures.kept ∙ told) there.stored v there.holding)
+    (c.finish.ensures.given pages page t c.args.mode frame there.met there.total
+    (subst (λ o. Concerns o pages c.finish.new.self.store c.finish.result) (sym c.in_ok-pieces.ensures.kept) told) there.stored v there.holding)
+
+pub returns-clause-grown : goal.returns-clause-grown
+returns-clause-grown g c =
+    let now = c.advance.new.self.store in
+    grows_through (g.F.Folder.pages c.args.folder.now) c.args.self.now.store now c.finish.new.self.store c.finish.result c.in_ok-pieces.ensures.grown
+    (subst (λ o. OnOk c.finish.result (Grows o now c.finish.new.self.store)) c.in_ok-pieces.ensures.kept c.finish.ensures.grown)
