@@ -1,5 +1,5 @@
 -- Worked cases by computing: small pages are read as their own trees.
-use Rattle.std.proofs.Common.{◌++◌, ◌≡◌, ℕ, ◌<◌, ◌^◌, inl, inr, Some, None, List, [], ◌∷◌, refl, arith, codes}
+use Rattle.std.proofs.Common.{◌++◌, ◌≡◌, ℕ, inl, inr, Some, None, List, [], ◌∷◌, refl, arith, codes}
 use Rattle.std.proofs.lemmas.Str.{IsUtf8-nil}
 use Rattle.json.proofs.Printed.Utf8.{IsUtf8-are_ascii}
 use Rattle.wt_tree.specs.declared.kind.AttrName.TheVariants as attr
