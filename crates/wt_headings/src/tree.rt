@@ -36,10 +36,7 @@ pub fn with_content<'a>(
 
 /// What stands in a heading, as the children of its node.
 #[tactic(auto, unfolding(wt_context::specs::Line::line_trees))]
-fn inside_children<'a>(
-    alloc: Global,
-    inside: &[Piece<'a>],
-) -> Result<List<PieceTree<'a>>, NoMemory>
+fn inside_children<'a>(alloc: Global, inside: &[Piece<'a>]) -> Result<List<PieceTree<'a>>, NoMemory>
     requires { All IsSoundPiece inside.now }
     ensures { IfOk result (λ l. item_trees l ≡ line_trees (items inside.now)) }
 {
