@@ -10,10 +10,8 @@ static MW_CASES: &str = r#"{"parts":[]} => {"parts":[]}
 {"parts":1} => Shape
 {"parts":["a"]} => {"parts":["a"]}
 {"parts":[{"param":{"wt":"{{{a}}}"}}]} => {"parts":[{"param":{"wt":"{{{a}}}"}}]}
-{"parts":[{"template":{"i":0,"params":{},"target":{"href":"./Template:X","wt":"x"}}}]} =>
-    {"parts":[{"template":{"i":0,"params":{},"target":{"href":"./Template:X","wt":"x"}}}]}
-{"parts":[{"template":{"params":{"b":{"wt":"1"},"a":{"wt":"2"}},"i":3,"target":{"wt":"x","href":"./Template:X"}}}]} =>
-    {"parts":[{"template":{"i":3,"params":{"a":{"wt":"2"},"b":{"wt":"1"}},"target":{"href":"./Template:X","wt":"x"}}}]}
+{"parts":[{"template":{"i":0,"params":{},"target":{"href":"./Template:X","wt":"x"}}}]} => {"parts":[{"template":{"i":0,"params":{},"target":{"href":"./Template:X","wt":"x"}}}]}
+{"parts":[{"template":{"params":{"b":{"wt":"1"},"a":{"wt":"2"}},"i":3,"target":{"wt":"x","href":"./Template:X"}}}]} => {"parts":[{"template":{"i":3,"params":{"a":{"wt":"2"},"b":{"wt":"1"}},"target":{"href":"./Template:X","wt":"x"}}}]}
 {"name":"ref"} => {"name":"ref"}
 {"name":"ref","body":{"extsrc":"x"}} => {"body":{"extsrc":"x"},"name":"ref"}
 {"name":"ref","body":{}} => Shape
@@ -29,8 +27,7 @@ null => Shape
 {"parts":[{"template":{"i":-1,"params":{},"target":{"href":"a","wt":"b"}}}]} => Number
 {"parts":[{"template":{"i":1.0,"params":{},"target":{"href":"a","wt":"b"}}}]} => Number
 {"parts":[{"template":{"i":4294967296,"params":{},"target":{"href":"a","wt":"b"}}}]} => Number
-{"parts":[{"template":{"i":4294967295,"params":{},"target":{"href":"a","wt":"b"}}}]} =>
-    {"parts":[{"template":{"i":4294967295,"params":{},"target":{"href":"a","wt":"b"}}}]}
+{"parts":[{"template":{"i":4294967295,"params":{},"target":{"href":"a","wt":"b"}}}]} => {"parts":[{"template":{"i":4294967295,"params":{},"target":{"href":"a","wt":"b"}}}]}
 {"parts":[{"template":{"i":"0","params":{},"target":{"href":"a","wt":"b"}}}]} => Shape
  { "parts" : [ ] }  => {"parts":[]}
 {"parts":[]}x => Json
@@ -43,8 +40,7 @@ null => Shape
 {"parts":[[]]} => Shape
 {"parts":[true]} => Shape
 {"parts":[{"template":{"i":1.5,"params":{},"target":{"href":"a","wt":"b"}}},[]]} => Shape
-{"parts":[{"template":{"i":0,"params":{"1":{"wt":" c "},"é":{"wt":""}},"target":{"href":"./Template:X","wt":"x "}}},"\n",{"param":{"wt":"{{{1}}}"}}]} =>
-    {"parts":[{"template":{"i":0,"params":{"1":{"wt":" c "},"é":{"wt":""}},"target":{"href":"./Template:X","wt":"x "}}},"\n",{"param":{"wt":"{{{1}}}"}}]}
+{"parts":[{"template":{"i":0,"params":{"1":{"wt":" c "},"é":{"wt":""}},"target":{"href":"./Template:X","wt":"x "}}},"\n",{"param":{"wt":"{{{1}}}"}}]} => {"parts":[{"template":{"i":0,"params":{"1":{"wt":" c "},"é":{"wt":""}},"target":{"href":"./Template:X","wt":"x "}}},"\n",{"param":{"wt":"{{{1}}}"}}]}
 {"name":"ref","body":{"extsrc":""}} => {"body":{"extsrc":""},"name":"ref"}
 {"name":"ref","body":null} => Shape
 {"name":"ref","parts":[]} => Shape"#;

@@ -10,6 +10,8 @@ mod datamw;
 #[cfg(test)]
 mod expanded;
 #[cfg(test)]
+mod expansion;
+#[cfg(test)]
 mod reader;
 #[cfg(test)]
 mod titles;
