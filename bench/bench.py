@@ -1,7 +1,7 @@
 #!/usr/bin/env python3
 """Measures the proved `wtround`: `html` on pages of 64 KiB, 512 KiB and 2 MiB, `wikitext` on HTML of 512 KiB,
 8 MiB and 64 MiB less a page's frame, of the HTML of pages with comments and entities, and of what `html` answers
-for pages of links, URLs, styles and tags (a third of the size for apostrophes); `html` on pages of lists and tables.
+for pages of links, URLs, styles and tags (a third of the size for apostrophes); `html` on pages of lists and tables; `expand` on pages of calls.
 
   bench/bench.py PROGRAM [OTHER]
 
@@ -74,6 +74,17 @@ BLOCK_KINDS = {
     "table rows": lambda size: b"{|\n" + lines(lambda k: "|-\n| a || b\n")(size - 4),
     "nested tables": lines(lambda k: "{|\n| a\n" * 16 + "|}\n" * 16),
     "opened tables": lines(lambda k: "{|\n"),
+}
+
+
+# Pages with calls, and the files of the templates that they call.
+ARGUMENTS = "|".join(f"a{k}={k}" for k in range(1000))
+HANDED = {f"Template%3AL{k}": b"{{L%d|{{{1}}}}}" % (k + 1) for k in range(1, 40)}
+EXPAND_KINDS = {
+    "calls of one small template": (whole("{{T}}\n"), {"Template%3AT": b"<b>t</b>"}),
+    "calls of an absent page": (whole("{{x}}"), {}),
+    "calls with 1,000 arguments": (whole("{{T|" + ARGUMENTS + "}}\n"), {"Template%3AT": b"{{{a500}}}"}),
+    "a value through 40 templates": (lambda size: b"{{L1|" + b"v" * (size // 2) + b"}}", HANDED | {"Template%3AL40": b"{{{1}}}"}),
 }
 
 
@@ -157,16 +168,19 @@ def answer(program, page):
         return subprocess.run([program, "html", "Main"], cwd=folder, capture_output=True).stdout
 
 
-def measure(programs, title, words, sizes, make):
+def measure(programs, title, words, sizes, make, templates={}):
     last = [None] * len(programs)
     for size in sizes:
         with tempfile.TemporaryDirectory() as folder:
             os.mkdir(os.path.join(folder, "pages"))
             made = make(size)
             with open(os.path.join(folder, "pages", "Main.wiki"), "wb") as out:
-                out.write(made if words[0] == "html" else b"")
+                out.write(b"" if words[0] == "wikitext" else made)
+            for name, text in templates.items():
+                with open(os.path.join(folder, "pages", name + ".wiki"), "wb") as out:
+                    out.write(text)
             with open(os.path.join(folder, "in"), "wb") as out:
-                out.write(b"" if words[0] == "html" else made)
+                out.write(made if words[0] == "wikitext" else b"")
             cells, spent = [], []
             for n, program in enumerate(programs):
                 seconds, peak = run(program, folder, words)
@@ -198,6 +212,8 @@ def main():
         measure(programs, f"html, {kind}", ["html", "Main"], SIZES, make)
     for kind, make in BLOCK_KINDS.items():
         measure(programs, f"html, {kind}", ["html", "Main"], SIZES, make)
+    for kind, (make, templates) in EXPAND_KINDS.items():
+        measure(programs, f"expand, {kind}", ["expand", "Main"], SIZES, make, templates)
     for kind, make in HTML_KINDS.items():
         measure(programs, f"wikitext, {kind}", ["wikitext"], HTML_SIZES, make)
     for kind, make in INLINE_KINDS.items():
