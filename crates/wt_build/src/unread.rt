@@ -13,7 +13,7 @@ ghost use Rattle.wt_build.specs.Building.{AreWhole};
 ghost use Rattle.wt_build.specs.Unread.{left, all_breaks, AreBreaks, begins_break};
 
 use std::alloc::Global;
-use wt_lines::{chars_piece, is_break, is_chars};
+use wt_lines::{chars_piece, is_break, is_chars, unbroken_len};
 use wt_span::{List, NoMemory, Piece};
 
 /// Pieces of a page, of which the first may be the rest of one.
@@ -21,19 +21,6 @@ use wt_span::{List, NoMemory, Piece};
 pub struct Unread<'p, 'a> {
     first: Option<Piece<'a>>,
     others: &'p [Piece<'a>],
-}
-
-/// How many bytes stand before the first line break.
-fn unbroken_len(bytes: &[u8]) -> usize
-    ensures value { result ≡ prefix_len (λ b. not (is_break b)) bytes.now }
-    ensures within { result ≤ length bytes.now }
-{
-    for (i, byte) in bytes.iter().enumerate() {
-        if *byte == b'\n' {
-            return i;
-        }
-    }
-    bytes.len()
 }
 
 /// How many line breaks stand at the front.

@@ -8,7 +8,8 @@ use Rattle.wt_tree.specs.Plain.{Face, face, Plain, text, element, Plains, ended,
 use Rattle.wt_tree.specs.Stream.{Sign, byte, bracket, opens, closes, signs_by, signs_of_all}
 use Rattle.wt_tree.specs.Tree.{Label, Tree, tree, Trees, none, more}
 use Rattle.wt_tree.proofs.Streams.{plain_signs, signs_of_plain, all_signs_before}
-use Rattle.wt_checks.specs.Elements.{span, without_data, bare, all_bare, as_elements, or_empty_span, written_for, signs_in, signs_of}
+use Rattle.wt_checks.specs.Elements.{without_data, bare, all_bare, written_for, signs_in, signs_of}
+use Rattle.wt_tree.specs.Elements.{span, as_elements, or_empty_span}
 use Rattle.wt_checks.specs.Tokens.{bare_sign, all_bare_signs, close_span, text_in_span, open_after, top_by, open_by, top_open, all_top_open, top_signs, all_top_signs, span_if_none}
 use Rattle.wt_checks.proofs.Elements.{bare_text}
 

@@ -1,21 +1,16 @@
 -- The elements that are written for what a group shows, and those that are read in it.
 use Rattle.std.specs.Prelude.{None, List, [], ◌∷◌, ◌++◌, map}
-use Rattle.wt_tree.specs.declared.kind.Kind.TheVariants as kind
-use Rattle.wt_tree.specs.declared.kind.TagName.TheVariants as tag
 use Rattle.wt_tree.specs.declared.row.Writing.{Writing}
 use Rattle.wt_tree.specs.declared.row.Writing.TheVariants.{AsText, AsVoid, RoundCharacter, RoundChildren, Unwritten}
 use Rattle.wt_tree.specs.declared.kind.Showing.{Showing}
 use Rattle.wt_tree.specs.declared.kind.Showing.TheVariants.{Characters, Inside, Nothing, Element}
+use Rattle.wt_tree.specs.Elements.{as_elements, or_empty_span}
 use Rattle.wt_tree.specs.Kinds.{showing, writing}
 use Rattle.wt_tree.specs.Plain.{Face, face, Plain, text, element, Plains, ended, along, plains_before}
 use Rattle.wt_tree.specs.Stream.{opens, closes, Sign, byte, bracket}
 use Rattle.wt_tree.specs.Tree.{Label, Tree, tree, Trees, none, more}
 
 -- ---- as they are written
-
--- the element round a text that a group shows, and round nothing
-abbrev pub span : Face
-span = record { kind = kind.Tag tag.Span; attrs = []; mw = None }
 
 -- inside a group an extension has no data
 abbrev pub without_data : Face → Face
@@ -29,20 +24,6 @@ abbrev mutual
   pub all_bare : Plains → Plains
   all_bare ended = ended
   all_bare (along p ps) = along (bare p) (all_bare ps)
-
--- a text at the top of what is shown is one `span`
-abbrev pub as_element : Plain → Plain
-as_element (text bs) = element span (along (text bs) ended)
-as_element (element f qs) = element f qs
-
-abbrev pub as_elements : Plains → Plains
-as_elements ended = ended
-as_elements (along p ps) = along (as_element p) (as_elements ps)
-
--- with nothing shown it is one empty `span`
-abbrev pub or_empty_span : Plains → Plains
-or_empty_span ended = along (element span ended) ended
-or_empty_span (along p ps) = along p ps
 
 -- the elements that are written for a group that holds these nodes: their plain view
 abbrev pub written_for : Trees → Plains

@@ -15,7 +15,8 @@ use Rattle.wt_checks.specs.declared.written.Written.{Written}
 use Rattle.wt_checks.specs.declared.written.Written.TheVariants as written
 use Rattle.wt_checks.specs.declared.read.Read.{Read}
 use Rattle.wt_checks.specs.declared.read.Read.TheVariants as read
-use Rattle.wt_checks.specs.Elements.{span, without_data}
+use Rattle.wt_checks.specs.Elements.{without_data}
+use Rattle.wt_tree.specs.Elements.{span}
 
 abbrev pub written_sign : Written → Sign
 written_sign (written.Byte b) = byte b

@@ -2,7 +2,8 @@ ghost use Rattle.std.specs.Prelude.{◌≡◌, ◌&&◌, ◌||◌, [], not, opti
 ghost use Rattle.wt_tree.specs.Plain.{face};
 ghost use Rattle.wt_tree.specs.View.{view, views, label_of};
 ghost use Rattle.wt_tree.specs.declared.node.Node.{out-Node};
-ghost use Rattle.wt_checks.specs.Elements.{written_for, all_read, signs_in, without_data, span};
+ghost use Rattle.wt_checks.specs.Elements.{written_for, all_read, signs_in, without_data};
+ghost use Rattle.wt_tree.specs.Elements.{span};
 ghost use Rattle.wt_checks.specs.Groups.{has_mark, have_mark, same_face, same_sign, same_signs, shows_same, carries_same, is_changed_group, is_in_template};
 ghost use Rattle.wt_checks.specs.Places.{first};
 ghost use Rattle.wt_checks.specs.Tokens.{written_sign, written_signs, read_sign, read_signs};

@@ -17,7 +17,7 @@ use crate::kept::Kept;
 use crate::page::Page;
 use std::alloc::{AllocError, Global};
 use wt_span::List;
-use wt_tree::{Attr, DataMw, Kind, Node, Showing};
+use wt_tree::{Attr, DataMw, Kind, Node, Showing, same_attrs, same_data, same_kind};
 
 /// An element's kind with its attributes, and what an extension has beside.
 #[derive(Clone, Copy)]
@@ -177,24 +177,6 @@ fn show_all_restored<'n>(
 }
 
 // ---- two plain views
-
-fn same_kind(a: Kind, b: Kind) -> bool
-    ensures { Decides result (a ≡ b) }
-{
-    a == b
-}
-
-fn same_attrs(a: &List<Attr>, b: &List<Attr>) -> bool
-    ensures { Decides result (a.now ≡ b.now) }
-{
-    a == b
-}
-
-fn same_data(a: &Option<DataMw>, b: &Option<DataMw>) -> bool
-    ensures { Decides result (a.now ≡ b.now) }
-{
-    a == b
-}
 
 fn same_face(a: Face<'_>, b: Face<'_>) -> bool
     ensures { Decides result (face_of a.entry ≡ face_of b.entry) }

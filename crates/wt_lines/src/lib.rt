@@ -19,7 +19,7 @@ pub use back::BackSigns;
 pub use kind::{LineKind, classify, kind_of_pieces};
 pub use laws::{one_set_of_lines, one_split};
 pub use line::{Line, lines};
-pub use partition::{chars_piece, is_break, is_chars, parted};
+pub use partition::{chars_piece, is_break, is_chars, parted, unbroken_len};
 pub use scan::{is_mark, line_len, marks_len, visible_len};
 pub use sign::{Sign, Signs};
 pub use split::{item_count, split_items};

@@ -30,7 +30,7 @@ pub fn is_break(piece: &Piece<'_>) -> bool
 }
 
 /// How many bytes stand before the first line break.
-fn unbroken_len(bytes: &[u8]) -> usize
+pub fn unbroken_len(bytes: &[u8]) -> usize
     ensures value { result ≡ prefix_len (λ b. not (is_break b)) bytes.now }
     ensures within { result ≤ length bytes.now }
 {

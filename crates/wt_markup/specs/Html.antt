@@ -3,10 +3,9 @@ use Rattle.std.specs.Prelude.{ℕ, suc, ◌+◌, List, [], ◌∷◌, ◌++◌, 
 use Rattle.std.specs.List.{flat_map}
 use Rattle.wt_tree.specs.declared.kind.AttrName.{AttrName}
 use Rattle.wt_tree.specs.declared.kind.Kind.{Kind}
-use Rattle.wt_tree.specs.declared.kind.Kind.TheVariants as kind
-use Rattle.wt_tree.specs.declared.kind.TagName.TheVariants as tag
 use Rattle.wt_tree.specs.declared.kind.Ranges.{Ranges}
 use Rattle.wt_tree.specs.declared.node.DataMw.{DataMw}
+use Rattle.wt_tree.specs.Elements.{span}
 use Rattle.wt_tree.specs.Kinds.{is_leaf, writing, element_name, attribute_name, fixed_attributes, order}
 use Rattle.wt_tree.specs.Plain.{Face, Plain, text, element, Plains, ended, along, plains_before}
 use Rattle.wt_tree.specs.Tiling.{is_group}
@@ -145,10 +144,6 @@ group_attributes false k l xs = next_attributes k xs
 
 abbrev pub group_element : Bool → ℕ → Label → Kind → List (AttrName × List ℕ) → List ℕ → List ℕ
 group_element first k l j xs inside = element_by (writing j) j (group_attributes first k l xs) inside
-
--- the element round a text that a group shows at its top, or round nothing
-abbrev pub span : Face
-span = record { kind = kind.Tag tag.Span; attrs = []; mw = None }
 
 abbrev pub group_span : Bool → ℕ → Label → List ℕ → List ℕ
 group_span first k l inside = group_element first k l span.kind (face_attributes span) inside

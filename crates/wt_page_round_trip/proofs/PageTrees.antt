@@ -5,7 +5,7 @@ use Rattle.wt_span.specs.Cuts.{page_of}
 use Rattle.wt_span.specs.Items.{Item, sources}
 use Rattle.wt_span.specs.Origins.{OuterCall}
 use Rattle.wt_tree.specs.Source.{flat}
-use Rattle.wt_tree.specs.Tiling.{Tiled, Covers, InPreorder}
+use Rattle.wt_tree.specs.Tiling.{Tiled, Covers, InPreorder, HasNoGroup, NoneIsGroup}
 use Rattle.wt_tree.specs.Tree.{Tree, tree, Trees, none, more, subtrees, subtrees_of_all}
 use Rattle.wt_expand.specs.PageItems.{page_items}
 use Rattle.wt_expand.proofs.PageLaws.{page_sources}
@@ -21,7 +21,7 @@ use Rattle.wt_ranges.specs.Clean.{is_clean}
 use Rattle.wt_ranges.specs.CutTexts.{cut_texts}
 use Rattle.wt_ranges.specs.GroupData.{group_data}
 use Rattle.wt_ranges.specs.Reached.{AreReachedSlices, reached, reached_in_all}
-use Rattle.wt_ranges.specs.WithoutCalls.{annotated as annotated_plainly, IsPlain, HasNoGroup, NoneIsGroup}
+use Rattle.wt_ranges.specs.WithoutCalls.{annotated as annotated_plainly, IsPlain}
 use Rattle.wt_ranges.proofs.AnnotatedTree.{annotated_tiles, annotated_covers, annotated_slices, annotated_source, annotated_numbered, without_calls}
 use Rattle.wt_ranges.proofs.Ends.{body_clean}
 use Rattle.wt_ranges.proofs.NoGroups.{only_plain}

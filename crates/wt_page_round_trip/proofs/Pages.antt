@@ -24,7 +24,8 @@ use Rattle.wt_body.specs.Body.{blocks, meaning}
 use Rattle.wt_body.proofs.HeldBody.{sources_meaning}
 use Rattle.wt_ranges.specs.Labels.{width, label_at}
 use Rattle.wt_ranges.specs.Counted.{numbered, numbered_in_all}
-use Rattle.wt_ranges.specs.WithoutCalls.{annotated, HasNoGroup, NoneIsGroup}
+use Rattle.wt_ranges.specs.WithoutCalls.{annotated}
+use Rattle.wt_tree.specs.Tiling.{HasNoGroup, NoneIsGroup}
 use Rattle.wt_ranges.specs.Made.{annotated_at}
 use Rattle.wt_ranges.proofs.OnePass.{annotated_is}
 use Rattle.wt_page_round_trip.proofs.OfPage.{page_texts, page_of_page}

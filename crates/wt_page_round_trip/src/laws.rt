@@ -1,6 +1,6 @@
 ghost use Rattle.std.specs.Prelude.{◌≡◌, ◌<◌, ◌≤◌, ◌*◌, ◌^◌, ℕ, List, length, None, IsUtf8};
 ghost use Rattle.wt_tree.specs.Source.{flat};
-ghost use Rattle.wt_tree.specs.Tiling.{Tiled, Covers, InPreorder};
+ghost use Rattle.wt_tree.specs.Tiling.{Tiled, Covers, InPreorder, HasNoGroup};
 ghost use Rattle.wt_markup.specs.Html.{html_text};
 ghost use Rattle.wt_fitting.specs.Read.{read, page};
 ghost use Rattle.wt_round_trip.specs.Written.{unranged, IsWritten};
@@ -9,7 +9,6 @@ ghost use Rattle.wt_body.specs.Body.{meaning};
 ghost use Rattle.wt_ranges.specs.Counted.{numbered};
 ghost use Rattle.wt_ranges.specs.Reached.{AreReachedSlices};
 ghost use Rattle.wt_ranges.specs.Slices.{AreSlices};
-ghost use Rattle.wt_ranges.specs.WithoutCalls.{HasNoGroup};
 ghost use Rattle.wt_page_round_trip.specs.PageTree.{page_tree};
 
 /// The HTML of a page is read as the page's own annotated tree, without the ranges of its texts and

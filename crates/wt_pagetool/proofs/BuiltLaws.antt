@@ -1,12 +1,11 @@
 -- A page that is built has no group in its tree.
 use Rattle.std.proofs.Common.{◌≡◌, ℕ, Bool, true, false, Option, Some, None, List, refl, sym, ◌∙◌, cond}
 use Rattle.std.specs.Option.{option_or}
-use Rattle.wt_tree.specs.Tiling.{is_group}
+use Rattle.wt_tree.specs.Tiling.{is_group, HasNoGroup, NoneIsGroup}
 use Rattle.wt_tree.specs.Tree.{Tree, tree, Trees, none, more, subtrees, subtrees_of_all}
 use Rattle.wt_not_built.specs.FirstPlace.{first_form, smaller, first_unbuilt}
 use Rattle.wt_not_built.specs.Groups.{start_of, group_at, first_of, first_group}
 use Rattle.wt_not_built.proofs.GroupLaws.{group_append}
-use Rattle.wt_ranges.specs.WithoutCalls.{HasNoGroup, NoneIsGroup}
 use Rattle.wt_page_round_trip.specs.PageTree.{page_tree}
 use Rattle.wt_pagetool.specs.Answers.{unbuilt_place}
 

@@ -21,7 +21,7 @@ use Rattle.wt_pagetool.specs.Causes.{Answered}
 use Rattle.wt_pagetool.specs.Devices.{SinkUse}
 use Rattle.wt_pagetool.specs.Reports.{Reported}
 use Rattle.wt_pagetool.specs.GivenBack.{IsReadBack, IsGivenBack, GaveBack}
-use Rattle.wt_ranges.specs.WithoutCalls.{HasNoGroup}
+use Rattle.wt_tree.specs.Tiling.{HasNoGroup}
 use Rattle.wt_pagetool.proofs.BuiltLaws.{built_none}
 use Rattle.wt_pagetool.proofs.PageLaws.{text_of, page_made}
 use Rattle.wt_pagetool.proofs.AnswerLaws.{wikitext_within}

@@ -28,7 +28,7 @@ use Rattle.wt_pagetool.specs.Causes.{Answered, RefusesAs, IsKept, found_status}
 use Rattle.wt_pagetool.specs.Calls.{call, IsDueAs, IsDue, KeptCounts, NothingFailed}
 use Rattle.wt_pagetool.specs.Reports.{Reported, WasDone, WasRefused, OutFailed, ErrFailed, WrotePage, WroteExpansion, WroteSource}
 use Rattle.wt_pagetool.proofs.StatusLaws.{is_done, is_write_fault, is_answer, IsUnansweredBy, unanswered}
-use Rattle.wt_ranges.specs.WithoutCalls.{HasNoGroup}
+use Rattle.wt_tree.specs.Tiling.{HasNoGroup}
 use Rattle.wt_pagetool.proofs.BuiltLaws.{built_none}
 use Rattle.wt_pagetool.proofs.PageLaws.{stands_made}
 use Rattle.wt_pagetool.proofs.ExpandLaws.{wrote_expansion, told_expansion}

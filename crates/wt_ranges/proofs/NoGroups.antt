@@ -8,7 +8,7 @@ use Rattle.wt_tree.specs.declared.row.Texts.{Texts}
 use Rattle.wt_tree.specs.declared.row.Texts.TheVariants.{Separators, Page, Bordered, OwnCharacter}
 use Rattle.wt_tree.specs.Kinds.{is_leaf, texts_of_kind}
 use Rattle.wt_tree.specs.Recut.{is_blank, is_text, is_border, leads_to_block, front_ranges, rest_ranges, joined_ranges, text_leaf, sep_leaf, text_onto, joined_texts, from_start, front_of, rest_of, parts_before, text_before, cut_from}
-use Rattle.wt_tree.specs.Tiling.{is_group}
+use Rattle.wt_tree.specs.Tiling.{is_group, HasNoGroup, NoneIsGroup}
 use Rattle.wt_tree.specs.Tree.{Tree, tree, Trees, none, more, label}
 use Rattle.wt_span.specs.Cuts.{is_free}
 use Rattle.wt_span.specs.Items.{Item}
@@ -21,7 +21,7 @@ use Rattle.wt_ranges.specs.Clean.{is_page, own_by, is_clean}
 use Rattle.wt_ranges.specs.CutTexts.{cut_as, cut_texts, all_cut_texts}
 use Rattle.wt_ranges.specs.Grouped.{group, Child, is_tied, of_runs, grouped, children}
 use Rattle.wt_ranges.specs.Numbering.{next_after, count, with_numbers, all_with_numbers}
-use Rattle.wt_ranges.specs.WithoutCalls.{inside_by, InsideOf, holds_page, NoneEmpty, AllNonEmpty, IsPlain, HasNoGroup, NoneIsGroup}
+use Rattle.wt_ranges.specs.WithoutCalls.{inside_by, InsideOf, holds_page, NoneEmpty, AllNonEmpty, IsPlain}
 use Rattle.wt_ranges.proofs.CutNumbered.{text_no_group, is_bare}
 use Rattle.wt_ranges.proofs.CutPlaced.{placed_bare}
 use Rattle.wt_ranges.proofs.CutTexts.{leaf_text, BareInside, BareTexts, AllBareTexts}

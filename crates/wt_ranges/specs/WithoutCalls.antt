@@ -3,7 +3,6 @@
 use Rattle.std.specs.Prelude.{◌≡◌, Bool, true, false, ◌||◌, List, [], ◌++◌}
 use Rattle.std.specs.List.{list_all, list_any}
 use Rattle.wt_tree.specs.Kinds.{is_leaf}
-use Rattle.wt_tree.specs.Tiling.{is_group}
 use Rattle.wt_tree.specs.Tree.{Tree, tree, Trees, none, more}
 use Rattle.wt_span.specs.Items.{Item}
 use Rattle.wt_inline.specs.ItemTree.{ItemTree, inner, ItemTrees, nothing, further, tree_items, held_by_all}
@@ -53,13 +52,3 @@ abbrev mutual
 pub record IsPlain (t : ItemTree) : Type 0 where
   pub of_page : list_all is_page (tree_items t) ≡ true
   pub none_empty : NoneEmpty t
-
--- ---- trees without groups
-
-abbrev mutual
-  pub HasNoGroup : Tree → Type 0
-  HasNoGroup (tree l ts) = (is_group l.kind ≡ false) × NoneIsGroup ts
-
-  pub NoneIsGroup : Trees → Type 0
-  NoneIsGroup none = Unit {0}
-  NoneIsGroup (more t ts) = HasNoGroup t × NoneIsGroup ts

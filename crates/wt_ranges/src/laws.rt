@@ -5,7 +5,7 @@ ghost use Rattle.wt_span.specs.Items.{Item};
 ghost use Rattle.wt_span.specs.Cuts.{page_of};
 ghost use Rattle.wt_span.specs.Origins.{OuterCall};
 ghost use Rattle.wt_tree.specs.Source.{flat};
-ghost use Rattle.wt_tree.specs.Tiling.{Covers, InPreorder, Tiled};
+ghost use Rattle.wt_tree.specs.Tiling.{Covers, InPreorder, Tiled, HasNoGroup};
 ghost use Rattle.wt_tree.specs.Tree.{Tree};
 ghost use Rattle.wt_tree.specs.declared.node.DataMw.{DataMw};
 ghost use Rattle.wt_tree.specs.declared.kind.Kind.TheVariants as node_kind;
@@ -31,7 +31,7 @@ ghost use Rattle.wt_ranges.specs.Reached.{
 };
 ghost use Rattle.wt_ranges.specs.Ungrouped.{ungrouped};
 ghost use Rattle.wt_ranges.specs.Walked.{walked};
-ghost use Rattle.wt_ranges.specs.WithoutCalls.{annotated as annotated_plainly, HasNoGroup, IsPlain};
+ghost use Rattle.wt_ranges.specs.WithoutCalls.{annotated as annotated_plainly, IsPlain};
 
 /// The body of a page is clean, whatever it holds.
 pub fn body_is_clean()

@@ -1,6 +1,6 @@
 -- The tree that is read is written as it was, shows the same, and has the same source and numbers.
 use Rattle.std.proofs.Common.{◌≡◌, ℕ, suc, ◌+◌, Bool, true, false, Option, List, [], ◌∷◌, ◌++◌, refl, ap, ap₂, ◌∙◌}
-use Rattle.std.specs.Prelude.{◌||◌, if◌then◌else◌}
+use Rattle.std.specs.Prelude.{if◌then◌else◌}
 use Rattle.wt_tree.specs.declared.kind.Kind.{Kind}
 use Rattle.wt_tree.specs.declared.kind.Kind.TheVariants as kind
 use Rattle.wt_tree.specs.declared.kind.Ranges.{Ranges}
@@ -10,13 +10,13 @@ use Rattle.wt_tree.specs.Kinds.{is_leaf, is_numbered, showing}
 use Rattle.wt_tree.specs.Tree.{Label, Tree, tree, Trees, none as no_trees, more as one_more}
 use Rattle.wt_tree.specs.Source.{flat, flat_of_all}
 use Rattle.wt_tree.specs.Plain.{Plains, ended, along, element, face, text_before, shown_before, plain_before, plains_before, plain}
-use Rattle.wt_tree.specs.Tiling.{is_group, numbers, numbers_of_all}
+use Rattle.wt_tree.specs.Tiling.{HasNoGroup, NoneIsGroup, is_group, numbers, numbers_of_all}
 use Rattle.wt_tree.specs.declared.row.Writing.{Writing}
 use Rattle.wt_tree.specs.declared.row.Writing.TheVariants.{AsText, AsVoid, RoundCharacter, RoundChildren, Unwritten}
 use Rattle.wt_tree.specs.Kinds.{writing}
 use Rattle.wt_markup.specs.Html.{written, group_html, groups_by, groups, groups_of_all, html, html_of_all, frame_start, frame_end, html_text}
 use Rattle.wt_round_trip.specs.GroupNodes.{group_nodes}
-use Rattle.wt_round_trip.specs.Written.{ranges_read, label_read, unranged, unranged_all, has_group, any_has_group}
+use Rattle.wt_round_trip.specs.Written.{ranges_read, label_read, unranged, unranged_all}
 use Rattle.wt_round_trip.proofs.Bare.{others_read}
 use Rattle.wt_round_trip.proofs.ShownAgain.{group_again}
 
@@ -61,25 +61,19 @@ group_ranges : (k : Kind) (r : Option Ranges) → is_group k ≡ true → ranges
 group_ranges kind.Group r e = refl
 group_ranges k r e = absurd (cc e)
 
-or_parts : (a b : Bool) → (a || b) ≡ false → (a ≡ false) × (b ≡ false)
-or_parts true b e = absurd (cc e)
-or_parts false b e = (refl, e)
-
 mutual
-  same_before : (t : Tree) (rest : Plains) → has_group t ≡ false → plain_before (unranged t) rest ≡ plain_before t rest
+  same_before : (t : Tree) (rest : Plains) → HasNoGroup t → plain_before (unranged t) rest ≡ plain_before t rest
   same_before (tree l ts) rest h =
-      let q = or_parts (is_group l.kind) (any_has_group ts) h in
-      ap (λ t. plain_before t rest) (others_read l ts q.0)
+      ap (λ t. plain_before t rest) (others_read l ts h.0)
       ∙ same_shown (showing l.kind) (label_read l) l (λ ps. plains_before (unranged_all ts) ps)
-      (λ ps. plains_before ts ps) rest refl refl (λ ps. same_all_before ts ps q.1)
+      (λ ps. plains_before ts ps) rest refl refl (λ ps. same_all_before ts ps h.1)
 
-  same_all_before : (ts : Trees) (rest : Plains) → any_has_group ts ≡ false → plains_before (unranged_all ts) rest ≡ plains_before ts rest
+  same_all_before : (ts : Trees) (rest : Plains) → NoneIsGroup ts → plains_before (unranged_all ts) rest ≡ plains_before ts rest
   same_all_before no_trees rest h = refl
   same_all_before (one_more t ts) rest h =
-      let q = or_parts (has_group t) (any_has_group ts) h in
-      ap (plain_before (unranged t)) (same_all_before ts rest q.1) ∙ same_before t (plains_before ts rest) q.0
+      ap (plain_before (unranged t)) (same_all_before ts rest h.1) ∙ same_before t (plains_before ts rest) h.0
 
-pub same_plain : (t : Tree) → has_group t ≡ false → plain (unranged t) ≡ plain t
+pub same_plain : (t : Tree) → HasNoGroup t → plain (unranged t) ≡ plain t
 same_plain t h = same_before t ended h
 
 groups_by_test : (x : Bool) (w : Writing) (ts : Trees) → groups_of_all (unranged_all ts) ≡ groups_of_all ts

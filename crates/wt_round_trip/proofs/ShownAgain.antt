@@ -7,8 +7,9 @@ use Rattle.wt_tree.specs.Kinds.{showing, writing}
 use Rattle.wt_tree.specs.Plain.{Face, Plain, text, element, Plains, ended, along, face, text_before, shown_before, plain_before, plains_before}
 use Rattle.wt_tree.specs.Tree.{Label, Tree, tree, Trees, none, more}
 use Rattle.wt_markup.specs.Escapes.{escape, escaped}
-use Rattle.wt_markup.specs.Html.{attributes, element_by, face_attributes, plain_html, plains_html, group_element, group_part, group_parts, group_html, span}
-use Rattle.wt_round_trip.specs.GroupNodes.{as_elements, or_empty_span, elements_for, element_label, inner_node, inner_nodes, group_nodes, is_ended}
+use Rattle.wt_markup.specs.Html.{attributes, element_by, face_attributes, plain_html, plains_html, group_element, group_part, group_parts, group_html}
+use Rattle.wt_tree.specs.Elements.{span, as_elements, or_empty_span}
+use Rattle.wt_round_trip.specs.GroupNodes.{elements_for, element_label, inner_node, inner_nodes, group_nodes, is_ended}
 
 -- ---- what a plain view has as elements are elements
 

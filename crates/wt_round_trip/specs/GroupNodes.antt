@@ -1,26 +1,14 @@
 -- What is read again of a group: the nodes of the elements that are written for it.
 use Rattle.std.specs.Prelude.{◌||◌, ◌&&◌, Bool, true, false, None, []}
+use Rattle.wt_tree.specs.Elements.{as_elements, or_empty_span}
 use Rattle.wt_tree.specs.Kinds.{may_follow, is_block}
 use Rattle.wt_tree.specs.Plain.{Face, Plain, text, element, Plains, ended, along, plains_before}
 use Rattle.wt_tree.specs.Recut.{leaf_label, text_leaf}
 use Rattle.wt_tree.specs.Tree.{Label, Tree, tree, Trees, none, more}
-use Rattle.wt_markup.specs.Html.{span}
 use Rattle.wt_fitting.specs.Groups.{is_span}
 
 -- ---- the elements that are written for what a group shows: a text at the top is in a `span`, and
 -- where nothing is shown there is one empty `span`
-
-abbrev pub as_element : Plain → Plain
-as_element (text bs) = element span (along (text bs) ended)
-as_element (element f qs) = element f qs
-
-abbrev pub as_elements : Plains → Plains
-as_elements ended = ended
-as_elements (along p ps) = along (as_element p) (as_elements ps)
-
-abbrev pub or_empty_span : Plains → Plains
-or_empty_span ended = along (element span ended) ended
-or_empty_span (along p ps) = along p ps
 
 abbrev pub elements_for : Trees → Plains
 elements_for ts = or_empty_span (as_elements (plains_before ts ended))

@@ -59,15 +59,6 @@ abbrev mutual
   unranged_all none = none
   unranged_all (more t ts) = more (unranged t) (unranged_all ts)
 
--- whether it has a group
-abbrev mutual
-  pub has_group : Tree → Bool
-  has_group (tree l ts) = is_group l.kind || any_has_group ts
-
-  pub any_has_group : Trees → Bool
-  any_has_group none = false
-  any_has_group (more t ts) = has_group t || any_has_group ts
-
 -- ---- texts
 
 -- a separator shows nothing, a text its source

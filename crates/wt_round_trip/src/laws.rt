@@ -1,4 +1,5 @@
-ghost use Rattle.std.specs.Prelude.{◌≡◌, ◌<◌, ◌^◌, false, Ok, None};
+ghost use Rattle.std.specs.Prelude.{◌≡◌, ◌<◌, ◌^◌, Ok, None};
+ghost use Rattle.wt_tree.specs.Tiling.{HasNoGroup};
 ghost use Rattle.wt_tree.specs.Tree.{Tree};
 ghost use Rattle.wt_tree.specs.Source.{flat};
 ghost use Rattle.wt_tree.specs.Plain.{plain};
@@ -8,7 +9,7 @@ ghost use Rattle.wt_html_grammar.specs.Markup.{Markup, Stands};
 ghost use Rattle.wt_fitting.specs.Fit.{fit};
 ghost use Rattle.wt_fitting.specs.Unsourced.{unsourced};
 ghost use Rattle.wt_fitting.specs.Read.{read, page};
-ghost use Rattle.wt_round_trip.specs.Written.{unranged, has_group, IsWritten};
+ghost use Rattle.wt_round_trip.specs.Written.{unranged, IsWritten};
 
 /// What is written for a page's tree is well-formed HTML. It stands for this very tree, but for what
 /// stands in its groups: in their place stand the nodes of the elements that show it. It is read as
@@ -26,6 +27,6 @@ pub fn written_is_read()
 /// bytes as the tree with them, and has the same numbers. Where no group is in it, it shows the same.
 pub fn without_ranges()
     ensures written { (t : Tree) → html_text (unranged t) ≡ html_text t }
-    ensures shown { (t : Tree) → has_group t ≡ false → plain (unranged t) ≡ plain t }
+    ensures shown { (t : Tree) → HasNoGroup t → plain (unranged t) ≡ plain t }
     ensures numbers { (t : Tree) → numbers (unranged t) ≡ numbers t }
 {}

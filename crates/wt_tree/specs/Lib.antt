@@ -1,4 +1,5 @@
 pub mod Cutting
+pub mod Elements
 pub mod Forgets
 pub mod Kinds
 pub mod Look

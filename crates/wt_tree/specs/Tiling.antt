@@ -43,6 +43,15 @@ abbrev pub is_group : Kind → Bool
 is_group kind.Group = true
 is_group k = false
 
+-- no node of the tree is a group
+abbrev mutual
+  pub HasNoGroup : Tree → Type 0
+  HasNoGroup (tree l ts) = (is_group l.kind ≡ false) × NoneIsGroup ts
+
+  pub NoneIsGroup : Trees → Type 0
+  NoneIsGroup none = Unit {0}
+  NoneIsGroup (more t ts) = HasNoGroup t × NoneIsGroup ts
+
 -- The numbers of the nodes that have one, in preorder, and those of all other nodes.
 abbrev mutual
   pub numbers : Tree → List ℕ

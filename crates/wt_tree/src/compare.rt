@@ -86,19 +86,22 @@ fn shown_of<'t, 'a>(alloc: Global, node: &'t Node<'a>) -> Result<Shown<'t, 'a>, 
     Ok(shown)
 }
 
-fn same_kind(a: Kind, b: Kind) -> bool
+/// Whether two kinds are one, by the derived comparison.
+pub fn same_kind(a: Kind, b: Kind) -> bool
     ensures { Decides result (a ≡ b) }
 {
     a == b
 }
 
-fn same_attrs(a: &List<Attr>, b: &List<Attr>) -> bool
+/// Whether two nodes have the same attributes in the same order, each with its name and its value.
+pub fn same_attrs(a: &List<Attr>, b: &List<Attr>) -> bool
     ensures { Decides result (a.now ≡ b.now) }
 {
     a == b
 }
 
-fn same_data(a: &Option<DataMw>, b: &Option<DataMw>) -> bool
+/// Whether what an extension has in `data-mw` is the same value.
+pub fn same_data(a: &Option<DataMw>, b: &Option<DataMw>) -> bool
     ensures { Decides result (a.now ≡ b.now) }
 {
     a == b

@@ -1,8 +1,0 @@
-use Rattle.std.proofs.Common.{◌≡◌, ◌+◌, drop}
-use Rattle.std.specs.Prelude.{not}
-use Rattle.std.specs.List.{prefix_len}
-use Rattle.wt_span.specs.Bytes.{is_break}
-use Rattle.wt_build.proofs.unread.unbroken_len.Given as goal
-
-abbrev pub invariant-loop-i : goal.invariant-loop-i
-invariant-loop-i l = l.i + prefix_len (λ b. not (is_break b)) (drop l.i l.bytes) ≡ prefix_len (λ b. not (is_break b)) l.bytes
