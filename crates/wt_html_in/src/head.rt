@@ -103,34 +103,43 @@ fn group_head(
     })
 }
 
-/// What an element of this kind with this data is by how it stands. Of a group's first one the data are
-/// the group's; `own` are the attributes of its own.
+/// An element as it is read.
+#[derive(Clone, Copy)]
+struct Element<'e> {
+    number: u32,
+    standing: Standing,
+    /// All its attributes; those of its own are without those of its group.
+    attributes: &'e [Attribute],
+    own: &'e [Attribute],
+    contents: &'e [Content],
+}
+
+/// What an element is as one of this kind with this data. Of a group's first one the data are the group's.
 fn headed_with(
     alloc: Global,
-    standing: Standing,
+    element: Element<'_>,
     kind: Kind,
-    attributes: &[Attribute],
-    own: &[Attribute],
-    contents: &[Content],
     sync: Option<Sync>,
     mw: Option<DataMw>,
 ) -> Result<Headed, FitFault>
-    requires values { are_utf8_values (pairs own.now) ≡ true }
-    requires own { pairs own.now ≡ pairs_for standing (pairs attributes.now) }
-    requires texts { are_utf8_markups (views contents.now) ≡ true }
-    ensures headed { IfOk result (IsHeadedAs standing kind (pairs attributes.now) (data_both sync mw) (texts_in (views contents.now))) }
+    requires values { are_utf8_values (pairs element.own.now) ≡ true }
+    requires own { pairs element.own.now ≡ pairs_for element.standing (pairs element.attributes.now) }
+    requires texts { are_utf8_markups (views element.contents.now) ≡ true }
+    ensures headed { IfOk result (IsHeadedAs element.entry.standing kind (pairs element.entry.attributes.now)
+        (data_both sync mw) (texts_in (views element.entry.contents.now))) }
     ensures memory { IfErr result (λ e. e ≡ FitFault.NoMemory) }
 {
+    let standing = element.standing;
     if is_first(standing) {
-        let group = group_head(alloc, attributes, sync, mw)?;
-        let head = head_with(alloc, kind, own, contents, None, None)?;
+        let group = group_head(alloc, element.attributes, sync, mw)?;
+        let head = head_with(alloc, kind, element.own, element.contents, None, None)?;
         Ok(Headed {
             standing,
             group: Some(group),
             head,
         })
     } else {
-        let head = head_with(alloc, kind, own, contents, sync, mw)?;
+        let head = head_with(alloc, kind, element.own, element.contents, sync, mw)?;
         Ok(Headed {
             standing,
             group: None,
@@ -145,32 +154,29 @@ fn misfit(element: u32, why: FitWhy) -> FitFault
     FitFault::Unfit { element, why }
 }
 
-/// What the element of this number is as one of this kind, in a group or not, by how it stands.
+/// What an element is as one of this kind, in a group or not.
 fn headed_as(
     alloc: Global,
-    number: u32,
+    element: Element<'_>,
     inside: bool,
-    standing: Standing,
     kind: Kind,
-    attributes: &[Attribute],
-    own: &[Attribute],
-    contents: &[Content],
 ) -> Result<Headed, FitFault>
-    requires values { are_utf8_values (pairs attributes.now) ≡ true }
-    requires own_values { are_utf8_values (pairs own.now) ≡ true }
-    requires own { pairs own.now ≡ pairs_for standing (pairs attributes.now) }
-    requires texts { are_utf8_markups (views contents.now) ≡ true }
-    ensures { HeadFits (inside || is_grouped standing)
-        (λ held. fit_told number (inside || is_grouped standing) standing kind (pairs attributes.now)
-        (data_for inside standing kind (pairs attributes.now)) (views contents.now) (held kind)) result }
+    requires values { are_utf8_values (pairs element.attributes.now) ≡ true }
+    requires own_values { are_utf8_values (pairs element.own.now) ≡ true }
+    requires own { pairs element.own.now ≡ pairs_for element.standing (pairs element.attributes.now) }
+    requires texts { are_utf8_markups (views element.contents.now) ≡ true }
+    ensures { HeadFits (inside || is_grouped element.entry.standing)
+        (λ held. fit_told element.entry.number (inside || is_grouped element.entry.standing) element.entry.standing kind
+        (pairs element.entry.attributes.now) (data_for inside element.entry.standing kind (pairs element.entry.attributes.now))
+        (views element.entry.contents.now) (held kind)) result }
 {
-    match data_for(alloc, inside, standing, kind, attributes)? {
-        Data::Bad => Err(misfit(number, FitWhy::Data)),
+    match data_for(alloc, inside, element.standing, kind, element.attributes)? {
+        Data::Bad => Err(misfit(element.number, FitWhy::Data)),
         Data::Good { sync, mw } => {
-            if text_fits(kind, contents) {
-                headed_with(alloc, standing, kind, attributes, own, contents, sync, mw)
+            if text_fits(kind, element.contents) {
+                headed_with(alloc, element, kind, sync, mw)
             } else {
-                Err(misfit(number, FitWhy::Text))
+                Err(misfit(element.number, FitWhy::Text))
             }
         }
     }
@@ -242,41 +248,34 @@ pub struct Spot {
     pub behind: bool,
 }
 
-/// What the element of this number is where it stands, and as it does, with these attributes of its own.
+/// What an element of this name is where it stands, and as it does.
 fn headed_in(
     alloc: Global,
-    number: u32,
+    element: Element<'_>,
     spot: Spot,
-    standing: Standing,
     name: &[u8],
-    attributes: &[Attribute],
-    own: &[Attribute],
-    contents: &[Content],
 ) -> Result<Headed, FitFault>
-    requires values { are_utf8_values (pairs attributes.now) ≡ true }
-    requires own_values { are_utf8_values (pairs own.now) ≡ true }
-    requires own { pairs own.now ≡ pairs_for standing (pairs attributes.now) }
-    requires texts { are_utf8_markups (views contents.now) ≡ true }
-    ensures { RowFits (spot.inside || is_grouped standing)
-        (λ group held. fit_row number (spot_with spot group) standing (row name.now (pairs own.now)) (pairs attributes.now)
-        (views contents.now) held) result }
+    requires values { are_utf8_values (pairs element.attributes.now) ≡ true }
+    requires own_values { are_utf8_values (pairs element.own.now) ≡ true }
+    requires own { pairs element.own.now ≡ pairs_for element.standing (pairs element.attributes.now) }
+    requires texts { are_utf8_markups (views element.contents.now) ≡ true }
+    ensures { RowFits (spot.inside || is_grouped element.entry.standing)
+        (λ group held. fit_row element.entry.number (spot_with spot group) element.entry.standing
+        (row name.now (pairs element.entry.own.now)) (pairs element.entry.attributes.now) (views element.entry.contents.now) held) result }
 {
-    match row(name, own) {
-        None => Err(misfit(number, FitWhy::Element)),
+    match row(name, element.own) {
+        None => Err(misfit(element.number, FitWhy::Element)),
         Some(kind) => {
-            if fits_place(spot.outer, spot.behind, standing, kind, contents) {
-                headed_as(
-                    alloc,
-                    number,
-                    spot.inside,
-                    standing,
-                    kind,
-                    attributes,
-                    own,
-                    contents,
-                )
+            if fits_place(
+                spot.outer,
+                spot.behind,
+                element.standing,
+                kind,
+                element.contents,
+            ) {
+                headed_as(alloc, element, spot.inside, kind)
             } else {
-                Err(misfit(number, FitWhy::Place))
+                Err(misfit(element.number, FitWhy::Place))
             }
         }
     }
@@ -298,21 +297,21 @@ pub fn headed_by(
         (λ group held. fit_row number (spot_with spot group) standing (row_as standing name.now (pairs attributes.now)) (pairs attributes.now)
         (views contents.now) held) result }
 {
+    let element = Element {
+        number,
+        standing,
+        attributes,
+        own: attributes,
+        contents,
+    };
     if is_first(standing) {
         let own = own_attributes(alloc, attributes)?;
-        headed_in(
-            alloc,
-            number,
-            spot,
-            standing,
-            name,
-            attributes,
-            own.as_slice(),
-            contents,
-        )
+        let first = Element {
+            own: own.as_slice(),
+            ..element
+        };
+        headed_in(alloc, first, spot, name)
     } else {
-        headed_in(
-            alloc, number, spot, standing, name, attributes, attributes, contents,
-        )
+        headed_in(alloc, element, spot, name)
     }
 }
