@@ -50,7 +50,8 @@ fn check_visits(
     Ok(None)
 }
 
-fn page_index<'t, 'a>(alloc: Global, page: &'t Node<'a>) -> Result<Vec<Visit<'t, 'a>>, NoMemory>
+/// The body, and behind it the page's nodes with numbers: a node stands at its number.
+pub fn numbered_nodes<'t, 'a>(alloc: Global, page: &'t Node<'a>) -> Result<Vec<Visit<'t, 'a>>, NoMemory>
     requires body { (label (view page.now)).kind ≡ kind.Body }
     requires numbered { ∥ InPreorder (view page.now) ∥₁ }
     ensures same { IfOk result (λ vs. indexed vs.items ≡ page_of (view page.now)) }
@@ -75,7 +76,7 @@ pub fn check(
     requires numbered { ∥ InPreorder (view page.now) ∥₁ }
     ensures { IfOk result (λ r. r ≡ checked values (view page.now) (view edited.now)) }
 {
-    let index = page_index(alloc, page)?;
+    let index = numbered_nodes(alloc, page)?;
     let edited = visits(alloc, edited)?;
     let refusal = check_visits(alloc, values, index.as_slice(), edited.as_slice())?;
     Ok(refusal)

@@ -16,9 +16,11 @@ mod unmarked;
 mod visit;
 mod written;
 
-pub use checking::check;
+pub use checking::{check, numbered_nodes};
 pub use editing::Editing;
 pub use laws::{
     comparisons, edited_is_the_page, first_refusal, only_the_page_is_taken, what_is_kept,
 };
+pub use index::original;
 pub use refusal::Check;
+pub use visit::{Visit, is_content, visits};

@@ -4,8 +4,10 @@ ghost use Rattle.wt_pagetool.specs.Refusals.{status_of, line_of, html_why, fit_w
 
 use crate::status::Status;
 use std::alloc::{AllocError, Global};
+use wt_checks::Check;
 use wt_html_in::{FitWhy, HtmlRefusal, HtmlWhy};
 use wt_outer::FetchRefusal;
+use wt_selser::{ContentWhy, EditRefusal};
 use wt_span::{NoMemory, Str};
 use wt_transclusion::ExpandRefusal;
 
@@ -42,6 +44,10 @@ pub enum Refusal {
     Unfit { element: u32, why: FitWhy },
     /// An element of the input has no source.
     Unsourced(u32),
+    /// The edit is refused.
+    Edit(EditRefusal),
+    /// The new page doesn't mean what the edited tree shows, first in this child of the body.
+    Unspelled(u32),
     /// The input failed.
     ReadFault,
     /// The folder failed.
@@ -110,6 +116,15 @@ impl From<ExpandRefusal> for Refusal {
     }
 }
 
+impl From<EditRefusal> for Refusal {
+    fn from(refusal: EditRefusal) -> Refusal {
+        match refusal {
+            EditRefusal::NoMemory => Refusal::NoMemory,
+            other => Refusal::Edit(other),
+        }
+    }
+}
+
 impl From<HtmlRefusal> for Refusal {
     ghost from_gives = { λ refusal r. r ≡ refusal_of refusal };
 
@@ -142,6 +157,7 @@ impl Refusal {
             | Refusal::Html { .. }
             | Refusal::Unfit { .. }
             | Refusal::Unsourced(_) => Status::HtmlRefused,
+            Refusal::Edit(_) | Refusal::Unspelled(_) => Status::EditRefused,
             Refusal::ReadFault => Status::ReadFault,
             Refusal::FolderFault => Status::FolderFault,
             Refusal::WriteFault => Status::WriteFault,
@@ -228,6 +244,40 @@ fn too_long_line(alloc: Global, template: &str) -> Result<String, AllocError>
     format!(in alloc; "wtround: {template} too long\n")
 }
 
+fn content_why(why: ContentWhy) -> &'static str {
+    match why {
+        ContentWhy::Element => "Element",
+        ContentWhy::Href => "Href",
+        ContentWhy::LineBreak => "LineBreak",
+        ContentWhy::Nested => "Nested",
+    }
+}
+
+fn check_line(alloc: Global, check: Check) -> Result<String, AllocError> {
+    let (name, number) = match check {
+        Check::UnknownId(n) => ("UnknownId", n),
+        Check::RepeatedId(n) => ("RepeatedId", n),
+        Check::Moved(n) => ("Moved", n),
+        Check::InTemplate(n) => ("InTemplate", n),
+        Check::NotEditable(n) => ("NotEditable", n),
+        Check::UnmarkedChange(n) => ("UnmarkedChange", n),
+    };
+    format!(in alloc; "wtround: edit refused: {name} {number}\n")
+}
+
+fn edit_line(alloc: Global, refusal: EditRefusal) -> Result<String, AllocError> {
+    match refusal {
+        EditRefusal::Check(check) => check_line(alloc, check),
+        EditRefusal::BadContent(number, why) => format!(in alloc;
+            "wtround: edit refused: BadContent {number} {}\n",
+            content_why(why)
+        ),
+        EditRefusal::Tangled(number) => format!(in alloc; "wtround: edit refused: Tangled {number}\n"),
+        EditRefusal::NewPageTooLong => format!(in alloc; "wtround: edit refused: NewPageTooLong\n"),
+        EditRefusal::NoMemory => format!(in alloc; "wtround: no memory\n"),
+    }
+}
+
 /// The line that names a refusal.
 #[tactic(auto, unfolding(crate::specs::Refusals::line_of, crate::specs::Refusals::text_of, crate::specs::Refusals::usage_text))]
 pub fn line_of(alloc: Global, refusal: &Refusal) -> Result<String, AllocError>
@@ -252,6 +302,8 @@ pub fn line_of(alloc: Global, refusal: &Refusal) -> Result<String, AllocError>
         Refusal::Html { place, why } => html_line(alloc, *place, *why),
         Refusal::Unfit { element, why } => unfit_line(alloc, *element, *why),
         Refusal::Unsourced(element) => unsourced_line(alloc, *element),
+        Refusal::Edit(edit) => edit_line(alloc, *edit),
+        Refusal::Unspelled(child) => format!(in alloc; "wtround: edit refused: Unspelled {child}\n"),
         Refusal::ReadFault => format!(in alloc; "wtround: read fault\n"),
         Refusal::FolderFault => format!(in alloc; "wtround: folder fault\n"),
         Refusal::WriteFault => format!(in alloc; "wtround: write fault\n"),

@@ -11,6 +11,7 @@ ghost use Rattle.wt_pagetool.specs.Statuses.{code, IsAnswer, IsAnswered, IsUnans
 ghost use Rattle.wt_pagetool.specs.Words.{command_of, titles_of, Fetches, Reads, Expands};
 
 use crate::command::{Command, PageCommand, command_of};
+use crate::edit_command::edited_page;
 use crate::expand_command::expansion_of_title;
 use crate::output::Output;
 use crate::page_command::output_of_title;
@@ -53,6 +54,7 @@ fn find_answer<S: Source, F: Folder>(
             output_of_title(alloc, command, title.as_str(), folder)
         }
         Some(Command::Expand(title)) => expansion_of_title(alloc, title.as_str(), folder),
+        Some(Command::Edit(title)) => edited_page(alloc, title.as_str(), input, folder),
         Some(Command::Wikitext) => wikitext_of_input(alloc, input),
         None => Err(Refusal::Usage),
     }

@@ -54,7 +54,7 @@ fn feed_all<S: Source>(
 }
 
 /// A reader that was fed the whole input.
-fn read_all<'a, S: Source>(
+pub fn read_all<'a, S: Source>(
     alloc: Global,
     arena: &'a Bump<Global>,
     input: &mut S,

@@ -1,6 +1,16 @@
-//! Edits: the new page.
+//! Selective serialisation: the new page of an edited page. Of each block that was marked the inside is
+//! spelled anew, and every other byte stands as it was.
 #![tactic(auto)]
 
+mod change;
+mod content;
+mod differing;
+mod edit;
 mod laws;
+mod open_tag;
+mod refusal;
 
+pub use differing::first_differing;
+pub use edit::edit;
 pub use laws::{nothing_changes, outside_stands};
+pub use refusal::{ContentWhy, EditRefusal};

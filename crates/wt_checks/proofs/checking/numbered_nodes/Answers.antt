@@ -3,7 +3,7 @@ use Rattle.wt_tree.specs.View.{view}
 use Rattle.wt_checks.specs.View.{indexed, index_list}
 use Rattle.wt_checks.proofs.Lookups.{index_is}
 use Rattle.wt_checks.proofs.Numbers.{in_preorder}
-use Rattle.wt_checks.proofs.checking.page_index.Goals as goal
+use Rattle.wt_checks.proofs.checking.numbered_nodes.Goals as goal
 
 pub returns-clause-same : goal.returns-clause-same
 returns-clause-same c =
