@@ -14,7 +14,7 @@ use crate::index::index_of;
 use crate::marks::first_wrongly_marked;
 use crate::refusal::Check;
 use crate::unmarked::first_unmarked_change;
-use crate::visit::{Visit, visits};
+use crate::visit::{Visit, preorder};
 use std::alloc::Global;
 use wt_span::NoMemory;
 use wt_tree::Node;
@@ -51,13 +51,16 @@ fn check_visits(
 }
 
 /// The body, and behind it the page's nodes with numbers: a node stands at its number.
-pub fn numbered_nodes<'t, 'a>(alloc: Global, page: &'t Node<'a>) -> Result<Vec<Visit<'t, 'a>>, NoMemory>
+pub fn numbered_nodes<'t, 'a>(
+    alloc: Global,
+    page: &'t Node<'a>,
+) -> Result<Vec<Visit<'t, 'a>>, NoMemory>
     requires body { (label (view page.now)).kind ≡ kind.Body }
     requires numbered { ∥ InPreorder (view page.now) ∥₁ }
     ensures same { IfOk result (λ vs. indexed vs.items ≡ page_of (view page.now)) }
     ensures some { IfOk result (λ vs. 0 < length vs.items) }
 {
-    let all = visits(alloc, page)?;
+    let all = preorder(alloc, page)?;
     let index = index_of(alloc, all.as_slice())?;
     Ok(index)
 }
@@ -77,7 +80,7 @@ pub fn check(
     ensures { IfOk result (λ r. r ≡ checked values (view page.now) (view edited.now)) }
 {
     let index = numbered_nodes(alloc, page)?;
-    let edited = visits(alloc, edited)?;
+    let edited = preorder(alloc, edited)?;
     let refusal = check_visits(alloc, values, index.as_slice(), edited.as_slice())?;
     Ok(refusal)
 }

@@ -61,7 +61,7 @@ pub fn is_content(mark: Mark) -> bool
 }
 
 /// All nodes of a tree in preorder; its root is the body.
-pub fn visits<'t, 'a>(alloc: Global, root: &'t Node<'a>) -> Result<Vec<Visit<'t, 'a>>, NoMemory>
+pub fn preorder<'t, 'a>(alloc: Global, root: &'t Node<'a>) -> Result<Vec<Visit<'t, 'a>>, NoMemory>
     ensures { IfOk result (λ vs. all_seen vs.items ≡ places (view root.now)) }
 {
     let mut out = Vec::new(alloc);

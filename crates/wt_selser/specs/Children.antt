@@ -12,12 +12,12 @@ abbrev pub shown_children : Tree → List Plain
 shown_children (tree l ts) = listed (plains_before ts ended)
 
 -- They are one, or this child, counted from 1, is the first in which they differ: one of them has none there, or another one.
-pub record Differs (as bs : List Plain) (k : ℕ) : Type 0 where
+pub record Differs (xs ys : List Plain) (k : ℕ) : Type 0 where
   pub before : ℕ
   pub is : k ≡ suc before
-  pub same : take before as ≡ take before bs
-  pub differs : slice_get as before ≢ slice_get bs before
+  pub same : take before xs ≡ take before ys
+  pub differs : slice_get xs before ≢ slice_get ys before
 
 abbrev pub IsFirstDiffering : List Plain → List Plain → Option ℕ → Type 0
-IsFirstDiffering as bs None = as ≡ bs
-IsFirstDiffering as bs (Some k) = Differs as bs k
+IsFirstDiffering xs ys None = xs ≡ ys
+IsFirstDiffering xs ys (Some k) = Differs xs ys k

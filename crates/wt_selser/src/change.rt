@@ -14,7 +14,7 @@ ghost use Rattle.wt_selser.specs.Splice.{between, spliced};
 ghost use Rattle.wt_selser.specs.Views.{changes_view, pair_of, pairs_of};
 
 use std::alloc::Global;
-use wt_checks::{Visit, is_content, numbered_nodes, original, visits};
+use wt_checks::{Visit, is_content, numbered_nodes, original, preorder};
 use wt_escape::{Place, spell_inline};
 use wt_span::{NoMemory, Str};
 use wt_tree::{Kind, Node};
@@ -100,7 +100,7 @@ pub fn marked_pairs<'t, 'a>(
     ensures { IfOk result (λ ps. pairs_of ps.items ≡ marked (view page.now) (view edited.now)) }
 {
     let index = numbered_nodes(alloc, page)?;
-    let edited = visits(alloc, edited)?;
+    let edited = preorder(alloc, edited)?;
     pairs_in(alloc, index.as_slice(), edited.as_slice())
 }
 

@@ -182,7 +182,7 @@ fn has_break(text: &[u8]) -> bool
 }
 
 /// How a node stands to the page of its block.
-fn standing(alloc: Global, page: &Page<'_, '_>, node: &Node<'_>) -> Result<Standing, NoMemory>
+fn standing_in(alloc: Global, page: &Page<'_, '_>, node: &Node<'_>) -> Result<Standing, NoMemory>
     ensures { (same : Tree → Tree → Bool) → TellsSame same
         → IfOk result (λ s. s ≡ standing (page_view same page.now) (view node.now)) }
 {
@@ -272,13 +272,14 @@ fn standing_by(
 ) -> Result<Standing, NoMemory> {
     match way {
         Way::Nothing | Way::Characters | Way::Bold | Way::Italic => Ok(Standing::New),
-        Way::Shown | Way::PageLink | Way::ExternalLink => standing(alloc, page, node),
-        Way::Tag | Way::Break | Way::AsItStood => standing(alloc, page, node),
+        Way::Shown | Way::PageLink | Way::ExternalLink => standing_in(alloc, page, node),
+        Way::Tag | Way::Break | Way::AsItStood => standing_in(alloc, page, node),
     }
 }
 
 // ---- all nodes
 
+#[cycle(visiting)]
 fn visit_all(
     alloc: Global,
     page: &Page<'_, '_>,
@@ -295,6 +296,7 @@ fn visit_all(
     Ok(())
 }
 
+#[cycle(visiting)]
 fn visit(
     alloc: Global,
     page: &Page<'_, '_>,

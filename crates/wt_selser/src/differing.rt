@@ -36,6 +36,7 @@ fn push_text<'t, 'a>(
 }
 
 /// Appends what a node shows directly in a body.
+#[cycle(showing)]
 fn push_shown<'t, 'a>(
     alloc: Global,
     out: &mut Vec<Child<'t, 'a>>,
@@ -52,6 +53,7 @@ fn push_shown<'t, 'a>(
     }
 }
 
+#[cycle(showing)]
 fn push_all_shown<'t, 'a>(
     alloc: Global,
     out: &mut Vec<Child<'t, 'a>>,

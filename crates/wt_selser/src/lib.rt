@@ -5,12 +5,12 @@
 mod change;
 mod content;
 mod differing;
-mod edit;
+mod editing;
 mod laws;
 mod open_tag;
 mod refusal;
 
 pub use differing::first_differing;
-pub use edit::edit;
+pub use editing::edit;
 pub use laws::{nothing_changes, outside_stands};
 pub use refusal::{ContentWhy, EditRefusal};

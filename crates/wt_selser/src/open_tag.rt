@@ -51,6 +51,7 @@ fn source_ends_open(alloc: Global, node: &Node<'_>) -> Result<bool, NoMemory>
 
 /// Whether the source of a node that stands in the content, or in bold or italic text of it, ends inside an
 /// open tag.
+#[cycle(open_tags)]
 fn node_ends_open(alloc: Global, node: &Node<'_>) -> Result<bool, NoMemory>
     ensures { IfOk result (λ open. open ≡ node_ends_open (view node.now)) }
 {
@@ -63,6 +64,7 @@ fn node_ends_open(alloc: Global, node: &Node<'_>) -> Result<bool, NoMemory>
     }
 }
 
+#[cycle(open_tags)]
 fn any_ends_open(alloc: Global, nodes: &[Node<'_>]) -> Result<bool, NoMemory>
     ensures { IfOk result (λ open. open ≡ any_ends_open (views nodes.now)) }
 {
