@@ -5,3 +5,4 @@ pub mod Changes
 pub mod Children
 pub mod Edits
 pub mod Views
+pub mod SameNodes

@@ -1,6 +1,8 @@
 //! Laws of the new page, which do nothing when they are called.
 
 ghost use Rattle.std.specs.Prelude.{◌≡◌, ℕ, List, [], length};
+ghost use Rattle.wt_kept.specs.Page.{TellsSame};
+ghost use Rattle.wt_selser.specs.SameNodes.{same_node};
 ghost use Rattle.wt_selser.specs.Splice.{Change, spliced, AreApart, OutsideStands};
 
 /// Where the slices stand in the page one after the other, what stands outside them stands in the
@@ -14,4 +16,10 @@ pub fn outside_stands()
 #[tactic(auto, using(crate::proofs::Outside::nothing_changes))]
 pub fn nothing_changes()
     ensures { (page : List ℕ) → spliced page [] ≡ page }
+{}
+
+/// There is a test that tells nodes of one kind with one plain view, and it can be computed.
+#[tactic(auto, using(crate::proofs::SameTells::tells_same))]
+pub fn nodes_are_told()
+    ensures { TellsSame same_node }
 {}
