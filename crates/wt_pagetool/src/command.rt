@@ -69,7 +69,9 @@ fn expansion_of(alloc: Global, title: &str) -> Result<Option<Command>, NoMemory>
     }
 }
 
-fn edit_of(alloc: Global, title: &str) -> Result<Option<Command>, NoMemory> {
+fn edit_of(alloc: Global, title: &str) -> Result<Option<Command>, NoMemory>
+    ensures { IfOk result (λ found. found ≡ option_map (λ name. Command.Edit name) (page_name title.now)) }
+{
     match page_name(alloc, title)? {
         Some(name) => Ok(Some(Command::Edit(name))),
         None => Ok(None),
