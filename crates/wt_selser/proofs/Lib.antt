@@ -1,3 +1,4 @@
 mod Cases
 pub mod Outside
 pub mod SameTells
+pub mod DifferingLaws

@@ -21,7 +21,7 @@ use Rattle.wt_tree.proofs.Streams.{same_plain, same_signs}
 use Rattle.wt_kept.specs.Page.{TellsSame}
 use Rattle.wt_selser.specs.SameNodes.{as_attr, same_face, same_bracket, same_sign, same_node}
 
-both : {P Q : Type 0} (a b : Bool) → Decides a P → Decides b Q → Decides (a && b) (P × Q)
+pub both : {P Q : Type 0} (a b : Bool) → Decides a P → Decides b Q → Decides (a && b) (P × Q)
 both true b d e = (λ h. (d.0 refl, e.0 h), λ h. e.1 h.1)
 both false b d e = (λ h. cc, λ h. d.1 h.0)
 
@@ -40,7 +40,7 @@ made k ps m = record { kind = k; attrs = ps; mw = m }
 one_face : (f g : Face) → f.kind ≡ g.kind → f.attrs ≡ g.attrs → f.mw ≡ g.mw → f ≡ g
 one_face f g k a m = ap (λ x. made x f.attrs f.mw) k ∙ ap (λ x. made g.kind x f.mw) a ∙ ap (λ x. made g.kind g.attrs x) m
 
-face_told : (f g : Face) → Decides (same_face f g) (f ≡ g)
+pub face_told : (f g : Face) → Decides (same_face f g) (f ≡ g)
 face_told f g =
     let d = both (kinds.eq-value.it f.kind g.kind)
         (pointwise attrs.eq-value.it (map as_attr f.attrs) (map as_attr g.attrs) && option_eq data_of.eq-value.it f.mw g.mw) (kind_decides f.kind g.kind)

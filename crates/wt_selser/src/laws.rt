@@ -1,7 +1,9 @@
 //! Laws of the new page, which do nothing when they are called.
 
-ghost use Rattle.std.specs.Prelude.{◌≡◌, ℕ, List, [], length};
+ghost use Rattle.std.specs.Prelude.{◌≡◌, ℕ, List, [], length, Option, None};
+ghost use Rattle.wt_tree.specs.Plain.{Plain};
 ghost use Rattle.wt_kept.specs.Page.{TellsSame};
+ghost use Rattle.wt_selser.specs.Children.{IsFirstDiffering, differing};
 ghost use Rattle.wt_selser.specs.SameNodes.{same_node};
 ghost use Rattle.wt_selser.specs.Splice.{Change, spliced, AreApart, OutsideStands};
 
@@ -22,4 +24,10 @@ pub fn nothing_changes()
 #[tactic(auto, using(crate::proofs::SameTells::tells_same))]
 pub fn nodes_are_told()
     ensures { TellsSame same_node }
+{}
+
+/// The first child in which two bodies differ can be computed, and where none is told they show the same.
+pub fn differing_is_first()
+    ensures told { (xs ys : List Plain) → (r : Option ℕ) → IsFirstDiffering xs ys r → r ≡ differing 1 xs ys }
+    ensures same { (xs ys : List Plain) → differing 1 xs ys ≡ None → xs ≡ ys }
 {}
