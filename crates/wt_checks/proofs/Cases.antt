@@ -78,9 +78,9 @@ content_changed : checked false two_lines (body
 unfolding checked same_kind same_data
 content_changed = refl
 
--- a new paragraph, and a missing one, in a body marked `children`
+-- no mark `children` may stand so far: not even on the body
 children_changed : checked false two_lines (marked children kind.Body 0
-    (node kind.Para 0 (words (codes "x") ∷ []) ∷ node kind.Para 2 (words (codes "b") ∷ []) ∷ [])) ≡ None
+    (node kind.Para 0 (words (codes "x") ∷ []) ∷ node kind.Para 2 (words (codes "b") ∷ []) ∷ [])) ≡ Some (NotEditable 0)
 unfolding checked same_kind same_data
 children_changed = refl
 
@@ -145,9 +145,9 @@ last_comment_missing : checked false (body (node kind.Para 1 (words (codes "a") 
 unfolding checked same_kind same_data
 last_comment_missing = refl
 
--- a comment of a body marked `children` is missing
+-- a comment of a body marked `children` is missing: the mark is refused
 child_comment_missing : checked false (body (node kind.Para 1 [] ∷ node kind.Comment 2 [] ∷ node kind.Para 3 [] ∷ []))
-    (marked children kind.Body 0 (node kind.Para 1 [] ∷ node kind.Para 3 [] ∷ [])) ≡ None
+    (marked children kind.Body 0 (node kind.Para 1 [] ∷ node kind.Para 3 [] ∷ [])) ≡ Some (NotEditable 0)
 unfolding checked same_kind same_data
 child_comment_missing = refl
 
@@ -242,9 +242,9 @@ item_with_shown_list : checked false (body (node kind.Ul 1 (node kind.Li 2 (grou
 unfolding checked same_kind same_data
 item_with_shown_list = refl
 
--- a list inside an item isn't a child of the body
+-- of two lists with marks that may not stand the first in preorder is named
 inner_list : checked false (body (node kind.Ul 1 (node kind.Li 2 (node kind.Ul 3 [] ∷ []) ∷ []) ∷ []))
-    (body (marked children kind.Ul 1 (node kind.Li 2 (marked children kind.Ul 3 [] ∷ []) ∷ []) ∷ [])) ≡ Some (NotEditable 3)
+    (body (marked children kind.Ul 1 (node kind.Li 2 (marked children kind.Ul 3 [] ∷ []) ∷ []) ∷ [])) ≡ Some (NotEditable 1)
 unfolding checked same_kind same_data
 inner_list = refl
 

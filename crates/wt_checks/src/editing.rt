@@ -14,7 +14,7 @@ pub enum Editing {
     InlineContent,
     /// `children`. No kind has it so far: new and removed blocks come later.
     Children,
-    /// `children`. No kind has it so far: new and removed blocks come later. where the page's node is a child of the body.
+    /// `children`, where the page's node is a child of the body. No kind has it so far.
     TopChildren,
 }
 
