@@ -28,7 +28,8 @@ fn value_of(attrs: &[Attr]) -> &str
     ""
 }
 
-fn href_of<'n>(node: &'n Node<'_>) -> &'n str
+/// The `href` of a link; empty where it has none.
+pub fn href_of<'n>(node: &'n Node<'_>) -> &'n str
     ensures { result.now ≡ href_of (label_of (out-Node node.now)) }
 {
     value_of(node.attrs.as_slice())

@@ -4,7 +4,7 @@
 ghost use Rattle.std.specs.Prelude.{◌≡◌, ◌&&◌, ◌++◌, ◌∷◌, ◌≤◌, ◌==◌, Bool, List, [], map, length, is_some, IfOk, OnOk};
 ghost use Rattle.std.specs.List.{list_any};
 ghost use Rattle.wt_names.specs.Written.{read_link};
-ghost use Rattle.wt_tree.specs.Tree.{Tree};
+ghost use Rattle.wt_tree.specs.Tree.{Tree, Label};
 ghost use Rattle.wt_tree.specs.View.{label_of, view, views};
 ghost use Rattle.wt_tree.specs.declared.node.Node.{out-Node};
 ghost use Rattle.wt_tiles.specs.declared.glyph.Glyph.TheVariants as glyph;
@@ -12,15 +12,16 @@ ghost use Rattle.wt_tiles.specs.Urls.{scheme_len, is_url_char};
 ghost use Rattle.wt_kept.specs.Page.{TellsSame};
 ghost use Rattle.wt_kept.specs.PageViews.{page_view};
 ghost use Rattle.wt_escape.specs.Spelling.{href_of};
-ghost use Rattle.wt_selser.specs.Content.{all_faults, bad_content, below, faults, first_why, if_any, is_link, is_open, is_url, own_faults, standing};
+ghost use Rattle.wt_selser.specs.Content.{all_faults, bad_content, below, faults, first_why, if_any, is_link, is_open, is_paragraph, is_url, link_fault, own_faults, standing, unless_same};
 ghost use Rattle.wt_selser.specs.Views.{HasFaults};
 
 use crate::refusal::ContentWhy;
 use std::alloc::Global;
+use wt_escape::href_of;
 use wt_kept::{Page, Way, is_unchanged, page_of_block, shape};
 use wt_names::title_of_href;
 use wt_span::{NoMemory, front_of, rest_of};
-use wt_tree::{AttrName, Kind, Node};
+use wt_tree::{Kind, Node};
 
 /// How a node of the edited tree stands to the page: it is new, it was changed, or it is as it was.
 #[derive(Clone, Copy, Debug, PartialEq, Eq)]
@@ -139,17 +140,6 @@ fn is_url(bytes: &[u8]) -> bool
     are_url_bytes(rest_of(bytes, scheme))
 }
 
-fn href_of<'n>(node: &'n Node<'_>) -> &'n str
-    ensures { result.now ≡ href_of (label_of (out-Node node.now)) }
-{
-    for attr in node.attrs.as_slice() {
-        if attr.name == AttrName::Href {
-            return attr.value.as_str();
-        }
-    }
-    ""
-}
-
 /// Whether the `href` of a link leads to a title.
 fn leads_to_title(alloc: Global, node: &Node<'_>) -> Result<bool, NoMemory>
     ensures { IfOk result (λ good. good ≡ is_some (read_link (href_of (label_of (out-Node node.now))))) }
@@ -227,27 +217,27 @@ fn own_fault(
             Standing::New | Standing::Changed => Ok(Some(ContentWhy::Element)),
             Standing::Same => Ok(None),
         },
-        Way::PageLink | Way::ExternalLink => link_fault(alloc, way, standing, node),
+        Way::PageLink => {
+            let good = leads_to_title(alloc, node)?;
+            Ok(link_fault(standing, good))
+        }
+        Way::ExternalLink => Ok(link_fault(standing, is_url(href_of(node).as_bytes()))),
     }
 }
 
-fn link_fault(
-    alloc: Global,
-    way: Way,
-    standing: Standing,
-    node: &Node<'_>,
-) -> Result<Option<ContentWhy>, NoMemory> {
-    if standing == Standing::Same {
-        return Ok(None);
-    }
-    let good = match way {
-        Way::PageLink => leads_to_title(alloc, node)?,
-        _ => is_url(href_of(node).as_bytes()),
-    };
-    if good {
-        Ok(None)
-    } else {
-        Ok(Some(ContentWhy::Href))
+/// What is wrong with a link, by whether it leads somewhere.
+fn link_fault(standing: Standing, good: bool) -> Option<ContentWhy>
+    ensures { if_any result ≡ unless_same standing (link_fault good) }
+{
+    match standing {
+        Standing::Same => None,
+        Standing::New | Standing::Changed => {
+            if good {
+                None
+            } else {
+                Some(ContentWhy::Href)
+            }
+        }
     }
 }
 
@@ -269,7 +259,11 @@ fn standing_by(
     way: Way,
     page: &Page<'_, '_>,
     node: &Node<'_>,
-) -> Result<Standing, NoMemory> {
+) -> Result<Standing, NoMemory>
+    ensures { (same : Tree → Tree → Bool) → TellsSame same
+        → IfOk result (λ s. is_open way s ≡ is_open way (standing (page_view same page.now) (view node.now))
+        × ((x : Spot) (l : Label) → own_faults way x s l ≡ own_faults way x (standing (page_view same page.now) (view node.now)) l)) }
+{
     match way {
         Way::Nothing | Way::Characters | Way::Bold | Way::Italic => Ok(Standing::New),
         Way::Shown | Way::PageLink | Way::ExternalLink => standing_in(alloc, page, node),
@@ -325,7 +319,9 @@ fn visit(
     Ok(())
 }
 
-fn is_paragraph(kind: Kind) -> bool {
+fn is_paragraph(kind: Kind) -> bool
+    ensures { result ≡ is_paragraph kind }
+{
     matches!(kind, Kind::Para)
 }
 
