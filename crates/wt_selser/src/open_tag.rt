@@ -22,10 +22,12 @@ fn bare_len(text: &[u8]) -> usize
     ensures value { result ≡ bare_len text.now }
     ensures within { result ≤ length text.now }
 {
-    for at in 0..text.len() {
-        if is_stop(text[text.len() - 1 - at]) {
-            return at;
+    let mut bare = 0;
+    for byte in text.iter().rev() {
+        if is_stop(*byte) {
+            return bare;
         }
+        bare += 1;
     }
     text.len()
 }
@@ -43,7 +45,7 @@ fn ends_open(text: &[u8]) -> bool
 }
 
 fn source_ends_open(alloc: Global, node: &Node<'_>) -> Result<bool, NoMemory>
-    ensures { IfOk result (λ open. open ≡ ends_open (flat (view node.now))) }
+    ensures { IfOk result (λ ends. ends ≡ ends_open (flat (view node.now))) }
 {
     let source = flat(alloc, node)?;
     Ok(ends_open(source.as_str().as_bytes()))
@@ -53,7 +55,7 @@ fn source_ends_open(alloc: Global, node: &Node<'_>) -> Result<bool, NoMemory>
 /// open tag.
 #[cycle(open_tags)]
 fn node_ends_open(alloc: Global, node: &Node<'_>) -> Result<bool, NoMemory>
-    ensures { IfOk result (λ open. open ≡ node_ends_open (view node.now)) }
+    ensures { IfOk result (λ ends. ends ≡ node_ends_open (view node.now)) }
 {
     match shape(node.kind).way {
         Way::Characters => Ok(false),
@@ -66,7 +68,7 @@ fn node_ends_open(alloc: Global, node: &Node<'_>) -> Result<bool, NoMemory>
 
 #[cycle(open_tags)]
 fn any_ends_open(alloc: Global, nodes: &[Node<'_>]) -> Result<bool, NoMemory>
-    ensures { IfOk result (λ open. open ≡ any_ends_open (views nodes.now)) }
+    ensures { IfOk result (λ ends. ends ≡ any_ends_open (views nodes.now)) }
 {
     for node in nodes {
         if node_ends_open(alloc, node)? {
@@ -78,7 +80,7 @@ fn any_ends_open(alloc: Global, nodes: &[Node<'_>]) -> Result<bool, NoMemory>
 
 /// Whether a block of the page touches an open tag; `before` is what stands before it in the page.
 pub fn touches_open_tag(alloc: Global, before: &[u8], block: &Node<'_>) -> Result<bool, NoMemory>
-    ensures { IfOk result (λ open. open ≡ touches_open_tag before.now (view block.now)) }
+    ensures { IfOk result (λ ends. ends ≡ touches_open_tag before.now (view block.now)) }
 {
     if ends_open(before) {
         return Ok(true);
