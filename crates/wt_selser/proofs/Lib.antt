@@ -2,3 +2,6 @@ mod Cases
 pub mod Outside
 pub mod SameTells
 pub mod DifferingLaws
+pub mod Chains
+pub mod PageChains
+pub mod EditChains

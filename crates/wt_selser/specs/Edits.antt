@@ -53,9 +53,9 @@ unless_refused (Some e) r = Err e
 
 -- `same` tells nodes of one kind with one plain view
 unfoldable pub edit_answer : (Tree → Tree → Bool) → List ℕ → Tree → Tree → Result (List ℕ) EditRefusal
-edit_answer same page tree edited =
-    let ps = marked tree edited in
-    unless_refused (option_map refusal.Check (checked false tree edited))
+edit_answer same page t edited =
+    let ps = marked t edited in
+    unless_refused (option_map refusal.Check (checked false t edited))
     (unless_refused (refused_pairs same page ps) (if_short (spliced page (changes same ps))))
 
 abbrev pub IsEditRefusal : Result (List ℕ) EditRefusal → EditRefusal → Type 0

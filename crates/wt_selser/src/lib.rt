@@ -12,5 +12,7 @@ mod refusal;
 
 pub use differing::first_differing;
 pub use editing::edit;
-pub use laws::{differing_is_first, nodes_are_told, nothing_changes, outside_stands};
+pub use laws::{
+    differing_is_first, edit_is_a_splice, nodes_are_told, nothing_changes, outside_stands,
+};
 pub use refusal::{ContentWhy, EditRefusal};
