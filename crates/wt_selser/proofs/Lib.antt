@@ -5,3 +5,5 @@ pub mod DifferingLaws
 pub mod Chains
 pub mod PageChains
 pub mod EditChains
+pub mod Spliced
+pub mod OpenTags

@@ -9,7 +9,7 @@ ghost use Rattle.wt_tree.specs.declared.kind.Kind.TheVariants as kind;
 ghost use Rattle.wt_kept.specs.Page.{TellsSame};
 ghost use Rattle.wt_checks.specs.Places.{page_of, places};
 ghost use Rattle.wt_checks.specs.View.{all_seen, indexed, seen};
-ghost use Rattle.wt_selser.specs.Changes.{change_of, changes, marked, pair_at, place_in};
+ghost use Rattle.wt_selser.specs.Changes.{change_of, change_with, changes, marked, pair_at, place_in};
 ghost use Rattle.wt_selser.specs.Splice.{between, spliced};
 ghost use Rattle.wt_selser.specs.Views.{changes_view, pair_of, pairs_of};
 
@@ -17,7 +17,7 @@ use std::alloc::Global;
 use wt_checks::{Visit, is_content, numbered_nodes, original, preorder};
 use wt_escape::{Place, spell_inline};
 use wt_span::{NoMemory, Str};
-use wt_tree::{Kind, Node};
+use wt_tree::{Kind, Node, Ranges};
 
 /// A marked node as it was in the page, and what it was edited to.
 #[derive(Clone, Copy)]
@@ -104,14 +104,13 @@ pub fn marked_pairs<'t, 'a>(
     pairs_in(alloc, index.as_slice(), edited.as_slice())
 }
 
-fn push_change(alloc: Global, found: &mut Vec<Change>, pair: Pair<'_, '_>) -> Result<(), NoMemory>
-    ensures { (same : Tree → Tree → Bool) → TellsSame same
-        → OnOk result (changes_view found.new.items ≡ changes_view found.old.items ++ change_of same (pair_of pair.entry)) }
+/// Appends the inside of a node with these ranges, by what is written for it.
+fn push_inside(found: &mut Vec<Change>, ranges: Option<Ranges>, by: Str) -> Result<(), NoMemory>
+    ensures { OnOk result (changes_view found.new.items ≡ changes_view found.old.items ++ change_with ranges by) }
 {
-    let Some(ranges) = pair.old.ranges else {
+    let Some(ranges) = ranges else {
         return Ok(());
     };
-    let by = spell_inline(alloc, pair.old, pair.new, place_in(pair.old.kind))?;
     let Some(start) = ranges.start.checked_add(ranges.open_w) else {
         return Err(NoMemory);
     };
@@ -120,6 +119,15 @@ fn push_change(alloc: Global, found: &mut Vec<Change>, pair: Pair<'_, '_>) -> Re
         end: ranges.end.saturating_sub(ranges.close_w),
         by,
     })?;
+    Ok(())
+}
+
+fn push_change(alloc: Global, found: &mut Vec<Change>, pair: Pair<'_, '_>) -> Result<(), NoMemory>
+    ensures { (same : Tree → Tree → Bool) → TellsSame same
+        → OnOk result (changes_view found.new.items ≡ changes_view found.old.items ++ change_of same (pair_of pair.entry)) }
+{
+    let by = spell_inline(alloc, pair.old, pair.new, place_in(pair.old.kind))?;
+    push_inside(found, pair.old.ranges, by)?;
     Ok(())
 }
 
@@ -138,22 +146,29 @@ pub fn changes(alloc: Global, pairs: &[Pair<'_, '_>]) -> Result<Vec<Change>, NoM
 fn push_between(out: &mut Str, page: &str, from: u32, to: u32) -> Result<(), NoMemory>
     ensures { OnOk result (out.new ≡ out.old ++ between from to page.now) }
 {
-    match page.get(from as usize..to as usize) {
-        Some(text) => out.push_str(text),
-        None => Err(NoMemory),
+    if from > to || to as usize > page.len() {
+        return Err(NoMemory);
     }
+    if !page.is_char_boundary(from as usize) || !page.is_char_boundary(to as usize) {
+        return Err(NoMemory);
+    }
+    out.push_str(&page[from as usize..to as usize])?;
+    Ok(())
 }
 
+/// Appends what stands in the page from a place on.
 fn push_rest(out: &mut Str, page: &str, from: u32) -> Result<(), NoMemory>
     ensures { OnOk result (out.new ≡ out.old ++ drop from page.now) }
 {
-    match page.get(from as usize..page.len()) {
-        Some(text) => out.push_str(text),
-        None => Err(NoMemory),
+    if !page.is_char_boundary(from as usize) {
+        return Err(NoMemory);
     }
+    out.push_str(&page[from as usize..])?;
+    Ok(())
 }
 
 /// The page with these slices replaced.
+#[tactic(auto, unfolding(crate::specs::Splice::spliced))]
 pub fn spliced(alloc: Global, page: &str, changes: &[Change]) -> Result<Str, NoMemory>
     ensures { IfOk result (λ new. new ≡ spliced page.now (changes_view changes.now)) }
 {

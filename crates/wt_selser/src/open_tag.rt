@@ -1,7 +1,8 @@
 //! Whether a block touches an open tag: a `<` with a letter behind it that nothing closes before the
 //! block, or before the end of one of its nodes.
 
-ghost use Rattle.std.specs.Prelude.{◌≡◌, ◌≤◌, length, IfOk};
+ghost use Rattle.std.specs.Prelude.{◌≡◌, ◌<◌, ◌-◌, ◌==◌, ◌&&◌, not, length, slice_index, IfOk};
+ghost use Rattle.std.specs.Char.{is_ascii_alphabetic};
 ghost use Rattle.wt_tree.specs.Source.{flat};
 ghost use Rattle.wt_tree.specs.View.{view, views};
 ghost use Rattle.wt_selser.specs.OpenTags.{any_ends_open, bare_len, ends_open, is_stop, node_ends_open, touches_open_tag};
@@ -11,25 +12,26 @@ use wt_kept::{Way, shape};
 use wt_span::NoMemory;
 use wt_tree::{Node, flat};
 
-fn is_stop(byte: u8) -> bool
-    ensures { result ≡ is_stop byte }
+fn is_bare(byte: u8) -> bool
+    ensures { result ≡ not (is_stop byte) }
 {
-    byte == b'<' || byte == b'>' || byte == b'\n'
+    !(byte == b'<' || byte == b'>' || byte == b'\n')
 }
 
 /// How many bytes stand behind the last `<`, `>` or line break.
 fn bare_len(text: &[u8]) -> usize
-    ensures value { result ≡ bare_len text.now }
-    ensures within { result ≤ length text.now }
+    ensures { result ≡ bare_len text.now }
 {
-    let mut bare = 0;
-    for byte in text.iter().rev() {
-        if is_stop(*byte) {
-            return bare;
-        }
-        bare += 1;
-    }
-    text.len()
+    text.iter().rev().take_while(|byte| is_bare(**byte)).count()
+}
+
+/// Whether a `<` stands before this place, and an ASCII letter at it.
+fn begins_tag(text: &[u8], at: usize) -> bool
+    requires behind { 0 < at }
+    requires within { at < length text.now }
+    ensures { result ≡ (slice_index text.now (at - 1) == 60 && is_ascii_alphabetic (slice_index text.now at)) }
+{
+    text[at - 1] == b'<' && text[at].is_ascii_alphabetic()
 }
 
 /// Whether a text ends inside an open tag: its last `<`, `>` or line break is a `<`, with an ASCII letter
@@ -38,10 +40,10 @@ fn ends_open(text: &[u8]) -> bool
     ensures { result ≡ ends_open text.now }
 {
     let bare = bare_len(text);
-    if bare == 0 || bare == text.len() {
+    if bare == 0 || bare >= text.len() {
         return false;
     }
-    text[text.len() - bare - 1] == b'<' && text[text.len() - bare].is_ascii_alphabetic()
+    begins_tag(text, text.len() - bare)
 }
 
 fn source_ends_open(alloc: Global, node: &Node<'_>) -> Result<bool, NoMemory>
