@@ -1,6 +1,7 @@
 pub mod AnswerLaws
 pub mod BuiltLaws
 mod Cases
+pub mod EditLaws
 pub mod ExpandLaws
 pub mod GivenBackLaws
 pub mod PageLaws

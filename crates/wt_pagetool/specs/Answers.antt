@@ -127,7 +127,7 @@ source_answer (as_page t (Some n)) = refused (Unsourced n)
 source_answer (ill place why) = refused (html_refused place why)
 source_answer (misfit n why) = refused (Unfit n why)
 
--- an input, by what is made of what is read
+-- The refusal of an input that is too long. Any other input is answered by what is made of what is read.
 unfoldable pub input_answer : (Read → Answer) → List ℕ → Answer
 input_answer made input =
     if nat_lt HTML_BYTES (length input) then refused InputTooLong

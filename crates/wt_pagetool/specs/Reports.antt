@@ -1,5 +1,5 @@
 -- What a call wrote to its two sinks.
-use Rattle.std.specs.Prelude.{◌≡◌, ◌≤◌, ℕ, ◌⊎◌, List, length, Option, Some, None, IfSome, Result, Ok, Err}
+use Rattle.std.specs.Prelude.{◌≡◌, ◌≤◌, ℕ, ◌⊎◌, false, List, length, Option, Some, None, IfSome, Result, Ok, Err}
 use Rattle.std.specs.Io.KnownBytes.{Appends, IsAtEnd}
 use Rattle.wt_outer.specs.Device.{Pages}
 use Rattle.wt_expand.specs.Texts.{shown_text}
@@ -10,6 +10,12 @@ use Rattle.wt_tree.specs.Tiling.{Tiled, Covers, InPreorder}
 use Rattle.wt_ranges.specs.Slices.{AreSlices}
 use Rattle.wt_fitting.specs.Read.{page as as_page, read}
 use Rattle.wt_page_round_trip.specs.PageTree.{page_tree}
+use Rattle.wt_checks.specs.Checked.{checked}
+use Rattle.wt_selser.specs.Changes.{marked, changes}
+use Rattle.wt_selser.specs.Children.{shown_children}
+use Rattle.wt_selser.specs.Edits.{edit_answer}
+use Rattle.wt_selser.specs.SameNodes.{same_node}
+use Rattle.wt_selser.specs.Splice.{spliced}
 use Rattle.wt_pagetool.specs.declared.limits.TheConstants.{HTML_BYTES}
 use Rattle.wt_pagetool.specs.declared.status.Status.{Status}
 use Rattle.wt_pagetool.specs.declared.status.Status.TheVariants as status
@@ -107,3 +113,22 @@ pub record WroteSource (input : List ℕ) (left old new : Option (List ℕ)) : T
   pub reads : read input ≡ as_page tree None
   pub ended : IsAtEnd left
   pub wrote : Appends old new (flat tree)
+
+-- The new page of an edit: the page with the inside of each marked node, and nothing else, replaced by its spelling.
+abbrev pub new_page : List ℕ → Tree → List ℕ
+new_page page edited = spliced page (changes same_node (marked (page_tree page) edited))
+
+-- A page stands under the title, and the whole input for an edited tree that differs from the page's only where it may;
+-- nothing refuses the edit, `out` took the new page, and this shows what the edited tree shows.
+pub record WroteEdit (stands : Option (List ℕ)) (input : List ℕ) (left old new : Option (List ℕ)) : Type 0 where
+  pub page : List ℕ
+  pub edited : Tree
+  pub unsourced : Option ℕ
+  pub found : stands ≡ Some page
+  pub within : length input ≤ HTML_BYTES
+  pub reads : read input ≡ as_page edited unsourced
+  pub ended : IsAtEnd left
+  pub allowed : checked false (page_tree page) edited ≡ None
+  pub unrefused : edit_answer same_node page (page_tree page) edited ≡ Ok (new_page page edited)
+  pub wrote : Appends old new (new_page page edited)
+  pub shows : shown_children (page_tree (new_page page edited)) ≡ shown_children edited
