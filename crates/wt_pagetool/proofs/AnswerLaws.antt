@@ -1,6 +1,6 @@
 -- The answer to an input, from what it gave.
 use Rattle.std.proofs.Common.{◌≡◌, ℕ, ◌<◌, ◌≤◌, List, length, true, false, Bool, cond, refl, sym, ap, ◌∙◌, subst, arith, length-append}
-use Rattle.std.specs.Prelude.{nat_lt, Option, Some, None, IfSome, Result, Err}
+use Rattle.std.specs.Prelude.{nat_lt, Option, Some, None, IfSome, Result}
 use Rattle.std.specs.Io.KnownBytes.{Consumes}
 use Rattle.std.proofs.lemmas.Bool.Decides.{nat_tests}
 use Rattle.wt_fitting.specs.Read.{Read, read}
@@ -35,15 +35,6 @@ pub answered_by : (made : Read → Answer) (told : Option (List ℕ)) (bytes : L
 answered_by made None bytes result whole within answered = tt
 answered_by made (Some all) bytes result whole within answered =
     subst (λ a. Answered a result) (sym (ap (input_answer made) whole ∙ input_within made bytes within)) answered
-
-abbrev refused_as : Refusal → Result Output Refusal
-refused_as r = Err r
-
--- what refuses an input refuses what is made of it
-pub input_refused : (made : Read → Answer) (told : Option (List ℕ)) (r : Refusal) → IfSome told (λ all. RefusesInput all r)
-    → IfSome told (λ all. Answered (input_answer made all) (refused_as r))
-input_refused made None r h = tt
-input_refused made (Some all) r h = h made
 
 -- ---- what an answer that is done says of the input
 

@@ -1,6 +1,6 @@
 -- `edit`: from what was read, compared and spelled to the answer of the program.
 use Rattle.std.proofs.Common.{◌≡◌, ℕ, List, Bool, true, false, cond, refl, sym, ap, ◌∙◌, subst}
-use Rattle.std.specs.Prelude.{nat_lt, length, Option, Some, None, option_map, IfSome, IfErr, IsErrAnd, Result, Ok, Err}
+use Rattle.std.specs.Prelude.{nat_lt, length, Option, Some, None, option_map, IsErrAnd, Result, Ok, Err}
 use Rattle.std.specs.Io.KnownBytes.{Appends, IsAtEnd}
 use Rattle.wt_outer.specs.Device.{Pages}
 use Rattle.wt_tree.specs.declared.kind.Kind.TheVariants as kind
@@ -8,9 +8,10 @@ use Rattle.wt_tree.specs.Tree.{Tree, label}
 use Rattle.wt_expand.specs.PageItems.{page_items}
 use Rattle.wt_body.specs.Body.{meaning}
 use Rattle.wt_ranges.specs.CutTexts.{cut_texts}
-use Rattle.wt_ranges.specs.WithoutCalls.{annotated_plainly}
+use Rattle.wt_ranges.specs.Labels.{label_at}
+use Rattle.wt_ranges.specs.WithoutCalls.{annotated as annotated_plainly}
 use Rattle.wt_fitting.specs.Read.{Read, page as as_page, ill, misfit, read}
-use Rattle.wt_html_in.specs.Answers.{body_of, unsourced_of, Answers}
+use Rattle.wt_html_in.specs.Answers.{body_of, Answers}
 use Rattle.wt_html_in.specs.declared.edited.Edited.{Edited}
 use Rattle.wt_html_in.specs.declared.refusal.HtmlRefusal.{HtmlRefusal}
 use Rattle.wt_html_in.specs.declared.refusal.HtmlRefusal.TheVariants as refusals
@@ -28,23 +29,20 @@ use Rattle.wt_selser.specs.Splice.{spliced}
 use Rattle.wt_selser.proofs.DifferingLaws.{differing_is, none_same}
 use Rattle.wt_pagetool.specs.declared.output.Output.{Output}
 use Rattle.wt_pagetool.specs.declared.refusal.Refusal.{Refusal}
-use Rattle.wt_pagetool.specs.declared.status.Status.{Status}
-use Rattle.wt_pagetool.specs.declared.status.Status.TheVariants as status
 use Rattle.wt_pagetool.specs.declared.command.Command.TheVariants.{Edit}
 use Rattle.wt_pagetool.specs.Refusals.{refusal_of_edit}
 use Rattle.wt_pagetool.specs.Words.{command_of}
-use Rattle.wt_pagetool.specs.Answers.{Answer, done, refused, built_answer, unbuilt_place, IsText, IsAnswered, input_answer, unspelled_by, unspelled_answer, new_answer, edit_by, edited_answer, edit_of, edit_told, answer_told}
-use Rattle.wt_pagetool.specs.Causes.{Answered, Refuses, RefusesPage, IsFetched, refusal_of, IsPageStatus, IsTitleStatus, IsInputStatus, IsHtmlStatus, IsEditStatus}
+use Rattle.wt_pagetool.specs.Answers.{done, unbuilt_place, IsAnswered, input_answer, unspelled_by, unspelled_answer, new_answer, edit_by, edited_answer, edit_of, edit_told, answer_told}
+use Rattle.wt_pagetool.specs.Causes.{Answered, Refuses, refusal_of}
 use Rattle.wt_pagetool.specs.Reports.{new_page, WroteEdit}
-use Rattle.wt_pagetool.proofs.AnswerLaws.{refused_as, input_done}
+use Rattle.wt_pagetool.proofs.AnswerLaws.{input_done}
 use Rattle.wt_pagetool.proofs.BuiltLaws.{built_none}
-use Rattle.wt_pagetool.proofs.ExpandLaws.{fetched_as}
-use Rattle.wt_pagetool.proofs.PageLaws.{page_answered, page_made, stands_made}
+use Rattle.wt_pagetool.proofs.PageLaws.{page_made, stands_made}
 
 -- ---- the tree of a page
 
 plain_body : (page : List ℕ) → (label (cut_texts (annotated_plainly (meaning (page_items page))))).kind ≡ kind.Body
-unfolding meaning annotated_plainly
+unfolding meaning annotated_plainly label_at
 plain_body page = refl
 
 -- the root of the tree of a page that is built is the body
@@ -109,39 +107,6 @@ pub unread_from : (page : List ℕ) (refusal : HtmlRefusal) (bytes : List ℕ) (
 unread_from page refusal bytes (Ok output) reads is = absurd is
 unread_from page refusal bytes (Err r) reads is =
     subst (λ x. Refuses x (edited_answer page (read bytes))) (sym is) (unread page refusal bytes reads)
-
--- ---- from the page to what stands under the title
-
-pub edit_answered : (page text : List ℕ) (left : Option (List ℕ)) (result : Result Output Refusal) → text ≡ page → IsText page
-    → unbuilt_place text ≡ None → IfSome left (λ bytes. Answered (input_answer (edited_answer text) bytes) result)
-    → IfSome left (λ bytes. Answered (edit_of (Some page) bytes) result)
-edit_answered page text None result same is built a = tt
-edit_answered page text (Some bytes) result same is built a =
-    let answered : IsAnswered page = page_answered page is (sym (ap unbuilt_place same) ∙ built) in
-    subst (λ x. Answered x result)
-    (ap (λ p. input_answer (edited_answer p) bytes) same ∙ sym (answered (λ p. input_answer (edited_answer p) bytes))) a
-
-pub edit_unanswered : (stands left : Option (List ℕ)) (r : Refusal) → RefusesPage stands r
-    → IfSome left (λ bytes. Answered (edit_of stands bytes) (refused_as r))
-edit_unanswered stands None r refuses = tt
-edit_unanswered stands (Some bytes) r refuses = refuses (λ page. input_answer (edited_answer page) bytes)
-
-pub edit_title_answered : (told : Option Pages) (left : Option (List ℕ)) (title page : List ℕ) (result : Result Output Refusal)
-    → IfSome told (λ pages. IsFetched (pages title) (fetched_as page)) → IfSome left (λ bytes. Answered (edit_of (Some page) bytes) result)
-    → IfSome (edit_told told left title) (λ a. Answered a result)
-edit_title_answered None left title page result f a = tt
-edit_title_answered (Some pages) None title page result f a = tt
-edit_title_answered (Some pages) (Some bytes) title page result f a =
-    subst (λ x. Answered x result) (sym (f (built_answer (λ p. input_answer (edited_answer p) bytes)))) a
-
-abbrev fetch_refused : Refusal → Result (List ℕ) Refusal
-fetch_refused r = Err r
-
-pub edit_title_refused : (told : Option Pages) (left : Option (List ℕ)) (title : List ℕ) (r : Refusal)
-    → IfSome told (λ pages. IsFetched (pages title) (fetch_refused r)) → IfSome (edit_told told left title) (λ a. Answered a (refused_as r))
-edit_title_refused None left title r f = tt
-edit_title_refused (Some pages) None title r f = tt
-edit_title_refused (Some pages) (Some bytes) title r f = f (built_answer (λ p. input_answer (edited_answer p) bytes))
 
 -- ---- an answer that is done is the new page
 

@@ -1,5 +1,4 @@
 use Rattle.wt_pagetool.specs.Answers.{source_answer}
-use Rattle.wt_pagetool.proofs.AnswerLaws.{input_refused}
 use Rattle.wt_pagetool.proofs.WikitextLaws.{answered_whole}
 use Rattle.wt_pagetool.proofs.wikitext_command.wikitext_of_input.Goals as goal
 
