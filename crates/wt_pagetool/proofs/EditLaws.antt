@@ -3,13 +3,7 @@ use Rattle.std.proofs.Common.{◌≡◌, ℕ, List, Bool, true, false, cond, ref
 use Rattle.std.specs.Prelude.{nat_lt, length, Option, Some, None, option_map, IsErrAnd, Result, Ok, Err}
 use Rattle.std.specs.Io.KnownBytes.{Appends, IsAtEnd}
 use Rattle.wt_outer.specs.Device.{Pages}
-use Rattle.wt_tree.specs.declared.kind.Kind.TheVariants as kind
-use Rattle.wt_tree.specs.Tree.{Tree, label}
-use Rattle.wt_expand.specs.PageItems.{page_items}
-use Rattle.wt_body.specs.Body.{meaning}
-use Rattle.wt_ranges.specs.CutTexts.{cut_texts}
-use Rattle.wt_ranges.specs.Labels.{label_at}
-use Rattle.wt_ranges.specs.WithoutCalls.{annotated as annotated_plainly}
+use Rattle.wt_tree.specs.Tree.{Tree}
 use Rattle.wt_fitting.specs.Read.{Read, page as as_page, ill, misfit, read}
 use Rattle.wt_html_in.specs.Answers.{body_of, Answers}
 use Rattle.wt_html_in.specs.declared.edited.Edited.{Edited}
@@ -18,7 +12,6 @@ use Rattle.wt_html_in.specs.declared.refusal.HtmlRefusal.TheVariants as refusals
 use Rattle.wt_checks.specs.declared.refusal.Check.{Check}
 use Rattle.wt_checks.specs.Checked.{checked}
 use Rattle.wt_page_round_trip.specs.PageTree.{page_tree}
-use Rattle.wt_page_round_trip.proofs.PageTrees.{plainly}
 use Rattle.wt_selser.specs.declared.refusal.EditRefusal.{EditRefusal}
 use Rattle.wt_selser.specs.declared.refusal.EditRefusal.TheVariants as of_edit
 use Rattle.wt_selser.specs.Changes.{marked, changes}
@@ -36,18 +29,8 @@ use Rattle.wt_pagetool.specs.Answers.{done, unbuilt_place, IsAnswered, input_ans
 use Rattle.wt_pagetool.specs.Causes.{Answered, Refuses, refusal_of}
 use Rattle.wt_pagetool.specs.Reports.{new_page, WroteEdit}
 use Rattle.wt_pagetool.proofs.AnswerLaws.{input_done}
-use Rattle.wt_pagetool.proofs.BuiltLaws.{built_none}
-use Rattle.wt_pagetool.proofs.PageLaws.{page_made, stands_made}
-
--- ---- the tree of a page
-
-plain_body : (page : List ℕ) → (label (cut_texts (annotated_plainly (meaning (page_items page))))).kind ≡ kind.Body
-unfolding meaning annotated_plainly label_at
-plain_body page = refl
-
--- the root of the tree of a page that is built is the body
-pub page_body : (page : List ℕ) → unbuilt_place page ≡ None → (label (page_tree page)).kind ≡ kind.Body
-page_body page built = ap (λ t. (label t).kind) (plainly page (built_none page built)) ∙ plain_body page
+use Rattle.wt_pagetool.proofs.PageLaws.{page_text, page_answered, page_made, stands_made}
+use Rattle.wt_pagetool.proofs.ShownLaws.{same_shown, page_face, read_face}
 
 -- ---- the new page
 
@@ -56,7 +39,7 @@ pub meant : (edited t : Tree) (new : List ℕ) (o : Option ℕ) → IsAnswered n
     → IsFirstDiffering (shown_children t) (shown_children edited) o → new_answer edited new ≡ unspelled_by new o
 meant edited t new o answered is found =
     let told : o ≡ differing 1 (shown_children t) (shown_children edited) =
-        differing_is (shown_children t) (shown_children edited) o found in
+    differing_is (shown_children t) (shown_children edited) o found in
     answered (unspelled_answer edited) ∙ ap (unspelled_by new) (sym (subst (λ x. o ≡ differing 1 (shown_children x) (shown_children edited)) is told))
 
 -- a refusal of an edit is its answer
@@ -111,6 +94,8 @@ unread_from page refusal bytes (Err r) reads is =
 -- ---- an answer that is done is the new page
 
 record IsNewPage (page : List ℕ) (edited : Tree) (bytes : List ℕ) : Type 0 where
+  pub built : unbuilt_place (new_page page edited) ≡ None
+  pub answered : IsAnswered (new_page page edited)
   pub allowed : checked false (page_tree page) edited ≡ None
   pub answer : edit_answer same_node page (page_tree page) edited ≡ Ok (new_page page edited)
   pub is : bytes ≡ new_page page edited
@@ -147,7 +132,10 @@ new_page_done page edited bytes (Ok new) is d =
     let m = page_made new bytes (unspelled_answer edited) d in
     let u = unspelled_done new bytes (differing 1 (shown_children (page_tree new)) (shown_children edited)) m.is in
     let shown = none_same 1 (shown_children (page_tree new)) (shown_children edited) u.1 in
+    let answered = page_answered new (page_text new m.within m.text) m.built in
     record {
+      built = subst (λ bs. unbuilt_place bs ≡ None) a.1 m.built;
+      answered = subst IsAnswered a.1 answered;
       allowed = a.0;
       answer = is ∙ ap Ok a.1;
       is = u.0 ∙ a.1;
@@ -181,7 +169,8 @@ wrote_edit stands input bytes left old new e ended wrote =
       allowed = d.3.allowed;
       unrefused = d.3.answer;
       wrote = subst (Appends old new) d.3.is wrote;
-      shows = d.3.shows;
+      answered = d.3.answered;
+      shows = same_shown (page_tree (new_page h.0 d.0)) d.0 (page_face (new_page h.0 d.0) d.3.built) (read_face input d.0 d.1 d.2) d.3.shows;
     }
 
 pub told_edit : (pages : Option Pages) (input : Option (List ℕ)) (words : List (List ℕ)) (title : List ℕ)

@@ -7,5 +7,6 @@ pub mod GivenBackLaws
 pub mod PageLaws
 pub mod RefusalLines
 pub mod RunLaws
+pub mod ShownLaws
 pub mod StatusLaws
 pub mod WikitextLaws

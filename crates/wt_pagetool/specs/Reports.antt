@@ -5,6 +5,7 @@ use Rattle.wt_outer.specs.Device.{Pages}
 use Rattle.wt_expand.specs.Texts.{shown_text}
 use Rattle.wt_expand.specs.PageCalls.{expanded_page}
 use Rattle.wt_tree.specs.Tree.{Tree}
+use Rattle.wt_tree.specs.Plain.{plain}
 use Rattle.wt_tree.specs.Source.{flat}
 use Rattle.wt_tree.specs.Tiling.{Tiled, Covers, InPreorder}
 use Rattle.wt_ranges.specs.Slices.{AreSlices}
@@ -12,7 +13,6 @@ use Rattle.wt_fitting.specs.Read.{page as as_page, read}
 use Rattle.wt_page_round_trip.specs.PageTree.{page_tree}
 use Rattle.wt_checks.specs.Checked.{checked}
 use Rattle.wt_selser.specs.Changes.{marked, changes}
-use Rattle.wt_selser.specs.Children.{shown_children}
 use Rattle.wt_selser.specs.Edits.{edit_answer}
 use Rattle.wt_selser.specs.SameNodes.{same_node}
 use Rattle.wt_selser.specs.Splice.{spliced}
@@ -27,7 +27,7 @@ use Rattle.wt_pagetool.specs.Outputs.{output_bytes}
 use Rattle.wt_pagetool.specs.Devices.{FolderUse, AnswersExpansion, SinkUse, Untouched, Took, FailedAfter, TookOrFailed}
 use Rattle.wt_pagetool.specs.Statuses.{code}
 use Rattle.wt_pagetool.specs.Refusals.{status_of, line_of}
-use Rattle.wt_pagetool.specs.Answers.{done, page_output, refusal_of_page}
+use Rattle.wt_pagetool.specs.Answers.{done, page_output, refusal_of_page, IsAnswered}
 use Rattle.wt_pagetool.specs.Calls.{Call, told, IsDue}
 
 -- ---- what was found goes to the sinks
@@ -119,7 +119,8 @@ abbrev pub new_page : List ℕ → Tree → List ℕ
 new_page page edited = spliced page (changes same_node (marked (page_tree page) edited))
 
 -- A page stands under the title, and the whole input for an edited tree that differs from the page's only where it may;
--- nothing refuses the edit, `out` took the new page, and this shows what the edited tree shows.
+-- nothing refuses the edit, `out` took the new page, which nothing refuses, and the plain view of its tree is that of the
+-- edited tree.
 pub record WroteEdit (stands : Option (List ℕ)) (input : List ℕ) (left old new : Option (List ℕ)) : Type 0 where
   pub page : List ℕ
   pub edited : Tree
@@ -131,4 +132,5 @@ pub record WroteEdit (stands : Option (List ℕ)) (input : List ℕ) (left old n
   pub allowed : checked false (page_tree page) edited ≡ None
   pub unrefused : edit_answer same_node page (page_tree page) edited ≡ Ok (new_page page edited)
   pub wrote : Appends old new (new_page page edited)
-  pub shows : shown_children (page_tree (new_page page edited)) ≡ shown_children edited
+  pub answered : IsAnswered (new_page page edited)
+  pub shows : plain (page_tree (new_page page edited)) ≡ plain edited

@@ -348,7 +348,9 @@ pub fn line_of(alloc: Global, refusal: &Refusal) -> Result<String, AllocError>
         Refusal::BadContent { node, why } => content_line(alloc, *node, *why),
         Refusal::Tangled(node) => format!(in alloc; "wtround: edit refused: Tangled {node}\n"),
         Refusal::NewPageTooLong => format!(in alloc; "wtround: edit refused: NewPageTooLong\n"),
-        Refusal::Unspelled(child) => format!(in alloc; "wtround: edit refused: Unspelled {child}\n"),
+        Refusal::Unspelled(child) => format!(in alloc;
+            "wtround: edit refused: Unspelled {child}\n"
+        ),
         Refusal::ReadFault => format!(in alloc; "wtround: read fault\n"),
         Refusal::FolderFault => format!(in alloc; "wtround: folder fault\n"),
         Refusal::WriteFault => format!(in alloc; "wtround: write fault\n"),

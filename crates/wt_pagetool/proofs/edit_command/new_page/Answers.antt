@@ -6,7 +6,8 @@ use Rattle.wt_page_round_trip.specs.PageTree.{page_tree}
 use Rattle.wt_selser.specs.Edits.{edit_answer, AnswersEdit}
 use Rattle.wt_selser.specs.SameNodes.{same_node}
 use Rattle.wt_selser.proofs.SameTells.{tells_same}
-use Rattle.wt_pagetool.proofs.EditLaws.{page_body, edit_refused_from, new_page_is, new_page_refused}
+use Rattle.wt_pagetool.proofs.EditLaws.{edit_refused_from, new_page_is, new_page_refused}
+use Rattle.wt_pagetool.proofs.ShownLaws.{page_body}
 use Rattle.wt_pagetool.proofs.edit_command.new_page.Goals as goal
 
 pub edit-requires-clause-body : goal.edit-requires-clause-body
