@@ -1,19 +1,21 @@
 -- Worked cases of the definitions, each computed.
-use Rattle.std.proofs.Common.{◌≡◌, ℕ, [], ◌∷◌, ◌++◌, refl, append_assoc, rules}
+use Rattle.std.proofs.Common.{◌≡◌, ℕ, List, [], ◌∷◌, ◌++◌, refl, append_assoc, rules}
 use Rattle.std.specs.Prelude.{Some, None, codes, decimal}
 use Rattle.wt_names.specs.Namespace.{prefix_of, full_name_of}
 use Rattle.wt_names.specs.Reading.{whole_in, cut_namespace, title_in}
 use Rattle.wt_names.specs.Good.{is_forbidden, is_allowed, has_signature, is_step, begins_with_step, holds_step, ends_with_step, is_good, read_text}
 use Rattle.wt_pagetool.specs.declared.command.PageCommand.TheVariants as pages
-use Rattle.wt_pagetool.specs.declared.command.Command.TheVariants.{Page, Wikitext}
-use Rattle.wt_pagetool.specs.declared.refusal.Refusal.TheVariants.{Usage, Absent, NotUtf8, NotBuilt, HtmlTooLong, Html, Unfit, Unsourced}
+use Rattle.wt_pagetool.specs.declared.command.Command.TheVariants.{Page, Edit, Wikitext}
+use Rattle.wt_pagetool.specs.declared.refusal.Refusal.TheVariants.{Usage, Absent, NotUtf8, NotBuilt, HtmlTooLong, Html, Unfit, Unsourced, Checked, BadContent, Unspelled}
 use Rattle.wt_pagetool.specs.Words.{page_name, command_of}
 use Rattle.wt_tree.specs.Tree.{Tree}
 use Rattle.wt_html_grammar.specs.declared.why.HtmlWhy.TheVariants as ill_why
 use Rattle.wt_fitting.specs.declared.why.FitWhy.TheVariants as fit_whys
 use Rattle.wt_fitting.specs.Read.{page as as_page, misfit}
-use Rattle.wt_pagetool.specs.Answers.{refused, title_answer, page_answer, made, source_answer, answer_told}
-use Rattle.wt_pagetool.specs.Refusals.{html_why, fit_why, text_of, line_of}
+use Rattle.wt_checks.specs.declared.refusal.Check.TheVariants as checks
+use Rattle.wt_selser.specs.declared.refusal.ContentWhy.TheVariants as contents
+use Rattle.wt_pagetool.specs.Answers.{refused, title_answer, page_answer, made, source_answer, unspelled_by, edited_answer, edit_of, answer_told}
+use Rattle.wt_pagetool.specs.Refusals.{html_why, fit_why, content_why, check_name, text_of, line_of}
 
 -- the words
 html_main : command_of (codes "html" ∷ codes "main page" ∷ []) ≡ Some (Page pages.Html (codes "Main page"))
@@ -25,6 +27,11 @@ ranges_main : command_of (codes "ranges" ∷ codes "main page" ∷ []) ≡ Some 
 unfolding command_of page_name read_text is_allowed is_forbidden title_in whole_in cut_namespace is_good full_name_of prefix_of
     has_signature is_step begins_with_step holds_step ends_with_step
 ranges_main = refl
+
+edit_main : command_of (codes "edit" ∷ codes "main page" ∷ []) ≡ Some (Edit (codes "Main page"))
+unfolding command_of page_name read_text is_allowed is_forbidden title_in whole_in cut_namespace is_good full_name_of prefix_of
+    has_signature is_step begins_with_step holds_step ends_with_step
+edit_main = refl
 
 ranges_alone : command_of (codes "ranges" ∷ []) ≡ None
 unfolding command_of
@@ -70,6 +77,19 @@ no_place : source_answer (misfit 2 fit_whys.Place) ≡ refused (Unfit 2 fit_whys
 unfolding source_answer
 no_place = refl
 
+-- an edit by HTML that doesn't fit, of whatever page; one of which no page stands under the title, whatever the input
+edit_unfit : (page : List ℕ) → edited_answer page (misfit 2 fit_whys.Place) ≡ refused (Unfit 2 fit_whys.Place)
+unfolding edited_answer
+edit_unfit page = refl
+
+edit_of_none : (input : List ℕ) → edit_of None input ≡ refused Absent
+unfolding title_answer
+edit_of_none input = refl
+
+-- a new page that shows in its third child something else than the edited tree
+edit_unspelled : (new : List ℕ) → unspelled_by new (Some 3) ≡ refused (Unspelled 3)
+edit_unspelled new = refl
+
 -- a folder without a page of this title, and a page that isn't UTF-8, whatever is made of a page
 no_page : page_answer None (made pages.Ranges) ≡ refused Absent
 unfolding title_answer
@@ -91,6 +111,18 @@ html_line = refl
 ill_line : (place : ℕ) → line_of (Html place ill_why.EndTag) ≡ codes "wtround: html refused at " ++ (decimal place ++ codes ": EndTag\n")
 unfolding line_of text_of html_why
 ill_line place = search (rules, append_assoc)
+
+checked_line : (n : ℕ) → line_of (Checked (checks.UnmarkedChange n)) ≡ codes "wtround: edit refused: UnmarkedChange " ++ (decimal n ++ codes "\n")
+unfolding line_of text_of check_name
+checked_line n = refl
+
+content_line : (n : ℕ) → line_of (BadContent n contents.Href) ≡ codes "wtround: edit refused: BadContent " ++ (decimal n ++ codes " Href\n")
+unfolding line_of text_of content_why
+content_line n = search (rules, append_assoc)
+
+unspelled_line : (k : ℕ) → line_of (Unspelled k) ≡ codes "wtround: edit refused: Unspelled " ++ decimal k ++ codes "\n"
+unfolding line_of text_of
+unspelled_line k = refl
 
 unfit_line : (n : ℕ) → line_of (Unfit n fit_whys.Place) ≡ codes "wtround: element " ++ (decimal n ++ codes " does not fit: Place\n")
 unfolding line_of text_of fit_why

@@ -24,7 +24,7 @@ use Rattle.wt_pagetool.specs.GivenBack.{IsReadBack, IsGivenBack, GaveBack}
 use Rattle.wt_tree.specs.Tiling.{HasNoGroup}
 use Rattle.wt_pagetool.proofs.BuiltLaws.{built_none}
 use Rattle.wt_pagetool.proofs.PageLaws.{text_of, page_made}
-use Rattle.wt_pagetool.proofs.AnswerLaws.{wikitext_within}
+use Rattle.wt_pagetool.proofs.AnswerLaws.{input_within}
 use Rattle.wt_pagetool.proofs.WikitextLaws.{source_sourced}
 use Rattle.wt_pagetool.proofs.StatusLaws.{IsUnansweredBy, unanswered, no_refusal}
 use Rattle.wt_pagetool.proofs.RunLaws.{told_wikitext}
@@ -62,7 +62,7 @@ given_back : (page : List ℕ) → (IsUtf8 page → length page ≤ 2097152 → 
 given_back page back bytes e =
     let w = written page bytes e in
     let b = back w.text w.within w.none in
-    wikitext_within bytes w.few ∙ ap source_answer (ap read w.is ∙ b.reads) ∙ source_sourced b.tree None page refl (sym b.source)
+    input_within source_answer bytes w.few ∙ ap source_answer (ap read w.is ∙ b.reads) ∙ source_sourced b.tree None page refl (sym b.source)
 
 pub all_given_back : (page : List ℕ) → IsGivenBack page
 all_given_back page =

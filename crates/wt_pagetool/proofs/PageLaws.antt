@@ -16,7 +16,7 @@ use Rattle.wt_pagetool.specs.Answers.{Answer, done, refused, built_at, built_ans
 use Rattle.wt_pagetool.specs.declared.output.Output.{Output}
 use Rattle.wt_pagetool.specs.declared.command.PageCommand.{PageCommand}
 use Rattle.wt_pagetool.specs.declared.refusal.Refusal.{Refusal}
-use Rattle.wt_pagetool.specs.declared.refusal.Refusal.TheVariants.{Usage, Absent, TooLong, NotUtf8, NotBuilt, BracesTooDeep, TooLarge, TemplateNotUtf8, TemplateTooLong, HtmlTooLong, InputTooLong, Html, Unfit, Unsourced, ReadFault, FolderFault, WriteFault, NoMemory}
+use Rattle.wt_pagetool.specs.declared.refusal.Refusal.TheVariants.{Usage, Absent, TooLong, NotUtf8, NotBuilt, BracesTooDeep, TooLarge, TemplateNotUtf8, TemplateTooLong, HtmlTooLong, InputTooLong, Html, Unfit, Unsourced, Checked, BadContent, Tangled, NewPageTooLong, Unspelled, ReadFault, FolderFault, WriteFault, NoMemory}
 use Rattle.wt_pagetool.specs.Causes.{RefusesTitle, RefusesPage, IsUnbuilt, IsFetched, Answered}
 
 -- ---- texts
@@ -69,6 +69,11 @@ page_unbuilt page InputTooLong t u = absurd u
 page_unbuilt page (Html place why) t u = absurd u
 page_unbuilt page (Unfit n why) t u = absurd u
 page_unbuilt page (Unsourced n) t u = absurd u
+page_unbuilt page (Checked c) t u = absurd u
+page_unbuilt page (BadContent n why) t u = absurd u
+page_unbuilt page (Tangled n) t u = absurd u
+page_unbuilt page NewPageTooLong t u = absurd u
+page_unbuilt page (Unspelled k) t u = absurd u
 page_unbuilt page ReadFault t u = absurd u
 page_unbuilt page FolderFault t u = absurd u
 page_unbuilt page WriteFault t u = absurd u

@@ -4,8 +4,10 @@ use Rattle.std.specs.Prelude.{Some, None, codes}
 use Rattle.std.specs.Fmt.{decimal}
 use Rattle.wt_html_grammar.specs.declared.why.HtmlWhy.{HtmlWhy}
 use Rattle.wt_fitting.specs.declared.why.FitWhy.{FitWhy}
-use Rattle.wt_pagetool.specs.declared.refusal.Refusal.TheVariants.{BracesTooDeep, TemplateNotUtf8, TemplateTooLong, Html, Unfit, Unsourced}
-use Rattle.wt_pagetool.specs.Refusals.{html_why, fit_why, text_of, line_of}
+use Rattle.wt_pagetool.specs.declared.refusal.Refusal.TheVariants.{BracesTooDeep, TemplateNotUtf8, TemplateTooLong, Html, Unfit, Unsourced, Checked, BadContent}
+use Rattle.wt_checks.specs.declared.refusal.Check.{Check}
+use Rattle.wt_selser.specs.declared.refusal.ContentWhy.{ContentWhy}
+use Rattle.wt_pagetool.specs.Refusals.{html_why, fit_why, content_why, check_name, check_node, text_of, line_of}
 
 pub html_parts : (place : ℕ) (why : HtmlWhy) → line_of (Html place why) ≡ codes "wtround: html refused at "
     ++ (decimal place ++ (codes ": " ++ (html_why why ++ codes "\n")))
@@ -38,3 +40,13 @@ not_utf8_parts template place = search (rules, append_assoc)
 pub too_long_parts : (template : List ℕ) → line_of (TemplateTooLong template) ≡ codes "wtround: " ++ (template ++ codes " too long\n")
 unfolding line_of text_of
 too_long_parts template = search (rules, append_assoc)
+
+pub checked_parts : (c : Check) → line_of (Checked c) ≡ codes "wtround: edit refused: "
+    ++ (check_name c ++ (codes " " ++ (decimal (check_node c) ++ codes "\n")))
+unfolding line_of text_of
+checked_parts c = search (rules, append_assoc)
+
+pub content_parts : (n : ℕ) (why : ContentWhy) → line_of (BadContent n why) ≡ codes "wtround: edit refused: BadContent "
+    ++ (decimal n ++ (codes " " ++ (content_why why ++ codes "\n")))
+unfolding line_of text_of
+content_parts n why = search (rules, append_assoc)

@@ -1,8 +1,7 @@
 -- What `run` ends with: from what was found and what was reported.
-use Rattle.std.proofs.Common.{◌≡◌, ℕ, ◌≤◌, List, length, true, false, Bool, cond, refl, sym, ap, ◌∙◌, subst, arith, inl, inr}
+use Rattle.std.proofs.Common.{◌≡◌, ℕ, List, length, true, false, Bool, cond, refl, sym, ap, ◌∙◌, subst, inl, inr}
 use Rattle.std.specs.Prelude.{◌⊎◌, ◌≢◌, nat_lt, Option, Some, None, option_map, IfSome, IfErr, OnOk, Result, Ok, Err}
 use Rattle.std.specs.Io.KnownBytes.{Appends, IsAtEnd}
-use Rattle.std.proofs.lemmas.Bool.Decides.{nat_tests}
 use Rattle.wt_outer.specs.Device.{Pages}
 use Rattle.wt_tree.specs.Tree.{Tree}
 use Rattle.wt_tree.specs.Source.{flat}
@@ -13,23 +12,25 @@ use Rattle.wt_pagetool.specs.declared.limits.TheConstants.{HTML_BYTES}
 use Rattle.wt_pagetool.specs.declared.status.Status.{Status}
 use Rattle.wt_pagetool.specs.declared.status.Status.TheVariants as status
 use Rattle.wt_pagetool.specs.declared.refusal.Refusal.{Refusal}
-use Rattle.wt_pagetool.specs.declared.refusal.Refusal.TheVariants.{HtmlTooLong, InputTooLong, NoMemory}
+use Rattle.wt_pagetool.specs.declared.refusal.Refusal.TheVariants.{HtmlTooLong, NoMemory}
 use Rattle.wt_pagetool.specs.declared.output.Output.{Output}
 use Rattle.wt_pagetool.specs.declared.command.PageCommand.{PageCommand}
 use Rattle.wt_pagetool.specs.declared.command.PageCommand.TheVariants.{Html, Ranges}
-use Rattle.wt_pagetool.specs.declared.command.Command.TheVariants.{Page, Expand, Wikitext}
+use Rattle.wt_pagetool.specs.declared.command.Command.TheVariants.{Page, Expand, Edit, Wikitext}
 use Rattle.wt_pagetool.specs.Outputs.{output_bytes}
 use Rattle.wt_pagetool.specs.Statuses.{code, IsAnswer, IsAnswered, IsUnanswered}
 use Rattle.wt_pagetool.specs.Devices.{AnswersExpansion, SourceUse, FolderUse, SinkUse, SourceFailed, FolderFailed, Untouched, Took}
 use Rattle.wt_pagetool.specs.Refusals.{status_of}
 use Rattle.wt_pagetool.specs.Words.{command_of, Reads}
-use Rattle.wt_pagetool.specs.Answers.{Answer, done, refused, page_output, made, title_answer, page_answer, expansion_of, source_answer, wikitext_answer, answer_told, status_of_answer, IsDone}
+use Rattle.wt_pagetool.specs.Answers.{Answer, done, refused, page_output, made, title_answer, page_answer, expansion_of, edit_of, source_answer, wikitext_answer, edit_told, answer_told, status_of_answer, IsDone}
 use Rattle.wt_pagetool.specs.Causes.{Answered, RefusesAs, IsKept, found_status}
 use Rattle.wt_pagetool.specs.Calls.{call, IsDueAs, IsDue, KeptCounts, NothingFailed}
-use Rattle.wt_pagetool.specs.Reports.{Reported, WasDone, WasRefused, OutFailed, ErrFailed, WrotePage, WroteExpansion, WroteSource}
+use Rattle.wt_pagetool.specs.Reports.{Reported, WasDone, WasRefused, OutFailed, ErrFailed, WrotePage, WroteExpansion, WroteEdit, WroteSource}
 use Rattle.wt_pagetool.proofs.StatusLaws.{is_done, is_write_fault, is_answer, IsUnansweredBy, unanswered}
 use Rattle.wt_tree.specs.Tiling.{HasNoGroup}
 use Rattle.wt_pagetool.proofs.BuiltLaws.{built_none}
+use Rattle.wt_pagetool.proofs.AnswerLaws.{input_done}
+use Rattle.wt_pagetool.proofs.EditLaws.{wrote_edit, told_edit}
 use Rattle.wt_pagetool.proofs.PageLaws.{stands_made}
 use Rattle.wt_pagetool.proofs.ExpandLaws.{wrote_expansion, told_expansion}
 use Rattle.wt_page_round_trip.proofs.PageTrees.{page_tiled, page_covered, page_slices, page_numbered}
@@ -71,28 +72,17 @@ source_done (as_page t (Some n)) bytes e = cc
 source_done (ill place why) bytes e = cc
 source_done (misfit n why) bytes e = cc
 
-abbrev IsSourceOf : List ℕ → List ℕ → Type 0
-IsSourceOf input bytes = (length input ≤ HTML_BYTES) × IsSource (read input) bytes
-
-wikitext_step : (input bytes : List ℕ) (v : Bool) → nat_lt HTML_BYTES (length input) ≡ v
-    → cond v (refused InputTooLong) (source_answer (read input)) ≡ done bytes → IsSourceOf input bytes
-wikitext_step input bytes true is e = cc
-wikitext_step input bytes false is e = (grind (arith, nat_tests), source_done (read input) bytes e)
-
-wikitext_done : (input bytes : List ℕ) → wikitext_answer input ≡ done bytes → IsSourceOf input bytes
-unfolding wikitext_answer
-wikitext_done input bytes e = wikitext_step input bytes (nat_lt HTML_BYTES (length input)) refl e
-
 wrote_source : (input bytes : List ℕ) (left old new : Option (List ℕ)) → wikitext_answer input ≡ done bytes → IsAtEnd left
     → Appends old new bytes → WroteSource input left old new
 wrote_source input bytes left old new e ended wrote =
-    let h = wikitext_done input bytes e in
+    let m = input_done source_answer input bytes e in
+    let h = source_done (read input) bytes m.1 in
     record {
-      tree = h.1.0;
-      within = h.0;
-      reads = h.1.1;
+      tree = h.0;
+      within = m.0;
+      reads = h.1;
       ended = ended;
-      wrote = subst (Appends old new) h.1.2 wrote;
+      wrote = subst (Appends old new) h.2 wrote;
     }
 
 -- ---- what was found, by how the call ended
@@ -366,3 +356,26 @@ run_expansion words input folder out err found s ended is a due r title w n e =
     expansion_found folder.pages_before title folder found out err
     (subst (λ x. IfSome x (λ y. Answered y found)) (told_expansion folder.pages_before input.left_before words title w) a) n
     (found_done words input folder out err found s due r (is_done s (sym is ∙ e)))
+
+edit_found : (told : Option Pages) (left new : Option (List ℕ)) (title : List ℕ) (found : Result Output Refusal) (out err : SinkUse)
+    → IfSome (edit_told told left title) (λ a. Answered a found) → IsAtEnd new → FoundDone found out err
+    → IfSome told (λ pages. IfSome left (λ bytes. WroteEdit (pages title) bytes new out.taken_before out.taken_after))
+edit_found None left new title found out err a ended f = tt
+edit_found (Some pages) None new title found out err a ended f = tt
+edit_found (Some pages) (Some bytes) new title found out err a ended f =
+    wrote_edit (pages title) bytes (output_bytes f.output) new out.taken_before out.taken_after
+    (subst (Answered (edit_of (pages title) bytes)) f.is a) ended f.wrote.taken
+
+pub run_edit : (words : List (List ℕ)) (input : SourceUse) (folder : FolderUse) (out err : SinkUse)
+    (found : Result Output Refusal) (s : Status) (ended : ℕ) → ended ≡ code s
+    → IfSome (answer_told folder.pages_before input.left_before words) (λ a. Answered a found)
+    → IfErr found (IsDue words input folder) → (Reads (command_of words) → OnOk found (IsAtEnd input.left_after))
+    → Reported found s out err
+    → (title : List ℕ) → command_of words ≡ Some (Edit title) → ended ≡ code status.Done
+    → IfSome folder.pages_before (λ pages. IfSome input.left_before
+    (λ bytes. WroteEdit (pages title) bytes input.left_after out.taken_before out.taken_after))
+run_edit words input folder out err found s ended is a due ends r title w e =
+    let f = found_done words input folder out err found s due r (is_done s (sym is ∙ e)) in
+    edit_found folder.pages_before input.left_before input.left_after title found out err
+    (subst (λ x. IfSome x (λ y. Answered y found)) (told_edit folder.pages_before input.left_before words title w) a)
+    (ended_of found input.left_after out err (ends (subst Reads (sym w) tt)) f) f

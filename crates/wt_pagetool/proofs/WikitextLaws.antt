@@ -5,7 +5,7 @@ use Rattle.std.specs.Io.KnownBytes.{Consumes}
 use Rattle.std.proofs.KnownBytes.{Consumes-trans}
 use Rattle.wt_tree.specs.Tree.{Tree}
 use Rattle.wt_tree.specs.Source.{flat}
-use Rattle.wt_fitting.specs.Read.{page as as_page, read}
+use Rattle.wt_fitting.specs.Read.{Read, page as as_page, read}
 use Rattle.wt_html_in.specs.Answers.{body_of, unsourced_of, Answers}
 use Rattle.wt_html_in.specs.Feeding.{IsFed}
 use Rattle.wt_html_in.specs.declared.edited.Edited.{Edited}
@@ -16,9 +16,9 @@ use Rattle.wt_pagetool.specs.declared.output.Output.{Output}
 use Rattle.wt_pagetool.specs.declared.limits.TheConstants.{HTML_BYTES}
 use Rattle.wt_pagetool.specs.declared.refusal.Refusal.{Refusal}
 use Rattle.wt_pagetool.specs.declared.refusal.Refusal.TheVariants.{Unsourced, InputTooLong, NoMemory}
-use Rattle.wt_pagetool.specs.Answers.{done, refused, source_answer, wikitext_answer}
+use Rattle.wt_pagetool.specs.Answers.{Answer, done, refused, source_answer, input_answer}
 use Rattle.wt_pagetool.specs.Inputs.{FedWhole}
-use Rattle.wt_pagetool.specs.Causes.{Answered, Refuses, refusal_of}
+use Rattle.wt_pagetool.specs.Causes.{Answered, Refuses, RefusesInput, refusal_of}
 use Rattle.wt_pagetool.proofs.AnswerLaws.{too_long_given, answered_by}
 
 -- ---- reading
@@ -26,7 +26,7 @@ use Rattle.wt_pagetool.proofs.AnswerLaws.{too_long_given, answered_by}
 -- a piece that would pass the limit
 pub past_most : (old mid new : Option (List ℕ)) (bytes piece : List ℕ) → Consumes old mid bytes → Consumes mid new piece
     → length bytes ≤ HTML_BYTES → HTML_BYTES - length bytes < length piece
-    → IfSome old (λ all. wikitext_answer all ≡ refused InputTooLong)
+    → IfSome old (λ all. RefusesInput all InputTooLong)
 past_most old mid new bytes piece first second within past =
     too_long_given old new (bytes ++ piece) (Consumes-trans old mid new bytes piece first second) (simp length-append (omega arith))
 
@@ -57,14 +57,15 @@ refused_from refusal bytes (Ok output) reads is = absurd is
 refused_from refusal bytes (Err r) reads is = subst (λ x. Refuses x (source_answer (read bytes))) (sym is) (refused_read refusal bytes reads)
 
 -- all of the input was fed, so what was fed decides the answer
-pub answered_whole : (reader : Reader) (old new : Option (List ℕ)) (result : Result Output Refusal) → FedWhole reader old new
-    → ((bytes : List ℕ) → IsFed reader bytes → Answered (source_answer (read bytes)) result)
-    → IfSome old (λ all. Answered (wikitext_answer all) result)
-answered_whole reader old new result whole answered = answered_by old whole.bytes result whole.whole whole.within (answered whole.bytes whole.fed)
+pub answered_whole : (made : Read → Answer) (reader : Reader) (old new : Option (List ℕ)) (result : Result Output Refusal)
+    → FedWhole reader old new → ((bytes : List ℕ) → IsFed reader bytes → Answered (made (read bytes)) result)
+    → IfSome old (λ all. Answered (input_answer made all) result)
+answered_whole made reader old new result whole answered =
+    answered_by made old whole.bytes result whole.whole whole.within (answered whole.bytes whole.fed)
 
 -- memory ran out
 pub memory_refused : {T : Type 0} (old : Option (List ℕ)) (result : Result T Refusal) → IsErrAnd result (λ r. r ≡ NoMemory)
-    → IfErr result (λ r. IfSome old (λ bytes. Refuses r (wikitext_answer bytes)))
+    → IfErr result (λ r. IfSome old (λ bytes. RefusesInput bytes r))
 memory_refused old (Ok value) is = tt
 memory_refused None (Err r) is = tt
-memory_refused (Some bytes) (Err r) is = subst (λ x. Refuses x (wikitext_answer bytes)) (sym is) tt
+memory_refused (Some bytes) (Err r) is = λ made. subst (λ x. Refuses x (input_answer made bytes)) (sym is) tt

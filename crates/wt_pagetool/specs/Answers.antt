@@ -1,5 +1,5 @@
 -- What the program answers: the bytes that go to standard output, or a refusal.
-use Rattle.std.specs.Prelude.{◌≡◌, ℕ, List, length, nat_lt, ⊤, Option, Some, None, option_map, if◌then◌else◌}
+use Rattle.std.specs.Prelude.{◌≡◌, ℕ, List, length, nat_lt, ⊤, Option, Some, None, option_map, option_and_then, Result, Ok, Err, if◌then◌else◌}
 use Rattle.wt_outer.specs.Device.{Pages}
 use Rattle.wt_tree.specs.Tree.{Tree}
 use Rattle.wt_tree.specs.Source.{flat}
@@ -13,16 +13,20 @@ use Rattle.wt_expand.specs.Expansion.{page_work}
 use Rattle.wt_expand.specs.PageCalls.{expanded_page}
 use Rattle.wt_fitting.specs.Read.{Read, page as as_page, ill, misfit, read}
 use Rattle.wt_page_round_trip.specs.PageTree.{page_tree}
+use Rattle.wt_selser.specs.declared.refusal.EditRefusal.{EditRefusal}
+use Rattle.wt_selser.specs.Children.{shown_children, differing}
+use Rattle.wt_selser.specs.Edits.{edit_answer}
+use Rattle.wt_selser.specs.SameNodes.{same_node}
 use Rattle.wt_pagetool.specs.declared.limits.TheConstants.{PAGE_BYTES, HTML_BYTES}
 use Rattle.wt_pagetool.specs.declared.status.Status.{Status}
 use Rattle.wt_pagetool.specs.declared.status.Status.TheVariants.{Done}
 use Rattle.wt_pagetool.specs.declared.refusal.Refusal.{Refusal}
-use Rattle.wt_pagetool.specs.declared.refusal.Refusal.TheVariants.{Usage, Absent, TooLong, NotUtf8, NotBuilt, BracesTooDeep, TooLarge, TemplateNotUtf8, TemplateTooLong, HtmlTooLong, InputTooLong, Html as html_refused, Unfit, Unsourced}
+use Rattle.wt_pagetool.specs.declared.refusal.Refusal.TheVariants.{Usage, Absent, TooLong, NotUtf8, NotBuilt, BracesTooDeep, TooLarge, TemplateNotUtf8, TemplateTooLong, HtmlTooLong, InputTooLong, Html as html_refused, Unfit, Unsourced, Unspelled}
 use Rattle.wt_pagetool.specs.declared.command.PageCommand.{PageCommand}
 use Rattle.wt_pagetool.specs.declared.command.PageCommand.TheVariants.{Html, Ranges}
 use Rattle.wt_pagetool.specs.declared.command.Command.{Command}
-use Rattle.wt_pagetool.specs.declared.command.Command.TheVariants.{Page, Expand, Wikitext}
-use Rattle.wt_pagetool.specs.Refusals.{status_of}
+use Rattle.wt_pagetool.specs.declared.command.Command.TheVariants.{Page, Expand, Edit, Wikitext}
+use Rattle.wt_pagetool.specs.Refusals.{status_of, refusal_of_edit}
 use Rattle.wt_pagetool.specs.Words.{command_of}
 
 pub data Answer : Type 0 where
@@ -123,20 +127,58 @@ source_answer (as_page t (Some n)) = refused (Unsourced n)
 source_answer (ill place why) = refused (html_refused place why)
 source_answer (misfit n why) = refused (Unfit n why)
 
--- `wikitext` of an input
-unfoldable pub wikitext_answer : List ℕ → Answer
-wikitext_answer input =
+-- The refusal of an input that is too long. Any other input is answered by what is made of what is read.
+unfoldable pub input_answer : (Read → Answer) → List ℕ → Answer
+input_answer made input =
     if nat_lt HTML_BYTES (length input) then refused InputTooLong
-    else source_answer (read input)
+    else made (read input)
+
+-- `wikitext` of an input
+abbrev pub wikitext_answer : List ℕ → Answer
+wikitext_answer input = input_answer source_answer input
+
+-- ---- what is made of an edit
+
+-- the new page, where it shows what the edited tree shows
+abbrev pub unspelled_by : List ℕ → Option ℕ → Answer
+unspelled_by new None = done new
+unspelled_by new (Some k) = refused (Unspelled k)
+
+-- the first child, counted from 1, in which they differ
+abbrev pub unspelled_answer : Tree → List ℕ → Answer
+unspelled_answer edited new = unspelled_by new (differing 1 (shown_children (page_tree new)) (shown_children edited))
+
+-- A new page is refused as any page is, and where it doesn't show what the edited tree shows.
+abbrev pub new_answer : Tree → List ℕ → Answer
+new_answer edited new = page_answer (Some new) (unspelled_answer edited)
+
+abbrev pub edit_by : Tree → Result (List ℕ) EditRefusal → Answer
+edit_by edited (Ok new) = new_answer edited new
+edit_by edited (Err e) = refused (refusal_of_edit e)
+
+-- the edit of a page to what was read; elements may have no source
+unfoldable pub edited_answer : List ℕ → Read → Answer
+edited_answer page (as_page t unsourced) = edit_by t (edit_answer same_node page (page_tree page) t)
+edited_answer page (ill place why) = refused (html_refused place why)
+edited_answer page (misfit n why) = refused (Unfit n why)
+
+-- `edit` of what stands under the title, to this input
+abbrev pub edit_of : Option (List ℕ) → List ℕ → Answer
+edit_of stands input = page_answer stands (λ page. input_answer (edited_answer page) input)
+
+-- where both the pages and the input are told
+abbrev pub edit_told : Option Pages → Option (List ℕ) → List ℕ → Option Answer
+edit_told pages input title = option_and_then (λ ps. option_map (λ bytes. edit_of (ps title) bytes) input) pages
 
 -- ---- commands
 
--- Each command needs what one device tells, of the folder's pages and the input: it has no answer
--- where that isn't told.
+-- A command needs what the folder tells of its pages, what the input tells, or both: it has no answer where that isn't
+-- told.
 abbrev pub answer_to : Option Pages → Option (List ℕ) → Option Command → Option Answer
 answer_to pages input None = Some (refused Usage)
 answer_to pages input (Some (Page command title)) = option_map (λ ps. page_answer (ps title) (made command)) pages
 answer_to pages input (Some (Expand title)) = option_map (λ ps. title_answer (ps title) (expansion_of ps)) pages
+answer_to pages input (Some (Edit title)) = edit_told pages input title
 answer_to pages input (Some Wikitext) = option_map wikitext_answer input
 
 -- the answer to these words over a folder of these pages and this input

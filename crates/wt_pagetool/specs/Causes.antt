@@ -15,7 +15,8 @@ use Rattle.wt_pagetool.specs.declared.output.Output.{Output}
 use Rattle.wt_pagetool.specs.Outputs.{output_bytes}
 use Rattle.wt_pagetool.specs.Statuses.{IsAnswer}
 use Rattle.wt_pagetool.specs.Refusals.{status_of}
-use Rattle.wt_pagetool.specs.Answers.{Answer, done, refused, title_answer, page_answer}
+use Rattle.wt_fitting.specs.Read.{Read}
+use Rattle.wt_pagetool.specs.Answers.{Answer, done, refused, title_answer, page_answer, input_answer}
 
 -- ---- of an answer
 
@@ -148,6 +149,28 @@ IsInputStatus before after status.NoMemory = ⊤
 
 abbrev pub IsOfInput : ℕ → ℕ → Refusal → Type 0
 IsOfInput before after r = IsInputStatus before after (status_of r)
+
+-- the refusal refuses an input, whatever is made of what is read
+abbrev pub RefusesInput : List ℕ → Refusal → Type 0
+RefusesInput input r = (made : Read → Answer) → Refuses r (input_answer made input)
+
+-- ---- of an edit
+
+-- the refusal lies with the page, the HTML, the edit or the new page, or memory ran out; or the input failed, of which
+-- `read_fault` is the cause, or the folder, of which `folder_fault` is
+abbrev pub IsEditStatus : Type 0 → Type 0 → Status → Type 0
+IsEditStatus read_fault folder_fault status.Done = ⊥
+IsEditStatus read_fault folder_fault status.Usage = ⊥
+IsEditStatus read_fault folder_fault status.PageRefused = ⊤
+IsEditStatus read_fault folder_fault status.HtmlRefused = ⊤
+IsEditStatus read_fault folder_fault status.EditRefused = ⊤
+IsEditStatus read_fault folder_fault status.ReadFault = read_fault
+IsEditStatus read_fault folder_fault status.FolderFault = folder_fault
+IsEditStatus read_fault folder_fault status.WriteFault = ⊥
+IsEditStatus read_fault folder_fault status.NoMemory = ⊤
+
+abbrev pub IsOfEdit : Type 0 → Type 0 → Refusal → Type 0
+IsOfEdit read_fault folder_fault r = IsEditStatus read_fault folder_fault (status_of r)
 
 -- ---- counts
 

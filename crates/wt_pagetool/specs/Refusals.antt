@@ -5,10 +5,16 @@ use Rattle.wt_html_grammar.specs.declared.why.HtmlWhy.{HtmlWhy}
 use Rattle.wt_html_grammar.specs.declared.why.HtmlWhy.TheVariants as ill
 use Rattle.wt_fitting.specs.declared.why.FitWhy.{FitWhy}
 use Rattle.wt_fitting.specs.declared.why.FitWhy.TheVariants as unfit
+use Rattle.wt_checks.specs.declared.refusal.Check.{Check}
+use Rattle.wt_checks.specs.declared.refusal.Check.TheVariants as check
+use Rattle.wt_selser.specs.declared.refusal.EditRefusal.{EditRefusal}
+use Rattle.wt_selser.specs.declared.refusal.EditRefusal.TheVariants as of_edit
+use Rattle.wt_selser.specs.declared.refusal.ContentWhy.{ContentWhy}
+use Rattle.wt_selser.specs.declared.refusal.ContentWhy.TheVariants as bad
 use Rattle.wt_pagetool.specs.declared.status.Status.{Status}
 use Rattle.wt_pagetool.specs.declared.status.Status.TheVariants as status
 use Rattle.wt_pagetool.specs.declared.refusal.Refusal.{Refusal}
-use Rattle.wt_pagetool.specs.declared.refusal.Refusal.TheVariants.{Usage, Absent, TooLong, NotUtf8, NotBuilt, BracesTooDeep, TooLarge, TemplateNotUtf8, TemplateTooLong, HtmlTooLong, InputTooLong, Html, Unfit, Unsourced, ReadFault, FolderFault, WriteFault, NoMemory}
+use Rattle.wt_pagetool.specs.declared.refusal.Refusal.TheVariants.{Usage, Absent, TooLong, NotUtf8, NotBuilt, BracesTooDeep, TooLarge, TemplateNotUtf8, TemplateTooLong, HtmlTooLong, InputTooLong, Html, Unfit, Unsourced, Checked, BadContent, Tangled, NewPageTooLong, Unspelled, ReadFault, FolderFault, WriteFault, NoMemory}
 
 -- how a call ends that is refused so
 abbrev pub status_of : Refusal → Status
@@ -26,10 +32,23 @@ status_of InputTooLong = status.HtmlRefused
 status_of (Html place why) = status.HtmlRefused
 status_of (Unfit n why) = status.HtmlRefused
 status_of (Unsourced n) = status.HtmlRefused
+status_of (Checked c) = status.EditRefused
+status_of (BadContent n why) = status.EditRefused
+status_of (Tangled n) = status.EditRefused
+status_of NewPageTooLong = status.EditRefused
+status_of (Unspelled k) = status.EditRefused
 status_of ReadFault = status.ReadFault
 status_of FolderFault = status.FolderFault
 status_of WriteFault = status.WriteFault
 status_of NoMemory = status.NoMemory
+
+-- why an edit is refused, as the program names it
+abbrev pub refusal_of_edit : EditRefusal → Refusal
+refusal_of_edit (of_edit.Check c) = Checked c
+refusal_of_edit (of_edit.BadContent n why) = BadContent n why
+refusal_of_edit (of_edit.Tangled n) = Tangled n
+refusal_of_edit of_edit.NewPageTooLong = NewPageTooLong
+refusal_of_edit of_edit.NoMemory = NoMemory
 
 unfoldable pub html_why : HtmlWhy → List ℕ
 html_why ill.NotUtf8 = codes "NotUtf8"
@@ -46,6 +65,29 @@ fit_why unfit.Element = codes "Element"
 fit_why unfit.Place = codes "Place"
 fit_why unfit.Data = codes "Data"
 fit_why unfit.Text = codes "Text"
+
+unfoldable pub content_why : ContentWhy → List ℕ
+content_why bad.Element = codes "Element"
+content_why bad.Href = codes "Href"
+content_why bad.LineBreak = codes "LineBreak"
+content_why bad.Nested = codes "Nested"
+
+-- what the comparison of the two trees found, and the node where it did
+unfoldable pub check_name : Check → List ℕ
+check_name (check.UnknownId n) = codes "UnknownId"
+check_name (check.RepeatedId n) = codes "RepeatedId"
+check_name (check.Moved n) = codes "Moved"
+check_name (check.InTemplate n) = codes "InTemplate"
+check_name (check.NotEditable n) = codes "NotEditable"
+check_name (check.UnmarkedChange n) = codes "UnmarkedChange"
+
+abbrev pub check_node : Check → ℕ
+check_node (check.UnknownId n) = n
+check_node (check.RepeatedId n) = n
+check_node (check.Moved n) = n
+check_node (check.InTemplate n) = n
+check_node (check.NotEditable n) = n
+check_node (check.UnmarkedChange n) = n
 
 unfoldable pub usage_text : List ℕ
 usage_text = codes "usage: wtround html TITLE | wikitext | edit TITLE | ranges TITLE | expand TITLE | gen N"
@@ -70,6 +112,11 @@ text_of InputTooLong = codes "input too long"
 text_of (Html place why) = codes "html refused at " ++ decimal place ++ codes ": " ++ html_why why
 text_of (Unfit n why) = codes "element " ++ decimal n ++ codes " does not fit: " ++ fit_why why
 text_of (Unsourced n) = codes "element " ++ decimal n ++ codes " has no source"
+text_of (Checked c) = codes "edit refused: " ++ check_name c ++ codes " " ++ decimal (check_node c)
+text_of (BadContent n why) = codes "edit refused: BadContent " ++ decimal n ++ codes " " ++ content_why why
+text_of (Tangled n) = codes "edit refused: Tangled " ++ decimal n
+text_of NewPageTooLong = codes "edit refused: NewPageTooLong"
+text_of (Unspelled k) = codes "edit refused: Unspelled " ++ decimal k
 text_of ReadFault = codes "read fault"
 text_of FolderFault = codes "folder fault"
 text_of WriteFault = codes "write fault"

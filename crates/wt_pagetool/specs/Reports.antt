@@ -1,15 +1,21 @@
 -- What a call wrote to its two sinks.
-use Rattle.std.specs.Prelude.{◌≡◌, ◌≤◌, ℕ, ◌⊎◌, List, length, Option, Some, None, IfSome, Result, Ok, Err}
+use Rattle.std.specs.Prelude.{◌≡◌, ◌≤◌, ℕ, ◌⊎◌, false, List, length, Option, Some, None, IfSome, Result, Ok, Err}
 use Rattle.std.specs.Io.KnownBytes.{Appends, IsAtEnd}
 use Rattle.wt_outer.specs.Device.{Pages}
 use Rattle.wt_expand.specs.Texts.{shown_text}
 use Rattle.wt_expand.specs.PageCalls.{expanded_page}
 use Rattle.wt_tree.specs.Tree.{Tree}
+use Rattle.wt_tree.specs.Plain.{plain}
 use Rattle.wt_tree.specs.Source.{flat}
 use Rattle.wt_tree.specs.Tiling.{Tiled, Covers, InPreorder}
 use Rattle.wt_ranges.specs.Slices.{AreSlices}
 use Rattle.wt_fitting.specs.Read.{page as as_page, read}
 use Rattle.wt_page_round_trip.specs.PageTree.{page_tree}
+use Rattle.wt_checks.specs.Checked.{checked}
+use Rattle.wt_selser.specs.Changes.{marked, changes}
+use Rattle.wt_selser.specs.Edits.{edit_answer}
+use Rattle.wt_selser.specs.SameNodes.{same_node}
+use Rattle.wt_selser.specs.Splice.{spliced}
 use Rattle.wt_pagetool.specs.declared.limits.TheConstants.{HTML_BYTES}
 use Rattle.wt_pagetool.specs.declared.status.Status.{Status}
 use Rattle.wt_pagetool.specs.declared.status.Status.TheVariants as status
@@ -21,7 +27,7 @@ use Rattle.wt_pagetool.specs.Outputs.{output_bytes}
 use Rattle.wt_pagetool.specs.Devices.{FolderUse, AnswersExpansion, SinkUse, Untouched, Took, FailedAfter, TookOrFailed}
 use Rattle.wt_pagetool.specs.Statuses.{code}
 use Rattle.wt_pagetool.specs.Refusals.{status_of, line_of}
-use Rattle.wt_pagetool.specs.Answers.{done, page_output, refusal_of_page}
+use Rattle.wt_pagetool.specs.Answers.{done, page_output, refusal_of_page, IsAnswered}
 use Rattle.wt_pagetool.specs.Calls.{Call, told, IsDue}
 
 -- ---- what was found goes to the sinks
@@ -107,3 +113,24 @@ pub record WroteSource (input : List ℕ) (left old new : Option (List ℕ)) : T
   pub reads : read input ≡ as_page tree None
   pub ended : IsAtEnd left
   pub wrote : Appends old new (flat tree)
+
+-- The new page of an edit: the page with the inside of each marked node, and nothing else, replaced by its spelling.
+abbrev pub new_page : List ℕ → Tree → List ℕ
+new_page page edited = spliced page (changes same_node (marked (page_tree page) edited))
+
+-- A page stands under the title, and the whole input for an edited tree that differs from the page's only where it may;
+-- nothing refuses the edit, `out` took the new page, which nothing refuses, and the plain view of its tree is that of the
+-- edited tree.
+pub record WroteEdit (stands : Option (List ℕ)) (input : List ℕ) (left old new : Option (List ℕ)) : Type 0 where
+  pub page : List ℕ
+  pub edited : Tree
+  pub unsourced : Option ℕ
+  pub found : stands ≡ Some page
+  pub within : length input ≤ HTML_BYTES
+  pub reads : read input ≡ as_page edited unsourced
+  pub ended : IsAtEnd left
+  pub allowed : checked false (page_tree page) edited ≡ None
+  pub unrefused : edit_answer same_node page (page_tree page) edited ≡ Ok (new_page page edited)
+  pub wrote : Appends old new (new_page page edited)
+  pub answered : IsAnswered (new_page page edited)
+  pub shows : plain (page_tree (new_page page edited)) ≡ plain edited

@@ -6,7 +6,7 @@ use Rattle.wt_names.specs.Good.{read_text}
 use Rattle.wt_names.specs.Namespace.{full_name_of}
 use Rattle.wt_pagetool.specs.declared.command.PageCommand.TheVariants.{Html, Ranges}
 use Rattle.wt_pagetool.specs.declared.command.Command.{Command}
-use Rattle.wt_pagetool.specs.declared.command.Command.TheVariants.{Page, Expand, Wikitext}
+use Rattle.wt_pagetool.specs.declared.command.Command.TheVariants.{Page, Expand, Edit, Wikitext}
 
 -- the full name of a title without a fragment
 abbrev pub whole_name : Title → Option (List ℕ)
@@ -22,6 +22,7 @@ page_command word title =
     if bytes_eq word (codes "html") then option_map (λ name. Page Html name) (page_name title)
     else if bytes_eq word (codes "ranges") then option_map (λ name. Page Ranges name) (page_name title)
     else if bytes_eq word (codes "expand") then option_map (λ name. Expand name) (page_name title)
+    else if bytes_eq word (codes "edit") then option_map (λ name. Edit name) (page_name title)
     else None
 
 -- the command that the words name, or none
@@ -37,6 +38,7 @@ abbrev pub titles_of : Option Command → List (List ℕ)
 titles_of None = []
 titles_of (Some (Page command title)) = title ∷ []
 titles_of (Some (Expand title)) = title ∷ []
+titles_of (Some (Edit title)) = title ∷ []
 titles_of (Some Wikitext) = []
 
 -- it fetches pages from the folder
@@ -44,6 +46,7 @@ abbrev pub Fetches : Option Command → Type 0
 Fetches None = ⊥
 Fetches (Some (Page command title)) = ⊤
 Fetches (Some (Expand title)) = ⊤
+Fetches (Some (Edit title)) = ⊤
 Fetches (Some Wikitext) = ⊥
 
 -- it reads the input
@@ -51,6 +54,7 @@ abbrev pub Reads : Option Command → Type 0
 Reads None = ⊥
 Reads (Some (Page command title)) = ⊥
 Reads (Some (Expand title)) = ⊥
+Reads (Some (Edit title)) = ⊤
 Reads (Some Wikitext) = ⊤
 
 -- it asks for the pages of its title and of what is expanded on that page
@@ -58,4 +62,5 @@ abbrev pub Expands : Option Command → Type 0
 Expands None = ⊥
 Expands (Some (Page command title)) = ⊥
 Expands (Some (Expand title)) = ⊤
+Expands (Some (Edit title)) = ⊥
 Expands (Some Wikitext) = ⊥

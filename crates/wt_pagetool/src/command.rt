@@ -21,6 +21,8 @@ pub enum Command {
     Page(PageCommand, Str),
     /// What the page of this full name shows with its templates expanded.
     Expand(Str),
+    /// The page of this full name, changed as its HTML, which is the input, was.
+    Edit(Str),
     /// The source of the page whose HTML is the input.
     Wikitext,
 }
@@ -67,6 +69,15 @@ fn expansion_of(alloc: Global, title: &str) -> Result<Option<Command>, NoMemory>
     }
 }
 
+fn edit_of(alloc: Global, title: &str) -> Result<Option<Command>, NoMemory>
+    ensures { IfOk result (λ found. found ≡ option_map (λ name. Command.Edit name) (page_name title.now)) }
+{
+    match page_name(alloc, title)? {
+        Some(name) => Ok(Some(Command::Edit(name))),
+        None => Ok(None),
+    }
+}
+
 /// A command over a page, and its title.
 fn page_command(alloc: Global, word: &str, title: &str) -> Result<Option<Command>, NoMemory>
     ensures { IfOk result (λ command. command ≡ page_command word.now title.now) }
@@ -79,6 +90,9 @@ fn page_command(alloc: Global, word: &str, title: &str) -> Result<Option<Command
     }
     if word == "expand" {
         return expansion_of(alloc, title);
+    }
+    if word == "edit" {
+        return edit_of(alloc, title);
     }
     Ok(None)
 }

@@ -2,6 +2,7 @@
 #![tactic(auto)]
 
 mod command;
+mod edit_command;
 mod expand_command;
 mod fetch;
 mod laws;

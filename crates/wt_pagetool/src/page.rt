@@ -33,7 +33,7 @@ fn tree_of_items<'a>(
 }
 
 /// The tree of a page that is text, if all of it is built.
-fn tree_of_text<'a>(alloc: Global, page: &'a str) -> Result<Tree<'a>, Refusal>
+pub fn tree_of_text<'a>(alloc: Global, page: &'a str) -> Result<Tree<'a>, Refusal>
     requires room { length page.now ≤ PAGE_BYTES }
     ensures tree { IfOk result (λ tree. view tree.body ≡ page_tree page.entry.now) }
     ensures built { IfOk result (λ tree. unbuilt_place page.entry.now ≡ None) }

@@ -1,11 +1,13 @@
 ghost use Rattle.std.specs.Prelude.{◌≡◌, IfOk, string_bytes};
 ghost use Rattle.wt_pagetool.specs.Causes.{refusal_of};
-ghost use Rattle.wt_pagetool.specs.Refusals.{status_of, line_of, html_why, fit_why};
+ghost use Rattle.wt_pagetool.specs.Refusals.{status_of, line_of, html_why, fit_why, content_why, check_name, check_node};
 
 use crate::status::Status;
 use std::alloc::{AllocError, Global};
+use wt_checks::Check;
 use wt_html_in::{FitWhy, HtmlRefusal, HtmlWhy};
 use wt_outer::FetchRefusal;
+use wt_selser::{ContentWhy, EditRefusal};
 use wt_span::{NoMemory, Str};
 use wt_transclusion::ExpandRefusal;
 
@@ -42,6 +44,17 @@ pub enum Refusal {
     Unfit { element: u32, why: FitWhy },
     /// An element of the input has no source.
     Unsourced(u32),
+    /// The comparison of the page with the edited tree refuses the edit.
+    Checked(Check),
+    /// The inside of this marked node (`mwN`) can't be written.
+    BadContent { node: u32, why: ContentWhy },
+    /// This marked node (`mwN`) can't be read by itself.
+    Tangled(u32),
+    /// The new page is longer than a page may be.
+    NewPageTooLong,
+    /// The new page doesn't mean what the edited tree shows, first in this child of the body, counted
+    /// from 1.
+    Unspelled(u32),
     /// The input failed.
     ReadFault,
     /// The folder failed.
@@ -110,6 +123,22 @@ impl From<ExpandRefusal> for Refusal {
     }
 }
 
+impl From<EditRefusal> for Refusal {
+    ghost use Rattle.wt_pagetool.specs.Refusals.{refusal_of_edit};
+
+    ghost from_gives = { λ refusal r. r ≡ refusal_of_edit refusal };
+
+    fn from(refusal: EditRefusal) -> Refusal {
+        match refusal {
+            EditRefusal::Check(check) => Refusal::Checked(check),
+            EditRefusal::BadContent(node, why) => Refusal::BadContent { node, why },
+            EditRefusal::Tangled(node) => Refusal::Tangled(node),
+            EditRefusal::NewPageTooLong => Refusal::NewPageTooLong,
+            EditRefusal::NoMemory => Refusal::NoMemory,
+        }
+    }
+}
+
 impl From<HtmlRefusal> for Refusal {
     ghost from_gives = { λ refusal r. r ≡ refusal_of refusal };
 
@@ -142,6 +171,11 @@ impl Refusal {
             | Refusal::Html { .. }
             | Refusal::Unfit { .. }
             | Refusal::Unsourced(_) => Status::HtmlRefused,
+            Refusal::Checked(_)
+            | Refusal::BadContent { .. }
+            | Refusal::Tangled(_)
+            | Refusal::NewPageTooLong
+            | Refusal::Unspelled(_) => Status::EditRefused,
             Refusal::ReadFault => Status::ReadFault,
             Refusal::FolderFault => Status::FolderFault,
             Refusal::WriteFault => Status::WriteFault,
@@ -228,6 +262,64 @@ fn too_long_line(alloc: Global, template: &str) -> Result<String, AllocError>
     format!(in alloc; "wtround: {template} too long\n")
 }
 
+#[tactic(auto, unfolding(crate::specs::Refusals::content_why))]
+fn content_why(why: ContentWhy) -> &'static str
+    ensures { result.now ≡ content_why why }
+{
+    match why {
+        ContentWhy::Element => "Element",
+        ContentWhy::Href => "Href",
+        ContentWhy::LineBreak => "LineBreak",
+        ContentWhy::Nested => "Nested",
+    }
+}
+
+#[tactic(auto, unfolding(crate::specs::Refusals::check_name))]
+fn check_name(check: Check) -> &'static str
+    ensures { result.now ≡ check_name check }
+{
+    match check {
+        Check::UnknownId(_) => "UnknownId",
+        Check::RepeatedId(_) => "RepeatedId",
+        Check::Moved(_) => "Moved",
+        Check::InTemplate(_) => "InTemplate",
+        Check::NotEditable(_) => "NotEditable",
+        Check::UnmarkedChange(_) => "UnmarkedChange",
+    }
+}
+
+fn check_node(check: Check) -> u32
+    ensures { result ≡ check_node check }
+{
+    match check {
+        Check::UnknownId(node) => node,
+        Check::RepeatedId(node) => node,
+        Check::Moved(node) => node,
+        Check::InTemplate(node) => node,
+        Check::NotEditable(node) => node,
+        Check::UnmarkedChange(node) => node,
+    }
+}
+
+fn checked_line(alloc: Global, check: Check) -> Result<String, AllocError>
+    ensures { IfOk result (λ line. string_bytes line ≡ line_of (Refusal.Checked check)) }
+{
+    format!(in alloc;
+        "wtround: edit refused: {} {}\n",
+        check_name(check),
+        check_node(check)
+    )
+}
+
+fn content_line(alloc: Global, node: u32, why: ContentWhy) -> Result<String, AllocError>
+    ensures { IfOk result (λ line. string_bytes line ≡ line_of (Refusal.BadContent node why)) }
+{
+    format!(in alloc;
+        "wtround: edit refused: BadContent {node} {}\n",
+        content_why(why)
+    )
+}
+
 /// The line that names a refusal.
 #[tactic(auto, unfolding(crate::specs::Refusals::line_of, crate::specs::Refusals::text_of, crate::specs::Refusals::usage_text))]
 pub fn line_of(alloc: Global, refusal: &Refusal) -> Result<String, AllocError>
@@ -252,6 +344,13 @@ pub fn line_of(alloc: Global, refusal: &Refusal) -> Result<String, AllocError>
         Refusal::Html { place, why } => html_line(alloc, *place, *why),
         Refusal::Unfit { element, why } => unfit_line(alloc, *element, *why),
         Refusal::Unsourced(element) => unsourced_line(alloc, *element),
+        Refusal::Checked(check) => checked_line(alloc, *check),
+        Refusal::BadContent { node, why } => content_line(alloc, *node, *why),
+        Refusal::Tangled(node) => format!(in alloc; "wtround: edit refused: Tangled {node}\n"),
+        Refusal::NewPageTooLong => format!(in alloc; "wtround: edit refused: NewPageTooLong\n"),
+        Refusal::Unspelled(child) => format!(in alloc;
+            "wtround: edit refused: Unspelled {child}\n"
+        ),
         Refusal::ReadFault => format!(in alloc; "wtround: read fault\n"),
         Refusal::FolderFault => format!(in alloc; "wtround: folder fault\n"),
         Refusal::WriteFault => format!(in alloc; "wtround: write fault\n"),

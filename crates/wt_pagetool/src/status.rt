@@ -12,7 +12,7 @@ pub enum Status {
     PageRefused,
     /// The HTML is refused.
     HtmlRefused,
-    /// The edit is refused. No command edits yet.
+    /// The edit is refused.
     EditRefused,
     /// Standard input failed.
     ReadFault,

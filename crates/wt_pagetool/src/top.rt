@@ -6,11 +6,12 @@ ghost use Rattle.wt_pagetool.specs.Causes.{Answered, IsKept, found_status};
 ghost use Rattle.wt_pagetool.specs.Devices.{read_from, fetched_from, written_to, AnswersFirst, AnswersNames, AnswersExpansion};
 ghost use Rattle.wt_pagetool.specs.GivenBack.{GaveBack};
 ghost use Rattle.wt_pagetool.specs.Reports.{WasDone, WasRefused, OutFailed, ErrFailed};
-ghost use Rattle.wt_pagetool.specs.Reports.{WrotePage, WroteExpansion, WroteSource};
+ghost use Rattle.wt_pagetool.specs.Reports.{WrotePage, WroteExpansion, WroteEdit, WroteSource};
 ghost use Rattle.wt_pagetool.specs.Statuses.{code, IsAnswer, IsAnswered, IsUnanswered};
 ghost use Rattle.wt_pagetool.specs.Words.{command_of, titles_of, Fetches, Reads, Expands};
 
 use crate::command::{Command, PageCommand, command_of};
+use crate::edit_command::edited_page;
 use crate::expand_command::expansion_of_title;
 use crate::output::Output;
 use crate::page_command::output_of_title;
@@ -53,6 +54,7 @@ fn find_answer<S: Source, F: Folder>(
             output_of_title(alloc, command, title.as_str(), folder)
         }
         Some(Command::Expand(title)) => expansion_of_title(alloc, title.as_str(), folder),
+        Some(Command::Edit(title)) => edited_page(alloc, title.as_str(), input, folder),
         Some(Command::Wikitext) => wikitext_of_input(alloc, input),
         None => Err(Refusal::Usage),
     }
@@ -65,8 +67,10 @@ fn find_answer<S: Source, F: Folder>(
 /// `ranges TITLE` a line for each of its nodes that has a number: `mwN KIND START END OPEN CLOSE`, in
 /// bytes. `expand TITLE` writes the text of the page with its templates expanded, whose pages stand in
 /// `folder`, too. `wikitext` reads the HTML of `input` to its end and writes to `out` the source of the page
-/// for which it stands. Nothing goes to `out` before the whole answer is known, and each refusal has
-/// its one line on `err`.
+/// for which it stands. `edit TITLE` reads the HTML of `input`, in which some elements of the page's HTML are
+/// marked as edited, and writes the new page, in which the inside of each of them, and nothing else, is
+/// written anew. Nothing goes to `out` before the whole answer is known, and each refusal has its one line
+/// on `err`.
 ///
 /// What is said of a device's pages or bytes holds where the device tells them (`IfSome`), as those in
 /// memory do; of its count of faults it always holds.
@@ -98,6 +102,12 @@ pub fn run<S: Source, F: Folder, W: Sink, E: Sink>(
     ensures wikitext { command_of words.now ≡ Some Command.Wikitext → result ≡ code Status.Done
         → IfSome (S.left input.old)
         (λ bytes. WroteSource bytes (S.left input.new) (W.taken out.old) (W.taken out.new)) }
+
+    // `edit`, when it is done, read the input to its end and wrote the new page: the page with the inside of
+    // each marked node, and nothing else, written anew. What the new page shows is what the edited tree shows.
+    ensures edit { (title : List ℕ) → command_of words.now ≡ Some (Command.Edit title) → result ≡ code Status.Done
+        → IfSome (F.pages folder.old) (λ pages. IfSome (S.left input.old)
+        (λ bytes. WroteEdit (pages title) bytes (S.left input.new) (W.taken out.old) (W.taken out.new))) }
 
     // Where the input is the HTML that `html` answers for a page, `wikitext` wrote this very page; or a
     // device failed, or memory ran out.

@@ -5,7 +5,7 @@ ghost use Rattle.wt_html_in.specs.Answers.{body_of, unsourced_of};
 ghost use Rattle.wt_html_in.specs.Feeding.{IsFed, taken_of};
 ghost use Rattle.wt_pagetool.specs.Answers.{source_answer, wikitext_answer};
 ghost use Rattle.wt_pagetool.specs.Inputs.{FedWhole};
-ghost use Rattle.wt_pagetool.specs.Causes.{Answered, Refuses, IsOfHtml, IsOfInput, IsKept};
+ghost use Rattle.wt_pagetool.specs.Causes.{Answered, RefusesInput, IsOfHtml, IsOfInput, IsKept};
 
 use crate::limits::HTML_BYTES;
 use crate::output::Output;
@@ -33,7 +33,7 @@ fn feed_all<S: Source>(
     requires count { taken_of reader.old ≡ 0 }
     ensures fed { OnOk result (FedWhole reader.new (S.left input.old) (S.left input.new)) }
     ensures answered { IfErr result
-        (λ r. IfSome (S.left input.old) (λ bytes. Refuses r (wikitext_answer bytes))) }
+        (λ r. IfSome (S.left input.old) (λ bytes. RefusesInput bytes r)) }
     ensures of_input { IfErr result (IsOfInput (S.fault_count input.old) (S.fault_count input.new)) }
     ensures kept { IsKept result (S.fault_count input.old) (S.fault_count input.new) }
 {
@@ -54,14 +54,14 @@ fn feed_all<S: Source>(
 }
 
 /// A reader that was fed the whole input.
-fn read_all<'a, S: Source>(
+pub fn read_all<'a, S: Source>(
     alloc: Global,
     arena: &'a Bump<Global>,
     input: &mut S,
 ) -> Result<Reader<'a>, Refusal>
     ensures fed { IfOk result (λ reader. FedWhole reader (S.left input.old) (S.left input.new)) }
     ensures answered { IfErr result
-        (λ r. IfSome (S.left input.old) (λ bytes. Refuses r (wikitext_answer bytes))) }
+        (λ r. IfSome (S.left input.old) (λ bytes. RefusesInput bytes r)) }
     ensures of_input { IfErr result (IsOfInput (S.fault_count input.old) (S.fault_count input.new)) }
     ensures kept { IsKept result (S.fault_count input.old) (S.fault_count input.new) }
 {

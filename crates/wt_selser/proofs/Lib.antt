@@ -1,2 +1,9 @@
 mod Cases
 pub mod Outside
+pub mod SameTells
+pub mod DifferingLaws
+pub mod Chains
+pub mod PageChains
+pub mod EditChains
+pub mod Spliced
+pub mod OpenTags

@@ -1,6 +1,17 @@
 //! Laws of the new page, which do nothing when they are called.
 
-ghost use Rattle.std.specs.Prelude.{◌≡◌, ℕ, List, [], length};
+ghost use Rattle.std.specs.Prelude.{◌≡◌, ℕ, Bool, List, [], length, Option, None, Ok, false};
+ghost use Rattle.wt_checks.specs.Checked.{checked};
+ghost use Rattle.wt_tree.specs.Plain.{Plain};
+ghost use Rattle.wt_tree.specs.Tiling.{Covers, InPreorder, Tiled};
+ghost use Rattle.wt_tree.specs.Tree.{Tree, label};
+ghost use Rattle.wt_tree.specs.declared.kind.Kind.TheVariants as kind;
+ghost use Rattle.wt_kept.specs.Page.{TellsSame};
+ghost use Rattle.wt_selser.specs.Children.{IsFirstDiffering, differing};
+ghost use Rattle.wt_selser.specs.Changes.{changes, marked};
+ghost use Rattle.wt_selser.specs.Edits.{edit_answer};
+ghost use Rattle.wt_selser.specs.Leaves.{LeavesHoldNoNumber};
+ghost use Rattle.wt_selser.specs.SameNodes.{same_node};
 ghost use Rattle.wt_selser.specs.Splice.{Change, spliced, AreApart, OutsideStands};
 
 /// Where the slices stand in the page one after the other, what stands outside them stands in the
@@ -14,4 +25,29 @@ pub fn outside_stands()
 #[tactic(auto, using(crate::proofs::Outside::nothing_changes))]
 pub fn nothing_changes()
     ensures { (page : List ℕ) → spliced page [] ≡ page }
+{}
+
+/// There is a test that tells nodes of one kind with one plain view, and it can be computed.
+#[tactic(auto, using(crate::proofs::SameTells::tells_same))]
+pub fn nodes_are_told()
+    ensures { TellsSame same_node }
+{}
+
+/// The first child in which two bodies differ can be computed, and where none is told they show the same.
+pub fn differing_is_first()
+    ensures told { (xs ys : List Plain) → (r : Option ℕ) → IsFirstDiffering xs ys r → r ≡ differing 1 xs ys }
+    ensures same { (xs ys : List Plain) → differing 1 xs ys ≡ None → xs ≡ ys }
+{}
+
+/// The slices of an edit stand in the page one after the other, where the page's tree tiles it and has its
+/// numbers in preorder, and the checks refuse nothing: kept nodes stand in the page's order, and no marked
+/// node stands in another one. So every byte of the page outside the insides of the marked nodes stands in
+/// the new page, in its order.
+pub fn edit_is_a_splice()
+    ensures apart { (same : Tree → Tree → Bool) (page : List ℕ) (tree edited : Tree) → (label tree).kind ≡ kind.Body → InPreorder tree → Tiled tree
+        → Covers (length page) tree → LeavesHoldNoNumber tree → checked false tree edited ≡ None
+        → AreApart 0 (changes same (marked tree edited)) (length page) }
+    ensures stands { (same : Tree → Tree → Bool) (page new : List ℕ) (tree edited : Tree) → (label tree).kind ≡ kind.Body → InPreorder tree
+        → Tiled tree → Covers (length page) tree → LeavesHoldNoNumber tree → edit_answer same page tree edited ≡ Ok new
+        → OutsideStands page new (changes same (marked tree edited)) }
 {}

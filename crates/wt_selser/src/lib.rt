@@ -1,6 +1,18 @@
-//! Edits: the new page.
+//! Selective serialisation: the new page of an edited page. Of each block that was marked the inside is
+//! spelled anew, and every other byte stands as it was.
 #![tactic(auto)]
 
+mod change;
+mod content;
+mod differing;
+mod editing;
 mod laws;
+mod open_tag;
+mod refusal;
 
-pub use laws::{nothing_changes, outside_stands};
+pub use differing::first_differing;
+pub use editing::edit;
+pub use laws::{
+    differing_is_first, edit_is_a_splice, nodes_are_told, nothing_changes, outside_stands,
+};
+pub use refusal::{ContentWhy, EditRefusal};

@@ -1,4 +1,4 @@
-use Rattle.wt_pagetool.proofs.RunLaws.{run_page, run_wikitext, run_exact, run_done, run_refused, run_fault, run_complete, run_kept, run_found, run_expansion}
+use Rattle.wt_pagetool.proofs.RunLaws.{run_page, run_wikitext, run_exact, run_done, run_refused, run_fault, run_complete, run_kept, run_found, run_expansion, run_edit}
 use Rattle.wt_pagetool.proofs.GivenBackLaws.{run_gives_back}
 use Rattle.wt_pagetool.specs.Answers.{answer_told}
 use Rattle.wt_pagetool.specs.Devices.{read_from, fetched_from, written_to}
@@ -27,6 +27,14 @@ returns-clause-wikitext g c is e =
     (written_to g.W.Sink c.args.out.now c.report.new.out) (written_to g.E.Sink c.args.err.now c.report.new.err)
     c.find_answer-found.result c.report.result c.code.result c.code.ensures c.find_answer-found.ensures.answered
     c.find_answer-found.ensures.due c.find_answer-found.ensures.ended c.report.ensures is e
+
+pub returns-clause-edit : goal.returns-clause-edit
+returns-clause-edit g c title is e =
+    run_edit c.args.words.now (read_from g.S.Source c.args.input.now c.find_answer-found.new.input)
+    (fetched_from g.F.Folder c.args.folder.now c.find_answer-found.new.folder)
+    (written_to g.W.Sink c.args.out.now c.report.new.out) (written_to g.E.Sink c.args.err.now c.report.new.err)
+    c.find_answer-found.result c.report.result c.code.result c.code.ensures c.find_answer-found.ensures.answered
+    c.find_answer-found.ensures.due c.find_answer-found.ensures.ended c.report.ensures title is e
 
 pub returns-clause-gives_back : goal.returns-clause-gives_back
 returns-clause-gives_back g c is =

@@ -1,0 +1,81 @@
+-- The slices of the page that an edit replaces: the insides of the marked nodes, each by the spelling of what it was edited to.
+use Rattle.std.specs.Prelude.{ℕ, Bool, ◌+◌, ◌-◌, Option, Some, None, List, [], ◌∷◌, if◌then◌else◌}
+use Rattle.std.specs.List.{flat_map}
+use Rattle.wt_tree.specs.declared.kind.Kind.{Kind}
+use Rattle.wt_tree.specs.declared.kind.Kind.TheVariants as kind
+use Rattle.wt_tree.specs.declared.kind.Ranges.{Ranges}
+use Rattle.wt_tree.specs.Tree.{Tree, label}
+use Rattle.wt_guards.specs.declared.side.Place.{Place as Surround}
+use Rattle.wt_guards.specs.declared.side.Place.TheVariants as place
+use Rattle.wt_escape.specs.Spelling.{inline_spelling}
+use Rattle.wt_checks.specs.Places.{Place, places, Page, page_of, number, is_content}
+use Rattle.wt_selser.specs.Splice.{Change}
+
+-- ---- marked nodes
+
+-- a node of the page, and what it was edited to
+pub record Pair : Type 0 where
+  pub old : Tree
+  pub new : Tree
+
+abbrev pub pair_with : Option Place → Tree → List Pair
+pair_with None t = []
+pair_with (Some q) t = record { old = q.node; new = t } ∷ []
+
+abbrev pub pair_at : Page → Place → List Pair
+pair_at page p = if is_content (label p.node).mark then pair_with (page (number p)) p.node else []
+
+-- the marked nodes in preorder
+abbrev pub marked : Tree → Tree → List Pair
+marked page edited = flat_map (pair_at (page_of page)) (places edited)
+
+-- ---- their slices
+
+-- what the content of a block stands in
+abbrev pub place_in : Kind → Surround
+place_in kind.Body = place.Paragraph
+place_in kind.Para = place.Paragraph
+place_in (kind.Heading n) = place.Heading
+place_in kind.Rule = place.Paragraph
+place_in kind.Ul = place.Paragraph
+place_in kind.Ol = place.Paragraph
+place_in kind.Dl = place.Paragraph
+place_in kind.Li = place.Item
+place_in kind.Dt = place.Term
+place_in kind.Dd = place.Item
+place_in kind.Pre = place.Paragraph
+place_in kind.Table = place.Paragraph
+place_in kind.Tbody = place.Paragraph
+place_in kind.Tr = place.Paragraph
+place_in kind.Caption = place.Cell
+place_in kind.Td = place.Cell
+place_in kind.Th = place.Header
+place_in kind.Bold = place.Paragraph
+place_in kind.Italic = place.Paragraph
+place_in kind.WikiLink = place.Paragraph
+place_in kind.ExtLink = place.Paragraph
+place_in kind.Category = place.Paragraph
+place_in (kind.Tag t) = place.Paragraph
+place_in kind.Br = place.Paragraph
+place_in kind.Entity = place.Paragraph
+place_in kind.Nowiki = place.Paragraph
+place_in kind.Island = place.Paragraph
+place_in kind.Switch = place.Paragraph
+place_in kind.Comment = place.Paragraph
+place_in kind.Include = place.Paragraph
+place_in kind.Skip = place.Paragraph
+place_in kind.Sep = place.Paragraph
+place_in kind.Text = place.Paragraph
+place_in kind.Group = place.Paragraph
+place_in kind.Empty = place.Paragraph
+
+-- the inside of a node of the page
+abbrev pub change_with : Option Ranges → List ℕ → List Change
+change_with None by = []
+change_with (Some r) by = record { start = r.start + r.open_w; end = r.end - r.close_w; by = by } ∷ []
+
+abbrev pub change_of : (Tree → Tree → Bool) → Pair → List Change
+change_of same p = change_with (label p.old).ranges (inline_spelling same p.old p.new (place_in (label p.old).kind))
+
+abbrev pub changes : (Tree → Tree → Bool) → List Pair → List Change
+changes same ps = flat_map (change_of same) ps

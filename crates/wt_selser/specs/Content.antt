@@ -1,0 +1,176 @@
+-- What may stand in the content of a marked node: text, the block's own inline nodes, and new bold, italic, links and line breaks.
+use Rattle.std.specs.Prelude.{ℕ, ◌+◌, ◌==◌, ◌&&◌, ◌||◌, Bool, true, false, not, is_some, Option, Some, None, List, [], ◌∷◌, ◌++◌, map, length, nat_lt, if◌then◌else◌}
+use Rattle.std.specs.List.{list_any}
+use Rattle.wt_names.specs.Written.{read_link}
+use Rattle.wt_tree.specs.declared.kind.Kind.{Kind}
+use Rattle.wt_tree.specs.declared.kind.Kind.TheVariants as kind
+use Rattle.wt_tree.specs.Tree.{Label, Tree, tree, Trees, none, more, label}
+use Rattle.wt_tiles.specs.declared.glyph.Glyph.TheVariants as glyph
+use Rattle.wt_tiles.specs.Urls.{scheme_len, url_items}
+use Rattle.wt_kept.specs.declared.kinds.Way.{Way}
+use Rattle.wt_kept.specs.declared.kinds.Way.TheVariants as way
+use Rattle.wt_kept.specs.Kinds.{shape}
+use Rattle.wt_kept.specs.Kept.{Kept, kept_with}
+use Rattle.wt_kept.specs.Page.{Page, page_of, is_unchanged}
+use Rattle.wt_escape.specs.Spelling.{href_of}
+use Rattle.wt_selser.specs.declared.refusal.ContentWhy.{ContentWhy}
+use Rattle.wt_selser.specs.declared.refusal.ContentWhy.TheVariants as why
+use Rattle.wt_selser.specs.declared.content.Standing.{Standing}
+use Rattle.wt_selser.specs.declared.content.Standing.TheVariants as stands
+use Rattle.wt_selser.specs.declared.content.Spot.{Spot}
+
+-- ---- links
+
+-- a URL in whole: the beginning of one, and URL items that are at least one and all the rest
+abbrev pub is_url : List ℕ → Bool
+is_url bs =
+    let gs = map glyph.Byte bs in
+    let items = length (url_items gs) in
+    nat_lt 0 (scheme_len gs) && (nat_lt 0 items && scheme_len gs + items == length gs)
+
+abbrev pub is_link : Way → Bool
+is_link way.Nothing = false
+is_link way.Characters = false
+is_link way.Bold = false
+is_link way.Italic = false
+is_link way.Shown = false
+is_link way.PageLink = true
+is_link way.ExternalLink = true
+is_link way.Tag = false
+is_link way.Break = false
+is_link way.AsItStood = false
+
+-- ---- how a node stands to the page
+
+-- it is new, it was changed, or it is as it was in the page
+abbrev pub standing_of : Page → Option Kept → Tree → Standing
+standing_of p None t = stands.New
+standing_of p (Some k) t = if is_unchanged p k t then stands.Same else stands.Changed
+
+abbrev pub standing : Page → Tree → Standing
+standing p t = standing_of p (kept_with (label t).id p.kept) t
+
+-- ---- what is wrong with a node by itself
+
+-- only the page may bring it
+abbrev pub if_new : Standing → List ContentWhy
+if_new stands.New = why.Element ∷ []
+if_new stands.Changed = []
+if_new stands.Same = []
+
+abbrev pub if_changed : Standing → List ContentWhy
+if_changed stands.New = []
+if_changed stands.Changed = why.Element ∷ []
+if_changed stands.Same = []
+
+abbrev pub unless_same : Standing → List ContentWhy → List ContentWhy
+unless_same stands.New ws = ws
+unless_same stands.Changed ws = ws
+unless_same stands.Same ws = []
+
+-- a link that leads nowhere
+abbrev pub link_fault : Bool → List ContentWhy
+link_fault good = if good then [] else why.Href ∷ []
+
+abbrev pub break_fault : Bool → List ℕ → List ContentWhy
+break_fault in_paragraph text = if not in_paragraph && list_any (λ b. b == 10) text then why.LineBreak ∷ [] else []
+
+abbrev pub nested_fault : Bool → List ContentWhy
+nested_fault nested = if nested then why.Nested ∷ [] else []
+
+-- By the way in which its kind is written. Bold, italic, links and line breaks may be new; a tag, an entity and a nowiki may be
+-- changed, as links may; everything else is as it stands in the page.
+abbrev pub own_faults : Way → Spot → Standing → Label → List ContentWhy
+own_faults way.Nothing x s l = []
+own_faults way.Characters x s l = break_fault x.in_paragraph l.shown
+own_faults way.Bold x s l = []
+own_faults way.Italic x s l = []
+own_faults way.Shown x s l = if_new s
+own_faults way.PageLink x s l = unless_same s (link_fault (is_some (read_link (href_of l))))
+own_faults way.ExternalLink x s l = unless_same s (link_fault (is_url (href_of l)))
+own_faults way.Tag x s l = if_new s
+own_faults way.Break x s l = if_changed s
+own_faults way.AsItStood x s l = unless_same s (why.Element ∷ [])
+
+-- whether what it holds is looked into: always of bold and italic, and of other nodes where they aren't as they were
+abbrev pub is_same : Standing → Bool
+is_same stands.New = false
+is_same stands.Changed = false
+is_same stands.Same = true
+
+abbrev pub is_open : Way → Standing → Bool
+is_open way.Nothing s = false
+is_open way.Characters s = false
+is_open way.Bold s = true
+is_open way.Italic s = true
+is_open way.Shown s = not (is_same s)
+is_open way.PageLink s = not (is_same s)
+is_open way.ExternalLink s = not (is_same s)
+is_open way.Tag s = not (is_same s)
+is_open way.Break s = not (is_same s)
+is_open way.AsItStood s = not (is_same s)
+
+abbrev pub if_any : Option ContentWhy → List ContentWhy
+if_any None = []
+if_any (Some w) = w ∷ []
+
+-- ---- of all nodes
+
+abbrev pub below : Spot → Way → Spot
+below x w = record { in_paragraph = false; in_link = x.in_link || is_link w }
+
+abbrev pub faults_by : Way → Spot → Standing → Label → List ContentWhy → List ContentWhy
+faults_by w x s l inside = nested_fault (x.in_link && is_link w) ++ (own_faults w x s l ++ (if is_open w s then inside else []))
+
+abbrev mutual
+  pub faults : Page → Spot → Tree → List ContentWhy
+  faults p x (tree l ts) =
+      faults_by (shape l.kind).way x (standing p (tree l ts)) l (all_faults p (below x (shape l.kind).way) ts)
+
+  pub all_faults : Page → Spot → Trees → List ContentWhy
+  all_faults p x none = []
+  all_faults p x (more t ts) = faults p x t ++ all_faults p x ts
+
+-- ---- the first of them, in the order in which they are named
+
+abbrev pub is_element : ContentWhy → Bool
+is_element why.Element = true
+is_element why.Href = false
+is_element why.LineBreak = false
+is_element why.Nested = false
+
+abbrev pub is_href : ContentWhy → Bool
+is_href why.Element = false
+is_href why.Href = true
+is_href why.LineBreak = false
+is_href why.Nested = false
+
+abbrev pub is_line_break : ContentWhy → Bool
+is_line_break why.Element = false
+is_line_break why.Href = false
+is_line_break why.LineBreak = true
+is_line_break why.Nested = false
+
+abbrev pub is_nested : ContentWhy → Bool
+is_nested why.Element = false
+is_nested why.Href = false
+is_nested why.LineBreak = false
+is_nested why.Nested = true
+
+abbrev pub first_why : List ContentWhy → Option ContentWhy
+first_why ws =
+    if list_any is_element ws then Some why.Element else
+    (if list_any is_href ws then Some why.Href else
+    (if list_any is_line_break ws then Some why.LineBreak else (if list_any is_nested ws then Some why.Nested else None)))
+
+abbrev pub is_paragraph : Kind → Bool
+is_paragraph kind.Para = true
+is_paragraph k = false
+
+abbrev pub held : Tree → Trees
+held (tree l ts) = ts
+
+-- why the content of `new` can't be written, which was `old` in the page
+unfoldable pub bad_content : (Tree → Tree → Bool) → Tree → Tree → Option ContentWhy
+bad_content same old new =
+    first_why (all_faults (page_of same old) (record { in_paragraph = is_paragraph (label old).kind; in_link = false }) (held new))

@@ -1,0 +1,71 @@
+-- The answer to an edit of a page without templates: the new page, or the first refusal by its kind, then in preorder.
+use Rattle.std.specs.Prelude.{◌≡◌, ℕ, Bool, false, ◌==◌, Option, Some, None, option_map, Result, Ok, Err, List, [], ◌∷◌, length, take, nat_lt, if◌then◌else◌}
+use Rattle.wt_tree.specs.declared.kind.Ranges.{Ranges}
+use Rattle.wt_tree.specs.Tree.{Tree, label}
+use Rattle.wt_checks.specs.declared.refusal.Check.{Check}
+use Rattle.wt_checks.specs.Checked.{checked}
+use Rattle.wt_selser.specs.declared.refusal.ContentWhy.{ContentWhy}
+use Rattle.wt_selser.specs.declared.refusal.EditRefusal.{EditRefusal}
+use Rattle.wt_selser.specs.declared.refusal.EditRefusal.TheVariants as refusal
+use Rattle.wt_selser.specs.Changes.{Pair, marked, changes}
+use Rattle.wt_selser.specs.Content.{bad_content}
+use Rattle.wt_selser.specs.OpenTags.{touches_open_tag}
+use Rattle.wt_selser.specs.Splice.{spliced}
+
+abbrev pub first_with : {B : Type 0} → Option B → Option B → Option B
+first_with None rest = rest
+first_with (Some y) rest = Some y
+
+-- the first that some of these give
+abbrev pub first_of : {A B : Type 0} → (A → Option B) → List A → Option B
+first_of f [] = None
+first_of f (x ∷ xs) = first_with (f x) (first_of f xs)
+
+-- ---- the refusals
+
+abbrev pub bad_pair : (Tree → Tree → Bool) → Pair → Option EditRefusal
+bad_pair same p = option_map (refusal.BadContent (label p.new).id) (bad_content same p.old p.new)
+
+-- what stands in the page before a node
+abbrev pub before : List ℕ → Option Ranges → List ℕ
+before page None = []
+before page (Some r) = take r.start page
+
+-- A page without templates has neither text calls nor groups, so a node is tangled where it touches an open tag.
+abbrev pub tangled_pair : List ℕ → Pair → Option EditRefusal
+tangled_pair page p = if touches_open_tag (before page (label p.old).ranges) p.old then Some (refusal.Tangled (label p.new).id) else None
+
+abbrev pub refused_pairs : (Tree → Tree → Bool) → List ℕ → List Pair → Option EditRefusal
+refused_pairs same page ps = first_with (first_of (bad_pair same) ps) (first_of (tangled_pair page) ps)
+
+-- the most bytes of a page
+unfoldable pub most_bytes : ℕ
+most_bytes = 2097152
+
+abbrev pub if_short : List ℕ → Result (List ℕ) EditRefusal
+if_short new = if nat_lt most_bytes (length new) then Err refusal.NewPageTooLong else Ok new
+
+abbrev pub unless_refused : Option EditRefusal → Result (List ℕ) EditRefusal → Result (List ℕ) EditRefusal
+unless_refused None r = r
+unless_refused (Some e) r = Err e
+
+-- ---- the answer
+
+-- `same` tells nodes of one kind with one plain view
+unfoldable pub edit_answer : (Tree → Tree → Bool) → List ℕ → Tree → Tree → Result (List ℕ) EditRefusal
+edit_answer same page t edited =
+    let ps = marked t edited in
+    unless_refused (option_map refusal.Check (checked false t edited))
+    (unless_refused (refused_pairs same page ps) (if_short (spliced page (changes same ps))))
+
+abbrev pub IsEditRefusal : Result (List ℕ) EditRefusal → EditRefusal → Type 0
+IsEditRefusal answer (refusal.Check c) = answer ≡ Err (refusal.Check c)
+IsEditRefusal answer (refusal.BadContent n w) = answer ≡ Err (refusal.BadContent n w)
+IsEditRefusal answer (refusal.Tangled n) = answer ≡ Err (refusal.Tangled n)
+IsEditRefusal answer refusal.NewPageTooLong = answer ≡ Err refusal.NewPageTooLong
+IsEditRefusal answer refusal.NoMemory = Unit {0}
+
+-- memory is free
+abbrev pub AnswersEdit : Result (List ℕ) EditRefusal → Result (List ℕ) EditRefusal → Type 0
+AnswersEdit answer (Ok new) = answer ≡ Ok new
+AnswersEdit answer (Err e) = IsEditRefusal answer e

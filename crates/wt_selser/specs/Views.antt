@@ -1,0 +1,42 @@
+-- What the code's own types stand for.
+use Rattle.std.specs.Prelude.{◌≡◌, ℕ, List, map}
+use Rattle.std.specs.List.{list_any}
+use Rattle.wt_tree.specs.Plain.{Plain, text, element, face, plains_before, ended}
+use Rattle.wt_tree.specs.View.{view, views, label_of}
+use Rattle.wt_tree.specs.declared.node.Node.{out-Node}
+use Rattle.wt_selser.specs.declared.change.Change.{Change as Made}
+use Rattle.wt_selser.specs.declared.change.Pair.{Pair as Found}
+use Rattle.wt_selser.specs.declared.content.Faults.{Faults}
+use Rattle.wt_selser.specs.declared.differing.Child.{Child}
+use Rattle.wt_selser.specs.declared.differing.Child.TheVariants as child
+use Rattle.wt_selser.specs.declared.refusal.ContentWhy.{ContentWhy}
+use Rattle.wt_selser.specs.Changes.{Pair}
+use Rattle.wt_selser.specs.Content.{is_element, is_href, is_line_break, is_nested}
+use Rattle.wt_selser.specs.Splice.{Change}
+
+abbrev pub pair_of : Found → Pair
+pair_of p = record { old = view p.old.now; new = view p.new.now }
+
+abbrev pub pairs_of : List Found → List Pair
+pairs_of ps = map pair_of ps
+
+abbrev pub change_view : Made → Change
+change_view c = record { start = c.start; end = c.end; by = c.by }
+
+abbrev pub changes_view : List Made → List Change
+changes_view cs = map change_view cs
+
+-- what was found so far
+pub record HasFaults (f : Faults) (ws : List ContentWhy) : Type 0 where
+  pub element : f.element ≡ list_any is_element ws
+  pub href : f.href ≡ list_any is_href ws
+  pub line_break : f.line_break ≡ list_any is_line_break ws
+  pub nested : f.nested ≡ list_any is_nested ws
+
+-- a child of a body as it is shown
+abbrev pub child_view : Child → Plain
+child_view (child.Element n) = element (face (label_of (out-Node n.now))) (plains_before (views (out-Node n.now).children) ended)
+child_view (child.Text bs) = text bs.items
+
+abbrev pub children_view : List Child → List Plain
+children_view cs = map child_view cs

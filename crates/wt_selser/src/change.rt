@@ -1,0 +1,184 @@
+//! The slices of the page that an edit replaces, and the new page.
+
+ghost use Rattle.std.specs.Prelude.{◌≡◌, ◌++◌, Bool, drop, OnOk, IfOk};
+ghost use Rattle.wt_tree.specs.Tree.{Tree, label};
+ghost use Rattle.std.specs.List.{flat_map};
+ghost use Rattle.wt_tree.specs.Tiling.{InPreorder};
+ghost use Rattle.wt_tree.specs.View.{view};
+ghost use Rattle.wt_tree.specs.declared.kind.Kind.TheVariants as kind;
+ghost use Rattle.wt_kept.specs.Page.{TellsSame};
+ghost use Rattle.wt_checks.specs.Places.{page_of, places};
+ghost use Rattle.wt_checks.specs.View.{all_seen, indexed, seen};
+ghost use Rattle.wt_selser.specs.Changes.{change_of, change_with, changes, marked, pair_at, place_in};
+ghost use Rattle.wt_selser.specs.Splice.{between, spliced};
+ghost use Rattle.wt_selser.specs.Views.{changes_view, pair_of, pairs_of};
+
+use std::alloc::Global;
+use wt_checks::{Visit, is_content, numbered_nodes, original, preorder};
+use wt_escape::{Place, spell_inline};
+use wt_span::{NoMemory, Str};
+use wt_tree::{Kind, Node, Ranges};
+
+/// A marked node as it was in the page, and what it was edited to.
+#[derive(Clone, Copy)]
+pub struct Pair<'t, 'a> {
+    pub old: &'t Node<'a>,
+    pub new: &'t Node<'a>,
+}
+
+/// A slice of the page, by its first byte and the byte behind its last one, and what stands in its place.
+#[derive(Drop)]
+pub struct Change {
+    pub start: u32,
+    pub end: u32,
+    pub by: Str,
+}
+
+/// What the content of a node of this kind stands in.
+fn place_in(kind: Kind) -> Place
+    ensures { result ≡ place_in kind }
+{
+    match kind {
+        Kind::Heading(_) => Place::Heading,
+        Kind::Li | Kind::Dd => Place::Item,
+        Kind::Dt => Place::Term,
+        Kind::Td | Kind::Caption => Place::Cell,
+        Kind::Th => Place::Header,
+        Kind::Body | Kind::Para | Kind::Rule | Kind::Ul | Kind::Ol | Kind::Dl | Kind::Pre =>
+            Place::Paragraph,
+        Kind::Table | Kind::Tbody | Kind::Tr | Kind::Bold | Kind::Italic => Place::Paragraph,
+        Kind::WikiLink | Kind::ExtLink | Kind::Category | Kind::Tag(_) | Kind::Br =>
+            Place::Paragraph,
+        Kind::Entity | Kind::Nowiki | Kind::Island | Kind::Switch | Kind::Comment =>
+            Place::Paragraph,
+        Kind::Include | Kind::Skip | Kind::Sep | Kind::Text | Kind::Group | Kind::Empty =>
+            Place::Paragraph,
+    }
+}
+
+fn push_pair<'t, 'a>(
+    pairs: &mut Vec<Pair<'t, 'a>>,
+    index: &[Visit<'t, 'a>],
+    visit: Visit<'t, 'a>,
+) -> Result<(), NoMemory>
+    ensures { OnOk result (pairs_of pairs.new.items ≡ pairs_of pairs.old.items ++ pair_at (indexed index.now) (seen visit.entry)) }
+{
+    if !is_content(visit.node.mark) {
+        return Ok(());
+    }
+    if let Some(old) = original(index, visit.node.id) {
+        pairs.push(Pair {
+            old: old.node,
+            new: visit.node,
+        })?;
+    }
+    Ok(())
+}
+
+fn pairs_in<'t, 'a>(
+    alloc: Global,
+    index: &[Visit<'t, 'a>],
+    edited: &[Visit<'t, 'a>],
+) -> Result<Vec<Pair<'t, 'a>>, NoMemory>
+    ensures { IfOk result (λ ps. pairs_of ps.items ≡ flat_map (pair_at (indexed index.now)) (all_seen edited.now)) }
+{
+    let mut pairs = Vec::new(alloc);
+    for visit in edited {
+        push_pair(&mut pairs, index, *visit)?;
+    }
+    Ok(pairs)
+}
+
+/// The marked nodes of an edited tree in preorder, each with the page's node of its number.
+pub fn marked_pairs<'t, 'a>(
+    alloc: Global,
+    page: &'t Node<'a>,
+    edited: &'t Node<'a>,
+) -> Result<Vec<Pair<'t, 'a>>, NoMemory>
+    requires body { (label (view page.now)).kind ≡ kind.Body }
+    requires numbered { ∥ InPreorder (view page.now) ∥₁ }
+    ensures { IfOk result (λ ps. pairs_of ps.items ≡ marked (view page.now) (view edited.now)) }
+{
+    let index = numbered_nodes(alloc, page)?;
+    let edited = preorder(alloc, edited)?;
+    pairs_in(alloc, index.as_slice(), edited.as_slice())
+}
+
+/// Appends the inside of a node with these ranges, by what is written for it.
+fn push_inside(found: &mut Vec<Change>, ranges: Option<Ranges>, by: Str) -> Result<(), NoMemory>
+    ensures { OnOk result (changes_view found.new.items ≡ changes_view found.old.items ++ change_with ranges by) }
+{
+    let Some(ranges) = ranges else {
+        return Ok(());
+    };
+    let Some(start) = ranges.start.checked_add(ranges.open_w) else {
+        return Err(NoMemory);
+    };
+    found.push(Change {
+        start,
+        end: ranges.end.saturating_sub(ranges.close_w),
+        by,
+    })?;
+    Ok(())
+}
+
+fn push_change(alloc: Global, found: &mut Vec<Change>, pair: Pair<'_, '_>) -> Result<(), NoMemory>
+    ensures { (same : Tree → Tree → Bool) → TellsSame same
+        → OnOk result (changes_view found.new.items ≡ changes_view found.old.items ++ change_of same (pair_of pair.entry)) }
+{
+    let by = spell_inline(alloc, pair.old, pair.new, place_in(pair.old.kind))?;
+    push_inside(found, pair.old.ranges, by)?;
+    Ok(())
+}
+
+/// The changes of the marked nodes.
+pub fn changes(alloc: Global, pairs: &[Pair<'_, '_>]) -> Result<Vec<Change>, NoMemory>
+    ensures { (same : Tree → Tree → Bool) → TellsSame same → IfOk result (λ cs. changes_view cs.items ≡ changes same (pairs_of pairs.now)) }
+{
+    let mut found = Vec::new(alloc);
+    for pair in pairs {
+        push_change(alloc, &mut found, *pair)?;
+    }
+    Ok(found)
+}
+
+/// Appends what stands in the page between two places.
+fn push_between(out: &mut Str, page: &str, from: u32, to: u32) -> Result<(), NoMemory>
+    ensures { OnOk result (out.new ≡ out.old ++ between from to page.now) }
+{
+    if from > to || to as usize > page.len() {
+        return Err(NoMemory);
+    }
+    if !page.is_char_boundary(from as usize) || !page.is_char_boundary(to as usize) {
+        return Err(NoMemory);
+    }
+    out.push_str(&page[from as usize..to as usize])?;
+    Ok(())
+}
+
+/// Appends what stands in the page from a place on.
+fn push_rest(out: &mut Str, page: &str, from: u32) -> Result<(), NoMemory>
+    ensures { OnOk result (out.new ≡ out.old ++ drop from page.now) }
+{
+    if !page.is_char_boundary(from as usize) {
+        return Err(NoMemory);
+    }
+    out.push_str(&page[from as usize..])?;
+    Ok(())
+}
+
+/// The page with these slices replaced.
+#[tactic(auto, unfolding(crate::specs::Splice::spliced))]
+pub fn spliced(alloc: Global, page: &str, changes: &[Change]) -> Result<Str, NoMemory>
+    ensures { IfOk result (λ new. new ≡ spliced page.now (changes_view changes.now)) }
+{
+    let mut out = Str::new(alloc);
+    let mut at = 0;
+    for change in changes {
+        push_between(&mut out, page, at, change.start)?;
+        out.push_str(change.by.as_str())?;
+        at = change.end;
+    }
+    push_rest(&mut out, page, at)?;
+    Ok(out)
+}

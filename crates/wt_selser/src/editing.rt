@@ -1,0 +1,135 @@
+//! The new page of an edited page.
+
+ghost use Rattle.std.specs.Prelude.{◌≡◌, ◌≤◌, ◌<◌, ◌^◌, Bool, Some, IfOk, IfErr, length};
+ghost use Rattle.wt_tree.specs.Tiling.{InPreorder};
+ghost use Rattle.wt_tree.specs.Tree.{Tree, label};
+ghost use Rattle.wt_tree.specs.View.{view};
+ghost use Rattle.wt_tree.specs.declared.kind.Kind.TheVariants as kind;
+ghost use Rattle.wt_kept.specs.Page.{TellsSame};
+ghost use Rattle.wt_tree.specs.declared.node.Node.{out-Node};
+ghost use Rattle.wt_selser.specs.Edits.{AnswersEdit, bad_pair, before, refused_pairs, edit_answer, first_of, most_bytes, tangled_pair};
+ghost use Rattle.wt_selser.specs.Views.{pair_of, pairs_of};
+
+use crate::change::{Pair, changes, marked_pairs, spliced};
+use crate::content::bad_content;
+use crate::open_tag::touches_open_tag;
+use crate::refusal::EditRefusal;
+use std::alloc::Global;
+use wt_checks::check;
+use wt_span::{NoMemory, Str, front_of};
+use wt_tree::Node;
+
+/// The most bytes of a page.
+pub const PAGE_BYTES: usize = 2_097_152;
+
+fn bad_pair(alloc: Global, pair: Pair<'_, '_>) -> Result<Option<EditRefusal>, NoMemory>
+    ensures { (same : Tree → Tree → Bool) → TellsSame same → IfOk result (λ r. r ≡ bad_pair same (pair_of pair.entry)) }
+{
+    match bad_content(alloc, pair.old, pair.new)? {
+        Some(why) => Ok(Some(EditRefusal::BadContent(pair.new.id, why))),
+        None => Ok(None),
+    }
+}
+
+fn first_bad(alloc: Global, pairs: &[Pair<'_, '_>]) -> Result<Option<EditRefusal>, NoMemory>
+    ensures { (same : Tree → Tree → Bool) → TellsSame same → IfOk result (λ r. r ≡ first_of (bad_pair same) (pairs_of pairs.now)) }
+{
+    for pair in pairs {
+        if let Some(refusal) = bad_pair(alloc, *pair)? {
+            return Ok(Some(refusal));
+        }
+    }
+    Ok(None)
+}
+
+/// What stands in the page before a node of it.
+fn before<'p>(page: &'p [u8], node: &Node<'_>) -> &'p [u8]
+    ensures { result.now ≡ before page.now (out-Node node.now).ranges }
+{
+    match node.ranges {
+        None => &[],
+        Some(ranges) => {
+            let end = (ranges.start as usize).min(page.len());
+            front_of(page, end)
+        }
+    }
+}
+
+fn tangled_pair(
+    alloc: Global,
+    page: &[u8],
+    pair: Pair<'_, '_>,
+) -> Result<Option<EditRefusal>, NoMemory>
+    ensures { IfOk result (λ r. r ≡ tangled_pair page.now (pair_of pair.entry)) }
+{
+    if touches_open_tag(alloc, before(page, pair.old), pair.old)? {
+        Ok(Some(EditRefusal::Tangled(pair.new.id)))
+    } else {
+        Ok(None)
+    }
+}
+
+fn first_tangled(
+    alloc: Global,
+    page: &[u8],
+    pairs: &[Pair<'_, '_>],
+) -> Result<Option<EditRefusal>, NoMemory>
+    ensures { IfOk result (λ r. r ≡ first_of (tangled_pair page.now) (pairs_of pairs.now)) }
+{
+    for pair in pairs {
+        if let Some(refusal) = tangled_pair(alloc, page, *pair)? {
+            return Ok(Some(refusal));
+        }
+    }
+    Ok(None)
+}
+
+fn refused_pairs(
+    alloc: Global,
+    page: &[u8],
+    pairs: &[Pair<'_, '_>],
+) -> Result<Option<EditRefusal>, NoMemory>
+    ensures { (same : Tree → Tree → Bool) → TellsSame same → IfOk result (λ r. r ≡ refused_pairs same page.now (pairs_of pairs.now)) }
+{
+    if let Some(refusal) = first_bad(alloc, pairs)? {
+        return Ok(Some(refusal));
+    }
+    first_tangled(alloc, page, pairs)
+}
+
+/// The new page of marked nodes.
+fn new_page(alloc: Global, page: &str, pairs: &[Pair<'_, '_>]) -> Result<Str, EditRefusal> {
+    if let Some(refusal) = refused_pairs(alloc, page.as_bytes(), pairs)? {
+        return Err(refusal);
+    }
+    let found = changes(alloc, pairs)?;
+    let new = spliced(alloc, page, found.as_slice())?;
+    if new.as_str().len() > PAGE_BYTES {
+        return Err(EditRefusal::NewPageTooLong);
+    }
+    Ok(new)
+}
+
+/// The new page of an edited page without templates: the page with the insides of its marked nodes spelled
+/// anew. `tree` is the page's tree with its numbers from 1 in preorder, `edited` the tree that was read.
+///
+/// # Errors
+///
+/// The first refusal in the order of `EditRefusal`, and of one kind the first in preorder.
+pub fn edit<'t, 'a>(
+    alloc: Global,
+    page: &str,
+    tree: &'t Node<'a>,
+    edited: &'t Node<'a>,
+) -> Result<Str, EditRefusal>
+    requires body { (label (view tree.now)).kind ≡ kind.Body }
+    requires numbered { ∥ InPreorder (view tree.now) ∥₁ }
+    ensures { (same : Tree → Tree → Bool) → TellsSame same
+        → AnswersEdit (edit_answer same page.now (view tree.now) (view edited.now)) result }
+{
+    if let Some(refusal) = check(alloc, tree, edited, false)? {
+        return Err(EditRefusal::Check(refusal));
+    }
+    let pairs = marked_pairs(alloc, tree, edited)?;
+    new_page(alloc, page, pairs.as_slice())
+}
