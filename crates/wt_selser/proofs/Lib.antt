@@ -7,3 +7,5 @@ pub mod PageChains
 pub mod EditChains
 pub mod Spliced
 pub mod OpenTags
+pub mod Answering
+pub mod ShownChildren

@@ -1,5 +1,5 @@
 -- The first child of two bodies in which their plain views differ.
-use Rattle.std.specs.Prelude.{◌≡◌, ◌≢◌, ℕ, suc, Bool, true, false, ◌&&◌, Option, Some, None, List, [], ◌∷◌, take, slice_get, if◌then◌else◌}
+use Rattle.std.specs.Prelude.{◌≡◌, ◌≢◌, ◌≤◌, ◌<◌, ℕ, suc, Bool, true, false, ◌&&◌, Option, Some, None, List, [], ◌∷◌, ◌++◌, length, take, slice_get, if◌then◌else◌}
 use Rattle.std.specs.Str.{bytes_eq}
 use Rattle.wt_tree.specs.Plain.{Plain, text, element, Plains, ended, along, plains_before}
 use Rattle.wt_tree.specs.Tree.{Tree, tree}
@@ -23,6 +23,25 @@ pub record Differs (xs ys : List Plain) (k : ℕ) : Type 0 where
 abbrev pub IsFirstDiffering : List Plain → List Plain → Option ℕ → Type 0
 IsFirstDiffering xs ys None = xs ≡ ys
 IsFirstDiffering xs ys (Some k) = Differs xs ys k
+
+-- ---- how they are found
+
+-- these, then what follows
+abbrev pub followed : List Plain → Plains → Plains
+followed [] ps = ps
+followed (q ∷ qs) ps = along q (followed qs ps)
+
+-- these, and behind them a text that has ended, where it isn't empty
+abbrev pub closed : List Plain → List ℕ → List Plain
+closed qs [] = qs
+closed qs (b ∷ bs) = qs ++ text (b ∷ bs) ∷ []
+
+-- So many of the first ones are the same in both, and no more: one of the lists ends there, or another one follows.
+pub record IsCommonLen (xs ys : List Plain) (n : ℕ) : Type 0 where
+  pub same : take n xs ≡ take n ys
+  pub left : n ≤ length xs
+  pub right : n ≤ length ys
+  pub differs : n < length xs → n < length ys → slice_get xs n ≢ slice_get ys n
 
 -- ---- the same, to be computed
 

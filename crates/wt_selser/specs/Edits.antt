@@ -51,12 +51,14 @@ unless_refused (Some e) r = Err e
 
 -- ---- the answer
 
+-- of these marked nodes
+abbrev pub pairs_answer : (Tree → Tree → Bool) → List ℕ → List Pair → Result (List ℕ) EditRefusal
+pairs_answer same page ps = unless_refused (refused_pairs same page ps) (if_short (spliced page (changes same ps)))
+
 -- `same` tells nodes of one kind with one plain view
 unfoldable pub edit_answer : (Tree → Tree → Bool) → List ℕ → Tree → Tree → Result (List ℕ) EditRefusal
 edit_answer same page t edited =
-    let ps = marked t edited in
-    unless_refused (option_map refusal.Check (checked false t edited))
-    (unless_refused (refused_pairs same page ps) (if_short (spliced page (changes same ps))))
+    unless_refused (option_map refusal.Check (checked false t edited)) (pairs_answer same page (marked t edited))
 
 abbrev pub IsEditRefusal : Result (List ℕ) EditRefusal → EditRefusal → Type 0
 IsEditRefusal answer (refusal.Check c) = answer ≡ Err (refusal.Check c)

@@ -1,7 +1,7 @@
 -- What the code's own types stand for.
 use Rattle.std.specs.Prelude.{◌≡◌, ℕ, List, map}
 use Rattle.std.specs.List.{list_any}
-use Rattle.wt_tree.specs.Plain.{Plain, text, element, face, plains_before, ended}
+use Rattle.wt_tree.specs.Plain.{Plain, Plains, text, element, face, plains_before, text_before, ended}
 use Rattle.wt_tree.specs.View.{view, views, label_of}
 use Rattle.wt_tree.specs.declared.node.Node.{out-Node}
 use Rattle.wt_selser.specs.declared.change.Change.{Change as Made}
@@ -9,8 +9,11 @@ use Rattle.wt_selser.specs.declared.change.Pair.{Pair as Found}
 use Rattle.wt_selser.specs.declared.content.Faults.{Faults}
 use Rattle.wt_selser.specs.declared.differing.Child.{Child}
 use Rattle.wt_selser.specs.declared.differing.Child.TheVariants as child
+use Rattle.wt_selser.specs.declared.shown_node.ShownNode.{ShownNode}
+use Rattle.wt_selser.specs.declared.differing.ShownSoFar.{ShownSoFar}
 use Rattle.wt_selser.specs.declared.refusal.ContentWhy.{ContentWhy}
 use Rattle.wt_selser.specs.Changes.{Pair}
+use Rattle.wt_selser.specs.Children.{followed}
 use Rattle.wt_selser.specs.Content.{is_element, is_href, is_line_break, is_nested}
 use Rattle.wt_selser.specs.Splice.{Change}
 
@@ -33,10 +36,21 @@ pub record HasFaults (f : Faults) (ws : List ContentWhy) : Type 0 where
   pub line_break : f.line_break ≡ list_any is_line_break ws
   pub nested : f.nested ≡ list_any is_nested ws
 
--- a child of a body as it is shown
+-- an element, and a child of a body, as it is shown
+abbrev pub node_view : ShownNode → Plain
+node_view s = element (face (label_of (out-Node s.node.now))) (plains_before (views (out-Node s.node.now).children) ended)
+
 abbrev pub child_view : Child → Plain
-child_view (child.Element n) = element (face (label_of (out-Node n.now))) (plains_before (views (out-Node n.now).children) ended)
+child_view (child.Element s) = node_view s
 child_view (child.Text bs) = text bs.items
 
 abbrev pub children_view : List Child → List Plain
 children_view cs = map child_view cs
+
+-- what the children so far are before what follows
+abbrev pub so_far : ShownSoFar → Plains → Plains
+so_far s rest = followed (children_view s.done.items) (text_before s.text.items rest)
+
+-- what is added to them, by what it is before what follows
+abbrev pub Adds : ShownSoFar → ShownSoFar → (Plains → Plains) → Type 0
+Adds a b f = (rest : Plains) → so_far b rest ≡ so_far a (f rest)

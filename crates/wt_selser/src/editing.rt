@@ -1,13 +1,15 @@
 //! The new page of an edited page.
 
-ghost use Rattle.std.specs.Prelude.{◌≡◌, ◌≤◌, ◌<◌, ◌^◌, Bool, Some, IfOk, IfErr, length};
+ghost use Rattle.std.specs.Prelude.{◌≡◌, Bool, IfOk, length, nat_lt, take};
 ghost use Rattle.wt_tree.specs.Tiling.{InPreorder};
 ghost use Rattle.wt_tree.specs.Tree.{Tree, label};
 ghost use Rattle.wt_tree.specs.View.{view};
 ghost use Rattle.wt_tree.specs.declared.kind.Kind.TheVariants as kind;
 ghost use Rattle.wt_kept.specs.Page.{TellsSame};
 ghost use Rattle.wt_tree.specs.declared.node.Node.{out-Node};
-ghost use Rattle.wt_selser.specs.Edits.{AnswersEdit, bad_pair, before, refused_pairs, edit_answer, first_of, most_bytes, tangled_pair};
+ghost use Rattle.wt_selser.specs.Changes.{changes};
+ghost use Rattle.wt_selser.specs.Edits.{AnswersEdit, bad_pair, before, refused_pairs, edit_answer, pairs_answer, first_of, most_bytes, tangled_pair};
+ghost use Rattle.wt_selser.specs.Splice.{spliced};
 ghost use Rattle.wt_selser.specs.Views.{pair_of, pairs_of};
 
 use crate::change::{Pair, changes, marked_pairs, spliced};
@@ -25,7 +27,8 @@ pub const PAGE_BYTES: usize = 2_097_152;
 fn bad_pair(alloc: Global, pair: Pair<'_, '_>) -> Result<Option<EditRefusal>, NoMemory>
     ensures { (same : Tree → Tree → Bool) → TellsSame same → IfOk result (λ r. r ≡ bad_pair same (pair_of pair.entry)) }
 {
-    match bad_content(alloc, pair.old, pair.new)? {
+    let found = bad_content(alloc, pair.old, pair.new)?;
+    match found {
         Some(why) => Ok(Some(EditRefusal::BadContent(pair.new.id, why))),
         None => Ok(None),
     }
@@ -35,11 +38,22 @@ fn first_bad(alloc: Global, pairs: &[Pair<'_, '_>]) -> Result<Option<EditRefusal
     ensures { (same : Tree → Tree → Bool) → TellsSame same → IfOk result (λ r. r ≡ first_of (bad_pair same) (pairs_of pairs.now)) }
 {
     for pair in pairs {
-        if let Some(refusal) = bad_pair(alloc, *pair)? {
+        let found = bad_pair(alloc, *pair)?;
+        if let Some(refusal) = found {
             return Ok(Some(refusal));
         }
     }
     Ok(None)
+}
+
+/// The first bytes of a text, all where it has no more.
+fn front(text: &[u8], count: usize) -> &[u8]
+    ensures { result.now ≡ take count text.now }
+{
+    if count >= text.len() {
+        return text;
+    }
+    front_of(text, count)
 }
 
 /// What stands in the page before a node of it.
@@ -48,10 +62,7 @@ fn before<'p>(page: &'p [u8], node: &Node<'_>) -> &'p [u8]
 {
     match node.ranges {
         None => &[],
-        Some(ranges) => {
-            let end = (ranges.start as usize).min(page.len());
-            front_of(page, end)
-        }
+        Some(ranges) => front(page, ranges.start as usize),
     }
 }
 
@@ -62,11 +73,11 @@ fn tangled_pair(
 ) -> Result<Option<EditRefusal>, NoMemory>
     ensures { IfOk result (λ r. r ≡ tangled_pair page.now (pair_of pair.entry)) }
 {
-    if touches_open_tag(alloc, before(page, pair.old), pair.old)? {
-        Ok(Some(EditRefusal::Tangled(pair.new.id)))
-    } else {
-        Ok(None)
+    let touches = touches_open_tag(alloc, before(page, pair.old), pair.old)?;
+    if touches {
+        return Ok(Some(EditRefusal::Tangled(pair.new.id)));
     }
+    Ok(None)
 }
 
 fn first_tangled(
@@ -77,7 +88,8 @@ fn first_tangled(
     ensures { IfOk result (λ r. r ≡ first_of (tangled_pair page.now) (pairs_of pairs.now)) }
 {
     for pair in pairs {
-        if let Some(refusal) = tangled_pair(alloc, page, *pair)? {
+        let found = tangled_pair(alloc, page, *pair)?;
+        if let Some(refusal) = found {
             return Ok(Some(refusal));
         }
     }
@@ -91,20 +103,44 @@ fn refused_pairs(
 ) -> Result<Option<EditRefusal>, NoMemory>
     ensures { (same : Tree → Tree → Bool) → TellsSame same → IfOk result (λ r. r ≡ refused_pairs same page.now (pairs_of pairs.now)) }
 {
-    if let Some(refusal) = first_bad(alloc, pairs)? {
+    let bad = first_bad(alloc, pairs)?;
+    if let Some(refusal) = bad {
         return Ok(Some(refusal));
     }
-    first_tangled(alloc, page, pairs)
+    let tangled = first_tangled(alloc, page, pairs)?;
+    Ok(tangled)
+}
+
+/// The page with the insides of marked nodes spelled anew, however long it is.
+fn with_changes(alloc: Global, page: &str, pairs: &[Pair<'_, '_>]) -> Result<Str, NoMemory>
+    ensures { (same : Tree → Tree → Bool) → TellsSame same
+        → IfOk result (λ new. new ≡ spliced page.now (changes same (pairs_of pairs.now))) }
+{
+    let found = changes(alloc, pairs)?;
+    let new = spliced(alloc, page, found.as_slice())?;
+    Ok(new)
+}
+
+/// Whether a page is longer than a page may be.
+#[tactic(auto, unfolding(crate::specs::Edits::most_bytes))]
+fn is_too_long(page: &str) -> bool
+    ensures { result ≡ nat_lt most_bytes (length page.now) }
+{
+    page.len() > PAGE_BYTES
 }
 
 /// The new page of marked nodes.
-fn new_page(alloc: Global, page: &str, pairs: &[Pair<'_, '_>]) -> Result<Str, EditRefusal> {
-    if let Some(refusal) = refused_pairs(alloc, page.as_bytes(), pairs)? {
+fn new_page(alloc: Global, page: &str, pairs: &[Pair<'_, '_>]) -> Result<Str, EditRefusal>
+    ensures { (same : Tree → Tree → Bool) → TellsSame same
+        → AnswersEdit (pairs_answer same page.now (pairs_of pairs.now)) result }
+{
+    let refused = refused_pairs(alloc, page.as_bytes(), pairs)?;
+    if let Some(refusal) = refused {
         return Err(refusal);
     }
-    let found = changes(alloc, pairs)?;
-    let new = spliced(alloc, page, found.as_slice())?;
-    if new.as_str().len() > PAGE_BYTES {
+    let new = with_changes(alloc, page, pairs)?;
+    let long = is_too_long(new.as_str());
+    if long {
         return Err(EditRefusal::NewPageTooLong);
     }
     Ok(new)
@@ -127,7 +163,8 @@ pub fn edit<'t, 'a>(
     ensures { (same : Tree → Tree → Bool) → TellsSame same
         → AnswersEdit (edit_answer same page.now (view tree.now) (view edited.now)) result }
 {
-    if let Some(refusal) = check(alloc, tree, edited, false)? {
+    let refused = check(alloc, tree, edited, false)?;
+    if let Some(refusal) = refused {
         return Err(EditRefusal::Check(refusal));
     }
     let pairs = marked_pairs(alloc, tree, edited)?;

@@ -1,6 +1,6 @@
 //! Laws of the new page, which do nothing when they are called.
 
-ghost use Rattle.std.specs.Prelude.{◌≡◌, ℕ, Bool, List, [], length, Option, None, Ok, false};
+ghost use Rattle.std.specs.Prelude.{◌≡◌, ◌↔◌, ℕ, Bool, List, [], length, Option, None, Ok, true, false};
 ghost use Rattle.wt_checks.specs.Checked.{checked};
 ghost use Rattle.wt_tree.specs.Plain.{Plain};
 ghost use Rattle.wt_tree.specs.Tiling.{Covers, InPreorder, Tiled};
@@ -11,6 +11,7 @@ ghost use Rattle.wt_selser.specs.Children.{IsFirstDiffering, differing};
 ghost use Rattle.wt_selser.specs.Changes.{changes, marked};
 ghost use Rattle.wt_selser.specs.Edits.{edit_answer};
 ghost use Rattle.wt_selser.specs.Leaves.{LeavesHoldNoNumber};
+ghost use Rattle.wt_selser.specs.OpenTags.{EndsOpen, ends_open};
 ghost use Rattle.wt_selser.specs.SameNodes.{same_node};
 ghost use Rattle.wt_selser.specs.Splice.{Change, spliced, AreApart, OutsideStands};
 
@@ -50,4 +51,10 @@ pub fn edit_is_a_splice()
     ensures stands { (same : Tree → Tree → Bool) (page new : List ℕ) (tree edited : Tree) → (label tree).kind ≡ kind.Body → InPreorder tree
         → Tiled tree → Covers (length page) tree → LeavesHoldNoNumber tree → edit_answer same page tree edited ≡ Ok new
         → OutsideStands page new (changes same (marked tree edited)) }
+{}
+
+/// A text ends in an open tag exactly where a `<` with an ASCII letter behind it stands in it, and from
+/// there on no `<`, `>` or line break.
+pub fn open_tags()
+    ensures { (text : List ℕ) → (ends_open text ≡ true) ↔ EndsOpen text }
 {}

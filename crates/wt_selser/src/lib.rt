@@ -9,10 +9,12 @@ mod editing;
 mod laws;
 mod open_tag;
 mod refusal;
+mod shown_node;
 
 pub use differing::first_differing;
 pub use editing::edit;
 pub use laws::{
-    differing_is_first, edit_is_a_splice, nodes_are_told, nothing_changes, outside_stands,
+    differing_is_first, edit_is_a_splice, nodes_are_told, nothing_changes, open_tags,
+    outside_stands,
 };
 pub use refusal::{ContentWhy, EditRefusal};

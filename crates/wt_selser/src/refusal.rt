@@ -1,5 +1,7 @@
 //! Why an edit is refused.
 
+ghost use Rattle.std.specs.Prelude.{◌≡◌};
+
 use std::alloc::AllocError;
 use wt_checks::Check;
 use wt_span::NoMemory;
@@ -34,12 +36,20 @@ pub enum EditRefusal {
 }
 
 impl From<NoMemory> for EditRefusal {
+    ghost use Rattle.wt_selser.specs.declared.refusal.EditRefusal.TheVariants as refusals;
+
+    ghost from_gives = { λ _ e. e ≡ refusals.NoMemory };
+
     fn from(_refusal: NoMemory) -> EditRefusal {
         EditRefusal::NoMemory
     }
 }
 
 impl From<AllocError> for EditRefusal {
+    ghost use Rattle.wt_selser.specs.declared.refusal.EditRefusal.TheVariants as refusals;
+
+    ghost from_gives = { λ _ e. e ≡ refusals.NoMemory };
+
     fn from(_refusal: AllocError) -> EditRefusal {
         EditRefusal::NoMemory
     }

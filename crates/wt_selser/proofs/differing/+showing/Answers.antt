@@ -1,0 +1,27 @@
+use Rattle.std.proofs.Common.{sym, ◌∙◌}
+use Rattle.std.proofs.lemmas.List.{drop_all}
+use Rattle.wt_selser.proofs.ShownChildren.{adds_characters, adds_inside, adds_nothing, left_turn, left_none}
+use Rattle.wt_selser.proofs.differing.+showing.Goals as goal
+
+pub push_shown-returns-in_ok-push_text-in-Characters : goal.push_shown-returns-in_ok-push_text-in-Characters
+push_shown-returns-in_ok-push_text-in-Characters t c =
+    adds_characters c.args.shown.now c.push_text-in-Characters.new.shown c.args.node.now c.as_str-in-Characters.result.now (sym c.showing.ensures ∙ c.in-Characters.is)
+    c.as_str-in-Characters.ensures c.in_ok-push_text-in-Characters.ensures
+
+pub push_shown-returns-in_ok-push_all_shown-in-Inside : goal.push_shown-returns-in_ok-push_all_shown-in-Inside
+push_shown-returns-in_ok-push_all_shown-in-Inside t c =
+    adds_inside c.args.shown.now c.push_all_shown-in-Inside.new.shown c.args.node.now c.as_slice-in-Inside.result.now (sym c.showing.ensures ∙ c.in-Inside.is)
+    c.as_slice-in-Inside.ensures c.in_ok-push_all_shown-in-Inside.ensures
+
+pub push_shown-returns-in-Nothing : goal.push_shown-returns-in-Nothing
+push_shown-returns-in-Nothing t c = adds_nothing c.args.shown.now c.args.node.now (sym c.showing.ensures ∙ c.in-Nothing.is)
+
+pub push_all_shown-loop-node-preserved : goal.push_all_shown-loop-node-preserved
+push_all_shown-loop-node-preserved t c =
+    left_turn c.args.shown.now c.loop-node.shown c.push_shown.new.shown c.args.nodes.now c.loop-node.node-index c.node-item.result c.loop-node-test.true
+    c.node-item.is c.loop-node.invariant c.in_ok-push_shown.ensures
+
+pub push_all_shown-returns : goal.push_all_shown-returns
+push_all_shown-returns t c =
+    left_none c.args.shown.now c.loop-node.shown c.args.nodes.now c.loop-node.node-index
+    (drop_all c.loop-node.node-index c.args.nodes.now c.loop-node-test.false) c.loop-node.invariant

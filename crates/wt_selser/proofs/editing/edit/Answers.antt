@@ -1,0 +1,19 @@
+use Rattle.std.proofs.Common.{ap, ◌∙◌, subst, List, ℕ}
+use Rattle.std.specs.Prelude.{Result}
+use Rattle.wt_tree.specs.View.{view}
+use Rattle.wt_selser.specs.declared.refusal.EditRefusal.{EditRefusal}
+use Rattle.wt_selser.specs.Edits.{AnswersEdit}
+use Rattle.wt_selser.specs.Views.{pairs_of}
+use Rattle.wt_selser.proofs.Answering.{checked_answer, unchecked_answer}
+use Rattle.wt_selser.proofs.editing.edit.Goals as goal
+
+pub returns-in-Some : goal.returns-in-Some
+returns-in-Some c = λ same tells.
+    checked_answer same c.args.page.now (view c.args.tree.now) (view c.args.edited.now) c.in_ok-refused.refused c.in-Some.refusal c.in_ok-refused.ensures
+    c.in-Some.is
+
+pub returns : goal.returns
+returns c = λ same tells.
+    subst (λ (a : Result (List ℕ) EditRefusal). AnswersEdit a c.new_page.result)
+    (unchecked_answer same c.args.page.now (view c.args.tree.now) (view c.args.edited.now) c.in_ok-refused.refused (pairs_of c.as_slice.result.now)
+    c.in_ok-refused.ensures c.in_default.is (ap pairs_of c.as_slice.ensures.value ∙ c.in_ok-pairs.ensures)) (c.new_page.ensures same tells)
