@@ -12,6 +12,7 @@ use Rattle.wt_html_in.specs.declared.refusal.HtmlRefusal.TheVariants as refusals
 use Rattle.wt_checks.specs.declared.refusal.Check.{Check}
 use Rattle.wt_checks.specs.Checked.{checked}
 use Rattle.wt_page_round_trip.specs.PageTree.{page_tree}
+use Rattle.wt_page_round_trip.proofs.PageTrees.{page_tiled, page_covered, page_numbered}
 use Rattle.wt_selser.specs.declared.refusal.EditRefusal.{EditRefusal}
 use Rattle.wt_selser.specs.declared.refusal.EditRefusal.TheVariants as of_edit
 use Rattle.wt_selser.specs.Changes.{marked, changes}
@@ -20,17 +21,19 @@ use Rattle.wt_selser.specs.Edits.{edit_answer, unless_refused, if_short, most_by
 use Rattle.wt_selser.specs.SameNodes.{same_node}
 use Rattle.wt_selser.specs.Splice.{spliced}
 use Rattle.wt_selser.proofs.DifferingLaws.{differing_is, none_same}
+use Rattle.wt_selser.proofs.EditChains.{edit_stands}
 use Rattle.wt_pagetool.specs.declared.output.Output.{Output}
 use Rattle.wt_pagetool.specs.declared.refusal.Refusal.{Refusal}
 use Rattle.wt_pagetool.specs.declared.command.Command.TheVariants.{Edit}
 use Rattle.wt_pagetool.specs.Refusals.{refusal_of_edit}
 use Rattle.wt_pagetool.specs.Words.{command_of}
-use Rattle.wt_pagetool.specs.Answers.{done, unbuilt_place, IsAnswered, input_answer, unspelled_by, unspelled_answer, new_answer, edit_by, edited_answer, edit_of, edit_told, answer_told}
+use Rattle.wt_pagetool.specs.Answers.{done, page_answer, unbuilt_place, IsAnswered, input_answer, unspelled_by, unspelled_answer, new_answer, edit_by, edited_answer, edit_of, edit_told, answer_told}
 use Rattle.wt_pagetool.specs.Causes.{Answered, Refuses, refusal_of}
 use Rattle.wt_pagetool.specs.Reports.{new_page, WroteEdit}
 use Rattle.wt_pagetool.proofs.AnswerLaws.{input_done}
-use Rattle.wt_pagetool.proofs.PageLaws.{page_text, page_answered, page_made, stands_made}
-use Rattle.wt_pagetool.proofs.ShownLaws.{same_shown, page_face, read_face}
+use Rattle.wt_pagetool.proofs.LeavesLaws.{page_leaves}
+use Rattle.wt_pagetool.proofs.PageLaws.{text_of, page_text, page_answered, page_made, stands_made}
+use Rattle.wt_pagetool.proofs.ShownLaws.{same_shown, page_body, page_face, read_face}
 
 -- ---- the new page
 
@@ -158,6 +161,9 @@ wrote_edit stands input bytes left old new e ended wrote =
     let h = stands_made stands (λ page. input_answer (edited_answer page) input) bytes e in
     let m = input_done (edited_answer h.0) input bytes h.3 in
     let d = edited_done h.0 (read input) bytes m.1 in
+    let is : page_answer (Some h.0) (λ page. input_answer (edited_answer page) input) ≡ done bytes =
+    subst (λ o. page_answer o (λ page. input_answer (edited_answer page) input) ≡ done bytes) h.1 e in
+    let old_page = page_made h.0 bytes (λ page. input_answer (edited_answer page) input) is in
     record {
       page = h.0;
       edited = d.0;
@@ -169,6 +175,8 @@ wrote_edit stands input bytes left old new e ended wrote =
       allowed = d.3.allowed;
       unrefused = d.3.answer;
       wrote = subst (Appends old new) d.3.is wrote;
+      outside = edit_stands same_node h.0 (new_page h.0 d.0) (page_tree h.0) d.0 (page_body h.0 h.2) (page_numbered h.0) (page_tiled h.0)
+          (page_covered h.0) (page_leaves h.0 old_page.within (text_of h.0 old_page.text) h.2) d.3.answer;
       answered = d.3.answered;
       shows = same_shown (page_tree (new_page h.0 d.0)) d.0 (page_face (new_page h.0 d.0) d.3.built) (read_face input d.0 d.1 d.2) d.3.shows;
     }

@@ -4,6 +4,7 @@ mod Cases
 pub mod EditLaws
 pub mod ExpandLaws
 pub mod GivenBackLaws
+pub mod LeavesLaws
 pub mod PageLaws
 pub mod RefusalLines
 pub mod RunLaws

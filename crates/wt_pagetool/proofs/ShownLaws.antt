@@ -1,6 +1,6 @@
 -- Two bodies that show the same children have one plain view. The bodies of a page and of what is read have one face: no
 -- attribute and no data.
-use Rattle.std.proofs.Common.{◌≡◌, ℕ, suc, List, [], ◌∷◌, Bool, true, false, cond, refl, sym, ap, ◌∙◌}
+use Rattle.std.proofs.Common.{◌≡◌, ℕ, suc, List, [], Bool, true, false, cond, refl, sym, ap, ◌∙◌}
 use Rattle.std.specs.Prelude.{length, codes, Option, Some, None, Result, Ok, Err}
 use Rattle.wt_tree.specs.declared.kind.Kind.TheVariants as kind
 use Rattle.wt_tree.specs.declared.node.DataMw.{DataMw}
@@ -24,7 +24,7 @@ use Rattle.wt_html_grammar.specs.Machine.{State, start, run}
 use Rattle.wt_html_grammar.specs.Markup.{Pair, Markup, Markups, empty, more}
 use Rattle.wt_html_grammar.specs.Places.{is_accepted}
 use Rattle.wt_fitting.specs.declared.why.FitWhy.TheVariants as why
-use Rattle.wt_fitting.specs.Attributes.{value_of, has}
+use Rattle.wt_fitting.specs.Attributes.{value_of}
 use Rattle.wt_fitting.specs.Data.{Data, data_of, both, sync_fits, mw_for, mw_fits}
 use Rattle.wt_fitting.specs.Fit.{Misfit, label_for, texts_in, text_fits, with_children, children_in, within, fit_nodes, Found, body_of, fit_body_told, body_data, fit_body, fit}
 use Rattle.wt_fitting.specs.Groups.{Piece}

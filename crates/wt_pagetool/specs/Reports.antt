@@ -15,7 +15,7 @@ use Rattle.wt_checks.specs.Checked.{checked}
 use Rattle.wt_selser.specs.Changes.{marked, changes}
 use Rattle.wt_selser.specs.Edits.{edit_answer}
 use Rattle.wt_selser.specs.SameNodes.{same_node}
-use Rattle.wt_selser.specs.Splice.{spliced}
+use Rattle.wt_selser.specs.Splice.{spliced, OutsideStands}
 use Rattle.wt_pagetool.specs.declared.limits.TheConstants.{HTML_BYTES}
 use Rattle.wt_pagetool.specs.declared.status.Status.{Status}
 use Rattle.wt_pagetool.specs.declared.status.Status.TheVariants as status
@@ -119,8 +119,9 @@ abbrev pub new_page : List ℕ → Tree → List ℕ
 new_page page edited = spliced page (changes same_node (marked (page_tree page) edited))
 
 -- A page stands under the title, and the whole input for an edited tree that differs from the page's only where it may;
--- nothing refuses the edit, `out` took the new page, which nothing refuses, and the plain view of its tree is that of the
--- edited tree.
+-- nothing refuses the edit, and `out` took the new page, in which all that stands outside the insides of the marked nodes
+-- stands as in the page, byte for byte and in its order. Nothing refuses the new page, and the plain view of its tree is that
+-- of the edited tree.
 pub record WroteEdit (stands : Option (List ℕ)) (input : List ℕ) (left old new : Option (List ℕ)) : Type 0 where
   pub page : List ℕ
   pub edited : Tree
@@ -132,5 +133,6 @@ pub record WroteEdit (stands : Option (List ℕ)) (input : List ℕ) (left old n
   pub allowed : checked false (page_tree page) edited ≡ None
   pub unrefused : edit_answer same_node page (page_tree page) edited ≡ Ok (new_page page edited)
   pub wrote : Appends old new (new_page page edited)
+  pub outside : OutsideStands page (new_page page edited) (changes same_node (marked (page_tree page) edited))
   pub answered : IsAnswered (new_page page edited)
   pub shows : plain (page_tree (new_page page edited)) ≡ plain edited

@@ -104,7 +104,8 @@ pub fn run<S: Source, F: Folder, W: Sink, E: Sink>(
         (λ bytes. WroteSource bytes (S.left input.new) (W.taken out.old) (W.taken out.new)) }
 
     // `edit`, when it is done, read the input to its end and wrote the new page: the page with the inside of
-    // each marked node, and nothing else, written anew. What the new page shows is what the edited tree shows.
+    // each marked node, and nothing else, written anew; every byte outside these insides stands in the new page, in
+    // its order. The plain view of the new page's tree is that of the edited tree.
     ensures edit { (title : List ℕ) → command_of words.now ≡ Some (Command.Edit title) → result ≡ code Status.Done
         → IfSome (F.pages folder.old) (λ pages. IfSome (S.left input.old)
         (λ bytes. WroteEdit (pages title) bytes (S.left input.new) (W.taken out.old) (W.taken out.new))) }
