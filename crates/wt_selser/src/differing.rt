@@ -59,8 +59,9 @@ fn push_element<'t, 'a>(
     requires { showing (out-Node node.now).kind ≡ Element }
     ensures { OnOk result (Adds shown.old shown.new (plain_before (view node.now))) }
 {
+    let element = ShownNode::of(node);
     end_text(alloc, shown)?;
-    shown.done.push(Child::Element(ShownNode { node }))?;
+    shown.done.push(Child::Element(element))?;
     Ok(())
 }
 
@@ -156,14 +157,16 @@ fn common_len(
 ) -> Result<usize, NoMemory>
     ensures { IfOk result (IsCommonLen (children_view left.now) (children_view right.now)) }
 {
-    let count = left.len().min(right.len());
-    for at in 0..count {
+    for at in 0..left.len() {
+        if at >= right.len() {
+            return Ok(at);
+        }
         let same = is_same(alloc, &left[at], &right[at])?;
         if !same {
             return Ok(at);
         }
     }
-    Ok(count)
+    Ok(left.len())
 }
 
 /// The number of the child at a place, counted from 1. A number past 32 bits is answered as want of
@@ -177,16 +180,31 @@ fn number_at(at: usize) -> Result<u32, NoMemory>
     Ok(at as u32 + 1)
 }
 
+/// The number, from 1, of the first place in which two lists of children differ.
+fn first_of_children(
+    alloc: Global,
+    left: &[Child<'_, '_>],
+    right: &[Child<'_, '_>],
+) -> Result<Option<u32>, NoMemory>
+    ensures { IfOk result (IsFirstDiffering (children_view left.now) (children_view right.now)) }
+{
+    let common = common_len(alloc, left, right)?;
+    let number = number_at(common)?;
+    if common < left.len() {
+        return Ok(Some(number));
+    }
+    if common < right.len() {
+        return Ok(Some(number));
+    }
+    Ok(None)
+}
+
 /// The number, from 1, of the first child in which two bodies differ, or None where they show the same.
 pub fn first_differing(alloc: Global, a: &Node<'_>, b: &Node<'_>) -> Result<Option<u32>, NoMemory>
     ensures { IfOk result (IsFirstDiffering (shown_children (view a.now)) (shown_children (view b.now))) }
 {
     let left = shown_children(alloc, a)?;
     let right = shown_children(alloc, b)?;
-    let common = common_len(alloc, left.as_slice(), right.as_slice())?;
-    if common >= left.len() && common >= right.len() {
-        return Ok(None);
-    }
-    let number = number_at(common)?;
-    Ok(Some(number))
+    let found = first_of_children(alloc, left.as_slice(), right.as_slice())?;
+    Ok(found)
 }

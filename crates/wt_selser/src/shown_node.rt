@@ -13,3 +13,13 @@ pub struct ShownNode<'t, 'a> {
     pub node: &'t Node<'a>,
     pub ghost element: { showing (out-Node node.now).kind ≡ Element },
 }
+
+impl<'t, 'a> ShownNode<'t, 'a> {
+    /// A node whose kind shows an element.
+    pub fn of(node: &'t Node<'a>) -> ShownNode<'t, 'a>
+        requires { showing (out-Node node.now).kind ≡ Element }
+        ensures { result.node.now ≡ node.now }
+    {
+        ShownNode { node }
+    }
+}

@@ -5,13 +5,13 @@ use Rattle.wt_selser.proofs.differing.+showing.Goals as goal
 
 pub push_shown-returns-in_ok-push_text-in-Characters : goal.push_shown-returns-in_ok-push_text-in-Characters
 push_shown-returns-in_ok-push_text-in-Characters t c =
-    adds_characters c.args.shown.now c.push_text-in-Characters.new.shown c.args.node.now c.as_str-in-Characters.result.now (sym c.showing.ensures ∙ c.in-Characters.is)
-    c.as_str-in-Characters.ensures c.in_ok-push_text-in-Characters.ensures
+    adds_characters c.args.shown.now c.push_text.new.shown c.args.node.now c.as_str.result.now (sym c.showing.ensures ∙ c.in-Characters.is)
+    c.as_str.ensures c.in_ok-push_text-in-Characters.ensures
 
 pub push_shown-returns-in_ok-push_all_shown-in-Inside : goal.push_shown-returns-in_ok-push_all_shown-in-Inside
 push_shown-returns-in_ok-push_all_shown-in-Inside t c =
-    adds_inside c.args.shown.now c.push_all_shown-in-Inside.new.shown c.args.node.now c.as_slice-in-Inside.result.now (sym c.showing.ensures ∙ c.in-Inside.is)
-    c.as_slice-in-Inside.ensures c.in_ok-push_all_shown-in-Inside.ensures
+    adds_inside c.args.shown.now c.push_all_shown.new.shown c.args.node.now c.as_slice.result.now (sym c.showing.ensures ∙ c.in-Inside.is)
+    c.as_slice.ensures c.in_ok-push_all_shown-in-Inside.ensures
 
 pub push_shown-returns-in-Nothing : goal.push_shown-returns-in-Nothing
 push_shown-returns-in-Nothing t c = adds_nothing c.args.shown.now c.args.node.now (sym c.showing.ensures ∙ c.in-Nothing.is)
