@@ -2,3 +2,4 @@ mod Cases
 pub mod Outside
 pub mod SameTells
 pub mod DifferingLaws
+pub mod Urls

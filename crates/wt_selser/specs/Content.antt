@@ -1,12 +1,12 @@
 -- What may stand in the content of a marked node: text, the block's own inline nodes, and new bold, italic, links and line breaks.
-use Rattle.std.specs.Prelude.{ℕ, ◌+◌, ◌==◌, ◌&&◌, ◌||◌, Bool, true, false, not, is_some, Option, Some, None, List, [], ◌∷◌, ◌++◌, map, length, nat_lt, if◌then◌else◌}
+use Rattle.std.specs.Prelude.{ℕ, ◌+◌, ◌==◌, ◌&&◌, ◌||◌, Bool, true, false, not, is_some, Option, Some, None, List, [], ◌∷◌, ◌++◌, length, nat_lt, if◌then◌else◌}
 use Rattle.std.specs.List.{list_any}
 use Rattle.wt_names.specs.Written.{read_link}
-use Rattle.wt_tree.specs.declared.kind.Kind.{Kind}
-use Rattle.wt_tree.specs.declared.kind.Kind.TheVariants as kind
 use Rattle.wt_tree.specs.Tree.{Label, Tree, tree, Trees, none, more, label}
-use Rattle.wt_tiles.specs.declared.glyph.Glyph.TheVariants as glyph
-use Rattle.wt_tiles.specs.Urls.{scheme_len, url_items}
+use Rattle.wt_tiles.specs.Glyphs.{byte_glyphs}
+use Rattle.wt_tiles.specs.Urls.{scheme_len, url_items, is_url_char}
+use Rattle.wt_kept.specs.declared.kinds.BlockForm.{BlockForm}
+use Rattle.wt_kept.specs.declared.kinds.BlockForm.TheVariants as form
 use Rattle.wt_kept.specs.declared.kinds.Way.{Way}
 use Rattle.wt_kept.specs.declared.kinds.Way.TheVariants as way
 use Rattle.wt_kept.specs.Kinds.{shape}
@@ -21,10 +21,14 @@ use Rattle.wt_selser.specs.declared.content.Spot.{Spot}
 
 -- ---- links
 
+-- a URL goes on with a byte: it is no other end of one, and no apostrophe stands before an apostrophe
+abbrev pub goes_on : Bool → ℕ → Bool
+goes_on after b = is_url_char b && not (after && b == 39)
+
 -- a URL in whole: the beginning of one, and URL items that are at least one and all the rest
 abbrev pub is_url : List ℕ → Bool
 is_url bs =
-    let gs = map glyph.Byte bs in
+    let gs = byte_glyphs bs in
     let items = length (url_items gs) in
     nat_lt 0 (scheme_len gs) && (nat_lt 0 items && scheme_len gs + items == length gs)
 
@@ -91,6 +95,19 @@ own_faults way.ExternalLink x s l = unless_same s (link_fault (is_url (href_of l
 own_faults way.Tag x s l = if_new s
 own_faults way.Break x s l = if_changed s
 own_faults way.AsItStood x s l = unless_same s (why.Element ∷ [])
+
+-- for all but texts, bold and italic it counts how they stand to the page
+abbrev pub asks_page : Way → Bool
+asks_page way.Nothing = false
+asks_page way.Characters = false
+asks_page way.Bold = false
+asks_page way.Italic = false
+asks_page way.Shown = true
+asks_page way.PageLink = true
+asks_page way.ExternalLink = true
+asks_page way.Tag = true
+asks_page way.Break = true
+asks_page way.AsItStood = true
 
 -- whether what it holds is looked into: always of bold and italic, and of other nodes where they aren't as they were
 abbrev pub is_same : Standing → Bool
@@ -163,14 +180,20 @@ first_why ws =
     (if list_any is_href ws then Some why.Href else
     (if list_any is_line_break ws then Some why.LineBreak else (if list_any is_nested ws then Some why.Nested else None)))
 
-abbrev pub is_paragraph : Kind → Bool
-is_paragraph kind.Para = true
-is_paragraph k = false
+abbrev pub is_paragraph : BlockForm → Bool
+is_paragraph form.Paragraph = true
+is_paragraph (form.Heading n) = false
+is_paragraph form.Rule = false
+is_paragraph form.Item = false
+is_paragraph form.NoBlock = false
+
+-- where the children of a marked node stand
+abbrev pub outermost : Tree → Spot
+outermost old = record { in_paragraph = is_paragraph (shape (label old).kind).form; in_link = false }
 
 abbrev pub held : Tree → Trees
 held (tree l ts) = ts
 
 -- why the content of `new` can't be written, which was `old` in the page
 unfoldable pub bad_content : (Tree → Tree → Bool) → Tree → Tree → Option ContentWhy
-bad_content same old new =
-    first_why (all_faults (page_of same old) (record { in_paragraph = is_paragraph (label old).kind; in_link = false }) (held new))
+bad_content same old new = first_why (all_faults (page_of same old) (outermost old) (held new))

@@ -9,6 +9,7 @@ mod editing;
 mod laws;
 mod open_tag;
 mod refusal;
+mod url;
 
 pub use differing::first_differing;
 pub use editing::edit;
