@@ -3,3 +3,6 @@ pub mod Outside
 pub mod SameTells
 pub mod DifferingLaws
 pub mod Urls
+pub mod Faulting
+pub mod TypedStands
+mod ContentCases

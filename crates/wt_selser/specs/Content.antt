@@ -76,8 +76,11 @@ unless_same stands.Same ws = []
 abbrev pub link_fault : Bool → List ContentWhy
 link_fault good = if good then [] else why.Href ∷ []
 
+abbrev pub has_break : List ℕ → Bool
+has_break text = list_any (λ b. b == 10) text
+
 abbrev pub break_fault : Bool → List ℕ → List ContentWhy
-break_fault in_paragraph text = if not in_paragraph && list_any (λ b. b == 10) text then why.LineBreak ∷ [] else []
+break_fault in_paragraph text = if not in_paragraph && has_break text then why.LineBreak ∷ [] else []
 
 abbrev pub nested_fault : Bool → List ContentWhy
 nested_fault nested = if nested then why.Nested ∷ [] else []

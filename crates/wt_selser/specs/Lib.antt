@@ -6,3 +6,4 @@ pub mod Children
 pub mod Edits
 pub mod Views
 pub mod SameNodes
+pub mod Typed

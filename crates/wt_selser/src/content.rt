@@ -1,8 +1,7 @@
 //! What may stand in the inside of a marked node: text, the block's own inline nodes, and new bold,
 //! italic, links and line breaks.
 
-ghost use Rattle.std.specs.Prelude.{◌≡◌, ◌&&◌, ◌++◌, ◌==◌, ◌∷◌, Bool, List, [], Some, is_some, IfOk, OnOk};
-ghost use Rattle.std.specs.List.{list_any};
+ghost use Rattle.std.specs.Prelude.{◌≡◌, ◌&&◌, ◌++◌, ◌∷◌, Bool, List, [], Some, is_some, IfOk, OnOk};
 ghost use Rattle.wt_names.specs.Written.{read_link};
 ghost use Rattle.wt_tree.specs.Tree.{Tree};
 ghost use Rattle.wt_tree.specs.View.{label_of, view, views};
@@ -11,7 +10,7 @@ ghost use Rattle.wt_kept.specs.Page.{TellsSame};
 ghost use Rattle.wt_kept.specs.Gathered.{kept_view};
 ghost use Rattle.wt_kept.specs.PageViews.{page_view};
 ghost use Rattle.wt_escape.specs.Spelling.{href_of};
-ghost use Rattle.wt_selser.specs.Content.{all_faults, asks_page, bad_content, below, faults, first_why, if_any, is_link, is_open, is_paragraph, is_same, link_fault, nested_fault, outermost, own_faults, standing, standing_of, unless_same};
+ghost use Rattle.wt_selser.specs.Content.{all_faults, asks_page, bad_content, below, faults, first_why, has_break, if_any, is_link, is_open, is_paragraph, is_same, link_fault, nested_fault, outermost, own_faults, standing, standing_of, unless_same};
 ghost use Rattle.wt_selser.specs.Views.{CountsAs, HasFaults};
 
 use crate::refusal::ContentWhy;
@@ -121,7 +120,7 @@ fn is_link(way: Way) -> bool
 // ---- one node
 
 fn has_break(text: &[u8]) -> bool
-    ensures { result ≡ list_any (λ b. b == 10) text.now }
+    ensures { result ≡ has_break text.now }
 {
     for byte in text {
         if *byte == b'\n' {

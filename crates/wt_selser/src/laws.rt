@@ -1,11 +1,14 @@
 //! Laws of the new page, which do nothing when they are called.
 
-ghost use Rattle.std.specs.Prelude.{◌≡◌, ℕ, List, [], length, Option, None};
+ghost use Rattle.std.specs.Prelude.{◌≡◌, ℕ, Bool, true, List, [], length, Option, None};
 ghost use Rattle.wt_tree.specs.Plain.{Plain};
+ghost use Rattle.wt_tree.specs.Tree.{Tree};
 ghost use Rattle.wt_kept.specs.Page.{TellsSame};
 ghost use Rattle.wt_selser.specs.Children.{IsFirstDiffering, differing};
+ghost use Rattle.wt_selser.specs.Content.{bad_content, held, outermost};
 ghost use Rattle.wt_selser.specs.SameNodes.{same_node};
 ghost use Rattle.wt_selser.specs.Splice.{Change, spliced, AreApart, OutsideStands};
+ghost use Rattle.wt_selser.specs.Typed.{are_typed};
 
 /// Where the slices stand in the page one after the other, what stands outside them stands in the
 /// new page byte for byte and in its order, and between it what was written for each slice.
@@ -30,4 +33,10 @@ pub fn nodes_are_told()
 pub fn differing_is_first()
     ensures told { (xs ys : List Plain) → (r : Option ℕ) → IsFirstDiffering xs ys r → r ≡ differing 1 xs ys }
     ensures same { (xs ys : List Plain) → differing 1 xs ys ≡ None → xs ≡ ys }
+{}
+
+/// Nothing is wrong with a content of text, bold and italic, where line breaks stand directly in a paragraph alone.
+#[tactic(auto, using(crate::proofs::TypedStands::typed_stands))]
+pub fn typed_text_stands()
+    ensures { (same : Tree → Tree → Bool) (old new : Tree) → are_typed (outermost old).in_paragraph (held new) ≡ true → bad_content same old new ≡ None }
 {}

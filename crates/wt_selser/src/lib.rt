@@ -13,5 +13,7 @@ mod url;
 
 pub use differing::first_differing;
 pub use editing::edit;
-pub use laws::{differing_is_first, nodes_are_told, nothing_changes, outside_stands};
+pub use laws::{
+    differing_is_first, nodes_are_told, nothing_changes, outside_stands, typed_text_stands,
+};
 pub use refusal::{ContentWhy, EditRefusal};
