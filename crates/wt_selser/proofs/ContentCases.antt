@@ -84,7 +84,7 @@ other_scheme = refl
 link_to_page : bad_content same (para (text (codes "a") ∷ []))
     (para (text (codes "see ") ∷ linked kind.WikiLink (codes "./Oder") (text (codes "it") ∷ []) ∷ [])) ≡ None
 unfolding bad_content shape kept_with chars read_link read_text is_allowed is_forbidden title_in whole_in cut_namespace namespace_named
-    is_called is_good full_name_of prefix_of has_signature is_step begins_with_step holds_step ends_with_step is_utf8 percent_decode image
+    is_called is_good full_name_of prefix_of has_signature is_step begins_with_step holds_step ends_with_step is_utf8 percent_decode image lib.Utf8.encode
 link_to_page = refl
 
 link_to_nothing : bad_content same (para []) (para (linked kind.WikiLink (codes "Oder") (text (codes "it") ∷ []) ∷ [])) ≡ Some Href

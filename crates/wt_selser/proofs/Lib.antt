@@ -6,3 +6,5 @@ pub mod Urls
 pub mod Faulting
 pub mod TypedStands
 mod ContentCases
+pub mod FirstReason
+pub mod UrlsRead

@@ -197,6 +197,10 @@ outermost old = record { in_paragraph = is_paragraph (shape (label old).kind).fo
 abbrev pub held : Tree → Trees
 held (tree l ts) = ts
 
--- why the content of `new` can't be written, which was `old` in the page
+-- what is wrong in the content of `new`, which was `old` in the page
+abbrev pub content_faults : (Tree → Tree → Bool) → Tree → Tree → List ContentWhy
+content_faults same old new = all_faults (page_of same old) (outermost old) (held new)
+
+-- why it can't be written
 unfoldable pub bad_content : (Tree → Tree → Bool) → Tree → Tree → Option ContentWhy
-bad_content same old new = first_why (all_faults (page_of same old) (outermost old) (held new))
+bad_content same old new = first_why (content_faults same old new)

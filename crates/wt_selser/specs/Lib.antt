@@ -7,3 +7,4 @@ pub mod Edits
 pub mod Views
 pub mod SameNodes
 pub mod Typed
+pub mod ContentLaws

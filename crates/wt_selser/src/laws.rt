@@ -5,7 +5,8 @@ ghost use Rattle.wt_tree.specs.Plain.{Plain};
 ghost use Rattle.wt_tree.specs.Tree.{Tree};
 ghost use Rattle.wt_kept.specs.Page.{TellsSame};
 ghost use Rattle.wt_selser.specs.Children.{IsFirstDiffering, differing};
-ghost use Rattle.wt_selser.specs.Content.{bad_content, held, outermost};
+ghost use Rattle.wt_selser.specs.Content.{bad_content, content_faults, held, is_url, outermost};
+ghost use Rattle.wt_selser.specs.ContentLaws.{IsFirstReason, IsReadWhole};
 ghost use Rattle.wt_selser.specs.SameNodes.{same_node};
 ghost use Rattle.wt_selser.specs.Splice.{Change, spliced, AreApart, OutsideStands};
 ghost use Rattle.wt_selser.specs.Typed.{are_typed};
@@ -39,4 +40,16 @@ pub fn differing_is_first()
 #[tactic(auto, using(crate::proofs::TypedStands::typed_stands))]
 pub fn typed_text_stands()
     ensures { (same : Tree → Tree → Bool) (old new : Tree) → are_typed (outermost old).in_paragraph (held new) ≡ true → bad_content same old new ≡ None }
+{}
+
+/// The reason that is answered is there, and none that would be named before it.
+#[tactic(auto, using(crate::proofs::FirstReason::first_reason))]
+pub fn first_reason()
+    ensures { (same : Tree → Tree → Bool) (old new : Tree) → IsFirstReason (content_faults same old new) (bad_content same old new) }
+{}
+
+/// A URL that a new link may have is read as it stands, whatever follows that doesn't belong to URLs.
+#[tactic(auto, using(crate::proofs::UrlsRead::read_whole))]
+pub fn urls_are_read()
+    ensures { (bs : List ℕ) → is_url bs ≡ true → IsReadWhole bs }
 {}

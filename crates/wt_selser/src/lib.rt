@@ -14,6 +14,7 @@ mod url;
 pub use differing::first_differing;
 pub use editing::edit;
 pub use laws::{
-    differing_is_first, nodes_are_told, nothing_changes, outside_stands, typed_text_stands,
+    differing_is_first, first_reason, nodes_are_told, nothing_changes, outside_stands,
+    typed_text_stands, urls_are_read,
 };
 pub use refusal::{ContentWhy, EditRefusal};
