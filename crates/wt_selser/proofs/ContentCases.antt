@@ -3,7 +3,7 @@ use Rattle.std.proofs.Common.{◌≡◌, ℕ, Some, None, List, [], ◌∷◌, �
 use Rattle.std.specs.Prelude.{codes, Bool, true, false}
 use Rattle.std.specs.Str.{chars, is_utf8}
 use Rattle.percent_encoding.specs.Percent.{percent_decode}
-use Rattle.wt_names.specs.Namespace.{name_of, image, is_called, namespace_named, prefix_of, full_name_of}
+use Rattle.wt_names.specs.Namespace.{image, is_called, namespace_named, prefix_of, full_name_of}
 use Rattle.wt_names.specs.Reading.{whole_in, cut_namespace, title_in}
 use Rattle.wt_names.specs.Good.{is_forbidden, is_allowed, has_signature, is_step, begins_with_step, holds_step, ends_with_step, is_good, read_text}
 use Rattle.wt_names.specs.Written.{read_link}

@@ -1,12 +1,12 @@
 -- The reason that is answered is the first by its order.
-use Rattle.std.proofs.Common.{◌≡◌, ℕ, ◌<◌, Bool, true, false, List, [], ◌∷◌, refl, sym, ◌∙◌, Option, Some, None, arith, subst}
+use Rattle.std.proofs.Common.{◌≡◌, ◌<◌, Bool, true, false, List, [], ◌∷◌, refl, Some, None, arith, subst}
 use Rattle.std.specs.Prelude.{if◌then◌else◌}
 use Rattle.std.specs.List.{Contains, list_any, slice_index_or}
 use Rattle.std.proofs.lemmas.List.Folds.{Any-from_list_any, list_any-from_Any}
 use Rattle.wt_tree.specs.Tree.{Tree}
 use Rattle.wt_selser.specs.declared.refusal.ContentWhy.{ContentWhy}
 use Rattle.wt_selser.specs.declared.refusal.ContentWhy.TheVariants as why
-use Rattle.wt_selser.specs.Content.{bad_content, content_faults, first_why, is_element, is_href, is_line_break, is_nested}
+use Rattle.wt_selser.specs.Content.{bad_content, content_faults, is_element, is_href, is_line_break, is_nested}
 use Rattle.wt_selser.specs.ContentLaws.{order, IsFirstReason}
 
 -- a test that one reason alone passes

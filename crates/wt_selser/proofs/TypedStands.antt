@@ -11,7 +11,7 @@ use Rattle.wt_selser.specs.declared.content.Spot.{Spot}
 use Rattle.wt_selser.specs.declared.content.Standing.{Standing}
 use Rattle.wt_selser.specs.declared.refusal.ContentWhy.{ContentWhy}
 use Rattle.wt_selser.specs.declared.refusal.ContentWhy.TheVariants as why
-use Rattle.wt_selser.specs.Content.{all_faults, bad_content, below, break_fault, faults, faults_by, first_why, has_break, held, is_link, nested_fault, outermost, standing}
+use Rattle.wt_selser.specs.Content.{all_faults, bad_content, below, faults, faults_by, first_why, has_break, held, nested_fault, outermost, standing}
 use Rattle.wt_selser.specs.Typed.{typed_by, is_typed, are_typed}
 
 no_link : (b : Bool) → nested_fault (b && false) ≡ []

@@ -1,29 +1,21 @@
 -- A URL in whole, byte by byte.
-use Rattle.std.proofs.Common.{◌≡◌, ℕ, suc, ◌+◌, ◌-◌, ◌<◌, ◌≤◌, ◌==◌, Bool, true, false, List, [], ◌∷◌, length, take, drop, nat_lt, refl, sym, ap, ◌∙◌, arith}
-use Rattle.std.specs.Prelude.{◌&&◌, not, codes}
+use Rattle.std.proofs.Common.{◌≡◌, ℕ, ◌+◌, ◌-◌, ◌<◌, ◌≤◌, ◌==◌, Bool, true, false, List, [], ◌∷◌, length, take, drop, nat_lt, refl, sym, ap, ◌∙◌, arith}
+use Rattle.std.specs.Prelude.{◌&&◌, not}
 use Rattle.std.proofs.lemmas.Bool.Decides.{nat_tests}
 use Rattle.std.proofs.lemmas.Grind.{common_steps}
 use Rattle.std.proofs.lemmas.List.{drop-map, length-map}
+use Rattle.wt_tiles.proofs.UrlFits.{url_run_le}
+use Rattle.wt_tiles.proofs.Words.{and_right}
 use Rattle.wt_tiles.specs.declared.glyph.Glyph.{Glyph}
 use Rattle.wt_tiles.specs.declared.glyph.Glyph.TheVariants as glyph
-use Rattle.wt_tiles.specs.Glyphs.{begins, begins_like, byte_glyphs}
-use Rattle.wt_tiles.specs.Urls.{is_url_char, url_run, url_items, scheme_len}
-use Rattle.wt_selser.specs.Content.{goes_on, is_url}
-
--- a word that is longer than the bytes doesn't begin them
-pub begins_like_short : (word bs : List ℕ) → length bs < length word → begins_like word (byte_glyphs bs) ≡ false
-begins_like_short [] bs h = absurd (omega arith)
-begins_like_short (w ∷ word) [] h = refl
-begins_like_short (w ∷ word) (b ∷ bs) h = grind (arith, common_steps, begins_like_short word bs)
+use Rattle.wt_tiles.specs.Glyphs.{begins, begins_like, byte_glyphs, like_byte}
+use Rattle.wt_tiles.specs.Urls.{is_url_char, url_run, scheme_len}
+use Rattle.wt_selser.specs.Content.{is_url}
 
 -- all bytes from here on belong to the URL; `after` tells whether an apostrophe stands before them
 abbrev pub go_on : Bool → List ℕ → Bool
 go_on after [] = true
-go_on after (b ∷ bs) = goes_on after b && go_on (b == 39) bs
-
-pub run_within : (gs : List Glyph) → url_run gs ≤ length gs
-run_within [] = omega arith
-run_within (g ∷ gs) = grind (arith, common_steps, run_within gs)
+go_on after (b ∷ bs) = (is_url_char b && not (after && b == 39)) && go_on (b == 39) bs
 
 -- after an apostrophe no other one may stand first
 pub after_apostrophe : (bs : List ℕ) → go_on true bs ≡ (not (begins (39 ∷ []) (byte_glyphs bs)) && go_on false bs)
@@ -32,17 +24,17 @@ after_apostrophe (b ∷ bs) = grind (arith, common_steps)
 
 pub run_is_whole : (bs : List ℕ) → (url_run (byte_glyphs bs) == length bs) ≡ go_on false bs
 run_is_whole [] = refl
-run_is_whole (b ∷ bs) = grind (arith, nat_tests, common_steps, run_is_whole bs, after_apostrophe bs, run_within (byte_glyphs bs), length-map bs (λ (c : ℕ). glyph.Byte c))
+run_is_whole (b ∷ bs) = grind (arith, nat_tests, common_steps, run_is_whole bs, after_apostrophe bs, url_run_le (byte_glyphs bs), length-map bs (λ (c : ℕ). glyph.Byte c))
 
 -- ---- a URL in whole, by how many bytes its beginning takes
 
-begins_like_fits : (word bs : List ℕ) → begins_like word (byte_glyphs bs) ≡ true → length word ≤ length bs
-begins_like_fits [] bs e = omega arith
-begins_like_fits (w ∷ word) [] e = cc
-begins_like_fits (w ∷ word) (b ∷ bs) e = grind (arith, common_steps, begins_like_fits word bs)
+pub word_fits : (word : List ℕ) (gs : List Glyph) → begins_like word gs ≡ true → length word ≤ length gs
+word_fits [] gs e = omega arith
+word_fits (w ∷ word) [] e = cc
+word_fits (w ∷ word) (g ∷ gs) e = omega (arith, word_fits word gs (and_right (like_byte w g) (begins_like word gs) e))
 
 pub scheme_fits : (word bs : List ℕ) (b : Bool) → b ≡ begins_like word (byte_glyphs bs) → b ≡ true → length word ≤ length bs
-scheme_fits word bs b h e = begins_like_fits word bs (sym h ∙ e)
+scheme_fits word bs b h e = omega (arith, word_fits word (byte_glyphs bs) (sym h ∙ e), length-map bs (λ (c : ℕ). glyph.Byte c))
 
 abbrev pub is_url_past : List ℕ → ℕ → Bool
 is_url_past bs n =
@@ -61,7 +53,7 @@ past_scheme bs n p q =
     let cut : drop n gs ≡ rest = drop-map (λ (c : ℕ). glyph.Byte c) n bs in
     let shown : length rest ≡ length (drop n bs) = length-map (drop n bs) (λ (c : ℕ). glyph.Byte c) in
     let left : length (drop n bs) ≡ length bs - n = grind (arith, common_steps) in
-    let fits : run ≤ length rest = run_within rest in
+    let fits : run ≤ length rest = url_run_le rest in
     let taken : length (take run rest) ≡ run = grind (arith, common_steps) in
     ap (λ (xs : List Glyph). nat_lt 0 n && (nat_lt 0 (length (take (url_run xs) xs)) && n + length (take (url_run xs) xs) == length gs)) cut
     ∙ ap (λ (k : ℕ). nat_lt 0 n && (nat_lt 0 k && n + k == length gs)) taken

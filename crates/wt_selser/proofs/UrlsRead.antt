@@ -1,11 +1,10 @@
 -- A URL in whole is read as it stands.
-use Rattle.std.proofs.Common.{◌≡◌, ℕ, suc, ◌+◌, ◌-◌, ◌<◌, ◌≤◌, ◌==◌, Bool, true, false, List, [], ◌∷◌, ◌++◌, length, take, drop, nat_lt, refl, sym, ap, ◌∙◌, arith}
+use Rattle.std.proofs.Common.{◌≡◌, ℕ, suc, ◌+◌, ◌-◌, ◌<◌, ◌≤◌, ◌==◌, Bool, true, false, List, [], ◌∷◌, ◌++◌, length, take, drop, nat_lt, refl, ap, ◌∙◌, arith}
 use Rattle.std.specs.Prelude.{◌&&◌, not, codes, if◌then◌else◌}
-use Rattle.std.specs.Char.{to_ascii_lowercase}
 use Rattle.std.proofs.lemmas.Bool.{eqb-true}
 use Rattle.std.proofs.lemmas.Bool.Decides.{nat_tests}
-use Rattle.std.proofs.lemmas.Grind.{common_steps}
-use Rattle.std.proofs.lemmas.List.{length-map, length-drop, length-append, length-take-le, drop-append-le, take-append-le}
+use Rattle.std.proofs.lemmas.List.{length-map, length-drop, length-take-le, drop-append-le, take-append-le}
+use Rattle.wt_tiles.proofs.UrlFits.{scheme_fits, url_run_le}
 use Rattle.wt_tiles.proofs.Words.{and_left, and_right, lt_is}
 use Rattle.wt_tiles.specs.declared.glyph.Glyph.{Glyph}
 use Rattle.wt_tiles.specs.declared.glyph.Glyph.TheVariants as glyph
@@ -13,7 +12,7 @@ use Rattle.wt_tiles.specs.Glyphs.{is_in, like_byte, begins, begins_like, byte_gl
 use Rattle.wt_tiles.specs.Urls.{is_url_char, is_url_glyph, url_run, url_items, scheme_len}
 use Rattle.wt_selser.specs.Content.{is_url}
 use Rattle.wt_selser.specs.ContentLaws.{IsReadWhole}
-use Rattle.wt_selser.proofs.Urls.{run_within}
+use Rattle.wt_selser.proofs.Urls.{word_fits}
 
 -- ---- the beginning of a URL
 
@@ -23,11 +22,6 @@ begins_more (w ∷ word) [] ys e = cc
 begins_more (w ∷ word) (x ∷ xs) ys e =
     ap (λ (b : Bool). b && begins_like word (xs ++ ys)) (and_left (like_byte w x) (begins_like word xs) e)
     ∙ begins_more word xs ys (and_right (like_byte w x) (begins_like word xs) e)
-
-word_fits : (word : List ℕ) (xs : List Glyph) → begins_like word xs ≡ true → length word ≤ length xs
-word_fits [] xs e = omega arith
-word_fits (w ∷ word) [] e = cc
-word_fits (w ∷ word) (x ∷ xs) e = omega (arith, word_fits word xs (and_right (like_byte w x) (begins_like word xs) e))
 
 -- what follows doesn't count where the word fits
 long_begins : (word : List ℕ) (xs ys : List Glyph) → length word ≤ length xs → begins_like word (xs ++ ys) ≡ begins_like word xs
@@ -79,16 +73,6 @@ scheme_stays : (xs ys : List Glyph) → 0 < scheme_len xs → scheme_len (xs ++ 
 unfolding scheme_len
 scheme_stays xs ys l = len_stays xs ys (begins_like http xs) (begins_like https xs) (begins_like ftp xs) refl refl refl l
 
-len_within : (xs : List Glyph) (a b c : Bool) → begins_like http xs ≡ a → begins_like https xs ≡ b → begins_like ftp xs ≡ c → len_by a b c ≤ length xs
-len_within xs true b c ea eb ec = word_fits http xs ea
-len_within xs false true c ea eb ec = word_fits https xs eb
-len_within xs false false true ea eb ec = word_fits ftp xs ec
-len_within xs false false false ea eb ec = omega arith
-
-scheme_within : (xs : List Glyph) → scheme_len xs ≤ length xs
-unfolding scheme_len
-scheme_within xs = len_within xs (begins_like http xs) (begins_like https xs) (begins_like ftp xs) refl refl refl
-
 -- ---- URL items
 
 no_apostrophe : (g : Glyph) → is_url_glyph g ≡ false → is_in (λ (c : ℕ). c == 39) g ≡ false
@@ -126,9 +110,9 @@ read_whole bs e g gs n =
     let begun : 0 < s = lt_is 0 s (and_left (nat_lt 0 s) (nat_lt 0 items && s + items == length xs) e) in
     let some : 0 < items = lt_is 0 items (and_left (nat_lt 0 items) (s + items == length xs) tail) in
     let whole : s + items ≡ length xs = eqb-true (s + items) (length xs) (and_right (nat_lt 0 items) (s + items == length xs) tail) in
-    let taken : items ≡ run = length-take-le run rest (run_within rest) in
+    let taken : items ≡ run = length-take-le run rest (url_run_le rest) in
     let left : length rest ≡ length xs - s = length-drop s xs in
-    let within : s ≤ length xs = scheme_within xs in
+    let within : s ≤ length xs = (scheme_fits xs).within in
     let all : run ≡ length rest = omega arith in
     let more = xs ++ g ∷ gs in
     let same_scheme : scheme_len more ≡ s = scheme_stays xs (g ∷ gs) begun in

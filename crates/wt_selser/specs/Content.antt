@@ -4,7 +4,7 @@ use Rattle.std.specs.List.{list_any}
 use Rattle.wt_names.specs.Written.{read_link}
 use Rattle.wt_tree.specs.Tree.{Label, Tree, tree, Trees, none, more, label}
 use Rattle.wt_tiles.specs.Glyphs.{byte_glyphs}
-use Rattle.wt_tiles.specs.Urls.{scheme_len, url_items, is_url_char}
+use Rattle.wt_tiles.specs.Urls.{scheme_len, url_items}
 use Rattle.wt_kept.specs.declared.kinds.BlockForm.{BlockForm}
 use Rattle.wt_kept.specs.declared.kinds.BlockForm.TheVariants as form
 use Rattle.wt_kept.specs.declared.kinds.Way.{Way}
@@ -20,10 +20,6 @@ use Rattle.wt_selser.specs.declared.content.Standing.TheVariants as stands
 use Rattle.wt_selser.specs.declared.content.Spot.{Spot}
 
 -- ---- links
-
--- a URL goes on with a byte: it is no other end of one, and no apostrophe stands before an apostrophe
-abbrev pub goes_on : Bool → ℕ → Bool
-goes_on after b = is_url_char b && not (after && b == 39)
 
 -- a URL in whole: the beginning of one, and URL items that are at least one and all the rest
 abbrev pub is_url : List ℕ → Bool
@@ -99,25 +95,13 @@ own_faults way.Tag x s l = if_new s
 own_faults way.Break x s l = if_changed s
 own_faults way.AsItStood x s l = unless_same s (why.Element ∷ [])
 
--- for all but texts, bold and italic it counts how they stand to the page
-abbrev pub asks_page : Way → Bool
-asks_page way.Nothing = false
-asks_page way.Characters = false
-asks_page way.Bold = false
-asks_page way.Italic = false
-asks_page way.Shown = true
-asks_page way.PageLink = true
-asks_page way.ExternalLink = true
-asks_page way.Tag = true
-asks_page way.Break = true
-asks_page way.AsItStood = true
-
--- whether what it holds is looked into: always of bold and italic, and of other nodes where they aren't as they were
 abbrev pub is_same : Standing → Bool
 is_same stands.New = false
 is_same stands.Changed = false
 is_same stands.Same = true
 
+-- Whether what it holds is looked into: always of bold and italic, and of other nodes where they aren't as they were. Texts and
+-- white space hold nothing.
 abbrev pub is_open : Way → Standing → Bool
 is_open way.Nothing s = false
 is_open way.Characters s = false
@@ -130,15 +114,18 @@ is_open way.Tag s = not (is_same s)
 is_open way.Break s = not (is_same s)
 is_open way.AsItStood s = not (is_same s)
 
+-- what one answer for a node tells
 abbrev pub if_any : Option ContentWhy → List ContentWhy
 if_any None = []
 if_any (Some w) = w ∷ []
 
 -- ---- of all nodes
 
+-- where the children of a node stand
 abbrev pub below : Spot → Way → Spot
 below x w = record { in_paragraph = false; in_link = x.in_link || is_link w }
 
+-- what is wrong from a node on: that it is a link in a link, what is wrong with it by itself, and what is wrong inside it
 abbrev pub faults_by : Way → Spot → Standing → Label → List ContentWhy → List ContentWhy
 faults_by w x s l inside = nested_fault (x.in_link && is_link w) ++ (own_faults w x s l ++ (if is_open w s then inside else []))
 

@@ -1,7 +1,8 @@
 -- What the code's own types stand for.
-use Rattle.std.specs.Prelude.{◌≡◌, ℕ, List, map}
+use Rattle.std.specs.Prelude.{◌≡◌, Bool, true, false, List, map}
 use Rattle.std.specs.List.{list_any}
 use Rattle.wt_kept.specs.declared.kinds.Way.{Way}
+use Rattle.wt_kept.specs.declared.kinds.Way.TheVariants as way
 use Rattle.wt_tree.specs.Tree.{Label}
 use Rattle.wt_tree.specs.Plain.{Plain, text, element, face, plains_before, ended}
 use Rattle.wt_tree.specs.View.{view, views, label_of}
@@ -36,6 +37,19 @@ pub record HasFaults (f : Faults) (ws : List ContentWhy) : Type 0 where
   pub href : f.href ≡ list_any is_href ws
   pub line_break : f.line_break ≡ list_any is_line_break ws
   pub nested : f.nested ≡ list_any is_nested ws
+
+-- for all but texts, bold and italic it counts how they stand to the page
+abbrev pub asks_page : Way → Bool
+asks_page way.Nothing = false
+asks_page way.Characters = false
+asks_page way.Bold = false
+asks_page way.Italic = false
+asks_page way.Shown = true
+asks_page way.PageLink = true
+asks_page way.ExternalLink = true
+asks_page way.Tag = true
+asks_page way.Break = true
+asks_page way.AsItStood = true
 
 -- for nodes that are written so the two standings come to the same
 pub record CountsAs (w : Way) (s r : Standing) : Type 0 where

@@ -10,8 +10,8 @@ ghost use Rattle.wt_kept.specs.Page.{TellsSame};
 ghost use Rattle.wt_kept.specs.Gathered.{kept_view};
 ghost use Rattle.wt_kept.specs.PageViews.{page_view};
 ghost use Rattle.wt_escape.specs.Spelling.{href_of};
-ghost use Rattle.wt_selser.specs.Content.{all_faults, asks_page, bad_content, below, faults, first_why, has_break, if_any, is_link, is_open, is_paragraph, is_same, link_fault, nested_fault, outermost, own_faults, standing, standing_of, unless_same};
-ghost use Rattle.wt_selser.specs.Views.{CountsAs, HasFaults};
+ghost use Rattle.wt_selser.specs.Content.{all_faults, bad_content, below, faults, first_why, has_break, if_any, is_link, is_open, is_paragraph, is_same, link_fault, nested_fault, outermost, own_faults, standing, standing_of, unless_same};
+ghost use Rattle.wt_selser.specs.Views.{CountsAs, HasFaults, asks_page};
 
 use crate::refusal::ContentWhy;
 use crate::url::is_url;
@@ -23,7 +23,7 @@ use wt_span::NoMemory;
 use wt_tree::Node;
 
 /// How a node of the edited tree stands to the page: it is new, it was changed, or it is as it was.
-#[derive(Clone, Copy, Debug, PartialEq, Eq)]
+#[derive(Clone, Copy, Debug)]
 pub enum Standing {
     New,
     Changed,
@@ -233,6 +233,7 @@ fn is_open(way: Way, standing: Standing) -> bool
     }
 }
 
+/// Whether it counts how a node that is written so stands to the page.
 fn asks_page(way: Way) -> bool
     ensures { result ≡ asks_page way }
 {

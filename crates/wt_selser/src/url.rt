@@ -1,9 +1,9 @@
 //! Whether bytes are a URL in whole.
 
-ghost use Rattle.std.specs.Prelude.{◌≡◌, ◌≤◌, ◌==◌, length};
+ghost use Rattle.std.specs.Prelude.{◌≡◌, ◌≤◌, ◌==◌, ◌&&◌, not, length};
 ghost use Rattle.wt_tiles.specs.Glyphs.{begins_like, byte_glyphs};
 ghost use Rattle.wt_tiles.specs.Urls.{scheme_len, is_url_char, url_run};
-ghost use Rattle.wt_selser.specs.Content.{goes_on, is_url};
+ghost use Rattle.wt_selser.specs.Content.{is_url};
 
 use wt_span::rest_of;
 
@@ -55,7 +55,7 @@ fn is_url_byte(byte: u8) -> bool
 /// Whether a URL goes on with a byte; `after` tells whether an apostrophe stands before it, with which
 /// another one would end the URL.
 fn goes_on(after: bool, byte: u8) -> bool
-    ensures { result ≡ goes_on after byte }
+    ensures { result ≡ is_url_char byte && not (after && byte == 39) }
 {
     is_url_byte(byte) && !(after && byte == b'\'')
 }

@@ -1,5 +1,4 @@
 use Rattle.std.proofs.Common.{arith, List, ◌++◌, sym, ap, ◌∙◌, subst}
-use Rattle.wt_tree.specs.View.{view}
 use Rattle.wt_kept.specs.declared.kinds.Spelled.{Spelled}
 use Rattle.wt_kept.specs.PageViews.{page_view}
 use Rattle.wt_selser.specs.declared.refusal.ContentWhy.{ContentWhy}
