@@ -52,8 +52,8 @@ closed_visit n w p x s why f ws e a own closed h =
     subst (HasFaults f) (joined ∙ ap (λ (vs : List ContentWhy). ws ++ vs) (sym seen)) h
 
 pub open_visit : (n : Node) (w : Way) (p : Page) (x y : Spot) (s : Standing) (why : Option ContentWhy) (f : Faults) (ws : List ContentWhy) (ns : List Node)
-    → y ≡ below x w → ns ≡ (out-Node n).children → (shape (out-Node n).kind).way ≡ w → CountsAs w s (standing p (view n)) → if_any why ≡ own_faults w x s (label_of (out-Node n))
-    → is_open w s ≡ true
+    → y ≡ below x w → ns ≡ (out-Node n).children → (shape (out-Node n).kind).way ≡ w → CountsAs w s (standing p (view n))
+    → if_any why ≡ own_faults w x s (label_of (out-Node n)) → is_open w s ≡ true
     → HasFaults f (((ws ++ nested_fault (x.in_link && is_link w)) ++ if_any why) ++ all_faults p y (views ns))
     → HasFaults f (ws ++ faults p x (view n))
 open_visit n w p x y s why f ws ns under are e a own opened h =

@@ -1,4 +1,4 @@
--- Nothing is wrong with what somebody types.
+-- Nothing is wrong with a text edit.
 use Rattle.std.proofs.Common.{◌≡◌, Bool, true, false, List, [], ◌∷◌, ◌++◌, refl, ap, ◌∙◌, None}
 use Rattle.std.specs.Prelude.{◌&&◌, ◌||◌, not, if◌then◌else◌}
 use Rattle.wt_tree.specs.Tree.{Label, Tree, tree, Trees, none, more}
@@ -9,50 +9,75 @@ use Rattle.wt_kept.specs.Kinds.{shape}
 use Rattle.wt_kept.specs.Page.{Page, page_of}
 use Rattle.wt_selser.specs.declared.content.Spot.{Spot}
 use Rattle.wt_selser.specs.declared.content.Standing.{Standing}
+use Rattle.wt_selser.specs.declared.content.Standing.TheVariants as stands
 use Rattle.wt_selser.specs.declared.refusal.ContentWhy.{ContentWhy}
 use Rattle.wt_selser.specs.declared.refusal.ContentWhy.TheVariants as why
-use Rattle.wt_selser.specs.Content.{all_faults, bad_content, below, faults, faults_by, first_why, has_break, held, nested_fault, outermost, standing}
+use Rattle.wt_selser.specs.Content.{all_faults, bad_content, below, faults, faults_by, first_why, has_break, held, is_link, is_open, is_same, nested_fault, outermost, own_faults, standing}
 use Rattle.wt_selser.specs.Typed.{typed_by, is_typed, are_typed}
-
-no_link : (b : Bool) → nested_fault (b && false) ≡ []
-no_link true = refl
-no_link false = refl
+use Rattle.wt_selser.specs.Views.{asks_page}
 
 no_break : (in_paragraph breaks : Bool) → (in_paragraph || not breaks) ≡ true → (if not in_paragraph && breaks then why.LineBreak ∷ [] else []) ≡ []
 no_break true breaks e = refl
 no_break false true e = cc
 no_break false false e = refl
 
-typed_is_good : (w : Way) (x : Spot) (s : Standing) (l : Label) (good : Bool) (inside : List ContentWhy) → typed_by w x.in_paragraph l.shown good ≡ true
-    → (good ≡ true → inside ≡ []) → faults_by w x s l inside ≡ []
-typed_is_good way.Nothing x s l good inside e h = ap (λ (ws : List ContentWhy). ws ++ []) (no_link x.in_link)
-typed_is_good way.Characters x s l good inside e h =
-    ap (λ (ws : List ContentWhy). nested_fault (x.in_link && false) ++ (ws ++ [])) (no_break x.in_paragraph (has_break l.shown) e)
-    ∙ ap (λ (ws : List ContentWhy). ws ++ []) (no_link x.in_link)
-typed_is_good way.Bold x s l good inside e h =
-    ap (λ (ws : List ContentWhy). nested_fault (x.in_link && false) ++ ws) (h e) ∙ ap (λ (ws : List ContentWhy). ws ++ []) (no_link x.in_link)
-typed_is_good way.Italic x s l good inside e h =
-    ap (λ (ws : List ContentWhy). nested_fault (x.in_link && false) ++ ws) (h e) ∙ ap (λ (ws : List ContentWhy). ws ++ []) (no_link x.in_link)
-typed_is_good way.Shown x s l good inside e h = cc
-typed_is_good way.PageLink x s l good inside e h = cc
-typed_is_good way.ExternalLink x s l good inside e h = cc
-typed_is_good way.Tag x s l good inside e h = cc
-typed_is_good way.Break x s l good inside e h = cc
-typed_is_good way.AsItStood x s l good inside e h = cc
+-- a node as it was in the page
+kept_alone : (w : Way) (x : Spot) (l : Label) (inside : List ContentWhy) → asks_page w ≡ true
+    → own_faults w x stands.Same l ++ (if is_open w stands.Same then inside else []) ≡ []
+kept_alone way.Nothing x l inside a = cc
+kept_alone way.Characters x l inside a = cc
+kept_alone way.Bold x l inside a = cc
+kept_alone way.Italic x l inside a = cc
+kept_alone way.Shown x l inside a = refl
+kept_alone way.PageLink x l inside a = refl
+kept_alone way.ExternalLink x l inside a = refl
+kept_alone way.Tag x l inside a = refl
+kept_alone way.Break x l inside a = refl
+kept_alone way.AsItStood x l inside a = refl
+
+-- outside links no link stands in one
+outside : (w : Way) (x : Spot) (ws : List ContentWhy) → x.in_link ≡ false → ws ≡ [] → nested_fault (x.in_link && is_link w) ++ ws ≡ []
+outside w x ws n e = ap (λ (b : Bool). nested_fault (b && is_link w) ++ ws) n ∙ e
+
+kept_is_good : (w : Way) (x : Spot) (s : Standing) (l : Label) (inside : List ContentWhy) → x.in_link ≡ false → asks_page w ≡ true → is_same s ≡ true
+    → faults_by w x s l inside ≡ []
+kept_is_good w x stands.New l inside n a e = cc
+kept_is_good w x stands.Changed l inside n a e = cc
+kept_is_good w x stands.Same l inside n a e = outside w x _ n (kept_alone w x l inside a)
+
+typed_is_good : (w : Way) (x : Spot) (s : Standing) (l : Label) (good : Bool) (inside : List ContentWhy) → x.in_link ≡ false
+    → typed_by w s x.in_paragraph l.shown good ≡ true → (is_link w ≡ false → good ≡ true → inside ≡ []) → faults_by w x s l inside ≡ []
+typed_is_good way.Nothing x s l good inside n e h = outside way.Nothing x [] n refl
+typed_is_good way.Characters x s l good inside n e h =
+    outside way.Characters x _ n (ap (λ (ws : List ContentWhy). ws ++ []) (no_break x.in_paragraph (has_break l.shown) e))
+typed_is_good way.Bold x s l good inside n e h = outside way.Bold x inside n (h refl e)
+typed_is_good way.Italic x s l good inside n e h = outside way.Italic x inside n (h refl e)
+typed_is_good way.Shown x s l good inside n e h = kept_is_good way.Shown x s l inside n refl e
+typed_is_good way.PageLink x s l good inside n e h = kept_is_good way.PageLink x s l inside n refl e
+typed_is_good way.ExternalLink x s l good inside n e h = kept_is_good way.ExternalLink x s l inside n refl e
+typed_is_good way.Tag x s l good inside n e h = kept_is_good way.Tag x s l inside n refl e
+typed_is_good way.Break x s l good inside n e h = kept_is_good way.Break x s l inside n refl e
+typed_is_good way.AsItStood x s l good inside n e h = kept_is_good way.AsItStood x s l inside n refl e
+
+neither : (a b : Bool) → a ≡ false → b ≡ false → (a || b) ≡ false
+neither true b e f = cc
+neither false b e f = f
 
 mutual
-  node_is_good : (p : Page) (x : Spot) (t : Tree) → is_typed x.in_paragraph t ≡ true → faults p x t ≡ []
-  node_is_good p x (tree l ts) e =
-      typed_is_good (shape l.kind).way x (standing p (tree l ts)) l (are_typed false ts) (all_faults p (below x (shape l.kind).way) ts) e
-      (λ h. all_are_good p (below x (shape l.kind).way) ts h)
+  node_is_good : (p : Page) (x : Spot) (t : Tree) → x.in_link ≡ false → is_typed p x.in_paragraph t ≡ true → faults p x t ≡ []
+  node_is_good p x (tree l ts) n e =
+      let w = (shape l.kind).way in
+      typed_is_good w x (standing p (tree l ts)) l (are_typed p false ts) (all_faults p (below x w) ts) n e
+      (λ none_here good. all_are_good p (below x w) ts (neither x.in_link (is_link w) n none_here) good)
 
-  all_are_good : (p : Page) (x : Spot) (ts : Trees) → are_typed x.in_paragraph ts ≡ true → all_faults p x ts ≡ []
-  all_are_good p x none e = refl
-  all_are_good p x (more t ts) e =
-      ap (λ (ws : List ContentWhy). ws ++ all_faults p x ts) (node_is_good p x t (and_left (is_typed x.in_paragraph t) (are_typed x.in_paragraph ts) e))
-      ∙ all_are_good p x ts (and_right (is_typed x.in_paragraph t) (are_typed x.in_paragraph ts) e)
+  all_are_good : (p : Page) (x : Spot) (ts : Trees) → x.in_link ≡ false → are_typed p x.in_paragraph ts ≡ true → all_faults p x ts ≡ []
+  all_are_good p x none n e = refl
+  all_are_good p x (more t ts) n e =
+      ap (λ (ws : List ContentWhy). ws ++ all_faults p x ts)
+      (node_is_good p x t n (and_left (is_typed p x.in_paragraph t) (are_typed p x.in_paragraph ts) e))
+      ∙ all_are_good p x ts n (and_right (is_typed p x.in_paragraph t) (are_typed p x.in_paragraph ts) e)
 
-pub typed_stands : (same : Tree → Tree → Bool) (old new : Tree) → are_typed (outermost old).in_paragraph (held new) ≡ true
-    → bad_content same old new ≡ None
+pub typed_text_stands : (same : Tree → Tree → Bool) (old new : Tree)
+    → are_typed (page_of same old) (outermost old).in_paragraph (held new) ≡ true → bad_content same old new ≡ None
 unfolding bad_content
-typed_stands same old new e = ap first_why (all_are_good (page_of same old) (outermost old) (held new) e)
+typed_text_stands same old new e = ap first_why (all_are_good (page_of same old) (outermost old) (held new) refl e)

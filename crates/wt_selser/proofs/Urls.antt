@@ -24,7 +24,8 @@ after_apostrophe (b ∷ bs) = grind (arith, common_steps)
 
 pub run_is_whole : (bs : List ℕ) → (url_run (byte_glyphs bs) == length bs) ≡ go_on false bs
 run_is_whole [] = refl
-run_is_whole (b ∷ bs) = grind (arith, nat_tests, common_steps, run_is_whole bs, after_apostrophe bs, url_run_le (byte_glyphs bs), length-map bs (λ (c : ℕ). glyph.Byte c))
+run_is_whole (b ∷ bs) =
+    grind (arith, nat_tests, common_steps, run_is_whole bs, after_apostrophe bs, url_run_le (byte_glyphs bs), length-map bs (λ (c : ℕ). glyph.Byte c))
 
 -- ---- a URL in whole, by how many bytes its beginning takes
 

@@ -3,7 +3,7 @@
 ghost use Rattle.std.specs.Prelude.{◌≡◌, ℕ, Bool, true, List, [], length, Option, None};
 ghost use Rattle.wt_tree.specs.Plain.{Plain};
 ghost use Rattle.wt_tree.specs.Tree.{Tree};
-ghost use Rattle.wt_kept.specs.Page.{TellsSame};
+ghost use Rattle.wt_kept.specs.Page.{TellsSame, page_of};
 ghost use Rattle.wt_selser.specs.Children.{IsFirstDiffering, differing};
 ghost use Rattle.wt_selser.specs.Content.{bad_content, content_faults, held, is_url, outermost};
 ghost use Rattle.wt_selser.specs.ContentLaws.{IsFirstReason, IsReadWhole};
@@ -36,10 +36,12 @@ pub fn differing_is_first()
     ensures same { (xs ys : List Plain) → differing 1 xs ys ≡ None → xs ≡ ys }
 {}
 
-/// Nothing is wrong with a content of text, bold and italic, where line breaks stand directly in a paragraph alone.
-#[tactic(auto, using(crate::proofs::TypedStands::typed_stands))]
+/// A text edit isn't refused for its content: text, bold and italic, and every other node as it was in the page, with line
+/// breaks directly in a paragraph alone.
+#[tactic(auto, using(crate::proofs::TypedStands::typed_text_stands))]
 pub fn typed_text_stands()
-    ensures { (same : Tree → Tree → Bool) (old new : Tree) → are_typed (outermost old).in_paragraph (held new) ≡ true → bad_content same old new ≡ None }
+    ensures { (same : Tree → Tree → Bool) (old new : Tree)
+        → are_typed (page_of same old) (outermost old).in_paragraph (held new) ≡ true → bad_content same old new ≡ None }
 {}
 
 /// The reason that is answered is there, and none that would be named before it.
