@@ -75,7 +75,7 @@ before_nested ws a b c why.Nested l h = omega arith
 first_by : (ws : List ContentWhy) (a b c d : Bool) → list_any is_element ws ≡ a → list_any is_href ws ≡ b → list_any is_line_break ws ≡ c
     → list_any is_nested ws ≡ d
     → IsFirstReason ws (if a then Some why.Element else
-        (if b then Some why.Href else (if c then Some why.LineBreak else (if d then Some why.Nested else None))))
+    (if b then Some why.Href else (if c then Some why.LineBreak else (if d then Some why.Nested else None))))
 first_by ws true b c d ea eb ec ed = (there is_element why.Element one_element ws ea, λ v l h. omega arith)
 first_by ws false true c d ea eb ec ed = (there is_href why.Href one_href ws eb, before_href ws ea)
 first_by ws false false true d ea eb ec ed = (there is_line_break why.LineBreak one_line_break ws ec, before_line_break ws ea eb)

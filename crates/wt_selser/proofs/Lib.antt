@@ -1,10 +1,11 @@
 mod Cases
+mod ContentCases
+pub mod Faulting
+pub mod FirstReason
+pub mod TypedStands
+pub mod Untouched
+pub mod Urls
+pub mod UrlsRead
 pub mod Outside
 pub mod SameTells
 pub mod DifferingLaws
-pub mod Urls
-pub mod Faulting
-pub mod TypedStands
-mod ContentCases
-pub mod FirstReason
-pub mod UrlsRead

@@ -1,10 +1,10 @@
 pub mod Splice
 pub mod Content
+pub mod ContentLaws
+pub mod Typed
 pub mod OpenTags
 pub mod Changes
 pub mod Children
 pub mod Edits
 pub mod Views
 pub mod SameNodes
-pub mod Typed
-pub mod ContentLaws

@@ -1,9 +1,10 @@
 -- A text edit: what somebody types round nodes of the page that stay as they are.
-use Rattle.std.specs.Prelude.{ℕ, ◌&&◌, ◌||◌, not, Bool, true, false, List}
-use Rattle.wt_tree.specs.Tree.{Tree, tree, Trees, none, more}
+use Rattle.std.specs.Prelude.{◌≡◌, ℕ, ◌&&◌, ◌||◌, not, Bool, true, false, Some, option_map, List}
+use Rattle.wt_tree.specs.Tree.{Tree, tree, Trees, none, more, label}
 use Rattle.wt_kept.specs.declared.kinds.Way.{Way}
 use Rattle.wt_kept.specs.declared.kinds.Way.TheVariants as way
 use Rattle.wt_kept.specs.Kinds.{shape}
+use Rattle.wt_kept.specs.Kept.{kept_nodes, kept_with}
 use Rattle.wt_kept.specs.Page.{Page}
 use Rattle.wt_selser.specs.declared.content.Standing.{Standing}
 use Rattle.wt_selser.specs.Content.{has_break, is_same, standing}
@@ -29,3 +30,7 @@ abbrev mutual
   pub are_typed : Page → Bool → Trees → Bool
   are_typed p in_paragraph none = true
   are_typed p in_paragraph (more t ts) = is_typed p in_paragraph t && are_typed p in_paragraph ts
+
+-- the page's node with its number is this very node
+abbrev pub IsUntouched : Tree → Tree → Type 0
+IsUntouched old t = option_map (λ k. k.node) (kept_with (label t).id (kept_nodes old)) ≡ Some t

@@ -1,15 +1,11 @@
 //! Laws of the new page, which do nothing when they are called.
 
-ghost use Rattle.std.specs.Prelude.{◌≡◌, ℕ, Bool, true, List, [], length, Option, None};
+ghost use Rattle.std.specs.Prelude.{◌≡◌, ℕ, List, [], length, Option, None};
 ghost use Rattle.wt_tree.specs.Plain.{Plain};
-ghost use Rattle.wt_tree.specs.Tree.{Tree};
-ghost use Rattle.wt_kept.specs.Page.{TellsSame, page_of};
+ghost use Rattle.wt_kept.specs.Page.{TellsSame};
 ghost use Rattle.wt_selser.specs.Children.{IsFirstDiffering, differing};
-ghost use Rattle.wt_selser.specs.Content.{bad_content, content_faults, held, is_url, outermost};
-ghost use Rattle.wt_selser.specs.ContentLaws.{IsFirstReason, IsReadWhole};
 ghost use Rattle.wt_selser.specs.SameNodes.{same_node};
 ghost use Rattle.wt_selser.specs.Splice.{Change, spliced, AreApart, OutsideStands};
-ghost use Rattle.wt_selser.specs.Typed.{are_typed};
 
 /// Where the slices stand in the page one after the other, what stands outside them stands in the
 /// new page byte for byte and in its order, and between it what was written for each slice.
@@ -34,24 +30,4 @@ pub fn nodes_are_told()
 pub fn differing_is_first()
     ensures told { (xs ys : List Plain) → (r : Option ℕ) → IsFirstDiffering xs ys r → r ≡ differing 1 xs ys }
     ensures same { (xs ys : List Plain) → differing 1 xs ys ≡ None → xs ≡ ys }
-{}
-
-/// A text edit isn't refused for its content: text, bold and italic, and every other node as it was in the page, with line
-/// breaks directly in a paragraph alone.
-#[tactic(auto, using(crate::proofs::TypedStands::typed_text_stands))]
-pub fn typed_text_stands()
-    ensures { (same : Tree → Tree → Bool) (old new : Tree)
-        → are_typed (page_of same old) (outermost old).in_paragraph (held new) ≡ true → bad_content same old new ≡ None }
-{}
-
-/// The reason that is answered is there, and none that would be named before it.
-#[tactic(auto, using(crate::proofs::FirstReason::first_reason))]
-pub fn first_reason()
-    ensures { (same : Tree → Tree → Bool) (old new : Tree) → IsFirstReason (content_faults same old new) (bad_content same old new) }
-{}
-
-/// A URL that a new link may have is read as it stands, whatever follows that doesn't belong to URLs.
-#[tactic(auto, using(crate::proofs::UrlsRead::read_whole))]
-pub fn urls_are_read()
-    ensures { (bs : List ℕ) → is_url bs ≡ true → IsReadWhole bs }
 {}

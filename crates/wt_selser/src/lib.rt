@@ -4,6 +4,7 @@
 
 mod change;
 mod content;
+mod content_laws;
 mod differing;
 mod editing;
 mod laws;
@@ -11,10 +12,8 @@ mod open_tag;
 mod refusal;
 mod url;
 
+pub use content_laws::{first_reason, typed_text_stands, untouched_nodes_stand, urls_are_read};
 pub use differing::first_differing;
 pub use editing::edit;
-pub use laws::{
-    differing_is_first, first_reason, nodes_are_told, nothing_changes, outside_stands,
-    typed_text_stands, urls_are_read,
-};
+pub use laws::{differing_is_first, nodes_are_told, nothing_changes, outside_stands};
 pub use refusal::{ContentWhy, EditRefusal};
