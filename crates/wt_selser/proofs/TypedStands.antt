@@ -1,20 +1,45 @@
 -- Nothing is wrong with a text edit.
-use Rattle.std.proofs.Common.{◌≡◌, Bool, true, false, List, [], ◌∷◌, ◌++◌, refl, ap, ◌∙◌, None}
+use Rattle.std.proofs.Common.{◌≡◌, ℕ, Bool, true, false, List, [], ◌∷◌, ◌++◌, refl, ap, ◌∙◌, None}
 use Rattle.std.specs.Prelude.{◌&&◌, ◌||◌, not, if◌then◌else◌}
+use Rattle.wt_tree.specs.Tiling.{HasNoGroup}
 use Rattle.wt_tree.specs.Tree.{Label, Tree, tree, Trees, none, more}
 use Rattle.wt_tiles.proofs.Words.{and_left, and_right}
 use Rattle.wt_kept.specs.declared.kinds.Way.{Way}
 use Rattle.wt_kept.specs.declared.kinds.Way.TheVariants as way
 use Rattle.wt_kept.specs.Kinds.{shape}
-use Rattle.wt_kept.specs.Page.{Page, page_of}
+use Rattle.wt_kept.specs.Page.{Page, TellsSame, page_of}
 use Rattle.wt_selser.specs.declared.content.Spot.{Spot}
 use Rattle.wt_selser.specs.declared.content.Standing.{Standing}
 use Rattle.wt_selser.specs.declared.content.Standing.TheVariants as stands
 use Rattle.wt_selser.specs.declared.refusal.ContentWhy.{ContentWhy}
 use Rattle.wt_selser.specs.declared.refusal.ContentWhy.TheVariants as why
 use Rattle.wt_selser.specs.Content.{all_faults, bad_content, below, faults, faults_by, first_why, has_break, held, is_link, is_open, is_same, nested_fault, outermost, own_faults, standing}
-use Rattle.wt_selser.specs.Typed.{typed_by, is_typed, are_typed}
+use Rattle.wt_selser.specs.Typed.{IsUntouched, MayStand, IsTypedBy, IsTyped, AreTyped}
 use Rattle.wt_selser.specs.Views.{asks_page}
+use Rattle.wt_selser.proofs.Untouched.{untouched_is_same}
+
+-- ---- a content that can be told to be typed
+
+-- the same, by how each node stands to the page
+abbrev typed_by : Way → Standing → Bool → List ℕ → Bool → Bool
+typed_by way.Nothing s in_paragraph text inside = true
+typed_by way.Characters s in_paragraph text inside = in_paragraph || not (has_break text)
+typed_by way.Bold s in_paragraph text inside = inside
+typed_by way.Italic s in_paragraph text inside = inside
+typed_by way.Shown s in_paragraph text inside = is_same s
+typed_by way.PageLink s in_paragraph text inside = is_same s
+typed_by way.ExternalLink s in_paragraph text inside = is_same s
+typed_by way.Tag s in_paragraph text inside = is_same s
+typed_by way.Break s in_paragraph text inside = is_same s
+typed_by way.AsItStood s in_paragraph text inside = is_same s
+
+abbrev mutual
+  is_typed : Page → Bool → Tree → Bool
+  is_typed p in_paragraph (tree l ts) = typed_by (shape l.kind).way (standing p (tree l ts)) in_paragraph l.shown (are_typed p false ts)
+
+  are_typed : Page → Bool → Trees → Bool
+  are_typed p in_paragraph none = true
+  are_typed p in_paragraph (more t ts) = is_typed p in_paragraph t && are_typed p in_paragraph ts
 
 no_break : (in_paragraph breaks : Bool) → (in_paragraph || not breaks) ≡ true → (if not in_paragraph && breaks then why.LineBreak ∷ [] else []) ≡ []
 no_break true breaks e = refl
@@ -77,7 +102,47 @@ mutual
       (node_is_good p x t n (and_left (is_typed p x.in_paragraph t) (are_typed p x.in_paragraph ts) e))
       ∙ all_are_good p x ts n (and_right (is_typed p x.in_paragraph t) (are_typed p x.in_paragraph ts) e)
 
-pub typed_text_stands : (same : Tree → Tree → Bool) (old new : Tree)
-    → are_typed (page_of same old) (outermost old).in_paragraph (held new) ≡ true → bad_content same old new ≡ None
+-- ---- a text edit can be told
+
+may_stand : (in_paragraph : Bool) (text : List ℕ) → MayStand in_paragraph text → (in_paragraph || not (has_break text)) ≡ true
+may_stand true text h = refl
+may_stand false text h = ap (λ (b : Bool). not b) h
+
+told_by : (w : Way) (s : Standing) (in_paragraph : Bool) (text : List ℕ) (inside untouched : Type 0) (good : Bool)
+    → IsTypedBy w in_paragraph text inside untouched → (inside → good ≡ true) → (untouched → is_same s ≡ true) → typed_by w s in_paragraph text good ≡ true
+told_by way.Nothing s in_paragraph text inside untouched good h f g = refl
+told_by way.Characters s in_paragraph text inside untouched good h f g = may_stand in_paragraph text h
+told_by way.Bold s in_paragraph text inside untouched good h f g = f h
+told_by way.Italic s in_paragraph text inside untouched good h f g = f h
+told_by way.Shown s in_paragraph text inside untouched good h f g = g h
+told_by way.PageLink s in_paragraph text inside untouched good h f g = g h
+told_by way.ExternalLink s in_paragraph text inside untouched good h f g = g h
+told_by way.Tag s in_paragraph text inside untouched good h f g = g h
+told_by way.Break s in_paragraph text inside untouched good h f g = g h
+told_by way.AsItStood s in_paragraph text inside untouched good h f g = g h
+
+both_true : (a b : Bool) → a ≡ true → b ≡ true → (a && b) ≡ true
+both_true true b e f = f
+both_true false b e f = cc
+
+mutual
+  node_is_told : (same : Tree → Tree → Bool) (old : Tree) → TellsSame same → (in_paragraph : Bool) (t : Tree) → IsTyped old in_paragraph t
+      → is_typed (page_of same old) in_paragraph t ≡ true
+  node_is_told same old tells in_paragraph (tree l ts) h =
+      told_by (shape l.kind).way (standing (page_of same old) (tree l ts)) in_paragraph l.shown (AreTyped old false ts)
+      (IsUntouched old (tree l ts) × HasNoGroup (tree l ts)) (are_typed (page_of same old) false ts) h
+      (λ inside. all_are_told same old tells false ts inside) (λ own. ap is_same (untouched_is_same same old (tree l ts) tells own.1 own.0))
+
+  all_are_told : (same : Tree → Tree → Bool) (old : Tree) → TellsSame same → (in_paragraph : Bool) (ts : Trees) → AreTyped old in_paragraph ts
+      → are_typed (page_of same old) in_paragraph ts ≡ true
+  all_are_told same old tells in_paragraph none h = refl
+  all_are_told same old tells in_paragraph (more t ts) h =
+      both_true (is_typed (page_of same old) in_paragraph t) (are_typed (page_of same old) in_paragraph ts)
+      (node_is_told same old tells in_paragraph t h.0) (all_are_told same old tells in_paragraph ts h.1)
+
+pub typed_text_stands : (same : Tree → Tree → Bool) (old new : Tree) → TellsSame same → AreTyped old (outermost old).in_paragraph (held new)
+    → bad_content same old new ≡ None
 unfolding bad_content
-typed_text_stands same old new e = ap first_why (all_are_good (page_of same old) (outermost old) (held new) refl e)
+typed_text_stands same old new tells h =
+    ap first_why (all_are_good (page_of same old) (outermost old) (held new) refl
+    (all_are_told same old tells (outermost old).in_paragraph (held new) h))

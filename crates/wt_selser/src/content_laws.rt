@@ -7,14 +7,14 @@ ghost use Rattle.wt_kept.specs.Page.{TellsSame, page_of};
 ghost use Rattle.wt_selser.specs.declared.content.Standing.TheVariants as stands;
 ghost use Rattle.wt_selser.specs.Content.{bad_content, content_faults, held, is_url, outermost, standing};
 ghost use Rattle.wt_selser.specs.ContentLaws.{IsFirstReason, IsReadWhole};
-ghost use Rattle.wt_selser.specs.Typed.{IsUntouched, are_typed};
+ghost use Rattle.wt_selser.specs.Typed.{AreTyped, IsUntouched};
 
-/// A text edit isn't refused for its content: text, bold and italic, and every other node as it was in the page, with line
-/// breaks directly in a paragraph alone.
+/// A text edit isn't refused for its content: text, bold and italic, round nodes of the page that nobody touched, with line
+/// breaks in texts directly in a paragraph alone.
 #[tactic(auto, using(crate::proofs::TypedStands::typed_text_stands))]
 pub fn typed_text_stands()
-    ensures { (same : Tree → Tree → Bool) (old new : Tree)
-        → are_typed (page_of same old) (outermost old).in_paragraph (held new) ≡ true → bad_content same old new ≡ None }
+    ensures { (same : Tree → Tree → Bool) (old new : Tree) → TellsSame same → AreTyped old (outermost old).in_paragraph (held new)
+        → bad_content same old new ≡ None }
 {}
 
 /// Where the page's node with its number is this very node, and there is no group in it, it is as it was.
