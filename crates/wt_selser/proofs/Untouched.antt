@@ -1,11 +1,11 @@
 -- A node of the page that nobody touched stands as it was.
-use Rattle.std.proofs.Common.{◌≡◌, Bool, true, false, Option, Some, None, refl, sym, ap, ◌∙◌}
-use Rattle.std.specs.Prelude.{◌||◌, if◌then◌else◌, List, option_map}
+use Rattle.std.proofs.Common.{◌≡◌, Bool, true, false, Option, refl, ap, ◌∙◌}
+use Rattle.std.specs.Prelude.{◌||◌, if◌then◌else◌, List}
 use Rattle.wt_tree.specs.Plain.{plain}
 use Rattle.wt_tree.specs.Tiling.{is_group, HasNoGroup, NoneIsGroup}
 use Rattle.wt_tree.specs.Tree.{Tree, tree, Trees, none, more, label}
-use Rattle.wt_kept.specs.Kept.{Kept, kept_nodes, kept_with}
-use Rattle.wt_kept.specs.Page.{Page, TellsSame, node_or, page_of, restored, restored_all}
+use Rattle.wt_kept.specs.Kept.{Kept, kept_with}
+use Rattle.wt_kept.specs.Page.{TellsSame, node_or, page_of, restored, restored_all}
 use Rattle.wt_selser.specs.declared.content.Standing.TheVariants as stands
 use Rattle.wt_selser.specs.Content.{standing, standing_of}
 use Rattle.wt_selser.specs.Typed.{IsUntouched}
@@ -26,17 +26,13 @@ or_true : (a b : Bool) → b ≡ true → (a || b) ≡ true
 or_true true b e = refl
 or_true false b e = e
 
-same_by : (p : Page) (t : Tree) (o : Option Kept) → TellsSame p.same → HasNoGroup t → option_map (λ (k : Kept). k.node) o ≡ Some t
-    → standing_of p o t ≡ stands.Same
-same_by p t None tells h e = cc
-same_by p t (Some k) tells h e =
-    let this : k.node ≡ t = cc in
-    let back : restored p.kept t ≡ k.node = nothing_restored p.kept t h ∙ sym this in
-    let told : p.same (restored p.kept t) k.node ≡ true =
-    (tells (restored p.kept t) k.node).1 (ap (λ (u : Tree). (label u).kind) back, ap plain back) in
-    ap (λ (b : Bool). if b then stands.Same else stands.Changed)
-    (or_true (is_group (label k.node).kind) (p.same (restored p.kept t) k.node) told)
-
 pub untouched_is_same : (same : Tree → Tree → Bool) (old t : Tree) → TellsSame same → HasNoGroup t → IsUntouched old t
     → standing (page_of same old) t ≡ stands.Same
-untouched_is_same same old t tells h e = same_by (page_of same old) t (kept_with (label t).id (kept_nodes old)) tells h e
+untouched_is_same same old t tells h u =
+    let p = page_of same old in
+    let node = u.kept.node in
+    let back : restored p.kept t ≡ t = nothing_restored p.kept t h in
+    let told : same (restored p.kept t) node ≡ true =
+    (tells (restored p.kept t) node).1 (ap (λ (v : Tree). (label v).kind) back ∙ u.kind, ap plain back ∙ u.shown) in
+    ap (λ (o : Option Kept). standing_of p o t) u.found
+    ∙ ap (λ (b : Bool). if b then stands.Same else stands.Changed) (or_true (is_group (label node).kind) (same (restored p.kept t) node) told)

@@ -1,23 +1,27 @@
 -- A text edit: what somebody types round nodes of the page that nobody touched.
-use Rattle.std.specs.Prelude.{◌≡◌, ℕ, Bool, true, false, Some, option_map, List}
+use Rattle.std.specs.Prelude.{◌≡◌, ℕ, Bool, true, false, Some, List}
+use Rattle.wt_tree.specs.Plain.{plain}
 use Rattle.wt_tree.specs.Tiling.{HasNoGroup}
 use Rattle.wt_tree.specs.Tree.{Tree, tree, Trees, none, more, label}
 use Rattle.wt_kept.specs.declared.kinds.Way.{Way}
 use Rattle.wt_kept.specs.declared.kinds.Way.TheVariants as way
 use Rattle.wt_kept.specs.Kinds.{shape}
-use Rattle.wt_kept.specs.Kept.{kept_nodes, kept_with}
+use Rattle.wt_kept.specs.Kept.{Kept, kept_nodes, kept_with}
 use Rattle.wt_selser.specs.Content.{has_break}
 
--- the page's node with its number is this very node
-abbrev pub IsUntouched : Tree → Tree → Type 0
-IsUntouched old t = option_map (λ k. k.node) (kept_with (label t).id (kept_nodes old)) ≡ Some t
+-- the page's node with its number is of its kind and has its plain view
+pub record IsUntouched (old t : Tree) : Type 0 where
+  pub kept : Kept
+  pub found : kept_with (label t).id (kept_nodes old) ≡ Some kept
+  pub kind : (label t).kind ≡ (label kept.node).kind
+  pub shown : plain t ≡ plain kept.node
 
 -- directly in a paragraph a text may have line breaks
 abbrev pub MayStand : Bool → List ℕ → Type 0
 MayStand true text = Unit {0}
 MayStand false text = has_break text ≡ false
 
--- White space between elements; a text; bold and italic that hold such; and every other node as it is in the page, without groups.
+-- White space between elements; a text; bold and italic that hold such; and every other node untouched and without groups.
 abbrev pub IsTypedBy : Way → Bool → List ℕ → Type 0 → Type 0 → Type 0
 IsTypedBy way.Nothing in_paragraph text inside untouched = Unit {0}
 IsTypedBy way.Characters in_paragraph text inside untouched = MayStand in_paragraph text

@@ -17,7 +17,7 @@ pub fn typed_text_stands()
         → bad_content same old new ≡ None }
 {}
 
-/// Where the page's node with its number is this very node, and there is no group in it, it is as it was.
+/// A node is as it was where the page's node with its number is of its kind and has its plain view, and no group stands in it.
 #[tactic(auto, using(crate::proofs::Untouched::untouched_is_same))]
 pub fn untouched_nodes_stand()
     ensures { (same : Tree → Tree → Bool) (old t : Tree) → TellsSame same → HasNoGroup t → IsUntouched old t
