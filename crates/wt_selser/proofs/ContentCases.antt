@@ -18,6 +18,7 @@ use Rattle.wt_kept.specs.Kinds.{shape}
 use Rattle.wt_kept.specs.Kept.{kept_with}
 use Rattle.wt_selser.specs.declared.refusal.ContentWhy.TheVariants.{Element, Href, LineBreak, Nested}
 use Rattle.wt_selser.specs.Content.{bad_content, is_url}
+use Rattle.wt_selser.specs.Typed.{AreTyped}
 
 abbrev labelled : Kind → ℕ → List ℕ → Label
 labelled k id shown = record {
@@ -166,3 +167,17 @@ breaks_before_links : bad_content same (heading []) (heading (linked kind.ExtLin
     ∷ text (10 ∷ []) ∷ [])) ≡ Some LineBreak
 unfolding bad_content shape kept_with scheme_len is_url_char
 breaks_before_links = refl
+
+-- ---- a text edit: text and bold text are typed before a link of the page
+
+abbrev kept_link : Tree
+kept_link = tree (record (labelled kind.WikiLink 2 []) { attrs = (attr.Href, codes "./Oder") ∷ [] }) (trees (text (codes "it") ∷ []))
+
+typed_before_link : AreTyped (para (kept_link ∷ [])) true (trees (text (codes "a\nb") ∷ node kind.Bold 0 (text (codes "c") ∷ []) ∷ kept_link ∷ []))
+unfolding shape kept_with
+typed_before_link = (tt, ((refl, tt), ((record { kept = _; found = refl; kind = refl; shown = refl }, (refl, ((refl, tt), tt))), tt)))
+
+typed_before_link_stands : bad_content same (para (kept_link ∷ []))
+    (para (text (codes "a\nb") ∷ node kind.Bold 0 (text (codes "c") ∷ []) ∷ kept_link ∷ [])) ≡ None
+unfolding bad_content shape kept_with
+typed_before_link_stands = refl
