@@ -19,7 +19,8 @@ use Rattle.wt_selser.specs.declared.content.Spot.{Spot}
 use Rattle.wt_selser.specs.declared.content.Standing.{Standing}
 use Rattle.wt_selser.specs.declared.refusal.ContentWhy.{ContentWhy}
 use Rattle.wt_selser.specs.Content.{all_faults, below, faults, faults_by, first_why, held, if_any, is_link, is_open, nested_fault, outermost, own_faults, standing}
-use Rattle.wt_selser.specs.Views.{CountsAs, HasFaults}
+use Rattle.wt_selser.specs.Standings.{CountsAs}
+use Rattle.wt_selser.specs.Views.{HasFaults}
 
 -- ---- one node
 

@@ -15,7 +15,7 @@ use Rattle.wt_selser.specs.declared.refusal.ContentWhy.{ContentWhy}
 use Rattle.wt_selser.specs.declared.refusal.ContentWhy.TheVariants as why
 use Rattle.wt_selser.specs.Content.{all_faults, bad_content, below, faults, faults_by, first_why, has_break, held, is_link, is_open, is_same, nested_fault, outermost, own_faults, standing}
 use Rattle.wt_selser.specs.Typed.{IsUntouched, MayStand, IsTypedBy, IsTyped, AreTyped}
-use Rattle.wt_selser.specs.Views.{asks_page}
+use Rattle.wt_selser.specs.Standings.{asks_page}
 use Rattle.wt_selser.proofs.Untouched.{untouched_is_same}
 
 -- ---- a content that can be told to be typed

@@ -1,6 +1,7 @@
 pub mod Splice
 pub mod Content
 pub mod ContentLaws
+pub mod Standings
 pub mod Typed
 pub mod OpenTags
 pub mod Changes

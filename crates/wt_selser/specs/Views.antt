@@ -1,22 +1,17 @@
 -- What the code's own types stand for.
-use Rattle.std.specs.Prelude.{◌≡◌, Bool, true, false, List, map}
+use Rattle.std.specs.Prelude.{◌≡◌, ℕ, List, map}
 use Rattle.std.specs.List.{list_any}
-use Rattle.wt_kept.specs.declared.kinds.Way.{Way}
-use Rattle.wt_kept.specs.declared.kinds.Way.TheVariants as way
-use Rattle.wt_tree.specs.Tree.{Label}
 use Rattle.wt_tree.specs.Plain.{Plain, text, element, face, plains_before, ended}
 use Rattle.wt_tree.specs.View.{view, views, label_of}
 use Rattle.wt_tree.specs.declared.node.Node.{out-Node}
 use Rattle.wt_selser.specs.declared.change.Change.{Change as Made}
 use Rattle.wt_selser.specs.declared.change.Pair.{Pair as Found}
 use Rattle.wt_selser.specs.declared.content.Faults.{Faults}
-use Rattle.wt_selser.specs.declared.content.Spot.{Spot}
-use Rattle.wt_selser.specs.declared.content.Standing.{Standing}
 use Rattle.wt_selser.specs.declared.differing.Child.{Child}
 use Rattle.wt_selser.specs.declared.differing.Child.TheVariants as child
 use Rattle.wt_selser.specs.declared.refusal.ContentWhy.{ContentWhy}
 use Rattle.wt_selser.specs.Changes.{Pair}
-use Rattle.wt_selser.specs.Content.{is_element, is_href, is_line_break, is_nested, is_open, own_faults}
+use Rattle.wt_selser.specs.Content.{is_element, is_href, is_line_break, is_nested}
 use Rattle.wt_selser.specs.Splice.{Change}
 
 abbrev pub pair_of : Found → Pair
@@ -37,24 +32,6 @@ pub record HasFaults (f : Faults) (ws : List ContentWhy) : Type 0 where
   pub href : f.href ≡ list_any is_href ws
   pub line_break : f.line_break ≡ list_any is_line_break ws
   pub nested : f.nested ≡ list_any is_nested ws
-
--- for all but texts, bold and italic it counts how they stand to the page
-abbrev pub asks_page : Way → Bool
-asks_page way.Nothing = false
-asks_page way.Characters = false
-asks_page way.Bold = false
-asks_page way.Italic = false
-asks_page way.Shown = true
-asks_page way.PageLink = true
-asks_page way.ExternalLink = true
-asks_page way.Tag = true
-asks_page way.Break = true
-asks_page way.AsItStood = true
-
--- for nodes that are written so the two standings come to the same
-pub record CountsAs (w : Way) (s r : Standing) : Type 0 where
-  pub opens : is_open w s ≡ is_open w r
-  pub faults : (x : Spot) (l : Label) → own_faults w x s l ≡ own_faults w x r l
 
 -- a child of a body as it is shown
 abbrev pub child_view : Child → Plain

@@ -11,7 +11,8 @@ ghost use Rattle.wt_kept.specs.Gathered.{kept_view};
 ghost use Rattle.wt_kept.specs.PageViews.{page_view};
 ghost use Rattle.wt_escape.specs.Spelling.{href_of};
 ghost use Rattle.wt_selser.specs.Content.{all_faults, bad_content, below, faults, first_why, has_break, if_any, is_link, is_open, is_paragraph, is_same, link_fault, nested_fault, outermost, own_faults, standing, standing_of, unless_same};
-ghost use Rattle.wt_selser.specs.Views.{CountsAs, HasFaults, asks_page};
+ghost use Rattle.wt_selser.specs.Standings.{CountsAs, asks_page};
+ghost use Rattle.wt_selser.specs.Views.{HasFaults};
 
 use crate::refusal::ContentWhy;
 use crate::url::is_url;
