@@ -144,7 +144,7 @@ bare_is front rest letter bare =
     let there : length bs - 1 - k ≡ length front + suc i = omega (arith, len, lt) in
     let inside : i < length (letter ∷ rest) = omega arith in
     let g : get_or (reverse bs) k 0 ≡ get_or (letter ∷ rest) i 0 =
-        get_or-reverse bs k 0 within ∙ get_behind front (60 ∷ letter ∷ rest) (suc i) (length bs - 1 - k) there in
+    get_or-reverse bs k 0 within ∙ get_behind front (60 ∷ letter ∷ rest) (suc i) (length bs - 1 - k) there in
     ap (λ b. not (is_stop b)) g ∙ ap not (none_any (letter ∷ rest) bare i inside))
     (λ lt.
     let within : suc (length rest) < length bs = omega (arith, len) in
