@@ -1,5 +1,5 @@
 -- The slices of an edit stand in the page one after the other: kept nodes stand in the page's order, and no marked node in another one.
-use Rattle.std.proofs.Common.{arith, ◌≡◌, ℕ, zero, suc, ◌+◌, ◌-◌, ◌≤◌, ◌<◌, Bool, true, false, List, [], ◌∷◌, ◌++◌, length, map, refl, sym, ap, ◌∙◌, subst}
+use Rattle.std.proofs.Common.{arith, ◌≡◌, ℕ, ◌≤◌, ◌<◌, Bool, true, false, List, [], ◌∷◌, ◌++◌, length, map, refl, sym, ap, ◌∙◌, subst}
 use Rattle.std.specs.Prelude.{◌==◌, ◌&&◌, ◌||◌, not, if◌then◌else◌, nat_lt, filter, option_map, Option, Some, None, MatchOption, Result, Ok, Err}
 use Rattle.std.specs.List.{AllByRecursion, flat_map}
 use Rattle.std.proofs.lemmas.Grind.{flat_map-append}
@@ -19,10 +19,10 @@ use Rattle.wt_checks.specs.Kept.{kept_under, GroupAsItWas, NodeAsItWas, WellMark
 use Rattle.wt_checks.specs.Marks.{editing, allows}
 use Rattle.wt_checks.specs.Places.{Place, placed, all_placed, places, number, kind_at, is_kept, is_body, is_content, numbered, Page, page_of, parent_below}
 use Rattle.wt_checks.proofs.Found.{Itself, each_itself, found_has}
-use Rattle.wt_checks.proofs.InOrder.{Increasing, Above, Right, all_right, kept_not_zero, not_zero_kept, same_by, test_equal}
+use Rattle.wt_checks.proofs.InOrder.{Above, Right, all_right, kept_not_zero, same_by, test_equal}
 use Rattle.wt_checks.proofs.Lookups.{each_split, all_page_numbers}
 use Rattle.wt_checks.proofs.WhatIsKept.{increasing, kept}
-use Rattle.wt_selser.specs.Changes.{Pair, pair_with, pair_at, marked, change_with, change_of, changes, place_in}
+use Rattle.wt_selser.specs.Changes.{pair_with, pair_at, marked, change_with, change_of, changes, place_in}
 use Rattle.wt_escape.specs.Spelling.{inline_spelling}
 use Rattle.wt_selser.specs.declared.refusal.EditRefusal.{EditRefusal}
 use Rattle.wt_selser.specs.declared.refusal.EditRefusal.TheVariants as refusal
@@ -103,7 +103,7 @@ follow_split page from to ks js f =
 within_split : (page : Page) (xs ys : List Place) → Within page (xs ++ ys) → Within page xs × Within page ys
 within_split page xs ys w =
     let g = λ (n : ℕ) (h : is_there (page n) ≡ true). follow_split page (starts page n) (ends page n) (kept_under n xs) (kept_under n ys)
-        (subst (Follow page (starts page n) (ends page n)) (under_join n xs ys) (w n h)) in
+    (subst (Follow page (starts page n) (ends page n)) (under_join n xs ys) (w n h)) in
     ((λ n h. (g n h).0), (λ n h. (g n h).1))
 
 rest_by : (b : Bool) (page : Page) (from to k : ℕ) (ks : List ℕ) → Follow page from to (if b then k ∷ ks else ks) → Follow page from to ks
@@ -195,7 +195,7 @@ mutual
       let js = kept_under m ys in
       let b = chain_split (starts page) e from ks js (subst (Chain (starts page) e from) (under_join m xs ys) c) in
       let u : end_after e from (kept_under m (xs ++ ys)) ≡ end_after e (end_after e from ks) js =
-          ap (λ ns. end_after e from ns) (under_join m xs ys) ∙ end_join e from ks js in
+      ap (λ ns. end_after e from ns) (under_join m xs ys) ∙ end_join e from ks js in
       subst (λ (z : ℕ). AreApart from (owns same page (xs ++ ys)) z) (sym u)
       (subst (λ (cs : List Change). AreApart from cs (end_after e (end_after e from ks) js)) (sym (flat_map-append (own same page) xs ys))
       (apart_join from (end_after e from ks) (end_after e (end_after e from ks) js) (owns same page xs) (owns same page ys)
@@ -268,8 +268,8 @@ own_of : (same : Tree → Tree → Bool) (page : Page) (p : Place) → HaveInsid
 own_of same page p has g n m r =
     let known : is_kept p ≡ true → is_there (page (number p)) ≡ true = λ k. there_of p.parent (page (number p)) (r k) in
     let old : has_content p ≡ true → is_kept p ≡ true =
-        λ e. let w = m (content_marked (label p.node).mark e) in
-        no_body (is_kept p) (kind_at p) (label p.node).mark (page (number p)) w.old w.allowed in
+    λ e. let w = m (content_marked (label p.node).mark e) in
+    no_body (is_kept p) (kind_at p) (label p.node).mark (page (number p)) w.old w.allowed in
     record {
       known = known;
       outside = λ e. (m (content_marked (label p.node).mark e)).outside;
@@ -279,7 +279,7 @@ own_of same page p has g n m r =
           let w = m i in
           let k = old e in
           let no_leaves = no_leaf (page (number p)) p (g k) (n w.old w.outside) (marked_has p.node i)
-              (editable (kind_at p) (label p.node).mark (page (number p)) w.allowed) in
+          (editable (kind_at p) (label p.node).mark (page (number p)) w.allowed) in
           subst (λ (cs : List Change). AreApart (starts page (number p)) cs (ends page (number p)))
           (sym (ap (λ b. changes same (if b then pair_with (page (number p)) p.node else [])) e))
           (pair_apart same (page (number p)) p.node (known k) (λ q s. has (number p) q k s (no_leaves q s)));
@@ -371,10 +371,10 @@ page_chains t b h tiled bare le =
     let n = nested page 0 false t i tiled bare around in
     let grow : Grow 0 ps = record { above = above_zero ps; grow = inc } in
     let by = λ (k : ℕ) (le : starts page k ≤ ends page k).
-        let f = follow page k 0 false t i tiled bare grow in
-        let c = chain_within (starts page) (ends page) (starts page k) (ends page k) (start_of (label t).ranges) (kept_under k ps) le f.chain
-            (under_within page k ps i n) in
-        follow_of page (starts page k) (ends page k) (kept_under k ps) c.0 c.1 in
+    let f = follow page k 0 false t i tiled bare grow in
+    let c = chain_within (starts page) (ends page) (starts page k) (ends page k) (start_of (label t).ranges) (kept_under k ps) le f.chain
+    (under_within page k ps i n) in
+    follow_of page (starts page k) (ends page k) (kept_under k ps) c.0 c.1 in
     record {
       root = r;
       there = ap is_there found;
@@ -404,10 +404,10 @@ slices_apart same page t u b h tiled covers bare free =
     let right = all_right (places t) es es (increasing t b h) k.order (λ n i m. m) in
     let o = all_own same look es c.insides k.groups k.nodes k.marks right in
     let w : Within look es = λ n there.
-        let f = c.within n there in
-        let r = chain_sublist (starts look) (ends look) (starts look n) (kept_under n es) (kept_under n (places t)) (k.order n) f.chain in
-        let e = f.ends_by in
-        record { chain = r.0; ends_by = omega (arith, r.1, e) } in
+    let f = c.within n there in
+    let r = chain_sublist (starts look) (ends look) (starts look n) (kept_under n es) (kept_under n (places t)) (k.order n) f.chain in
+    let e = f.ends_by in
+    record { chain = r.0; ends_by = omega (arith, r.1, e) } in
     let top = w 0 c.there in
     let s : starts look 0 ≡ 0 = ap start_of c.root ∙ z.0 in
     let e : ends look 0 ≡ length page = ap end_of c.root ∙ z.1 in
@@ -438,9 +438,10 @@ new_page same page new t u e =
     let ps = marked t u in
     let short = if_short (spliced page (changes same ps)) in
     let a = refused_none (option_map refusal.Check (checked false t u)) (unless_refused (refused_pairs same page ps) short) new e in
-    let b = refused_none (refused_pairs same page ps) short new a.1 in
-    (checked_none (checked false t u) a.0,
-    short_is (nat_lt most_bytes (length (spliced page (changes same ps)))) (spliced page (changes same ps)) new b.1)
+    let b = refused_none (refused_pairs same page ps) short new a.1 in (
+      checked_none (checked false t u) a.0,
+      short_is (nat_lt most_bytes (length (spliced page (changes same ps)))) (spliced page (changes same ps)) new b.1,
+    )
 
 pub edit_stands : (same : Tree → Tree → Bool) (page new : List ℕ) (t u : Tree) → (label t).kind ≡ kind.Body → InPreorder t → Tiled t → Covers (length page) t
     → LeavesHoldNoNumber t → edit_answer same page t u ≡ Ok new → OutsideStands page new (changes same (marked t u))

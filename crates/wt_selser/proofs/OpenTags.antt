@@ -3,7 +3,7 @@ use Rattle.std.proofs.Common.{arith, ◌≡◌, ◌<◌, ◌≤◌, ◌+◌, ◌
 use Rattle.std.specs.Prelude.{◌==◌, ◌&&◌, ◌||◌, not, nat_lt, slice_index, reverse}
 use Rattle.std.specs.Char.{is_ascii_alphabetic}
 use Rattle.std.proofs.lemmas.Bool.Decides.{nat_tests}
-use Rattle.std.specs.List.{list_any, prefix_len}
+use Rattle.std.specs.List.{list_any}
 use Rattle.std.proofs.lemmas.List.{drop_more, length-reverse, get_or-reverse}
 use Rattle.std.proofs.lemmas.List.Sums.{prefix_len_is, prefix_len_passes}
 use Rattle.wt_selser.specs.OpenTags.{is_stop, bare_len, ends_open, EndsOpen}
@@ -144,7 +144,7 @@ bare_is front rest letter bare =
     let there : length bs - 1 - k ≡ length front + suc i = omega (arith, len, lt) in
     let inside : i < length (letter ∷ rest) = omega arith in
     let g : get_or (reverse bs) k 0 ≡ get_or (letter ∷ rest) i 0 =
-        get_or-reverse bs k 0 within ∙ get_behind front (60 ∷ letter ∷ rest) (suc i) (length bs - 1 - k) there in
+    get_or-reverse bs k 0 within ∙ get_behind front (60 ∷ letter ∷ rest) (suc i) (length bs - 1 - k) there in
     ap (λ b. not (is_stop b)) g ∙ ap not (none_any (letter ∷ rest) bare i inside))
     (λ lt.
     let within : suc (length rest) < length bs = omega (arith, len) in

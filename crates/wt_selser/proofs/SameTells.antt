@@ -1,6 +1,6 @@
 -- The test of two nodes tells what it should.
 use Rattle.std.proofs.Common.{◌≡◌, ℕ, Bool, true, false, refl, sym, ap, ◌∙◌, List, [], ◌∷◌, Option, map}
-use Rattle.std.specs.Prelude.{◌==◌, ◌&&◌}
+use Rattle.std.specs.Prelude.{◌&&◌}
 use Rattle.std.specs.Bool.{Decides}
 use Rattle.std.specs.Option.{option_eq}
 use Rattle.std.specs.Cmp.Lexicographic.{pointwise}
@@ -43,11 +43,12 @@ one_face f g k a m = ap (λ x. made x f.attrs f.mw) k ∙ ap (λ x. made g.kind 
 pub face_told : (f g : Face) → Decides (same_face f g) (f ≡ g)
 face_told f g =
     let d = both (kinds.eq-value.it f.kind g.kind)
-        (pointwise attrs.eq-value.it (map as_attr f.attrs) (map as_attr g.attrs) && option_eq data_of.eq-value.it f.mw g.mw) (kind_decides f.kind g.kind)
-        (both (pointwise attrs.eq-value.it (map as_attr f.attrs) (map as_attr g.attrs)) (option_eq data_of.eq-value.it f.mw g.mw)
-        (attrs_told f.attrs g.attrs) (mw_same f.mw g.mw)) in
-    (λ h. one_face f g (d.0 h).0 (d.0 h).1.0 (d.0 h).1.1,
-    λ e. d.1 (ap (λ (x : Face). x.kind) e, (ap (λ (x : Face). x.attrs) e, ap (λ (x : Face). x.mw) e)))
+    (pointwise attrs.eq-value.it (map as_attr f.attrs) (map as_attr g.attrs) && option_eq data_of.eq-value.it f.mw g.mw) (kind_decides f.kind g.kind)
+    (both (pointwise attrs.eq-value.it (map as_attr f.attrs) (map as_attr g.attrs)) (option_eq data_of.eq-value.it f.mw g.mw)
+    (attrs_told f.attrs g.attrs) (mw_same f.mw g.mw)) in (
+      λ h. one_face f g (d.0 h).0 (d.0 h).1.0 (d.0 h).1.1,
+      λ e. d.1 (ap (λ (x : Face). x.kind) e, (ap (λ (x : Face). x.attrs) e, ap (λ (x : Face). x.mw) e)),
+    )
 
 bracket_told : (j k : Bracket) → Decides (same_bracket j k) (j ≡ k)
 bracket_told (opens f) (opens g) = let d = face_told f g in (λ h. ap opens (d.0 h), λ e. d.1 cc)
