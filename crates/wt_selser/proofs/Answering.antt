@@ -1,5 +1,5 @@
 -- How the code finds the answer to an edit, step by step.
-use Rattle.std.proofs.Common.{◌≡◌, ◌<◌, ℕ, ◌+◌, Bool, true, false, List, [], ◌∷◌, length, drop, get_or, refl, sym, ap, ◌∙◌, subst}
+use Rattle.std.proofs.Common.{◌≡◌, ◌<◌, ℕ, ◌+◌, Bool, true, false, List, ◌∷◌, length, drop, get_or, refl, sym, ap, ◌∙◌, subst}
 use Rattle.std.specs.Prelude.{Option, Some, None, option_map, Result, Ok, Err, nat_lt, if◌then◌else◌}
 use Rattle.std.proofs.lemmas.List.{drop_more}
 use Rattle.wt_tree.specs.declared.node.Node.{Node, out-Node}
@@ -14,7 +14,7 @@ use Rattle.wt_selser.specs.declared.refusal.EditRefusal.{EditRefusal}
 use Rattle.wt_selser.specs.declared.refusal.EditRefusal.TheVariants as refusal
 use Rattle.wt_selser.specs.Changes.{Pair, marked}
 use Rattle.wt_selser.specs.Content.{bad_content}
-use Rattle.wt_selser.specs.Edits.{first_with, first_of, bad_pair, before, tangled_pair, most_bytes, if_short, unless_refused, pairs_answer, edit_answer, IsEditRefusal, AnswersEdit}
+use Rattle.wt_selser.specs.Edits.{first_with, first_of, bad_pair, before, tangled_pair, most_bytes, if_short, unless_refused, pairs_answer, edit_answer, AnswersEdit}
 use Rattle.wt_selser.specs.OpenTags.{touches_open_tag}
 use Rattle.wt_selser.specs.Views.{pair_of, pairs_of}
 use Rattle.wt_selser.proofs.Spliced.{ranges_seen}

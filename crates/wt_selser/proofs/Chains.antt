@@ -1,5 +1,5 @@
 -- Stretches of a page that are told by numbers: each begins and ends at a place, and they stand one after the other.
-use Rattle.std.proofs.Common.{arith, ◌≡◌, ℕ, ◌≤◌, List, [], ◌∷◌, ◌++◌, refl, sym, ap, ◌∙◌, subst, inl, inr, ◌⊎◌}
+use Rattle.std.proofs.Common.{arith, ◌≡◌, ℕ, ◌≤◌, List, [], ◌∷◌, ◌++◌, refl, sym, subst, inl, inr}
 use Rattle.std.specs.List.{AllByRecursion}
 use Rattle.wt_checks.specs.Kept.{IsSublist}
 use Rattle.wt_selser.specs.Splice.{Change, AreApart}

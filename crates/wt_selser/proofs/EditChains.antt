@@ -1,5 +1,5 @@
 -- The slices of an edit stand in the page one after the other: kept nodes stand in the page's order, and no marked node in another one.
-use Rattle.std.proofs.Common.{arith, ◌≡◌, ℕ, zero, suc, ◌+◌, ◌-◌, ◌≤◌, ◌<◌, Bool, true, false, List, [], ◌∷◌, ◌++◌, length, map, refl, sym, ap, ◌∙◌, subst}
+use Rattle.std.proofs.Common.{arith, ◌≡◌, ℕ, ◌≤◌, ◌<◌, Bool, true, false, List, [], ◌∷◌, ◌++◌, length, map, refl, sym, ap, ◌∙◌, subst}
 use Rattle.std.specs.Prelude.{◌==◌, ◌&&◌, ◌||◌, not, if◌then◌else◌, nat_lt, filter, option_map, Option, Some, None, MatchOption, Result, Ok, Err}
 use Rattle.std.specs.List.{AllByRecursion, flat_map}
 use Rattle.std.proofs.lemmas.Grind.{flat_map-append}
@@ -19,10 +19,10 @@ use Rattle.wt_checks.specs.Kept.{kept_under, GroupAsItWas, NodeAsItWas, WellMark
 use Rattle.wt_checks.specs.Marks.{editing, allows}
 use Rattle.wt_checks.specs.Places.{Place, placed, all_placed, places, number, kind_at, is_kept, is_body, is_content, numbered, Page, page_of, parent_below}
 use Rattle.wt_checks.proofs.Found.{Itself, each_itself, found_has}
-use Rattle.wt_checks.proofs.InOrder.{Increasing, Above, Right, all_right, kept_not_zero, not_zero_kept, same_by, test_equal}
+use Rattle.wt_checks.proofs.InOrder.{Above, Right, all_right, kept_not_zero, same_by, test_equal}
 use Rattle.wt_checks.proofs.Lookups.{each_split, all_page_numbers}
 use Rattle.wt_checks.proofs.WhatIsKept.{increasing, kept}
-use Rattle.wt_selser.specs.Changes.{Pair, pair_with, pair_at, marked, change_with, change_of, changes, place_in}
+use Rattle.wt_selser.specs.Changes.{pair_with, pair_at, marked, change_with, change_of, changes, place_in}
 use Rattle.wt_escape.specs.Spelling.{inline_spelling}
 use Rattle.wt_selser.specs.declared.refusal.EditRefusal.{EditRefusal}
 use Rattle.wt_selser.specs.declared.refusal.EditRefusal.TheVariants as refusal

@@ -1,8 +1,7 @@
 -- The nodes of a page with a number, by their places: each lies within the node round it, and under one node they follow one another.
-use Rattle.std.proofs.Common.{arith, ◌≡◌, ◌≢◌, ℕ, ◌+◌, ◌-◌, ◌≤◌, ◌<◌, Bool, true, false, List, [], ◌∷◌, ◌++◌, map, refl, sym, ap, ◌∙◌, subst}
+use Rattle.std.proofs.Common.{arith, ◌≡◌, ℕ, ◌+◌, ◌-◌, ◌≤◌, ◌<◌, Bool, true, false, List, [], ◌∷◌, ◌++◌, map, refl, sym, ap, ◌∙◌, subst}
 use Rattle.std.specs.Prelude.{◌==◌, ◌&&◌, ◌||◌, not, if◌then◌else◌, filter, Option, Some, None}
 use Rattle.std.specs.List.{AllByRecursion}
-use Rattle.std.proofs.lemmas.Bool.Decides.{nat_tests}
 use Rattle.wt_tree.specs.declared.kind.Ranges.{Ranges}
 use Rattle.wt_tree.specs.Kinds.{is_leaf}
 use Rattle.wt_tree.specs.Tiling.{Tiled, TiledBy, TiledFrom, BeginsAt, end_of, ids, ids_of_all}
@@ -10,10 +9,10 @@ use Rattle.wt_tree.specs.Tree.{Tree, tree, Trees, none, more, label}
 use Rattle.wt_checks.specs.Kept.{kept_under}
 use Rattle.wt_checks.specs.Places.{Place, placed, all_placed, number, kind_at, is_kept, is_content, Page, parent_below}
 use Rattle.wt_checks.proofs.Found.{Itself}
-use Rattle.wt_checks.proofs.InOrder.{Increasing, Above, kept_not_zero, not_zero_kept, same_by, test_other, zero_of}
+use Rattle.wt_checks.proofs.InOrder.{Increasing, Above, kept_not_zero, same_by, test_other}
 use Rattle.wt_checks.proofs.Lookups.{each_split, each_join, AllZero}
 use Rattle.wt_selser.specs.Leaves.{LeavesHoldNoNumber, AllLeavesHoldNoNumber}
-use Rattle.wt_selser.proofs.Chains.{Chain, end_after, chain_grows, chain_lower, end_lower, chain_join, end_join, AreWithin}
+use Rattle.wt_selser.proofs.Chains.{Chain, end_after, chain_lower, end_lower, chain_join, end_join}
 
 -- ---- where a number begins and ends
 

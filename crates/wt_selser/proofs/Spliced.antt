@@ -1,9 +1,7 @@
 -- How the code makes the changes and the new page, one change at a time.
-use Rattle.std.proofs.Common.{◌≡◌, ◌<◌, ℕ, ◌+◌, Bool, List, [], ◌∷◌, ◌++◌, length, drop, get_or, sym, ap, ◌∙◌}
+use Rattle.std.proofs.Common.{◌≡◌, ◌<◌, ℕ, ◌+◌, Bool, List, ◌∷◌, ◌++◌, length, drop, get_or, sym, ap, ◌∙◌}
 use Rattle.std.proofs.lemmas.List.{drop_more}
 use Rattle.wt_guards.specs.declared.side.Place.{Place as Surround}
-use Rattle.wt_tree.specs.declared.kind.Kind.{Kind}
-use Rattle.wt_tree.specs.declared.kind.Ranges.{Ranges}
 use Rattle.wt_tree.specs.declared.node.Node.{Node, out-Node}
 use Rattle.wt_tree.specs.Tree.{Tree, label}
 use Rattle.wt_tree.specs.View.{view}
@@ -13,7 +11,7 @@ use Rattle.wt_selser.specs.declared.change.Change.{Change as Made}
 use Rattle.wt_selser.specs.declared.change.Pair.{Pair as Found}
 use Rattle.wt_selser.specs.Changes.{change_of, change_with, place_in}
 use Rattle.wt_selser.specs.Splice.{Change, between, spliced_from}
-use Rattle.wt_selser.specs.Views.{change_view, changes_view, pair_of}
+use Rattle.wt_selser.specs.Views.{changes_view, pair_of}
 
 pub kind_seen : (n : Node) → (label (view n)).kind ≡ (out-Node n).kind
 kind_seen n = rw (view_out n)

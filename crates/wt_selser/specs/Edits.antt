@@ -1,10 +1,9 @@
 -- The answer to an edit of a page without templates: the new page, or the first refusal by its kind, then in preorder.
-use Rattle.std.specs.Prelude.{◌≡◌, ℕ, Bool, false, ◌==◌, Option, Some, None, option_map, Result, Ok, Err, List, [], ◌∷◌, length, take, nat_lt, if◌then◌else◌}
+use Rattle.std.specs.Prelude.{◌≡◌, ℕ, Bool, false, Option, Some, None, option_map, Result, Ok, Err, List, [], ◌∷◌, length, take, nat_lt, if◌then◌else◌}
 use Rattle.wt_tree.specs.declared.kind.Ranges.{Ranges}
 use Rattle.wt_tree.specs.Tree.{Tree, label}
 use Rattle.wt_checks.specs.declared.refusal.Check.{Check}
 use Rattle.wt_checks.specs.Checked.{checked}
-use Rattle.wt_selser.specs.declared.refusal.ContentWhy.{ContentWhy}
 use Rattle.wt_selser.specs.declared.refusal.EditRefusal.{EditRefusal}
 use Rattle.wt_selser.specs.declared.refusal.EditRefusal.TheVariants as refusal
 use Rattle.wt_selser.specs.Changes.{Pair, marked, changes}

@@ -1,6 +1,6 @@
 -- Where a block touches an open tag: a `<` with a letter directly behind it, which neither a `<` nor a `>` nor a line break follows up
 -- to the block, or up to the end of one of its nodes.
-use Rattle.std.specs.Prelude.{◌≡◌, ℕ, ◌+◌, ◌-◌, ◌==◌, ◌&&◌, ◌||◌, Bool, true, false, not, List, [], ◌∷◌, ◌++◌, length, reverse, nat_lt, slice_index}
+use Rattle.std.specs.Prelude.{◌≡◌, ℕ, ◌+◌, ◌-◌, ◌==◌, ◌&&◌, ◌||◌, Bool, true, false, not, List, ◌∷◌, ◌++◌, length, reverse, nat_lt, slice_index}
 use Rattle.std.specs.Char.{is_ascii_alphabetic}
 use Rattle.std.specs.List.{list_any, prefix_len}
 use Rattle.wt_tree.specs.Source.{flat}

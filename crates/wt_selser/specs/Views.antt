@@ -1,5 +1,5 @@
 -- What the code's own types stand for.
-use Rattle.std.specs.Prelude.{◌≡◌, ℕ, List, map}
+use Rattle.std.specs.Prelude.{◌≡◌, List, map}
 use Rattle.std.specs.List.{list_any}
 use Rattle.wt_tree.specs.Plain.{Plain, Plains, text, element, face, plains_before, text_before, ended}
 use Rattle.wt_tree.specs.View.{view, views, label_of}

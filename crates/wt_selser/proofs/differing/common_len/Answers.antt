@@ -1,4 +1,4 @@
-use Rattle.std.proofs.Common.{arith, ◌≡◌, ◌<◌, ℕ, true, length, take, sym, subst}
+use Rattle.std.proofs.Common.{arith, ◌≡◌, ℕ, true, length, take, subst}
 use Rattle.wt_selser.specs.Views.{children_view}
 use Rattle.wt_selser.proofs.ShownChildren.{same_more, differ_here, one_ends}
 use Rattle.wt_selser.proofs.differing.common_len.Goals as goal
