@@ -4,7 +4,7 @@ use Rattle.std.specs.Prelude.{◌==◌, ◌&&◌, not, Option, Some, None, if◌
 use Rattle.std.specs.List.{flat_map, list_all}
 use Rattle.std.proofs.lemmas.Grind.{flat_map-append}
 use Rattle.std.proofs.lemmas.List.{take-append-drop}
-use Rattle.std.proofs.Math.Seq.{take-add}
+use Rattle.std.proofs.Math.Seq.{take-add, take-length}
 use Rattle.wt_markup.specs.Escapes.{escape, escape_double, escape_single, is_control}
 use Rattle.wt_html_out.specs.Counts.{SpendsSome}
 use Rattle.wt_html_out.specs.Runs.{is_plain}
@@ -81,6 +81,14 @@ wrote_more f old out new bytes rest at n o is e =
     ∙ ap (λ xs. old ++ (flat_map f (take at bytes) ++ flat_map f (take n xs))) is
     ∙ ap (λ xs. old ++ xs) (sym (flat_map-append f (take at bytes) (take n (drop at bytes))))
     ∙ ap (λ xs. old ++ flat_map f xs) (sym (take-add at n bytes))
+
+-- what is plain all through is as it is when it is escaped
+pub kept_behind : (out : List ℕ) (at : ℕ) (text : List ℕ) (n : ℕ) → text ≡ drop at out → n ≡ length text → list_all (is_plain 39) (take n text) ≡ true
+    → out ≡ take at out ++ flat_map escape_single (drop at out)
+kept_behind out at text n is whole plain =
+    let all : take n text ≡ text = ap (λ k. take k text) whole ∙ take-length text in
+    let same : flat_map escape_single text ≡ text = run_single text (ap (list_all (is_plain 39)) (sym all) ∙ plain) in
+    sym (take-append-drop at out) ∙ ap (λ xs. take at out ++ xs) (sym (ap (flat_map escape_single) (sym is) ∙ same ∙ is))
 
 -- ---- counting
 

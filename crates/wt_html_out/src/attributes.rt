@@ -1,15 +1,16 @@
-ghost use Rattle.std.specs.Prelude.{◌≡◌, ◌++◌, IfOk, OnOk};
+ghost use Rattle.std.specs.Prelude.{◌≡◌, ◌≤◌, ◌++◌, take, drop, length, IfOk, OnOk};
+ghost use Rattle.wt_markup.specs.Escapes.{escaped_single};
 ghost use Rattle.wt_markup.specs.Html.{attribute, attributes, id_attribute, mw_attribute, leaf_sync, inner_sync, sync_of, sync_start, sync_value, sync_attribute, carried_attributes, attributes_of};
 ghost use Rattle.wt_datamw.specs.Sync.{sync_text};
 ghost use Rattle.wt_tree.specs.Kinds.{one_if_any, fixed_of, fixed_attributes};
 ghost use Rattle.wt_tree.specs.View.{texts_of, attrs_of, label_of};
 ghost use Rattle.wt_tree.specs.declared.node.Node.{out-Node};
 
-use crate::bytes::{push_escaped_double, push_escaped_single};
+use crate::bytes::{plain_len, push_escaped_double, push_escaped_single};
 use std::alloc::Global;
 use wt_datamw::{Sync, push_sync_text, to_text};
 use wt_outer::{push, push_number};
-use wt_span::{NoMemory, Str, Text};
+use wt_span::{NoMemory, Str, Text, rest_of};
 use wt_tree::{Attr, AttrName, DataMw, Fixed, Kind, Node, Ranges};
 
 #[tactic(auto, unfolding(wt_markup::specs::Html::attribute))]
@@ -123,15 +124,6 @@ fn sync_of(alloc: Global, node: &Node<'_>, dsr: Ranges) -> Result<Sync, NoMemory
     sync_of_inner(alloc, node, dsr)
 }
 
-fn sync_text_of(alloc: Global, node: &Node<'_>, dsr: Ranges) -> Result<Vec<u8>, NoMemory>
-    ensures { IfOk result (λ s. s.items ≡ sync_text (sync_of (label_of (out-Node node.now)) dsr)) }
-{
-    let sync = sync_of(alloc, node, dsr)?;
-    let mut text = Vec::new(alloc);
-    push_sync_text(&mut text, &sync)?;
-    Ok(text)
-}
-
 #[tactic(auto, unfolding(wt_markup::specs::Html::sync_start))]
 fn push_sync_start(out: &mut Vec<u8>) -> Result<(), NoMemory>
     ensures { OnOk result (out.new.items ≡ out.old.items ++ sync_start) }
@@ -140,12 +132,38 @@ fn push_sync_start(out: &mut Vec<u8>) -> Result<(), NoMemory>
     Ok(())
 }
 
+/// Escapes what stands behind a place, as a value that stands in `'`. Mostly nothing of it needs an
+/// escape, and it stays as it is.
+fn escape_behind(alloc: Global, out: &mut Vec<u8>, at: usize) -> Result<(), NoMemory>
+    requires { at ≤ length out.old.items }
+    ensures { OnOk result (out.new.items ≡ take at out.old.items ++ escaped_single (drop at out.old.items)) }
+{
+    let written = rest_of(out.as_slice(), at);
+    if plain_len(b'\'', written) == written.len() {
+        return Ok(());
+    }
+    let text = Vec::from_slice(alloc, written)?;
+    out.truncate(at);
+    push_escaped_single(out, text.as_slice())?;
+    Ok(())
+}
+
+/// The text of `data-parsoid`, as a value that stands in `'`.
+fn push_sync_escaped(alloc: Global, out: &mut Vec<u8>, sync: &Sync) -> Result<(), NoMemory>
+    ensures { OnOk result (out.new.items ≡ out.old.items ++ escaped_single (sync_text sync.now)) }
+{
+    let at = out.len();
+    push_sync_text(out, sync)?;
+    escape_behind(alloc, out, at)?;
+    Ok(())
+}
+
 #[tactic(auto, unfolding(wt_markup::specs::Html::sync_value))]
-fn push_sync_value(out: &mut Vec<u8>, text: &[u8]) -> Result<(), NoMemory>
-    ensures { OnOk result (out.new.items ≡ out.old.items ++ sync_value text.now) }
+fn push_sync_value(alloc: Global, out: &mut Vec<u8>, sync: &Sync) -> Result<(), NoMemory>
+    ensures { OnOk result (out.new.items ≡ out.old.items ++ sync_value (sync_text sync.now)) }
 {
     push_sync_start(out)?;
-    push_escaped_single(out, text)?;
+    push_sync_escaped(alloc, out, sync)?;
     push(out, b"'")?;
     Ok(())
 }
@@ -157,8 +175,8 @@ fn push_sync(alloc: Global, out: &mut Vec<u8>, node: &Node<'_>) -> Result<(), No
     let Some(dsr) = node.ranges else {
         return Ok(());
     };
-    let text = sync_text_of(alloc, node, dsr)?;
-    push_sync_value(out, &text)?;
+    let sync = sync_of(alloc, node, dsr)?;
+    push_sync_value(alloc, out, &sync)?;
     Ok(())
 }
 

@@ -14,6 +14,6 @@ mod sink;
 mod tags;
 
 pub use count::html_len;
-pub use nodes::html_bytes;
-pub use refusal::WriteRefusal;
+pub use nodes::{html_bytes, html_bytes_within};
+pub use refusal::{LengthRefusal, WriteRefusal};
 pub use sink::write_html;

@@ -19,7 +19,8 @@ fn push_level(out: &mut Vec<u8>, level: Option<u8>) -> Result<(), NoMemory>
 pub fn push_name(out: &mut Vec<u8>, kind: Kind) -> Result<(), NoMemory>
     ensures { OnOk result (out.new.items ≡ out.old.items ++ element_name kind) }
 {
-    push(out, kind.name())?;
-    push_level(out, kind.level())?;
+    let spelling = kind.spelling();
+    push(out, spelling.name)?;
+    push_level(out, spelling.level)?;
     Ok(())
 }

@@ -1,4 +1,5 @@
-ghost use Rattle.std.specs.Prelude.{◌≡◌, ◌++◌, ◌+◌, suc, IfOk, OnOk};
+ghost use Rattle.std.specs.Prelude.{◌≡◌, ◌<◌, ◌≤◌, ◌++◌, ◌+◌, suc, length, Err, IfOk, OnOk};
+ghost use Rattle.wt_html_out.specs.declared.refusal.LengthRefusal.TheVariants.{TooLong};
 ghost use Rattle.wt_markup.specs.Escapes.{escaped};
 ghost use Rattle.wt_markup.specs.Html.{html, html_of_all, groups, groups_of_all, frame_start, frame_end, html_text};
 ghost use Rattle.wt_tree.specs.Tiling.{is_group};
@@ -6,6 +7,7 @@ ghost use Rattle.wt_tree.specs.View.{texts_of, view, views};
 
 use crate::bytes::push_escaped;
 use crate::groups::push_group;
+use crate::refusal::LengthRefusal;
 use crate::tags::{push_end, push_start, push_void};
 use std::alloc::Global;
 use wt_outer::push;
@@ -38,16 +40,30 @@ pub fn next_group(before: u32) -> Result<u32, NoMemory>
     Ok(before + 1)
 }
 
-/// A node behind so many groups; it gives how many stand before what follows it.
+/// Stops the writer where it has written more than so many bytes.
+fn stop_past(most: usize, out: &[u8]) -> Result<(), LengthRefusal>
+    ensures within { OnOk result (length out.now ≤ most) }
+    ensures too_long { result ≡ Err TooLong → most < length out.now }
+{
+    if out.len() > most {
+        return Err(LengthRefusal::TooLong);
+    }
+    Ok(())
+}
+
+/// A node behind so many groups; it gives how many stand before what follows it. The writer stops
+/// behind the first child with which the text is too long.
 #[cycle(html)]
 fn push_html(
     alloc: Global,
     out: &mut Vec<u8>,
+    most: usize,
     before: u32,
     node: &Node<'_>,
-) -> Result<u32, NoMemory>
+) -> Result<u32, LengthRefusal>
     ensures text { OnOk result (out.new.items ≡ out.old.items ++ html before (view node.now)) }
     ensures groups { IfOk result (λ n. n ≡ before + groups (view node.now)) }
+    ensures too_long { result ≡ Err TooLong → most < length (out.old.items ++ html before (view node.now)) }
 {
     if is_group(node.kind) {
         let number = next_group(before)?;
@@ -64,7 +80,7 @@ fn push_html(
         }
         Writing::RoundChildren => {
             push_start(alloc, out, node)?;
-            let behind = push_all(alloc, out, before, node.children.as_slice())?;
+            let behind = push_all(alloc, out, most, before, node.children.as_slice())?;
             push_end(out, node)?;
             return Ok(behind);
         }
@@ -77,15 +93,18 @@ fn push_html(
 fn push_all(
     alloc: Global,
     out: &mut Vec<u8>,
+    most: usize,
     before: u32,
     nodes: &[Node<'_>],
-) -> Result<u32, NoMemory>
+) -> Result<u32, LengthRefusal>
     ensures text { OnOk result (out.new.items ≡ out.old.items ++ html_of_all before (views nodes.now)) }
     ensures groups { IfOk result (λ n. n ≡ before + groups_of_all (views nodes.now)) }
+    ensures too_long { result ≡ Err TooLong → most < length (out.old.items ++ html_of_all before (views nodes.now)) }
 {
     let mut behind = before;
     for node in nodes {
-        behind = push_html(alloc, out, behind, node)?;
+        behind = push_html(alloc, out, most, behind, node)?;
+        stop_past(most, out.as_slice())?;
     }
     Ok(behind)
 }
@@ -109,14 +128,32 @@ pub fn push_frame_end(out: &mut Vec<u8>) -> Result<(), NoMemory>
     Ok(())
 }
 
-/// The HTML of a page by its bytes, in memory.
+/// The HTML of a page by its bytes, in memory, if it has no more than `most`. A page whose HTML is
+/// longer takes memory for `most` bytes and for one node more that has no child, or one group.
 #[tactic(auto, unfolding(wt_markup::specs::Html::html_text))]
-pub fn html_bytes(alloc: Global, t: &Annotated<'_>) -> Result<List<u8>, NoMemory>
-    ensures { IfOk result (λ bytes. bytes ≡ html_text (view t.now.body)) }
+pub fn html_bytes_within(
+    alloc: Global,
+    t: &Annotated<'_>,
+    most: usize,
+) -> Result<List<u8>, LengthRefusal>
+    ensures text { IfOk result (λ bytes. bytes ≡ html_text (view t.now.body)) }
+    ensures within { IfOk result (λ bytes. length bytes ≤ most) }
+    ensures too_long { result ≡ Err TooLong → most < length (html_text (view t.now.body)) }
 {
     let mut out = Vec::new(alloc);
     push_frame_start(&mut out)?;
-    let _groups = push_html(alloc, &mut out, 0, t.body())?;
+    let _groups = push_html(alloc, &mut out, most, 0, t.body())?;
     push_frame_end(&mut out)?;
+    stop_past(most, out.as_slice())?;
     Ok(List::from_vec(out))
+}
+
+/// The HTML of a page by its bytes, in memory.
+pub fn html_bytes(alloc: Global, t: &Annotated<'_>) -> Result<List<u8>, NoMemory>
+    ensures { IfOk result (λ bytes. bytes ≡ html_text (view t.now.body)) }
+{
+    match html_bytes_within(alloc, t, usize::MAX) {
+        Ok(bytes) => Ok(bytes),
+        Err(_) => Err(NoMemory),
+    }
 }

@@ -13,21 +13,22 @@ use crate::output::Output;
 use crate::page::tree_of_page;
 use crate::refusal::Refusal;
 use std::alloc::Global;
-use wt_html_out::{html_bytes, html_len};
+use wt_html_out::{LengthRefusal, html_bytes_within};
 use wt_listing::listing;
 use wt_outer::Folder;
 use wt_tree::Annotated;
 
-/// The HTML of a page, if it is no longer than it may be. It is counted before it is made, so no page
-/// takes more memory than the longest HTML does.
+/// The HTML of a page, if it is no longer than it may be. The writer stops at the longest HTML, so no
+/// page takes more memory than this does.
 fn html_within(alloc: Global, tree: &Annotated<'_>) -> Result<Output, Refusal>
     ensures answered { Answered (html_within (html_text (view tree.now.body))) result }
     ensures of_page { IfErr result IsOfPage }
 {
-    if html_len(alloc, tree, HTML_BYTES as u32)?.is_none() {
-        return Err(Refusal::HtmlTooLong);
+    match html_bytes_within(alloc, tree, HTML_BYTES) {
+        Ok(bytes) => Ok(Output::Bytes(bytes)),
+        Err(LengthRefusal::TooLong) => Err(Refusal::HtmlTooLong),
+        Err(LengthRefusal::NoMemory) => Err(Refusal::NoMemory),
     }
-    Ok(Output::Bytes(html_bytes(alloc, tree)?))
 }
 
 /// What a command makes of a page of this tree.

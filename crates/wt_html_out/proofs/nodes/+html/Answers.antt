@@ -1,4 +1,4 @@
-use Rattle.std.proofs.Common.{sym, ◌∙◌, arith, append_assoc}
+use Rattle.std.proofs.Common.{sym, ◌∙◌, arith, append_assoc, length-append}
 use Rattle.std.proofs.lemmas.Grind.{common_steps}
 use Rattle.wt_html_out.proofs.Htmls.{html_children, html_character}
 use Rattle.wt_html_out.proofs.nodes.+html.Goals as goal
@@ -12,3 +12,8 @@ pub push_html-returns-in_ok-push_end-in-RoundCharacter-clause-text : goal.push_h
 push_html-returns-in_ok-push_end-in-RoundCharacter-clause-text t c =
     rw (html_character c.args.before c.args.node.now (sym c.is_group.ensures ∙ c.if-is_group.false) (sym c.writing.ensures ∙ c.in-RoundCharacter.is))
     (grind (arith, common_steps, append_assoc))
+
+pub push_html-returns-in_err-behind-in-RoundChildren-clause-too_long : goal.push_html-returns-in_err-behind-in-RoundChildren-clause-too_long
+push_html-returns-in_err-behind-in-RoundChildren-clause-too_long t c =
+    rw (html_children c.args.before c.args.node.now (sym c.is_group.ensures ∙ c.if-is_group.false) (sym c.writing.ensures ∙ c.in-RoundChildren.is))
+    (grind (arith, common_steps, append_assoc, length-append))
