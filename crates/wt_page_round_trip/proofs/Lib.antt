@@ -43,3 +43,8 @@ pub mod Unbroken
 pub mod Contents
 pub mod Counts
 pub mod PageTrees
+pub mod GroupJson
+pub mod CallParts
+pub mod OwnTexts
+pub mod GroupLabels
+pub mod LabelledGroups
