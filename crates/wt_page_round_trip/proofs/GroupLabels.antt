@@ -167,6 +167,11 @@ group_labelled calls all n id xs after c e t i room =
     (subst (λ (bs : List ℕ). IsGroupLabel (with_id id (group_label at bs (group_data calls (parts_from o None xs))))) (sym same)
     (labelled calls at id o xs c t i fits))
 
+-- of a group without items, as an empty style is
+pub empty_labelled : (calls : List OuterCall) (all : List Item) (n id : ℕ) → ArePageCalls calls → IsNumber true id → place calls all n < 2 ^ 32
+    → IsGroupLabel (with_id id (group_label (place calls all n) (text_between calls all n 0) (group_data calls (parts calls all n 0))))
+empty_labelled calls all n id c i room = group_labelled calls all n id [] (drop n all) c refl IsUtf8-nil i (omega (arith, room))
+
 -- of a group between two cuts of a page whose own characters are texts, where what follows each cut is UTF-8
 pub cut_labelled : (calls : List OuterCall) (all : List Item) (n k id : ℕ) → ArePageCalls calls → AreOwnTexts [] all → IsUtf8 (sources (drop n all))
     → IsUtf8 (sources (drop (n + k) all)) → n + k ≤ length all → IsNumber true id → place calls all n + length (text_between calls all n k) < 2 ^ 32

@@ -1,9 +1,8 @@
--- Every group of an annotated tree has a label that is written, where the page's own characters are texts and each node is cut
--- between characters.
-use Rattle.std.proofs.Common.{◌≡◌, ℕ, ◌+◌, ◌<◌, ◌≤◌, ◌^◌, Bool, true, false, Option, None, Some, List, [], ◌∷◌, ◌++◌, length, map, IsUtf8, refl, sym, ◌∙◌, subst, cond, arith}
+-- Every group of an annotated tree has a label that is written, where each node is cut between characters.
+use Rattle.std.proofs.Common.{◌≡◌, ℕ, ◌+◌, ◌<◌, ◌≤◌, ◌^◌, Bool, true, false, Option, None, Some, List, [], ◌∷◌, ◌++◌, length, map, refl, sym, ◌∙◌, subst, cond, arith}
 use Rattle.std.specs.Prelude.{◌||◌}
 use Rattle.std.specs.List.{AllByRecursion}
-use Rattle.std.proofs.lemmas.Str.{IsUtf8-nil, IsUtf8-append}
+use Rattle.std.proofs.lemmas.Str.{IsUtf8-nil}
 use Rattle.wt_tree.specs.declared.kind.Kind.{Kind}
 use Rattle.wt_tree.specs.declared.kind.Kind.TheVariants as kind
 use Rattle.wt_tree.specs.declared.kind.Ranges.{Ranges}
@@ -14,13 +13,12 @@ use Rattle.wt_tree.specs.Recut.{is_blank, is_text, is_border, leads_to_block, fr
 use Rattle.wt_tree.specs.Tiling.{is_group}
 use Rattle.wt_tree.specs.Tree.{Label, Tree, tree, Trees, none, more, label, trees}
 use Rattle.wt_span.specs.Cuts.{page_of}
-use Rattle.wt_span.specs.Items.{Item, sources}
+use Rattle.wt_span.specs.Items.{Item}
 use Rattle.wt_span.specs.Origins.{OuterCall}
 use Rattle.wt_span.specs.Runs.{runs, AreRuns}
 use Rattle.wt_span.proofs.RunLaws.{runs_are}
 use Rattle.wt_round_trip.specs.Written.{IsNumber, IsGroupLabel}
 use Rattle.wt_inline.specs.ItemTree.{ItemTree, inner, ItemTrees, nothing, further, tree_items, held_by_all}
-use Rattle.wt_inline.proofs.HeldLaws.{sources_append}
 use Rattle.wt_ranges.specs.Annotated.{kept_label, group_label, placed, annotated}
 use Rattle.wt_ranges.specs.Clean.{is_clean}
 use Rattle.wt_ranges.specs.CutTexts.{cut_as, cut_texts, all_cut_texts}
@@ -35,21 +33,18 @@ use Rattle.wt_ranges.specs.WithoutCalls.{inside_by}
 use Rattle.wt_ranges.proofs.AnnotatedTree.{annotated_slices}
 use Rattle.wt_ranges.proofs.Walks.{walk_all}
 use Rattle.wt_page_round_trip.specs.GroupTexts.{ArePageCalls, AreOwnTexts, HoldsTexts, AllHoldTexts, HasGroupLabel}
-use Rattle.wt_page_round_trip.proofs.OwnTexts.{own_cut, own_joined}
+use Rattle.wt_page_round_trip.proofs.OwnTexts.{own_joined}
 use Rattle.wt_page_round_trip.proofs.GroupLabels.{labelled}
 
 -- ---- trees over items
 
-both_utf8 : (xs ys : List Item) → IsUtf8 (sources xs) → IsUtf8 (sources ys) → IsUtf8 (sources (xs ++ ys))
-both_utf8 xs ys u v = subst IsUtf8 (sym (sources_append xs ys)) (IsUtf8-append (sources xs) (sources ys) u v)
-
 mutual
-  pub tree_utf8 : (t : ItemTree) → HoldsTexts t → IsUtf8 (sources (tree_items t))
-  tree_utf8 (inner h o ts c) p = both_utf8 o (held_by_all ts ++ c) p.1 (both_utf8 (held_by_all ts) c (held_utf8 ts p.2) p.3)
+  pub tree_own : (t : ItemTree) → HoldsTexts t → AreOwnTexts [] (tree_items t)
+  tree_own (inner h o ts c) q = own_joined [] o (held_by_all ts ++ c) q.1 (own_joined [] (held_by_all ts) c (held_own ts q.2) q.3)
 
-  pub held_utf8 : (ts : ItemTrees) → AllHoldTexts ts → IsUtf8 (sources (held_by_all ts))
-  held_utf8 nothing p = IsUtf8-nil
-  held_utf8 (further t ts) p = both_utf8 (tree_items t) (held_by_all ts) (tree_utf8 t p.0) (held_utf8 ts p.1)
+  pub held_own : (ts : ItemTrees) → AllHoldTexts ts → AreOwnTexts [] (held_by_all ts)
+  held_own nothing q = IsUtf8-nil
+  held_own (further t ts) q = own_joined [] (tree_items t) (held_by_all ts) (tree_own t q.0) (held_own ts q.1)
 
 -- ---- groups of a tree
 
@@ -128,27 +123,23 @@ inside_made false us h = h
 
 mutual
   walked_made : (calls : List OuterCall) (o : Option ℕ) (at : ℕ) (p : Option ℕ) (t : ItemTree) → ArePageCalls calls → HoldsTexts t
-      → AreOwnTexts [] (tree_items t) → OfGroups IsAlmost (walked calls (group_data calls) o at p t)
-  walked_made calls o at p (inner h op ts cl) c q t =
-      let back : AreOwnTexts [] (held_by_all ts ++ cl) =
-      (own_cut [] op (held_by_all ts ++ cl) (both_utf8 (held_by_all ts) cl (held_utf8 ts q.2) q.3) t).1 in
-      let own : AreOwnTexts [] (held_by_all ts) = (own_cut [] (held_by_all ts) cl q.3 back).0 in
+      → OfGroups IsAlmost (walked calls (group_data calls) o at p t)
+  walked_made calls o at p (inner h op ts cl) c q =
       let place : ℕ = at + length (text_from calls o op) in
       let ns : List Near = near calls (group_data calls) (last_of o op) place (first_of cl p) ts in
       let l : Label = kept_label (is_leaf h.kind) h at (text_from calls o (op ++ (held_by_all ts ++ cl))) (text_from calls o op)
       (text_from calls (last_of (last_of o op) (held_by_all ts)) cl) in
       no_group IsAlmost l (inside_by (is_leaf h.kind) (trees (near_runs calls (group_data calls) ns))) q.0
       (inside_made (is_leaf h.kind) (trees (near_runs calls (group_data calls) ns))
-      (runs_made calls (runs near_tied ns) ns c (runs_are near_tied ns) (all_made calls (last_of o op) place (first_of cl p) ts c q.2 own)))
+      (runs_made calls (runs near_tied ns) ns c (runs_are near_tied ns) (all_made calls (last_of o op) place (first_of cl p) ts c q.2)))
 
   all_made : (calls : List OuterCall) (o : Option ℕ) (at : ℕ) (p : Option ℕ) (ts : ItemTrees) → ArePageCalls calls → AllHoldTexts ts
-      → AreOwnTexts [] (held_by_all ts) → AllByRecursion IsMade (near calls (group_data calls) o at p ts)
-  all_made calls o at p nothing c q t = tt
-  all_made calls o at p (further u ts) c q t =
-      let both = own_cut [] (tree_items u) (held_by_all ts) (held_utf8 ts q.1) t in (
-        (both.0, walked_made calls o at (first_of (held_by_all ts) p) u c q.0 both.0),
-        all_made calls (last_of o (tree_items u)) (at + length (text_from calls o (tree_items u))) p ts c q.1 both.1,
-      )
+      → AllByRecursion IsMade (near calls (group_data calls) o at p ts)
+  all_made calls o at p nothing c q = tt
+  all_made calls o at p (further u ts) c q = (
+    (tree_own u q.0, walked_made calls o at (first_of (held_by_all ts) p) u c q.0),
+    all_made calls (last_of o (tree_items u)) (at + length (text_from calls o (tree_items u))) p ts c q.1,
+  )
 
 -- ---- texts cut anew
 
@@ -287,18 +278,18 @@ mutual
 
 -- ---- the annotated tree
 
-pub annotated_almost : (calls : List OuterCall) (t : ItemTree) → ArePageCalls calls → HoldsTexts t → AreOwnTexts [] (tree_items t)
+pub annotated_almost : (calls : List OuterCall) (t : ItemTree) → ArePageCalls calls → HoldsTexts t
     → OfGroups IsAlmost (placed calls (group_data calls) (tree_items t) (grouped (tree_items t) 0 t))
-annotated_almost calls t c h o = subst (OfGroups IsAlmost) (walk_all calls (group_data calls) t) (walked_made calls None 0 None t c h o)
+annotated_almost calls t c h = subst (OfGroups IsAlmost) (walk_all calls (group_data calls) t) (walked_made calls None 0 None t c h)
 
--- Every group of the annotated tree has a label that is written.
-pub groups_labelled : (calls : List OuterCall) (t : ItemTree) → ArePageCalls calls → HoldsTexts t → AreOwnTexts [] (tree_items t)
+-- each group of the annotated tree has a label that is written
+pub groups_labelled : (calls : List OuterCall) (t : ItemTree) → ArePageCalls calls → HoldsTexts t
     → is_clean (tree_items t) 0 t ≡ true → length (page_of calls (tree_items t)) < 2 ^ 32
     → count (cut_texts (placed calls (group_data calls) (tree_items t) (grouped (tree_items t) 0 t))) < 2 ^ 32
     → AllByRecursion HasGroupLabel (reached (annotated calls (group_data calls) t))
 unfolding annotated
-groups_labelled calls t c h o clean room few =
+groups_labelled calls t c h clean room few =
     let p : Tree = placed calls (group_data calls) (tree_items t) (grouped (tree_items t) 0 t) in
     groups_reached (page_of calls (tree_items t)) (with_numbers 1 (cut_texts p)) room
-    (numbers_groups 1 (cut_texts p) (omega arith) (omega (arith, few)) (cut_texts_groups IsAlmost p (annotated_almost calls t c h o)))
+    (numbers_groups 1 (cut_texts p) (omega arith) (omega (arith, few)) (cut_texts_groups IsAlmost p (annotated_almost calls t c h)))
     (annotated_slices calls (group_data calls) t clean)

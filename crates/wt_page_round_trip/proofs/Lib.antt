@@ -48,3 +48,5 @@ pub mod CallParts
 pub mod OwnTexts
 pub mod GroupLabels
 pub mod LabelledGroups
+pub mod PageCalls
+pub mod ExpandedTexts

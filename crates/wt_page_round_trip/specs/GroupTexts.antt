@@ -4,7 +4,7 @@ use Rattle.std.specs.Prelude.{◌≡◌, ℕ, ◌<◌, ◌^◌, ◌++◌, true, 
 use Rattle.std.specs.List.{AllByRecursion}
 use Rattle.wt_tree.specs.Tiling.{is_group}
 use Rattle.wt_tree.specs.Tree.{Tree, label}
-use Rattle.wt_span.specs.Items.{Item, char, whole, sources}
+use Rattle.wt_span.specs.Items.{Item, char, whole}
 use Rattle.wt_span.specs.Origins.{OuterCall, IsSoundCall}
 use Rattle.wt_round_trip.specs.Written.{IsUtf8IfAny, IsGroupLabel}
 use Rattle.wt_inline.specs.ItemTree.{ItemTree, inner, ItemTrees, nothing, further}
@@ -29,10 +29,10 @@ AreOwnTexts run (char (Some k) b ∷ xs) = IsUtf8 run × AreOwnTexts [] xs
 AreOwnTexts run (whole f None bs ∷ xs) = IsUtf8 run × IsUtf8 bs × AreOwnTexts [] xs
 AreOwnTexts run (whole f (Some k) bs ∷ xs) = IsUtf8 run × AreOwnTexts [] xs
 
--- No node is of the kind of groups, and the delimiters of each are UTF-8.
+-- No node is of the kind of groups, and each is cut between characters: those of the page itself are UTF-8 in each delimiter.
 abbrev mutual
   pub HoldsTexts : ItemTree → Type 0
-  HoldsTexts (inner h opening ts closing) = (is_group h.kind ≡ false) × IsUtf8 (sources opening) × AllHoldTexts ts × IsUtf8 (sources closing)
+  HoldsTexts (inner h opening ts closing) = (is_group h.kind ≡ false) × AreOwnTexts [] opening × AllHoldTexts ts × AreOwnTexts [] closing
 
   pub AllHoldTexts : ItemTrees → Type 0
   AllHoldTexts nothing = Unit {0}
