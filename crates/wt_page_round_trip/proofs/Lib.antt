@@ -50,3 +50,5 @@ pub mod GroupLabels
 pub mod LabelledGroups
 pub mod PageCalls
 pub mod ExpandedTexts
+pub mod OwnParts
+pub mod LineTexts

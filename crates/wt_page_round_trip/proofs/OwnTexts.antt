@@ -35,7 +35,7 @@ cut_end r s h t =
     let q : IsUtf8 r × IsUtf8 (s ++ []) = h [] (subst (λ x. IsUtf8 (r ++ x)) (sym (append-nil s)) t) in
     (q.0, subst IsUtf8 (append-nil s) q.1)
 
-shift : (r s : List ℕ) (xs : List Item) → CanCut r s → AreOwnTexts (r ++ s) xs → IsUtf8 r × AreOwnTexts s xs
+pub shift : (r s : List ℕ) (xs : List Item) → CanCut r s → AreOwnTexts (r ++ s) xs → IsUtf8 r × AreOwnTexts s xs
 shift r s [] h t = cut_end r s h t
 shift r s (char None b ∷ xs) h t = shift r (s ++ b ∷ []) xs (more_cut r s b h) (subst (λ x. AreOwnTexts x xs) (append_assoc r s (b ∷ [])) t)
 shift r s (char (Some k) b ∷ xs) h t = let q = cut_end r s h t.0 in (q.0, (q.1, t.1))
