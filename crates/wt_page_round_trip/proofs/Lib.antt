@@ -1,4 +1,5 @@
 mod Cases
+mod GroupTextCases
 mod PlaceCases
 pub mod CutStays
 pub mod PageOrigins

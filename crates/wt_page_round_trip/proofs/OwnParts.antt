@@ -1,5 +1,5 @@
 -- Parts that are cut between characters, and the children that they make.
-use Rattle.std.proofs.Common.{◌≡◌, ℕ, zero, suc, ◌-◌, ◌<◌, Bool, true, false, Option, Some, None, List, [], ◌∷◌, ◌++◌, map, take, drop, IsUtf8, refl, sym, ap, ◌∙◌, subst, arith, append_assoc, append-nil}
+use Rattle.std.proofs.Common.{◌≡◌, ℕ, zero, suc, ◌-◌, Bool, true, false, Option, Some, None, List, [], ◌∷◌, ◌++◌, map, take, drop, IsUtf8, refl, sym, ap, ◌∙◌, subst, arith, append_assoc, append-nil}
 use Rattle.std.specs.Prelude.{◌&&◌}
 use Rattle.std.proofs.lemmas.Str.{IsUtf8-nil, IsUtf8-append, IsUtf8-take, IsUtf8-drop}
 use Rattle.wt_span.specs.declared.form.Form.{Form}
@@ -9,8 +9,6 @@ use Rattle.wt_span.specs.Items.{Item, char, whole}
 use Rattle.wt_span.specs.Runs.{runs, IsRun, AreRuns}
 use Rattle.wt_span.proofs.RunLaws.{runs_are}
 use Rattle.wt_tree.specs.Tiling.{is_group}
-use Rattle.wt_lex.proofs.AllForms.{OptEntity, entity_fits}
-use Rattle.wt_lex.proofs.Forms.{Fits}
 use Rattle.wt_inline.specs.declared.loose.Loose.{Loose}
 use Rattle.wt_inline.specs.declared.loose.Loose.TheVariants.{Text, Sep}
 use Rattle.wt_inline.specs.Inside.{read_with, inside_items}
@@ -21,6 +19,7 @@ use Rattle.wt_inline.proofs.Insides.{entity_some, entity_border}
 use Rattle.wt_page_round_trip.specs.GroupTexts.{AreOwnTexts, HoldsTexts, AllHoldTexts}
 use Rattle.wt_page_round_trip.proofs.TextItems.{before_low}
 use Rattle.wt_page_round_trip.proofs.Forms.{opening_utf8, inside_utf8, closing_utf8}
+use Rattle.wt_page_round_trip.proofs.Inline.{drop_none, first_low}
 
 abbrev IfSame : Bool → Type 0 → Type 0 → Type 0
 IfSame true same other = same
@@ -154,13 +153,6 @@ form_holds : (f : Form) (o : Option ℕ) (bs : List ℕ) → AreOwnTexts [] (who
 form_holds f o bs h = (form_plain f, h, tt, IsUtf8-nil)
 
 -- ---- `nowiki`
-
-drop_none : (bs : List ℕ) → drop 0 bs ≡ bs
-drop_none [] = refl
-drop_none (b ∷ bs) = refl
-
-first_low : (b : ℕ) (bs : List ℕ) (c n : ℕ) → entity_at (b ∷ bs) ≡ Some (c, n) → b < 128
-first_low b bs c n e = let f : Fits (b ∷ bs) n × (b ≡ 38) = subst (OptEntity (b ∷ bs)) e (entity_fits (b ∷ bs)) in omega (arith, f.1)
 
 own_first : (o : Option (ℕ × ℕ)) (run : List ℕ) (b : ℕ) (bs : List ℕ) → entity_at (b ∷ bs) ≡ o → IsUtf8 (run ++ b ∷ bs)
     → ((n : ℕ) (r : List ℕ) → IsUtf8 (r ++ drop n bs) → AreOwnParts Text r (map inside_part (inside_items None n bs)))
