@@ -8,8 +8,10 @@ use Rattle.wt_span.specs.declared.form.LexKind.{LexKind}
 use Rattle.wt_span.specs.declared.form.LexKind.TheVariants as lex
 use Rattle.wt_span.specs.Bytes.{is_break}
 use Rattle.wt_span.specs.Lexemes.{Word, words, form_at}
-use Rattle.wt_lex.specs.Reading.{Stands, AreLexemes}
+use Rattle.wt_lex.specs.Reading.{IsForm, Stands, AreLexemes}
 use Rattle.wt_lex.specs.WholeWords.{IsWholeWord}
+use Rattle.wt_lex.proofs.AllForms.{form_fits}
+use Rattle.wt_lex.proofs.Forms.{FormFits}
 use Rattle.wt_lex.proofs.Readings.{words_are}
 use Rattle.wt_lex.proofs.WholeWords.{form_whole}
 use Rattle.wt_transclusion.specs.Marks.{Mark, opens, closes, of, marks_from, word_marks, words_marks}
@@ -22,6 +24,7 @@ pub record IsWordHere (mode : Mode) (kind : LexKind) (n : ℕ) (bs : List ℕ) :
   pub within : n ≤ length bs
   pub whole : IsWholeWord mode kind (take n bs)
   pub sign : HasSign kind n bs
+  pub cut : IsForm kind → (after : Bool) × FormFits after bs (kind, n)
 
 -- a brace, the first byte of a lexeme, or a later one
 abbrev pub Says : Mode → Mark → List ℕ → Type 0
@@ -35,11 +38,17 @@ Says mode (of kind n (suc j)) bs = Unit {0}
 form_here : (mode : Mode) (after : Bool) (kind : LexKind) (n : ℕ) (bs : List ℕ) → 0 < n → n ≤ length bs → form_at mode after bs ≡ Some (kind, n)
     → IsWordHere mode kind n bs
 form_here mode after kind n bs some le e =
-    record { some = some; within = le; whole = form_whole mode after kind n bs e; sign = form_sign mode after kind n bs e }
+    record {
+      some = some;
+      within = le;
+      whole = form_whole mode after kind n bs e;
+      sign = form_sign mode after kind n bs e;
+      cut = λ f. (after, form_fits mode after bs (kind, n) e);
+    }
 
 word_here : (mode : Mode) (after : Bool) (kind : LexKind) (n : ℕ) (bs : List ℕ) → 0 < n → n ≤ length bs → Stands mode after kind n bs
     → IsWordHere mode kind n bs
-word_here mode after lex.Chars n bs some le s = record { some = some; within = le; whole = omega (arith, length-take n bs); sign = tt }
+word_here mode after lex.Chars n bs some le s = record { some = some; within = le; whole = omega (arith, length-take n bs); sign = tt; cut = λ f. absurd f }
 word_here mode after lex.CommentLine n bs some le s = form_here mode after lex.CommentLine n bs some le s
 word_here mode after lex.Comment n bs some le s = form_here mode after lex.Comment n bs some le s
 word_here mode after lex.Raw n bs some le s = form_here mode after lex.Raw n bs some le s

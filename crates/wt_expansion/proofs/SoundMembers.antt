@@ -34,12 +34,14 @@ IsSoundLexeme mode lex.LinkClose n bs = IsWordHere mode lex.LinkClose n bs
 IsSoundLexeme mode lex.Pipe n bs = IsWordHere mode lex.Pipe n bs
 IsSoundLexeme mode lex.Equals n bs = IsWordHere mode lex.Equals n bs
 
--- the bytes of a call, and the last of its first braces and the first of its last ones
+-- the bytes of a call: the first and the last of its first braces, and the first and the last of its last ones
 pub record IsCallHere (mode : Mode) (bs : List ℕ) (k : ℕ) (ms : Members) : Type 0 where
   pub two : 2 ≤ k
   pub is_call : IsCall mode (take (k + width_of_all ms + k) bs)
+  pub first : slice_index bs 0 ≡ 123
   pub opening : slice_index bs (k - 1) ≡ 123
   pub closing : slice_index bs (k + width_of_all ms) ≡ 125
+  pub last : slice_index bs (k + width_of_all ms + (k - 1)) ≡ 125
 
 abbrev mutual
   pub IsSoundMember : Mode → List ℕ → Member → Type 0
@@ -130,11 +132,18 @@ call_here mode t at (suc k) ms after two e f =
     let last_byte = byte_at 123 k at t (text_says mode t (at + k) opens (inner ++ after) last) in
     let first_byte = byte_at 125 (suc k + width_of_all ms) at t
     (subst (λ i. slice_index (drop i t) 0 ≡ 125) z (text_says mode t (at + suc k + width_of_all ms) closes (replicate k closes ++ after) first)) in
+    let end : drop (at + suc k + width_of_all ms + k) w ≡ closes ∷ after =
+    sym (drop-drop k (at + suc k + width_of_all ms) w) ∙ ap (drop k) first ∙ last_brace closes k after in
+    let y : at + suc k + width_of_all ms + k ≡ at + (suc k + width_of_all ms + k) = omega arith in
+    let end_byte = byte_at 125 (suc k + width_of_all ms + k) at t
+    (subst (λ i. slice_index (drop i t) 0 ≡ 125) y (text_says mode t (at + suc k + width_of_all ms + k) closes after end)) in
     record {
       two = two;
       is_call = subst (IsCall mode) source (one_call mode (slice_range t at (at + n)) (suc k) ms f.0);
+      first = text_says mode t at opens (replicate k opens ++ (inner ++ after)) (e ∙ append_assoc (replicate (suc k) opens) inner after);
       opening = let y : suc k - 1 ≡ k = omega arith in ap (slice_index (drop at t)) y ∙ last_byte;
       closing = first_byte;
+      last = let x : suc k + width_of_all ms + (suc k - 1) ≡ suc k + width_of_all ms + k = omega arith in ap (slice_index (drop at t)) x ∙ end_byte;
     }
 
 -- ---- members

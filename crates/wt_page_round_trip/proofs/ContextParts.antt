@@ -76,7 +76,7 @@ one_by x y ys true t e f h = inl (ends_quote x e)
 one_by x y ys false true e f h = inr (begins_quote y ys f)
 one_by x y ys false false e f h = cc
 
-run_edge : (r : List Item) (y : Item) (others : List Item) → IsRun one_stretch r (y ∷ others) → EndsLow r ⊎ BeginsLow (y ∷ others)
+pub run_edge : (r : List Item) (y : Item) (others : List Item) → IsRun one_stretch r (y ∷ others) → EndsLow r ⊎ BeginsLow (y ∷ others)
 run_edge [] y others h = absurd h
 run_edge (x ∷ []) y others h = one_by x y others (is_quote x) (is_quote y) refl refl h
 run_edge (x ∷ z ∷ zs) y others h = run_edge (z ∷ zs) y others h.1

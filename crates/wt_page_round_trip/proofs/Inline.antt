@@ -37,11 +37,11 @@ text_kind parent h = sym (if_true (holds_text parent) _ _ h)
 
 -- ---- the inside of `nowiki`
 
-drop_none : (bs : List ℕ) → drop 0 bs ≡ bs
+pub drop_none : (bs : List ℕ) → drop 0 bs ≡ bs
 drop_none [] = refl
 drop_none (b ∷ bs) = refl
 
-first_low : (b : ℕ) (bs : List ℕ) (c n : ℕ) → entity_at (b ∷ bs) ≡ Some (c, n) → b < 128
+pub first_low : (b : ℕ) (bs : List ℕ) (c n : ℕ) → entity_at (b ∷ bs) ≡ Some (c, n) → b < 128
 first_low b bs c n e = let f : Fits (b ∷ bs) n × (b ≡ 38) = subst (OptEntity (b ∷ bs)) e (entity_fits (b ∷ bs)) in omega (arith, f.1)
 
 -- an entity that begins some bytes, by itself

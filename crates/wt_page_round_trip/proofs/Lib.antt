@@ -1,4 +1,5 @@
 mod Cases
+mod GroupTextCases
 mod PlaceCases
 pub mod CutStays
 pub mod PageOrigins
@@ -43,3 +44,12 @@ pub mod Unbroken
 pub mod Contents
 pub mod Counts
 pub mod PageTrees
+pub mod GroupJson
+pub mod CallParts
+pub mod OwnTexts
+pub mod GroupLabels
+pub mod LabelledGroups
+pub mod PageCalls
+pub mod ExpandedTexts
+pub mod OwnParts
+pub mod LineTexts

@@ -57,7 +57,7 @@ fragment_utf8 : (o : Option (List ℕ)) → IsUtf8 (link_fragment o)
 fragment_utf8 None = IsUtf8-nil
 fragment_utf8 (Some f) = IsUtf8-append (codes "#") (link_text f) (IsUtf8-are_ascii (codes "#") refl) (text_utf8 f)
 
-link_utf8 : (t : Title) → IsUtf8 (link_to t)
+pub link_utf8 : (t : Title) → IsUtf8 (link_to t)
 unfolding link_to
 link_utf8 t = IsUtf8-append (codes "./") (link_text (full_name_of t) ++ link_fragment t.fragment) (IsUtf8-are_ascii (codes "./") refl)
     (IsUtf8-append (link_text (full_name_of t)) (link_fragment t.fragment) (text_utf8 (full_name_of t)) (fragment_utf8 t.fragment))

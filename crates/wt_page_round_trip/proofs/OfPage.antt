@@ -124,7 +124,7 @@ pub record AreCut (run bs : List ℕ) (n : ℕ) : Type 0 where
   pub form : IsUtf8 (take n bs)
   pub behind : IsUtf8 (drop n bs)
 
-form_cut : (after : Bool) (kind : LexKind) (n : ℕ) (run bs : List ℕ) → IsUtf8 (run ++ bs) → FormFits after bs (kind, n) → AreCut run bs n
+pub form_cut : (after : Bool) (kind : LexKind) (n : ℕ) (run bs : List ℕ) → IsUtf8 (run ++ bs) → FormFits after bs (kind, n) → AreCut run bs n
 form_cut after kind n run [] u f = absurd (omega (arith, f.some, f.within))
 form_cut after kind n run (b ∷ bs) u f =
     let low : b < 128 = begins_low after b f.begins in
@@ -135,7 +135,7 @@ form_cut after kind n run (b ∷ bs) u f =
 
 -- ---- all words
 
-chars_on : (run bs : List ℕ) (n : ℕ) → IsUtf8 (run ++ bs) → IsUtf8 ((run ++ take n bs) ++ drop n bs)
+pub chars_on : (run bs : List ℕ) (n : ℕ) → IsUtf8 (run ++ bs) → IsUtf8 ((run ++ take n bs) ++ drop n bs)
 chars_on run bs n u = subst IsUtf8 (ap (λ x. run ++ x) (sym (take-append-drop n bs)) ∙ sym (append_assoc run (take n bs) (drop n bs))) u
 
 words_texts : (after : Bool) (ws : List Word) (run bs : List ℕ) → IsUtf8 (run ++ bs) → AreLexemes Page after ws bs → AreTexts run (items_of_words ws bs)

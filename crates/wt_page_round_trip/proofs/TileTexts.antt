@@ -27,13 +27,13 @@ use Rattle.wt_page_round_trip.proofs.PageLines.{all_taken, all_dropped}
 
 -- ---- cuts beside a character of one byte
 
-begins_by : (xs : List Item) (n : ℕ) → low_at (map glyph_of xs) n ≡ true → BeginsLow (drop n xs)
+pub begins_by : (xs : List Item) (n : ℕ) → low_at (map glyph_of xs) n ≡ true → BeginsLow (drop n xs)
 begins_by [] n e = false_true e
 begins_by (char o b ∷ xs) zero e = ltb-true b 128 e
 begins_by (whole f o bs ∷ xs) zero e = tt
 begins_by (x ∷ xs) (suc n) e = begins_by xs n e
 
-ends_by : (xs : List Item) (n : ℕ) → low_at (map glyph_of xs) n ≡ true → EndsLow (take (suc n) xs)
+pub ends_by : (xs : List Item) (n : ℕ) → low_at (map glyph_of xs) n ≡ true → EndsLow (take (suc n) xs)
 ends_by [] n e = false_true e
 ends_by (char o b ∷ xs) zero e = ltb-true b 128 e
 ends_by (whole f o bs ∷ xs) zero e = tt
@@ -151,7 +151,7 @@ edge_in xs w a b n le l e pos edge =
     subst (λ (hs : List Glyph). IsEdge hs b) (sym (sym (drop-map glyph_of a (take (size w) xs)) ∙ ap (drop a) (sym (take-map glyph_of (size w) xs))))
     (edge_drop (take (size w) (map glyph_of xs)) a b n pos e (edge_take (map glyph_of xs) (size w) n l m edge))
 
-cuts_of : (xs : List Item) (w : Shape) → size w ≤ length xs → Fits (map glyph_of xs) w → HasCuts w (take (size w) xs)
+pub cuts_of : (xs : List Item) (w : Shape) → size w ≤ length xs → Fits (map glyph_of xs) w → HasCuts w (take (size w) xs)
 cuts_of xs w le f =
     record {
       whole = length-take-le (size w) xs le;
@@ -160,7 +160,7 @@ cuts_of xs w le f =
       closing = λ pos. edge_in xs w (w.opening + w.inside) w.closing (w.opening + w.inside + w.closing) le (omega arith) refl pos f.edges.closing;
     }
 
-form_stands : (k : TileKind) (cx : Context) (after : Bool) (w : Shape) (gs : List Glyph) → IsForm k → StandsBy k cx after w gs → tile_at cx after gs ≡ Some w
+pub form_stands : (k : TileKind) (cx : Context) (after : Bool) (w : Shape) (gs : List Glyph) → IsForm k → StandsBy k cx after w gs → tile_at cx after gs ≡ Some w
 form_stands kind.Link cx after w gs f h = h
 form_stands kind.Category cx after w gs f h = h
 form_stands kind.Media cx after w gs f h = h
