@@ -1,7 +1,8 @@
 mod Cases
 mod PlaceCases
 pub mod CutStays
-pub mod PageOrigins
+pub mod PageNodes
+mod PageOrigins
 pub mod TextItems
 pub mod OfPage
 pub mod Parts
