@@ -3,7 +3,7 @@
 use Rattle.std.proofs.Common.{◌≡◌, ℕ, ◌+◌, Bool, true, false, Option, None, List, [], ◌∷◌, ◌++◌, length, map, refl, sym, ap, ap₂, ◌∙◌, subst, cond}
 use Rattle.std.specs.Prelude.{not, ◌&&◌, ◌||◌}
 use Rattle.std.specs.List.{AllByRecursion, list_all, list_any}
-use Rattle.wt_span.specs.Items.{Item, source, sources, call_of}
+use Rattle.wt_span.specs.Items.{Item, source, sources}
 use Rattle.wt_span.specs.Origins.{OuterCall}
 use Rattle.wt_span.specs.Cuts.{text_by}
 use Rattle.wt_span.specs.Runs.{put, runs}
@@ -20,10 +20,9 @@ use Rattle.wt_ranges.specs.GroupParts.{Part}
 use Rattle.wt_ranges.specs.Grouped.{grouped}
 use Rattle.wt_ranges.specs.Labels.{width, label_at}
 use Rattle.wt_ranges.specs.Seams.{last_of, first_of, parted, text_from}
-use Rattle.wt_ranges.specs.Walked.{free_places, clean_at, parts_from, Near, near_tied, group_at, near_run, near_runs, walked, near}
+use Rattle.wt_ranges.specs.Walked.{free_places, clean_at, parts_from, Near, near_tied, near_run, near_runs, walked, near}
 use Rattle.wt_ranges.specs.WithoutCalls.{inside_by}
 use Rattle.wt_ranges.proofs.Walks.{walk_all}
-use Rattle.wt_page_round_trip.proofs.PageLines.{all_left, all_right}
 use Rattle.wt_page_round_trip.proofs.PageNodes.{AreNoCalls, needs_item, HasItem, IsPageNode, ArePageNodes, node_items, nodes_items}
 
 abbrev no_calls : List OuterCall
@@ -86,6 +85,10 @@ any_page : (xs : List Item) → AreNoCalls xs → list_any is_page xs ≡ has_it
 any_page [] h = refl
 any_page (x ∷ xs) h = ap (λ v. v || list_any is_page xs) (ap is_no_call h.0)
 
+both_no_calls : (xs ys : List Item) → AreNoCalls xs → AreNoCalls ys → AreNoCalls (xs ++ ys)
+both_no_calls [] ys p q = q
+both_no_calls (x ∷ xs) ys p q = (p.0, both_no_calls xs ys p.1 q)
+
 -- ---- clean nodes
 
 no_body : (k : Kind) → needs_item k ≡ false → is_body k ≡ false
@@ -102,8 +105,12 @@ own_page : (is : Bool) (opening inside closing : List Item) → AreNoCalls (open
 own_page true opening inside closing h i = all_page (opening ++ (inside ++ closing)) h
 own_page false opening inside closing h i = all_page (opening ++ closing) i
 
-abbrev places : Option ℕ → Option ℕ → Option ℕ → Option ℕ → Option ℕ → Option ℕ → Option ℕ → Bool
-places a b c d e f g = parted None a && (parted b c && (parted d e && parted f g))
+-- four cuts, each between items of the page
+all_parted : (a x b y c z : Option ℕ) → a ≡ None → x ≡ None → b ≡ None → y ≡ None → c ≡ None → z ≡ None
+    → (parted None a && (parted x b && (parted y c && parted z None))) ≡ true
+all_parted a x b y c z ea ex eb ey ec ez =
+    ap₂ (λ u v. u && v) (ap (parted None) ea)
+    (ap₂ (λ u v. u && v) (ap₂ parted ex eb) (ap₂ (λ u v. u && v) (ap₂ parted ey ec) (ap (λ o. parted o None) ez)))
 
 free_none : (opening inside closing : List Item) → AreNoCalls opening → AreNoCalls inside → AreNoCalls closing
     → free_places None opening inside closing None ≡ true
@@ -114,7 +121,8 @@ free_none opening inside closing h i j =
     let x : last_of None opening ≡ None = last_none opening h in
     let y : last_of (last_of None opening) inside ≡ None = ap (λ o. last_of o inside) x ∙ last_none inside i in
     let z : last_of (last_of (last_of None opening) inside) closing ≡ None = ap (λ o. last_of o closing) y ∙ last_none closing j in
-    rw (a, x, b, y, c, z) refl
+    all_parted (first_of opening (first_of inside (first_of closing None))) (last_of None opening) (first_of inside (first_of closing None))
+    (last_of (last_of None opening) inside) (first_of closing None) (last_of (last_of (last_of None opening) inside) closing) a x b y c z
 
 clean_is : (t : ItemTree) → IsPageNode t → clean_at None None t ≡ has_items (tree_items t)
 clean_is (inner h opening ts closing) n =
@@ -123,13 +131,9 @@ clean_is (inner h opening ts closing) n =
     let all : AreNoCalls (opening ++ (inside ++ closing)) = node_items (inner h opening ts closing) n in
     ap₂ (λ u v. u && (v && (is_body h.kind || list_any is_page (opening ++ (inside ++ closing)))))
     (free_none opening inside closing n.0 i n.1)
-    (own_page (is_leaf h.kind) opening inside closing all (both opening closing n.0 n.1))
+    (own_page (is_leaf h.kind) opening inside closing all (both_no_calls opening closing n.0 n.1))
     ∙ ap (λ v. is_body h.kind || v) (any_page (opening ++ (inside ++ closing)) all)
     ∙ holds_by (needs_item h.kind) h.kind (opening ++ (inside ++ closing)) refl n.3
-  where
-    both : (xs ys : List Item) → AreNoCalls xs → AreNoCalls ys → AreNoCalls (xs ++ ys)
-    both [] ys p q = q
-    both (x ∷ xs) ys p q = (p.0, both xs ys p.1 q)
 
 -- ---- runs of one child
 
@@ -177,35 +181,42 @@ single_runs : (cs : List Near) → trees (map (near_run no_calls carried) (map (
 single_runs [] = refl
 single_runs (c ∷ cs) = ap (more (near_run no_calls carried (c ∷ []))) (single_runs cs)
 
+-- a node between items of the page, by its children
+walk_by : (at : ℕ) (h : Head) (opening : List Item) (ts : ItemTrees) (closing : List Item) → AreNoCalls opening → AreNoCalls closing → ArePageNodes ts
+    → ones (near no_calls carried None (at + width opening) None ts) ≡ all_grouped_at (at + width opening) ts
+    → walked no_calls carried None at None (inner h opening ts closing) ≡ grouped_at at (inner h opening ts closing)
+walk_by at h opening ts closing o c n e =
+    let is : Bool = is_leaf h.kind in
+    let inside : List Item = held_by_all ts in
+    let all : List Item = opening ++ (inside ++ closing) in
+    let last : last_of None opening ≡ None = last_none opening o in
+    let before : last_of (last_of None opening) inside ≡ None = ap (λ x. last_of x inside) last ∙ last_none inside (nodes_items ts n) in
+    let cs : List Near = near no_calls carried (last_of None opening) (at + length (text_from no_calls None opening)) (first_of closing None) ts in
+    let whole : text_from no_calls None all ≡ sources all =
+    text_none all (both_no_calls opening (inside ++ closing) o (both_no_calls inside closing (nodes_items ts n) c)) in
+    let front : text_from no_calls None opening ≡ sources opening = text_none opening o in
+    let back : text_from no_calls (last_of (last_of None opening) inside) closing ≡ sources closing =
+    ap (λ x. text_from no_calls x closing) before ∙ text_none closing c in
+    let ds : List Near = near no_calls carried None (at + width opening) None ts in
+    let same : cs ≡ ds =
+    ap (λ x. near no_calls carried x (at + length (text_from no_calls None opening)) (first_of closing None) ts) last
+    ∙ ap (λ bs. near no_calls carried None (at + length bs) (first_of closing None) ts) front
+    ∙ ap (λ p. near no_calls carried None (at + width opening) p ts) (first_none closing c) in
+    let children : trees (near_runs no_calls carried cs) ≡ all_grouped_at (at + width opening) ts =
+    ap (λ es. trees (near_runs no_calls carried es)) same
+    ∙ ap (λ rs. trees (map (near_run no_calls carried) rs)) (singles ds (all_free (at + width opening) ts n))
+    ∙ single_runs ds ∙ e in
+    ap (λ x. tree (kept_label is h at x (text_from no_calls None opening) (text_from no_calls (last_of (last_of None opening) inside) closing))
+    (inside_by is (trees (near_runs no_calls carried cs)))) whole
+    ∙ ap (λ x. tree (kept_label is h at (sources all) x (text_from no_calls (last_of (last_of None opening) inside) closing))
+    (inside_by is (trees (near_runs no_calls carried cs)))) front
+    ∙ ap (λ x. tree (kept_label is h at (sources all) (sources opening) x) (inside_by is (trees (near_runs no_calls carried cs)))) back
+    ∙ ap (λ us. tree (kept_label is h at (sources all) (sources opening) (sources closing)) (inside_by is us)) children
+    ∙ ap (λ l. tree l (inside_by is (all_grouped_at (at + width opening) ts))) (label_by is h at opening all closing)
+
 mutual
   walk_is : (at : ℕ) (t : ItemTree) → IsPageNode t → walked no_calls carried None at None t ≡ grouped_at at t
-  walk_is at (inner h opening ts closing) n =
-      let is : Bool = is_leaf h.kind in
-      let inside : List Item = held_by_all ts in
-      let all : List Item = opening ++ (inside ++ closing) in
-      let last : last_of None opening ≡ None = last_none opening n.0 in
-      let before : last_of (last_of None opening) inside ≡ None = ap (λ o. last_of o inside) last ∙ last_none inside (nodes_items ts n.4) in
-      let cs : List Near = near no_calls carried (last_of None opening) (at + length (text_from no_calls None opening)) (first_of closing None) ts in
-      let whole : text_from no_calls None all ≡ sources all = text_none all (node_items (inner h opening ts closing) n) in
-      let front : text_from no_calls None opening ≡ sources opening = text_none opening n.0 in
-      let back : text_from no_calls (last_of (last_of None opening) inside) closing ≡ sources closing =
-      ap (λ o. text_from no_calls o closing) before ∙ text_none closing n.1 in
-      let ds : List Near = near no_calls carried None (at + width opening) None ts in
-      let same : cs ≡ ds =
-      ap (λ o. near no_calls carried o (at + length (text_from no_calls None opening)) (first_of closing None) ts) last
-      ∙ ap (λ bs. near no_calls carried None (at + length bs) (first_of closing None) ts) front
-      ∙ ap (λ p. near no_calls carried None (at + width opening) p ts) (first_none closing n.1) in
-      let children : trees (near_runs no_calls carried cs) ≡ all_grouped_at (at + width opening) ts =
-      ap (λ es. trees (near_runs no_calls carried es)) same
-      ∙ ap (λ rs. trees (map (near_run no_calls carried) rs)) (singles ds (all_free (at + width opening) ts n.4))
-      ∙ single_runs ds ∙ walk_all_is (at + width opening) ts n.4 in
-      ap (λ x. tree (kept_label is h at x (text_from no_calls None opening) (text_from no_calls (last_of (last_of None opening) inside) closing))
-      (inside_by is (trees (near_runs no_calls carried cs)))) whole
-      ∙ ap (λ x. tree (kept_label is h at (sources all) x (text_from no_calls (last_of (last_of None opening) inside) closing))
-      (inside_by is (trees (near_runs no_calls carried cs)))) front
-      ∙ ap (λ x. tree (kept_label is h at (sources all) (sources opening) x) (inside_by is (trees (near_runs no_calls carried cs)))) back
-      ∙ ap (λ us. tree (kept_label is h at (sources all) (sources opening) (sources closing)) (inside_by is us)) children
-      ∙ ap (λ l. tree l (inside_by is (all_grouped_at (at + width opening) ts))) (label_by is h at opening all closing)
+  walk_is at (inner h opening ts closing) n = walk_by at h opening ts closing n.0 n.1 n.4 (walk_all_is (at + width opening) ts n.4)
 
   walk_all_is : (at : ℕ) (ts : ItemTrees) → ArePageNodes ts → ones (near no_calls carried None at None ts) ≡ all_grouped_at at ts
   walk_all_is at nothing n = refl
@@ -223,5 +234,6 @@ mutual
       ∙ walk_all_is (at + width (tree_items t)) ts n.1)
 
 -- the placed tree of a page
-pub placed_is : (t : ItemTree) → IsPageNode t → placed [] (group_data []) (tree_items t) (grouped (tree_items t) 0 t) ≡ grouped_at 0 t
-placed_is t n = sym (walk_all no_calls carried t) ∙ walk_is 0 t n
+pub placed_is : (h : Head) (ts : ItemTrees) → ArePageNodes ts
+    → placed [] (group_data []) (tree_items (inner h [] ts [])) (grouped (tree_items (inner h [] ts [])) 0 (inner h [] ts [])) ≡ grouped_at 0 (inner h [] ts [])
+placed_is h ts n = sym (walk_all no_calls carried (inner h [] ts [])) ∙ walk_by 0 h [] ts [] tt tt n (walk_all_is (0 + width []) ts n)

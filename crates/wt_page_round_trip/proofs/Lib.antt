@@ -44,3 +44,7 @@ pub mod Unbroken
 pub mod Contents
 pub mod Counts
 pub mod PageTrees
+pub mod Alone
+pub mod Bare
+pub mod Grouping
+pub mod GroupedPages

@@ -86,7 +86,7 @@ mutual
       all_both (λ (x : Item). call_of x ≡ None) opening (held_by_all ts ++ closing) n.0
       (all_both (λ (x : Item). call_of x ≡ None) (held_by_all ts) closing (nodes_items ts n.4) n.1)
 
-  nodes_items : (ts : ItemTrees) → ArePageNodes ts → AreNoCalls (held_by_all ts)
+  pub nodes_items : (ts : ItemTrees) → ArePageNodes ts → AreNoCalls (held_by_all ts)
   nodes_items nothing n = tt
   nodes_items (further t ts) n =
       all_both (λ (x : Item). call_of x ≡ None) (tree_items t) (held_by_all ts) (node_items t n.0) (nodes_items ts n.1)
