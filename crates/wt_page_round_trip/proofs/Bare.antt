@@ -318,7 +318,8 @@ tops_in k parent (tree l ts) w n = by_showing (showing l.kind) refl
         let f = fits k parent l ts n.0 w in
         let order = children_order (texts_of_kind l.kind) (suc k) l.kind ts refl e n.1 f.4.0 f.4.1 in
         let inner = plains_in (suc k) l.kind ts ended f.4.1 n.1 tt in
-        ((ap (λ x. x || is_empty_span (face l) (plains_before ts ended)) f.1, (f.0, face_is l e f.2, leaf_ended (not (is_leaf l.kind)) ts f.3, (order, inner))), tt)
+        let place = ap (λ x. x || is_empty_span (face l) (plains_before ts ended)) f.1 in
+        ((place, (f.0, face_is l e f.2, leaf_ended (not (is_leaf l.kind)) ts f.3, (order, inner))), tt)
 
 -- it shows a block where the node does
 pub blocks_of : (t : Tree) → IsBare t → any_shows_block (inner_nodes (elements_of t)) ≡ shows_block t

@@ -140,9 +140,11 @@ one_group t m us a = ap (λ (x : Label). is_group x.kind) a.is
 mutual
   pub grouped_numbers : (n : ℕ) (t u : Tree) → IsGrouped t u → IsGrouped t (with_numbers n u)
   grouped_numbers n (tree l ts) (tree m us) (inl r) =
-      inl ((ap (λ (x : Label). with_id (with_id (cond (is_numbered m.kind) n 0) m).id x) r.0.0, r.0.1),
-      subst (λ v. AreGrouped ts (cond v us (all_with_numbers (next_after m.kind n) us))) (sym (none_group l m r.0))
-      (all_grouped_numbers (next_after m.kind n) ts us r.1))
+      inl (
+        (ap (λ (x : Label). with_id (with_id (cond (is_numbered m.kind) n 0) m).id x) r.0.0, r.0.1),
+        subst (λ v. AreGrouped ts (cond v us (all_with_numbers (next_after m.kind n) us))) (sym (none_group l m r.0))
+            (all_grouped_numbers (next_after m.kind n) ts us r.1),
+      )
   grouped_numbers n (tree l ts) (tree m us) (inr a) =
       inr (subst (λ v. IsAlone (tree l ts) (with_id (cond (is_numbered m.kind) n 0) m) (cond v us (all_with_numbers (next_after m.kind n) us)))
       (sym (one_group (tree l ts) m us a))
@@ -402,7 +404,9 @@ mutual
       subst (λ (x : Label). WrittenIn k parent (tree x us)) (sym r.0.0)
       (kept_written (writing l.kind) k parent m.id l ts us (IsCutIn (texts_of_kind l.kind) ts × AllWrittenIn (suc k) l.kind ts)
       (IsCutIn (texts_of_kind l.kind) us × AllWrittenIn (suc k) l.kind us) refl r.0.1 number (childless_same ts us r.1)
-      (λ i. (cut_in (texts_of_kind l.kind) ts us (all_alike (suc k) l.kind ts us i.1 r.1 inside) i.0, all_grouped_written (suc k) l.kind ts us i.1 r.1 inside)) w)
+      (λ i.
+      let alike : AreAlike ts us = all_alike (suc k) l.kind ts us i.1 r.1 inside in
+      (cut_in (texts_of_kind l.kind) ts us alike i.0, all_grouped_written (suc k) l.kind ts us i.1 r.1 inside)) w)
   grouped_written k parent (tree l ts) (tree m us) w (inr a) n = alone_written k parent l m ts us w a n.0
 
   pub all_grouped_written : (k : ℕ) (parent : Kind) (ts us : Trees) → AllWrittenIn k parent ts → AreGrouped ts us → HaveNumbers us

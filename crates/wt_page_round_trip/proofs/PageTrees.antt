@@ -20,7 +20,6 @@ use Rattle.wt_ranges.specs.Annotated.{annotated}
 use Rattle.wt_ranges.specs.Clean.{is_clean}
 use Rattle.wt_ranges.specs.GroupData.{group_data}
 use Rattle.wt_ranges.specs.Reached.{AreReachedSlices, reached, reached_in_all}
-use Rattle.wt_ranges.specs.WithoutCalls.{annotated as annotated_plainly}
 use Rattle.wt_ranges.proofs.AnnotatedTree.{annotated_tiles, annotated_covers, annotated_slices, annotated_source, annotated_numbered}
 use Rattle.wt_ranges.proofs.Ends.{body_clean}
 use Rattle.wt_page_round_trip.specs.PageTree.{page_tree}
