@@ -15,7 +15,8 @@ use Rattle.wt_tree.specs.declared.row.Texts.TheVariants.{Separators}
 use Rattle.wt_tree.specs.declared.row.Payload.TheVariants.{NoData}
 use Rattle.wt_tree.specs.declared.row.Shape.{Shape}
 use Rattle.wt_tree.specs.Tree.{Label, Trees}
-use Rattle.wt_tree.specs.Kinds.{row, shape, texts_of_kind, is_leaf, is_numbered, may_hold, spelling}
+use Rattle.wt_tree.specs.Tiling.{is_group}
+use Rattle.wt_tree.specs.Kinds.{row, shape, writing, texts_of_kind, is_leaf, is_numbered, may_hold, spelling}
 use Rattle.wt_tree.specs.Recut.{is_as_text}
 use Rattle.wt_fitting.specs.Rows.{shows_text}
 use Rattle.wt_round_trip.specs.Written.{has_level, IsNumber, HasSource, IsShown, HasAttributes, HasData, is_extension_label, IsElementLabel, IsWrittenGroup, NodeIsWritten, is_childless, IsCutIn, AllWrittenIn}
@@ -27,12 +28,13 @@ use Rattle.wt_ranges.specs.WithoutCalls.{inside_by}
 use Rattle.wt_ranges.specs.Made.{all_annotated_at}
 use Rattle.wt_page_round_trip.proofs.InlineNodes.{with_attrs}
 use Rattle.wt_page_round_trip.proofs.Parts.{IsWrittenNode, wide_append}
-use Rattle.wt_page_round_trip.proofs.Separated.{IsPartIn, TakesSeparators, separated_written}
+use Rattle.wt_page_round_trip.proofs.PageNodes.{AreSources, needs_item_by, HasItem, ArePageNodes}
+use Rattle.wt_page_round_trip.proofs.Separated.{IsPartIn, TakesSeparators, separated_nodes, separated_written}
 
 -- children that are written in a node of this kind, as its texts ask
 abbrev pub IsInside : ℕ → Kind → ItemTrees → Type 0
-IsInside k parent ts = (at next : ℕ) → at + width (held_by_all ts) < 2 ^ 32 → 0 < next → next + numbered_in_all ts ≤ 2 ^ 32
-    → IsCutIn (texts_of_kind parent) (all_annotated_at at next ts) × AllWrittenIn k parent (all_annotated_at at next ts)
+IsInside k parent ts = ArePageNodes ts × ((at next : ℕ) → at + width (held_by_all ts) < 2 ^ 32 → 0 < next → next + numbered_in_all ts ≤ 2 ^ 32
+    → IsCutIn (texts_of_kind parent) (all_annotated_at at next ts) × AllWrittenIn k parent (all_annotated_at at next ts))
 
 -- a kind of element with children and a number
 pub record IsRound (q : Kind) : Type 0 where
@@ -46,8 +48,8 @@ pub record IsRound (q : Kind) : Type 0 where
 -- an element of this kind with its delimiters
 pub record IsBox (q : Kind) (named : List (AttrName × List ℕ)) (front back : List Item) : Type 0 where
   pub attrs : HasAttributes q named
-  pub opening : IsUtf8 (sources front)
-  pub closing : IsUtf8 (sources back)
+  pub opening : AreSources front
+  pub closing : AreSources back
 
 box_label : (q : Kind) → (r : IsRound q) → (attrs : List (AttrName × List ℕ)) (opening own closing : List Item)
     → IsBox q attrs opening closing → (at next : ℕ) → 0 < next → next < 2 ^ 32 → at + width own < 2 ^ 32 → width opening ≤ width own
@@ -62,7 +64,7 @@ box_label q r attrs opening own closing b at next some few room wide narrow =
       level = r.level;
       number = subst (λ v. IsNumber v next) (sym numbers) (some, few);
       places = (omega (arith, room), room, omega (arith, room, wide), omega (arith, room, narrow));
-      source = subst (λ v. HasSource v l) (sym inner_node) (record { own = refl; opening = b.opening; closing = b.closing });
+      source = subst (λ v. HasSource v l) (sym inner_node) (record { own = refl; opening = b.opening.utf8; closing = b.closing.utf8 });
       shown = subst (λ v. IsShown v []) (sym r.shows) refl;
       attrs = b.attrs;
       origin = refl;
@@ -72,6 +74,10 @@ box_label q r attrs opening own closing b at next some few room wide narrow =
   where
     extends : is_extension_label (label_at at next false (with_attrs q attrs) opening own closing) ≡ false
     extends = rw r.shape_is refl
+
+no_group : (q : Kind) → writing q ≡ RoundChildren → is_group q ≡ false
+no_group kind.Group e = absurd cc
+no_group q e = refl
 
 pub box_written : (k : ℕ) (parent q : Kind) → (r : IsRound q) → (attrs : List (AttrName × List ℕ))
     (opening closing : List Item) → IsBox q attrs opening closing → (ts : ItemTrees) → k < 199 → may_hold parent q ≡ true
@@ -86,7 +92,7 @@ box_written k parent q r attrs opening closing b ts small holds inside = record 
       let count : numbered (inner (with_attrs q attrs) opening ts closing) ≡ 1 + numbered_in_all ts =
       ap (λ (y : Shape). (if y.is_numbered then 1 else 0) + count_by y.is_leaf (numbered_in_all ts)) r.shape_is in
       let us : Trees = all_annotated_at (at + width opening) (next + 1) ts in
-      let i = inside (at + width opening) (next + 1) (omega arith) (omega arith) (omega arith) in
+      let i = inside.1 (at + width opening) (next + 1) (omega arith) (omega arith) (omega arith) in
       let l : IsElementLabel (label_at at next false (with_attrs q attrs) opening own closing) =
       box_label q r attrs opening own closing b at next some (omega arith) room (omega arith) (omega arith) in
       subst (λ (y : Shape).
@@ -99,6 +105,13 @@ box_written k parent q r attrs opening closing b ts small holds inside = record 
       (inside_by y.is_leaf (all_annotated_at (at + width opening) (if y.is_numbered then next + 1 else next) ts))))
       (sym r.shape_is)
       (written_box k at next own us small l (subst (λ (y : Shape). IsCutIn y.texts us) r.shape_is i.0) i.1);
+  page = (
+    b.opening.no_calls,
+    b.closing.no_calls,
+    no_group q (ap (λ (y : Shape). y.writing) r.shape_is),
+    subst (λ (y : Shape). HasItem (needs_item_by y.is_numbered y.showing y.class) (opening ++ (held_by_all ts ++ closing))) (sym r.shape_is) tt,
+    inside.0,
+  );
 }
   where
     written_box : (k at next : ℕ) (own : List Item) (us : Trees) → k < 199
@@ -116,12 +129,15 @@ pub record HoldsSeparators (q : Kind) : Type 0 where
   pub takes : TakesSeparators q
 
 pub separated_inside : (k : ℕ) (q : Kind) → HoldsSeparators q → (ps : List Part) → AllByRecursion (IsPartIn k q) ps → IsInside k q (forest (children ps))
-separated_inside k q s ps a at next room some few =
-    (subst (λ x. IsCutIn x (all_annotated_at at next (forest (children ps)))) (sym s.texts) tt, separated_written k q s.takes ps at next a room some few)
+separated_inside k q s ps a = (
+  separated_nodes k q ps a,
+  λ at next room some few.
+      (subst (λ x. IsCutIn x (all_annotated_at at next (forest (children ps)))) (sym s.texts) tt, separated_written k q s.takes ps at next a room some few),
+)
 
 -- ---- rules
 
-pub rule_written : (k : ℕ) (parent : Kind) (own : List Item) → k < 200 → may_hold parent kind.Rule ≡ true → IsUtf8 (sources own)
+pub rule_written : (k : ℕ) (parent : Kind) (own : List Item) → k < 200 → may_hold parent kind.Rule ≡ true → AreSources own
     → IsWrittenNode k parent (leaf (plain kind.Rule) own)
 unfolding label_at spelling
 rule_written k parent own small holds u =
@@ -135,7 +151,7 @@ rule_written k parent own small holds u =
           level = refl;
           number = (some, omega arith);
           places = (omega arith, room, omega arith, omega arith);
-          source = record { own = subst (λ xs. IsUtf8 (sources xs)) (sym z) u; opening = refl; closing = refl };
+          source = record { own = subst (λ xs. IsUtf8 (sources xs)) (sym z) u.utf8; opening = refl; closing = refl };
           shown = refl;
           attrs = refl;
           origin = refl;
@@ -145,4 +161,5 @@ rule_written k parent own small holds u =
         refl,
         (tt, tt),
       );
+      page = (u.no_calls, tt, refl, tt, tt);
     }

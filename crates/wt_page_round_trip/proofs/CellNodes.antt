@@ -1,11 +1,10 @@
 -- Cells and captions with what stands in them.
-use Rattle.std.proofs.Common.{◌≡◌, ℕ, zero, suc, ◌+◌, ◌-◌, ◌<◌, ◌≤◌, ◌⊎◌, Bool, true, false, Option, Some, None, List, [], ◌∷◌, ◌++◌, length, map, take, drop, get_or, inl, inr, IsUtf8, refl, sym, ap, ◌∙◌, subst, arith}
+use Rattle.std.proofs.Common.{◌≡◌, ℕ, zero, suc, ◌+◌, ◌-◌, ◌<◌, ◌≤◌, ◌⊎◌, Bool, true, false, Option, Some, None, List, [], ◌∷◌, ◌++◌, length, map, take, drop, get_or, inl, inr, refl, sym, ap, ◌∙◌, subst, arith}
 use Rattle.std.specs.Prelude.{◌||◌, slice_index}
 use Rattle.std.specs.List.{AllByRecursion}
 use Rattle.std.proofs.lemmas.Bool.{cases_lt}
 use Rattle.std.proofs.lemmas.List.{take_all, drop_all, take-append-drop, get_or_append_left, map-append, length-map}
-use Rattle.std.proofs.lemmas.Str.{IsUtf8-nil}
-use Rattle.wt_span.specs.Items.{Item, char, whole, sources, sign}
+use Rattle.wt_span.specs.Items.{Item, char, whole, sign}
 use Rattle.wt_tree.specs.declared.kind.AttrName.{AttrName}
 use Rattle.wt_tree.specs.declared.kind.Kind.{Kind}
 use Rattle.wt_tree.specs.declared.kind.Kind.TheVariants as kind
@@ -29,7 +28,8 @@ use Rattle.wt_body.specs.Tables.{cell_kind, cell_by, cells_by}
 use Rattle.wt_page_round_trip.proofs.TextItems.{AreTexts, BeginsLow, cut_items_before}
 use Rattle.wt_page_round_trip.proofs.OfPage.{IsPageItem, ArePageItems}
 use Rattle.wt_page_round_trip.proofs.PageLines.{all_left, all_right, all_both, all_taken, all_dropped}
-use Rattle.wt_page_round_trip.proofs.ContextParts.{items_utf8}
+use Rattle.wt_page_round_trip.proofs.PageNodes.{AreSources, no_sources}
+use Rattle.wt_page_round_trip.proofs.ContextParts.{items_sources}
 use Rattle.wt_page_round_trip.proofs.BodyParts.{inline_held}
 use Rattle.wt_page_round_trip.proofs.TileTexts.{no_page_items}
 use Rattle.wt_page_round_trip.proofs.SpanAttributes.{span_has}
@@ -232,12 +232,12 @@ cell_bordered true header = caption_bordered
 cell_bordered false true = th_bordered
 cell_bordered false false = td_bordered
 
-cell_box : (caption header : Bool) (attrs : List (AttrName × List ℕ)) (opening : List Item) → AreStyles attrs → IsUtf8 (sources opening)
+cell_box : (caption header : Bool) (attrs : List (AttrName × List ℕ)) (opening : List Item) → AreStyles attrs → AreSources opening
     → IsBox (cell_kind caption header) attrs opening []
 unfolding spelling
-cell_box true header attrs opening a u = record { attrs = a; opening = u; closing = IsUtf8-nil }
-cell_box false true attrs opening a u = record { attrs = a; opening = u; closing = IsUtf8-nil }
-cell_box false false attrs opening a u = record { attrs = a; opening = u; closing = IsUtf8-nil }
+cell_box true header attrs opening a u = record { attrs = a; opening = u; closing = no_sources }
+cell_box false true attrs opening a u = record { attrs = a; opening = u; closing = no_sources }
+cell_box false false attrs opening a u = record { attrs = a; opening = u; closing = no_sources }
 
 -- ---- nodes
 
@@ -246,7 +246,7 @@ cell_placed : (k : ℕ) (parent : Kind) (caption : Bool) → ((header : Bool) �
     → ArePlaced k parent (cell_by caption c ss)
 cell_placed k parent caption s c g ss a f small =
     line_opened k parent (cell_kind caption c.header) (cell_bordered caption c.header) c.attrs c.opening
-    (cell_box caption c.header c.attrs c.opening g.attrs (items_utf8 c.opening g.opening)) c.rest g.rest (line_items c.rest g.rest g.unbroken)
+    (cell_box caption c.header c.attrs c.opening g.attrs (items_sources c.opening g.opening)) c.rest g.rest (line_items c.rest g.rest g.unbroken)
     ss (a c.header) f small (s c.header)
 
 cells_placed : (k : ℕ) (parent : Kind) (caption : Bool) → ((header : Bool) → StandsIn parent (cell_kind caption header)) → (c : Cell) (cs : List Cell)

@@ -1,5 +1,5 @@
 -- Items and cells: a line with what stands behind it, or blocks alone.
-use Rattle.std.proofs.Common.{◌≡◌, ℕ, suc, ◌+◌, ◌<◌, ◌⊎◌, true, false, List, [], ◌∷◌, ◌++◌, map, take, drop, refl, sym, ap, ap₂, ◌∙◌, subst, arith, append_assoc, inl, inr}
+use Rattle.std.proofs.Common.{◌≡◌, ℕ, suc, ◌+◌, ◌<◌, ◌≤◌, ◌^◌, ◌⊎◌, true, false, List, [], ◌∷◌, ◌++◌, map, take, drop, refl, sym, ap, ap₂, ◌∙◌, subst, arith, append_assoc, inl, inr}
 use Rattle.std.specs.Prelude.{◌&&◌}
 use Rattle.std.specs.List.{AllByRecursion, prefix_len}
 use Rattle.std.proofs.lemmas.List.{map-append}
@@ -29,11 +29,12 @@ use Rattle.wt_ranges.specs.Made.{annotated_at, all_annotated_at}
 use Rattle.wt_body.specs.Stretches.{Stretch, gap, block, is_gap, stretches_parts, front_len, past_front, block_len, before_end, tree_block, node_of, opened_by, enclosed}
 use Rattle.wt_page_round_trip.proofs.InlineNodes.{with_attrs}
 use Rattle.wt_page_round_trip.proofs.OfPage.{ArePageItems}
-use Rattle.wt_page_round_trip.proofs.PageLines.{all_taken, all_dropped}
-use Rattle.wt_page_round_trip.proofs.Parts.{wide_append, children_written}
+use Rattle.wt_page_round_trip.proofs.PageLines.{all_both, all_taken, all_dropped}
+use Rattle.wt_page_round_trip.proofs.PageNodes.{ArePageNodes, IsPagePart, children_nodes}
+use Rattle.wt_page_round_trip.proofs.Parts.{AreWrittenParts, wide_append, children_written, written_parts}
 use Rattle.wt_page_round_trip.proofs.Inline.{IsInlineParent}
 use Rattle.wt_page_round_trip.proofs.ContextParts.{line_fits}
-use Rattle.wt_page_round_trip.proofs.Separated.{goes_first, head_of, IsPartIn, TakesSeparators, separated_written}
+use Rattle.wt_page_round_trip.proofs.Separated.{goes_first, head_of, IsPartIn, TakesSeparators, separated_parts, separated_nodes, separated_written}
 use Rattle.wt_page_round_trip.proofs.Boxes.{IsInside, IsRound, IsBox, box_written}
 use Rattle.wt_page_round_trip.proofs.Stretched.{StandsIn, IsBlockIn, IsPlaced, ArePlaced, placed_parts, block_first, gap_first, gaps_behind, enclosed_placed}
 use Rattle.wt_page_round_trip.proofs.Bordered.{IsLinePart, BreaksFirst, lines_behind, behind_cut, behind_by, runs_cut, runs_no_inline, runs_no_block, behind_ordered, all_ordered, both_written}
@@ -105,8 +106,18 @@ pub line_inside : (k : ℕ) (q : Kind) → IsBordered q → k < 142 → (xs : Li
 line_inside k q b small xs h l qs a f =
     subst (λ (vs : List ItemTree). IsInside k q (forest vs)) (sym (children_both k q (line_parts xs) qs (line_is xs l) a)) inside
   where
-    inside : IsInside k q (forest (children (line_parts xs) ++ children qs))
-    inside at next room some few =
+    nodes : ArePageNodes (forest (children (line_parts xs) ++ children qs))
+    nodes =
+        let fits : AreWrittenParts k q [] (line_parts xs) = (line_fits k small xs h).written k q (omega arith) b.parent in
+        subst (λ (vs : List ItemTree). ArePageNodes (forest vs)) (children_both k q (line_parts xs) qs (line_is xs l) a)
+        (children_nodes (line_parts xs ++ qs)
+        (all_both IsPagePart (line_parts xs) qs (written_parts k q [] (line_parts xs) fits) (separated_parts k q qs a)))
+
+    written : (at next : ℕ) → at + width (held_by_all (forest (children (line_parts xs) ++ children qs))) < 2 ^ 32 → 0 < next
+        → next + numbered_in_all (forest (children (line_parts xs) ++ children qs)) ≤ 2 ^ 32
+        → IsCutIn (texts_of_kind q) (all_annotated_at at next (forest (children (line_parts xs) ++ children qs)))
+        × AllWrittenIn k q (all_annotated_at at next (forest (children (line_parts xs) ++ children qs)))
+    written at next room some few =
         let ps : List Part = line_parts xs in
         let ts : List ItemTree = children ps in
         let us : List ItemTree = children qs in
@@ -121,6 +132,9 @@ line_inside k q b small xs h l qs a f =
           both_written k q b.texts ts us at next first
               (λ place number e g. separated_written k q b.takes qs place number a (omega (arith, e, wide)) (omega (arith, g)) (omega (arith, g, count))),
         )
+
+    inside : IsInside k q (forest (children (line_parts xs) ++ children qs))
+    inside = (nodes, λ at next room some few. written at next room some few)
 
 -- ---- blocks alone
 
@@ -157,15 +171,18 @@ blocks_cut k q ((node t ∷ []) ∷ rs) ps at next h a b =
 blocks_inside : (k : ℕ) (q : Kind) → IsBordered q → (qs : List Part) → AllByRecursion (IsPartIn k q) qs → BlockFirst qs
     → IsInside k q (forest (children qs))
 unfolding children
-blocks_inside k q b qs a f at next room some few =
-    let all : Trees = all_annotated_at at next (forest (children qs)) in
-    let rs : List (List Part) = runs one_leaf qs in (
-      subst (λ x. IsCutIn x all) (sym b.texts) (
-        only_cut all false (blocks_cut k q rs qs at next (runs_are one_leaf qs) a f),
-        behind_ordered (map child rs) false at next (runs_no_inline k q rs qs (runs_are one_leaf qs) a),
+blocks_inside k q b qs a f = (
+  separated_nodes k q qs a,
+  λ at next room some few.
+      let all : Trees = all_annotated_at at next (forest (children qs)) in
+      let rs : List (List Part) = runs one_leaf qs in (
+        subst (λ x. IsCutIn x all) (sym b.texts) (
+          only_cut all false (blocks_cut k q rs qs at next (runs_are one_leaf qs) a f),
+          behind_ordered (map child rs) false at next (runs_no_inline k q rs qs (runs_are one_leaf qs) a),
+        ),
+        separated_written k q b.takes qs at next a room some few,
       ),
-      separated_written k q b.takes qs at next a room some few,
-    )
+)
 
 -- ---- nodes
 

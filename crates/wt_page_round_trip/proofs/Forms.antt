@@ -111,6 +111,7 @@ entity_node k parent c bs small e h = record {
     refl,
     (tt, tt),
   );
+  page = ((refl, tt), tt, refl, tt, tt);
 }
 
 -- ---- comments and include tags, which may stand anywhere
@@ -140,6 +141,7 @@ comment_node k parent bs small h = record {
     refl,
     (tt, tt),
   );
+  page = ((refl, tt), tt, refl, tt, tt);
 }
 
 end_passes : (b : Bool) → is_include_type ((if b then noinclude_typeof else onlyinclude_typeof) ++ codes "/End") ≡ true
@@ -185,6 +187,7 @@ include_node k parent bs small h = record {
     refl,
     (tt, tt),
   );
+  page = ((refl, tt), tt, refl, tt, tt);
 }
 
 hidden_passes : is_include_type includeonly_typeof ≡ true
@@ -212,6 +215,7 @@ hidden_node k parent bs small h = record {
     refl,
     (tt, tt),
   );
+  page = ((refl, tt), tt, refl, tt, tt);
 }
 
 -- a mark may stand in any node
@@ -330,4 +334,5 @@ extension_node k parent bs small e h =
         refl,
         (tt, tt),
       );
+      page = ((refl, tt), tt, refl, tt, tt);
     }

@@ -4,7 +4,8 @@ use Rattle.std.proofs.lemmas.Str.{IsUtf8-take, IsUtf8-drop}
 use Rattle.wt_span.specs.declared.form.Form.{Form}
 use Rattle.wt_span.specs.declared.form.Form.TheVariants as form
 use Rattle.wt_span.specs.Entities.{entity_at}
-use Rattle.wt_span.specs.Items.{Item, char, whole}
+use Rattle.wt_span.specs.Items.{Item, char, whole, sources}
+use Rattle.wt_span.specs.Tags.{opening_tag}
 use Rattle.wt_tree.specs.declared.kind.Kind.{Kind}
 use Rattle.wt_tree.specs.declared.kind.Kind.TheVariants as kind
 use Rattle.wt_lex.proofs.AllForms.{OptEntity, entity_fits}
@@ -18,14 +19,15 @@ use Rattle.wt_round_trip.specs.Written.{leaf_kind}
 use Rattle.wt_inline.specs.declared.loose.Loose.TheVariants.{Text}
 use Rattle.wt_inline.specs.RawTag.{opening_of, inside_of, closing_of}
 use Rattle.wt_inline.specs.Inside.{read_with, inside_items}
-use Rattle.wt_inline.specs.ItemTree.{ItemTrees, forest, held_by_all}
+use Rattle.wt_inline.specs.ItemTree.{ItemTrees, forest, tree_items, held_by_all}
 use Rattle.wt_inline.specs.Parts.{Part, children, inside_part, nowiki, whole_tree, parts}
-use Rattle.wt_inline.proofs.HeldLaws.{sources_chars}
+use Rattle.wt_inline.proofs.HeldLaws.{held_of_parts, sources_opened, sources_chars}
 use Rattle.wt_inline.proofs.Insides.{entity_some, entity_within, entity_border}
 use Rattle.wt_ranges.specs.Labels.{width, label_at}
 use Rattle.wt_page_round_trip.proofs.TextItems.{AreTexts, before_low}
 use Rattle.wt_page_round_trip.proofs.OfPage.{IsPageForm, AreOfPage}
-use Rattle.wt_page_round_trip.proofs.Parts.{IsTextRun, IsWrittenNode, AreWrittenParts, wide_append, children_written}
+use Rattle.wt_page_round_trip.proofs.PageNodes.{HasItem, chars_no_calls}
+use Rattle.wt_page_round_trip.proofs.Parts.{IsTextRun, IsWrittenNode, AreWrittenParts, wide_append, children_written, written_nodes}
 use Rattle.wt_page_round_trip.proofs.Forms.{entity_node, mark_node, extension_node, opening_utf8, inside_utf8, closing_utf8}
 
 -- where text stands, each run in UTF-8 may stand
@@ -74,6 +76,26 @@ inside_parts k small (suc n) run [] u = text_run kind.Nowiki run refl (subst IsU
 inside_parts k small (suc n) run (b ∷ bs) u = inside_parts k small n run bs u
 inside_parts k small zero run (b ∷ bs) u = inside_first k small (entity_at (b ∷ bs)) run b bs refl u (λ n r v. inside_parts k small n r bs v)
 
+none_some : (o : Option ℕ) (n : ℕ) → o ≡ None → o ≡ Some n → ⊥
+none_some o n e f = absurd (let g : None ≡ Some n = sym e ∙ f in cc)
+
+no_nowiki : IsPageForm form.Nowiki [] → ⊥
+unfolding opening_tag
+no_nowiki h = none_some None 0 refl h.0
+
+nowiki_sources : (bs : List ℕ) → sources (tree_items (nowiki None bs)) ≡ bs
+nowiki_sources bs =
+    ap sources (sym (append-nil (tree_items (nowiki None bs))) ∙ held_of_parts Text (whole form.Nowiki None bs ∷ []))
+    ∙ sources_opened (whole form.Nowiki None bs ∷ []) ∙ append-nil bs
+
+-- a whole form holds an item
+nowiki_item : (bs : List ℕ) → IsPageForm form.Nowiki bs → HasItem true (tree_items (nowiki None bs))
+nowiki_item bs h = by_items (tree_items (nowiki None bs)) bs (nowiki_sources bs) h
+  where
+    by_items : (xs : List Item) (cs : List ℕ) → sources xs ≡ cs → IsPageForm form.Nowiki cs → HasItem true xs
+    by_items [] cs e g = no_nowiki (subst (IsPageForm form.Nowiki) (sym e) g)
+    by_items (x ∷ xs) cs e g = tt
+
 nowiki_node : (k : ℕ) (parent : Kind) (bs : List ℕ) → k < 199 → may_hold parent kind.Nowiki ≡ true → IsPageForm form.Nowiki bs
     → IsWrittenNode k parent (nowiki None bs)
 unfolding label_at nowiki spelling
@@ -109,6 +131,7 @@ nowiki_node k parent bs small e h =
         refl,
         (tt, children_written (suc k) kind.Nowiki ps (at + width xs) (next + 1) w (omega arith) (omega arith) (omega arith)),
       );
+      page = (chars_no_calls (opening_of bs), chars_no_calls (closing_of bs), refl, nowiki_item bs h, written_nodes (suc k) kind.Nowiki ps w);
     }
 
 -- ---- a line

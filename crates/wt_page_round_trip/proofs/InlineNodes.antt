@@ -17,7 +17,8 @@ use Rattle.wt_inline.specs.ItemTree.{Head, ItemTree, ItemTrees, nothing, leaf, i
 use Rattle.wt_inline.specs.Parts.{Part, children}
 use Rattle.wt_inline.proofs.HeldLaws.{held_children, sources_append}
 use Rattle.wt_ranges.specs.Labels.{width, label_at}
-use Rattle.wt_page_round_trip.proofs.Parts.{IsWrittenNode, AreWrittenParts, wide_append, children_written}
+use Rattle.wt_page_round_trip.proofs.PageNodes.{AreNoCalls, AreSources, ArePageNodes}
+use Rattle.wt_page_round_trip.proofs.Parts.{IsWrittenNode, AreWrittenParts, wide_append, children_written, written_nodes}
 use Rattle.wt_page_round_trip.proofs.Inline.{IsInlineParent}
 use Rattle.wt_page_round_trip.proofs.WrittenParts.{FitsIn, NodeFits}
 
@@ -31,8 +32,8 @@ round h opening ps closing = inner h opening (forest (children ps)) closing
 
 -- what stands in such a node, and its delimiters
 pub record IsFilled (most : ℕ) (before : List Item) (ps : List Part) (after : List Item) : Type 0 where
-  pub opening : IsUtf8 (sources before)
-  pub closing : IsUtf8 (sources after)
+  pub opening : AreSources before
+  pub closing : AreSources after
   pub inside : FitsIn (suc most) ps
   pub small : most < 199
 
@@ -45,9 +46,9 @@ held_utf8 : (most : ℕ) (h : Head) (opening closing : List Item) (ps : List Par
 held_utf8 most h opening closing ps f =
     subst IsUtf8 (sym (sources_append opening (held_by_all (forest (children ps)) ++ closing)
     ∙ ap (λ bs. sources opening ++ bs) (sources_append (held_by_all (forest (children ps))) closing)))
-    (IsUtf8-append (sources opening) (sources (held_by_all (forest (children ps))) ++ sources closing) f.opening
+    (IsUtf8-append (sources opening) (sources (held_by_all (forest (children ps))) ++ sources closing) f.opening.utf8
     (IsUtf8-append (sources (held_by_all (forest (children ps)))) (sources closing)
-    (subst (λ xs. IsUtf8 (sources xs)) (sym (held_children ps)) f.inside.held) f.closing))
+    (subst (λ xs. IsUtf8 (sources xs)) (sym (held_children ps)) f.inside.held) f.closing.utf8))
 
 bold_parent : IsInlineParent kind.Bold
 bold_parent = record { text = refl; elements = λ k h. or_right (is_anywhere (shape k).class) _ h }
@@ -71,7 +72,7 @@ bold_written most opening closing ps f k parent le p =
           level = refl;
           number = (some, omega arith);
           places = (omega arith, room, omega arith, omega arith);
-          source = record { own = refl; opening = f.opening; closing = f.closing };
+          source = record { own = refl; opening = f.opening.utf8; closing = f.closing.utf8 };
           shown = refl;
           attrs = refl;
           origin = refl;
@@ -81,6 +82,7 @@ bold_written most opening closing ps f k parent le p =
         refl,
         (tt, children_written (suc k) kind.Bold ps (at + width opening) (next + 1) w (omega arith) (omega arith) (omega arith)),
       );
+      page = (f.opening.no_calls, f.closing.no_calls, refl, tt, written_nodes (suc k) kind.Bold ps w);
     }
 
 pub bold_node : (most : ℕ) (opening closing : List Item) (ps : List Part) → IsFilled most opening ps closing
@@ -112,7 +114,7 @@ italic_written most opening closing ps f k parent le p =
           level = refl;
           number = (some, omega arith);
           places = (omega arith, room, omega arith, omega arith);
-          source = record { own = refl; opening = f.opening; closing = f.closing };
+          source = record { own = refl; opening = f.opening.utf8; closing = f.closing.utf8 };
           shown = refl;
           attrs = refl;
           origin = refl;
@@ -122,6 +124,7 @@ italic_written most opening closing ps f k parent le p =
         refl,
         (tt, children_written (suc k) kind.Italic ps (at + width opening) (next + 1) w (omega arith) (omega arith) (omega arith)),
       );
+      page = (f.opening.no_calls, f.closing.no_calls, refl, tt, written_nodes (suc k) kind.Italic ps w);
     }
 
 pub italic_node : (most : ℕ) (opening closing : List Item) (ps : List Part) → IsFilled most opening ps closing
@@ -154,7 +157,7 @@ wiki_link_written most attrs good opening closing ps f k parent le p =
           level = refl;
           number = (some, omega arith);
           places = (omega arith, room, omega arith, omega arith);
-          source = record { own = refl; opening = f.opening; closing = f.closing };
+          source = record { own = refl; opening = f.opening.utf8; closing = f.closing.utf8 };
           shown = refl;
           attrs = good;
           origin = refl;
@@ -164,6 +167,7 @@ wiki_link_written most attrs good opening closing ps f k parent le p =
         refl,
         (tt, children_written (suc k) kind.WikiLink ps (at + width opening) (next + 1) w (omega arith) (omega arith) (omega arith)),
       );
+      page = (f.opening.no_calls, f.closing.no_calls, refl, tt, written_nodes (suc k) kind.WikiLink ps w);
     }
 
 pub wiki_link_node : (most : ℕ) (attrs : List (AttrName × List ℕ)) → HasAttributes kind.WikiLink attrs
@@ -197,7 +201,7 @@ ext_link_written most attrs good opening closing ps f k parent le p =
           level = refl;
           number = (some, omega arith);
           places = (omega arith, room, omega arith, omega arith);
-          source = record { own = refl; opening = f.opening; closing = f.closing };
+          source = record { own = refl; opening = f.opening.utf8; closing = f.closing.utf8 };
           shown = refl;
           attrs = good;
           origin = refl;
@@ -207,6 +211,7 @@ ext_link_written most attrs good opening closing ps f k parent le p =
         refl,
         (tt, children_written (suc k) kind.ExtLink ps (at + width opening) (next + 1) w (omega arith) (omega arith) (omega arith)),
       );
+      page = (f.opening.no_calls, f.closing.no_calls, refl, tt, written_nodes (suc k) kind.ExtLink ps w);
     }
 
 pub ext_link_node : (most : ℕ) (attrs : List (AttrName × List ℕ)) → HasAttributes kind.ExtLink attrs → (opening closing : List Item) (ps : List Part)
@@ -239,7 +244,7 @@ tag_written m most attrs good opening closing ps f k parent le p =
           level = refl;
           number = (some, omega arith);
           places = (omega arith, room, omega arith, omega arith);
-          source = record { own = refl; opening = f.opening; closing = f.closing };
+          source = record { own = refl; opening = f.opening.utf8; closing = f.closing.utf8 };
           shown = refl;
           attrs = good;
           origin = refl;
@@ -249,6 +254,7 @@ tag_written m most attrs good opening closing ps f k parent le p =
         refl,
         (tt, children_written (suc k) (kind.Tag m) ps (at + width opening) (next + 1) w (omega arith) (omega arith) (omega arith)),
       );
+      page = (f.opening.no_calls, f.closing.no_calls, refl, tt, written_nodes (suc k) (kind.Tag m) ps w);
     }
 
 pub tag_node : (m : TagName) → (most : ℕ) (attrs : List (AttrName × List ℕ)) → HasAttributes (kind.Tag m) attrs
@@ -261,7 +267,7 @@ tag_node m most attrs good opening closing ps f = record {
 
 -- ---- leaves
 
-category_written : (most : ℕ) (attrs : List (AttrName × List ℕ)) → HasAttributes kind.Category attrs → (own : List Item) → most < 199 → IsUtf8 (sources own)
+category_written : (most : ℕ) (attrs : List (AttrName × List ℕ)) → HasAttributes kind.Category attrs → (own : List Item) → most < 199 → AreSources own
     → (k : ℕ) (parent : Kind) → k ≤ most → IsInlineParent parent → IsWrittenNode k parent (leaf (with_attrs kind.Category attrs) own)
 unfolding label_at spelling
 category_written most attrs good own small u k parent le p =
@@ -275,7 +281,7 @@ category_written most attrs good own small u k parent le p =
           level = refl;
           number = (some, omega arith);
           places = (omega arith, room, omega arith, omega arith);
-          source = record { own = subst (λ xs. IsUtf8 (sources xs)) (sym z) u; opening = refl; closing = refl };
+          source = record { own = subst (λ xs. IsUtf8 (sources xs)) (sym z) u.utf8; opening = refl; closing = refl };
           shown = refl;
           attrs = good;
           origin = refl;
@@ -285,16 +291,17 @@ category_written most attrs good own small u k parent le p =
         refl,
         (tt, tt),
       );
+      page = (u.no_calls, tt, refl, tt, tt);
     }
 
 pub category_leaf : (most : ℕ) (attrs : List (AttrName × List ℕ)) → HasAttributes kind.Category attrs → (own : List Item) → most < 199
-    → IsUtf8 (sources own) → NodeFits most (leaf (with_attrs kind.Category attrs) own)
+    → AreSources own → NodeFits most (leaf (with_attrs kind.Category attrs) own)
 category_leaf most attrs good own small u = record {
   written = category_written most attrs good own small u;
-  held = subst (λ xs. IsUtf8 (sources xs)) (sym (append-nil own)) u;
+  held = subst (λ xs. IsUtf8 (sources xs)) (sym (append-nil own)) u.utf8;
 }
 
-switch_written : (most : ℕ) (attrs : List (AttrName × List ℕ)) → HasAttributes kind.Switch attrs → (own : List Item) → most < 199 → IsUtf8 (sources own)
+switch_written : (most : ℕ) (attrs : List (AttrName × List ℕ)) → HasAttributes kind.Switch attrs → (own : List Item) → most < 199 → AreSources own
     → (k : ℕ) (parent : Kind) → k ≤ most → IsInlineParent parent → IsWrittenNode k parent (leaf (with_attrs kind.Switch attrs) own)
 unfolding label_at spelling
 switch_written most attrs good own small u k parent le p =
@@ -308,7 +315,7 @@ switch_written most attrs good own small u k parent le p =
           level = refl;
           number = (some, omega arith);
           places = (omega arith, room, omega arith, omega arith);
-          source = record { own = subst (λ xs. IsUtf8 (sources xs)) (sym z) u; opening = refl; closing = refl };
+          source = record { own = subst (λ xs. IsUtf8 (sources xs)) (sym z) u.utf8; opening = refl; closing = refl };
           shown = refl;
           attrs = good;
           origin = refl;
@@ -318,16 +325,17 @@ switch_written most attrs good own small u k parent le p =
         refl,
         (tt, tt),
       );
+      page = (u.no_calls, tt, refl, tt, tt);
     }
 
 pub switch_leaf : (most : ℕ) (attrs : List (AttrName × List ℕ)) → HasAttributes kind.Switch attrs → (own : List Item) → most < 199
-    → IsUtf8 (sources own) → NodeFits most (leaf (with_attrs kind.Switch attrs) own)
+    → AreSources own → NodeFits most (leaf (with_attrs kind.Switch attrs) own)
 switch_leaf most attrs good own small u = record {
   written = switch_written most attrs good own small u;
-  held = subst (λ xs. IsUtf8 (sources xs)) (sym (append-nil own)) u;
+  held = subst (λ xs. IsUtf8 (sources xs)) (sym (append-nil own)) u.utf8;
 }
 
-break_written : (most : ℕ) (own : List Item) → most < 199 → IsUtf8 (sources own)
+break_written : (most : ℕ) (own : List Item) → most < 199 → AreSources own
     → (k : ℕ) (parent : Kind) → k ≤ most → IsInlineParent parent → IsWrittenNode k parent (leaf (with_attrs kind.Br []) own)
 unfolding label_at spelling
 break_written most own small u k parent le p =
@@ -341,7 +349,7 @@ break_written most own small u k parent le p =
           level = refl;
           number = (some, omega arith);
           places = (omega arith, room, omega arith, omega arith);
-          source = record { own = subst (λ xs. IsUtf8 (sources xs)) (sym z) u; opening = refl; closing = refl };
+          source = record { own = subst (λ xs. IsUtf8 (sources xs)) (sym z) u.utf8; opening = refl; closing = refl };
           shown = refl;
           attrs = refl;
           origin = refl;
@@ -351,15 +359,16 @@ break_written most own small u k parent le p =
         refl,
         (tt, tt),
       );
+      page = (u.no_calls, tt, refl, tt, tt);
     }
 
-pub break_leaf : (most : ℕ) (own : List Item) → most < 199 → IsUtf8 (sources own) → NodeFits most (leaf (with_attrs kind.Br []) own)
+pub break_leaf : (most : ℕ) (own : List Item) → most < 199 → AreSources own → NodeFits most (leaf (with_attrs kind.Br []) own)
 break_leaf most own small u = record {
   written = break_written most own small u;
-  held = subst (λ xs. IsUtf8 (sources xs)) (sym (append-nil own)) u;
+  held = subst (λ xs. IsUtf8 (sources xs)) (sym (append-nil own)) u.utf8;
 }
 
-skip_written : (most : ℕ) (own : List Item) → most < 199 → IsUtf8 (sources own)
+skip_written : (most : ℕ) (own : List Item) → most < 199 → AreSources own
     → (k : ℕ) (parent : Kind) → k ≤ most → IsInlineParent parent → IsWrittenNode k parent (leaf (with_attrs kind.Skip []) own)
 unfolding label_at spelling
 skip_written most own small u k parent le p =
@@ -373,7 +382,7 @@ skip_written most own small u k parent le p =
           level = refl;
           number = (some, omega arith);
           places = (omega arith, room, omega arith, omega arith);
-          source = record { own = subst (λ xs. IsUtf8 (sources xs)) (sym z) u; opening = refl; closing = refl };
+          source = record { own = subst (λ xs. IsUtf8 (sources xs)) (sym z) u.utf8; opening = refl; closing = refl };
           shown = refl;
           attrs = refl;
           origin = refl;
@@ -383,12 +392,13 @@ skip_written most own small u k parent le p =
         refl,
         (tt, tt),
       );
+      page = (u.no_calls, tt, refl, tt, tt);
     }
 
-pub skip_leaf : (most : ℕ) (own : List Item) → most < 199 → IsUtf8 (sources own) → NodeFits most (leaf (with_attrs kind.Skip []) own)
+pub skip_leaf : (most : ℕ) (own : List Item) → most < 199 → AreSources own → NodeFits most (leaf (with_attrs kind.Skip []) own)
 skip_leaf most own small u = record {
   written = skip_written most own small u;
-  held = subst (λ xs. IsUtf8 (sources xs)) (sym (append-nil own)) u;
+  held = subst (λ xs. IsUtf8 (sources xs)) (sym (append-nil own)) u.utf8;
 }
 
 -- ---- what is kept whole
@@ -400,7 +410,14 @@ island_type = inl (placeholder_typeof, [], refl, refl, refl, IsUtf8-are_ascii (c
 abbrev pub kept : Head
 kept = with_attrs kind.Island ((attr.Typeof, placeholder_typeof) ∷ [])
 
-kept_written : (most : ℕ) (opening : List Item) (ts : ItemTrees) (closing : List Item) → most < 199 → IsUtf8 (sources (opening ++ (held_by_all ts ++ closing)))
+-- what such a node holds
+pub record IsKept (opening : List Item) (ts : ItemTrees) (closing : List Item) : Type 0 where
+  pub utf8 : IsUtf8 (sources (opening ++ (held_by_all ts ++ closing)))
+  pub before : AreNoCalls opening
+  pub inside : ArePageNodes ts
+  pub after : AreNoCalls closing
+
+kept_written : (most : ℕ) (opening : List Item) (ts : ItemTrees) (closing : List Item) → most < 199 → IsKept opening ts closing
     → (k : ℕ) (parent : Kind) → k ≤ most → IsInlineParent parent → IsWrittenNode k parent (inner kept opening ts closing)
 unfolding label_at spelling placeholder_typeof placeholder_type extension_prefix
 kept_written most opening ts closing small u k parent le p = record {
@@ -412,7 +429,7 @@ kept_written most opening ts closing small u k parent le p = record {
       level = refl;
       number = (some, omega arith);
       places = (omega arith, room, omega arith, omega arith);
-      source = record { own = u; opening = refl; closing = refl };
+      source = record { own = u.utf8; opening = refl; closing = refl };
       shown = refl;
       attrs = island_type;
       origin = refl;
@@ -422,15 +439,26 @@ kept_written most opening ts closing small u k parent le p = record {
     refl,
     (tt, tt),
   );
+  page = (u.before, u.after, refl, tt, u.inside);
 }
 
 -- whatever stands in it
-pub kept_node : (most : ℕ) (opening : List Item) (ts : ItemTrees) (closing : List Item) → most < 199 → IsUtf8 (sources (opening ++ (held_by_all ts ++ closing)))
+pub kept_node : (most : ℕ) (opening : List Item) (ts : ItemTrees) (closing : List Item) → most < 199 → IsKept opening ts closing
     → NodeFits most (inner kept opening ts closing)
-kept_node most opening ts closing small u = record { written = kept_written most opening ts closing small u; held = u }
+kept_node most opening ts closing small u = record { written = kept_written most opening ts closing small u; held = u.utf8 }
 
-pub kept_leaf : (most : ℕ) (own : List Item) → most < 199 → IsUtf8 (sources own) → NodeFits most (leaf kept own)
-kept_leaf most own small u = kept_node most own nothing [] small (subst (λ xs. IsUtf8 (sources xs)) (sym (append-nil own)) u)
+pub kept_leaf : (most : ℕ) (own : List Item) → most < 199 → AreSources own → NodeFits most (leaf kept own)
+kept_leaf most own small u = kept_node most own nothing [] small (record {
+  utf8 = subst (λ xs. IsUtf8 (sources xs)) (sym (append-nil own)) u.utf8;
+  before = u.no_calls;
+  inside = tt;
+  after = tt;
+})
 
 pub kept_round : (most : ℕ) (opening closing : List Item) (ps : List Part) → IsFilled most opening ps closing → NodeFits most (round kept opening ps closing)
-kept_round most opening closing ps f = kept_node most opening (forest (children ps)) closing f.small (held_utf8 most kept opening closing ps f)
+kept_round most opening closing ps f = kept_node most opening (forest (children ps)) closing f.small (record {
+  utf8 = held_utf8 most kept opening closing ps f;
+  before = f.opening.no_calls;
+  inside = written_nodes 0 kind.Bold ps (f.inside.written 0 kind.Bold (omega arith) bold_parent);
+  after = f.closing.no_calls;
+})

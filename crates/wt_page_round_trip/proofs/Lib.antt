@@ -2,7 +2,8 @@ mod Cases
 mod GroupTextCases
 mod PlaceCases
 pub mod CutStays
-pub mod PageOrigins
+pub mod PageNodes
+mod PageOrigins
 pub mod TextItems
 pub mod OfPage
 pub mod Parts
@@ -53,3 +54,7 @@ pub mod PageCalls
 pub mod ExpandedTexts
 pub mod OwnParts
 pub mod LineTexts
+pub mod Alone
+pub mod Bare
+pub mod Grouping
+pub mod GroupedPages

@@ -1,12 +1,11 @@
 -- Lists and their items are written wherever lists may stand.
-use Rattle.std.proofs.Common.{◌≡◌, ℕ, zero, suc, ◌+◌, ◌-◌, ◌*◌, ◌<◌, ◌≤◌, ◌⊎◌, Bool, true, false, min, Option, Some, None, List, [], ◌∷◌, ◌++◌, length, map, take, drop, get_or, nat_lt, codes, cond, inl, inr, IsUtf8, refl, sym, ap, ◌∙◌, subst, arith, append_assoc, append-nil, length-append, length-drop, length-take}
+use Rattle.std.proofs.Common.{◌≡◌, ℕ, zero, suc, ◌+◌, ◌-◌, ◌*◌, ◌<◌, ◌≤◌, ◌⊎◌, Bool, true, false, min, Option, Some, None, List, [], ◌∷◌, ◌++◌, length, map, take, drop, get_or, nat_lt, codes, cond, inl, inr, refl, sym, ap, ◌∙◌, subst, arith, append_assoc, append-nil, length-append, length-drop, length-take}
 use Rattle.std.specs.Prelude.{◌==◌, ◌&&◌, ◌||◌, slice_index, if◌then◌else◌}
 use Rattle.std.specs.List.{filter, prefix_len, list_all, AllByRecursion}
 use Rattle.std.proofs.lemmas.Bool.{eqb-true, ltb-true, and_parts}
 use Rattle.std.proofs.lemmas.Bool.Decides.{nat_tests}
-use Rattle.std.proofs.lemmas.Str.{IsUtf8-nil}
 use Rattle.std.proofs.Math.Seq.{get_or-append_seam}
-use Rattle.wt_span.specs.Items.{Item, sources}
+use Rattle.wt_span.specs.Items.{Item}
 use Rattle.wt_span.specs.Runs.{put, runs, IsRun, AreRuns}
 use Rattle.wt_span.proofs.RunLaws.{runs_are}
 use Rattle.wt_tree.specs.declared.kind.Kind.{Kind}
@@ -30,7 +29,8 @@ use Rattle.wt_body.specs.Stretches.{Stretch, gap, block_len, enclosed}
 use Rattle.wt_body.specs.Lists.{prefix_of, with_blanks, item_opening_len, term_len, colon_at, item_kind, list_kind, term, item_by, line_item, begins_at, row_at, list_stretches, all_lists, prefixes, lists}
 use Rattle.wt_page_round_trip.proofs.OfPage.{IsPageItem, ArePageItems}
 use Rattle.wt_page_round_trip.proofs.PageLines.{all_left, all_right, all_both, all_taken, all_dropped}
-use Rattle.wt_page_round_trip.proofs.ContextParts.{items_utf8}
+use Rattle.wt_page_round_trip.proofs.PageNodes.{AreSources, no_sources}
+use Rattle.wt_page_round_trip.proofs.ContextParts.{items_sources}
 use Rattle.wt_page_round_trip.proofs.BodyParts.{inline_held}
 use Rattle.wt_page_round_trip.proofs.Boxes.{IsInside, IsBox, box_written}
 use Rattle.wt_page_round_trip.proofs.Stretched.{StandsIn, IsBlockIn, IsPlaced, ArePlaced, IsHolder, holder_enclosed}
@@ -40,9 +40,6 @@ use Rattle.wt_page_round_trip.proofs.GoodRows.{IsGap, IsGoodRow, AreGoodRows}
 use Rattle.wt_page_round_trip.proofs.ListOpenings.{opening_cut, colon_sign, AreTermParts, term_parts}
 
 -- ---- kinds
-
-no_text : IsUtf8 (sources [])
-no_text = IsUtf8-nil
 
 ul_holder : IsHolder kind.Ul
 unfolding spelling
@@ -137,9 +134,9 @@ unfolding spelling
 list_box c = by_test (c == 42) (c == 35)
   where
     by_test : (a b : Bool) → IsBox (if a then kind.Ul else if b then kind.Ol else kind.Dl) [] [] []
-    by_test true b = record { attrs = refl; opening = no_text; closing = no_text }
-    by_test false true = record { attrs = refl; opening = no_text; closing = no_text }
-    by_test false false = record { attrs = refl; opening = no_text; closing = no_text }
+    by_test true b = record { attrs = refl; opening = no_sources; closing = no_sources }
+    by_test false true = record { attrs = refl; opening = no_sources; closing = no_sources }
+    by_test false false = record { attrs = refl; opening = no_sources; closing = no_sources }
 
 list_stands : (parent : Kind) → HoldsLists parent → (c : ℕ) → StandsIn parent (list_kind c)
 list_stands parent h c = by_test (c == 42) (c == 35)
@@ -157,14 +154,14 @@ item_bordered c = by_test (c == 59) (c == 58)
     by_test false true = dd_bordered
     by_test false false = li_bordered
 
-item_box : (c : ℕ) (opening : List Item) → IsUtf8 (sources opening) → IsBox (item_kind c) [] opening []
+item_box : (c : ℕ) (opening : List Item) → AreSources opening → IsBox (item_kind c) [] opening []
 unfolding spelling
 item_box c opening u = by_test (c == 59) (c == 58)
   where
     by_test : (a b : Bool) → IsBox (if a then kind.Dt else if b then kind.Dd else kind.Li) [] opening []
-    by_test true b = record { attrs = refl; opening = u; closing = no_text }
-    by_test false true = record { attrs = refl; opening = u; closing = no_text }
-    by_test false false = record { attrs = refl; opening = u; closing = no_text }
+    by_test true b = record { attrs = refl; opening = u; closing = no_sources }
+    by_test false true = record { attrs = refl; opening = u; closing = no_sources }
+    by_test false false = record { attrs = refl; opening = u; closing = no_sources }
 
 item_lists : (c : ℕ) → HoldsLists (item_kind c)
 item_lists c = by_test (c == 59) (c == 58)
@@ -252,7 +249,7 @@ term_in k parent opening xs o h u small s =
     subst (λ (ps : List Part). IsInside (suc k) kind.Dt (forest (children ps))) (append-nil (line_parts xs))
     (line_inside (suc k) kind.Dt dt_bordered (omega (arith, small)) xs h (line_items xs h u) [] tt tt) in (
       (
-        box_written k parent kind.Dt dt_bordered.round [] opening [] (item_box 59 opening (items_utf8 opening o)) (forest (children (line_parts xs)))
+        box_written k parent kind.Dt dt_bordered.round [] opening [] (item_box 59 opening (items_sources opening o)) (forest (children (line_parts xs)))
             (omega (arith, small)) s.held inside,
         refl,
       ),
@@ -264,7 +261,7 @@ item_placed : (k : ℕ) (c d : ℕ) → is_list_sign d ≡ true → list_kind d 
     → ArePageItems xs → IsUnbroken xs → term_len d xs ≡ n → (e : List Item) → (ss : List Stretch) → IsGap e → IsBreakGap e ⊎ (block_len ss ≡ 0)
     → ((q : Kind) → HoldsLists q → ArePlaced (suc k) q ss) → k < 141 → ArePlaced k (list_kind c) (item_by d n opening xs (gap e ∷ ss))
 item_placed k c d l same None opening xs o h u is e ss g f a small =
-    line_opened k (list_kind c) (item_kind d) (item_bordered d) [] opening (item_box d opening (items_utf8 opening o)) xs h (line_items xs h u)
+    line_opened k (list_kind c) (item_kind d) (item_bordered d) [] opening (item_box d opening (items_sources opening o)) xs h (line_items xs h u)
     (gap e ∷ ss) (g, a (item_kind d) (item_lists d)) (breaks_first e ss f) small (item_stands c d l same)
 item_placed k c d l same (Some n) opening xs o h u is e ss g f a small =
     let q : (d ≡ 59) × (get_or (signs xs) n 0 ≡ 58) = some_term d n xs is in
@@ -274,7 +271,7 @@ item_placed k c d l same (Some n) opening xs o h u is e ss g f a small =
     let m : ℕ = with_blanks 1 rest in
     let unbroken : IsUnbroken (drop m rest) = all_dropped (λ x. is_break_item x ≡ false) m rest (all_dropped (λ x. is_break_item x ≡ false) n xs u) in (
       term_in k (list_kind c) opening (take n xs) o t.term (all_taken (λ x. is_break_item x ≡ false) n xs u) small (item_stands c 59 refl definitions),
-      line_opened k (list_kind c) kind.Dd dd_bordered [] (take m rest) (item_box 58 (take m rest) (items_utf8 (take m rest) t.colon)) (drop m rest) t.rest
+      line_opened k (list_kind c) kind.Dd dd_bordered [] (take m rest) (item_box 58 (take m rest) (items_sources (take m rest) t.colon)) (drop m rest) t.rest
           (line_items (drop m rest) t.rest unbroken) (gap e ∷ ss) (g, a kind.Dd (item_lists 58)) (breaks_first e ss f) small
           (item_stands c 58 refl definitions),
     )
@@ -410,7 +407,7 @@ item_by_lines rs n h k c small l ms true e g a f w same =
     let ls : List ListLine = map without_sign (l ∷ ms) in
     let sign : is_list_sign (sign_of l) ≡ true = first_sign l.prefix a.0.some a.0.signs in
     rw (all_stay ms g) (rw (begins_here n (without_sign l) (map without_sign ms) (short_less n l e f.0).1)
-    (blocks_enclosed k (list_kind c) (item_kind (sign_of l)) (item_bordered (sign_of l)) (item_box (sign_of l) [] no_text)
+    (blocks_enclosed k (list_kind c) (item_kind (sign_of l)) (item_bordered (sign_of l)) (item_box (sign_of l) [] no_sources)
     (all_lists rs (list_forest (nested_lists n ls)))
     (h (suc k) (item_kind (sign_of l)) (item_lists (sign_of l)) small ls (lines_inner rs n (l ∷ ms) (e, g) f a) (short_inner n (l ∷ ms) (e, g) f)
     (ended_inner rs (l ∷ ms) w))
@@ -430,7 +427,7 @@ item_by_lines rs n h k c small l ms false e g a f w same = rw (all_stay ms g)
     by_test : (t : Bool) → ArePlaced k (list_kind c)
         (if t then enclosed (plain (item_kind (sign_of l))) (all_lists rs (list_forest (nested_lists n ls)))
         else line_item (sign_of l) (row_at rs l.number) (all_lists rs (list_forest (nested_lists n ls))))
-    by_test true = blocks_enclosed k (list_kind c) (item_kind (sign_of l)) (item_bordered (sign_of l)) (item_box (sign_of l) [] no_text)
+    by_test true = blocks_enclosed k (list_kind c) (item_kind (sign_of l)) (item_bordered (sign_of l)) (item_box (sign_of l) [] no_sources)
         (all_lists rs (list_forest (nested_lists n ls))) (inner (item_kind (sign_of l)) (item_lists (sign_of l)))
         (omega (arith, small)) (item_stands c (sign_of l) sign same)
     by_test false = line_placed k c (sign_of l) sign same (row_at rs l.number) a.0.row a.0.unbroken (all_lists rs (list_forest (nested_lists n ls)))

@@ -18,13 +18,10 @@ use Rattle.wt_ranges.specs.Counted.{numbered}
 use Rattle.wt_ranges.specs.Slices.{IsSlice, AreSlices}
 use Rattle.wt_ranges.specs.Annotated.{annotated}
 use Rattle.wt_ranges.specs.Clean.{is_clean}
-use Rattle.wt_ranges.specs.CutTexts.{cut_texts}
 use Rattle.wt_ranges.specs.GroupData.{group_data}
 use Rattle.wt_ranges.specs.Reached.{AreReachedSlices, reached, reached_in_all}
-use Rattle.wt_ranges.specs.WithoutCalls.{annotated as annotated_plainly, IsPlain}
-use Rattle.wt_ranges.proofs.AnnotatedTree.{annotated_tiles, annotated_covers, annotated_slices, annotated_source, annotated_numbered, without_calls}
+use Rattle.wt_ranges.proofs.AnnotatedTree.{annotated_tiles, annotated_covers, annotated_slices, annotated_source, annotated_numbered}
 use Rattle.wt_ranges.proofs.Ends.{body_clean}
-use Rattle.wt_ranges.proofs.NoGroups.{only_plain}
 use Rattle.wt_page_round_trip.specs.PageTree.{page_tree}
 use Rattle.wt_page_round_trip.proofs.PageOrigins.{page_source}
 use Rattle.wt_page_round_trip.proofs.FormLengths.{page_forms}
@@ -44,17 +41,6 @@ few_numbers page = omega (arith, two_a_byte page)
 
 meaning_sources : (page : List ℕ) → sources (tree_items (meaning (page_items page))) ≡ page
 meaning_sources page = sources_meaning (page_items page) ∙ page_sources page
-
--- without groups it comes of items of the page alone
-plain_meaning : (xs : List Item) → HasNoGroup (annotated [] (group_data []) (meaning xs)) → IsPlain (meaning xs)
-unfolding meaning
-plain_meaning xs h = only_plain [] (group_data []) (forest (children (body_parts (rows xs)))) h
-
-pub page_plain : (page : List ℕ) → HasNoGroup (page_tree page) → IsPlain (meaning (page_items page))
-page_plain page h = plain_meaning (page_items page) h
-
-pub plainly : (page : List ℕ) → HasNoGroup (page_tree page) → page_tree page ≡ cut_texts (annotated_plainly (meaning (page_items page)))
-plainly page h = without_calls [] (group_data []) (meaning (page_items page)) (page_plain page h)
 
 clean_meaning : (xs : List Item) → is_clean (tree_items (meaning xs)) 0 (meaning xs) ≡ true
 unfolding meaning

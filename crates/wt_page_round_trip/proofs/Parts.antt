@@ -1,6 +1,7 @@
 -- The children of a node, from its parts: each run of characters is a text or a separator that is written, and so is each node.
 use Rattle.std.proofs.Common.{◌≡◌, ℕ, ◌+◌, ◌<◌, ◌≤◌, ◌^◌, Bool, true, false, Option, None, List, [], ◌∷◌, ◌++◌, length, map, flat_map, IsUtf8, refl, sym, ap, ap₂, ◌∙◌, subst, arith, append_assoc, length-append, inl, inr}
 use Rattle.std.specs.Prelude.{◌&&◌, if◌then◌else◌}
+use Rattle.std.specs.List.{AllByRecursion}
 use Rattle.std.proofs.lemmas.Str.{IsUtf8-nil}
 use Rattle.wt_span.specs.Items.{Item, char, sources}
 use Rattle.wt_span.specs.Runs.{runs, IsRun, AreRuns}
@@ -22,15 +23,17 @@ use Rattle.wt_inline.proofs.HeldLaws.{sources_append}
 use Rattle.wt_ranges.specs.Labels.{width, label_at}
 use Rattle.wt_ranges.specs.Counted.{numbered, numbered_in_all}
 use Rattle.wt_ranges.specs.Made.{annotated_at, all_annotated_at}
+use Rattle.wt_page_round_trip.proofs.PageNodes.{IsPageNode, ArePageNodes, IsPagePart, children_nodes}
 
 -- a text or a separator that may stand in a node of this kind
 abbrev pub IsTextRun : Kind → List ℕ → Type 0
 IsTextRun parent run = IsUtf8 run × (may_stand parent run ≡ true)
 
--- a node that is written as an element, within k elements, wherever it stands
+-- a node of the page that is written as an element, within k elements, wherever it stands
 pub record IsWrittenNode (k : ℕ) (parent : Kind) (t : ItemTree) : Type 0 where
   pub element : (at next : ℕ) → is_text (annotated_at at next t) ≡ false
   pub written : (at next : ℕ) → at + width (tree_items t) < 2 ^ 32 → 0 < next → next + numbered t ≤ 2 ^ 32 → WrittenIn k parent (annotated_at at next t)
+  pub page : IsPageNode t
 
 -- these bytes, and then what parts hold
 abbrev pub AreWrittenParts : ℕ → Kind → List ℕ → List Part → Type 0
@@ -206,3 +209,13 @@ pub children_written : (k : ℕ) (parent : Kind) (ps : List Part) (at next : ℕ
     → AllWrittenIn k parent (all_annotated_at at next (forest (children ps)))
 unfolding children
 children_written k parent ps at next w room some few = runs_written k parent (runs one_leaf ps) ps at next (runs_are one_leaf ps) w room some few
+
+-- ---- the same parts, by their items
+
+pub written_parts : (k : ℕ) (parent : Kind) (run : List ℕ) (ps : List Part) → AreWrittenParts k parent run ps → AllByRecursion IsPagePart ps
+written_parts k parent run [] w = tt
+written_parts k parent run (loose j o b ∷ ps) w = (w.1, written_parts k parent (run ++ b ∷ []) ps w.2)
+written_parts k parent run (node t ∷ ps) w = (w.1.page, written_parts k parent [] ps w.2)
+
+pub written_nodes : (k : ℕ) (parent : Kind) (ps : List Part) → AreWrittenParts k parent [] ps → ArePageNodes (forest (children ps))
+written_nodes k parent ps w = children_nodes ps (written_parts k parent [] ps w)

@@ -28,6 +28,7 @@ use Rattle.wt_ranges.specs.Counted.{numbered, numbered_in_all}
 use Rattle.wt_ranges.specs.Made.{annotated_at, all_annotated_at}
 use Rattle.wt_page_round_trip.proofs.OfPage.{AreOfPage}
 use Rattle.wt_page_round_trip.proofs.PageLines.{IsBetween, is_white_byte}
+use Rattle.wt_page_round_trip.proofs.PageNodes.{ArePageNodes, IsPagePart, children_nodes}
 use Rattle.wt_page_round_trip.proofs.Parts.{IsWrittenNode, wide_append, own_chars, none_joins}
 use Rattle.wt_page_round_trip.proofs.Forms.{mark_node}
 
@@ -188,6 +189,16 @@ pub separated_written : (k : ℕ) (parent : Kind) → TakesSeparators parent →
     → AllWrittenIn k parent (all_annotated_at at next (forest (children ps)))
 unfolding children
 separated_written k parent s ps at next a room some few = runs_written k parent s (runs one_leaf ps) ps at next (runs_are one_leaf ps) a room some few
+
+-- ---- the same parts, by their items
+
+pub separated_parts : (k : ℕ) (parent : Kind) (ps : List Part) → AllByRecursion (IsPartIn k parent) ps → AllByRecursion IsPagePart ps
+separated_parts k parent [] a = tt
+separated_parts k parent (loose j o b ∷ ps) a = (a.0.1, separated_parts k parent ps a.1)
+separated_parts k parent (node t ∷ ps) a = (a.0.0.page, separated_parts k parent ps a.1)
+
+pub separated_nodes : (k : ℕ) (parent : Kind) (ps : List Part) → AllByRecursion (IsPartIn k parent) ps → ArePageNodes (forest (children ps))
+separated_nodes k parent ps a = children_nodes ps (separated_parts k parent ps a)
 
 -- ---- gaps
 

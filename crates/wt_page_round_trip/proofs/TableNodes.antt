@@ -1,5 +1,5 @@
 -- Tables with their captions, rows and cells, where what is read in cells is written.
-use Rattle.std.proofs.Common.{◌≡◌, ℕ, suc, ◌+◌, ◌*◌, ◌<◌, ◌≤◌, ◌⊎◌, Bool, true, false, List, [], ◌∷◌, ◌++◌, length, take, drop, get_or, inl, inr, IsUtf8, refl, sym, ap, ap₂, ◌∙◌, subst, arith}
+use Rattle.std.proofs.Common.{◌≡◌, ℕ, suc, ◌+◌, ◌*◌, ◌<◌, ◌≤◌, ◌⊎◌, Bool, true, false, List, [], ◌∷◌, ◌++◌, length, take, drop, get_or, inl, inr, refl, sym, ap, ap₂, ◌∙◌, subst, arith}
 use Rattle.std.specs.Prelude.{◌==◌, ◌||◌, reverse, codes, if◌then◌else◌}
 use Rattle.std.specs.List.{flat_map, prefix_len, AllByRecursion}
 use Rattle.std.proofs.lemmas.Bool.{eqb-true}
@@ -7,10 +7,9 @@ use Rattle.std.proofs.lemmas.Bool.Decides.{nat_tests}
 use Rattle.std.proofs.lemmas.List.{reverse-append, length-reverse, drop-map}
 use Rattle.std.proofs.lemmas.List.Folds.{prefix_len-append}
 use Rattle.std.proofs.lemmas.List.Sums.{prefix_len-le-length}
-use Rattle.std.proofs.lemmas.Str.{IsUtf8-nil}
 use Rattle.wt_html_grammar.proofs.Steps.{if_true, if_false}
 use Rattle.wt_span.specs.Bytes.{begins}
-use Rattle.wt_span.specs.Items.{Item, sources, sign}
+use Rattle.wt_span.specs.Items.{Item, sign}
 use Rattle.wt_lex.proofs.Begins.{begins_get, begins_len}
 use Rattle.wt_tree.specs.declared.kind.AttrName.{AttrName}
 use Rattle.wt_tree.specs.declared.kind.Kind.{Kind}
@@ -33,7 +32,8 @@ use Rattle.wt_body.specs.Tables.{Reading, cell_kind, cell_stretches, is_blank_ro
 use Rattle.wt_page_round_trip.proofs.OfPage.{IsPageItem, ArePageItems}
 use Rattle.wt_page_round_trip.proofs.PageLines.{IsBetween, all_both, all_taken, all_dropped, texts_both, ending_between, content_page}
 use Rattle.wt_page_round_trip.proofs.TileTexts.{no_page_items}
-use Rattle.wt_page_round_trip.proofs.ContextParts.{items_utf8}
+use Rattle.wt_page_round_trip.proofs.PageNodes.{AreSources, no_sources}
+use Rattle.wt_page_round_trip.proofs.ContextParts.{items_sources}
 use Rattle.wt_page_round_trip.proofs.Boxes.{IsBox}
 use Rattle.wt_page_round_trip.proofs.Stretched.{StandsIn, IsPlaced, ArePlaced, IsHolder, holder_node, holder_opened, holder_enclosed}
 use Rattle.wt_page_round_trip.proofs.GoodRows.{IsGap, IsSeen, IsGoodRow, AreGoodRows, IsLowItem, low_ends, passing_low, behind_items, dash_low}
@@ -131,10 +131,10 @@ sign_items (r ∷ rs) g =
 lead_gap : (rs : List Row) → AreGoodRows rs → IsGap (delimiter_lead rs)
 lead_gap rs g = first_gap (take (stray_len rs) rs) (all_taken IsGoodRow (stray_len rs) rs g)
 
-delimiter_utf8 : (rs : List Row) → AreGoodRows rs → IsUtf8 (sources (delimiter rs))
-delimiter_utf8 rs g =
+delimiter_sources : (rs : List Row) → AreGoodRows rs → AreSources (delimiter rs)
+delimiter_sources rs g =
     let front : List Row = take (stray_len rs) rs in
-    items_utf8 (content (from_sign front)) (content_page (from_sign front) (sign_items front (all_taken IsGoodRow (stray_len rs) rs g))).0
+    items_sources (content (from_sign front)) (content_page (from_sign front) (sign_items front (all_taken IsGoodRow (stray_len rs) rs g))).0
 
 behind_placed : (k : ℕ) (q : Kind) (rs : List Row) → AreGoodRows rs → ArePlaced k q (behind_delimiter rs)
 behind_placed k q rs g =
@@ -199,18 +199,18 @@ row_holder = record {
   block = refl;
 }
 
-table_box : (attrs : List (AttrName × List ℕ)) (opening closing : List Item) → AreStyles attrs → IsUtf8 (sources opening) → IsUtf8 (sources closing)
+table_box : (attrs : List (AttrName × List ℕ)) (opening closing : List Item) → AreStyles attrs → AreSources opening → AreSources closing
     → IsBox kind.Table attrs opening closing
 unfolding spelling
 table_box attrs opening closing a u v = record { attrs = a; opening = u; closing = v }
 
 body_box : IsBox kind.Tbody [] [] []
 unfolding spelling
-body_box = record { attrs = refl; opening = IsUtf8-nil; closing = IsUtf8-nil }
+body_box = record { attrs = refl; opening = no_sources; closing = no_sources }
 
-row_box : (attrs : List (AttrName × List ℕ)) (opening : List Item) → AreStyles attrs → IsUtf8 (sources opening) → IsBox kind.Tr attrs opening []
+row_box : (attrs : List (AttrName × List ℕ)) (opening : List Item) → AreStyles attrs → AreSources opening → IsBox kind.Tr attrs opening []
 unfolding spelling
-row_box attrs opening a u = record { attrs = a; opening = u; closing = IsUtf8-nil }
+row_box attrs opening a u = record { attrs = a; opening = u; closing = no_sources }
 
 -- blocks where they may stand
 pub record HoldsBlocks (q : Kind) : Type 0 where
@@ -324,12 +324,12 @@ cell_groups read m i k parent caption s small (g ∷ gs) a =
 row_by_placed : (k : ℕ) (rs : List Row) → OpensRow rs → (cells : List Stretch) → k < 190 → ArePlaced (suc k) kind.Tr cells
     → ArePlaced k kind.Tbody (row_by rs cells)
 row_by_placed k [] o cells small a =
-    holder_enclosed k kind.Tbody kind.Tr row_holder (row_box [] [] no_styles IsUtf8-nil) cells (omega (arith, small)) rows_stand a
+    holder_enclosed k kind.Tbody kind.Tr row_holder (row_box [] [] no_styles no_sources) cells (omega (arith, small)) rows_stand a
 row_by_placed k (r ∷ rs) o cells small a =
     let open_items : ArePageItems r.items = o.1.0.items in (
       lead_gap (r ∷ rs) o.1,
       holder_opened k kind.Tbody kind.Tr row_holder (row_attributes r.items) (delimiter (r ∷ rs))
-          (row_box (row_attributes r.items) (delimiter (r ∷ rs)) (row_styles r.items open_items o.0) (delimiter_utf8 (r ∷ rs) o.1))
+          (row_box (row_attributes r.items) (delimiter (r ∷ rs)) (row_styles r.items open_items o.0) (delimiter_sources (r ∷ rs) o.1))
           (behind_delimiter (r ∷ rs) ++ cells) (omega (arith, small)) rows_stand
           (all_both (IsPlaced (suc k) kind.Tr) (behind_delimiter (r ∷ rs)) cells (behind_placed (suc k) kind.Tr (r ∷ rs) o.1) a),
     )
@@ -381,8 +381,8 @@ table_by_placed read m i k parent s small t h end g =
       lead_gap rs h.delimiter,
       (
         holder_node k parent kind.Table table_holder attrs (delimiter rs) end.items
-            (table_box attrs (delimiter rs) end.items (open_styles (first_items rs) h.first h.opens) (delimiter_utf8 rs h.delimiter)
-            (items_utf8 end.items g.items))
+            (table_box attrs (delimiter rs) end.items (open_styles (first_items rs) h.first h.opens) (delimiter_sources rs h.delimiter)
+            (items_sources end.items g.items))
             (behind_delimiter rs ++ (table_inside read t ++ (gap end.lead ∷ []))) (omega (arith, small)) s all,
         (g.ending, tt),
       ),

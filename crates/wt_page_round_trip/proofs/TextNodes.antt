@@ -4,7 +4,7 @@ use Rattle.std.specs.Prelude.{codes}
 use Rattle.std.specs.List.{AllByRecursion, flat_map}
 use Rattle.std.proofs.lemmas.Str.{IsUtf8-nil, IsUtf8-append}
 use Rattle.wt_span.specs.Bytes.{begins}
-use Rattle.wt_span.specs.Items.{Item, char, whole, sources}
+use Rattle.wt_span.specs.Items.{Item, char, whole}
 use Rattle.wt_tree.specs.declared.kind.Kind.{Kind}
 use Rattle.wt_tree.specs.declared.kind.Kind.TheVariants as kind
 use Rattle.wt_tree.specs.declared.row.Class.TheVariants.{Block}
@@ -27,9 +27,10 @@ use Rattle.wt_body.specs.Texts.{with_separators, later_parts, later_line, para_p
 use Rattle.wt_body.specs.Tables.{gaps}
 use Rattle.wt_body.specs.Body.{rule_row, heading_row}
 use Rattle.wt_page_round_trip.proofs.TextItems.{AreTexts, cut_after, cut_items_before}
-use Rattle.wt_page_round_trip.proofs.OfPage.{IsPageItem, AreOfPage, ArePageItems, texts_utf8}
+use Rattle.wt_page_round_trip.proofs.OfPage.{IsPageItem, AreOfPage, ArePageItems}
 use Rattle.wt_page_round_trip.proofs.PageLines.{IsBetween, all_left, all_right, all_both, texts_both}
-use Rattle.wt_page_round_trip.proofs.Parts.{children_written}
+use Rattle.wt_page_round_trip.proofs.PageNodes.{AreSources, no_sources, page_sources}
+use Rattle.wt_page_round_trip.proofs.Parts.{AreWrittenParts, children_written, written_nodes}
 use Rattle.wt_page_round_trip.proofs.WrittenParts.{FitsIn, no_parts, fits_both, fits_text, fits_node}
 use Rattle.wt_page_round_trip.proofs.Inline.{IsInlineParent}
 use Rattle.wt_page_round_trip.proofs.InlineNodes.{skip_leaf}
@@ -77,10 +78,12 @@ gaps_placed k parent (r ∷ rs) g a =
 -- ---- what holds text
 
 text_inside : (k : ℕ) (q : Kind) → texts_of_kind q ≡ Page → IsInlineParent q → (ps : List Part) → FitsIn k ps → IsInside k q (forest (children ps))
-text_inside k q e p ps f at next room some few = (
-  subst (λ x. IsCutIn x (all_annotated_at at next (forest (children ps)))) (sym e) tt,
-  children_written k q ps at next (f.written k q (omega arith) p) room some few,
-)
+text_inside k q e p ps f =
+    let w : AreWrittenParts k q [] ps = f.written k q (omega arith) p in (
+      written_nodes k q ps w,
+      λ at next room some few.
+          (subst (λ x. IsCutIn x (all_annotated_at at next (forest (children ps)))) (sym e) tt, children_written k q ps at next w room some few),
+    )
 
 later_fit : (most : ℕ) → most < 199 → (read : Row → List Part) → ((r : Row) → IsGoodRow r → FitsIn most (read r)) → (b : List Item) → ArePageItems b
     → (rs : List Row) → AreGoodRows rs → FitsIn most (later_parts read b rs)
@@ -104,16 +107,13 @@ para_fits most small (r ∷ rs) g =
     (later_fit most (omega (arith, small)) later_line (λ s h. line_fits most small (s.lead ++ s.items) (lead_items s h)) r.ending
     (gap_items r.ending g.0.ending) rs g.1)
 
-no_delimiters : IsUtf8 (sources [])
-no_delimiters = IsUtf8-nil
-
 para_round : IsRound kind.Para
 unfolding spelling
 para_round = record { class = Block; holding = Inlines; texts = Page; shape_is = refl; level = refl; shows = refl }
 
 para_box : IsBox kind.Para [] [] []
 unfolding spelling
-para_box = record { attrs = refl; opening = no_delimiters; closing = no_delimiters }
+para_box = record { attrs = refl; opening = no_sources; closing = no_sources }
 
 pub para_placed : (k : ℕ) (parent : Kind) (rs : List Row) → AreGoodRows rs → k < 141 → StandsIn parent kind.Para
     → ArePlaced k parent (with_separators (para rs) rs)
@@ -146,7 +146,7 @@ pre_line most small r g e =
     let h : ArePageItems r.lead = gap_items r.lead g.lead in
     fits_both most (parts Text r.lead) (node (skipped r) ∷ line_parts (drop 1 r.items)) (fits_text most r.lead (omega (arith, small)) h.texts h.page)
     (fits_both most (node (skipped r) ∷ []) (line_parts (drop 1 r.items))
-    (fits_node most (skipped r) (skip_leaf most (take 1 r.items) (omega (arith, small)) (texts_utf8 [] (take 1 r.items) c.0.texts c.0.page)))
+    (fits_node most (skipped r) (skip_leaf most (take 1 r.items) (omega (arith, small)) (page_sources (take 1 r.items) c.0.texts c.0.page)))
     (line_fits most small (drop 1 r.items) c.1))
 
 later_pre_fit : (most : ℕ) → most < 142 → (b : List Item) → ArePageItems b → (rs : List Row) → AreGoodRows rs → ArePreRows rs
@@ -164,17 +164,17 @@ pre_fits most small (r ∷ rs) g e =
     fits_both most (line_parts (drop 1 r.items)) (later_parts later_pre r.ending rs) (line_fits most small (drop 1 r.items) c.1)
     (later_pre_fit most small r.ending (gap_items r.ending g.0.ending) rs g.1 e.1)
 
-opening_utf8 : (rs : List Row) → AreGoodRows rs → ArePreRows rs → IsUtf8 (sources (pre_opening rs))
-opening_utf8 [] g e = IsUtf8-nil
-opening_utf8 (r ∷ rs) g e = let c = space_cut r g.0 e.0 in texts_utf8 [] (take 1 r.items) c.0.texts c.0.page
+opening_sources : (rs : List Row) → AreGoodRows rs → ArePreRows rs → AreSources (pre_opening rs)
+opening_sources [] g e = no_sources
+opening_sources (r ∷ rs) g e = let c = space_cut r g.0 e.0 in page_sources (take 1 r.items) c.0.texts c.0.page
 
 pre_round : IsRound kind.Pre
 unfolding spelling
 pre_round = record { class = Block; holding = Inlines; texts = Page; shape_is = refl; level = refl; shows = refl }
 
-pre_box : (xs : List Item) → IsUtf8 (sources xs) → IsBox kind.Pre [] xs []
+pre_box : (xs : List Item) → AreSources xs → IsBox kind.Pre [] xs []
 unfolding spelling
-pre_box xs u = record { attrs = refl; opening = u; closing = no_delimiters }
+pre_box xs u = record { attrs = refl; opening = u; closing = no_sources }
 
 pre_parent : IsInlineParent kind.Pre
 pre_parent = record { text = refl; elements = λ k h. inline_held (is_anywhere (shape k).class) _ h }
@@ -185,7 +185,7 @@ unfolding pre
 pre_placed k parent rs g e small s =
     around k parent (inner (plain kind.Pre) (pre_opening rs) (forest (children (pre_parts rs))) []) rs g (
       (
-        box_written k parent kind.Pre pre_round [] (pre_opening rs) [] (pre_box (pre_opening rs) (opening_utf8 rs g e)) (forest (children (pre_parts rs)))
+        box_written k parent kind.Pre pre_round [] (pre_opening rs) [] (pre_box (pre_opening rs) (opening_sources rs g e)) (forest (children (pre_parts rs)))
             (omega (arith, small)) s.held
             (text_inside (suc k) kind.Pre refl pre_parent (pre_parts rs) (pre_fits (suc k) (omega (arith, small)) rs g e)),
         refl,
@@ -198,7 +198,7 @@ pre_placed k parent rs g e small s =
 heading_round : (n : ℕ) → has_level (kind.Heading n) ≡ true → IsRound (kind.Heading n)
 heading_round n e = record { class = Block; holding = Inlines; texts = Page; shape_is = refl; level = e; shows = refl }
 
-heading_box : (n : ℕ) (os cs : List Item) → IsUtf8 (sources os) → IsUtf8 (sources cs) → IsBox (kind.Heading n) [] os cs
+heading_box : (n : ℕ) (os cs : List Item) → AreSources os → AreSources cs → IsBox (kind.Heading n) [] os cs
 unfolding spelling
 heading_box n os cs u v = record { attrs = refl; opening = u; closing = v }
 
@@ -217,8 +217,8 @@ heading_in k parent xs l c small s =
     let r : AreTexts [] is × AreTexts [] cs = cut_items_before [] is cs c.close_begins q.1 in
     let ps : List Part = line_parts is in
     let f : FitsIn (suc k) ps = line_fits (suc k) (omega (arith, small)) is (record { texts = r.0; page = all_left IsPageItem is cs v }) in
-    let b : IsBox (kind.Heading n) [] os cs = heading_box n os cs (texts_utf8 [] os q.0 (all_left IsPageItem os (is ++ cs) p))
-    (texts_utf8 [] cs r.1 (all_right IsPageItem is cs v)) in (
+    let b : IsBox (kind.Heading n) [] os cs = heading_box n os cs (page_sources os q.0 (all_left IsPageItem os (is ++ cs) p))
+    (page_sources cs r.1 (all_right IsPageItem is cs v)) in (
       (
         box_written k parent (kind.Heading n) (heading_round n c.level) [] os cs b (forest (children ps)) (omega (arith, small)) s.held
             (text_inside (suc k) (kind.Heading n) refl (heading_parent n) ps f),
@@ -241,7 +241,7 @@ rules_placed k parent s small [] g = tt
 rules_placed k parent s small (r ∷ rs) g = (
   g.0.lead,
   (
-    ((rule_written k parent r.items small s.held (texts_utf8 [] r.items g.0.items.texts g.0.items.page), refl), s.shows),
+    ((rule_written k parent r.items small s.held (page_sources r.items g.0.items.texts g.0.items.page), refl), s.shows),
     (g.0.ending, rules_placed k parent s small rs g.1),
   ),
 )

@@ -30,12 +30,13 @@ ghost use Rattle.wt_page_round_trip.specs.GroupTexts.{
 ghost use Rattle.wt_page_round_trip.specs.PageTree.{page_tree};
 
 /// The HTML of a page is read as the page's own annotated tree, without the ranges of its texts and
-/// separators. Each of its elements tells where it comes from, and its source is the page. It holds
-/// of each page in UTF-8 of fewer than 2^31 bytes whose tree has no group, as one with an empty style
-/// has; forms that aren't built are read as text.
+/// separators, and with the nodes of a group's elements in the place of its own. Each element outside
+/// groups, and each group, tells where it comes from, and the source is the page. It holds of each page
+/// in UTF-8 of fewer than 2^31 bytes; forms that aren't built are read as text. A group is here a node
+/// that holds no item of the page, as a style that opens and ends at once.
 pub fn page_is_read()
-    ensures written { (bytes : List ℕ) → IsUtf8 bytes → length bytes < 2 ^ 31 → HasNoGroup (page_tree bytes) → IsWritten (page_tree bytes) }
-    ensures read { (bytes : List ℕ) → IsUtf8 bytes → length bytes < 2 ^ 31 → HasNoGroup (page_tree bytes)
+    ensures written { (bytes : List ℕ) → IsUtf8 bytes → length bytes < 2 ^ 31 → IsWritten (page_tree bytes) }
+    ensures read { (bytes : List ℕ) → IsUtf8 bytes → length bytes < 2 ^ 31
         → read (html_text (page_tree bytes)) ≡ page (unranged (page_tree bytes)) None }
     ensures source { (bytes : List ℕ) → flat (unranged (page_tree bytes)) ≡ bytes }
 {}

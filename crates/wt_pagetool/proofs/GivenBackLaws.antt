@@ -21,8 +21,6 @@ use Rattle.wt_pagetool.specs.Causes.{Answered}
 use Rattle.wt_pagetool.specs.Devices.{SinkUse}
 use Rattle.wt_pagetool.specs.Reports.{Reported}
 use Rattle.wt_pagetool.specs.GivenBack.{IsReadBack, IsGivenBack, GaveBack}
-use Rattle.wt_tree.specs.Tiling.{HasNoGroup}
-use Rattle.wt_pagetool.proofs.BuiltLaws.{built_none}
 use Rattle.wt_pagetool.proofs.PageLaws.{text_of, page_made}
 use Rattle.wt_pagetool.proofs.AnswerLaws.{input_within}
 use Rattle.wt_pagetool.proofs.WikitextLaws.{source_sourced}
@@ -38,7 +36,6 @@ record Written (page bytes : List ℕ) : Type 0 where
   pub text : IsUtf8 page
   pub is : bytes ≡ html_text (page_tree page)
   pub few : length bytes ≤ 67108864
-  pub none : HasNoGroup (page_tree page)
 
 abbrev IsFew : List ℕ → List ℕ → Type 0
 IsFew html bytes = (bytes ≡ html) × (length bytes ≤ 67108864)
@@ -55,21 +52,21 @@ written page bytes e =
     let m = page_made page bytes html_of e in
     let html = html_text (page_tree page) in
     let few = few_html html bytes (nat_lt 67108864 (length html)) refl m.is in
-    record { within = m.within; text = text_of page m.text; is = few.0; few = few.1; none = built_none page m.built }
+    record { within = m.within; text = text_of page m.text; is = few.0; few = few.1 }
 
 -- a page whose HTML is read back is given back
-given_back : (page : List ℕ) → (IsUtf8 page → length page ≤ 2097152 → HasNoGroup (page_tree page) → IsReadBack page) → IsGivenBack page
+given_back : (page : List ℕ) → (IsUtf8 page → length page ≤ 2097152 → IsReadBack page) → IsGivenBack page
 given_back page back bytes e =
     let w = written page bytes e in
-    let b = back w.text w.within w.none in
+    let b = back w.text w.within in
     input_within source_answer bytes w.few ∙ ap source_answer (ap read w.is ∙ b.reads) ∙ source_sourced b.tree None page refl (sym b.source)
 
 pub all_given_back : (page : List ℕ) → IsGivenBack page
 all_given_back page =
     given_back page
-    (λ text within none. record {
+    (λ text within. record {
       tree = unranged (page_tree page);
-      reads = page_is_read page text (omega arith) (two_a_byte page) none;
+      reads = page_is_read page text (omega arith) (two_a_byte page);
       source = same_page page;
     })
 
