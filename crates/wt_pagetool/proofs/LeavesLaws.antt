@@ -78,4 +78,4 @@ written_leaves (tree l ts) h g = (λ e. absurd (no_leaf l.kind h.0 e), all_leave
 pub page_leaves : (page : List ℕ) → length page ≤ 2097152 → IsUtf8 page → unbuilt_place page ≡ None → LeavesHoldNoNumber (page_tree page)
 page_leaves page within text built =
     let g = built_none page built in
-    written_leaves (page_tree page) (page_written page text (omega arith) (two_a_byte page) g) g
+    written_leaves (page_tree page) (page_written page text (omega arith) (two_a_byte page)) g
