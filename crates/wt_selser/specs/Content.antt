@@ -1,12 +1,12 @@
 -- What may stand in the content of a marked node: text, the block's own inline nodes, and new bold, italic, links and line breaks.
-use Rattle.std.specs.Prelude.{ℕ, ◌+◌, ◌==◌, ◌&&◌, ◌||◌, Bool, true, false, not, is_some, Option, Some, None, List, [], ◌∷◌, ◌++◌, map, length, nat_lt, if◌then◌else◌}
+use Rattle.std.specs.Prelude.{ℕ, ◌+◌, ◌==◌, ◌&&◌, ◌||◌, Bool, true, false, not, is_some, Option, Some, None, List, [], ◌∷◌, ◌++◌, length, nat_lt, if◌then◌else◌}
 use Rattle.std.specs.List.{list_any}
 use Rattle.wt_names.specs.Written.{read_link}
-use Rattle.wt_tree.specs.declared.kind.Kind.{Kind}
-use Rattle.wt_tree.specs.declared.kind.Kind.TheVariants as kind
 use Rattle.wt_tree.specs.Tree.{Label, Tree, tree, Trees, none, more, label}
-use Rattle.wt_tiles.specs.declared.glyph.Glyph.TheVariants as glyph
+use Rattle.wt_tiles.specs.Glyphs.{byte_glyphs}
 use Rattle.wt_tiles.specs.Urls.{scheme_len, url_items}
+use Rattle.wt_kept.specs.declared.kinds.BlockForm.{BlockForm}
+use Rattle.wt_kept.specs.declared.kinds.BlockForm.TheVariants as form
 use Rattle.wt_kept.specs.declared.kinds.Way.{Way}
 use Rattle.wt_kept.specs.declared.kinds.Way.TheVariants as way
 use Rattle.wt_kept.specs.Kinds.{shape}
@@ -24,7 +24,7 @@ use Rattle.wt_selser.specs.declared.content.Spot.{Spot}
 -- a URL in whole: the beginning of one, and URL items that are at least one and all the rest
 abbrev pub is_url : List ℕ → Bool
 is_url bs =
-    let gs = map glyph.Byte bs in
+    let gs = byte_glyphs bs in
     let items = length (url_items gs) in
     nat_lt 0 (scheme_len gs) && (nat_lt 0 items && scheme_len gs + items == length gs)
 
@@ -72,8 +72,11 @@ unless_same stands.Same ws = []
 abbrev pub link_fault : Bool → List ContentWhy
 link_fault good = if good then [] else why.Href ∷ []
 
+abbrev pub has_break : List ℕ → Bool
+has_break text = list_any (λ b. b == 10) text
+
 abbrev pub break_fault : Bool → List ℕ → List ContentWhy
-break_fault in_paragraph text = if not in_paragraph && list_any (λ b. b == 10) text then why.LineBreak ∷ [] else []
+break_fault in_paragraph text = if not in_paragraph && has_break text then why.LineBreak ∷ [] else []
 
 abbrev pub nested_fault : Bool → List ContentWhy
 nested_fault nested = if nested then why.Nested ∷ [] else []
@@ -92,12 +95,13 @@ own_faults way.Tag x s l = if_new s
 own_faults way.Break x s l = if_changed s
 own_faults way.AsItStood x s l = unless_same s (why.Element ∷ [])
 
--- whether what it holds is looked into: always of bold and italic, and of other nodes where they aren't as they were
 abbrev pub is_same : Standing → Bool
 is_same stands.New = false
 is_same stands.Changed = false
 is_same stands.Same = true
 
+-- Whether what it holds is looked into: always of bold and italic, and of other nodes where they aren't as they were. Texts and
+-- white space hold nothing.
 abbrev pub is_open : Way → Standing → Bool
 is_open way.Nothing s = false
 is_open way.Characters s = false
@@ -110,15 +114,18 @@ is_open way.Tag s = not (is_same s)
 is_open way.Break s = not (is_same s)
 is_open way.AsItStood s = not (is_same s)
 
+-- what one answer for a node tells
 abbrev pub if_any : Option ContentWhy → List ContentWhy
 if_any None = []
 if_any (Some w) = w ∷ []
 
 -- ---- of all nodes
 
+-- where the children of a node stand
 abbrev pub below : Spot → Way → Spot
 below x w = record { in_paragraph = false; in_link = x.in_link || is_link w }
 
+-- what is wrong from a node on: that it is a link in a link, what is wrong with it by itself, and what is wrong inside it
 abbrev pub faults_by : Way → Spot → Standing → Label → List ContentWhy → List ContentWhy
 faults_by w x s l inside = nested_fault (x.in_link && is_link w) ++ (own_faults w x s l ++ (if is_open w s then inside else []))
 
@@ -163,14 +170,24 @@ first_why ws =
     (if list_any is_href ws then Some why.Href else
     (if list_any is_line_break ws then Some why.LineBreak else (if list_any is_nested ws then Some why.Nested else None)))
 
-abbrev pub is_paragraph : Kind → Bool
-is_paragraph kind.Para = true
-is_paragraph k = false
+abbrev pub is_paragraph : BlockForm → Bool
+is_paragraph form.Paragraph = true
+is_paragraph (form.Heading n) = false
+is_paragraph form.Rule = false
+is_paragraph form.Item = false
+is_paragraph form.NoBlock = false
+
+-- where the children of a marked node stand
+abbrev pub outermost : Tree → Spot
+outermost old = record { in_paragraph = is_paragraph (shape (label old).kind).form; in_link = false }
 
 abbrev pub held : Tree → Trees
 held (tree l ts) = ts
 
--- why the content of `new` can't be written, which was `old` in the page
+-- what is wrong in the content of `new`, which was `old` in the page
+abbrev pub content_faults : (Tree → Tree → Bool) → Tree → Tree → List ContentWhy
+content_faults same old new = all_faults (page_of same old) (outermost old) (held new)
+
+-- why it can't be written
 unfoldable pub bad_content : (Tree → Tree → Bool) → Tree → Tree → Option ContentWhy
-bad_content same old new =
-    first_why (all_faults (page_of same old) (record { in_paragraph = is_paragraph (label old).kind; in_link = false }) (held new))
+bad_content same old new = first_why (content_faults same old new)

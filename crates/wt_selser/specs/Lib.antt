@@ -1,5 +1,8 @@
 pub mod Splice
 pub mod Content
+pub mod ContentLaws
+pub mod Standings
+pub mod Typed
 pub mod OpenTags
 pub mod Changes
 pub mod Children

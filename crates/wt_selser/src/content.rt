@@ -1,30 +1,30 @@
 //! What may stand in the inside of a marked node: text, the block's own inline nodes, and new bold,
 //! italic, links and line breaks.
 
-ghost use Rattle.std.specs.Prelude.{◌≡◌, ◌&&◌, ◌++◌, ◌∷◌, ◌≤◌, ◌==◌, Bool, List, [], map, length, is_some, IfOk, OnOk};
-ghost use Rattle.std.specs.List.{list_any};
+ghost use Rattle.std.specs.Prelude.{◌≡◌, ◌&&◌, ◌++◌, ◌∷◌, Bool, List, [], Some, is_some, IfOk, OnOk};
 ghost use Rattle.wt_names.specs.Written.{read_link};
-ghost use Rattle.wt_tree.specs.Tree.{Tree, Label};
+ghost use Rattle.wt_tree.specs.Tree.{Tree};
 ghost use Rattle.wt_tree.specs.View.{label_of, view, views};
 ghost use Rattle.wt_tree.specs.declared.node.Node.{out-Node};
-ghost use Rattle.wt_tiles.specs.declared.glyph.Glyph.TheVariants as glyph;
-ghost use Rattle.wt_tiles.specs.Urls.{scheme_len, is_url_char};
 ghost use Rattle.wt_kept.specs.Page.{TellsSame};
+ghost use Rattle.wt_kept.specs.Gathered.{kept_view};
 ghost use Rattle.wt_kept.specs.PageViews.{page_view};
 ghost use Rattle.wt_escape.specs.Spelling.{href_of};
-ghost use Rattle.wt_selser.specs.Content.{all_faults, bad_content, below, faults, first_why, if_any, is_link, is_open, is_paragraph, is_url, link_fault, own_faults, standing, unless_same};
+ghost use Rattle.wt_selser.specs.Content.{all_faults, bad_content, below, faults, first_why, has_break, if_any, is_link, is_open, is_paragraph, is_same, link_fault, nested_fault, outermost, own_faults, standing, standing_of, unless_same};
+ghost use Rattle.wt_selser.specs.Standings.{CountsAs, asks_page};
 ghost use Rattle.wt_selser.specs.Views.{HasFaults};
 
 use crate::refusal::ContentWhy;
+use crate::url::is_url;
 use std::alloc::Global;
 use wt_escape::href_of;
-use wt_kept::{Page, Way, is_unchanged, page_of_block, shape};
+use wt_kept::{BlockForm, Kept, Page, Way, is_unchanged, page_of_block, shape};
 use wt_names::title_of_href;
-use wt_span::{NoMemory, front_of, rest_of};
-use wt_tree::{Kind, Node};
+use wt_span::NoMemory;
+use wt_tree::Node;
 
 /// How a node of the edited tree stands to the page: it is new, it was changed, or it is as it was.
-#[derive(Clone, Copy, Debug, PartialEq, Eq)]
+#[derive(Clone, Copy, Debug)]
 pub enum Standing {
     New,
     Changed,
@@ -72,9 +72,17 @@ impl Faults {
         }
     }
 
+    fn add_any(&mut self, why: Option<ContentWhy>)
+        ensures { (ws : List ContentWhy) → HasFaults self.old ws → HasFaults self.new (ws ++ if_any why) }
+    {
+        if let Some(why) = why {
+            self.add(why);
+        }
+    }
+
     /// The first, in the order of `ContentWhy`.
     fn first(self) -> Option<ContentWhy>
-        ensures { (ws : List ContentWhy) → HasFaults self.entry ws → result ≡ first_why ws }
+        ensures { (ws : List ContentWhy) → HasFaults self ws → result ≡ first_why ws }
     {
         if self.element {
             Some(ContentWhy::Element)
@@ -91,54 +99,6 @@ impl Faults {
 }
 
 // ---- links
-
-/// How many bytes of the beginning of a URL stand first; 0 where none begins.
-fn scheme_len(bytes: &[u8]) -> usize
-    ensures value { result ≡ scheme_len (map glyph.Byte bytes.now) }
-    ensures within { result ≤ length bytes.now }
-{
-    for scheme in [
-        b"http://".as_slice(),
-        b"https://".as_slice(),
-        b"ftp://".as_slice(),
-    ] {
-        if bytes.len() >= scheme.len()
-            && front_of(bytes, scheme.len()).eq_ignore_ascii_case(scheme)
-        {
-            return scheme.len();
-        }
-    }
-    0
-}
-
-fn is_url_byte(byte: u8) -> bool
-    ensures { result ≡ is_url_char byte }
-{
-    byte > 32 && !matches!(byte, 127 | b'[' | b']' | b'<' | b'>' | b'"')
-}
-
-/// Whether all bytes belong to a URL: each may stand in one, and no two apostrophes stand side by side.
-fn are_url_bytes(bytes: &[u8]) -> bool {
-    let mut apostrophe = false;
-    for byte in bytes {
-        if !is_url_byte(*byte) || (apostrophe && *byte == b'\'') {
-            return false;
-        }
-        apostrophe = *byte == b'\'';
-    }
-    true
-}
-
-/// Whether bytes are a URL in whole.
-fn is_url(bytes: &[u8]) -> bool
-    ensures { result ≡ is_url bytes.now }
-{
-    let scheme = scheme_len(bytes);
-    if scheme == 0 || scheme == bytes.len() {
-        return false;
-    }
-    are_url_bytes(rest_of(bytes, scheme))
-}
 
 /// Whether the `href` of a link leads to a title.
 fn leads_to_title(alloc: Global, node: &Node<'_>) -> Result<bool, NoMemory>
@@ -161,7 +121,7 @@ fn is_link(way: Way) -> bool
 // ---- one node
 
 fn has_break(text: &[u8]) -> bool
-    ensures { result ≡ list_any (λ b. b == 10) text.now }
+    ensures { result ≡ has_break text.now }
 {
     for byte in text {
         if *byte == b'\n' {
@@ -171,18 +131,36 @@ fn has_break(text: &[u8]) -> bool
     false
 }
 
+/// How a kept node stands to the page's.
+fn standing_of(
+    alloc: Global,
+    page: &Page<'_, '_>,
+    kept: Kept<'_, '_>,
+    node: &Node<'_>,
+) -> Result<Standing, NoMemory>
+    ensures { (same : Tree → Tree → Bool) → TellsSame same
+        → IfOk result (λ s. s ≡ standing_of (page_view same page.now) (Some (kept_view kept.entry)) (view node.now)) }
+{
+    let unchanged = is_unchanged(alloc, page, kept, node)?;
+    if unchanged {
+        Ok(Standing::Same)
+    } else {
+        Ok(Standing::Changed)
+    }
+}
+
 /// How a node stands to the page of its block.
 fn standing_in(alloc: Global, page: &Page<'_, '_>, node: &Node<'_>) -> Result<Standing, NoMemory>
     ensures { (same : Tree → Tree → Bool) → TellsSame same
         → IfOk result (λ s. s ≡ standing (page_view same page.now) (view node.now)) }
 {
-    let Some(kept) = page.find(node.id) else {
-        return Ok(Standing::New);
-    };
-    if is_unchanged(alloc, page, kept, node)? {
-        Ok(Standing::Same)
-    } else {
-        Ok(Standing::Changed)
+    let kept = page.find(node.id);
+    match kept {
+        None => Ok(Standing::New),
+        Some(kept) => {
+            let standing = standing_of(alloc, page, kept, node)?;
+            Ok(standing)
+        }
     }
 }
 
@@ -231,13 +209,16 @@ fn link_fault(standing: Standing, good: bool) -> Option<ContentWhy>
 {
     match standing {
         Standing::Same => None,
-        Standing::New | Standing::Changed => {
-            if good {
-                None
-            } else {
-                Some(ContentWhy::Href)
-            }
-        }
+        Standing::New | Standing::Changed => { if good { None } else { Some(ContentWhy::Href) } }
+    }
+}
+
+fn is_same(standing: Standing) -> bool
+    ensures { result ≡ is_same standing }
+{
+    match standing {
+        Standing::New | Standing::Changed => false,
+        Standing::Same => true,
     }
 }
 
@@ -248,12 +229,23 @@ fn is_open(way: Way, standing: Standing) -> bool
     match way {
         Way::Nothing | Way::Characters => false,
         Way::Bold | Way::Italic => true,
-        Way::Shown | Way::PageLink | Way::ExternalLink => standing != Standing::Same,
-        Way::Tag | Way::Break | Way::AsItStood => standing != Standing::Same,
+        Way::Shown | Way::PageLink | Way::ExternalLink => !is_same(standing),
+        Way::Tag | Way::Break | Way::AsItStood => !is_same(standing),
     }
 }
 
-/// How a node stands where that counts: of texts, bold and italic it doesn't.
+/// Whether it counts how a node that is written so stands to the page.
+fn asks_page(way: Way) -> bool
+    ensures { result ≡ asks_page way }
+{
+    match way {
+        Way::Nothing | Way::Characters | Way::Bold | Way::Italic => false,
+        Way::Shown | Way::PageLink | Way::ExternalLink => true,
+        Way::Tag | Way::Break | Way::AsItStood => true,
+    }
+}
+
+/// How a node stands to the page, where that counts for a node that is written so.
 fn standing_by(
     alloc: Global,
     way: Way,
@@ -261,17 +253,36 @@ fn standing_by(
     node: &Node<'_>,
 ) -> Result<Standing, NoMemory>
     ensures { (same : Tree → Tree → Bool) → TellsSame same
-        → IfOk result (λ s. is_open way s ≡ is_open way (standing (page_view same page.now) (view node.now))
-        × ((x : Spot) (l : Label) → own_faults way x s l ≡ own_faults way x (standing (page_view same page.now) (view node.now)) l)) }
+        → IfOk result (λ s. CountsAs way s (standing (page_view same page.now) (view node.now))) }
 {
-    match way {
-        Way::Nothing | Way::Characters | Way::Bold | Way::Italic => Ok(Standing::New),
-        Way::Shown | Way::PageLink | Way::ExternalLink => standing_in(alloc, page, node),
-        Way::Tag | Way::Break | Way::AsItStood => standing_in(alloc, page, node),
+    if !asks_page(way) {
+        return Ok(Standing::New);
     }
+    let standing = standing_in(alloc, page, node)?;
+    Ok(standing)
 }
 
 // ---- all nodes
+
+fn nested_fault(spot: Spot, way: Way) -> Option<ContentWhy>
+    ensures { if_any result ≡ nested_fault (spot.in_link && is_link way) }
+{
+    if spot.in_link && is_link(way) {
+        Some(ContentWhy::Nested)
+    } else {
+        None
+    }
+}
+
+/// Where the children of a node stand that is written so.
+fn below(spot: Spot, way: Way) -> Spot
+    ensures { result ≡ below spot way }
+{
+    Spot {
+        in_paragraph: false,
+        in_link: spot.in_link || is_link(way),
+    }
+}
 
 #[cycle(visiting)]
 fn visit_all(
@@ -302,31 +313,44 @@ fn visit(
         → HasFaults found.new (ws ++ faults (page_view same page.now) spot (view node.now))) }
 {
     let way = shape(node.kind).way;
-    if spot.in_link && is_link(way) {
-        found.add(ContentWhy::Nested);
-    }
+    found.add_any(nested_fault(spot, way));
     let standing = standing_by(alloc, way, page, node)?;
-    if let Some(why) = own_fault(alloc, way, spot, standing, node)? {
-        found.add(why);
-    }
+    let why = own_fault(alloc, way, spot, standing, node)?;
+    found.add_any(why);
     if is_open(way, standing) {
-        let inside = Spot {
-            in_paragraph: false,
-            in_link: spot.in_link || is_link(way),
-        };
-        visit_all(alloc, page, inside, node.children.as_slice(), found)?;
+        visit_all(
+            alloc,
+            page,
+            below(spot, way),
+            node.children.as_slice(),
+            found,
+        )?;
     }
     Ok(())
 }
 
-fn is_paragraph(kind: Kind) -> bool
-    ensures { result ≡ is_paragraph kind }
+fn is_paragraph(form: BlockForm) -> bool
+    ensures { result ≡ is_paragraph form }
 {
-    matches!(kind, Kind::Para)
+    match form {
+        BlockForm::Paragraph => true,
+        BlockForm::Heading(_) | BlockForm::Rule | BlockForm::Item | BlockForm::NoBlock => false,
+    }
+}
+
+/// Where the children of a marked node stand, by what it was in the page.
+fn outermost(old: &Node<'_>) -> Spot
+    ensures { result ≡ outermost (view old.now) }
+{
+    Spot {
+        in_paragraph: is_paragraph(shape(old.kind).form),
+        in_link: false,
+    }
 }
 
 /// Why the inside of `new` can't be written, which was `old` in the page. A kept node is compared with
 /// what it was, so the time has the depth as a factor where tags nest.
+#[tactic(auto, unfolding(crate::specs::Content::bad_content))]
 pub fn bad_content(
     alloc: Global,
     old: &Node<'_>,
@@ -335,11 +359,13 @@ pub fn bad_content(
     ensures { (same : Tree → Tree → Bool) → TellsSame same → IfOk result (λ why. why ≡ bad_content same (view old.now) (view new.now)) }
 {
     let page = page_of_block(alloc, old)?;
-    let spot = Spot {
-        in_paragraph: is_paragraph(old.kind),
-        in_link: false,
-    };
     let mut found = Faults::none();
-    visit_all(alloc, &page, spot, new.children.as_slice(), &mut found)?;
+    visit_all(
+        alloc,
+        &page,
+        outermost(old),
+        new.children.as_slice(),
+        &mut found,
+    )?;
     Ok(found.first())
 }

@@ -4,13 +4,16 @@
 
 mod change;
 mod content;
+mod content_laws;
 mod differing;
 mod editing;
 mod laws;
 mod open_tag;
 mod refusal;
 mod shown_node;
+mod url;
 
+pub use content_laws::{first_reason, typed_text_stands, untouched_nodes_stand, urls_are_read};
 pub use differing::first_differing;
 pub use editing::edit;
 pub use laws::{

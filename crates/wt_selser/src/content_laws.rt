@@ -1,0 +1,37 @@
+//! Laws of what may stand in a content, which do nothing when they are called.
+
+ghost use Rattle.std.specs.Prelude.{◌≡◌, ℕ, Bool, true, List, None};
+ghost use Rattle.wt_tree.specs.Tree.{Tree};
+ghost use Rattle.wt_tree.specs.Tiling.{HasNoGroup};
+ghost use Rattle.wt_kept.specs.Page.{TellsSame, page_of};
+ghost use Rattle.wt_selser.specs.declared.content.Standing.TheVariants as stands;
+ghost use Rattle.wt_selser.specs.Content.{bad_content, content_faults, held, is_url, outermost, standing};
+ghost use Rattle.wt_selser.specs.ContentLaws.{IsFirstReason, IsReadWhole};
+ghost use Rattle.wt_selser.specs.Typed.{AreTyped, IsUntouched};
+
+/// A text edit isn't refused for its content: text, bold and italic, round nodes of the page that nobody touched, with line
+/// breaks in texts directly in a paragraph alone.
+#[tactic(auto, using(crate::proofs::TypedStands::typed_text_stands))]
+pub fn typed_text_stands()
+    ensures { (same : Tree → Tree → Bool) (old new : Tree) → TellsSame same → AreTyped old (outermost old).in_paragraph (held new)
+        → bad_content same old new ≡ None }
+{}
+
+/// A node is as it was where the page's node with its number is of its kind and has its plain view, and no group stands in it.
+#[tactic(auto, using(crate::proofs::Untouched::untouched_is_same))]
+pub fn untouched_nodes_stand()
+    ensures { (same : Tree → Tree → Bool) (old t : Tree) → TellsSame same → HasNoGroup t → IsUntouched old t
+        → standing (page_of same old) t ≡ stands.Same }
+{}
+
+/// The reason that is answered is there, and none that would be named before it.
+#[tactic(auto, using(crate::proofs::FirstReason::first_reason))]
+pub fn first_reason()
+    ensures { (same : Tree → Tree → Bool) (old new : Tree) → IsFirstReason (content_faults same old new) (bad_content same old new) }
+{}
+
+/// A URL that a new link may have is read as it stands, whatever follows that doesn't belong to URLs.
+#[tactic(auto, using(crate::proofs::UrlsRead::read_whole))]
+pub fn urls_are_read()
+    ensures { (bs : List ℕ) → is_url bs ≡ true → IsReadWhole bs }
+{}
