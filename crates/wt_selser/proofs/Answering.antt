@@ -1,6 +1,7 @@
 -- How the code finds the answer to an edit, step by step.
-use Rattle.std.proofs.Common.{◌≡◌, ◌<◌, ℕ, ◌+◌, Bool, true, false, List, ◌∷◌, length, drop, get_or, refl, sym, ap, ◌∙◌, subst}
+use Rattle.std.proofs.Common.{arith, ◌≡◌, ◌<◌, ◌≤◌, ℕ, ◌+◌, Bool, true, false, List, [], ◌∷◌, length, drop, get_or, refl, sym, ap, ◌∙◌, subst}
 use Rattle.std.specs.Prelude.{Option, Some, None, option_map, Result, Ok, Err, nat_lt, if◌then◌else◌}
+use Rattle.std.proofs.lemmas.Bool.Decides.{nat_tests}
 use Rattle.std.proofs.lemmas.List.{drop_more}
 use Rattle.wt_tree.specs.declared.node.Node.{Node, out-Node}
 use Rattle.wt_tree.specs.Tree.{Tree, label}
@@ -17,6 +18,7 @@ use Rattle.wt_selser.specs.Content.{bad_content}
 use Rattle.wt_selser.specs.Edits.{first_with, first_of, bad_pair, before, tangled_pair, most_bytes, if_short, unless_refused, pairs_answer, edit_answer, AnswersEdit}
 use Rattle.wt_selser.specs.OpenTags.{touches_open_tag}
 use Rattle.wt_selser.specs.Views.{pair_of, pairs_of}
+use Rattle.wt_selser.proofs.Outside.{nothing_changes}
 use Rattle.wt_selser.proofs.Spliced.{ranges_seen}
 
 id_seen : (n : Node) → (label (view n)).id ≡ (out-Node n).id
@@ -115,3 +117,15 @@ pub unchecked_answer : (same : Tree → Tree → Bool) (page : List ℕ) (t u : 
 unfolding edit_answer
 unchecked_answer same page t u o ps d s e =
     ap (pairs_answer same page) e ∙ ap (λ x. unless_refused (option_map refusal.Check x) (pairs_answer same page (marked t u))) (sym s ∙ d)
+
+-- ---- nothing is marked
+
+not_longer : (most n : ℕ) → n ≤ most → nat_lt most n ≡ false
+not_longer most n le = grind (arith, nat_tests)
+
+pub unmarked_stands : (same : Tree → Tree → Bool) (page : List ℕ) (t u : Tree) → marked t u ≡ [] → checked false t u ≡ None → length page ≤ most_bytes
+    → edit_answer same page t u ≡ Ok page
+unfolding edit_answer
+unmarked_stands same page t u m c le =
+    ap (λ x. unless_refused (option_map refusal.Check x) (pairs_answer same page (marked t u))) c ∙ ap (pairs_answer same page) m
+    ∙ ap if_short (nothing_changes page) ∙ short_by (nat_lt most_bytes (length page)) page (not_longer most_bytes (length page) le)

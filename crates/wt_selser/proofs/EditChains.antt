@@ -385,7 +385,8 @@ page_chains t b h tiled bare le =
           (λ z. by k (kept_grows page k ps n (page k) refl (ap not z) there));
     }
   where
-    follow_of : (page : Page) (from to : ℕ) (ks : List ℕ) → Chain (starts page) (ends page) from ks → end_after (ends page) from ks ≤ to → Follow page from to ks
+    follow_of : (page : Page) (from to : ℕ) (ks : List ℕ) → Chain (starts page) (ends page) from ks → end_after (ends page) from ks ≤ to
+        → Follow page from to ks
     follow_of page from to ks c e = record { chain = c; ends_by = e }
 
 -- ---- an edit

@@ -35,19 +35,22 @@ opens_here bs n e low high =
     ap (λ (k : ℕ). slice_index bs k == 60 && is_ascii_alphabetic (slice_index bs (length bs - n))) m
     ∙ and_right (nat_lt 0 n) (nat_lt n (length bs)) (slice_index bs (length bs - (n + 1)) == 60 && is_ascii_alphabetic (slice_index bs (length bs - n)))
     (less_test 0 n low) (less_test n (length bs) high)
-    ∙ ap (λ (k : ℕ). nat_lt 0 k && (nat_lt k (length bs) && (slice_index bs (length bs - (k + 1)) == 60 && is_ascii_alphabetic (slice_index bs (length bs - k))))) e
+    ∙ ap (λ (k : ℕ). nat_lt 0 k && (nat_lt k (length bs) &&
+    (slice_index bs (length bs - (k + 1)) == 60 && is_ascii_alphabetic (slice_index bs (length bs - k))))) e
 
 pub all_bare_here : (bs : List ℕ) (n : ℕ) → n ≡ bare_len bs → length bs ≤ n → false ≡ ends_open bs
 all_bare_here bs n e high =
     and_later_false (nat_lt 0 n) (nat_lt n (length bs)) (slice_index bs (length bs - (n + 1)) == 60 && is_ascii_alphabetic (slice_index bs (length bs - n)))
     (not_less_test n (length bs) high)
-    ∙ ap (λ (k : ℕ). nat_lt 0 k && (nat_lt k (length bs) && (slice_index bs (length bs - (k + 1)) == 60 && is_ascii_alphabetic (slice_index bs (length bs - k))))) e
+    ∙ ap (λ (k : ℕ). nat_lt 0 k && (nat_lt k (length bs) &&
+    (slice_index bs (length bs - (k + 1)) == 60 && is_ascii_alphabetic (slice_index bs (length bs - k))))) e
 
 pub none_bare_here : (bs : List ℕ) (n : ℕ) → n ≡ bare_len bs → n ≡ 0 → false ≡ ends_open bs
 none_bare_here bs n e low =
     and_false (nat_lt 0 n) (nat_lt n (length bs)) (slice_index bs (length bs - (n + 1)) == 60 && is_ascii_alphabetic (slice_index bs (length bs - n)))
     (not_less_test 0 n (omega (arith, low)))
-    ∙ ap (λ (k : ℕ). nat_lt 0 k && (nat_lt k (length bs) && (slice_index bs (length bs - (k + 1)) == 60 && is_ascii_alphabetic (slice_index bs (length bs - k))))) e
+    ∙ ap (λ (k : ℕ). nat_lt 0 k && (nat_lt k (length bs) &&
+    (slice_index bs (length bs - (k + 1)) == 60 && is_ascii_alphabetic (slice_index bs (length bs - k))))) e
 
 -- ---- in other words
 
@@ -149,7 +152,8 @@ bare_is front rest letter bare =
     (λ lt.
     let within : suc (length rest) < length bs = omega (arith, len) in
     let there : length bs - 1 - suc (length rest) ≡ length front + 0 = omega (arith, len) in
-    ap (λ b. not (is_stop b)) (get_or-reverse bs (suc (length rest)) 0 within ∙ get_behind front (60 ∷ letter ∷ rest) 0 (length bs - 1 - suc (length rest)) there))
+    ap (λ b. not (is_stop b)) (get_or-reverse bs (suc (length rest)) 0 within
+    ∙ get_behind front (60 ∷ letter ∷ rest) 0 (length bs - 1 - suc (length rest)) there))
 
 and_both : (a b : Bool) → a ≡ true → b ≡ true → (a && b) ≡ true
 and_both true b d e = e

@@ -228,7 +228,8 @@ less_below : (z : Bool) (m k id : ℕ) → m < k → (not z ≡ true → m < id)
 less_below true m k id lt f = lt
 less_below false m k id lt f = f refl
 
-above_step : (z : Bool) (m : ℕ) (p : Place) (qs : List Place) → Above m (map number (if not z then p ∷ qs else qs)) → (not z ≡ true → m < number p) × Above m (map number qs)
+above_step : (z : Bool) (m : ℕ) (p : Place) (qs : List Place) → Above m (map number (if not z then p ∷ qs else qs))
+    → (not z ≡ true → m < number p) × Above m (map number qs)
 above_step true m p qs a = ((λ e. absurd (cc)), a)
 above_step false m p qs a = ((λ e. a.0), a.1)
 

@@ -70,4 +70,5 @@ plain_told t u =
 pub tells_same : TellsSame same_node
 unfolding same_node
 tells_same t u =
-    both (kinds.eq-value.it (label t).kind (label u).kind) (pointwise same_sign (signs t) (signs u)) (kind_decides (label t).kind (label u).kind) (plain_told t u)
+    both (kinds.eq-value.it (label t).kind (label u).kind) (pointwise same_sign (signs t) (signs u)) (kind_decides (label t).kind (label u).kind)
+    (plain_told t u)

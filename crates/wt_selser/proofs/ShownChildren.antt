@@ -134,7 +134,8 @@ get_at [] i c lt is = absurd (omega (arith, lt))
 get_at (x ∷ xs) zero c lt is = ap (λ y. Some (child_view y)) (sym is)
 get_at (x ∷ xs) (suc i) c lt is = get_at xs i c (omega (arith, lt)) is
 
-take_at : (cs : List Child) (i : ℕ) (c : Child) → i < length cs → c ≡ get_or cs i c → take (suc i) (children_view cs) ≡ take i (children_view cs) ++ child_view c ∷ []
+take_at : (cs : List Child) (i : ℕ) (c : Child) → i < length cs → c ≡ get_or cs i c
+    → take (suc i) (children_view cs) ≡ take i (children_view cs) ++ child_view c ∷ []
 take_at [] i c lt is = absurd (omega (arith, lt))
 take_at (x ∷ xs) zero c lt is = ap (λ y. child_view y ∷ []) (sym is)
 take_at (x ∷ xs) (suc i) c lt is = ap (λ ps. child_view x ∷ ps) (take_at xs i c (omega (arith, lt)) is)
@@ -182,7 +183,8 @@ take_whole [] (suc n) le = refl
 take_whole (x ∷ xs) zero le = absurd (omega (arith, le))
 take_whole (x ∷ xs) (suc n) le = ap (λ ys. x ∷ ys) (take_whole xs n (omega (arith, le)))
 
-pub none_differs : (ls rs : List Child) (xs ys : List Plain) (n : ℕ) → children_view ls ≡ xs → children_view rs ≡ ys → IsCommonLen (children_view ls) (children_view rs) n
+pub none_differs : (ls rs : List Child) (xs ys : List Plain) (n : ℕ) → children_view ls ≡ xs → children_view rs ≡ ys
+    → IsCommonLen (children_view ls) (children_view rs) n
     → length ls ≤ n → length rs ≤ n → xs ≡ ys
 none_differs ls rs xs ys n d e c l r =
     let p = views_long ls in

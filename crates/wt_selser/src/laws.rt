@@ -1,6 +1,6 @@
 //! Laws of the new page, which do nothing when they are called.
 
-ghost use Rattle.std.specs.Prelude.{◌≡◌, ◌↔◌, ℕ, Bool, List, [], length, Option, None, Ok, true, false};
+ghost use Rattle.std.specs.Prelude.{◌≡◌, ◌≤◌, ◌↔◌, ℕ, Bool, List, [], length, Option, None, Ok, true, false};
 ghost use Rattle.wt_checks.specs.Checked.{checked};
 ghost use Rattle.wt_tree.specs.Plain.{Plain};
 ghost use Rattle.wt_tree.specs.Tiling.{Covers, InPreorder, Tiled};
@@ -9,7 +9,7 @@ ghost use Rattle.wt_tree.specs.declared.kind.Kind.TheVariants as kind;
 ghost use Rattle.wt_kept.specs.Page.{TellsSame};
 ghost use Rattle.wt_selser.specs.Children.{IsFirstDiffering, differing};
 ghost use Rattle.wt_selser.specs.Changes.{changes, marked};
-ghost use Rattle.wt_selser.specs.Edits.{edit_answer};
+ghost use Rattle.wt_selser.specs.Edits.{edit_answer, most_bytes};
 ghost use Rattle.wt_selser.specs.Leaves.{LeavesHoldNoNumber};
 ghost use Rattle.wt_selser.specs.OpenTags.{EndsOpen, ends_open};
 ghost use Rattle.wt_selser.specs.SameNodes.{same_node};
@@ -51,6 +51,12 @@ pub fn edit_is_a_splice()
     ensures stands { (same : Tree → Tree → Bool) (page new : List ℕ) (tree edited : Tree) → (label tree).kind ≡ kind.Body → InPreorder tree
         → Tiled tree → Covers (length page) tree → LeavesHoldNoNumber tree → edit_answer same page tree edited ≡ Ok new
         → OutsideStands page new (changes same (marked tree edited)) }
+{}
+
+/// Where nothing is marked and the checks refuse nothing, the new page is the page.
+pub fn unmarked_edit_is_the_page()
+    ensures { (same : Tree → Tree → Bool) (page : List ℕ) (tree edited : Tree) → marked tree edited ≡ [] → checked false tree edited ≡ None
+        → length page ≤ most_bytes → edit_answer same page tree edited ≡ Ok page }
 {}
 
 /// A text ends in an open tag exactly where a `<` with an ASCII letter behind it stands in it, and from

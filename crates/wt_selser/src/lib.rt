@@ -18,6 +18,6 @@ pub use differing::first_differing;
 pub use editing::edit;
 pub use laws::{
     differing_is_first, edit_is_a_splice, nodes_are_told, nothing_changes, open_tags,
-    outside_stands,
+    outside_stands, unmarked_edit_is_the_page,
 };
 pub use refusal::{ContentWhy, EditRefusal};
