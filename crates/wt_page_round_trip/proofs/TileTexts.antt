@@ -160,7 +160,8 @@ cuts_of xs w le f =
       closing = λ pos. edge_in xs w (w.opening + w.inside) w.closing (w.opening + w.inside + w.closing) le (omega arith) refl pos f.edges.closing;
     }
 
-pub form_stands : (k : TileKind) (cx : Context) (after : Bool) (w : Shape) (gs : List Glyph) → IsForm k → StandsBy k cx after w gs → tile_at cx after gs ≡ Some w
+pub form_stands : (k : TileKind) (cx : Context) (after : Bool) (w : Shape) (gs : List Glyph) → IsForm k → StandsBy k cx after w gs
+    → tile_at cx after gs ≡ Some w
 form_stands kind.Link cx after w gs f h = h
 form_stands kind.Category cx after w gs f h = h
 form_stands kind.Media cx after w gs f h = h
