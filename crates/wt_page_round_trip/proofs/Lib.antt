@@ -48,3 +48,5 @@ pub mod Alone
 pub mod Bare
 pub mod Grouping
 pub mod GroupedPages
+pub mod Shown
+pub mod GroupCases
