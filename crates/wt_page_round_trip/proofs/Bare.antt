@@ -79,7 +79,7 @@ shown_element : (k : Kind) → showing k ≡ Element → shows_text k ≡ false
 shown_element kind.Entity e = absurd cc
 shown_element k e = refl
 
-hidden_block : (k : Kind) → showing k ≡ Nothing → is_block k ≡ false
+pub hidden_block : (k : Kind) → showing k ≡ Nothing → is_block k ≡ false
 hidden_block kind.Para e = absurd cc
 hidden_block (kind.Heading n) e = absurd cc
 hidden_block kind.Rule e = absurd cc
@@ -113,7 +113,7 @@ fits k parent l ts n h = fits_by (writing l.kind) k parent l ts (is_childless ts
 
 -- ---- their order
 
-abbrev takes_inline : Holding → Bool
+abbrev pub takes_inline : Holding → Bool
 takes_inline holding.NoElements = true
 takes_inline holding.Blocks = false
 takes_inline holding.Inlines = true
@@ -126,13 +126,13 @@ takes_inline holding.Cells = false
 takes_inline holding.InlinesThenLists = false
 takes_inline holding.InlinesThenBlocks = false
 
-abbrev is_block_class : Class → Bool
+abbrev pub is_block_class : Class → Bool
 is_block_class c = is_class c class.Block || is_class c class.List
 
-abbrev is_inline_class : Class → Bool
+abbrev pub is_inline_class : Class → Bool
 is_inline_class c = is_class c class.Inline || is_class c class.Character
 
-block_held : (h : Holding) (c : Class) → takes_inline h ≡ true → (is_anywhere c || admits h c) ≡ true → is_block_class c ≡ false
+pub block_held : (h : Holding) (c : Class) → takes_inline h ≡ true → (is_anywhere c || admits h c) ≡ true → is_block_class c ≡ false
 block_held holding.NoElements class.Block a e = absurd cc
 block_held holding.Inlines class.Block a e = absurd cc
 block_held holding.Entities class.Block a e = absurd cc
@@ -143,7 +143,7 @@ block_held holding.Entities class.List a e = absurd cc
 block_held h class.List a e = absurd cc
 block_held h c a e = refl
 
-abbrev takes_none : Holding → Bool
+abbrev pub takes_none : Holding → Bool
 takes_none holding.NoElements = true
 takes_none holding.Blocks = true
 takes_none holding.Inlines = false
@@ -156,7 +156,7 @@ takes_none holding.Cells = true
 takes_none holding.InlinesThenLists = false
 takes_none holding.InlinesThenBlocks = false
 
-inline_held : (h : Holding) (c : Class) → takes_none h ≡ true → (is_anywhere c || admits h c) ≡ true → is_inline_class c ≡ false
+pub inline_held : (h : Holding) (c : Class) → takes_none h ≡ true → (is_anywhere c || admits h c) ≡ true → is_inline_class c ≡ false
 inline_held holding.Inlines class.Inline a e = absurd cc
 inline_held holding.Entities class.Inline a e = absurd cc
 inline_held holding.InlinesThenLists class.Inline a e = absurd cc
@@ -169,7 +169,7 @@ inline_held holding.InlinesThenBlocks class.Character a e = absurd cc
 inline_held h class.Character a e = absurd cc
 inline_held h c a e = refl
 
-page_takes : (k : Kind) → texts_of_kind k ≡ Page → takes_inline (shape k).holding ≡ true
+pub page_takes : (k : Kind) → texts_of_kind k ≡ Page → takes_inline (shape k).holding ≡ true
 page_takes kind.Body e = absurd cc
 page_takes kind.Ul e = absurd cc
 page_takes kind.Ol e = absurd cc
@@ -185,7 +185,7 @@ page_takes kind.Td e = absurd cc
 page_takes kind.Th e = absurd cc
 page_takes k e = refl
 
-separators_take : (k : Kind) → texts_of_kind k ≡ Separators → takes_none (shape k).holding ≡ true
+pub separators_take : (k : Kind) → texts_of_kind k ≡ Separators → takes_none (shape k).holding ≡ true
 separators_take kind.Body e = refl
 separators_take kind.Ul e = refl
 separators_take kind.Ol e = refl
@@ -196,7 +196,7 @@ separators_take kind.Tr e = refl
 separators_take kind.Sep e = refl
 separators_take k e = absurd cc
 
-own_character : (k : Kind) → texts_of_kind k ≡ OwnCharacter → showing k ≡ Element → ⊥
+pub own_character : (k : Kind) → texts_of_kind k ≡ OwnCharacter → showing k ≡ Element → ⊥
 own_character kind.Entity e f = absurd cc
 own_character k e f = absurd cc
 
@@ -204,7 +204,7 @@ or_none : (b c : Bool) → c ≡ false → (b || c) ≡ b
 or_none true c e = refl
 or_none false c e = e
 
-none_follows : (b c : Bool) → c ≡ false → not (b && c) ≡ true
+pub none_follows : (b c : Bool) → c ≡ false → not (b && c) ≡ true
 none_follows true c e = ap not e
 none_follows false c e = refl
 
@@ -261,10 +261,10 @@ children_order OwnCharacter k q ts e s n c w = absurd (own_character q e s)
 
 -- ---- what they show
 
-face_is : (l : Label) → showing l.kind ≡ Element → IsElementLabel l → IsFace (face l)
+pub face_is : (l : Label) → showing l.kind ≡ Element → IsElementLabel l → IsFace (face l)
 face_is l e h = record { level = h.level; attrs = h.attrs; shows = shown_element l.kind e }
 
-leaf_ended : (a : Bool) (ts : Trees) → (a || is_childless ts) ≡ true → (a || is_ended (plains_before ts ended)) ≡ true
+pub leaf_ended : (a : Bool) (ts : Trees) → (a || is_childless ts) ≡ true → (a || is_ended (plains_before ts ended)) ≡ true
 leaf_ended true ts h = refl
 leaf_ended false none h = refl
 leaf_ended false (more t ts) h = absurd cc
@@ -295,7 +295,7 @@ mutual
 
 -- ---- the elements of a group over one such node
 
-span_is : IsFace span
+pub span_is : IsFace span
 unfolding spelling
 span_is = record { level = refl; attrs = inr (refl, inr (refl, inr (refl, inr (refl, inr (refl, inr (refl, refl)))))); shows = refl }
 

@@ -58,3 +58,5 @@ pub mod Alone
 pub mod Bare
 pub mod Grouping
 pub mod GroupedPages
+pub mod Shown
+pub mod GroupCases
