@@ -1,7 +1,8 @@
 #!/usr/bin/env python3
 """Measures the proved `wtround`: `html` on pages of 64 KiB, 512 KiB and 2 MiB, `wikitext` on HTML of 512 KiB,
 8 MiB and 64 MiB less a page's frame, of the HTML of pages with comments and entities, and of what `html` answers
-for pages of links, URLs, styles and tags (a third of the size for apostrophes); `html` on pages of lists and tables; `expand` on pages of calls.
+for pages of links, URLs, styles and tags (a third of the size for apostrophes); `html` on pages of lists and tables; `expand` on pages of calls;
+`edit` on pages of which one word or a word of each paragraph was changed.
 
   bench/bench.py PROGRAM [OTHER]
 
@@ -74,6 +75,29 @@ BLOCK_KINDS = {
     "table rows": lambda size: b"{|\n" + lines(lambda k: "|-\n| a || b\n")(size - 4),
     "nested tables": lines(lambda k: "{|\n| a\n" * 16 + "|}\n" * 16),
     "opened tables": lines(lambda k: "{|\n"),
+}
+
+
+def article(k):
+    """A section of an article: a heading, a paragraph, a list and a table."""
+    return (f"== Part {k} ==\n'''The {WORDS}''', as [[Page {k}|they]] say<!-- note -->, {WORDS}.\n\n"
+            f"* {WORDS}\n* [http://a.b/{k} there]\n\n" + "{|\n| a || b\n|-\n| c || ''d''\n|}\n\n")
+
+
+def one_word(html):
+    """One word changed in the paragraph in the middle."""
+    at = html.index(b"<p id=", len(html) // 2) + 2
+    return html[:at] + b' data-wt-edit="content"' + html[at:].replace(b"river", b"brook", 1)
+
+
+def each_paragraph(html):
+    """One word changed in each paragraph."""
+    return html.replace(b"<p id=", b'<p data-wt-edit="content" id=').replace(b"river runs", b"brook runs")
+
+
+EDIT_KINDS = {
+    "one word of an article": (lines(article), one_word),
+    "a word of each paragraph": (lines(lambda k: (WORDS + "\n") * 3 + "\n"), each_paragraph),
 }
 
 
@@ -168,7 +192,7 @@ def answer(program, page):
         return subprocess.run([program, "html", "Main"], cwd=folder, capture_output=True).stdout
 
 
-def measure(programs, title, words, sizes, make, templates={}):
+def measure(programs, title, words, sizes, make, templates={}, given=None):
     last = [None] * len(programs)
     for size in sizes:
         with tempfile.TemporaryDirectory() as folder:
@@ -180,7 +204,7 @@ def measure(programs, title, words, sizes, make, templates={}):
                 with open(os.path.join(folder, "pages", name + ".wiki"), "wb") as out:
                     out.write(text)
             with open(os.path.join(folder, "in"), "wb") as out:
-                out.write(made if words[0] == "wikitext" else b"")
+                out.write(given(answer(programs[0], made)) if given else made if words[0] == "wikitext" else b"")
             cells, spent = [], []
             for n, program in enumerate(programs):
                 seconds, peak = run(program, folder, words)
@@ -214,6 +238,8 @@ def main():
         measure(programs, f"html, {kind}", ["html", "Main"], SIZES, make)
     for kind, (make, templates) in EXPAND_KINDS.items():
         measure(programs, f"expand, {kind}", ["expand", "Main"], SIZES, make, templates)
+    for kind, (make, given) in EDIT_KINDS.items():
+        measure(programs, f"edit, {kind}", ["edit", "Main"], SIZES, make, given=given)
     for kind, make in HTML_KINDS.items():
         measure(programs, f"wikitext, {kind}", ["wikitext"], HTML_SIZES, make)
     for kind, make in INLINE_KINDS.items():
