@@ -175,10 +175,10 @@ wrote_edit stands input bytes left old new e ended wrote =
       allowed = d.3.allowed;
       unrefused = d.3.answer;
       wrote = subst (Appends old new) d.3.is wrote;
-      outside = edit_stands same_node h.0 (new_page h.0 d.0) (page_tree h.0) d.0 (page_body h.0 h.2) (page_numbered h.0) (page_tiled h.0)
+      outside = edit_stands same_node h.0 (new_page h.0 d.0) (page_tree h.0) d.0 (page_body h.0) (page_numbered h.0) (page_tiled h.0)
           (page_covered h.0) (page_leaves h.0 old_page.within (text_of h.0 old_page.text) h.2) d.3.answer;
       answered = d.3.answered;
-      shows = same_shown (page_tree (new_page h.0 d.0)) d.0 (page_face (new_page h.0 d.0) d.3.built) (read_face input d.0 d.1 d.2) d.3.shows;
+      shows = same_shown (page_tree (new_page h.0 d.0)) d.0 (page_face (new_page h.0 d.0)) (read_face input d.0 d.1 d.2) d.3.shows;
     }
 
 pub told_edit : (pages : Option Pages) (input : Option (List ℕ)) (words : List (List ℕ)) (title : List ℕ)

@@ -7,13 +7,9 @@ use Rattle.wt_tree.specs.declared.node.DataMw.{DataMw}
 use Rattle.wt_tree.specs.Kinds.{showing, spelling}
 use Rattle.wt_tree.specs.Plain.{Face, face, element, Plains, ended, along, shown_before, plains_before, plain}
 use Rattle.wt_tree.specs.Tree.{Label, Tree, tree, Trees, label}
-use Rattle.wt_expand.specs.PageItems.{page_items}
 use Rattle.wt_body.specs.Body.{meaning}
-use Rattle.wt_ranges.specs.CutTexts.{cut_texts}
-use Rattle.wt_ranges.specs.Labels.{label_at}
-use Rattle.wt_ranges.specs.WithoutCalls.{annotated as annotated_plainly}
+use Rattle.wt_ranges.specs.Annotated.{annotated}
 use Rattle.wt_page_round_trip.specs.PageTree.{page_tree}
-use Rattle.wt_page_round_trip.proofs.PageTrees.{plainly}
 use Rattle.wt_datamw.specs.declared.refusal.DataWhy.{DataWhy}
 use Rattle.wt_datamw.specs.declared.sync.Sync.{Sync}
 use Rattle.wt_datamw.specs.MwRead.{mw_told}
@@ -31,8 +27,6 @@ use Rattle.wt_fitting.specs.Groups.{Piece}
 use Rattle.wt_fitting.specs.Read.{page as as_page, ill, read_fit, read_tree, read_root, read_run, read}
 use Rattle.wt_fitting.specs.Unsourced.{unsourced}
 use Rattle.wt_selser.specs.Children.{listed, shown_children}
-use Rattle.wt_pagetool.specs.Answers.{unbuilt_place}
-use Rattle.wt_pagetool.proofs.BuiltLaws.{built_none}
 
 -- ---- from children to plain views
 
@@ -66,16 +60,12 @@ same_shown (tree l ts) (tree m us) f g e =
 
 -- ---- the body of a page
 
-plain_face : (page : List ℕ) → IsBare (cut_texts (annotated_plainly (meaning (page_items page))))
-unfolding meaning annotated_plainly label_at
-plain_face page = refl
+pub page_face : (page : List ℕ) → IsBare (page_tree page)
+unfolding meaning annotated
+page_face page = refl
 
--- the root of the tree of a page that is built
-pub page_face : (page : List ℕ) → unbuilt_place page ≡ None → IsBare (page_tree page)
-page_face page none = ap (λ t. face (label t)) (plainly page (built_none page none)) ∙ plain_face page
-
-pub page_body : (page : List ℕ) → unbuilt_place page ≡ None → (label (page_tree page)).kind ≡ kind.Body
-page_body page none = ap (λ (x : Face). x.kind) (page_face page none)
+pub page_body : (page : List ℕ) → (label (page_tree page)).kind ≡ kind.Body
+page_body page = ap (λ (x : Face). x.kind) (page_face page)
 
 -- ---- the body of what is read
 

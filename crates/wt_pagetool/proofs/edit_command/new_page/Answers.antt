@@ -12,7 +12,7 @@ use Rattle.wt_pagetool.proofs.edit_command.new_page.Goals as goal
 
 pub edit-requires-clause-body : goal.edit-requires-clause-body
 edit-requires-clause-body c =
-    ap (λ t. (label t).kind) (ap view c.body.ensures.body ∙ c.requires.tree) ∙ page_body c.args.page.now c.requires.built
+    ap (λ t. (label t).kind) (ap view c.body.ensures.body ∙ c.requires.tree) ∙ page_body c.args.page.now
 
 pub returns-in_err-changed-clause-answered : goal.returns-in_err-changed-clause-answered
 returns-in_err-changed-clause-answered c =
