@@ -6,4 +6,4 @@ pub mod Same
 pub mod Shapes
 pub mod SyncPieces
 pub mod SyncTold
-pub mod Syncs
+pub mod SyncUtf8
