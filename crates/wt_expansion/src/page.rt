@@ -30,7 +30,8 @@ pub fn expand<'a, F: Folder>(
 ) -> Result<Items<'a>, ExpandRefusal>
     requires { length page.now < 2 ^ 32 }
     ensures items { (pages : Pages) → F.pages folder.old ≡ Some pages → IfOk result (λ items. items ≡ expanded_page pages page.entry.now) }
-    ensures some { IfOk result (λ items. (pages : Pages) × (items ≡ expanded_page pages page.entry.now)) }
+    ensures some { IfOk result (λ items. (pages : Pages) × (items ≡ expanded_page pages page.entry.now)
+        × (first_refusal pages page.entry.now (page_work pages page.entry.now) ≡ None)) }
     ensures whole { (pages : Pages) → F.pages folder.old ≡ Some pages
         → OnOk result (first_refusal pages page.entry.now (page_work pages page.entry.now) ≡ None) }
     ensures named { (pages : Pages) → F.pages folder.old ≡ Some pages

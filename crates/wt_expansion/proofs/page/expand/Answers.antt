@@ -87,7 +87,7 @@ returns-clause-some g c =
       outer = map outer_call c.from_vec-outer.result;
       text_calls = ts;
     } in r) c.new.ensures.text_calls in
-    (pages, given ∙ expanded.found.same)
+    (pages, given ∙ expanded.found.same, expanded.worked.allowed)
 
 pub returns-clause-items : goal.returns-clause-items
 returns-clause-items g c = λ pages told.
