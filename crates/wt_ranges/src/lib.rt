@@ -30,3 +30,4 @@ pub use laws::{
     groups_end_at_free_cuts, groups_taken_apart, plain_view_stays, texts_cut_anew,
 };
 pub use page_tree::{Annotated, group};
+pub use unplaced::unplaced_nodes;
