@@ -1,5 +1,5 @@
 -- All blocks of rows are written, wherever blocks may stand: the body, and with it the page.
-use Rattle.std.proofs.Common.{◌≡◌, ℕ, zero, suc, ◌+◌, ◌*◌, ◌<◌, true, false, List, [], ◌∷◌, ◌++◌, inl, inr, refl, sym, ap, ◌∙◌, subst, arith, append-nil}
+use Rattle.std.proofs.Common.{◌≡◌, ℕ, zero, suc, ◌+◌, ◌*◌, ◌<◌, true, false, List, [], ◌∷◌, ◌++◌, refl, sym, ap, ◌∙◌, subst, arith, append-nil}
 use Rattle.std.specs.List.{flat_map, AllByRecursion}
 use Rattle.wt_span.specs.Items.{Item}
 use Rattle.wt_span.specs.Runs.{runs, IsRun, AreRuns}
@@ -13,18 +13,15 @@ use Rattle.wt_tables.specs.Parts.{joined, units, unit_kind}
 use Rattle.wt_body.specs.Rows.{Row, kind_of, rows}
 use Rattle.wt_body.specs.Tables.{Reading, gaps}
 use Rattle.wt_body.specs.Body.{one_block, same_block, block_stretches, run_stretches, blocks_by, within, blocks}
-use Rattle.wt_page_round_trip.proofs.TextItems.{AreTexts}
-use Rattle.wt_page_round_trip.proofs.OfPage.{AreOfPage}
+use Rattle.wt_page_round_trip.proofs.OfPage.{ArePageItems}
 use Rattle.wt_page_round_trip.proofs.PageLines.{all_left, all_right, all_both}
-use Rattle.wt_page_round_trip.proofs.Contents.{IsBreakGap}
 use Rattle.wt_page_round_trip.proofs.Stretched.{IsPlaced, ArePlaced}
 use Rattle.wt_page_round_trip.proofs.GoodRows.{IsSeen, IsGoodRow, AreGoodRows, page_rows}
 use Rattle.wt_page_round_trip.proofs.TextNodes.{gaps_placed, para_placed, pre_placed, headings_placed, rules_placed}
-use Rattle.wt_page_round_trip.proofs.ListNodes.{RowsEnd, lists_placed}
+use Rattle.wt_page_round_trip.proofs.ListNodes.{lists_placed}
 use Rattle.wt_page_round_trip.proofs.RowUnits.{UnitBy, IsUnit, units_good, page_walk}
-use Rattle.wt_page_round_trip.proofs.EndedRows.{needs_end, EndsBefore, AreChained, chained_front, chained_back, page_chained}
 use Rattle.wt_page_round_trip.proofs.TableRows.{joined_more}
-use Rattle.wt_page_round_trip.proofs.TableNodes.{HoldsBlocks, body_blocks, Reads, IsReading}
+use Rattle.wt_page_round_trip.proofs.TableNodes.{HoldsBlocks, body_blocks, Reads}
 use Rattle.wt_page_round_trip.proofs.TableParts.{units_joined, table_placed}
 
 -- ---- runs of units of one kind
@@ -69,97 +66,85 @@ seen_as : (k : LineKind) (rs : List Row) → AllByRecursion (λ (r : Row). r.kin
 seen_as k [] h g = tt
 seen_as k (r ∷ rs) h g = (subst (λ (j : LineKind). IsSeen j r.items) h.0 g.0.seen, seen_as k rs h.1 g.1)
 
-rows_end : (rs : List Row) → AllByRecursion (λ (r : Row). r.kind ≡ line.List) rs → AreChained rs → RowsEnd rs
-rows_end [] h c = tt
-rows_end (r ∷ []) h c = tt
-rows_end (r ∷ s ∷ rs) h c = (ends c.0, rows_end (s ∷ rs) h.1 c.1)
-  where
-    ends : EndsBefore r s → IsBreakGap r.ending
-    ends (inl f) = absurd (let g = ap needs_end (sym h.0) ∙ f in cc)
-    ends (inr (inl b)) = b
-    ends (inr (inr i)) = absurd (let g = ap is_end (sym h.1.0) ∙ i in cc)
-
 -- ---- a block
 
 -- what reads a cell of a table, where tables may stand
 abbrev ReadsCells : Reading → ℕ → Type 0
-ReadsCells read m = (n : ℕ) → m ≡ suc n → IsReading read n
+ReadsCells read m = (n : ℕ) → m ≡ suc n → Reads read n
 
 table_unit : (m : ℕ) (r : Row) (ms : List Row) → r.kind ≡ line.TableOpen → IsUnit m (r ∷ ms) → UnitBy true false m ms
 table_unit m r ms e u = subst (λ x. UnitBy true x m ms) (ap is_end e) (subst (λ x. UnitBy x (is_end r.kind) m ms) (ap is_open e) u)
 
 table_block : (read : Reading) (m : ℕ) → ReadsCells read m → (k : ℕ) (q : Kind) → HoldsBlocks q → k + 4 * m < 78 → (r : Row) (ms : List Row)
-    → r.kind ≡ line.TableOpen → UnitBy true false m ms → AreGoodRows (r ∷ ms) → AreChained (r ∷ ms)
+    → r.kind ≡ line.TableOpen → UnitBy true false m ms → AreGoodRows (r ∷ ms)
     → ArePlaced k q (block_stretches read line.TableOpen (r ∷ ms))
-table_block read zero i k q b small r ms e u g c = absurd u
-table_block read (suc m) i k q b small r ms e u g c =
-    table_placed read m (i m refl) k q b.table small r ms g.0 (subst (λ (j : LineKind). IsSeen j r.items) e g.0.seen) u g.1 c
+table_block read zero i k q b small r ms e u g = absurd u
+table_block read (suc m) i k q b small r ms e u g =
+    table_placed read m (i m refl) k q b.table small r ms g.0 (subst (λ (j : LineKind). IsSeen j r.items) e g.0.seen) u g.1
 
 -- a run of units, by the kind of its first
 run_by : (read : Reading) (m : ℕ) → ReadsCells read m → (k : ℕ) (q : Kind) → HoldsBlocks q → k + 4 * m < 78 → (r : Row) (ms : List Row)
     (us others : List (List Row)) → IsRun same_block ((r ∷ ms) ∷ us) others → AllByRecursion (IsUnit m) ((r ∷ ms) ∷ us)
-    → AreGoodRows (joined ((r ∷ ms) ∷ us)) → AreChained (joined ((r ∷ ms) ∷ us)) → (j : LineKind) → r.kind ≡ j
+    → AreGoodRows (joined ((r ∷ ms) ∷ us)) → (j : LineKind) → r.kind ≡ j
     → ArePlaced k q (block_stretches read j (joined ((r ∷ ms) ∷ us)))
-run_by read m i k q b small r ms us others h a g c line.Blank e =
+run_by read m i k q b small r ms us others h a g line.Blank e =
     let z : us ≡ [] = run_alone line.Blank (λ j. refl) (r ∷ ms) us others e h in
     let y : ms ≡ [] = unit_alone m line.Blank refl refl r ms e a.0 in
     subst (λ (xs : List (List Row)). ArePlaced k q (gaps (joined ((r ∷ ms) ∷ xs)))) (sym z)
     (subst (λ (xs : List Row). ArePlaced k q (gaps ((r ∷ xs) ++ []))) (sym y)
     (gaps_placed k q (r ∷ []) (g.0, tt) (subst (λ (j : LineKind). IsSeen j r.items) e g.0.seen, tt)))
-run_by read m i k q b small r ms us others h a g c line.TableOpen e =
+run_by read m i k q b small r ms us others h a g line.TableOpen e =
     let z : us ≡ [] = run_alone line.TableOpen (λ j. refl) (r ∷ ms) us others e h in
     let all : joined ((r ∷ ms) ∷ us) ≡ r ∷ ms = ap (λ (xs : List (List Row)). joined ((r ∷ ms) ∷ xs)) z ∙ ap (λ xs. r ∷ xs) (append-nil ms) in
     subst (λ (xs : List Row). ArePlaced k q (block_stretches read line.TableOpen xs)) (sym all)
-    (table_block read m i k q b small r ms e (table_unit m r ms e a.0) (subst AreGoodRows all g) (subst AreChained all c))
-run_by read m i k q b small r ms us others h a g c line.TableEnd e = para_placed k q (joined ((r ∷ ms) ∷ us)) g (omega (arith, small)) b.para
-run_by read m i k q b small r ms us others h a g c line.Caption e = para_placed k q (joined ((r ∷ ms) ∷ us)) g (omega (arith, small)) b.para
-run_by read m i k q b small r ms us others h a g c line.Row e = para_placed k q (joined ((r ∷ ms) ∷ us)) g (omega (arith, small)) b.para
-run_by read m i k q b small r ms us others h a g c line.Cell e = para_placed k q (joined ((r ∷ ms) ∷ us)) g (omega (arith, small)) b.para
-run_by read m i k q b small r ms us others h a g c line.Header e = para_placed k q (joined ((r ∷ ms) ∷ us)) g (omega (arith, small)) b.para
-run_by read m i k q b small r ms us others h a g c line.Heading e =
+    (table_block read m i k q b small r ms e (table_unit m r ms e a.0) (subst AreGoodRows all g))
+run_by read m i k q b small r ms us others h a g line.TableEnd e = para_placed k q (joined ((r ∷ ms) ∷ us)) g (omega (arith, small)) b.para
+run_by read m i k q b small r ms us others h a g line.Caption e = para_placed k q (joined ((r ∷ ms) ∷ us)) g (omega (arith, small)) b.para
+run_by read m i k q b small r ms us others h a g line.Row e = para_placed k q (joined ((r ∷ ms) ∷ us)) g (omega (arith, small)) b.para
+run_by read m i k q b small r ms us others h a g line.Cell e = para_placed k q (joined ((r ∷ ms) ∷ us)) g (omega (arith, small)) b.para
+run_by read m i k q b small r ms us others h a g line.Header e = para_placed k q (joined ((r ∷ ms) ∷ us)) g (omega (arith, small)) b.para
+run_by read m i k q b small r ms us others h a g line.Heading e =
     let z : us ≡ [] = run_alone line.Heading (λ j. refl) (r ∷ ms) us others e h in
     let y : ms ≡ [] = unit_alone m line.Heading refl refl r ms e a.0 in
     subst (λ (xs : List (List Row)). ArePlaced k q (block_stretches read line.Heading (joined ((r ∷ ms) ∷ xs)))) (sym z)
     (subst (λ (xs : List Row). ArePlaced k q (block_stretches read line.Heading ((r ∷ xs) ++ []))) (sym y)
     (headings_placed k q b.heading (omega (arith, small)) (r ∷ []) (g.0, tt) (subst (λ (j : LineKind). IsSeen j r.items) e g.0.seen, tt)))
-run_by read m i k q b small r ms us others h a g c line.Rule e = rules_placed k q b.rule (omega (arith, small)) (joined ((r ∷ ms) ∷ us)) g
-run_by read m i k q b small r ms us others h a g c line.List e =
+run_by read m i k q b small r ms us others h a g line.Rule e = rules_placed k q b.rule (omega (arith, small)) (joined ((r ∷ ms) ∷ us)) g
+run_by read m i k q b small r ms us others h a g line.List e =
     let kinds : AllByRecursion (λ (r : Row). r.kind ≡ line.List) (joined ((r ∷ ms) ∷ us)) =
     rows_of_kind m line.List refl refl ((r ∷ ms) ∷ us) a (run_of line.List list_next (r ∷ ms) us others e h) in
     lists_placed k q b.lists (omega (arith, small)) (joined ((r ∷ ms) ∷ us)) g (seen_as line.List (joined ((r ∷ ms) ∷ us)) kinds g)
-    (rows_end (joined ((r ∷ ms) ∷ us)) kinds c)
-run_by read m i k q b small r ms us others h a g c line.Pre e =
+run_by read m i k q b small r ms us others h a g line.Pre e =
     let kinds : AllByRecursion (λ (r : Row). r.kind ≡ line.Pre) (joined ((r ∷ ms) ∷ us)) =
     rows_of_kind m line.Pre refl refl ((r ∷ ms) ∷ us) a (run_of line.Pre pre_next (r ∷ ms) us others e h) in
     pre_placed k q (joined ((r ∷ ms) ∷ us)) g (seen_as line.Pre (joined ((r ∷ ms) ∷ us)) kinds g) (omega (arith, small)) b.pre
-run_by read m i k q b small r ms us others h a g c line.Text e = para_placed k q (joined ((r ∷ ms) ∷ us)) g (omega (arith, small)) b.para
+run_by read m i k q b small r ms us others h a g line.Text e = para_placed k q (joined ((r ∷ ms) ∷ us)) g (omega (arith, small)) b.para
 
 -- ---- all blocks
 
 runs_placed : (read : Reading) (m : ℕ) → ReadsCells read m → (k : ℕ) (q : Kind) → HoldsBlocks q → k + 4 * m < 78 → (gs : List (List (List Row)))
-    (us : List (List Row)) → AreRuns same_block gs us → AllByRecursion (IsUnit m) us → AreGoodRows (joined us) → AreChained (joined us)
+    (us : List (List Row)) → AreRuns same_block gs us → AllByRecursion (IsUnit m) us → AreGoodRows (joined us)
     → ArePlaced k q (flat_map (run_stretches read) gs)
-runs_placed read m i k q b small [] us h a g c = tt
-runs_placed read m i k q b small ([] ∷ gs) us h a g c = absurd h.2
-runs_placed read m i k q b small (([] ∷ vs) ∷ gs) us (others, e, run, rest) a g c =
+runs_placed read m i k q b small [] us h a g = tt
+runs_placed read m i k q b small ([] ∷ gs) us h a g = absurd h.2
+runs_placed read m i k q b small (([] ∷ vs) ∷ gs) us (others, e, run, rest) a g =
     absurd (let x = subst (λ (xs : List (List Row)). AllByRecursion (IsUnit m) xs) e a in x.0)
-runs_placed read m i k q b small (((r ∷ ms) ∷ vs) ∷ gs) us (others, e, run, rest) a g c =
+runs_placed read m i k q b small (((r ∷ ms) ∷ vs) ∷ gs) us (others, e, run, rest) a g =
     let run_units : List (List Row) = (r ∷ ms) ∷ vs in
     let units : AllByRecursion (IsUnit m) (run_units ++ others) = subst (λ (xs : List (List Row)). AllByRecursion (IsUnit m) xs) e a in
     let all : joined us ≡ joined run_units ++ joined others = ap joined e ∙ joined_more run_units others in
     let good : AreGoodRows (joined run_units ++ joined others) = subst AreGoodRows all g in
-    let chained : AreChained (joined run_units ++ joined others) = subst AreChained all c in
     all_both (IsPlaced k q) (run_stretches read run_units) (flat_map (run_stretches read) gs)
     (run_by read m i k q b small r ms vs others run (all_left (IsUnit m) run_units others units)
-    (all_left IsGoodRow (joined run_units) (joined others) good) (chained_front (joined run_units) (joined others) chained) r.kind refl)
+    (all_left IsGoodRow (joined run_units) (joined others) good) r.kind refl)
     (runs_placed read m i k q b small gs others rest (all_right (IsUnit m) run_units others units)
-    (all_right IsGoodRow (joined run_units) (joined others) good) (chained_back (joined run_units) (joined others) chained))
+    (all_right IsGoodRow (joined run_units) (joined others) good))
 
 by_placed : (read : Reading) (m : ℕ) → ReadsCells read m → Reads (blocks_by read) m
-by_placed read m i k q b small rs g c w =
+by_placed read m i k q b small rs g w =
     let us : List (List Row) = units kind_of rs in
     runs_placed read m i k q b small (runs same_block us) us (runs_are same_block us) (units_good rs m w)
-    (subst AreGoodRows (sym (units_joined rs)) g) (subst AreChained (sym (units_joined rs)) c)
+    (subst AreGoodRows (sym (units_joined rs)) g)
 
 none_more : (m n : ℕ) → m ≡ 0 → m ≡ suc n → ⊥
 none_more m n e f = omega (arith, e, f)
@@ -167,15 +152,11 @@ none_more m n e f = omega (arith, e, f)
 less_one : (m n : ℕ) → suc m ≡ suc n → m ≡ n
 less_one m n e = omega (arith, e)
 
-within_reading : (m : ℕ) → IsReading (within m) m
-within_reading zero = record { reads = by_placed gaps 0 (λ n e. absurd (none_more 0 n refl e)); none = refl }
-within_reading (suc m) = record {
-  reads = by_placed (within m) (suc m) (λ n e. subst (IsReading (within m)) (less_one m n e) (within_reading m));
-  none = refl;
-}
+within_reads : (m : ℕ) → Reads (within m) m
+within_reads zero = by_placed gaps 0 (λ n e. absurd (none_more 0 n refl e))
+within_reads (suc m) = by_placed (within m) (suc m) (λ n e. subst (Reads (within m)) (less_one m n e) (within_reads m))
 
 -- what stands in the body of a page
-pub body_placed : (xs : List Item) → AreTexts [] xs → AreOfPage xs → ArePlaced 2 kind.Body (blocks (rows xs))
+pub body_placed : (xs : List Item) → ArePageItems xs → ArePlaced 3 kind.Body (blocks (rows xs))
 unfolding blocks
-body_placed xs t p =
-    (within_reading 16).reads 2 kind.Body body_blocks (omega arith) (rows xs) (page_rows xs t p) (page_chained xs) (page_walk xs)
+body_placed xs h = within_reads 16 3 kind.Body body_blocks (omega arith) (rows xs) (page_rows xs h) (page_walk xs)

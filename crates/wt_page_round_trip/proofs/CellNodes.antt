@@ -1,5 +1,5 @@
 -- Cells and captions with what stands in them.
-use Rattle.std.proofs.Common.{◌≡◌, ℕ, zero, suc, ◌+◌, ◌-◌, ◌<◌, ◌≤◌, ◌⊎◌, Bool, true, false, Option, Some, None, List, [], ◌∷◌, ◌++◌, length, map, take, drop, get_or, inl, inr, refl, sym, ap, ◌∙◌, subst, arith}
+use Rattle.std.proofs.Common.{◌≡◌, ℕ, zero, suc, ◌+◌, ◌-◌, ◌<◌, ◌≤◌, Bool, true, false, Option, Some, None, List, [], ◌∷◌, ◌++◌, length, map, take, drop, get_or, inl, inr, refl, sym, ap, ◌∙◌, subst, arith}
 use Rattle.std.specs.Prelude.{◌||◌, slice_index}
 use Rattle.std.specs.List.{AllByRecursion}
 use Rattle.std.proofs.lemmas.Bool.{cases_lt}
@@ -12,7 +12,6 @@ use Rattle.wt_tree.specs.declared.row.Class.TheVariants.{Cell as CellClass, Tabl
 use Rattle.wt_tree.specs.declared.row.Holding.TheVariants.{InlinesThenBlocks}
 use Rattle.wt_tree.specs.declared.row.Texts.TheVariants.{Bordered}
 use Rattle.wt_tree.specs.Kinds.{is_class, shape, is_anywhere, styles, spelling}
-use Rattle.wt_lines.specs.Lines.{IsUnbroken, is_break_item}
 use Rattle.wt_attributes.specs.Attributes.{attributes}
 use Rattle.wt_round_trip.specs.Written.{AreOwn}
 use Rattle.wt_tables.specs.declared.scan.Splits.{Splits}
@@ -23,24 +22,19 @@ use Rattle.wt_tables.proofs.CellReads.{bar_some, low_opening}
 use Rattle.wt_tables.proofs.CellSteps.{split_low}
 use Rattle.wt_tables.proofs.Cuts.{cut_are}
 use Rattle.wt_body.specs.Rows.{Row, signs}
-use Rattle.wt_body.specs.Stretches.{Stretch, gap, block_len, before_end, stretches_parts}
+use Rattle.wt_body.specs.Stretches.{Stretch, gap}
 use Rattle.wt_body.specs.Tables.{cell_kind, cell_by, cells_by}
 use Rattle.wt_page_round_trip.proofs.TextItems.{AreTexts, BeginsLow, cut_items_before}
-use Rattle.wt_page_round_trip.proofs.OfPage.{IsPageItem, ArePageItems}
+use Rattle.wt_page_round_trip.proofs.OfPage.{IsPageItem, ArePageItems, no_page_items}
 use Rattle.wt_page_round_trip.proofs.PageLines.{all_left, all_right, all_both, all_taken, all_dropped}
-use Rattle.wt_page_round_trip.proofs.PageNodes.{AreSources, no_sources}
-use Rattle.wt_page_round_trip.proofs.ContextParts.{items_sources}
 use Rattle.wt_page_round_trip.proofs.BodyParts.{inline_held}
-use Rattle.wt_page_round_trip.proofs.TileTexts.{no_page_items}
 use Rattle.wt_page_round_trip.proofs.SpanAttributes.{span_has}
 use Rattle.wt_page_round_trip.proofs.HeadingLines.{ends_low}
 use Rattle.wt_page_round_trip.proofs.Boxes.{IsBox}
 use Rattle.wt_page_round_trip.proofs.Stretched.{StandsIn, IsPlaced, ArePlaced}
-use Rattle.wt_page_round_trip.proofs.Bordered.{BreaksFirst}
-use Rattle.wt_page_round_trip.proofs.Contents.{IsBordered, IsBreakGap, line_opened, breaks_first}
+use Rattle.wt_page_round_trip.proofs.Contents.{IsBordered, line_opened}
 use Rattle.wt_page_round_trip.proofs.GoodRows.{IsGoodRow, behind_items}
 use Rattle.wt_page_round_trip.proofs.ListOpenings.{sign_begins}
-use Rattle.wt_page_round_trip.proofs.ListNodes.{line_items}
 
 -- ---- cuts beside a low sign
 
@@ -84,12 +78,10 @@ pub record IsGoodCell (c : Cell) : Type 0 where
   pub opening : ArePageItems c.opening
   pub attrs : AreStyles c.attrs
   pub rest : ArePageItems c.rest
-  pub unbroken : IsUnbroken c.rest
 
 pub record IsPiece (n : ℕ) (p : List Item) : Type 0 where
   pub sign : HasSign n (signs p)
   pub items : ArePageItems p
-  pub unbroken : IsUnbroken p
 
 bar_styles : (o : Option ℕ) (body : List Item) → bar_at body ≡ o → ArePageItems body → AreStyles (attributes_by o body)
 bar_styles None body e h = no_styles
@@ -108,7 +100,6 @@ cell_good header n p h =
       opening = c.0;
       attrs = bar_styles (bar_at (drop n p)) (drop n p) refl body;
       rest = c.1;
-      unbroken = all_dropped (λ x. is_break_item x ≡ false) w p h.unbroken;
     }
 
 -- the first of several has a sign of n items, each other one of two
@@ -124,28 +115,25 @@ front_sign n p others le h =
     ∙ get_or_append_left (signs p) (signs others) 0 (n - 1) (omega (arith, le, len, h.some)) in
     record { some = h.some; within = omega (arith, le, len); low = subst (λ s. s < 128) same h.low }
 
-pieces : (by : Splits) (n : ℕ) (ps : List (List Item)) (xs : List Item) → AreCut by n ps xs → HasSign n (signs xs) → ArePageItems xs → IsUnbroken xs
+pieces : (by : Splits) (n : ℕ) (ps : List (List Item)) (xs : List Item) → AreCut by n ps xs → HasSign n (signs xs) → ArePageItems xs
     → ArePieces n ps
-pieces by n [] xs c s h u = c
-pieces by n (p ∷ []) xs c s h u = (
+pieces by n [] xs c s h = c
+pieces by n (p ∷ []) xs c s h = (
   record {
     sign = subst (λ (ys : List Item). HasSign n (signs ys)) c.0 s;
     items = subst ArePageItems c.0 h;
-    unbroken = subst (λ (ys : List Item). IsUnbroken ys) c.0 u;
   },
   tt,
 )
-pieces by n (p ∷ q ∷ ps) xs (others, e, le, none, split, more) s h u =
+pieces by n (p ∷ q ∷ ps) xs (others, e, le, none, split, more) s h =
     let low : (slice_index (signs others) 0 < 128) × HasSign 2 (signs others) = split_low by (signs others) split in
     let all : ArePageItems (p ++ others) = subst ArePageItems e h in
-    let unbroken : IsUnbroken (p ++ others) = subst (λ (ys : List Item). IsUnbroken ys) e u in
     let t : AreTexts [] p × AreTexts [] others = cut_items_before [] p others (begins others low.0) all.texts in
     let later : ArePieces 2 (q ∷ ps) = pieces by 2 (q ∷ ps) others more low.1
-    (record { texts = t.1; page = all_right IsPageItem p others all.page }) (all_right (λ x. is_break_item x ≡ false) p others unbroken) in (
+    (record { texts = t.1; page = all_right IsPageItem p others all.page }) in (
       record {
         sign = front_sign n p others le (subst (λ (ys : List Item). HasSign n (signs ys)) e s);
         items = record { texts = t.0; page = all_left IsPageItem p others all.page };
-        unbroken = all_left (λ x. is_break_item x ≡ false) p others unbroken;
       },
       later,
     )
@@ -168,12 +156,12 @@ in_good : (header : Bool) (n : ℕ) (ps : List (List Item)) → ArePieces n ps �
 in_good header n [] a = a
 in_good header n (p ∷ ps) a = (cell_good header n p a.0, further_good header ps a.1)
 
-cells_good : (caption : Bool) (xs : List Item) → HasSign (sign_len caption) (signs xs) → ArePageItems xs → IsUnbroken xs
+cells_good : (caption : Bool) (xs : List Item) → HasSign (sign_len caption) (signs xs) → ArePageItems xs
     → AreGoodCells (cells_from caption xs)
-cells_good caption xs s h u =
+cells_good caption xs s h =
     let by : Splits = split_by caption (signs xs) in
     let n : ℕ = sign_len caption in
-    in_good (header_by caption (signs xs)) n (parts by n xs) (pieces by n (parts by n xs) xs (cut_are by n xs) s h u)
+    in_good (header_by caption (signs xs)) n (parts by n xs) (pieces by n (parts by n xs) xs (cut_are by n xs) s h)
 
 -- ---- kinds
 
@@ -232,44 +220,43 @@ cell_bordered true header = caption_bordered
 cell_bordered false true = th_bordered
 cell_bordered false false = td_bordered
 
-cell_box : (caption header : Bool) (attrs : List (AttrName × List ℕ)) (opening : List Item) → AreStyles attrs → AreSources opening
+cell_box : (caption header : Bool) (attrs : List (AttrName × List ℕ)) (opening : List Item) → AreStyles attrs → ArePageItems opening
     → IsBox (cell_kind caption header) attrs opening []
 unfolding spelling
-cell_box true header attrs opening a u = record { attrs = a; opening = u; closing = no_sources }
-cell_box false true attrs opening a u = record { attrs = a; opening = u; closing = no_sources }
-cell_box false false attrs opening a u = record { attrs = a; opening = u; closing = no_sources }
+cell_box true header attrs opening a u = record { attrs = a; opening = u; closing = no_page_items }
+cell_box false true attrs opening a u = record { attrs = a; opening = u; closing = no_page_items }
+cell_box false false attrs opening a u = record { attrs = a; opening = u; closing = no_page_items }
 
 -- ---- nodes
 
 cell_placed : (k : ℕ) (parent : Kind) (caption : Bool) → ((header : Bool) → StandsIn parent (cell_kind caption header)) → (c : Cell) → IsGoodCell c
-    → (ss : List Stretch) → ((header : Bool) → ArePlaced (suc k) (cell_kind caption header) ss) → BreaksFirst (stretches_parts (before_end ss)) → k < 141
+    → (ss : List Stretch) → ((header : Bool) → ArePlaced (suc k) (cell_kind caption header) ss) → k < 141
     → ArePlaced k parent (cell_by caption c ss)
-cell_placed k parent caption s c g ss a f small =
+cell_placed k parent caption s c g ss a small =
     line_opened k parent (cell_kind caption c.header) (cell_bordered caption c.header) c.attrs c.opening
-    (cell_box caption c.header c.attrs c.opening g.attrs (items_sources c.opening g.opening)) c.rest g.rest (line_items c.rest g.rest g.unbroken)
-    ss (a c.header) f small (s c.header)
+    (cell_box caption c.header c.attrs c.opening g.attrs g.opening) c.rest g.rest ss (a c.header) small (s c.header)
 
 cells_placed : (k : ℕ) (parent : Kind) (caption : Bool) → ((header : Bool) → StandsIn parent (cell_kind caption header)) → (c : Cell) (cs : List Cell)
     → IsGoodCell c → AllByRecursion IsGoodCell cs → (ss : List Stretch) → ((header : Bool) → ArePlaced (suc k) (cell_kind caption header) ss)
-    → BreaksFirst (stretches_parts (before_end ss)) → k < 141 → ArePlaced k parent (cells_by caption (c ∷ cs) ss)
-cells_placed k parent caption s c [] g h ss a f small = cell_placed k parent caption s c g ss a f small
-cells_placed k parent caption s c (d ∷ cs) g h ss a f small =
+    → k < 141 → ArePlaced k parent (cells_by caption (c ∷ cs) ss)
+cells_placed k parent caption s c [] g h ss a small = cell_placed k parent caption s c g ss a small
+cells_placed k parent caption s c (d ∷ cs) g h ss a small =
     all_both (IsPlaced k parent) (cell_by caption c []) (cells_by caption (d ∷ cs) ss)
-    (cell_placed k parent caption s c g [] (λ header. tt) tt small) (cells_placed k parent caption s d cs h.0 h.1 ss a f small)
+    (cell_placed k parent caption s c g [] (λ header. tt) small) (cells_placed k parent caption s d cs h.0 h.1 ss a small)
 
 some_cells : (k : ℕ) (parent : Kind) (caption : Bool) → ((header : Bool) → StandsIn parent (cell_kind caption header)) → (cs : List Cell)
     → AreGoodCells cs → (ss : List Stretch) → ((header : Bool) → ArePlaced (suc k) (cell_kind caption header) ss)
-    → BreaksFirst (stretches_parts (before_end ss)) → k < 141 → ArePlaced k parent (cells_by caption cs ss)
-some_cells k parent caption s [] g ss a f small = absurd g
-some_cells k parent caption s (c ∷ cs) g ss a f small = cells_placed k parent caption s c cs g.0 g.1 ss a f small
+    → k < 141 → ArePlaced k parent (cells_by caption cs ss)
+some_cells k parent caption s [] g ss a small = absurd g
+some_cells k parent caption s (c ∷ cs) g ss a small = cells_placed k parent caption s c cs g.0 g.1 ss a small
 
 -- the cells, or the caption, of a row with what follows in the last of them
 pub row_cells : (k : ℕ) (parent : Kind) (caption : Bool) → ((header : Bool) → StandsIn parent (cell_kind caption header)) → (r : Row) → IsGoodRow r
-    → IsUnbroken r.items → HasSign (sign_len caption) (signs r.items) → (ss : List Stretch)
-    → ((header : Bool) → ArePlaced (suc k) (cell_kind caption header) ss) → IsBreakGap r.ending ⊎ (block_len ss ≡ 0) → k < 141
+    → HasSign (sign_len caption) (signs r.items) → (ss : List Stretch)
+    → ((header : Bool) → ArePlaced (suc k) (cell_kind caption header) ss) → k < 141
     → ArePlaced k parent (gap r.lead ∷ cells_by caption (cells_from caption r.items) (gap r.ending ∷ ss))
-row_cells k parent caption s r g u sign ss a f small = (
+row_cells k parent caption s r g sign ss a small = (
   g.lead,
-  some_cells k parent caption s (cells_from caption r.items) (cells_good caption r.items sign g.items u) (gap r.ending ∷ ss)
-      (λ header. (g.ending, a header)) (breaks_first r.ending ss f) small,
+  some_cells k parent caption s (cells_from caption r.items) (cells_good caption r.items sign g.items) (gap r.ending ∷ ss)
+      (λ header. (g.ending, a header)) small,
 )

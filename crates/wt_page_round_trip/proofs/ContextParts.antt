@@ -1,4 +1,4 @@
--- The parts of a context, of the text of a link and of the inside of a pair of tags are written, with all that stands in them.
+-- The parts of a context, of the text of a link and of the inside of a pair of tags may stand in a page, with all that stands in them.
 use Rattle.std.proofs.Common.{◌≡◌, ℕ, zero, suc, ◌+◌, ◌-◌, ◌*◌, ◌<◌, ◌==◌, ◌⊎◌, Bool, true, false, not, Option, Some, None, List, [], ◌∷◌, ◌++◌, length, map, drop, refl, sym, subst, arith, inl, inr, append-nil}
 use Rattle.std.specs.Prelude.{◌||◌, if◌then◌else◌}
 use Rattle.std.specs.List.{AllByRecursion, flat_map}
@@ -36,12 +36,11 @@ use Rattle.wt_context.specs.Styled.{style_kind, between, style_node, styled, wit
 use Rattle.wt_context.specs.Line.{within, context_parts, line_parts}
 use Rattle.wt_context.proofs.AttributeCuts.{name_edge, tag_edge}
 use Rattle.wt_page_round_trip.proofs.TextItems.{AreTexts, BeginsLow, EndsLow, cut_after, cut_items_before}
-use Rattle.wt_page_round_trip.proofs.OfPage.{IsPageItem, AreOfPage, ArePageItems}
-use Rattle.wt_page_round_trip.proofs.PageLines.{all_left, all_right, all_both, all_taken, all_dropped}
-use Rattle.wt_page_round_trip.proofs.PageNodes.{AreSources, no_sources, page_sources, sources_both}
+use Rattle.wt_page_round_trip.proofs.OfPage.{IsPageItem, AreOfPage, ArePageItems, no_page_items}
+use Rattle.wt_page_round_trip.proofs.PageLines.{all_left, all_right, all_both, all_taken, all_dropped, both_page}
 use Rattle.wt_page_round_trip.proofs.WrittenParts.{FitsIn, NodeFits, no_parts, fits_both, fits_fewer, fits_node, fits_text}
 use Rattle.wt_page_round_trip.proofs.InlineNodes.{round, IsFilled, bold_node, italic_node, wiki_link_node, ext_link_node, tag_node, category_leaf, switch_leaf, break_leaf, skip_leaf, kept_leaf, kept_round}
-use Rattle.wt_page_round_trip.proofs.TileTexts.{no_page_items, taken_items, dropped_items, AreParts, parts_of_page, IsPageTile, tiles_good}
+use Rattle.wt_page_round_trip.proofs.TileTexts.{taken_items, dropped_items, AreParts, parts_of_page, IsPageTile, tiles_good}
 use Rattle.wt_page_round_trip.proofs.ShownTexts.{shown_utf8, bracketed_utf8}
 use Rattle.wt_page_round_trip.proofs.LinkHeads.{link_has, category_has, url_has}
 use Rattle.wt_page_round_trip.proofs.SpanAttributes.{tag_has}
@@ -52,13 +51,10 @@ use Rattle.wt_page_round_trip.proofs.StyleDepth.{IsNested, styles_nest}
 
 pub record SegmentFits (most : ℕ) (u : Segment) : Type 0 where
   pub parts : FitsIn most u.parts
-  pub items : AreSources u.items
-
-pub items_sources : (xs : List Item) → ArePageItems xs → AreSources xs
-items_sources xs h = page_sources xs h.texts h.page
+  pub items : ArePageItems u.items
 
 loose_fits : (most : ℕ) (xs : List Item) → most < 199 → ArePageItems xs → SegmentFits most (loose_segment xs)
-loose_fits most xs small h = record { parts = fits_text most xs small h.texts h.page; items = items_sources xs h }
+loose_fits most xs small h = record { parts = fits_text most xs small h.texts h.page; items = h }
 
 -- ---- characters: each apostrophe by itself, and what stands between them
 
@@ -110,12 +106,12 @@ Reads most read = (cx : Context) (xs : List Item) → ArePageItems xs → FitsIn
 
 filled : (most : ℕ) (opening closing : List Item) (ps : List Part) → most < 199 → ArePageItems opening → ArePageItems closing → FitsIn (suc most) ps
     → IsFilled most opening ps closing
-filled most opening closing ps small h i f = record { opening = items_sources opening h; closing = items_sources closing i; inside = f; small = small }
+filled most opening closing ps small h i f = record { opening = h; closing = i; inside = f; small = small }
 
 trail_fits : (most : ℕ) (closing trail : List Item) → suc most < 199 → ArePageItems closing → ArePageItems trail → FitsIn (suc most) (trail_parts closing trail)
 trail_fits most closing trail small h i =
     fits_both (suc most) (node (leaf (plain node_kind.Skip) closing) ∷ []) (parts Text trail)
-    (fits_node (suc most) (leaf (plain node_kind.Skip) closing) (skip_leaf (suc most) closing small (items_sources closing h)))
+    (fits_node (suc most) (leaf (plain node_kind.Skip) closing) (skip_leaf (suc most) closing small h))
     (fits_text (suc most) trail small i.texts i.page)
 
 link_node : (most n : ℕ) (xs opening closing trail : List Item) (ps : List Part) → suc most < 199 → ArePageItems opening → ArePageItems closing
@@ -174,7 +170,7 @@ url_node most w xs small h =
     (fits_text (suc most) (inside_of w xs) small h.inside.texts h.inside.page))
 
 one_tree : (most : ℕ) (xs : List Item) (t : ItemTree) → ArePageItems xs → NodeFits most t → AllByRecursion (SegmentFits most) (tree_segment xs t ∷ [])
-one_tree most xs t h f = (record { parts = fits_node most t f; items = items_sources xs h }, tt)
+one_tree most xs t h f = (record { parts = fits_node most t f; items = h }, tt)
 
 abbrev HasSwitch : List Item → Type 0
 HasSwitch xs = HasAttributes node_kind.Switch ((attr.Property, switch_property (sources xs)) ∷ [])
@@ -192,25 +188,25 @@ tile_by most read small r cx w xs h kind.Link e =
     (read (in_text cx) (inside_of w xs)) small p.opening p.closing p.trail
     (r (in_text cx) (inside_of w xs) p.inside))
 tile_by most read small r cx w xs h kind.Category e = one_tree most xs _ h.items
-    (category_leaf most _ (category_has (glyphs xs) (key xs)) xs (omega (arith, small)) (items_sources xs h.items))
-tile_by most read small r cx w xs h kind.Media e = one_tree most xs _ h.items (kept_leaf most xs (omega (arith, small)) (items_sources xs h.items))
+    (category_leaf most _ (category_has (glyphs xs) (key xs)) xs (omega (arith, small)) h.items)
+tile_by most read small r cx w xs h kind.Media e = one_tree most xs _ h.items (kept_leaf most xs (omega (arith, small)) h.items)
 tile_by most read small r cx w xs h kind.ExtLink e =
     let p : AreParts w xs = form_parts cx w xs kind.ExtLink tt e h in
     one_tree most xs _ h.items (ext_node most (opening_of w xs) (closing_of w xs) (read (in_text cx) (inside_of w xs))
     (omega (arith, small)) p.opening p.closing
     (r (in_text cx) (inside_of w xs) p.inside))
 tile_by most read small r cx w xs h kind.BareUrl e = one_tree most xs _ h.items (url_node most w xs small (form_parts cx w xs kind.BareUrl tt e h))
-tile_by most read small r cx w xs h kind.Br e = one_tree most xs _ h.items (break_leaf most xs (omega (arith, small)) (items_sources xs h.items))
+tile_by most read small r cx w xs h kind.Br e = one_tree most xs _ h.items (break_leaf most xs (omega (arith, small)) h.items)
 tile_by most read small r cx w xs h kind.Pair e =
     let p : AreParts w xs = form_parts cx w xs kind.Pair tt e h in
     one_tree most xs _ h.items (pair_node most (opening_of w xs) (closing_of w xs) (read (in_pair cx) (inside_of w xs)) p.opening
     (filled most (opening_of w xs) (closing_of w xs) (read (in_pair cx) (inside_of w xs)) (omega (arith, small)) p.opening p.closing
     (r (in_pair cx) (inside_of w xs) p.inside)))
-tile_by most read small r cx w xs h kind.TagIsland e = one_tree most xs _ h.items (kept_leaf most xs (omega (arith, small)) (items_sources xs h.items))
+tile_by most read small r cx w xs h kind.TagIsland e = one_tree most xs _ h.items (kept_leaf most xs (omega (arith, small)) h.items)
 tile_by most read small r cx w xs h kind.Switch e =
     let b = h.begins (subst IsForm (sym e) tt) in
     one_tree most xs _ h.items (switch_leaf most _ (subst (λ (ys : List Item). HasSwitch ys) (sym b.are)
-    (switch_has cx b.after b.all w e b.stands)) xs (omega (arith, small)) (items_sources xs h.items))
+    (switch_has cx b.after b.all w e b.stands)) xs (omega (arith, small)) h.items)
 tile_by most read small r cx w xs h kind.Atom e = loose_all most xs (omega (arith, small)) h.items
 tile_by most read small r cx w xs h kind.Mark e = loose_all most xs (omega (arith, small)) h.items
 tile_by most read small r cx w xs h kind.Chars e = loose_all most xs (omega (arith, small)) h.items
@@ -234,9 +230,9 @@ parts_fit : (most : ℕ) (us : List Segment) → AllByRecursion (SegmentFits mos
 parts_fit most [] h = no_parts most
 parts_fit most (u ∷ us) h = fits_both most u.parts (segment_parts us) h.0.parts (parts_fit most us h.1)
 
-segments_sources : (most : ℕ) (us : List Segment) → AllByRecursion (SegmentFits most) us → AreSources (segment_items us)
-segments_sources most [] h = no_sources
-segments_sources most (u ∷ us) h = sources_both u.items (segment_items us) h.0.items (segments_sources most us h.1)
+segments_page : (most : ℕ) (us : List Segment) → AllByRecursion (SegmentFits most) us → ArePageItems (segment_items us)
+segments_page most [] h = no_page_items
+segments_page most (u ∷ us) h = both_page u.items (segment_items us) h.0.items (segments_page most us h.1)
 
 between_fit : (most from to : ℕ) (us : List Segment) → AllByRecursion (SegmentFits most) us → AllByRecursion (SegmentFits most) (between from to us)
 between_fit most from to us h = all_taken (SegmentFits most) (to - from) (drop from us) (all_dropped (SegmentFits most) from us h)
@@ -262,8 +258,8 @@ styled_fits (suc n) most low high (grown s inside after) us d small h =
     let here : NodeFits most (style_node s ps us) = style_by most s.bold (segment_items (between s.from (s.from + s.open_w) us))
     (segment_items (between (s.to - s.close_w) s.to us)) ps
     (record {
-      opening = segments_sources m _ (between_fit m s.from (s.from + s.open_w) us h);
-      closing = segments_sources m _ (between_fit m (s.to - s.close_w) s.to us h);
+      opening = segments_page m _ (between_fit m s.from (s.from + s.open_w) us h);
+      closing = segments_page m _ (between_fit m (s.to - s.close_w) s.to us h);
       inside = within;
       small = omega (arith, small);
     }) in
@@ -283,7 +279,7 @@ context_fits (suc n) most small cx xs h =
     styles_fit most (segments (within n) cx xs) (omega (arith, small))
     (segments_fit (most + 2) (within n) (omega (arith, small)) (context_fits n (suc (most + 2)) (omega (arith, small))) cx xs h)
 
--- Within 141 elements or fewer, a line is written: 18 contexts stand in one another, each with two styles and an element round
+-- Within 141 elements or fewer, a line may stand: 18 contexts stand in one another, each with two styles and an element round
 -- the next.
 pub line_fits : (most : ℕ) → most < 142 → (xs : List Item) → ArePageItems xs → FitsIn most (line_parts xs)
 unfolding context_parts

@@ -1,5 +1,5 @@
--- The meaning of a page has at most two numbers for each byte.
-use Rattle.std.proofs.Common.{◌≡◌, ℕ, ◌+◌, ◌-◌, ◌*◌, ◌<◌, ◌≤◌, Bool, Some, None, List, [], ◌∷◌, length, sym, ap, subst, arith, length-append, length-take, length-drop}
+-- The meaning of an expanded page has at most two numbers for each byte.
+use Rattle.std.proofs.Common.{◌≡◌, ℕ, ◌+◌, ◌-◌, ◌*◌, ◌<◌, ◌≤◌, Bool, Option, Some, List, [], ◌∷◌, length, ap, subst, arith, length-append, length-take, length-drop}
 use Rattle.wt_span.specs.declared.form.Form.{Form}
 use Rattle.wt_span.specs.declared.form.Form.TheVariants as form
 use Rattle.wt_span.specs.Items.{Item, char, whole, sources}
@@ -28,23 +28,23 @@ tag_len named bs h =
     let f : (0 < q.0.len) × (q.0.len ≤ length bs) = opening_some bs q.0 q.1 in
     let e : opening_len bs ≡ q.0.len = ap len_of q.1 in (omega (arith, f.0, e), omega (arith, f.1, e))
 
-nowiki_few : (bs : List ℕ) → IsFormOf form.Nowiki bs → numbered (nowiki None bs) ≤ length bs
-nowiki_few bs h =
+nowiki_few : (o : Option ℕ) (bs : List ℕ) → IsFormOf form.Nowiki bs → numbered (nowiki o bs) ≤ length bs
+nowiki_few o bs h =
     let t = tag_len _ bs h in
     let c : length (behind bs) ≡ length bs - opening_len bs = length-drop (opening_len bs) bs in
     let d = length-take (inside_len bs) (behind bs) in
-    omega (arith, nowiki_inside None bs, t.0, t.1, c, d)
+    omega (arith, nowiki_inside o bs, t.0, t.1, c, d)
 
-form_few : (f : Form) (bs : List ℕ) → IsFormOf f bs → numbered (whole_tree f None bs) ≤ length bs
-form_few form.Chars bs h = absurd h
-form_few (form.Entity c) bs h = omega (arith, form_long (form.Entity c) bs h)
-form_few form.Nowiki bs h = nowiki_few bs h
-form_few form.Extension bs h = omega (arith, form_long form.Extension bs h)
-form_few form.Function bs h = absurd h
-form_few form.Comment bs h = omega (arith, form_long form.Comment bs h)
-form_few form.Include bs h = omega (arith, form_long form.Include bs h)
-form_few form.Hidden bs h = omega (arith, form_long form.Hidden bs h)
-form_few form.EmptyCall bs h = absurd h
+form_few : (f : Form) (o : Option ℕ) (bs : List ℕ) → IsFormOf f bs → numbered (whole_tree f o bs) ≤ length bs
+form_few form.Chars o bs h = absurd h
+form_few (form.Entity c) o bs h = omega (arith, form_long (form.Entity c) bs h)
+form_few form.Nowiki o bs h = nowiki_few o bs h
+form_few form.Extension o bs h = omega (arith, form_long form.Extension bs h)
+form_few form.Function o bs h = omega (arith, form_long form.Function bs h)
+form_few form.Comment o bs h = omega (arith, form_long form.Comment bs h)
+form_few form.Include o bs h = omega (arith, form_long form.Include bs h)
+form_few form.Hidden o bs h = omega (arith, form_long form.Hidden bs h)
+form_few form.EmptyCall o bs h = omega (arith, form_long form.EmptyCall bs h)
 
 -- ---- items
 
@@ -53,8 +53,7 @@ items_few : (xs : List Item) → AreForms xs → 2 * length xs + makes_all xs �
 items_few [] p = omega arith
 items_few (char o b ∷ xs) p = omega (arith, items_few xs p.1)
 items_few (whole f o bs ∷ xs) p =
-    let a : numbered (whole_tree f o bs) ≤ length bs = subst (λ x. numbered (whole_tree f x bs) ≤ length bs) (sym p.0.0) (form_few f bs p.0.1) in
-    omega (arith, a, form_long f bs p.0.1, items_few xs p.1, length-append bs (sources xs))
+    omega (arith, form_few f o bs p.0, form_long f bs p.0, items_few xs p.1, length-append bs (sources xs))
 
 pub forms_few : (xs : List Item) → AreForms xs → numbered (meaning xs) ≤ 2 * width xs
 forms_few xs p = omega (arith, meaning_count xs, items_few xs p)

@@ -1,5 +1,5 @@
--- Each whole form of a page has two bytes or more.
-use Rattle.std.proofs.Common.{◌≡◌, ℕ, zero, suc, ◌+◌, ◌-◌, ◌<◌, Bool, true, false, Option, Some, None, List, [], ◌∷◌, ◌++◌, length, map, take, drop, get_or, codes, nat_lt, nat_le, refl, subst, arith, ⊎_elim}
+-- Each whole form of an expanded page has two bytes or more.
+use Rattle.std.proofs.Common.{◌≡◌, ℕ, zero, suc, ◌+◌, ◌-◌, ◌<◌, ◌≤◌, Bool, true, false, Option, Some, None, List, [], ◌∷◌, length, take, drop, get_or, codes, nat_lt, nat_le, refl, sym, ap, ◌∙◌, subst, arith, ⊎_elim}
 use Rattle.std.specs.Prelude.{◌&&◌, ◌||◌, ◌==◌, if◌then◌else◌, slice_index}
 use Rattle.std.specs.Char.{is_ascii_digit, is_ascii_hexdigit}
 use Rattle.std.specs.List.{AllByRecursion, list_all, prefix_len}
@@ -9,24 +9,24 @@ use Rattle.std.proofs.lemmas.Bool.{and_parts}
 use Rattle.wt_span.specs.declared.form.Form.{Form}
 use Rattle.wt_span.specs.declared.form.Form.TheVariants as form
 use Rattle.wt_span.specs.declared.form.LexKind.{LexKind}
-use Rattle.wt_span.specs.declared.form.LexKind.TheVariants as lex
+use Rattle.wt_span.specs.declared.form.Mode.{Mode}
+use Rattle.wt_span.specs.declared.form.Mode.TheVariants as mode
 use Rattle.wt_span.specs.declared.form.Mode.TheVariants.{Page}
+use Rattle.wt_span.specs.Braces.{call, members, width_of_all, IsCall}
 use Rattle.wt_span.specs.Bytes.{begins, is_break, through, blank_len}
 use Rattle.wt_span.specs.Comments.{comment_len, remarks_len, comment_line_len}
 use Rattle.wt_span.specs.Entities.{named_in, entity_names, named_entity, is_entity_number, numbered as numbered_entity, decimal_entity, hex_entity, entity_at}
-use Rattle.wt_span.specs.Tags.{Tag, opening_tag, closing_tag, is_nowiki, raw_by, opening_include, closing_include, include_at}
-use Rattle.wt_span.specs.Items.{Item, char, whole, items_by}
-use Rattle.wt_span.specs.Lexemes.{Word, words}
+use Rattle.wt_span.specs.Tags.{Tag, opening_tag, closing_tag, raw_by, opening_include, closing_include, include_at}
+use Rattle.wt_span.specs.Items.{Item, char, whole}
 use Rattle.wt_span.specs.Whole.{IsWhole}
 use Rattle.wt_lex.proofs.Begins.{begins_len}
 use Rattle.wt_lex.proofs.TagForms.{OptTag, TagFits, opening_fits, closing_fits}
 use Rattle.wt_lex.proofs.WholeTags.{raw_at}
 use Rattle.wt_attributes.proofs.Fronts.{some_same, lt_of_test}
-use Rattle.wt_lex.specs.Reading.{AreLexemes}
-use Rattle.wt_lex.proofs.Readings.{words_are}
-use Rattle.wt_lines.specs.Pieces.{is_chars}
-use Rattle.wt_expand.specs.PageItems.{raw_form_by, form_of, items_of_words, page_items}
-use Rattle.wt_expand.proofs.MadePieces.{word_whole}
+use Rattle.wt_braces.specs.Alone.{IsOneCall}
+use Rattle.wt_braces.proofs.AloneLaws.{one_call}
+use Rattle.wt_transclusion.specs.Stretch.{AllFull}
+use Rattle.wt_transclusion.proofs.Full.{full_text, text_bytes}
 use Rattle.wt_page_round_trip.proofs.OfPage.{IsPageForm, AreOfPage}
 
 -- ---- tags
@@ -121,13 +121,21 @@ entity_long bs =
     (if_long (begins (codes "&#") bs) _ (numbered_long 2 7 10 is_ascii_digit bs (omega arith)))
     (if_long (begins (codes "&#x") bs || begins (codes "&#X") bs) _ (numbered_long 3 6 16 is_ascii_hexdigit bs (omega arith))))
 
+-- ---- calls
+
+call_long : (m : Mode) (bs : List ℕ) → IsCall m bs → 1 < length bs
+call_long m bs h =
+    let c : IsOneCall m bs = one_call m bs h in
+    let full : AllFull (call c.braces c.inside ∷ []) = subst AllFull c.is (full_text m bs) in
+    let wide : width_of_all (members (call c.braces c.inside ∷ [])) ≡ length bs = ap (λ ms. width_of_all (members ms)) (sym c.is) ∙ text_bytes m bs in
+    let two : 2 ≤ c.braces = full.0.0 in
+    omega (arith, two, wide)
+
 -- ---- any form
 
--- a whole form of a page, in whatever bytes
+-- a whole form, in whatever bytes
 abbrev pub IsFormOf : Form → List ℕ → Type 0
 IsFormOf form.Chars bs = ⊥
-IsFormOf form.Function bs = ⊥
-IsFormOf form.EmptyCall bs = ⊥
 IsFormOf f bs = IsWhole f bs
 
 pub form_of_page : (f : Form) (bs : List ℕ) → IsPageForm f bs → IsFormOf f bs
@@ -135,11 +143,11 @@ form_of_page form.Chars bs h = h
 form_of_page (form.Entity c) bs h = h.0
 form_of_page form.Nowiki bs h = h.0
 form_of_page form.Extension bs h = h.0
-form_of_page form.Function bs h = h
+form_of_page form.Function bs h = h.0
 form_of_page form.Comment bs h = h.0
 form_of_page form.Include bs h = h.0
 form_of_page form.Hidden bs h = h.0
-form_of_page form.EmptyCall bs h = h
+form_of_page form.EmptyCall bs h = h.0
 
 entity_form_long : (c : ℕ) (bs : List ℕ) → entity_at bs ≡ Some (c, length bs) → 1 < length bs
 entity_form_long c bs h = subst OptLong h (entity_long bs)
@@ -149,17 +157,17 @@ form_long form.Chars bs h = absurd h
 form_long (form.Entity c) bs h = entity_form_long c bs h
 form_long form.Nowiki bs h = raw_long _ bs h
 form_long form.Extension bs h = raw_long _ bs h
-form_long form.Function bs h = absurd h
+form_long form.Function bs h = ⊎_elim (λ e. call_long mode.Page bs e) (λ e. call_long mode.Template bs e) h
 form_long form.Comment bs h = ⊎_elim (λ e. comment_long bs e) (λ e. line_long bs e) h
 form_long form.Include bs h = include_long _ bs h
 form_long form.Hidden bs h = include_long _ bs h
-form_long form.EmptyCall bs h = absurd h
+form_long form.EmptyCall bs h = call_long mode.Page bs h
 
 -- ---- the items of any bytes
 
 abbrev pub IsFormItem : Item → Type 0
 IsFormItem (char o b) = Unit {0}
-IsFormItem (whole f o bs) = (o ≡ None) × IsFormOf f bs
+IsFormItem (whole f o bs) = IsFormOf f bs
 
 abbrev pub AreForms : List Item → Type 0
 AreForms xs = AllByRecursion IsFormItem xs
@@ -167,52 +175,4 @@ AreForms xs = AllByRecursion IsFormItem xs
 pub forms_of_page : (xs : List Item) → AreOfPage xs → AreForms xs
 forms_of_page [] h = tt
 forms_of_page (char o b ∷ xs) h = (tt, forms_of_page xs h.1)
-forms_of_page (whole f o bs ∷ xs) h = ((h.0.0, form_of_page f bs h.0.1), forms_of_page xs h.1)
-
-chars_forms : (bs : List ℕ) (ys : List Item) → AreForms ys → AreForms (map (char None) bs ++ ys)
-chars_forms [] ys h = h
-chars_forms (b ∷ bs) ys h = (tt, chars_forms bs ys h)
-
-forms_by : (f : Form) (bs : List ℕ) (ys : List Item) → (is_chars f ≡ false → IsFormOf f bs) → AreForms ys → AreForms (items_by f None bs ++ ys)
-forms_by form.Chars bs ys g h = chars_forms bs ys h
-forms_by (form.Entity c) bs ys g h = ((refl, g refl), h)
-forms_by form.Nowiki bs ys g h = ((refl, g refl), h)
-forms_by form.Extension bs ys g h = ((refl, g refl), h)
-forms_by form.Function bs ys g h = ((refl, g refl), h)
-forms_by form.Comment bs ys g h = ((refl, g refl), h)
-forms_by form.Include bs ys g h = ((refl, g refl), h)
-forms_by form.Hidden bs ys g h = ((refl, g refl), h)
-forms_by form.EmptyCall bs ys g h = ((refl, g refl), h)
-
-raw_form : (o : Option Tag) (bs : List ℕ) → IsWhole (raw_form_by o) bs → IsFormOf (raw_form_by o) bs
-raw_form None bs w = w
-raw_form (Some t) bs w = by_name (is_nowiki t.name) w
-  where
-    by_name : (b : Bool) → IsWhole (if b then form.Nowiki else form.Extension) bs → IsFormOf (if b then form.Nowiki else form.Extension) bs
-    by_name true w = w
-    by_name false w = w
-
-word_form : (kind : LexKind) (bs : List ℕ) → is_chars (form_of kind bs) ≡ false → IsWhole (form_of kind bs) bs → IsFormOf (form_of kind bs) bs
-word_form lex.Chars bs e w = absurd cc
-word_form lex.CommentLine bs e w = w
-word_form lex.Comment bs e w = w
-word_form lex.Raw bs e w = raw_form (opening_tag bs) bs w
-word_form lex.Include bs e w = w
-word_form lex.Hidden bs e w = w
-word_form (lex.Entity c) bs e w = w
-word_form lex.Opens bs e w = absurd cc
-word_form lex.Closes bs e w = absurd cc
-word_form lex.LinkOpen bs e w = absurd cc
-word_form lex.LinkClose bs e w = absurd cc
-word_form lex.Pipe bs e w = absurd cc
-word_form lex.Equals bs e w = absurd cc
-
-words_forms : (after : Bool) (ws : List Word) (bs : List ℕ) → AreLexemes Page after ws bs → AreForms (items_of_words ws bs)
-words_forms after [] bs a = tt
-words_forms after ((kind, n) ∷ ws) bs a =
-    forms_by (form_of kind (take n bs)) (take n bs) (items_of_words ws (drop n bs)) (λ e. word_form kind (take n bs) e (word_whole after kind n bs a.0 a.1 a.2))
-    (words_forms (is_break (slice_index bs (n - 1))) ws (drop n bs) a.4)
-
-pub page_forms : (page : List ℕ) → AreForms (page_items page)
-unfolding page_items
-page_forms page = words_forms false (words Page page) page (words_are Page page)
+forms_of_page (whole f o bs ∷ xs) h = (form_of_page f bs h.0.1, forms_of_page xs h.1)

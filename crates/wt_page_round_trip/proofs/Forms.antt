@@ -1,4 +1,4 @@
--- Each whole form of a page is a node that is written.
+-- Each whole form of an expanded page is a node that is written.
 use Rattle.std.proofs.Common.{◌≡◌, ℕ, suc, ◌+◌, ◌<◌, ◌≤◌, Bool, true, false, Option, Some, None, inl, List, [], ◌∷◌, ◌++◌, length, take, drop, get_or, IsUtf8, refl, sym, ap, ◌∙◌, subst, arith, append-nil, codes}
 use Rattle.std.specs.Prelude.{◌==◌, ◌&&◌, ◌||◌, nat_le, nat_lt, is_some, slice_index, encode_utf8, if◌then◌else◌}
 use Rattle.std.specs.Char.{is_ascii_digit, is_ascii_hexdigit}
@@ -15,22 +15,23 @@ use Rattle.wt_span.specs.declared.form.Form.{Form}
 use Rattle.wt_span.specs.declared.form.Form.TheVariants as form
 use Rattle.wt_span.specs.Bytes.{begins}
 use Rattle.wt_span.specs.Entities.{named_in, entity_names, named_entity, is_entity_number, numbered as numbered_entity, decimal_entity, hex_entity, entity_at}
-use Rattle.wt_span.specs.Items.{is_mark_form}
+use Rattle.wt_span.specs.Items.{whole, is_mark_form}
 use Rattle.wt_span.specs.Tags.{Tag, opening_tag, closing_tag, len_if_named, is_extension, is_noinclude, raw_by}
 use Rattle.wt_span.specs.Whole.{IsWhole}
+use Rattle.wt_tree.specs.declared.kind.AttrName.TheVariants as attr
 use Rattle.wt_tree.specs.declared.kind.Kind.{Kind}
 use Rattle.wt_tree.specs.declared.kind.Kind.TheVariants as kind
 use Rattle.wt_lex.proofs.WholeTags.{raw_at}
 use Rattle.wt_tree.specs.Kinds.{may_hold, spelling}
 use Rattle.wt_tree.specs.Values.{extension_prefix, placeholder, no_include, no_include_end, only_include, only_include_end, include_only, is_extension_type, is_island_type, is_include_type}
-use Rattle.wt_round_trip.specs.Written.{IsUtf8IfAny, IsExtension, HasData}
+use Rattle.wt_round_trip.specs.Written.{IsUtf8IfAny, IsExtension, HasData, HasAttributes}
 use Rattle.wt_round_trip.proofs.Types.{extension_ascii, extension_utf8, include_utf8}
 use Rattle.wt_inline.specs.RawTag.{len_of, name_of, is_alone, before_closing, opening_len, behind, inside_len, opening_of, inside_of, closing_of}
-use Rattle.wt_inline.specs.Carried.{extension_typeof, noinclude_typeof, onlyinclude_typeof, includeonly_typeof, include_typeof, extension_data}
+use Rattle.wt_inline.specs.Carried.{extension_typeof, placeholder_typeof, noinclude_typeof, onlyinclude_typeof, includeonly_typeof, include_typeof, extension_data}
 use Rattle.wt_inline.specs.Parts.{form_leaf, whole_tree}
 use Rattle.wt_inline.proofs.RawTags.{closing_sign, tag_border, sign_border}
 use Rattle.wt_ranges.specs.Labels.{label_at}
-use Rattle.wt_page_round_trip.proofs.OfPage.{IsPageForm}
+use Rattle.wt_page_round_trip.proofs.OfPage.{IsPageForm, IsGivenBy, IsPageItem, form_page, no_page_items}
 use Rattle.wt_page_round_trip.proofs.Parts.{IsWrittenNode}
 
 -- ---- entities
@@ -89,18 +90,15 @@ entity_scalar bs =
 pub entity_utf8 : (c : ℕ) (bs : List ℕ) → IsWhole (form.Entity c) bs → IsUtf8 (encode_utf8 c)
 entity_utf8 c bs h = let s : scalar c ≡ true = subst OptScalar h (entity_scalar bs) in IsUtf8-encode c s
 
-pub entity_node : (k : ℕ) (parent : Kind) (c : ℕ) (bs : List ℕ) → k < 200 → may_hold parent kind.Entity ≡ true
-    → IsPageForm (form.Entity c) bs → IsWrittenNode k parent (form_leaf (form.Entity c) None bs)
+pub entity_node : (k : ℕ) (parent : Kind) (o : Option ℕ) (c : ℕ) (bs : List ℕ) → k < 200 → may_hold parent kind.Entity ≡ true
+    → IsPageForm (form.Entity c) bs → IsWrittenNode k parent (form_leaf (form.Entity c) o bs)
 unfolding label_at spelling
-entity_node k parent c bs small e h = record {
-  element = λ at next. refl;
-  written = λ at next room some few. (
+entity_node k parent o c bs small e h = record {
+  shown = (
     small,
     e,
     record {
       level = refl;
-      number = (some, omega arith);
-      places = (omega arith, room, omega arith, omega arith);
       source = record { own = subst IsUtf8 (sym (append-nil bs)) h.1; opening = refl; closing = refl };
       shown = entity_utf8 c bs h.0;
       attrs = refl;
@@ -111,27 +109,21 @@ entity_node k parent c bs small e h = record {
     refl,
     (tt, tt),
   );
-  page = ((refl, tt), tt, refl, tt, tt);
+  page = (form_page (form.Entity c) o bs tt h, no_page_items, refl, tt, tt);
+  element = refl;
 }
 
 -- ---- comments and include tags, which may stand anywhere
 
-pub or_right : (b : Bool) → (b || true) ≡ true
-or_right true = refl
-or_right false = refl
-
-comment_node : (k : ℕ) (parent : Kind) (bs : List ℕ) → k < 200 → IsUtf8 bs → IsWrittenNode k parent (form_leaf form.Comment None bs)
+comment_node : (k : ℕ) (parent : Kind) (o : Option ℕ) (bs : List ℕ) → k < 200 → IsPageForm form.Comment bs → IsWrittenNode k parent (form_leaf form.Comment o bs)
 unfolding label_at spelling
-comment_node k parent bs small h = record {
-  element = λ at next. refl;
-  written = λ at next room some few. (
+comment_node k parent o bs small h = record {
+  shown = (
     small,
     refl,
     record {
       level = refl;
-      number = (some, omega arith);
-      places = (omega arith, room, omega arith, omega arith);
-      source = record { own = subst IsUtf8 (sym (append-nil bs)) h; opening = refl; closing = refl };
+      source = record { own = subst IsUtf8 (sym (append-nil bs)) h.1; opening = refl; closing = refl };
       shown = refl;
       attrs = refl;
       origin = refl;
@@ -141,7 +133,8 @@ comment_node k parent bs small h = record {
     refl,
     (tt, tt),
   );
-  page = ((refl, tt), tt, refl, tt, tt);
+  page = (form_page form.Comment o bs tt h, no_page_items, refl, tt, tt);
+  element = refl;
 }
 
 end_passes : (b : Bool) → is_include_type ((if b then noinclude_typeof else onlyinclude_typeof) ++ codes "/End") ≡ true
@@ -158,18 +151,15 @@ include_passes : (o p : Option Tag) → is_include_type (include_typeof o p) ≡
 include_passes None p = end_passes (is_noinclude (name_of p))
 include_passes (Some t) p = name_passes (is_noinclude t.name)
 
-include_node : (k : ℕ) (parent : Kind) (bs : List ℕ) → k < 200 → IsUtf8 bs → IsWrittenNode k parent (form_leaf form.Include None bs)
+include_node : (k : ℕ) (parent : Kind) (o : Option ℕ) (bs : List ℕ) → k < 200 → IsPageForm form.Include bs → IsWrittenNode k parent (form_leaf form.Include o bs)
 unfolding label_at spelling
-include_node k parent bs small h = record {
-  element = λ at next. refl;
-  written = λ at next room some few. (
+include_node k parent o bs small h = record {
+  shown = (
     small,
     refl,
     record {
       level = refl;
-      number = (some, omega arith);
-      places = (omega arith, room, omega arith, omega arith);
-      source = record { own = subst IsUtf8 (sym (append-nil bs)) h; opening = refl; closing = refl };
+      source = record { own = subst IsUtf8 (sym (append-nil bs)) h.1; opening = refl; closing = refl };
       shown = refl;
       attrs = inl (
         include_typeof (opening_tag bs) (closing_tag bs),
@@ -187,25 +177,23 @@ include_node k parent bs small h = record {
     refl,
     (tt, tt),
   );
-  page = ((refl, tt), tt, refl, tt, tt);
+  page = (form_page form.Include o bs tt h, no_page_items, refl, tt, tt);
+  element = refl;
 }
 
 hidden_passes : is_include_type includeonly_typeof ≡ true
 unfolding includeonly_typeof no_include no_include_end only_include only_include_end include_only
 hidden_passes = refl
 
-hidden_node : (k : ℕ) (parent : Kind) (bs : List ℕ) → k < 200 → IsUtf8 bs → IsWrittenNode k parent (form_leaf form.Hidden None bs)
+hidden_node : (k : ℕ) (parent : Kind) (o : Option ℕ) (bs : List ℕ) → k < 200 → IsPageForm form.Hidden bs → IsWrittenNode k parent (form_leaf form.Hidden o bs)
 unfolding label_at spelling
-hidden_node k parent bs small h = record {
-  element = λ at next. refl;
-  written = λ at next room some few. (
+hidden_node k parent o bs small h = record {
+  shown = (
     small,
     refl,
     record {
       level = refl;
-      number = (some, omega arith);
-      places = (omega arith, room, omega arith, omega arith);
-      source = record { own = subst IsUtf8 (sym (append-nil bs)) h; opening = refl; closing = refl };
+      source = record { own = subst IsUtf8 (sym (append-nil bs)) h.1; opening = refl; closing = refl };
       shown = refl;
       attrs = inl (includeonly_typeof, [], refl, hidden_passes, refl, include_utf8 (includeonly_typeof) (hidden_passes), refl);
       origin = refl;
@@ -215,21 +203,62 @@ hidden_node k parent bs small h = record {
     refl,
     (tt, tt),
   );
-  page = ((refl, tt), tt, refl, tt, tt);
+  page = (form_page form.Hidden o bs tt h, no_page_items, refl, tt, tt);
+  element = refl;
+}
+
+-- the mark of a call without output, which isn't written
+empty_node : (k : ℕ) (parent : Kind) (o : Option ℕ) (bs : List ℕ) → IsGivenBy form.EmptyCall o → IsPageForm form.EmptyCall bs
+    → IsWrittenNode k parent (form_leaf form.EmptyCall o bs)
+unfolding label_at
+empty_node k parent None bs g h = absurd g
+empty_node k parent (Some n) bs g h = record {
+  shown = (refl, refl);
+  page = (form_page form.EmptyCall (Some n) bs tt h, no_page_items, refl, tt, refl);
+  element = refl;
 }
 
 -- a mark may stand in any node
-pub mark_node : (k : ℕ) (parent : Kind) (f : Form) (bs : List ℕ) → k < 200 → is_mark_form f ≡ true → IsPageForm f bs
-    → IsWrittenNode k parent (whole_tree f None bs)
-mark_node k parent form.Chars bs small m h = absurd h
-mark_node k parent (form.Entity c) bs small m h = absurd cc
-mark_node k parent form.Nowiki bs small m h = absurd cc
-mark_node k parent form.Extension bs small m h = absurd cc
-mark_node k parent form.Function bs small m h = absurd h
-mark_node k parent form.Comment bs small m h = comment_node k parent bs small h.1
-mark_node k parent form.Include bs small m h = include_node k parent bs small h.1
-mark_node k parent form.Hidden bs small m h = hidden_node k parent bs small h.1
-mark_node k parent form.EmptyCall bs small m h = absurd h
+pub mark_node : (k : ℕ) (parent : Kind) (f : Form) (o : Option ℕ) (bs : List ℕ) → k < 200 → is_mark_form f ≡ true → IsPageItem (whole f o bs)
+    → IsWrittenNode k parent (whole_tree f o bs)
+mark_node k parent form.Chars o bs small m h = absurd h.1
+mark_node k parent (form.Entity c) o bs small m h = absurd cc
+mark_node k parent form.Nowiki o bs small m h = absurd cc
+mark_node k parent form.Extension o bs small m h = absurd cc
+mark_node k parent form.Function o bs small m h = absurd cc
+mark_node k parent form.Comment o bs small m h = comment_node k parent o bs small h.1
+mark_node k parent form.Include o bs small m h = include_node k parent o bs small h.1
+mark_node k parent form.Hidden o bs small m h = hidden_node k parent o bs small h.1
+mark_node k parent form.EmptyCall o bs small m h = empty_node k parent o bs h.0 h.1
+
+-- ---- functions, which are kept
+
+pub island_type : HasAttributes kind.Island ((attr.Typeof, placeholder_typeof) ∷ [])
+unfolding spelling placeholder_typeof placeholder extension_prefix
+island_type = inl (placeholder_typeof, [], refl, refl, refl, IsUtf8-are_ascii (codes "mw:Placeholder") refl, refl)
+
+pub function_node : (k : ℕ) (parent : Kind) (o : Option ℕ) (bs : List ℕ) → k < 200 → may_hold parent kind.Island ≡ true
+    → IsPageForm form.Function bs → IsWrittenNode k parent (form_leaf form.Function o bs)
+unfolding label_at spelling placeholder_typeof placeholder extension_prefix
+function_node k parent o bs small e h = record {
+  shown = (
+    small,
+    e,
+    record {
+      level = refl;
+      source = record { own = subst IsUtf8 (sym (append-nil bs)) h.1; opening = refl; closing = refl };
+      shown = refl;
+      attrs = island_type;
+      origin = refl;
+      mark = refl;
+      mw = refl;
+    },
+    refl,
+    (tt, tt),
+  );
+  page = (form_page form.Function o bs tt h, no_page_items, refl, tt, tt);
+  element = refl;
+}
 
 -- ---- the three parts of a raw tag
 
@@ -302,20 +331,17 @@ extension_has bs h u = (
   body_utf8 (is_alone (opening_tag bs)) (inside_of bs) (inside_utf8 bs u),
 )
 
-pub extension_node : (k : ℕ) (parent : Kind) (bs : List ℕ) → k < 200 → may_hold parent kind.Island ≡ true
-    → IsPageForm form.Extension bs → IsWrittenNode k parent (form_leaf form.Extension None bs)
+pub extension_node : (k : ℕ) (parent : Kind) (o : Option ℕ) (bs : List ℕ) → k < 200 → may_hold parent kind.Island ≡ true
+    → IsPageForm form.Extension bs → IsWrittenNode k parent (form_leaf form.Extension o bs)
 unfolding label_at spelling
-extension_node k parent bs small e h =
+extension_node k parent o bs small e h =
     let n : is_extension (name_of (opening_tag bs)) ≡ true = named_tag is_extension bs h.0 in
     record {
-      element = λ at next. refl;
-      written = λ at next room some few. (
+      shown = (
         small,
         e,
         record {
           level = refl;
-          number = (some, omega arith);
-          places = (omega arith, room, omega arith, omega arith);
           source = record { own = subst IsUtf8 (sym (append-nil bs)) h.1; opening = refl; closing = refl };
           shown = refl;
           attrs = inl (
@@ -334,5 +360,6 @@ extension_node k parent bs small e h =
         refl,
         (tt, tt),
       );
-      page = ((refl, tt), tt, refl, tt, tt);
+      page = (form_page form.Extension o bs tt h, no_page_items, refl, tt, tt);
+      element = refl;
     }

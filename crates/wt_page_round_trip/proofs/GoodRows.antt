@@ -1,6 +1,6 @@
 -- The rows of a page: gaps round items in UTF-8, which begin with the sign of their kind.
 use Rattle.std.proofs.Common.{◌≡◌, ℕ, zero, suc, ◌+◌, ◌<◌, ◌≤◌, Bool, true, false, List, [], ◌∷◌, ◌++◌, length, map, take, drop, get_or, replicate, refl, sym, ap, ◌∙◌, subst, arith, append-nil, length-append}
-use Rattle.std.specs.Prelude.{◌==◌, not, codes, if◌then◌else◌}
+use Rattle.std.specs.Prelude.{◌==◌, codes, if◌then◌else◌}
 use Rattle.std.specs.List.{AllByRecursion, prefix_len}
 use Rattle.std.proofs.lemmas.Bool.{eqb-true}
 use Rattle.std.proofs.lemmas.List.{take-append-drop, get_or_append_left, map-append}
@@ -8,13 +8,12 @@ use Rattle.std.proofs.lemmas.Str.{IsUtf8-nil}
 use Rattle.std.proofs.lemmas.Bool.Decides.{nat_tests}
 use Rattle.wt_span.specs.Bytes.{begins}
 use Rattle.wt_span.specs.Items.{Item, char, whole, sign}
-use Rattle.wt_span.specs.Runs.{IsRun, AreRuns}
 use Rattle.wt_span.proofs.RunLaws.{runs_are}
 use Rattle.wt_lex.proofs.Begins.{begins_get, begins_len}
 use Rattle.wt_lines.specs.declared.kind.LineKind.{LineKind}
 use Rattle.wt_lines.specs.declared.kind.LineKind.TheVariants as line
 use Rattle.wt_lines.specs.Kinds.{past, is_idle, is_list}
-use Rattle.wt_lines.specs.Lines.{IsUnbroken, content, full_lines, goes_on, is_break_item}
+use Rattle.wt_lines.specs.Lines.{content, full_lines, goes_on, is_break_item}
 use Rattle.wt_tables.specs.Extents.{behind}
 use Rattle.wt_headings.specs.Lines.{kind_at, ending}
 use Rattle.wt_body.specs.Rows.{Row, signs, marks_len, idle_len, whole_row, sign_row, behind_sign, is_unseen, sign_rows, dashes, line_rows, unwritten_end, rows_from, rows}
@@ -36,13 +35,13 @@ abbrev pub IsSeen : LineKind → List Item → Type 0
 IsSeen line.Blank xs = AllByRecursion IsBetween xs
 IsSeen line.TableOpen xs = begins (codes "{|") (signs xs) ≡ true
 IsSeen line.TableEnd xs = Unit {0}
-IsSeen line.Caption xs = IsUnbroken xs × (begins (codes "|+") (signs xs) ≡ true)
+IsSeen line.Caption xs = begins (codes "|+") (signs xs) ≡ true
 IsSeen line.Row xs = begins (codes "|-") (signs xs) ≡ true
-IsSeen line.Cell xs = IsUnbroken xs × (begins (codes "|") (signs xs) ≡ true)
-IsSeen line.Header xs = IsUnbroken xs × (begins (codes "!") (signs xs) ≡ true)
+IsSeen line.Cell xs = begins (codes "|") (signs xs) ≡ true
+IsSeen line.Header xs = begins (codes "!") (signs xs) ≡ true
 IsSeen line.Heading xs = IsHeadingLine xs
 IsSeen line.Rule xs = Unit {0}
-IsSeen line.List xs = IsUnbroken xs × (is_list (signs xs) ≡ true)
+IsSeen line.List xs = is_list (signs xs) ≡ true
 IsSeen line.Pre xs = begins (codes " ") (signs xs) ≡ true
 IsSeen line.Text xs = Unit {0}
 
@@ -146,32 +145,6 @@ past_idle (x ∷ y ∷ ys) = by_test (is_idle (sign x)) refl (past_idle (y ∷ y
         idle_front x (signs (content (y ∷ ys))) true e ∙ more ∙ ap (λ n. signs (content (drop n (x ∷ y ∷ ys)))) (sym z)
     by_test false e more = idle_front x (signs (content (y ∷ ys))) false e
 
--- ---- no line break before the end of a line
-
--- the line break of a line stands at its end
-abbrev pub IsOneLine : List Item → Type 0
-IsOneLine l = IsUnbroken (content l)
-
-not_goes : (b : Bool) → not b ≡ true → b ≡ false
-not_goes true e = absurd cc
-not_goes false e = refl
-
-run_unbroken : (r others : List Item) → IsRun goes_on r others → IsOneLine r
-run_unbroken [] others h = absurd h
-run_unbroken (x ∷ []) others h = by_test (is_break_item x) refl
-  where
-    by_test : (t : Bool) → is_break_item x ≡ t → IsUnbroken (if t then [] else x ∷ [])
-    by_test true e = tt
-    by_test false e = (e, tt)
-run_unbroken (x ∷ y ∷ ys) others h = (not_goes (is_break_item x) h.0, run_unbroken (y ∷ ys) others h.1)
-
-dropped_line : (n : ℕ) (l : List Item) → IsOneLine l → IsOneLine (drop n l)
-dropped_line zero [] h = tt
-dropped_line (suc n) [] h = tt
-dropped_line zero (x ∷ xs) h = h
-dropped_line (suc n) (x ∷ []) h = dropped_line n [] tt
-dropped_line (suc n) (x ∷ y ∷ ys) h = dropped_line n (y ∷ ys) h.1
-
 -- ---- one row
 
 whole_good : (k : LineKind) (n : ℕ) (l : List Item) → ArePageItems l → IsGap (take n l) → IsSeen k (content (drop n l)) → IsGoodRow (whole_row k n l)
@@ -224,55 +197,43 @@ two_low xs e =
     ∙ get_or_append_left (signs (content xs)) (signs (ending xs)) 0 1 (omega (arith, n)) ∙ begins_get (codes "|}") (signs (content xs)) e 1 (omega arith) in
     ends_low xs 1 (omega (arith, n, len, m)) (omega (arith, at))
 
-pub line_good : (tables : ℕ) (l : List Item) → ArePageItems l → IsOneLine l → (k : LineKind) → kind_at tables l ≡ k → AreGoodRows (line_rows k l)
-line_good tables l h o line.Blank e =
+pub line_good : (tables : ℕ) (l : List Item) → ArePageItems l → (k : LineKind) → kind_at tables l ≡ k → AreGoodRows (line_rows k l)
+line_good tables l h line.Blank e =
     (record { lead = (tt, tt); items = h; ending = (tt, tt); seen = blank_line tables l (texts_small l h.texts) e }, tt)
-line_good tables l h o line.TableOpen e =
+line_good tables l h line.TableOpen e =
     let t = kind_told tables (signs (content l)) line.TableOpen e in
     (whole_good line.TableOpen (idle_len l) l h (idle_gap l h) (subst (λ ss. begins (codes "{|") ss ≡ true) (past_idle l) t), tt)
-line_good tables l h o line.TableEnd e =
+line_good tables l h line.TableEnd e =
     let t = kind_told tables (signs (content l)) line.TableEnd e in
     signs_good line.TableEnd (idle_len l) 2 l h (idle_gap l h) (two_low (drop (idle_len l) l) (subst (λ ss. begins (codes "|}") ss ≡ true) (past_idle l) t))
     (λ xs. tt)
-line_good tables l h o line.Caption e =
-    let t = kind_told tables (signs (content l)) line.Caption e in (
-      whole_good line.Caption (idle_len l) l h (idle_gap l h)
-          (dropped_line (idle_len l) l o, subst (λ ss. begins (codes "|+") ss ≡ true) (past_idle l) t),
-      tt,
-    )
-line_good tables l h o line.Row e =
+line_good tables l h line.Caption e =
+    let t = kind_told tables (signs (content l)) line.Caption e in
+    (whole_good line.Caption (idle_len l) l h (idle_gap l h) (subst (λ ss. begins (codes "|+") ss ≡ true) (past_idle l) t), tt)
+line_good tables l h line.Row e =
     let t = kind_told tables (signs (content l)) line.Row e in
     (whole_good line.Row (idle_len l) l h (idle_gap l h) (subst (λ ss. begins (codes "|-") ss ≡ true) (past_idle l) t), tt)
-line_good tables l h o line.Cell e =
-    let t = kind_told tables (signs (content l)) line.Cell e in (
-      whole_good line.Cell (idle_len l) l h (idle_gap l h)
-          (dropped_line (idle_len l) l o, subst (λ ss. begins (codes "|") ss ≡ true) (past_idle l) t),
-      tt,
-    )
-line_good tables l h o line.Header e =
-    let t = kind_told tables (signs (content l)) line.Header e in (
-      whole_good line.Header (idle_len l) l h (idle_gap l h)
-          (dropped_line (idle_len l) l o, subst (λ ss. begins (codes "!") ss ≡ true) (past_idle l) t),
-      tt,
-    )
-line_good tables l h o line.Heading e = (
+line_good tables l h line.Cell e =
+    let t = kind_told tables (signs (content l)) line.Cell e in
+    (whole_good line.Cell (idle_len l) l h (idle_gap l h) (subst (λ ss. begins (codes "|") ss ≡ true) (past_idle l) t), tt)
+line_good tables l h line.Header e =
+    let t = kind_told tables (signs (content l)) line.Header e in
+    (whole_good line.Header (idle_len l) l h (idle_gap l h) (subst (λ ss. begins (codes "!") ss ≡ true) (past_idle l) t), tt)
+line_good tables l h line.Heading e = (
   whole_good line.Heading (marks_len l) l h (marks_gap l h)
       (subst IsHeadingLine (append-nil (content (drop (marks_len l) l))) (heading_line tables l h e)),
   tt,
 )
-line_good tables l h o line.Rule e =
+line_good tables l h line.Rule e =
     signs_good line.Rule (marks_len l) (dashes (drop (marks_len l) l)) l h (marks_gap l h)
     (low_ends (take (dashes (drop (marks_len l) l)) (drop (marks_len l) l)) (passing_low (λ s. s == 45) dash_low (drop (marks_len l) l))) (λ xs. tt)
-line_good tables l h o line.List e =
-    let t = kind_told tables (signs (content l)) line.List e in (
-      whole_good line.List (marks_len l) l h (marks_gap l h)
-          (dropped_line (marks_len l) l o, subst (λ ss. is_list ss ≡ true) (past_lead l (texts_small l h.texts)) t),
-      tt,
-    )
-line_good tables l h o line.Pre e =
+line_good tables l h line.List e =
+    let t = kind_told tables (signs (content l)) line.List e in
+    (whole_good line.List (marks_len l) l h (marks_gap l h) (subst (λ ss. is_list ss ≡ true) (past_lead l (texts_small l h.texts)) t), tt)
+line_good tables l h line.Pre e =
     let t = kind_told tables (signs (content l)) line.Pre e in
     (whole_good line.Pre (marks_len l) l h (marks_gap l h) (subst (λ ss. begins (codes " ") ss ≡ true) (past_lead l (texts_small l h.texts)) t), tt)
-line_good tables l h o line.Text e = (whole_good line.Text (marks_len l) l h (marks_gap l h) tt, tt)
+line_good tables l h line.Text e = (whole_good line.Text (marks_len l) l h (marks_gap l h) tt, tt)
 
 -- ---- the rows of a page
 
@@ -280,17 +241,12 @@ unwritten_good : (n : ℕ) → AreGoodRows (replicate n unwritten_end)
 unwritten_good zero = tt
 unwritten_good (suc n) = (record { lead = (tt, tt); items = record { texts = IsUtf8-nil; page = tt }; ending = (tt, tt); seen = tt }, unwritten_good n)
 
-lines_one : (ls : List (List Item)) (xs : List Item) → AreRuns goes_on ls xs → AllByRecursion IsOneLine ls
-lines_one [] xs h = tt
-lines_one (l ∷ ls) xs h = (run_unbroken l h.0 h.2, lines_one ls h.0 h.3)
-
-from_good : (tables : ℕ) (ls : List (List Item)) → AllByRecursion ArePageItems ls → AllByRecursion IsOneLine ls → AreGoodRows (rows_from tables ls)
-from_good tables [] h o = unwritten_good tables
-from_good tables (l ∷ ls) h o =
+from_good : (tables : ℕ) (ls : List (List Item)) → AllByRecursion ArePageItems ls → AreGoodRows (rows_from tables ls)
+from_good tables [] h = unwritten_good tables
+from_good tables (l ∷ ls) h =
     let k : LineKind = kind_at tables l in
-    all_both IsGoodRow (line_rows k l) (rows_from (behind tables k) ls) (line_good tables l h.0 o.0 k refl) (from_good (behind tables k) ls h.1 o.1)
+    all_both IsGoodRow (line_rows k l) (rows_from (behind tables k) ls) (line_good tables l h.0 k refl) (from_good (behind tables k) ls h.1)
 
-pub page_rows : (xs : List Item) → AreTexts [] xs → AreOfPage xs → AreGoodRows (rows xs)
+pub page_rows : (xs : List Item) → ArePageItems xs → AreGoodRows (rows xs)
 unfolding rows
-page_rows xs t p =
-    from_good 0 (full_lines xs) (page_lines (full_lines xs) xs (runs_are goes_on xs) t p) (lines_one (full_lines xs) xs (runs_are goes_on xs))
+page_rows xs h = from_good 0 (full_lines xs) (page_lines (full_lines xs) xs (runs_are goes_on xs) h.texts h.page)

@@ -1,6 +1,7 @@
 -- A worked case of a page with a group: a style that is opened again where another one ends, and holds nothing.
-use Rattle.std.proofs.Common.{◌≡◌, refl, codes}
+use Rattle.std.proofs.Common.{◌≡◌, ℕ, List, [], refl, codes}
 use Rattle.std.specs.Fmt.{digits}
+use Rattle.wt_tree.specs.Tree.{Tree}
 use Rattle.serde_json.proofs.OnLiterals.{serde_json_on_literals}
 use Rattle.wt_span.specs.Comments.{comment_len, comment_line_len}
 use Rattle.wt_span.specs.Entities.{entity_at, named_entity, decimal_entity, hex_entity, entity_names}
@@ -34,7 +35,10 @@ use Rattle.wt_ranges.specs.Annotated.{annotated}
 use Rattle.wt_ranges.specs.GroupData.{group_data}
 use Rattle.wt_ranges.specs.GroupWord.{transclusion_word}
 use Rattle.wt_ranges.specs.Labels.{label_at}
-use Rattle.wt_page_round_trip.specs.PageTree.{page_tree}
+
+-- the tree of a page that calls nothing
+abbrev page_tree : List ℕ → Tree
+page_tree page = annotated [] (group_data []) (meaning (page_items page))
 
 pub empty_style : html_text (page_tree (codes "'''a''b'''"))
     ≡ codes "<!DOCTYPE html><html><head><meta charset=\"utf-8\"/></head><body data-parsoid='{\"dsr\":[0,10,0,0]}'><p id=\"mw1\" data-parsoid='{\"dsr\":[0,10,0,0]}'><b id=\"mw2\" data-parsoid='{\"c\":\"&#39;&#39;&#39;\",\"dsr\":[0,10,3,3],\"o\":\"&#39;&#39;&#39;\"}'>a<i id=\"mw3\" data-parsoid='{\"dsr\":[4,7,2,0],\"o\":\"&#39;&#39;\"}'>b</i></b><i about=\"#mwt1\" typeof=\"mw:Transclusion\" id=\"mw4\" data-mw='{\"parts\":[]}' data-parsoid='{\"dsr\":[10,10,0,0],\"src\":\"\"}'></i></p></body></html>"

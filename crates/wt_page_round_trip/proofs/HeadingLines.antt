@@ -28,10 +28,6 @@ use Rattle.wt_page_round_trip.proofs.KindTests.{kind_told}
 
 -- ---- items by their signs
 
-form_high : (b : Bool) → (if b then 257 else 256) < 128 → ⊥
-form_high true h = omega arith
-form_high false h = omega arith
-
 pub ends_low : (xs : List Item) (k : ℕ) → k < length xs → get_or (map sign xs) k 0 < 128 → EndsLow (take (suc k) xs)
 ends_low [] k h l = absurd (omega arith)
 ends_low (char o b ∷ []) zero h l = l

@@ -48,7 +48,7 @@ IsSmallItem (whole f o bs) = Unit {0}
 small_texts : (run : List ℕ) (xs : List Item) → AreTexts run xs → AreSmall run × AllByRecursion IsSmallItem xs
 small_texts run [] t = (utf8_small run t, tt)
 small_texts run (char o b ∷ xs) t =
-    let q : AreSmall (run ++ b ∷ []) × AllByRecursion IsSmallItem xs = small_texts (run ++ b ∷ []) xs t in
+    let q : AreSmall (run ++ b ∷ []) × AllByRecursion IsSmallItem xs = small_texts (run ++ b ∷ []) xs t.1 in
     let r : AreSmall (b ∷ []) = all_right (λ b. b < 256) run (b ∷ []) q.0 in
     (all_left (λ b. b < 256) run (b ∷ []) q.0, (r.0, q.1))
 small_texts run (whole f o bs ∷ xs) t = (utf8_small run t.0, (tt, (small_texts [] xs t.1).1))

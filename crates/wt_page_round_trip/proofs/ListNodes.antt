@@ -1,5 +1,5 @@
 -- Lists and their items are written wherever lists may stand.
-use Rattle.std.proofs.Common.{◌≡◌, ℕ, zero, suc, ◌+◌, ◌-◌, ◌*◌, ◌<◌, ◌≤◌, ◌⊎◌, Bool, true, false, min, Option, Some, None, List, [], ◌∷◌, ◌++◌, length, map, take, drop, get_or, nat_lt, codes, cond, inl, inr, refl, sym, ap, ◌∙◌, subst, arith, append_assoc, append-nil, length-append, length-drop, length-take}
+use Rattle.std.proofs.Common.{◌≡◌, ℕ, zero, suc, ◌+◌, ◌-◌, ◌*◌, ◌<◌, ◌≤◌, Bool, true, false, min, Option, Some, None, List, [], ◌∷◌, ◌++◌, length, map, take, drop, get_or, nat_lt, codes, cond, inr, refl, sym, ap, ◌∙◌, subst, arith, append_assoc, append-nil, length-append, length-drop, length-take}
 use Rattle.std.specs.Prelude.{◌==◌, ◌&&◌, ◌||◌, slice_index, if◌then◌else◌}
 use Rattle.std.specs.List.{filter, prefix_len, list_all, AllByRecursion}
 use Rattle.std.proofs.lemmas.Bool.{eqb-true, ltb-true, and_parts}
@@ -17,7 +17,6 @@ use Rattle.wt_tree.specs.Kinds.{is_class, may_hold, shape, is_anywhere, spelling
 use Rattle.wt_lex.proofs.Begins.{begins_get}
 use Rattle.wt_html_grammar.proofs.Steps.{if_true}
 use Rattle.wt_span.specs.Bytes.{begins}
-use Rattle.wt_lines.specs.Lines.{IsUnbroken, is_break_item}
 use Rattle.wt_lines.specs.Kinds.{is_list}
 use Rattle.wt_blocks.specs.ListTree.{ListTree, forest as list_forest}
 use Rattle.wt_blocks.specs.Nesting.{ListLine, numbered, is_definition, same_list, is_list_sign, sign_of, one_list, goes_on, one_item, without_sign, node_of, item_by as nested_item, items_by, list_by, lists as nested_lists, nested}
@@ -25,17 +24,15 @@ use Rattle.wt_inline.specs.ItemTree.{plain, forest}
 use Rattle.wt_inline.specs.Parts.{Part, children}
 use Rattle.wt_context.specs.Line.{line_parts}
 use Rattle.wt_body.specs.Rows.{Row, unwritten_end, signs}
-use Rattle.wt_body.specs.Stretches.{Stretch, gap, block_len, enclosed}
+use Rattle.wt_body.specs.Stretches.{Stretch, gap, enclosed}
 use Rattle.wt_body.specs.Lists.{prefix_of, with_blanks, item_opening_len, term_len, colon_at, item_kind, list_kind, term, item_by, line_item, begins_at, row_at, list_stretches, all_lists, prefixes, lists}
-use Rattle.wt_page_round_trip.proofs.OfPage.{IsPageItem, ArePageItems}
-use Rattle.wt_page_round_trip.proofs.PageLines.{all_left, all_right, all_both, all_taken, all_dropped}
-use Rattle.wt_page_round_trip.proofs.PageNodes.{AreSources, no_sources}
-use Rattle.wt_page_round_trip.proofs.ContextParts.{items_sources}
+use Rattle.wt_page_round_trip.proofs.OfPage.{ArePageItems, no_page_items}
+use Rattle.wt_page_round_trip.proofs.PageLines.{all_left, all_right, all_both}
 use Rattle.wt_page_round_trip.proofs.BodyParts.{inline_held}
 use Rattle.wt_page_round_trip.proofs.Boxes.{IsInside, IsBox, box_written}
-use Rattle.wt_page_round_trip.proofs.Stretched.{StandsIn, IsBlockIn, IsPlaced, ArePlaced, IsHolder, holder_enclosed}
-use Rattle.wt_page_round_trip.proofs.Unbroken.{AreLineItems}
-use Rattle.wt_page_round_trip.proofs.Contents.{IsBordered, IsBreakGap, line_inside, line_opened, breaks_first, blocks_enclosed}
+use Rattle.wt_page_round_trip.proofs.Stretched.{StandsIn, IsPlaced, ArePlaced, IsHolder, holder_enclosed}
+use Rattle.wt_page_round_trip.proofs.Separated.{IsNodeIn}
+use Rattle.wt_page_round_trip.proofs.Contents.{IsBordered, line_inside, line_opened, blocks_enclosed}
 use Rattle.wt_page_round_trip.proofs.GoodRows.{IsGap, IsGoodRow, AreGoodRows}
 use Rattle.wt_page_round_trip.proofs.ListOpenings.{opening_cut, colon_sign, AreTermParts, term_parts}
 
@@ -134,9 +131,9 @@ unfolding spelling
 list_box c = by_test (c == 42) (c == 35)
   where
     by_test : (a b : Bool) → IsBox (if a then kind.Ul else if b then kind.Ol else kind.Dl) [] [] []
-    by_test true b = record { attrs = refl; opening = no_sources; closing = no_sources }
-    by_test false true = record { attrs = refl; opening = no_sources; closing = no_sources }
-    by_test false false = record { attrs = refl; opening = no_sources; closing = no_sources }
+    by_test true b = record { attrs = refl; opening = no_page_items; closing = no_page_items }
+    by_test false true = record { attrs = refl; opening = no_page_items; closing = no_page_items }
+    by_test false false = record { attrs = refl; opening = no_page_items; closing = no_page_items }
 
 list_stands : (parent : Kind) → HoldsLists parent → (c : ℕ) → StandsIn parent (list_kind c)
 list_stands parent h c = by_test (c == 42) (c == 35)
@@ -154,37 +151,22 @@ item_bordered c = by_test (c == 59) (c == 58)
     by_test false true = dd_bordered
     by_test false false = li_bordered
 
-item_box : (c : ℕ) (opening : List Item) → AreSources opening → IsBox (item_kind c) [] opening []
+item_box : (c : ℕ) (opening : List Item) → ArePageItems opening → IsBox (item_kind c) [] opening []
 unfolding spelling
 item_box c opening u = by_test (c == 59) (c == 58)
   where
     by_test : (a b : Bool) → IsBox (if a then kind.Dt else if b then kind.Dd else kind.Li) [] opening []
-    by_test true b = record { attrs = refl; opening = u; closing = no_sources }
-    by_test false true = record { attrs = refl; opening = u; closing = no_sources }
-    by_test false false = record { attrs = refl; opening = u; closing = no_sources }
+    by_test true b = record { attrs = refl; opening = u; closing = no_page_items }
+    by_test false true = record { attrs = refl; opening = u; closing = no_page_items }
+    by_test false false = record { attrs = refl; opening = u; closing = no_page_items }
 
 item_lists : (c : ℕ) → HoldsLists (item_kind c)
 item_lists c = by_test (c == 59) (c == 58)
   where
     by_test : (a b : Bool) → HoldsLists (if a then kind.Dt else if b then kind.Dd else kind.Li)
-    by_test true b = record {
-      ul = record { held = refl; shows = λ e. refl };
-      ol = record { held = refl; shows = λ e. refl };
-      dl = record
-          { held = refl; shows = λ e. refl };
-    }
-    by_test false true = record {
-      ul = record { held = refl; shows = λ e. refl };
-      ol = record { held = refl; shows = λ e. refl };
-      dl = record
-          { held = refl; shows = λ e. refl };
-    }
-    by_test false false = record {
-      ul = record { held = refl; shows = λ e. refl };
-      ol = record { held = refl; shows = λ e. refl };
-      dl = record
-          { held = refl; shows = λ e. refl };
-    }
+    by_test true b = record { ul = refl; ol = refl; dl = refl }
+    by_test false true = record { ul = refl; ol = refl; dl = refl }
+    by_test false false = record { ul = refl; ol = refl; dl = refl }
 
 -- a list holds the items of its sign
 fits : (c : ℕ) → is_list_sign c ≡ true → may_hold (list_kind c) (item_kind c) ≡ true
@@ -199,10 +181,7 @@ fits c e = by_test (c == 42) (c == 35) (c == 59) (c == 58) refl refl refl refl e
     by_test false false false false g h i j e = absurd cc
 
 item_stands : (c d : ℕ) → is_list_sign d ≡ true → list_kind d ≡ list_kind c → StandsIn (list_kind c) (item_kind d)
-item_stands c d l e = record {
-  held = subst (λ q. may_hold q (item_kind d) ≡ true) e (fits d l);
-  shows = λ f. absurd (let g = sym (list_holder c).holds.texts ∙ f in cc);
-}
+item_stands c d l e = subst (λ q. may_hold q (item_kind d) ≡ true) e (fits d l)
 
 definition_kind : (c : ℕ) → is_definition c ≡ true → list_kind c ≡ kind.Dl
 definition_kind c e = by_test (c == 59) (c == 58) refl refl e
@@ -223,13 +202,6 @@ same_kind c d e = by_test (c == d) (is_definition c) (is_definition d) refl refl
 
 -- ---- an item with what stands on its line
 
-pub line_items : (xs : List Item) → ArePageItems xs → IsUnbroken xs → AreLineItems xs
-line_items xs h u = both xs h.page u
-  where
-    both : (ys : List Item) → AllByRecursion IsPageItem ys → IsUnbroken ys → AreLineItems ys
-    both [] a b = tt
-    both (y ∷ ys) a b = ((a.0, b.0), both ys a.1 b.1)
-
 -- a term ends at a `:`
 some_term : (d n : ℕ) (xs : List Item) → term_len d xs ≡ Some n → (d ≡ 59) × (get_or (signs xs) n 0 ≡ 58)
 some_term d n xs e = by_test (d == 59) (nat_lt (colon_at xs) (length xs)) refl refl e
@@ -242,51 +214,43 @@ some_term d n xs e = by_test (d == 59) (nat_lt (colon_at xs) (length xs)) refl r
     by_test true false f g e = absurd cc
     by_test false b f g e = absurd cc
 
-term_in : (k : ℕ) (parent : Kind) (opening xs : List Item) → ArePageItems opening → ArePageItems xs → IsUnbroken xs → k < 141 → StandsIn parent kind.Dt
-    → IsBlockIn k parent (term opening xs)
-term_in k parent opening xs o h u small s =
+term_in : (k : ℕ) (parent : Kind) (opening xs : List Item) → ArePageItems opening → ArePageItems xs → k < 141 → StandsIn parent kind.Dt
+    → IsNodeIn k parent (term opening xs)
+term_in k parent opening xs o h small s =
     let inside : IsInside (suc k) kind.Dt (forest (children (line_parts xs))) =
     subst (λ (ps : List Part). IsInside (suc k) kind.Dt (forest (children ps))) (append-nil (line_parts xs))
-    (line_inside (suc k) kind.Dt dt_bordered (omega (arith, small)) xs h (line_items xs h u) [] tt tt) in (
-      (
-        box_written k parent kind.Dt dt_bordered.round [] opening [] (item_box 59 opening (items_sources opening o)) (forest (children (line_parts xs)))
-            (omega (arith, small)) s.held inside,
-        refl,
-      ),
-      s.shows,
+    (line_inside (suc k) kind.Dt dt_bordered (omega (arith, small)) xs h [] tt) in (
+      box_written k parent kind.Dt dt_bordered.round [] opening [] (item_box 59 opening o) (forest (children (line_parts xs))) (omega (arith, small)) s inside,
+      refl,
     )
 
 -- an item, by where its term ends, with lists behind its line
 item_placed : (k : ℕ) (c d : ℕ) → is_list_sign d ≡ true → list_kind d ≡ list_kind c → (n : Option ℕ) (opening xs : List Item) → ArePageItems opening
-    → ArePageItems xs → IsUnbroken xs → term_len d xs ≡ n → (e : List Item) → (ss : List Stretch) → IsGap e → IsBreakGap e ⊎ (block_len ss ≡ 0)
+    → ArePageItems xs → term_len d xs ≡ n → (e : List Item) → (ss : List Stretch) → IsGap e
     → ((q : Kind) → HoldsLists q → ArePlaced (suc k) q ss) → k < 141 → ArePlaced k (list_kind c) (item_by d n opening xs (gap e ∷ ss))
-item_placed k c d l same None opening xs o h u is e ss g f a small =
-    line_opened k (list_kind c) (item_kind d) (item_bordered d) [] opening (item_box d opening (items_sources opening o)) xs h (line_items xs h u)
-    (gap e ∷ ss) (g, a (item_kind d) (item_lists d)) (breaks_first e ss f) small (item_stands c d l same)
-item_placed k c d l same (Some n) opening xs o h u is e ss g f a small =
+item_placed k c d l same None opening xs o h is e ss g a small =
+    line_opened k (list_kind c) (item_kind d) (item_bordered d) [] opening (item_box d opening o) xs h (gap e ∷ ss)
+    (g, a (item_kind d) (item_lists d)) small (item_stands c d l same)
+item_placed k c d l same (Some n) opening xs o h is e ss g a small =
     let q : (d ≡ 59) × (get_or (signs xs) n 0 ≡ 58) = some_term d n xs is in
     let t : AreTermParts xs n = term_parts xs n h q.1 in
     let definitions : list_kind 59 ≡ list_kind c = subst (λ x. list_kind x ≡ list_kind c) q.0 same in
     let rest : List Item = drop n xs in
-    let m : ℕ = with_blanks 1 rest in
-    let unbroken : IsUnbroken (drop m rest) = all_dropped (λ x. is_break_item x ≡ false) m rest (all_dropped (λ x. is_break_item x ≡ false) n xs u) in (
-      term_in k (list_kind c) opening (take n xs) o t.term (all_taken (λ x. is_break_item x ≡ false) n xs u) small (item_stands c 59 refl definitions),
-      line_opened k (list_kind c) kind.Dd dd_bordered [] (take m rest) (item_box 58 (take m rest) (items_sources (take m rest) t.colon)) (drop m rest) t.rest
-          (line_items (drop m rest) t.rest unbroken) (gap e ∷ ss) (g, a kind.Dd (item_lists 58)) (breaks_first e ss f) small
-          (item_stands c 58 refl definitions),
+    let m : ℕ = with_blanks 1 rest in (
+      term_in k (list_kind c) opening (take n xs) o t.term small (item_stands c 59 refl definitions),
+      line_opened k (list_kind c) kind.Dd dd_bordered [] (take m rest) (item_box 58 (take m rest) t.colon) (drop m rest) t.rest (gap e ∷ ss)
+          (g, a kind.Dd (item_lists 58)) small (item_stands c 58 refl definitions),
     )
 
-line_placed : (k c d : ℕ) → is_list_sign d ≡ true → list_kind d ≡ list_kind c → (r : Row) → IsGoodRow r → IsUnbroken r.items → (ss : List Stretch)
-    → IsBreakGap r.ending ⊎ (block_len ss ≡ 0) → ((q : Kind) → HoldsLists q → ArePlaced (suc k) q ss) → k < 141
-    → ArePlaced k (list_kind c) (line_item d r ss)
+line_placed : (k c d : ℕ) → is_list_sign d ≡ true → list_kind d ≡ list_kind c → (r : Row) → IsGoodRow r → (ss : List Stretch)
+    → ((q : Kind) → HoldsLists q → ArePlaced (suc k) q ss) → k < 141 → ArePlaced k (list_kind c) (line_item d r ss)
 unfolding line_item
-line_placed k c d l same r g u ss f a small =
+line_placed k c d l same r g ss a small =
     let n : ℕ = item_opening_len r.items in
     let xs : List Item = drop n r.items in
     let cut : ArePageItems (take n r.items) × ArePageItems xs = opening_cut r.items g.items in (
       g.lead,
-      item_placed k c d l same (term_len d xs) (take n r.items) xs cut.0 cut.1 (all_dropped (λ x. is_break_item x ≡ false) n r.items u) refl
-          r.ending ss g.ending f a small,
+      item_placed k c d l same (term_len d xs) (take n r.items) xs cut.0 cut.1 refl r.ending ss g.ending a small,
     )
 
 -- ---- lines of lists
@@ -294,7 +258,6 @@ line_placed k c d l same r g u ss f a small =
 -- a line by its number: its row, and signs of lists
 pub record IsListLine (rs : List Row) (l : ListLine) : Type 0 where
   pub row : IsGoodRow (row_at rs l.number)
-  pub unbroken : IsUnbroken (row_at rs l.number).items
   pub some : 0 < length l.prefix
   pub signs : list_all is_list_sign l.prefix ≡ true
 
@@ -303,30 +266,6 @@ AreListLines rs ls = AllByRecursion (IsListLine rs) ls
 
 abbrev AreShort : ℕ → List ListLine → Type 0
 AreShort n ls = AllByRecursion (λ l. length l.prefix ≤ n) ls
-
--- all but the last end with a line break
-abbrev AreEnded : List Row → List ListLine → Type 0
-AreEnded rs [] = Unit {0}
-AreEnded rs (l ∷ []) = Unit {0}
-AreEnded rs (l ∷ m ∷ ls) = IsBreakGap (row_at rs l.number).ending × AreEnded rs (m ∷ ls)
-
-ended_front : (rs : List Row) (ls ms : List ListLine) → AreEnded rs (ls ++ ms) → AreEnded rs ls
-ended_front rs [] ms h = tt
-ended_front rs (l ∷ []) ms h = tt
-ended_front rs (l ∷ m ∷ ls) ms h = (h.0, ended_front rs (m ∷ ls) ms h.1)
-
-ended_behind : (rs : List Row) (l : ListLine) (ls : List ListLine) → AreEnded rs (l ∷ ls) → AreEnded rs ls
-ended_behind rs l [] h = tt
-ended_behind rs l (m ∷ ls) h = h.1
-
-ended_back : (rs : List Row) (ls ms : List ListLine) → AreEnded rs (ls ++ ms) → AreEnded rs ms
-ended_back rs [] ms h = h
-ended_back rs (l ∷ ls) ms h = ended_back rs ls ms (ended_behind rs l (ls ++ ms) h)
-
-ended_inner : (rs : List Row) (ls : List ListLine) → AreEnded rs ls → AreEnded rs (map without_sign ls)
-ended_inner rs [] h = tt
-ended_inner rs (l ∷ []) h = tt
-ended_inner rs (l ∷ m ∷ ls) h = (h.0, ended_inner rs (m ∷ ls) h.1)
 
 abbrev AllGoOn : List ListLine → Type 0
 AllGoOn ls = AllByRecursion (λ l. goes_on l ≡ true) ls
@@ -360,7 +299,7 @@ short_inner n (l ∷ ls) h f = ((short_less n l h.0 f.0).0, short_inner n ls h.1
 lines_inner : (rs : List Row) (n : ℕ) (ls : List ListLine) → AllGoOn ls → AreShort (suc n) ls → AreListLines rs ls → AreListLines rs (map without_sign ls)
 lines_inner rs n [] h f a = tt
 lines_inner rs n (l ∷ ls) h f a = (
-  record { row = a.0.row; unbroken = a.0.unbroken; some = (short_less n l h.0 f.0).2; signs = signs_less l.prefix a.0.signs },
+  record { row = a.0.row; some = (short_less n l h.0 f.0).2; signs = signs_less l.prefix a.0.signs },
   lines_inner rs n ls h.1 f.1 a.1,
 )
 
@@ -387,32 +326,22 @@ begins_here (suc n) x xs h = first_is (nested_lists n) x (runs one_list xs) x.nu
 
 -- lines whose prefixes have at most so many signs make lists that are written
 abbrev IsNest : List Row → ℕ → Type 0
-IsNest rs n = (k : ℕ) (q : Kind) → HoldsLists q → k + 2 * n < 142 → (ls : List ListLine) → AreListLines rs ls → AreShort n ls → AreEnded rs ls
+IsNest rs n = (k : ℕ) (q : Kind) → HoldsLists q → k + 2 * n < 142 → (ls : List ListLine) → AreListLines rs ls → AreShort n ls
     → ArePlaced k q (all_lists rs (list_forest (nested_lists n ls)))
 
-none_nested : (rs : List Row) (n : ℕ) → all_lists rs (list_forest (nested_lists n [])) ≡ []
-none_nested rs zero = refl
-none_nested rs (suc n) = refl
-
-lists_behind : (rs : List Row) (n : ℕ) (l : ListLine) (ms : List ListLine) → AreEnded rs (l ∷ ms)
-    → IsBreakGap (row_at rs l.number).ending ⊎ (block_len (all_lists rs (list_forest (nested_lists n (map without_sign ms)))) ≡ 0)
-lists_behind rs n l [] h = inr (ap block_len (none_nested rs n))
-lists_behind rs n l (m ∷ ms) h = inl h.0
-
 item_by_lines : (rs : List Row) (n : ℕ) → IsNest rs n → (k c : ℕ) → suc k + 2 * n < 142 → (l : ListLine) (ms : List ListLine) (v : Bool) → goes_on l ≡ v
-    → AllGoOn ms → AreListLines rs (l ∷ ms) → AreShort (suc n) (l ∷ ms) → AreEnded rs (l ∷ ms) → list_kind (sign_of l) ≡ list_kind c
+    → AllGoOn ms → AreListLines rs (l ∷ ms) → AreShort (suc n) (l ∷ ms) → list_kind (sign_of l) ≡ list_kind c
     → ArePlaced k (list_kind c)
     (list_stretches rs (node_of true (l ∷ ms) (nested_lists n (map without_sign (cond v (l ∷ filter goes_on ms) (filter goes_on ms))))))
-item_by_lines rs n h k c small l ms true e g a f w same =
+item_by_lines rs n h k c small l ms true e g a f same =
     let ls : List ListLine = map without_sign (l ∷ ms) in
     let sign : is_list_sign (sign_of l) ≡ true = first_sign l.prefix a.0.some a.0.signs in
     rw (all_stay ms g) (rw (begins_here n (without_sign l) (map without_sign ms) (short_less n l e f.0).1)
-    (blocks_enclosed k (list_kind c) (item_kind (sign_of l)) (item_bordered (sign_of l)) (item_box (sign_of l) [] no_sources)
+    (blocks_enclosed k (list_kind c) (item_kind (sign_of l)) (item_bordered (sign_of l)) (item_box (sign_of l) [] no_page_items)
     (all_lists rs (list_forest (nested_lists n ls)))
-    (h (suc k) (item_kind (sign_of l)) (item_lists (sign_of l)) small ls (lines_inner rs n (l ∷ ms) (e, g) f a) (short_inner n (l ∷ ms) (e, g) f)
-    (ended_inner rs (l ∷ ms) w))
+    (h (suc k) (item_kind (sign_of l)) (item_lists (sign_of l)) small ls (lines_inner rs n (l ∷ ms) (e, g) f a) (short_inner n (l ∷ ms) (e, g) f))
     (omega (arith, small)) (item_stands c (sign_of l) sign same)))
-item_by_lines rs n h k c small l ms false e g a f w same = rw (all_stay ms g)
+item_by_lines rs n h k c small l ms false e g a f same = rw (all_stay ms g)
     (by_test (begins_at l.number (list_forest (nested_lists n (map without_sign ms)))))
   where
     ls : List ListLine
@@ -422,36 +351,35 @@ item_by_lines rs n h k c small l ms false e g a f w same = rw (all_stay ms g)
     sign = first_sign l.prefix a.0.some a.0.signs
 
     inner : (q : Kind) → HoldsLists q → ArePlaced (suc k) q (all_lists rs (list_forest (nested_lists n ls)))
-    inner q i = h (suc k) q i small ls (lines_inner rs n ms g f.1 a.1) (short_inner n ms g f.1) (ended_inner rs ms (ended_behind rs l ms w))
+    inner q i = h (suc k) q i small ls (lines_inner rs n ms g f.1 a.1) (short_inner n ms g f.1)
 
     by_test : (t : Bool) → ArePlaced k (list_kind c)
         (if t then enclosed (plain (item_kind (sign_of l))) (all_lists rs (list_forest (nested_lists n ls)))
         else line_item (sign_of l) (row_at rs l.number) (all_lists rs (list_forest (nested_lists n ls))))
-    by_test true = blocks_enclosed k (list_kind c) (item_kind (sign_of l)) (item_bordered (sign_of l)) (item_box (sign_of l) [] no_sources)
+    by_test true = blocks_enclosed k (list_kind c) (item_kind (sign_of l)) (item_bordered (sign_of l)) (item_box (sign_of l) [] no_page_items)
         (all_lists rs (list_forest (nested_lists n ls))) (inner (item_kind (sign_of l)) (item_lists (sign_of l)))
         (omega (arith, small)) (item_stands c (sign_of l) sign same)
-    by_test false = line_placed k c (sign_of l) sign same (row_at rs l.number) a.0.row a.0.unbroken (all_lists rs (list_forest (nested_lists n ls)))
-        (lists_behind rs n l ms w) inner (omega (arith, small))
+    by_test false = line_placed k c (sign_of l) sign same (row_at rs l.number) a.0.row (all_lists rs (list_forest (nested_lists n ls))) inner
+        (omega (arith, small))
 
 abbrev OfKind : ℕ → List ListLine → Type 0
 OfKind c ls = AllByRecursion (λ l. list_kind (sign_of l) ≡ list_kind c) ls
 
 items_placed : (rs : List Row) (n : ℕ) → IsNest rs n → (k c : ℕ) → suc k + 2 * n < 142 → (qs : List (List ListLine)) (ls : List ListLine)
-    → AreRuns one_item qs ls → AreListLines rs ls → AreShort (suc n) ls → AreEnded rs ls → OfKind c ls
+    → AreRuns one_item qs ls → AreListLines rs ls → AreShort (suc n) ls → OfKind c ls
     → ArePlaced k (list_kind c) (all_lists rs (list_forest (map (nested_item (nested_lists n)) qs)))
-items_placed rs n h k c small [] ls r a f w o = tt
-items_placed rs n h k c small ([] ∷ qs) ls r a f w o = absurd r.2
-items_placed rs n h k c small ((l ∷ ms) ∷ qs) ls (others, e, run, rest) a f w o =
+items_placed rs n h k c small [] ls r a f o = tt
+items_placed rs n h k c small ([] ∷ qs) ls r a f o = absurd r.2
+items_placed rs n h k c small ((l ∷ ms) ∷ qs) ls (others, e, run, rest) a f o =
     let lines : AreListLines rs ((l ∷ ms) ++ others) = subst (AreListLines rs) e a in
     let short : AreShort (suc n) ((l ∷ ms) ++ others) = subst (AreShort (suc n)) e f in
-    let ended : AreEnded rs ((l ∷ ms) ++ others) = subst (AreEnded rs) e w in
     let kinds : OfKind c ((l ∷ ms) ++ others) = subst (OfKind c) e o in
     all_both (IsPlaced k (list_kind c)) (list_stretches rs (nested_item (nested_lists n) (l ∷ ms)))
     (all_lists rs (list_forest (map (nested_item (nested_lists n)) qs)))
     (item_by_lines rs n h k c small l ms (goes_on l) refl (run_goes_on l ms others run) (all_left (IsListLine rs) (l ∷ ms) others lines)
-    (all_left (λ x. length x.prefix ≤ suc n) (l ∷ ms) others short) (ended_front rs (l ∷ ms) others ended) kinds.0)
+    (all_left (λ x. length x.prefix ≤ suc n) (l ∷ ms) others short) kinds.0)
     (items_placed rs n h k c small qs others rest (all_right (IsListLine rs) (l ∷ ms) others lines)
-    (all_right (λ x. length x.prefix ≤ suc n) (l ∷ ms) others short) (ended_back rs (l ∷ ms) others ended)
+    (all_right (λ x. length x.prefix ≤ suc n) (l ∷ ms) others short)
     (all_right (λ x. list_kind (sign_of x) ≡ list_kind c) (l ∷ ms) others kinds))
 
 kinds_on : (c : ℕ) (l : ListLine) (ls others : List ListLine) → list_kind (sign_of l) ≡ list_kind c → IsRun one_list (l ∷ ls) others → OfKind c (l ∷ ls)
@@ -459,39 +387,32 @@ kinds_on c l [] others e h = (e, tt)
 kinds_on c l (m ∷ ls) others e h = (e, kinds_on c m ls others (same_kind (sign_of l) (sign_of m) h.0 ∙ e) h.1)
 
 lists_by_runs : (rs : List Row) (n : ℕ) → IsNest rs n → (k : ℕ) (q : Kind) → HoldsLists q → k + 2 * suc n < 142 → (gs : List (List ListLine))
-    (ls : List ListLine) → AreRuns one_list gs ls → AreListLines rs ls → AreShort (suc n) ls → AreEnded rs ls
+    (ls : List ListLine) → AreRuns one_list gs ls → AreListLines rs ls → AreShort (suc n) ls
     → ArePlaced k q (all_lists rs (list_forest (map (list_by (nested_lists n)) gs)))
-lists_by_runs rs n h k q i small [] ls r a f w = tt
-lists_by_runs rs n h k q i small ([] ∷ gs) ls r a f w = absurd r.2
-lists_by_runs rs n h k q i small ((l ∷ ms) ∷ gs) ls (others, e, run, rest) a f w =
+lists_by_runs rs n h k q i small [] ls r a f = tt
+lists_by_runs rs n h k q i small ([] ∷ gs) ls r a f = absurd r.2
+lists_by_runs rs n h k q i small ((l ∷ ms) ∷ gs) ls (others, e, run, rest) a f =
     let lines : AreListLines rs ((l ∷ ms) ++ others) = subst (AreListLines rs) e a in
     let short : AreShort (suc n) ((l ∷ ms) ++ others) = subst (AreShort (suc n)) e f in
-    let ended : AreEnded rs ((l ∷ ms) ++ others) = subst (AreEnded rs) e w in
     let c : ℕ = sign_of l in
     all_both (IsPlaced k q) (list_stretches rs (list_by (nested_lists n) (l ∷ ms))) (all_lists rs (list_forest (map (list_by (nested_lists n)) gs)))
     (holder_enclosed k q (list_kind c) (list_holder c) (list_box c) (all_lists rs (list_forest (items_by (nested_lists n) (l ∷ ms))))
     (omega (arith, small)) (list_stands q i c)
     (items_placed rs n h (suc k) c (omega (arith, small)) (runs one_item (l ∷ ms)) (l ∷ ms) (runs_are one_item (l ∷ ms))
     (all_left (IsListLine rs) (l ∷ ms) others lines) (all_left (λ x. length x.prefix ≤ suc n) (l ∷ ms) others short)
-    (ended_front rs (l ∷ ms) others ended) (kinds_on c l ms others refl run)))
+    (kinds_on c l ms others refl run)))
     (lists_by_runs rs n h k q i small gs others rest (all_right (IsListLine rs) (l ∷ ms) others lines)
-    (all_right (λ x. length x.prefix ≤ suc n) (l ∷ ms) others short) (ended_back rs (l ∷ ms) others ended))
+    (all_right (λ x. length x.prefix ≤ suc n) (l ∷ ms) others short))
 
 nest_placed : (rs : List Row) (n : ℕ) → IsNest rs n
-nest_placed rs zero k q i small ls a f w = tt
-nest_placed rs (suc n) k q i small ls a f w = lists_by_runs rs n (nest_placed rs n) k q i small (runs one_list ls) ls (runs_are one_list ls) a f w
+nest_placed rs zero k q i small ls a f = tt
+nest_placed rs (suc n) k q i small ls a f = lists_by_runs rs n (nest_placed rs n) k q i small (runs one_list ls) ls (runs_are one_list ls) a f
 
 -- ---- all rows
 
 -- the row of a list
 abbrev pub IsListRow : Row → Type 0
-IsListRow r = IsUnbroken r.items × (is_list (signs r.items) ≡ true)
-
--- all rows but the last end with a line break
-abbrev pub RowsEnd : List Row → Type 0
-RowsEnd [] = Unit {0}
-RowsEnd (r ∷ []) = Unit {0}
-RowsEnd (r ∷ s ∷ rs) = IsBreakGap r.ending × RowsEnd (s ∷ rs)
+IsListRow r = is_list (signs r.items) ≡ true
 
 front_all : (p : ℕ → Bool) (n : ℕ) (ss : List ℕ) → n ≤ prefix_len p ss → list_all p (take n ss) ≡ true
 front_all p zero ss le = refl
@@ -530,58 +451,25 @@ list_prefix xs e =
     let b = some.1 in
     (omega (arith, n, a, b), omega (arith, n), front_all is_list_sign m (signs xs) (omega arith))
 
--- a row ends with a line break where another follows
-abbrev IsEndedBefore : Row → List Row → Type 0
-IsEndedBefore r [] = Unit {0}
-IsEndedBefore r (s ∷ rs) = IsBreakGap r.ending
-
-ends_first : (r : Row) (rs : List Row) → RowsEnd (r ∷ rs) → IsEndedBefore r rs
-ends_first r [] e = tt
-ends_first r (s ∷ rs) e = e.0
-
-ended_on : (all : List Row) (n : ℕ) (p : List ℕ) (rs : List Row) → IsEndedBefore (row_at all n) rs → AreEnded all (numbered (suc n) (prefixes rs))
-    → AreEnded all (numbered n (p ∷ prefixes rs))
-ended_on all n p [] e h = tt
-ended_on all n p (r ∷ rs) e h = (e, h)
-
-lines_numbered : (before rs : List Row) → AreGoodRows rs → AllByRecursion IsListRow rs → RowsEnd rs
+lines_numbered : (before rs : List Row) → AreGoodRows rs → AllByRecursion IsListRow rs
     → AreListLines (before ++ rs) (numbered (length before) (prefixes rs)) × AreShort 32 (numbered (length before) (prefixes rs))
-    × AreEnded (before ++ rs) (numbered (length before) (prefixes rs))
-lines_numbered before [] g a e = (tt, tt, tt)
-lines_numbered before (r ∷ rs) g a e =
+lines_numbered before [] g a = (tt, tt)
+lines_numbered before (r ∷ rs) g a =
     let next : List Row = before ++ (r ∷ []) in
     let whole : next ++ rs ≡ before ++ r ∷ rs = append_assoc before (r ∷ []) rs in
     let len : length next ≡ suc (length before) = length-append before (r ∷ []) ∙ omega arith in
-    let p = list_prefix r.items a.0.1 in
+    let p = list_prefix r.items a.0 in
     let at : row_at (before ++ r ∷ rs) (length before) ≡ r = get_or-append_seam before r rs unwritten_end in
-    let later = lines_numbered next rs g.1 a.1 (ends_later r rs e) in
+    let later = lines_numbered next rs g.1 a.1 in
     let lines : AreListLines (before ++ r ∷ rs) (numbered (suc (length before)) (prefixes rs)) =
     subst (λ (all : List Row). AreListLines all (numbered (suc (length before)) (prefixes rs))) whole
     (subst (λ n. AreListLines (next ++ rs) (numbered n (prefixes rs))) len later.0) in
     let short : AreShort 32 (numbered (suc (length before)) (prefixes rs)) = subst (λ n. AreShort 32 (numbered n (prefixes rs))) len later.1 in
-    let ended : AreEnded (before ++ r ∷ rs) (numbered (suc (length before)) (prefixes rs)) =
-    subst (λ (all : List Row). AreEnded all (numbered (suc (length before)) (prefixes rs))) whole
-    (subst (λ n. AreEnded (next ++ rs) (numbered n (prefixes rs))) len later.2) in (
-      (
-        record {
-          row = subst IsGoodRow (sym at) g.0;
-          unbroken = subst (λ (x : Row). IsUnbroken x.items) (sym at) a.0.0;
-          some = p.0;
-          signs = p.2;
-        },
-        lines,
-      ),
-      (p.1, short),
-      ended_on (before ++ r ∷ rs) (length before) (prefix_of r.items) rs (subst (λ (x : Row). IsEndedBefore x rs) (sym at) (ends_first r rs e)) ended,
-    )
-  where
-    ends_later : (r : Row) (rs : List Row) → RowsEnd (r ∷ rs) → RowsEnd rs
-    ends_later r [] e = tt
-    ends_later r (s ∷ rs) e = e.1
+    ((record { row = subst IsGoodRow (sym at) g.0; some = p.0; signs = p.2 }, lines), (p.1, short))
 
-pub lists_placed : (k : ℕ) (q : Kind) → HoldsLists q → k < 78 → (rs : List Row) → AreGoodRows rs → AllByRecursion IsListRow rs → RowsEnd rs
+pub lists_placed : (k : ℕ) (q : Kind) → HoldsLists q → k < 78 → (rs : List Row) → AreGoodRows rs → AllByRecursion IsListRow rs
     → ArePlaced k q (lists rs)
 unfolding lists nested
-lists_placed k q i small rs g a e =
-    let h = lines_numbered [] rs g a e in
-    nest_placed rs 32 k q i (omega (arith, small)) (numbered 0 (prefixes rs)) h.0 h.1 h.2
+lists_placed k q i small rs g a =
+    let h = lines_numbered [] rs g a in
+    nest_placed rs 32 k q i (omega (arith, small)) (numbered 0 (prefixes rs)) h.0 h.1

@@ -8,7 +8,7 @@ use Rattle.wt_span.specs.Cuts.{source_of_call}
 use Rattle.wt_span.specs.Items.{Item, char, whole, sources}
 use Rattle.wt_span.specs.Origins.{OuterCall}
 use Rattle.wt_ranges.specs.Seams.{parted, text_from}
-use Rattle.wt_page_round_trip.proofs.TextItems.{CanCut, cut_at}
+use Rattle.wt_page_round_trip.proofs.TextItems.{CanCut, cut_at, cut_end, more_cut}
 use Rattle.wt_page_round_trip.specs.GroupTexts.{IsPageCall, ArePageCalls, AreOwnTexts}
 
 -- ---- where items are cut
@@ -23,17 +23,6 @@ lead_cut r b h t u =
     let border : IsCharBoundary (r ++ b ∷ t) (length r) =
     (omega (arith, length-append r (b ∷ t)), λ s f. subst (λ (x : ℕ). 192 ≤ x) (sym e) (h (subst (λ (x : ℕ). 128 ≤ x) e f))) in
     cut_at r (b ∷ t) u border
-
-more_cut : (r s : List ℕ) (b : ℕ) → CanCut r s → CanCut r (s ++ b ∷ [])
-more_cut r s b h t u =
-    let e : (s ++ b ∷ []) ++ t ≡ s ++ b ∷ t = append_assoc s (b ∷ []) t in
-    let q : IsUtf8 r × IsUtf8 (s ++ b ∷ t) = h (b ∷ t) (subst (λ x. IsUtf8 (r ++ x)) e u) in
-    (q.0, subst IsUtf8 (sym e) q.1)
-
-cut_end : (r s : List ℕ) → CanCut r s → IsUtf8 (r ++ s) → IsUtf8 r × IsUtf8 s
-cut_end r s h t =
-    let q : IsUtf8 r × IsUtf8 (s ++ []) = h [] (subst (λ x. IsUtf8 (r ++ x)) (sym (append-nil s)) t) in
-    (q.0, subst IsUtf8 (append-nil s) q.1)
 
 pub shift : (r s : List ℕ) (xs : List Item) → CanCut r s → AreOwnTexts (r ++ s) xs → IsUtf8 r × AreOwnTexts s xs
 shift r s [] h t = cut_end r s h t

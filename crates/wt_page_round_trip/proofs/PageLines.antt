@@ -1,17 +1,16 @@
--- The lines of a page: texts in UTF-8 and whole forms.
-use Rattle.std.proofs.Common.{◌≡◌, ℕ, suc, ◌+◌, Bool, true, false, List, [], ◌∷◌, ◌++◌, take, drop, IsUtf8, refl, sym, ap, subst, arith, append_assoc, append-nil}
+-- The lines of an expanded page: texts in UTF-8 and whole forms.
+use Rattle.std.proofs.Common.{◌≡◌, ℕ, suc, ◌+◌, Bool, true, false, List, [], ◌∷◌, ◌++◌, take, drop, refl, sym, ap, subst, arith, append-nil}
 use Rattle.std.specs.Prelude.{◌==◌, not, if◌then◌else◌}
 use Rattle.std.specs.List.{AllByRecursion, prefix_len}
 use Rattle.std.proofs.lemmas.Bool.{eqb-true}
 use Rattle.std.proofs.lemmas.List.{take-append-drop}
-use Rattle.std.proofs.lemmas.Str.{IsUtf8-append, IsUtf8-nil}
 use Rattle.wt_tree.specs.Recut.{is_blank as is_white}
 use Rattle.wt_span.specs.Items.{Item, char, whole, is_mark, is_mark_form}
 use Rattle.wt_span.specs.Runs.{IsRun, AreRuns}
 use Rattle.wt_lines.specs.Lines.{is_break_item, goes_on, content}
 use Rattle.wt_headings.specs.Lines.{ending}
-use Rattle.wt_page_round_trip.proofs.TextItems.{AreTexts, BeginsLow, EndsLow, cut_after, cut_items_before}
-use Rattle.wt_page_round_trip.proofs.OfPage.{IsPageItem, AreOfPage, ArePageItems}
+use Rattle.wt_page_round_trip.proofs.TextItems.{AreTexts, BeginsLow, EndsLow, cut_after, cut_items_before, texts_both}
+use Rattle.wt_page_round_trip.proofs.OfPage.{IsPageItem, AreOfPage, ArePageItems, no_page_items}
 
 -- ---- all items of a list
 
@@ -33,17 +32,10 @@ all_taken {A} P n xs h = all_left P (take n xs) (drop n xs) (subst (λ (ys : Lis
 pub all_dropped : {A : Type 0} (P : A → Type 0) (n : ℕ) (xs : List A) → AllByRecursion P xs → AllByRecursion P (drop n xs)
 all_dropped {A} P n xs h = all_right P (take n xs) (drop n xs) (subst (λ (ys : List A). AllByRecursion P ys) (sym (take-append-drop n xs)) h)
 
--- ---- texts that are put together
+-- ---- items one behind another
 
-texts_behind : (run s : List ℕ) (ys : List Item) → IsUtf8 run → AreTexts s ys → AreTexts (run ++ s) ys
-texts_behind run s [] u t = IsUtf8-append run s u t
-texts_behind run s (char o b ∷ ys) u t = subst (λ r. AreTexts r ys) (sym (append_assoc run s (b ∷ []))) (texts_behind run (s ++ b ∷ []) ys u t)
-texts_behind run s (whole f o bs ∷ ys) u t = (IsUtf8-append run s u t.0, t.1)
-
-pub texts_both : (run : List ℕ) (xs ys : List Item) → AreTexts run xs → AreTexts [] ys → AreTexts run (xs ++ ys)
-texts_both run [] ys h t = subst (λ r. AreTexts r ys) (append-nil run) (texts_behind run [] ys h t)
-texts_both run (char o b ∷ xs) ys h t = texts_both (run ++ b ∷ []) xs ys h t
-texts_both run (whole f o bs ∷ xs) ys h t = (h.0, texts_both [] xs ys h.1 t)
+pub both_page : (xs ys : List Item) → ArePageItems xs → ArePageItems ys → ArePageItems (xs ++ ys)
+both_page xs ys h i = record { texts = texts_both [] xs ys h.texts i.texts; page = all_both IsPageItem xs ys h.page i.page }
 
 -- ---- lines
 
@@ -62,10 +54,7 @@ line_ends (x ∷ []) y others h = break_low x (not_goes (is_break_item x) h)
 line_ends (x ∷ z ∷ zs) y others h = line_ends (z ∷ zs) y others h.1
 
 cut_line : (r others : List Item) → IsRun goes_on r others → AreTexts [] (r ++ others) → AreTexts [] r × AreTexts [] others
-cut_line r [] h t = (subst (AreTexts []) (append-nil r) t, cut_none)
-  where
-    cut_none : AreTexts [] []
-    cut_none = (cut_after [] [] tt IsUtf8-nil).1
+cut_line r [] h t = (subst (AreTexts []) (append-nil r) t, no_page_items.texts)
 cut_line r (y ∷ others) h t = cut_after r (y ∷ others) (line_ends r y others h) t
 
 pub page_lines : (rs : List (List Item)) (xs : List Item) → AreRuns goes_on rs xs → AreTexts [] xs → AreOfPage xs → AllByRecursion ArePageItems rs

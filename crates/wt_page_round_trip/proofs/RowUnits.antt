@@ -29,10 +29,6 @@ walk_on : (n d : ℕ) (r : Row) (rs : List Row) (o e : Bool) → is_open r.kind 
 walk_on n d r rs o e f g w =
     subst (λ x. WalkBy x (is_end r.kind) n d (λ y. Walk n y rs)) (sym f) (subst (λ x. WalkBy o x n d (λ y. Walk n y rs)) (sym g) w)
 
-walk_off : (n d : ℕ) (r : Row) (rs : List Row) (o e : Bool) → is_open r.kind ≡ o → is_end r.kind ≡ e → Walk n d (r ∷ rs) → WalkBy o e n d (λ x. Walk n x rs)
-walk_off n d r rs o e f g w =
-    subst (λ x. WalkBy o x n d (λ y. Walk n y rs)) g (subst (λ x. WalkBy x (is_end r.kind) n d (λ y. Walk n y rs)) f w)
-
 -- ---- the end of a table
 
 abbrev end_step : ℕ → (ℕ → ℕ) → ℕ
@@ -218,7 +214,7 @@ units_good rs n w = units_within (length rs) rs n (omega arith) w
 
 -- ---- rows of units
 
-pub end_no_open : (k : LineKind) → is_end k ≡ true → is_open k ≡ false
+end_no_open : (k : LineKind) → is_end k ≡ true → is_open k ≡ false
 end_no_open line.TableEnd e = refl
 end_no_open k e = absurd cc
 

@@ -1,4 +1,4 @@
--- The plain view of written nodes among which is no group fits where the nodes stand, with the texts that it joins.
+-- What nodes show that may stand in a group: it fits where they stand, with the texts that it joins, in elements of their own.
 use Rattle.std.proofs.Common.{◌≡◌, ℕ, suc, ◌<◌, ◌≤◌, Bool, true, false, List, [], ◌∷◌, IsUtf8, refl, sym, ap, ap₂, ◌∙◌, subst, arith}
 use Rattle.std.specs.Prelude.{◌&&◌, ◌||◌, not, if◌then◌else◌}
 use Rattle.std.proofs.lemmas.Bool.{and_parts}
@@ -18,15 +18,16 @@ use Rattle.wt_tree.specs.declared.row.Writing.TheVariants.{AsText, AsVoid, Round
 use Rattle.wt_html_grammar.proofs.Steps.{if_false}
 use Rattle.wt_tree.specs.Elements.{span, as_elements, or_empty_span}
 use Rattle.wt_tree.specs.Kinds.{shape, writing, is_leaf, showing, texts_of_kind, admits, is_anywhere, may_hold, is_block, is_inline, may_follow}
-use Rattle.wt_tree.specs.Plain.{text, element, Plains, ended, along, text_before, shown_before, plain_before, plains_before}
+use Rattle.wt_tree.specs.Plain.{Plain, text, element, face, Plains, ended, along, text_before, shown_before, plain_before, plains_before}
 use Rattle.wt_tree.specs.Recut.{shows_block, any_shows_block}
-use Rattle.wt_tree.specs.Tiling.{is_group, HasNoGroup, NoneIsGroup}
+use Rattle.wt_tree.specs.Tiling.{is_group}
 use Rattle.wt_tree.specs.Tree.{Label, Tree, tree, Trees, none, more}
 use Rattle.wt_fitting.specs.Rows.{holds_page_text, holds_text, shows_text}
-use Rattle.wt_round_trip.specs.GroupNodes.{elements_for, group_nodes, inner_nodes, is_empty_span, in_order}
-use Rattle.wt_round_trip.specs.Written.{shown_of, leaf_kind, HasLeafKind, IsTextIn, IsShown, IsElementLabel, PlainsIn, TopsIn, NodeIsWritten, is_childless, goes_behind, are_ordered, IsCutIn, WrittenIn, AllWrittenIn, IsGroupLabel, IsWrittenGroup}
+use Rattle.wt_round_trip.specs.GroupNodes.{elements_for, group_nodes, inner_nodes, is_empty_span, is_block_face, in_order, all_follow}
+use Rattle.wt_round_trip.specs.Written.{shown_of, leaf_kind, HasLeafKind, IsTextIn, IsShown, IsFace, PlainsIn, TopsIn, is_childless}
 use Rattle.wt_round_trip.proofs.Faces.{is_element}
-use Rattle.wt_page_round_trip.proofs.Bare.{hidden_block, block_held, inline_held, page_takes, separators_take, own_character, none_follows, face_is, leaf_ended, span_is}
+use Rattle.wt_page_round_trip.proofs.ShownNodes.{shows_words, can_follow, are_in_line, IsShownLabel, IsShownElement, NodeIsShown, IsOrdered, IsShownIn, AreShownIn}
+use Rattle.wt_page_round_trip.proofs.ShownKinds.{hidden_block, block_held, inline_held, page_takes, separators_take, own_character, none_follows, shown_element, leaf_ended, span_is}
 
 -- ---- a text before others
 
@@ -36,6 +37,10 @@ text_fits k parent [] ps h u r = r
 text_fits k parent (b ∷ bs) ended h u r = ((h, u, refl), refl, tt)
 text_fits k parent (b ∷ bs) (along (text cs) ps) h u r = ((h, IsUtf8-append (b ∷ bs) cs u r.0.1, refl), r.1, r.2)
 text_fits k parent (b ∷ bs) (along (element f qs) ps) h u r = ((h, u, refl), refl, r)
+
+or_assoc : (a b c : Bool) → (a || (b || c)) ≡ ((a || b) || c)
+or_assoc true b c = refl
+or_assoc false b c = refl
 
 or_none : (b : Bool) → (b || false) ≡ b
 or_none true = refl
@@ -141,31 +146,10 @@ admits_nowiki parent e = record {
   texts = λ f. inline_text parent e;
 }
 
--- ---- nodes that are written, without groups
-
--- the children of an item, a cell or a caption stand in their order
-abbrev pub IsOrdered : Texts → Trees → Type 0
-IsOrdered Separators ts = Unit {0}
-IsOrdered Page ts = Unit {0}
-IsOrdered Bordered ts = are_ordered false ts ≡ true
-IsOrdered OwnCharacter ts = Unit {0}
-
--- A node that is written and is no group, whatever stands beside it: texts may follow one another.
-abbrev mutual
-  pub IsShownIn : ℕ → Kind → Tree → Type 0
-  IsShownIn k q (tree l ts) = NodeIsWritten (writing l.kind) k q l (is_childless ts)
-      (IsOrdered (texts_of_kind l.kind) ts × AreShownIn (suc k) l.kind ts) ⊥
-
-  pub AreShownIn : ℕ → Kind → Trees → Type 0
-  AreShownIn k q none = Unit {0}
-  AreShownIn k q (more t ts) = IsShownIn k q t × AreShownIn k q ts
-
-abbrev IsElementIn : ℕ → Kind → Label → Bool → Type 0 → Type 0
-IsElementIn k q l childless inside =
-    (k < 200) × (may_hold q l.kind ≡ true) × IsElementLabel l × ((not (is_leaf l.kind) || childless) ≡ true) × inside
+-- ---- nodes that are elements
 
 element_by : (w : Writing) (k : ℕ) (q : Kind) (l : Label) (childless : Bool) (inside : Type 0) → is_element w ≡ true
-    → NodeIsWritten w k q l childless inside ⊥ → IsElementIn k q l childless inside
+    → NodeIsShown w k q l childless inside → IsShownElement k q l childless inside
 element_by AsText k q l childless inside e h = absurd cc
 element_by AsVoid k q l childless inside e h = h
 element_by RoundCharacter k q l childless inside e h = h
@@ -176,21 +160,27 @@ group_writing : (k : Kind) → is_group k ≡ true → writing k ≡ Unwritten
 group_writing kind.Group e = refl
 group_writing k e = absurd cc
 
-none_group : (k : ℕ) (q : Kind) (l : Label) (ts : Trees) → IsShownIn k q (tree l ts) → is_group l.kind ≡ false
+pub none_group : (k : ℕ) (q : Kind) (l : Label) (ts : Trees) → IsShownIn k q (tree l ts) → is_group l.kind ≡ false
 none_group k q l ts h = by_group (is_group l.kind) refl
   where
     by_group : (v : Bool) → is_group l.kind ≡ v → v ≡ false
     by_group false e = refl
-    by_group true e = absurd (subst (λ w. NodeIsWritten w k q l (is_childless ts)
-        (IsOrdered (texts_of_kind l.kind) ts × AreShownIn (suc k) l.kind ts) ⊥) (group_writing l.kind e) h)
+    by_group true e =
+        let i : NodeIsShown Unwritten k q l (is_childless ts) (IsOrdered (texts_of_kind l.kind) ts × AreShownIn (suc k) l.kind ts) =
+        subst (λ w. NodeIsShown w k q l (is_childless ts) (IsOrdered (texts_of_kind l.kind) ts × AreShownIn (suc k) l.kind ts))
+        (group_writing l.kind e) h in
+        absurd (let f : true ≡ false = sym e ∙ ap is_group i.0 in cc)
+
+empty_shows : (k : Kind) → k ≡ kind.Empty → showing k ≡ Characters → ⊥
+empty_shows k e s = absurd (let f : Nothing ≡ Characters = ap showing (sym e) ∙ s in cc)
 
 character_by : (w : Writing) (k : ℕ) (q : Kind) (l : Label) (childless : Bool) (inside : Type 0) → writing l.kind ≡ w → showing l.kind ≡ Characters
-    → NodeIsWritten w k q l childless inside ⊥ → (holds_text q ≡ true) × IsUtf8 l.shown
+    → NodeIsShown w k q l childless inside → (holds_text q ≡ true) × IsUtf8 l.shown
 character_by AsText k q l childless inside e s h = text_shown q l h.0 s
 character_by AsVoid k q l childless inside e s h = entity_shown q l s (ap is_element e) h.1 h.2.shown
 character_by RoundCharacter k q l childless inside e s h = entity_shown q l s (ap is_element e) h.1 h.2.shown
 character_by RoundChildren k q l childless inside e s h = entity_shown q l s (ap is_element e) h.1 h.2.shown
-character_by Unwritten k q l childless inside e s h = absurd h
+character_by Unwritten k q l childless inside e s h = absurd (empty_shows l.kind h.0 s)
 
 nowiki_kind : (k : Kind) → showing k ≡ Inside → is_group k ≡ false → k ≡ kind.Nowiki
 nowiki_kind kind.Nowiki e g = refl
@@ -215,11 +205,14 @@ nowiki_element kind.Category e f = (refl, refl)
 nowiki_element kind.Switch e f = (refl, refl)
 nowiki_element k e f = absurd cc
 
+face_is : (l : Label) → showing l.kind ≡ Element → IsShownLabel l → IsFace (face l)
+face_is l e h = record { level = h.level; attrs = h.attrs; shows = shown_element l.kind e }
+
 abbrev InsideOf : ℕ → Label → Trees → Type 0
 InsideOf k l ts = IsOrdered (texts_of_kind l.kind) ts × AreShownIn (suc k) l.kind ts
 
 element_in : (k : ℕ) (q : Kind) (l : Label) (ts : Trees) → showing l.kind ≡ Element → IsShownIn k q (tree l ts)
-    → IsElementIn k q l (is_childless ts) (InsideOf k l ts)
+    → IsShownElement k q l (is_childless ts) (InsideOf k l ts)
 element_in k q l ts e h = element_by (writing l.kind) k q l (is_childless ts) (InsideOf k l ts) (shown_written l.kind e) h
 
 -- a nowiki, and what it holds
@@ -231,11 +224,74 @@ record IsNowiki (k : ℕ) (q : Kind) (l : Label) (ts : Trees) : Type 0 where
 nowiki_in : (k : ℕ) (q : Kind) (l : Label) (ts : Trees) → showing l.kind ≡ Inside → IsShownIn k q (tree l ts) → IsNowiki k q l ts
 nowiki_in k q l ts e h =
     let is : l.kind ≡ kind.Nowiki = nowiki_kind l.kind e (none_group k q l ts h) in
-    let f : IsElementIn k q l (is_childless ts) (InsideOf k l ts) =
+    let f : IsShownElement k q l (is_childless ts) (InsideOf k l ts) =
     element_by (writing l.kind) k q l (is_childless ts) (InsideOf k l ts) (ap (λ x. is_element (writing x)) is) h in
     record { kind = is; held = f.1; inside = f.4.1 }
 
--- ---- the order of what they show
+-- ---- the order of what they show, behind a block or not
+
+-- A text stands here as an inline element, since it gets a `span` where it is in a group.
+abbrev pub stands_behind : Bool → Plain → Bool
+stands_behind b (text bs) = not b
+stands_behind b (element f qs) = may_follow b f.kind
+
+abbrev pub in_line : Bool → Plains → Bool
+in_line b ended = true
+in_line b (along p ps) = stands_behind b p && in_line (b || is_block_face p) ps
+
+line_order : (b : Bool) (ps : Plains) → in_line b ps ≡ true → in_order b ps ≡ true
+line_order b ended o = refl
+line_order b (along (text bs) ps) o = line_order (b || false) ps (and_parts (not b) (in_line (b || false) ps) o).1
+line_order b (along (element f qs) ps) o =
+    let q = and_parts (may_follow b f.kind) (in_line (b || is_block f.kind) ps) o in
+    ap₂ (λ x y. x && y) q.0 (line_order (b || is_block f.kind) ps q.1)
+
+-- so they do as the elements of a group
+or_first : (a c : Bool) → a ≡ true → (a || c) ≡ true
+or_first true c e = refl
+or_first false c e = absurd cc
+
+line_elements : (b : Bool) (ps : Plains) → in_line b ps ≡ true → all_follow b (as_elements ps) ≡ true
+line_elements b ended o = refl
+line_elements b (along (text bs) ps) o =
+    let q = and_parts (not b) (in_line (b || false) ps) o in
+    ap₂ (λ x y. x && y) (or_first (may_follow b span.kind) (is_empty_span span (along (text bs) ended)) (behind_none b q.0))
+    (line_elements (b || false) ps q.1)
+  where
+    behind_none : (c : Bool) → not c ≡ true → may_follow c span.kind ≡ true
+    behind_none true e = absurd cc
+    behind_none false e = refl
+line_elements b (along (element f qs) ps) o =
+    let q = and_parts (may_follow b f.kind) (in_line (b || is_block f.kind) ps) o in
+    ap₂ (λ x y. x && y) (or_first (may_follow b f.kind) (is_empty_span f qs) q.0) (line_elements (b || is_block f.kind) ps q.1)
+
+-- nothing at all gives an empty `span`, which may stand anywhere
+pub line_follows : (b : Bool) (ps : Plains) → in_line b ps ≡ true → all_follow b (or_empty_span (as_elements ps)) ≡ true
+line_follows true ended o = refl
+line_follows false ended o = refl
+line_follows b (along p ps) o = line_elements b (along p ps) o
+
+text_line : (bs : List ℕ) (ps : Plains) → in_line false ps ≡ true → in_line false (text_before bs ps) ≡ true
+text_line [] ps o = o
+text_line (c ∷ cs) ended o = refl
+text_line (c ∷ cs) (along (text ds) ps) o = o
+text_line (c ∷ cs) (along (element f qs) ps) o = o
+
+-- what stands behind no block
+words_first : (b : Bool) (k : Kind) → showing k ≡ Characters → can_follow b k ≡ true → b ≡ false
+words_first false k s f = refl
+words_first true kind.Text s f = absurd cc
+words_first true kind.Entity s f = absurd cc
+words_first true k s f = absurd cc
+
+nowiki_first : (b : Bool) (k : Kind) → k ≡ kind.Nowiki → can_follow b k ≡ true → b ≡ false
+nowiki_first false k s f = refl
+nowiki_first true k s f = absurd (let e : false ≡ true = ap (can_follow true) (sym s) ∙ f in cc)
+
+element_first : (b i w : Bool) → not (b && (i || w)) ≡ true → not (b && i) ≡ true
+element_first false i w e = refl
+element_first true true w e = absurd cc
+element_first true false w e = refl
 
 element_order : (b : Bool) (k : Kind) (ps : Plains) → is_inline k ≡ false → is_block k ≡ false → in_order b ps ≡ true
     → (may_follow b k && in_order (b || is_block k) ps) ≡ true
@@ -259,6 +315,57 @@ nowiki_order b k (more (tree l us) ts) rest h o = by_showing (nowiki_order b k t
         let q = nowiki_element l.kind e f.1 in
         element_order b l.kind (plains_before ts rest) q.0 q.1 r
 
+nowiki_line : (k : ℕ) (ts : Trees) (rest : Plains) → AreShownIn k kind.Nowiki ts → in_line false rest ≡ true
+    → in_line false (plains_before ts rest) ≡ true
+nowiki_line k none rest h o = o
+nowiki_line k (more (tree l us) ts) rest h o = by_showing (nowiki_line k ts rest h.1 o) (showing l.kind) refl
+  where
+    no_nowiki : (x : Kind) → x ≡ kind.Nowiki → may_hold kind.Nowiki x ≡ true → ⊥
+    no_nowiki x e f = absurd (let g : false ≡ true = ap (may_hold kind.Nowiki) (sym e) ∙ f in cc)
+
+    by_showing : in_line false (plains_before ts rest) ≡ true → (s : Showing) → showing l.kind ≡ s
+        → in_line false (shown_before s l (λ ps. plains_before us ps) (plains_before ts rest)) ≡ true
+    by_showing r Characters e = text_line l.shown (plains_before ts rest) r
+    by_showing r Inside e = let n = nowiki_in k kind.Nowiki l us e h.0 in absurd (no_nowiki l.kind n.kind n.held)
+    by_showing r Nothing e = r
+    by_showing r Element e =
+        let f = element_in k kind.Nowiki l us e h.0 in
+        let q = nowiki_element l.kind e f.1 in
+        ap (λ x. in_line x (plains_before ts rest)) q.1 ∙ r
+
+-- what stands in an item, a cell or a caption
+pub all_in_line : (b : Bool) (k : ℕ) (q : Kind) (ts : Trees) (rest : Plains) → AreShownIn k q ts → are_in_line b ts ≡ true
+    → in_line (b || any_shows_block ts) rest ≡ true → in_line b (plains_before ts rest) ≡ true
+all_in_line b k q none rest h o r = ap (λ x. in_line x rest) (sym (or_none b)) ∙ r
+all_in_line b k q (more (tree l us) ts) rest h o r =
+    let p = and_parts (can_follow b l.kind) (are_in_line (b || shows_block (tree l us)) ts) o in
+    by_showing p.0
+    (all_in_line (b || shows_block (tree l us)) k q ts rest h.1 p.1
+    (ap (λ x. in_line x rest) (sym (or_assoc b (shows_block (tree l us)) (any_shows_block ts))) ∙ r)) (showing l.kind) refl
+  where
+    own : shows_block (tree l us) ≡ is_block l.kind
+    own = if_false (is_group l.kind) _ _ (none_group k q l us h.0)
+
+    by_showing : can_follow b l.kind ≡ true → in_line (b || shows_block (tree l us)) (plains_before ts rest) ≡ true
+        → (s : Showing) → showing l.kind ≡ s → in_line b (shown_before s l (λ ps. plains_before us ps) (plains_before ts rest)) ≡ true
+    by_showing f g Characters e =
+        let z : b ≡ false = words_first b l.kind e f in
+        let g0 : in_line false (plains_before ts rest) ≡ true =
+        ap (λ x. in_line x (plains_before ts rest)) (sym (ap₂ (λ x y. x || y) z (own ∙ character_block l.kind e))) ∙ g in
+        ap (λ x. in_line x (text_before l.shown (plains_before ts rest))) z ∙ text_line l.shown (plains_before ts rest) g0
+    by_showing f g Inside e =
+        let n = nowiki_in k q l us e h.0 in
+        let z : b ≡ false = nowiki_first b l.kind n.kind f in
+        let g0 : in_line false (plains_before ts rest) ≡ true =
+        ap (λ x. in_line x (plains_before ts rest)) (sym (ap₂ (λ x y. x || y) z (own ∙ ap is_block n.kind))) ∙ g in
+        ap (λ x. in_line x (plains_before us (plains_before ts rest))) z
+        ∙ nowiki_line (suc k) us (plains_before ts rest) (subst (λ x. AreShownIn (suc k) x us) n.kind n.inside) g0
+    by_showing f g Nothing e =
+        ap (λ x. in_line x (plains_before ts rest)) (sym (ap (λ x. b || x) (own ∙ hidden_block l.kind e) ∙ or_none b)) ∙ g
+    by_showing f g Element e =
+        ap₂ (λ x y. x && y) (element_first b (is_inline l.kind) (shows_words l.kind) f)
+        (ap (λ x. in_line (b || x) (plains_before ts rest)) (sym own) ∙ g)
+
 -- what one node shows before others in their order
 node_order : (b : Bool) (k : ℕ) (q : Kind) (l : Label) (us : Trees) (rest : Plains) → IsShownIn k q (tree l us)
     → (is_block l.kind ≡ false → in_order b rest ≡ true)
@@ -273,18 +380,6 @@ node_order b k q l us rest h r g = by_showing (showing l.kind) refl
         nowiki_order b (suc k) us rest (subst (λ x. AreShownIn (suc k) x us) n.kind n.inside) (r (ap is_block n.kind))
     by_showing Nothing e = r (hidden_block l.kind e)
     by_showing Element e = g e
-
-bordered_order : (b : Bool) (k : ℕ) (q : Kind) (ts : Trees) → AreShownIn k q ts → are_ordered b ts ≡ true → in_order b (plains_before ts ended) ≡ true
-bordered_order b k q none h o = refl
-bordered_order b k q (more (tree l us) ts) h o =
-    let g : is_group l.kind ≡ false = none_group k q l us h.0 in
-    let p = and_parts (goes_behind b (tree l us)) (are_ordered (b || shows_block (tree l us)) ts) o in
-    let shows : shows_block (tree l us) ≡ is_block l.kind = if_false (is_group l.kind) _ _ g in
-    let rest : in_order (b || is_block l.kind) (plains_before ts ended) ≡ true =
-    bordered_order (b || is_block l.kind) k q ts h.1 (ap (λ x. are_ordered (b || x) ts) (sym shows) ∙ p.1) in
-    node_order b k q l us (plains_before ts ended) h.0
-    (λ e. ap (λ x. in_order x (plains_before ts ended)) (sym (or_none b) ∙ ap (λ x. b || x) (sym e)) ∙ rest)
-    (λ e. ap₂ (λ x y. x && y) (sym (if_false (is_group l.kind) _ _ g) ∙ p.0) rest)
 
 page_order : (k : ℕ) (q : Kind) → texts_of_kind q ≡ Page → (ts : Trees) → AreShownIn k q ts → in_order false (plains_before ts ended) ≡ true
 page_order k q e none h = refl
@@ -308,7 +403,7 @@ children_order : (x : Texts) (k : ℕ) (q : Kind) (ts : Trees) → texts_of_kind
     → in_order false (plains_before ts ended) ≡ true
 children_order Separators k q ts e s o h = separated_order k q e false ts h
 children_order Page k q ts e s o h = page_order k q e ts h
-children_order Bordered k q ts e s o h = bordered_order false k q ts h o
+children_order Bordered k q ts e s o h = line_order false (plains_before ts ended) (all_in_line false k q ts ended h o refl)
 children_order OwnCharacter k q ts e s o h = absurd (own_character q e s)
 
 -- ---- what they show fits
@@ -371,13 +466,13 @@ some_elements : (k : ℕ) (parent : Kind) (ps : Plains) → k < 200 → TopsIn k
 some_elements k parent ended small h = ((or_true (may_hold parent span.kind), (small, span_is, refl, (refl, tt))), tt)
 some_elements k parent (along p ps) small h = h
 
--- Nodes that are written, among which is no group: the elements of a group that holds them fit where they stand, if a `span` may
--- stand wherever text may.
+-- The elements of a group that holds such nodes fit where they stand, if a `span` may stand wherever text may; what they show is
+-- within one element more.
 pub elements_fit : (k : ℕ) (parent : Kind) (ts : Trees) → k < 200 → (holds_text parent ≡ true → may_hold parent span.kind ≡ true)
-    → AreShownIn k parent ts → TopsIn k parent (elements_for ts)
+    → AreShownIn (suc k) parent ts → TopsIn k parent (elements_for ts)
 elements_fit k parent ts small f h =
     some_elements k parent (as_elements (plains_before ts ended)) small
-    (top_elements k parent (plains_before ts ended) small f (plains_fit k k parent parent ts ended (omega arith) (admits_own parent) h tt))
+    (top_elements k parent (plains_before ts ended) small f (plains_fit k (suc k) parent parent ts ended (omega arith) (admits_own parent) h tt))
 
 -- ---- it shows a block where one of its nodes does
 
@@ -425,10 +520,6 @@ node_block k q l us rest h = by_showing (showing l.kind) refl
     by_showing Nothing e = hidden (hidden_block l.kind e)
     by_showing Element e = ap (λ x. x || plain_block rest) (if_false (is_group l.kind) _ _ g ∙ sym (if_false (is_group l.kind) _ _ g))
 
-or_assoc : (a b c : Bool) → (a || (b || c)) ≡ ((a || b) || c)
-or_assoc true b c = refl
-or_assoc false b c = refl
-
 nodes_block : (k : ℕ) (q : Kind) (ts : Trees) (rest : Plains) → AreShownIn k q ts
     → plain_block (plains_before ts rest) ≡ (any_shows_block ts || plain_block rest)
 nodes_block k q none rest h = refl
@@ -443,34 +534,6 @@ elements_block (along p ps) = refl
 pub blocks_fit : (k : ℕ) (q : Kind) (ts : Trees) → AreShownIn k q ts → any_shows_block (group_nodes ts) ≡ any_shows_block ts
 blocks_fit k q ts h = elements_block (plains_before ts ended) ∙ nodes_block k q ts ended h ∙ or_none (any_shows_block ts)
 
--- ---- groups of written nodes
-
-shown_by : (w : Writing) (k : ℕ) (q : Kind) (l : Label) (ts : Trees) (childless : Bool) (old new : Type 0) → is_group l.kind ≡ false → (old → new)
-    → NodeIsWritten w k q l childless old (IsWrittenGroup k q l ts) → NodeIsWritten w k q l childless new ⊥
-shown_by AsText k q l ts childless old new g f h = h
-shown_by AsVoid k q l ts childless old new g f h = (h.0, h.1, h.2, h.3, f h.4)
-shown_by RoundCharacter k q l ts childless old new g f h = (h.0, h.1, h.2, h.3, f h.4)
-shown_by RoundChildren k q l ts childless old new g f h = (h.0, h.1, h.2, h.3, f h.4)
-shown_by Unwritten k q l ts childless old new g f h = absurd (let x = sym g ∙ ap is_group h.label.kind in cc)
-
-ordered_in : (x : Texts) (ts : Trees) → IsCutIn x ts → IsOrdered x ts
-ordered_in Separators ts h = tt
-ordered_in Page ts h = tt
-ordered_in Bordered ts h = h.1
-ordered_in OwnCharacter ts h = tt
-
-mutual
-  written_shown : (k : ℕ) (q : Kind) (t : Tree) → WrittenIn k q t → HasNoGroup t → IsShownIn k q t
-  written_shown k q (tree l ts) h g =
-      shown_by (writing l.kind) k q l ts (is_childless ts) (IsCutIn (texts_of_kind l.kind) ts × AllWrittenIn (suc k) l.kind ts) (InsideOf k l ts) g.0
-      (λ i. (ordered_in (texts_of_kind l.kind) ts i.0, all_written_shown (suc k) l.kind ts i.1 g.1)) h
-
-  -- written nodes among which is no group
-  pub all_written_shown : (k : ℕ) (q : Kind) (ts : Trees) → AllWrittenIn k q ts → NoneIsGroup ts → AreShownIn k q ts
-  all_written_shown k q none h g = tt
-  all_written_shown k q (more t ts) h g = (written_shown k q t h.0 g.0, all_written_shown k q ts h.2 g.1)
-
--- A group over such nodes is written.
-pub group_fits : (k : ℕ) (parent : Kind) (l : Label) (ts : Trees) → k < 200 → (holds_text parent ≡ true → may_hold parent span.kind ≡ true)
-    → IsGroupLabel l → AreShownIn k parent ts → IsWrittenGroup k parent l ts
-group_fits k parent l ts small f label h = record { label = label; elements = elements_fit k parent ts small f h; blocks = blocks_fit k parent ts h }
+-- behind a block or not, it may stand where its nodes may
+pub group_follows : (b : Bool) (k : ℕ) (q : Kind) (ts : Trees) → AreShownIn k q ts → are_in_line b ts ≡ true → all_follow b (elements_for ts) ≡ true
+group_follows b k q ts h o = line_follows b (plains_before ts ended) (all_in_line b k q ts ended h o refl)

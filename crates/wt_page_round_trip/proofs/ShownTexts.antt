@@ -22,15 +22,15 @@ whole_shown form.Chars bs h = absurd h
 whole_shown (form.Entity c) bs h = entity_utf8 c bs h.0
 whole_shown form.Nowiki bs h = IsUtf8-nil
 whole_shown form.Extension bs h = IsUtf8-nil
-whole_shown form.Function bs h = absurd h
+whole_shown form.Function bs h = IsUtf8-nil
 whole_shown form.Comment bs h = IsUtf8-nil
 whole_shown form.Include bs h = IsUtf8-nil
 whole_shown form.Hidden bs h = IsUtf8-nil
-whole_shown form.EmptyCall bs h = absurd h
+whole_shown form.EmptyCall bs h = IsUtf8-nil
 
 shown_behind : (run : List ℕ) (xs : List Item) → AreTexts run xs → AreOfPage xs → IsUtf8 (run ++ flat_map shown_item xs)
 shown_behind run [] t p = subst IsUtf8 (sym (append-nil run)) t
-shown_behind run (char o b ∷ xs) t p = subst IsUtf8 (append_assoc run (b ∷ []) (flat_map shown_item xs)) (shown_behind (run ++ b ∷ []) xs t p.1)
+shown_behind run (char o b ∷ xs) t p = subst IsUtf8 (append_assoc run (b ∷ []) (flat_map shown_item xs)) (shown_behind (run ++ b ∷ []) xs t.1 p.1)
 shown_behind run (whole f o bs ∷ xs) t p = IsUtf8-append run (shown_whole f ++ flat_map shown_item xs) t.0
     (IsUtf8-append (shown_whole f) (flat_map shown_item xs) (whole_shown f bs p.0.1) (shown_behind [] xs t.1 p.1))
 

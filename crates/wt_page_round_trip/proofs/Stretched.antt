@@ -12,30 +12,25 @@ use Rattle.wt_html_grammar.proofs.Steps.{if_true, if_false}
 use Rattle.wt_span.specs.Items.{Item}
 use Rattle.wt_tree.specs.declared.kind.AttrName.{AttrName}
 use Rattle.wt_tree.specs.declared.kind.Kind.{Kind}
-use Rattle.wt_tree.specs.declared.row.Texts.TheVariants.{Bordered}
-use Rattle.wt_tree.specs.Kinds.{texts_of_kind, is_block, may_hold}
+use Rattle.wt_tree.specs.Kinds.{may_hold}
 use Rattle.wt_inline.specs.declared.loose.Loose.TheVariants.{Sep}
-use Rattle.wt_inline.specs.ItemTree.{Head, ItemTree, forest}
+use Rattle.wt_inline.specs.ItemTree.{Head, forest}
 use Rattle.wt_inline.specs.Parts.{Part, loose, node, parts, children}
 use Rattle.wt_body.specs.Stretches.{Stretch, gap, block, is_gap, stretches_parts, front_len, front_gaps, past_front, block_len, before_end, end_gaps, node_of, opened_by, enclosed}
 use Rattle.wt_page_round_trip.proofs.InlineNodes.{with_attrs}
 use Rattle.wt_page_round_trip.proofs.OfPage.{AreOfPage}
 use Rattle.wt_page_round_trip.proofs.PageLines.{IsBetween, all_both, all_taken, all_dropped}
-use Rattle.wt_page_round_trip.proofs.Separated.{goes_first, head_of, IsNodeIn, IsPartIn, gap_parts}
+use Rattle.wt_page_round_trip.proofs.Separated.{goes_first, IsNodeIn, IsPartIn, gap_parts}
 use Rattle.wt_page_round_trip.proofs.Boxes.{IsRound, IsBox, HoldsSeparators, box_written, separated_inside}
 
--- a kind of element that may stand there, in an item or a cell as a block
-pub record StandsIn (parent q : Kind) : Type 0 where
-  pub held : may_hold parent q ≡ true
-  pub shows : texts_of_kind parent ≡ Bordered → is_block q ≡ true
-
-abbrev pub IsBlockIn : ℕ → Kind → ItemTree → Type 0
-IsBlockIn k parent t = IsNodeIn k parent t × (texts_of_kind parent ≡ Bordered → is_block (head_of t).kind ≡ true)
+-- a kind of element that may stand there
+abbrev pub StandsIn : Kind → Kind → Type 0
+StandsIn parent q = may_hold parent q ≡ true
 
 abbrev pub IsOneBlock : ℕ → Kind → List Part → Type 0
 IsOneBlock k parent [] = ⊥
 IsOneBlock k parent (loose j o b ∷ ps) = ⊥
-IsOneBlock k parent (node t ∷ []) = IsBlockIn k parent t
+IsOneBlock k parent (node t ∷ []) = IsNodeIn k parent t
 IsOneBlock k parent (node t ∷ p ∷ ps) = ⊥
 
 -- a gap may stand anywhere; a node is written within k elements in a node of this kind
@@ -49,7 +44,7 @@ ArePlaced k parent ss = AllByRecursion (IsPlaced k parent) ss
 node_parts : (k : ℕ) (parent : Kind) (ps : List Part) → IsOneBlock k parent ps → AllByRecursion (IsPartIn k parent) ps
 node_parts k parent [] a = absurd a
 node_parts k parent (loose j o b ∷ ps) a = absurd a
-node_parts k parent (node t ∷ []) a = (a.0, tt)
+node_parts k parent (node t ∷ []) a = (a, tt)
 node_parts k parent (node t ∷ p ∷ ps) a = absurd a
 
 pub placed_parts : (k : ℕ) (parent : Kind) → k < 200 → (ss : List Stretch) → ArePlaced k parent ss → AllByRecursion (IsPartIn k parent) (stretches_parts ss)
@@ -133,11 +128,11 @@ gaps_behind k j parent other ss a = gaps_move j k other parent (end_gaps ss) (en
 -- ---- a node with what it holds
 
 pub opened_placed : (k j : ℕ) (parent other : Kind) (h : Head) (opening : List Item) (ss : List Stretch)
-    → IsBlockIn k parent (node_of h opening (before_end ss) []) → ArePlaced j other (end_gaps ss) → ArePlaced k parent (opened_by h opening ss)
+    → IsNodeIn k parent (node_of h opening (before_end ss) []) → ArePlaced j other (end_gaps ss) → ArePlaced k parent (opened_by h opening ss)
 opened_placed k j parent other h opening ss n a = (n, gaps_move j k other parent (end_gaps ss) (end_are_gaps ss) a)
 
 pub enclosed_placed : (k j : ℕ) (parent other : Kind) (h : Head) (ss : List Stretch)
-    → IsBlockIn k parent (node_of h [] (before_end (past_front ss)) []) → ArePlaced j other ss → ArePlaced k parent (enclosed h ss)
+    → IsNodeIn k parent (node_of h [] (before_end (past_front ss)) []) → ArePlaced j other ss → ArePlaced k parent (enclosed h ss)
 enclosed_placed k j parent other h ss n a =
     let behind : ArePlaced j other (past_front ss) = all_dropped (IsPlaced j other) (front_len ss) ss a in
     all_both (IsPlaced k parent) (front_gaps ss) (opened_by h [] (past_front ss))
@@ -153,14 +148,11 @@ pub record IsHolder (q : Kind) : Type 0 where
 
 pub holder_node : (k : ℕ) (parent q : Kind) → IsHolder q → (attrs : List (AttrName × List ℕ)) (opening closing : List Item)
     → IsBox q attrs opening closing → (ss : List Stretch) → k < 199 → StandsIn parent q → ArePlaced (suc k) q ss
-    → IsBlockIn k parent (node_of (with_attrs q attrs) opening ss closing)
+    → IsNodeIn k parent (node_of (with_attrs q attrs) opening ss closing)
 holder_node k parent q r attrs opening closing b ss small holds a = (
-  (
-    box_written k parent q r.round attrs opening closing b (forest (children (stretches_parts ss))) small holds.held
-        (separated_inside (suc k) q r.holds (stretches_parts ss) (placed_parts (suc k) q (omega (arith, small)) ss a)),
-    r.block,
-  ),
-  holds.shows,
+  box_written k parent q r.round attrs opening closing b (forest (children (stretches_parts ss))) small holds
+      (separated_inside (suc k) q r.holds (stretches_parts ss) (placed_parts (suc k) q (omega (arith, small)) ss a)),
+  r.block,
 )
 
 pub holder_opened : (k : ℕ) (parent q : Kind) → IsHolder q → (attrs : List (AttrName × List ℕ)) (opening : List Item)

@@ -21,19 +21,15 @@ use Rattle.wt_tree.specs.Kinds.{spelling}
 use Rattle.wt_lines.specs.declared.kind.LineKind.{LineKind}
 use Rattle.wt_lines.specs.declared.kind.LineKind.TheVariants as line
 use Rattle.wt_lines.specs.Kinds.{is_idle}
-use Rattle.wt_lines.specs.Lines.{content}
 use Rattle.wt_attributes.specs.Attributes.{attributes}
 use Rattle.wt_tables.specs.Cells.{lead_len, is_dash, row_sign_len, table_attributes, row_attributes}
 use Rattle.wt_tables.specs.Parts.{RowOf, TableOf, is_blank_kind, table_of}
 use Rattle.wt_headings.specs.Lines.{ending}
 use Rattle.wt_body.specs.Rows.{Row, row_items, all_items, kind_of, signs}
-use Rattle.wt_body.specs.Stretches.{Stretch, gap, block_len}
+use Rattle.wt_body.specs.Stretches.{Stretch, gap}
 use Rattle.wt_body.specs.Tables.{Reading, cell_kind, cell_stretches, is_blank_row, stray_len, from_sign, delimiter, behind_delimiter, delimiter_lead, first_items, row_by, row_stretches, rows_stretches, table_inside, table_by, last_of, without_last, table}
-use Rattle.wt_page_round_trip.proofs.OfPage.{IsPageItem, ArePageItems}
-use Rattle.wt_page_round_trip.proofs.PageLines.{IsBetween, all_both, all_taken, all_dropped, texts_both, ending_between, content_page}
-use Rattle.wt_page_round_trip.proofs.TileTexts.{no_page_items}
-use Rattle.wt_page_round_trip.proofs.PageNodes.{AreSources, no_sources}
-use Rattle.wt_page_round_trip.proofs.ContextParts.{items_sources}
+use Rattle.wt_page_round_trip.proofs.OfPage.{ArePageItems, no_page_items}
+use Rattle.wt_page_round_trip.proofs.PageLines.{IsBetween, all_both, both_page, all_taken, all_dropped, ending_between, content_page}
 use Rattle.wt_page_round_trip.proofs.Boxes.{IsBox}
 use Rattle.wt_page_round_trip.proofs.Stretched.{StandsIn, IsPlaced, ArePlaced, IsHolder, holder_node, holder_opened, holder_enclosed}
 use Rattle.wt_page_round_trip.proofs.GoodRows.{IsGap, IsSeen, IsGoodRow, AreGoodRows, IsLowItem, low_ends, passing_low, behind_items, dash_low}
@@ -42,7 +38,6 @@ use Rattle.wt_page_round_trip.proofs.ListOpenings.{more_taken, first_low}
 use Rattle.wt_page_round_trip.proofs.ListNodes.{HoldsLists}
 use Rattle.wt_page_round_trip.proofs.CellNodes.{AreStyles, styles_of, no_styles, low_items, row_cells}
 use Rattle.wt_page_round_trip.proofs.RowUnits.{Walk}
-use Rattle.wt_page_round_trip.proofs.EndedRows.{AreChained}
 use Rattle.wt_page_round_trip.proofs.TableRows.{AreCellRows, OpensRow, IsTableRow}
 
 -- ---- blank rows at the end
@@ -113,28 +108,25 @@ blanks_between (r ∷ rs) g a = (blank_between r g.0 a.0, blanks_between rs g.1 
 
 -- ---- delimiters with stray lines
 
-both_items : (xs ys : List Item) → ArePageItems xs → ArePageItems ys → ArePageItems (xs ++ ys)
-both_items xs ys h i = record { texts = texts_both [] xs ys h.texts i.texts; page = all_both IsPageItem xs ys h.page i.page }
-
 rows_items : (rs : List Row) → AreGoodRows rs → ArePageItems (all_items rs)
 rows_items [] g = no_page_items
 rows_items (r ∷ rs) g =
-    both_items (row_items r) (all_items rs)
-    (both_items r.lead (r.items ++ r.ending) (gap_items r.lead g.0.lead) (both_items r.items r.ending g.0.items (gap_items r.ending g.0.ending)))
+    both_page (row_items r) (all_items rs)
+    (both_page r.lead (r.items ++ r.ending) (gap_items r.lead g.0.lead) (both_page r.items r.ending g.0.items (gap_items r.ending g.0.ending)))
     (rows_items rs g.1)
 
 sign_items : (rs : List Row) → AreGoodRows rs → ArePageItems (from_sign rs)
 sign_items [] g = no_page_items
 sign_items (r ∷ rs) g =
-    both_items r.items (r.ending ++ all_items rs) g.0.items (both_items r.ending (all_items rs) (gap_items r.ending g.0.ending) (rows_items rs g.1))
+    both_page r.items (r.ending ++ all_items rs) g.0.items (both_page r.ending (all_items rs) (gap_items r.ending g.0.ending) (rows_items rs g.1))
 
 lead_gap : (rs : List Row) → AreGoodRows rs → IsGap (delimiter_lead rs)
 lead_gap rs g = first_gap (take (stray_len rs) rs) (all_taken IsGoodRow (stray_len rs) rs g)
 
-delimiter_sources : (rs : List Row) → AreGoodRows rs → AreSources (delimiter rs)
-delimiter_sources rs g =
+delimiter_items : (rs : List Row) → AreGoodRows rs → ArePageItems (delimiter rs)
+delimiter_items rs g =
     let front : List Row = take (stray_len rs) rs in
-    items_sources (content (from_sign front)) (content_page (from_sign front) (sign_items front (all_taken IsGoodRow (stray_len rs) rs g))).0
+    (content_page (from_sign front) (sign_items front (all_taken IsGoodRow (stray_len rs) rs g))).0
 
 behind_placed : (k : ℕ) (q : Kind) (rs : List Row) → AreGoodRows rs → ArePlaced k q (behind_delimiter rs)
 behind_placed k q rs g =
@@ -199,18 +191,18 @@ row_holder = record {
   block = refl;
 }
 
-table_box : (attrs : List (AttrName × List ℕ)) (opening closing : List Item) → AreStyles attrs → AreSources opening → AreSources closing
+table_box : (attrs : List (AttrName × List ℕ)) (opening closing : List Item) → AreStyles attrs → ArePageItems opening → ArePageItems closing
     → IsBox kind.Table attrs opening closing
 unfolding spelling
 table_box attrs opening closing a u v = record { attrs = a; opening = u; closing = v }
 
 body_box : IsBox kind.Tbody [] [] []
 unfolding spelling
-body_box = record { attrs = refl; opening = no_sources; closing = no_sources }
+body_box = record { attrs = refl; opening = no_page_items; closing = no_page_items }
 
-row_box : (attrs : List (AttrName × List ℕ)) (opening : List Item) → AreStyles attrs → AreSources opening → IsBox kind.Tr attrs opening []
+row_box : (attrs : List (AttrName × List ℕ)) (opening : List Item) → AreStyles attrs → ArePageItems opening → IsBox kind.Tr attrs opening []
 unfolding spelling
-row_box attrs opening a u = record { attrs = a; opening = u; closing = no_sources }
+row_box attrs opening a u = record { attrs = a; opening = u; closing = no_page_items }
 
 -- blocks where they may stand
 pub record HoldsBlocks (q : Kind) : Type 0 where
@@ -223,95 +215,70 @@ pub record HoldsBlocks (q : Kind) : Type 0 where
 
 pub body_blocks : HoldsBlocks kind.Body
 body_blocks = record {
-  lists = record {
-    ul = record { held = refl; shows = λ e. refl };
-    ol = record { held = refl; shows = λ e. refl };
-    dl = record
-        { held = refl; shows = λ e. refl };
-  };
-  para = record { held = refl; shows = λ e. refl };
-  pre = record { held = refl; shows = λ e. refl };
-  rule = record { held = refl; shows = λ e. refl };
-  table = record { held = refl; shows = λ e. refl };
-  heading = λ n. record { held = refl; shows = λ e. refl };
+  lists = record { ul = refl; ol = refl; dl = refl };
+  para = refl;
+  pre = refl;
+  rule = refl;
+  table = refl;
+  heading = λ n. refl;
 }
 
 cell_blocks : (caption header : Bool) → HoldsBlocks (cell_kind caption header)
 cell_blocks true header = record {
-  lists = record {
-    ul = record { held = refl; shows = λ e. refl };
-    ol = record { held = refl; shows = λ e. refl };
-    dl = record
-        { held = refl; shows = λ e. refl };
-  };
-  para = record { held = refl; shows = λ e. refl };
-  pre = record { held = refl; shows = λ e. refl };
-  rule = record { held = refl; shows = λ e. refl };
-  table = record { held = refl; shows = λ e. refl };
-  heading = λ n. record { held = refl; shows = λ e. refl };
+  lists = record { ul = refl; ol = refl; dl = refl };
+  para = refl;
+  pre = refl;
+  rule = refl;
+  table = refl;
+  heading = λ n. refl;
 }
 cell_blocks false true = record {
-  lists = record {
-    ul = record { held = refl; shows = λ e. refl };
-    ol = record { held = refl; shows = λ e. refl };
-    dl = record
-        { held = refl; shows = λ e. refl };
-  };
-  para = record { held = refl; shows = λ e. refl };
-  pre = record { held = refl; shows = λ e. refl };
-  rule = record { held = refl; shows = λ e. refl };
-  table = record { held = refl; shows = λ e. refl };
-  heading = λ n. record { held = refl; shows = λ e. refl };
+  lists = record { ul = refl; ol = refl; dl = refl };
+  para = refl;
+  pre = refl;
+  rule = refl;
+  table = refl;
+  heading = λ n. refl;
 }
 cell_blocks false false = record {
-  lists = record {
-    ul = record { held = refl; shows = λ e. refl };
-    ol = record { held = refl; shows = λ e. refl };
-    dl = record
-        { held = refl; shows = λ e. refl };
-  };
-  para = record { held = refl; shows = λ e. refl };
-  pre = record { held = refl; shows = λ e. refl };
-  rule = record { held = refl; shows = λ e. refl };
-  table = record { held = refl; shows = λ e. refl };
-  heading = λ n. record { held = refl; shows = λ e. refl };
+  lists = record { ul = refl; ol = refl; dl = refl };
+  para = refl;
+  pre = refl;
+  rule = refl;
+  table = refl;
+  heading = λ n. refl;
 }
 
 captions_stand : (header : Bool) → StandsIn kind.Table (cell_kind true header)
-captions_stand header = record { held = refl; shows = λ e. absurd cc }
+captions_stand header = refl
 
 cells_stand : (header : Bool) → StandsIn kind.Tr (cell_kind false header)
-cells_stand true = record { held = refl; shows = λ e. absurd cc }
-cells_stand false = record { held = refl; shows = λ e. absurd cc }
+cells_stand true = refl
+cells_stand false = refl
 
 rows_stand : StandsIn kind.Tbody kind.Tr
-rows_stand = record { held = refl; shows = λ e. absurd cc }
+rows_stand = refl
 
 body_stands : StandsIn kind.Table kind.Tbody
-body_stands = record { held = refl; shows = λ e. absurd cc }
+body_stands = refl
 
 -- ---- what is read in cells
 
 -- rows in which at most m tables stand one in another are written, wherever blocks may stand, within so many elements
 abbrev pub Reads : Reading → ℕ → Type 0
-Reads read m = (j : ℕ) (q : Kind) → HoldsBlocks q → j + 4 * m < 78 → (rs : List Row) → AreGoodRows rs → AreChained rs → Walk m 0 rs
+Reads read m = (j : ℕ) (q : Kind) → HoldsBlocks q → j + 4 * m < 78 → (rs : List Row) → AreGoodRows rs → Walk m 0 rs
     → ArePlaced j q (read rs)
 
-pub record IsReading (read : Reading) (m : ℕ) : Type 0 where
-  pub reads : Reads read m
-  pub none : read [] ≡ []
-
-cell_rows : (read : Reading) (m : ℕ) → IsReading read m → (k : ℕ) (parent : Kind) (caption : Bool)
+cell_rows : (read : Reading) (m : ℕ) → Reads read m → (k : ℕ) (parent : Kind) (caption : Bool)
     → ((header : Bool) → StandsIn parent (cell_kind caption header)) → suc k + 4 * m < 78 → (g : List Row) → AreCellRows m caption g
     → ArePlaced k parent (cell_stretches read caption g)
 unfolding cell_stretches
 cell_rows read m i k parent caption s small [] c = tt
 cell_rows read m i k parent caption s small (r ∷ rest) c =
-    row_cells k parent caption s r c.good c.unbroken c.sign (read rest)
-    (λ header. i.reads (suc k) (cell_kind caption header) (cell_blocks caption header) small rest c.rows c.chained c.walk)
-    (elim c.ended [ inl b ↦ inl b | inr z ↦ inr (ap (λ (rs : List Row). block_len (read rs)) z ∙ ap block_len i.none) ]) (omega (arith, small))
+    row_cells k parent caption s r c.good c.sign (read rest)
+    (λ header. i (suc k) (cell_kind caption header) (cell_blocks caption header) small rest c.rows c.walk) (omega (arith, small))
 
-cell_groups : (read : Reading) (m : ℕ) → IsReading read m → (k : ℕ) (parent : Kind) (caption : Bool)
+cell_groups : (read : Reading) (m : ℕ) → Reads read m → (k : ℕ) (parent : Kind) (caption : Bool)
     → ((header : Bool) → StandsIn parent (cell_kind caption header)) → suc k + 4 * m < 78 → (gs : List (List Row))
     → AllByRecursion (AreCellRows m caption) gs → ArePlaced k parent (flat_map (cell_stretches read caption) gs)
 cell_groups read m i k parent caption s small [] a = tt
@@ -324,31 +291,31 @@ cell_groups read m i k parent caption s small (g ∷ gs) a =
 row_by_placed : (k : ℕ) (rs : List Row) → OpensRow rs → (cells : List Stretch) → k < 190 → ArePlaced (suc k) kind.Tr cells
     → ArePlaced k kind.Tbody (row_by rs cells)
 row_by_placed k [] o cells small a =
-    holder_enclosed k kind.Tbody kind.Tr row_holder (row_box [] [] no_styles no_sources) cells (omega (arith, small)) rows_stand a
+    holder_enclosed k kind.Tbody kind.Tr row_holder (row_box [] [] no_styles no_page_items) cells (omega (arith, small)) rows_stand a
 row_by_placed k (r ∷ rs) o cells small a =
     let open_items : ArePageItems r.items = o.1.0.items in (
       lead_gap (r ∷ rs) o.1,
       holder_opened k kind.Tbody kind.Tr row_holder (row_attributes r.items) (delimiter (r ∷ rs))
-          (row_box (row_attributes r.items) (delimiter (r ∷ rs)) (row_styles r.items open_items o.0) (delimiter_sources (r ∷ rs) o.1))
+          (row_box (row_attributes r.items) (delimiter (r ∷ rs)) (row_styles r.items open_items o.0) (delimiter_items (r ∷ rs) o.1))
           (behind_delimiter (r ∷ rs) ++ cells) (omega (arith, small)) rows_stand
           (all_both (IsPlaced (suc k) kind.Tr) (behind_delimiter (r ∷ rs)) cells (behind_placed (suc k) kind.Tr (r ∷ rs) o.1) a),
     )
 
-row_placed : (read : Reading) (m : ℕ) → IsReading read m → (k : ℕ) → k + 2 + 4 * m < 78 → (x : RowOf Row) → IsTableRow m x
+row_placed : (read : Reading) (m : ℕ) → Reads read m → (k : ℕ) → k + 2 + 4 * m < 78 → (x : RowOf Row) → IsTableRow m x
     → ArePlaced k kind.Tbody (row_stretches read x)
 unfolding row_stretches
 row_placed read m i k small x h =
     row_by_placed k (x.opening ++ x.between) h.opens (flat_map (cell_stretches read false) x.cells) (omega (arith, small))
     (cell_groups read m i (suc k) kind.Tr false cells_stand (omega (arith, small)) x.cells h.cells)
 
-rows_by : (read : Reading) (m : ℕ) → IsReading read m → (k : ℕ) → k + 2 + 4 * m < 78 → (xs : List (RowOf Row)) → AllByRecursion (IsTableRow m) xs
+rows_by : (read : Reading) (m : ℕ) → Reads read m → (k : ℕ) → k + 2 + 4 * m < 78 → (xs : List (RowOf Row)) → AllByRecursion (IsTableRow m) xs
     → ArePlaced k kind.Tbody (flat_map (row_stretches read) xs)
 rows_by read m i k small [] a = tt
 rows_by read m i k small (x ∷ xs) a =
     all_both (IsPlaced k kind.Tbody) (row_stretches read x) (flat_map (row_stretches read) xs) (row_placed read m i k small x a.0)
     (rows_by read m i k small xs a.1)
 
-rows_placed : (read : Reading) (m : ℕ) → IsReading read m → (k : ℕ) → k + 3 + 4 * m < 78 → (xs : List (RowOf Row)) → AllByRecursion (IsTableRow m) xs
+rows_placed : (read : Reading) (m : ℕ) → Reads read m → (k : ℕ) → k + 3 + 4 * m < 78 → (xs : List (RowOf Row)) → AllByRecursion (IsTableRow m) xs
     → ArePlaced k kind.Table (rows_stretches read xs)
 rows_placed read m i k small [] a = tt
 rows_placed read m i k small (x ∷ xs) a =
@@ -365,7 +332,7 @@ pub record AreTableParts (m : ℕ) (t : TableOf Row) : Type 0 where
   pub captions : AllByRecursion (AreCellRows m true) t.captions
   pub rows : AllByRecursion (IsTableRow m) t.rows
 
-pub table_by_placed : (read : Reading) (m : ℕ) → IsReading read m → (k : ℕ) (parent : Kind) → StandsIn parent kind.Table → k + 4 * suc m < 78
+pub table_by_placed : (read : Reading) (m : ℕ) → Reads read m → (k : ℕ) (parent : Kind) → StandsIn parent kind.Table → k + 4 * suc m < 78
     → (t : TableOf Row) → AreTableParts m t → (end : Row) → IsGoodRow end → ArePlaced k parent (table_by read t end)
 unfolding table_by
 table_by_placed read m i k parent s small t h end g =
@@ -381,8 +348,8 @@ table_by_placed read m i k parent s small t h end g =
       lead_gap rs h.delimiter,
       (
         holder_node k parent kind.Table table_holder attrs (delimiter rs) end.items
-            (table_box attrs (delimiter rs) end.items (open_styles (first_items rs) h.first h.opens) (delimiter_sources rs h.delimiter)
-            (items_sources end.items g.items))
+            (table_box attrs (delimiter rs) end.items (open_styles (first_items rs) h.first h.opens) (delimiter_items rs h.delimiter)
+            g.items)
             (behind_delimiter rs ++ (table_inside read t ++ (gap end.lead ∷ []))) (omega (arith, small)) s all,
         (g.ending, tt),
       ),

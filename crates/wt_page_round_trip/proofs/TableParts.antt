@@ -14,9 +14,8 @@ use Rattle.wt_page_round_trip.proofs.PageLines.{all_left, all_right, all_taken, 
 use Rattle.wt_page_round_trip.proofs.Stretched.{StandsIn, ArePlaced}
 use Rattle.wt_page_round_trip.proofs.GoodRows.{IsGoodRow, AreGoodRows}
 use Rattle.wt_page_round_trip.proofs.RowUnits.{Walk, IsTable, units_good}
-use Rattle.wt_page_round_trip.proofs.EndedRows.{AreChained, chained_front, chained_behind}
 use Rattle.wt_page_round_trip.proofs.TableRows.{IsGroup, rows_apart, rows_together, table_groups, captions_good, rows_good, stray_rows}
-use Rattle.wt_page_round_trip.proofs.TableNodes.{IsReading, AreTableParts, table_by_placed, table_is}
+use Rattle.wt_page_round_trip.proofs.TableNodes.{Reads, AreTableParts, table_by_placed, table_is}
 
 -- ---- units join to the rows
 
@@ -37,14 +36,14 @@ units_joined (r ∷ rs) = from_joined 0 (r ∷ rs)
 
 -- ---- the parts of a table
 
-parts_good : (m : ℕ) (r : Row) (inside : List Row) → IsGoodRow r → begins (codes "{|") (signs r.items) ≡ true → AreGoodRows inside → AreChained inside
+parts_good : (m : ℕ) (r : Row) (inside : List Row) → IsGoodRow r → begins (codes "{|") (signs r.items) ≡ true → AreGoodRows inside
     → Walk m 0 inside → AreTableParts m (table_of kind_of r inside)
-parts_good m r inside g e rows c w =
+parts_good m r inside g e rows w =
     let us : List (List Row) = units kind_of inside in
     let n : ℕ = plain_len kind_of us in
     let apart : AllByRecursion AreGoodRows us = rows_apart us (subst AreGoodRows (sym (units_joined inside)) rows) in
     let gs : List (List (List Row)) = groups kind_of (drop n us) in
-    let all : AllByRecursion (IsGroup m) gs = table_groups m us (units_good inside m w) apart (subst AreChained (sym (units_joined inside)) c) in
+    let all : AllByRecursion (IsGroup m) gs = table_groups m us (units_good inside m w) apart in
     let front : AreGoodRows (joined (take n us)) = rows_together (take n us) (all_taken AreGoodRows n us apart) in
     record {
       opens = subst (λ (rs : List Row). begins (codes "{|") (signs (first_items rs)) ≡ true) (sym (stray_rows (r ∷ []) (take n us))) e;
@@ -54,14 +53,13 @@ parts_good m r inside g e rows c w =
       rows = rows_good m (drop (captions_len kind_of gs) gs) (all_dropped (IsGroup m) (captions_len kind_of gs) gs all);
     }
 
-pub table_placed : (read : Reading) (m : ℕ) → IsReading read m → (k : ℕ) (parent : Kind) → StandsIn parent kind.Table → k + 4 * suc m < 78
-    → (r : Row) (ms : List Row) → IsGoodRow r → begins (codes "{|") (signs r.items) ≡ true → IsTable m ms → AreGoodRows ms → AreChained (r ∷ ms)
+pub table_placed : (read : Reading) (m : ℕ) → Reads read m → (k : ℕ) (parent : Kind) → StandsIn parent kind.Table → k + 4 * suc m < 78
+    → (r : Row) (ms : List Row) → IsGoodRow r → begins (codes "{|") (signs r.items) ≡ true → IsTable m ms → AreGoodRows ms
     → ArePlaced k parent (table read (r ∷ ms))
-table_placed read m i k parent s small r ms g e t rows c =
+table_placed read m i k parent s small r ms g e t rows =
     let good : AreGoodRows (t.inside ++ (t.last ∷ [])) = subst AreGoodRows t.are rows in
-    let chained : AreChained (t.inside ++ (t.last ∷ [])) = subst AreChained t.are (chained_behind r ms c) in
     subst (λ (rs : List Row). ArePlaced k parent (table read (r ∷ rs))) (sym t.are)
     (subst (λ ss. ArePlaced k parent ss) (sym (table_is read r t.inside t.last))
     (table_by_placed read m i k parent s small (table_of kind_of r t.inside)
-    (parts_good m r t.inside g e (all_left IsGoodRow t.inside (t.last ∷ []) good) (chained_front t.inside (t.last ∷ []) chained) t.within)
+    (parts_good m r t.inside g e (all_left IsGoodRow t.inside (t.last ∷ []) good) t.within)
     t.last (all_right IsGoodRow t.inside (t.last ∷ []) good).0))

@@ -1,5 +1,5 @@
 -- The parts of a table, by the units of the rows in it: groups that begin with a caption, a row or cells.
-use Rattle.std.proofs.Common.{◌≡◌, ℕ, suc, ◌+◌, ◌-◌, ◌<◌, ◌≤◌, ◌⊎◌, Bool, true, false, List, [], ◌∷◌, ◌++◌, length, map, take, drop, get_or, inl, inr, refl, sym, ap, ◌∙◌, subst, arith, append_assoc}
+use Rattle.std.proofs.Common.{◌≡◌, ℕ, suc, ◌+◌, ◌-◌, ◌<◌, ◌≤◌, Bool, true, false, List, [], ◌∷◌, ◌++◌, length, map, take, drop, get_or, refl, sym, ap, ◌∙◌, subst, arith, append_assoc}
 use Rattle.std.specs.Prelude.{not, codes, if◌then◌else◌}
 use Rattle.std.specs.List.{AllByRecursion}
 use Rattle.std.proofs.lemmas.List.{take-append-drop}
@@ -10,17 +10,14 @@ use Rattle.wt_span.proofs.RunLaws.{runs_are}
 use Rattle.wt_lex.proofs.Begins.{begins_get, begins_len}
 use Rattle.wt_lines.specs.declared.kind.LineKind.{LineKind}
 use Rattle.wt_lines.specs.declared.kind.LineKind.TheVariants as line
-use Rattle.wt_lines.specs.Lines.{IsUnbroken}
 use Rattle.wt_tables.specs.Cells.{sign_len}
 use Rattle.wt_tables.specs.Extents.{is_open, is_end}
 use Rattle.wt_tables.specs.Parts.{joined, begins_part, begins_group, groups, group_kind, stray_len, with_stray, past_stray, RowOf, is_row, row_by, row_of, rows_of, is_caption, plain_len, captions_len}
 use Rattle.wt_tables.specs.Views.{HasSign}
 use Rattle.wt_body.specs.Rows.{Row, kind_of, signs}
 use Rattle.wt_page_round_trip.proofs.PageLines.{all_left, all_right, all_both, all_dropped}
-use Rattle.wt_page_round_trip.proofs.Contents.{IsBreakGap}
 use Rattle.wt_page_round_trip.proofs.GoodRows.{IsSeen, IsGoodRow, AreGoodRows}
-use Rattle.wt_page_round_trip.proofs.RowUnits.{Walk, UnitBy, IsUnit, walk_units, end_no_open}
-use Rattle.wt_page_round_trip.proofs.EndedRows.{needs_end, AreChained, chained_front, chained_back, chained_behind}
+use Rattle.wt_page_round_trip.proofs.RowUnits.{Walk, UnitBy, IsUnit, walk_units}
 
 -- ---- rows of several units
 
@@ -47,7 +44,6 @@ pub record IsGroup (n : ℕ) (g : List (List Row)) : Type 0 where
   pub good : IsGoodRow first
   pub units : AllByRecursion (IsUnit n) rest
   pub rows : AllByRecursion AreGoodRows rest
-  pub chained : AreChained (first ∷ joined rest)
 
 -- nothing, or a unit that begins a part
 abbrev BeginsPart : List (List Row) → Type 0
@@ -80,9 +76,9 @@ alone n r ms e u =
     subst (λ x. UnitBy false x n ms) a.1 (subst (λ x. UnitBy x (is_end r.kind) n ms) a.0 u)
 
 one_group : (n : ℕ) (u : List Row) (us : List (List Row)) → begins_group kind_of u ≡ true → AllByRecursion (IsUnit n) (u ∷ us)
-    → AllByRecursion AreGoodRows (u ∷ us) → AreChained (joined (u ∷ us)) → IsGroup n (u ∷ us)
-one_group n [] us e a g c = absurd cc
-one_group n (r ∷ ms) us e a g c =
+    → AllByRecursion AreGoodRows (u ∷ us) → IsGroup n (u ∷ us)
+one_group n [] us e a g = absurd cc
+one_group n (r ∷ ms) us e a g =
     let z : ms ≡ [] = alone n r ms e a.0 in
     record {
       first = r;
@@ -92,21 +88,18 @@ one_group n (r ∷ ms) us e a g c =
       good = g.0.0;
       units = a.1;
       rows = g.1;
-      chained = subst (λ (xs : List Row). AreChained ((r ∷ xs) ++ joined us)) z c;
     }
 
 runs_group : (n : ℕ) (gs : List (List (List Row))) (us : List (List Row)) → AreRuns in_group gs us → BeginsPart us → AllByRecursion (IsUnit n) us
-    → AllByRecursion AreGoodRows us → AreChained (joined us) → AllByRecursion (IsGroup n) gs
-runs_group n [] us h b a g c = tt
-runs_group n ([] ∷ gs) us h b a g c = absurd h.2
-runs_group n ((u ∷ vs) ∷ gs) us (others, e, run, rest) b a g c =
+    → AllByRecursion AreGoodRows us → AllByRecursion (IsGroup n) gs
+runs_group n [] us h b a g = tt
+runs_group n ([] ∷ gs) us h b a g = absurd h.2
+runs_group n ((u ∷ vs) ∷ gs) us (others, e, run, rest) b a g =
     let units : AllByRecursion (IsUnit n) ((u ∷ vs) ++ others) = subst (λ (xs : List (List Row)). AllByRecursion (IsUnit n) xs) e a in
-    let good : AllByRecursion AreGoodRows ((u ∷ vs) ++ others) = subst (λ (xs : List (List Row)). AllByRecursion AreGoodRows xs) e g in
-    let chained : AreChained (joined (u ∷ vs) ++ joined others) = subst AreChained (ap joined e ∙ joined_more (u ∷ vs) others) c in (
-      one_group n u vs (subst BeginsPart e b) (all_left (IsUnit n) (u ∷ vs) others units) (all_left AreGoodRows (u ∷ vs) others good)
-          (chained_front (joined (u ∷ vs)) (joined others) chained),
+    let good : AllByRecursion AreGoodRows ((u ∷ vs) ++ others) = subst (λ (xs : List (List Row)). AllByRecursion AreGoodRows xs) e g in (
+      one_group n u vs (subst BeginsPart e b) (all_left (IsUnit n) (u ∷ vs) others units) (all_left AreGoodRows (u ∷ vs) others good),
       runs_group n gs others rest (next_begins (u ∷ vs) others run) (all_right (IsUnit n) (u ∷ vs) others units)
-          (all_right AreGoodRows (u ∷ vs) others good) (chained_back (joined (u ∷ vs)) (joined others) chained),
+          (all_right AreGoodRows (u ∷ vs) others good),
     )
 
 past_plain : (us : List (List Row)) → BeginsPart (drop (plain_len kind_of us) us)
@@ -120,33 +113,25 @@ past_plain (u ∷ us) = by_test (begins_group kind_of u) refl (past_plain us)
         let z : 1 + plain_len kind_of us ≡ suc (plain_len kind_of us) = omega arith in
         subst (λ n. BeginsPart (drop n (u ∷ us))) (sym z) more
 
-pub table_groups : (n : ℕ) (us : List (List Row)) → AllByRecursion (IsUnit n) us → AllByRecursion AreGoodRows us → AreChained (joined us)
+pub table_groups : (n : ℕ) (us : List (List Row)) → AllByRecursion (IsUnit n) us → AllByRecursion AreGoodRows us
     → AllByRecursion (IsGroup n) (groups kind_of (drop (plain_len kind_of us) us))
-table_groups n us a g c =
+table_groups n us a g =
     let m : ℕ = plain_len kind_of us in
-    let all : joined us ≡ joined (take m us) ++ joined (drop m us) = ap joined (sym (take-append-drop m us)) ∙ joined_more (take m us) (drop m us) in
     runs_group n (groups kind_of (drop m us)) (drop m us) (runs_are in_group (drop m us)) (past_plain us) (all_dropped (IsUnit n) m us a)
-    (all_dropped AreGoodRows m us g) (chained_back (joined (take m us)) (joined (drop m us)) (subst AreChained all c))
+    (all_dropped AreGoodRows m us g)
 
 -- ---- cells with what follows in them
 
 -- a row of cells, or a caption, with the rows that belong to the last of them
 pub record IsCellRow (n : ℕ) (caption : Bool) (r : Row) (rest : List Row) : Type 0 where
   pub good : IsGoodRow r
-  pub unbroken : IsUnbroken r.items
   pub sign : HasSign (sign_len caption) (signs r.items)
   pub rows : AreGoodRows rest
-  pub chained : AreChained rest
   pub walk : Walk n 0 rest
-  pub ended : IsBreakGap r.ending ⊎ (rest ≡ [])
 
 abbrev pub AreCellRows : ℕ → Bool → List Row → Type 0
 AreCellRows n caption [] = Unit {0}
 AreCellRows n caption (r ∷ rest) = IsCellRow n caption r rest
-
--- a caption or cells
-abbrev is_cells : LineKind → Bool
-is_cells k = if is_row k then false else begins_part k
 
 word_sign : (w : List ℕ) (ss : List ℕ) → 0 < length w → get_or w (length w - 1) 0 < 128 → begins w ss ≡ true → HasSign (length w) ss
 word_sign w ss some low e =
@@ -160,54 +145,32 @@ front_word ss e =
     let at : get_or ss 0 0 ≡ 124 = begins_get (codes "|+") ss e 0 (omega arith) in
     record { some = omega arith; within = omega (arith, le); low = omega (arith, at) }
 
-cells_seen : (k : LineKind) (xs : List Item) → IsSeen k xs → is_row k ≡ false → begins_part k ≡ true
-    → IsUnbroken xs × HasSign 1 (signs xs) × (needs_end k ≡ true)
-cells_seen line.Caption xs s e f = (s.0, front_word (signs xs) s.1, refl)
+cells_seen : (k : LineKind) (xs : List Item) → IsSeen k xs → is_row k ≡ false → begins_part k ≡ true → HasSign 1 (signs xs)
+cells_seen line.Caption xs s e f = front_word (signs xs) s
 cells_seen line.Row xs s e f = absurd cc
-cells_seen line.Cell xs s e f = (s.0, word_sign (codes "|") (signs xs) (omega arith) (omega arith) s.1, refl)
-cells_seen line.Header xs s e f = (s.0, word_sign (codes "!") (signs xs) (omega arith) (omega arith) s.1, refl)
+cells_seen line.Cell xs s e f = word_sign (codes "|") (signs xs) (omega arith) (omega arith) s
+cells_seen line.Header xs s e f = word_sign (codes "!") (signs xs) (omega arith) (omega arith) s
 cells_seen k xs s e f = absurd cc
 
-caption_seen : (k : LineKind) (xs : List Item) → IsSeen k xs → is_caption k ≡ true → IsUnbroken xs × HasSign 2 (signs xs) × (needs_end k ≡ true)
-caption_seen line.Caption xs s e = (s.0, word_sign (codes "|+") (signs xs) (omega arith) (omega arith) s.1, refl)
+caption_seen : (k : LineKind) (xs : List Item) → IsSeen k xs → is_caption k ≡ true → HasSign 2 (signs xs)
+caption_seen line.Caption xs s e = word_sign (codes "|+") (signs xs) (omega arith) (omega arith) s
 caption_seen k xs s e = absurd cc
 
-no_end : (n : ℕ) (r : Row) (ms : List Row) → IsUnit n (r ∷ ms) → is_end r.kind ≡ true → ⊥
-no_end n r ms u e = subst (λ x. UnitBy false x n ms) e (subst (λ x. UnitBy x (is_end r.kind) n ms) (end_no_open r.kind e) u)
-
-group_ended : (n : ℕ) (r : Row) (us : List (List Row)) → needs_end r.kind ≡ true → AllByRecursion (IsUnit n) us → AreChained (r ∷ joined us)
-    → IsBreakGap r.ending ⊎ (joined us ≡ [])
-group_ended n r [] e a c = inr refl
-group_ended n r ([] ∷ us) e a c = absurd a.0
-group_ended n r ((s ∷ ms) ∷ us) e a c = elim c.0 [
-  | inl f ↦ absurd (let g = sym e ∙ f in cc)
-  | inr h ↦ elim h [ inl b ↦ inl b | inr i ↦ absurd (no_end n s ms a.0 i) ]
-]
-
-cell_row : (n : ℕ) (caption : Bool) (r : Row) (us : List (List Row)) → IsGoodRow r
-    → IsUnbroken r.items × HasSign (sign_len caption) (signs r.items) × (needs_end r.kind ≡ true) → AllByRecursion (IsUnit n) us
-    → AllByRecursion AreGoodRows us → AreChained (r ∷ joined us) → IsCellRow n caption r (joined us)
-cell_row n caption r us g s a rows c = record {
-  good = g;
-  unbroken = s.0;
-  sign = s.1;
-  rows = rows_together us rows;
-  chained = chained_behind r (joined us) c;
-  walk = walk_units n us a;
-  ended = group_ended n r us s.2 a c;
-}
+cell_row : (n : ℕ) (caption : Bool) (r : Row) (us : List (List Row)) → IsGoodRow r → HasSign (sign_len caption) (signs r.items)
+    → AllByRecursion (IsUnit n) us → AllByRecursion AreGoodRows us → IsCellRow n caption r (joined us)
+cell_row n caption r us g s a rows = record { good = g; sign = s; rows = rows_together us rows; walk = walk_units n us a }
 
 group_cells : (n : ℕ) (g : List (List Row)) → IsGroup n g → is_row (group_kind kind_of g) ≡ false → AreCellRows n false (joined g)
 group_cells n g h e =
     let f : is_row h.first.kind ≡ false = subst (λ (x : List (List Row)). is_row (group_kind kind_of x) ≡ false) h.are e in
     subst (λ (x : List (List Row)). AreCellRows n false (joined x)) (sym h.are)
-    (cell_row n false h.first h.rest h.good (cells_seen h.first.kind h.first.items h.good.seen f h.part) h.units h.rows h.chained)
+    (cell_row n false h.first h.rest h.good (cells_seen h.first.kind h.first.items h.good.seen f h.part) h.units h.rows)
 
 group_caption : (n : ℕ) (g : List (List Row)) → IsGroup n g → is_caption (group_kind kind_of g) ≡ true → AreCellRows n true (joined g)
 group_caption n g h e =
     let f : is_caption h.first.kind ≡ true = subst (λ (x : List (List Row)). is_caption (group_kind kind_of x) ≡ true) h.are e in
     subst (λ (x : List (List Row)). AreCellRows n true (joined x)) (sym h.are)
-    (cell_row n true h.first h.rest h.good (caption_seen h.first.kind h.first.items h.good.seen f) h.units h.rows h.chained)
+    (cell_row n true h.first h.rest h.good (caption_seen h.first.kind h.first.items h.good.seen f) h.units h.rows)
 
 -- ---- captions
 

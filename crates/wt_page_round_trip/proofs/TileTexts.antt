@@ -71,9 +71,6 @@ edge_cut_if xs (suc n) t h = edge_cut xs (suc n) t (h (omega arith))
 
 -- ---- items of a page
 
-pub no_page_items : ArePageItems []
-no_page_items = record { texts = no_items; page = tt }
-
 pub taken_items : (xs : List Item) (n : ℕ) → ArePageItems xs → (0 < n → IsEdgeIn xs n) → ArePageItems (take n xs)
 taken_items xs n h e = record { texts = (edge_cut_if xs n h.texts e).0; page = all_taken IsPageItem n xs h.page }
 

@@ -1,10 +1,15 @@
--- The annotated tree of a page: its items, what they mean, and where each part of that stands.
-use Rattle.std.specs.Prelude.{ℕ, List, []}
+-- The annotated tree of a page with its templates: its items, what they mean, and where each part of that stands.
+use Rattle.std.specs.Prelude.{ℕ, List}
+use Rattle.wt_span.specs.Origins.{Expanded}
 use Rattle.wt_tree.specs.Tree.{Tree}
-use Rattle.wt_expand.specs.PageItems.{page_items}
+use Rattle.wt_expand.specs.Work.{Pages}
+use Rattle.wt_expand.specs.PageCalls.{expanded_page}
 use Rattle.wt_body.specs.Body.{meaning}
 use Rattle.wt_ranges.specs.Annotated.{annotated}
 use Rattle.wt_ranges.specs.GroupData.{group_data}
 
-abbrev pub page_tree : List ℕ → Tree
-page_tree page = annotated [] (group_data []) (meaning (page_items page))
+abbrev pub expanded_tree : Expanded → Tree
+expanded_tree e = annotated e.outer (group_data e.outer) (meaning e.items)
+
+abbrev pub page_tree : Pages → List ℕ → Tree
+page_tree pages page = expanded_tree (expanded_page pages page)

@@ -1,20 +1,19 @@
-ghost use Rattle.std.specs.Prelude.{◌≡◌, ◌<◌, ◌≤◌, ◌*◌, ◌^◌, ℕ, [], List, length, None, IsUtf8, true};
+ghost use Rattle.std.specs.Prelude.{◌≡◌, ◌<◌, ◌^◌, ℕ, [], List, length, None, IsUtf8, true};
 ghost use Rattle.std.specs.List.{AllByRecursion};
 ghost use Rattle.wt_span.specs.Cuts.{page_of};
 ghost use Rattle.wt_span.specs.Origins.{OuterCall};
 ghost use Rattle.wt_tree.specs.Source.{flat};
 ghost use Rattle.wt_tree.specs.Tiling.{Tiled, Covers, InPreorder, HasNoGroup};
 ghost use Rattle.wt_markup.specs.Html.{html_text};
-ghost use Rattle.wt_fitting.specs.Read.{read, page};
+ghost use Rattle.wt_fitting.specs.Read.{read, page as as_page};
 ghost use Rattle.wt_round_trip.specs.Written.{unranged, IsWritten};
 ghost use Rattle.wt_expand.specs.PageCalls.{expanded_page};
-ghost use Rattle.wt_expand.specs.PageItems.{page_items};
-ghost use Rattle.wt_expand.specs.Work.{Pages};
+ghost use Rattle.wt_expand.specs.Expansion.{page_work};
+ghost use Rattle.wt_expand.specs.Work.{Pages, first_refusal};
 ghost use Rattle.wt_body.specs.Body.{meaning};
 ghost use Rattle.wt_inline.specs.ItemTree.{ItemTree, tree_items};
 ghost use Rattle.wt_ranges.specs.Annotated.{annotated, placed};
 ghost use Rattle.wt_ranges.specs.Clean.{is_clean};
-ghost use Rattle.wt_ranges.specs.Counted.{numbered};
 ghost use Rattle.wt_ranges.specs.CutTexts.{cut_texts};
 ghost use Rattle.wt_ranges.specs.GroupData.{group_data};
 ghost use Rattle.wt_ranges.specs.Grouped.{grouped};
@@ -29,29 +28,41 @@ ghost use Rattle.wt_page_round_trip.specs.GroupTexts.{
 };
 ghost use Rattle.wt_page_round_trip.specs.PageTree.{page_tree};
 
-/// The HTML of a page is read as the page's own annotated tree, without the ranges of its texts and
-/// separators, and with the nodes of a group's elements in the place of its own. Each element outside
-/// groups, and each group, tells where it comes from, and the source is the page. It holds of each page
-/// in UTF-8 of fewer than 2^31 bytes; forms that aren't built are read as text. A group is here a node
-/// that holds no item of the page, as a style that opens and ends at once.
+/// The HTML of a page with its templates is read as the page's own annotated tree, without the ranges of
+/// its texts and separators, and with the nodes of a group's elements in the place of its own. Each
+/// element outside groups, and each group, tells where it comes from, and the source is the page. It
+/// holds of each page in UTF-8 of fewer than 2^30 bytes whose expansion nothing refuses, which so gives
+/// at most 2^23 bytes more.
 pub fn page_is_read()
-    ensures written { (bytes : List ℕ) → IsUtf8 bytes → length bytes < 2 ^ 31 → IsWritten (page_tree bytes) }
-    ensures read { (bytes : List ℕ) → IsUtf8 bytes → length bytes < 2 ^ 31
-        → read (html_text (page_tree bytes)) ≡ page (unranged (page_tree bytes)) None }
-    ensures source { (bytes : List ℕ) → flat (unranged (page_tree bytes)) ≡ bytes }
+    ensures written { (pages : Pages) (page : List ℕ) → IsUtf8 page → length page < 2 ^ 30
+        → first_refusal pages page (page_work pages page) ≡ None → IsWritten (page_tree pages page) }
+    ensures read { (pages : Pages) (page : List ℕ) → IsUtf8 page → length page < 2 ^ 30
+        → first_refusal pages page (page_work pages page) ≡ None
+        → read (html_text (page_tree pages page)) ≡ as_page (unranged (page_tree pages page)) None }
+    ensures source { (pages : Pages) (page : List ℕ) → IsUtf8 page → first_refusal pages page (page_work pages page) ≡ None
+        → flat (unranged (page_tree pages page)) ≡ page }
+{}
+
+/// What stands on a page for the meaning of its expanded items, each of its own once and of each
+/// outermost call the source, is the page.
+pub fn items_are_the_page()
+    ensures { (pages : Pages) (page : List ℕ) → IsUtf8 page → first_refusal pages page (page_work pages page) ≡ None
+        → page_of (expanded_page pages page).outer (tree_items (meaning (expanded_page pages page).items)) ≡ page }
 {}
 
 /// The tree of a page joins to the page, its ranges tile the page and those of all nodes but in groups
-/// are slices of it, and its numbers are in preorder. Where it has no group, at most three nodes for
-/// each byte have a number.
+/// are slices of it, and its numbers are in preorder.
 pub fn whole_page_tree()
-    ensures source { (bytes : List ℕ) → flat (page_tree bytes) ≡ bytes }
-    ensures tiled { (bytes : List ℕ) → Tiled (page_tree bytes) }
-    ensures covers { (bytes : List ℕ) → Covers (length bytes) (page_tree bytes) }
-    ensures reached { (bytes : List ℕ) → AreReachedSlices bytes (page_tree bytes) }
-    ensures slices { (bytes : List ℕ) → HasNoGroup (page_tree bytes) → AreSlices bytes (page_tree bytes) }
-    ensures numbered { (bytes : List ℕ) → InPreorder (page_tree bytes) }
-    ensures few { (bytes : List ℕ) → numbered (meaning (page_items bytes)) ≤ 3 * length bytes }
+    ensures source { (pages : Pages) (page : List ℕ) → IsUtf8 page → first_refusal pages page (page_work pages page) ≡ None
+        → flat (page_tree pages page) ≡ page }
+    ensures tiled { (pages : Pages) (page : List ℕ) → Tiled (page_tree pages page) }
+    ensures covers { (pages : Pages) (page : List ℕ) → IsUtf8 page → first_refusal pages page (page_work pages page) ≡ None
+        → Covers (length page) (page_tree pages page) }
+    ensures reached { (pages : Pages) (page : List ℕ) → IsUtf8 page → first_refusal pages page (page_work pages page) ≡ None
+        → AreReachedSlices page (page_tree pages page) }
+    ensures slices { (pages : Pages) (page : List ℕ) → IsUtf8 page → first_refusal pages page (page_work pages page) ≡ None
+        → HasNoGroup (page_tree pages page) → AreSlices page (page_tree pages page) }
+    ensures numbered { (pages : Pages) (page : List ℕ) → InPreorder (page_tree pages page) }
 {}
 
 /// What an expanded page in UTF-8 has beside what `page_is_sound` of `wt_expansion` says: the source

@@ -4,4 +4,6 @@
 
 mod laws;
 
-pub use laws::{expanded_page_is_text, groups_are_labelled, page_is_read, whole_page_tree};
+pub use laws::{
+    expanded_page_is_text, groups_are_labelled, items_are_the_page, page_is_read, whole_page_tree,
+};

@@ -1,0 +1,278 @@
+-- The annotated tree of a page with calls is written, where its tree without groups is shown.
+use Rattle.std.proofs.Common.{◌≡◌, ℕ, suc, ◌+◌, ◌<◌, ◌≤◌, ◌^◌, ◌⊎◌, Bool, true, false, Option, None, List, [], ◌++◌, length, refl, sym, ap, ◌∙◌, subst, arith, inl, inr}
+use Rattle.std.specs.List.{AllByRecursion, list_all}
+use Rattle.std.proofs.lemmas.Str.{IsUtf8-nil}
+use Rattle.wt_tree.specs.declared.kind.Kind.{Kind}
+use Rattle.wt_tree.specs.declared.kind.Kind.TheVariants as kind
+use Rattle.wt_tree.specs.declared.row.Texts.{Texts}
+use Rattle.wt_tree.specs.declared.row.Texts.TheVariants.{Separators, Page, Bordered, OwnCharacter}
+use Rattle.wt_tree.specs.declared.row.Writing.{Writing}
+use Rattle.wt_tree.specs.Kinds.{writing, is_leaf, may_hold, texts_of_kind, spelling}
+use Rattle.wt_tree.specs.Elements.{span}
+use Rattle.wt_tree.specs.Recut.{is_as_text}
+use Rattle.wt_tree.specs.Tree.{Label, Tree, tree, Trees, none, label, trees}
+use Rattle.wt_fitting.specs.Rows.{holds_text}
+use Rattle.wt_markup.specs.Html.{groups}
+use Rattle.wt_span.specs.Cuts.{page_of}
+use Rattle.wt_span.specs.Items.{Item, sources}
+use Rattle.wt_span.specs.Origins.{OuterCall}
+use Rattle.wt_span.specs.Runs.{runs}
+use Rattle.wt_span.proofs.RunLaws.{runs_are}
+use Rattle.wt_round_trip.specs.Written.{HasPlaces, is_childless, IsWritten}
+use Rattle.wt_inline.specs.ItemTree.{Head, plain, ItemTree, inner, ItemTrees, nothing, further, tree_items, held_by_all}
+use Rattle.wt_ranges.specs.Annotated.{kept_label, unplaced, all_unplaced, placed, annotated}
+use Rattle.wt_ranges.specs.Clean.{is_page, own_by, is_clean}
+use Rattle.wt_ranges.specs.Counted.{numbered_in_all}
+use Rattle.wt_ranges.specs.CutTexts.{cut_texts}
+use Rattle.wt_ranges.specs.GroupData.{group_data}
+use Rattle.wt_ranges.specs.Grouped.{Grouped, grouped}
+use Rattle.wt_ranges.specs.Labels.{width, if_leaf, if_inner, label_at}
+use Rattle.wt_ranges.specs.Numbering.{count, with_numbers, all_with_numbers}
+use Rattle.wt_ranges.specs.Reached.{AreReachedSlices, start_of, size_of}
+use Rattle.wt_ranges.specs.Seams.{last_of, first_of, text_from}
+use Rattle.wt_ranges.specs.Walked.{clean_at, Near, near_tied, near_nodes, near_runs, walked, near}
+use Rattle.wt_ranges.specs.WithoutCalls.{inside_by}
+use Rattle.wt_ranges.proofs.CutNumbered.{cut_numbered}
+use Rattle.wt_ranges.proofs.CutPlaced.{placed_bare}
+use Rattle.wt_ranges.proofs.Ends.{start_is, size_is, stand, body_clean}
+use Rattle.wt_ranges.proofs.Slices.{slices}
+use Rattle.wt_ranges.proofs.Walks.{walk_all}
+use Rattle.wt_page_round_trip.specs.GroupTexts.{ArePageCalls, AllHoldTexts}
+use Rattle.wt_page_round_trip.proofs.LabelledGroups.{IfGroup, OfGroups, IsAlmost, annotated_almost}
+use Rattle.wt_page_round_trip.proofs.OwnNodes.{is_own, AreOwn, HasOrigin, IsParted, AreParted}
+use Rattle.wt_page_round_trip.proofs.ShownNodes.{IsShownLabel, NodeIsShown, IsOrdered, IsShownIn, AreShownIn}
+use Rattle.wt_page_round_trip.proofs.Shown.{none_group}
+use Rattle.wt_page_round_trip.proofs.DrawnTrees.{NodeIsDrawn, IsInOrder, IsDrawnGroup, IsDrawnIn, AreDrawnIn, element_numbered, all_numbered_uncut}
+use Rattle.wt_page_round_trip.proofs.CutDrawn.{all_uncut_written}
+use Rattle.wt_page_round_trip.proofs.KeptNodes.{clean_own, leaf_source, opening_source, closing_source, label_of, kept_drawn, own_clean, own_free, span_held}
+use Rattle.wt_page_round_trip.proofs.GroupCounts.{few_groups}
+use Rattle.wt_page_round_trip.proofs.NumbersFew.{children_light, nodes_light}
+use Rattle.wt_page_round_trip.proofs.DrawnRuns.{kind_of, IsNear, IsFree, MayGroup, runs_drawn, order_drawn}
+
+-- ---- a kept node
+
+-- the mark of an empty call isn't kept
+not_empty : (k : Kind) (opening : List Item) (ts : ItemTrees) (closing : List Item) → HasOrigin k opening ts closing
+    → list_all is_page (own_by (is_leaf k) opening (held_by_all ts) closing) ≡ true → k ≡ kind.Empty → ⊥
+not_empty k opening ts closing n e f =
+    let n2 : list_all is_page (opening ++ (held_by_all ts ++ closing)) ≡ false = subst (λ (x : Kind). HasOrigin x opening ts closing) f n in
+    let e2 : list_all is_page (opening ++ (held_by_all ts ++ closing)) ≡ true =
+    subst (λ (x : Kind). list_all is_page (own_by (is_leaf x) opening (held_by_all ts) closing) ≡ true) f e in
+    absurd (let g : false ≡ true = sym n2 ∙ e2 in cc)
+
+-- the same node with the sources that stand on the page
+with_sources : (w : Writing) (k : ℕ) (q : Kind) (h : Head) (childless : Bool) (inside : Type 0) (a b c d e f : List ℕ) → a ≡ d → b ≡ e → c ≡ f
+    → NodeIsShown w k q (label_of h None a b c) childless inside → NodeIsShown w k q (label_of h None d e f) childless inside
+with_sources w k q h childless inside a b c d e f x y z n =
+    subst (λ v. NodeIsShown w k q (label_of h None d e v) childless inside) z
+    (subst (λ v. NodeIsShown w k q (label_of h None d v c) childless inside) y
+    (subst (λ v. NodeIsShown w k q (label_of h None v b c) childless inside) x n))
+
+-- what stands in a node that is a leaf or isn't
+abbrev Shows : Texts → ℕ → Kind → Trees → Type 0
+Shows x k q us = IsOrdered x us × AreShownIn k q us
+
+abbrev Draws : Texts → ℕ → Kind → Trees → Type 0
+Draws x k q us = IsInOrder x us × AreDrawnIn k q us
+
+order_none : (x : Texts) → IsInOrder x none
+order_none Separators = tt
+order_none Page = tt
+order_none Bordered = refl
+order_none OwnCharacter = tt
+
+inside_leaf : (leaf : Bool) (x : Texts) (k : ℕ) (q : Kind) (us vs : Trees) → (leaf ≡ false → Shows x (suc k) q us → Draws x k q vs)
+    → Shows x (suc k) q (inside_by leaf us) → Draws x k q (inside_by leaf vs)
+inside_leaf true x k q us vs f h = (order_none x, tt)
+inside_leaf false x k q us vs f h = f refl h
+
+childless_leaf : (leaf : Bool) (us vs : Trees) → (is_childless us ≡ true → is_childless vs ≡ true) → is_childless (inside_by leaf us) ≡ true
+    → is_childless (inside_by leaf vs) ≡ true
+childless_leaf true us vs f e = refl
+childless_leaf false us vs f e = f e
+
+node_drawn : (calls : List OuterCall) (k : ℕ) (q : Kind) (o : Option ℕ) (at : ℕ) (p : Option ℕ) (h : Head) (opening : List Item) (ts : ItemTrees)
+    (closing : List Item) (vs : Trees) → clean_at o p (inner h opening ts closing) ≡ true → HasOrigin h.kind opening ts closing
+    → (is_childless (all_unplaced ts) ≡ true → is_childless vs ≡ true)
+    → (suc k < 200 → is_leaf h.kind ≡ false → Shows (texts_of_kind h.kind) (suc (suc k)) h.kind (all_unplaced ts)
+    → Draws (texts_of_kind h.kind) (suc k) h.kind vs)
+    → IsShownIn (suc k) q (unplaced (inner h opening ts closing))
+    → IsDrawnIn k q (tree (kept_label (is_leaf h.kind) h at (text_from calls o (opening ++ (held_by_all ts ++ closing))) (text_from calls o opening)
+    (text_from calls (last_of (last_of o opening) (held_by_all ts)) closing)) (inside_by (is_leaf h.kind) vs))
+unfolding label_at
+node_drawn calls k q o at p h opening ts closing vs e n c f s =
+    let leaf : Bool = is_leaf h.kind in
+    let own : list_all is_page (own_by leaf opening (held_by_all ts) closing) ≡ true = clean_own o p h opening ts closing e in
+    let l : Label = kept_label leaf h at (text_from calls o (opening ++ (held_by_all ts ++ closing))) (text_from calls o opening)
+    (text_from calls (last_of (last_of o opening) (held_by_all ts)) closing) in
+    let us : Trees = inside_by leaf (all_unplaced ts) in
+    let ws : Trees = inside_by leaf vs in
+    let x : Texts = texts_of_kind h.kind in
+    let d : NodeIsDrawn (writing h.kind) k q l (is_childless ws) (Draws x (suc k) h.kind ws) =
+    kept_drawn (writing h.kind) k q h l.ranges l.opening l.closing l.own (is_childless us) (is_childless ws) (Shows x (suc (suc k)) h.kind us)
+    (Draws x (suc k) h.kind ws) (not_empty h.kind opening ts closing n own) (childless_leaf leaf (all_unplaced ts) vs c)
+    (λ small. inside_leaf leaf x (suc k) h.kind (all_unplaced ts) vs (f small))
+    (with_sources (writing h.kind) (suc k) q h (is_childless us) (Shows x (suc (suc k)) h.kind us)
+    (if_inner leaf (sources opening)) (if_inner leaf (sources closing)) (if_leaf leaf (sources (opening ++ (held_by_all ts ++ closing))))
+    l.opening l.closing l.own
+    (opening_source leaf calls o opening (held_by_all ts) closing own)
+    (closing_source leaf calls (last_of (last_of o opening) (held_by_all ts)) opening (held_by_all ts) closing own)
+    (leaf_source leaf calls o opening (held_by_all ts) closing own) s) in
+    subst (λ (g : Bool). IfGroup g (IsDrawnGroup k q ws) (NodeIsDrawn (writing h.kind) k q l (is_childless ws) (Draws x (suc k) h.kind ws)))
+    (sym (none_group (suc k) q (label (unplaced (inner h opening ts closing))) us s)) d
+
+-- ---- children
+
+near_nodes_are : (calls : List OuterCall) (o : Option ℕ) (at : ℕ) (p : Option ℕ) (ts : ItemTrees)
+    → near_nodes (near calls (group_data calls) o at p ts) ≡ ts
+near_nodes_are calls o at p nothing = refl
+near_nodes_are calls o at p (further t ts) =
+    ap (further t) (near_nodes_are calls (last_of o (tree_items t)) (at + length (text_from calls o (tree_items t))) p ts)
+
+walked_kind : (calls : List OuterCall) (o : Option ℕ) (at : ℕ) (p : Option ℕ) (t : ItemTree)
+    → (label (walked calls (group_data calls) o at p t)).kind ≡ kind_of t
+walked_kind calls o at p (inner h opening ts closing) = refl
+
+leaf_text : (k : Kind) → is_as_text (writing k) ≡ true → is_leaf k ≡ true
+leaf_text kind.Text e = refl
+leaf_text kind.Sep e = refl
+leaf_text k e = absurd cc
+
+text_own : (o p : Option ℕ) (t : ItemTree) → clean_at o p t ≡ true → is_as_text (writing (kind_of t)) ≡ true → is_own t ≡ true
+text_own o p (inner h opening ts closing) e f =
+    ap (λ v. list_all is_page (own_by v opening (held_by_all ts) closing)) (sym (leaf_text h.kind f)) ∙ clean_own o p h opening ts closing e
+
+own_nears : (calls : List OuterCall) (o : Option ℕ) (at : ℕ) (p : Option ℕ) (ts : ItemTrees) → AreOwn ts
+    → AllByRecursion IsFree (near calls (group_data calls) o at p ts)
+own_nears calls o at p nothing h = tt
+own_nears calls o at p (further t ts) h = (
+  (own_clean o (first_of (held_by_all ts) p) t h.0 h.1, own_free o (first_of (held_by_all ts) p) t h.0 h.1),
+  own_nears calls (last_of o (tree_items t)) (at + length (text_from calls o (tree_items t))) p ts h.2,
+)
+
+-- in which nodes there may be groups, and in which there are none
+may_group : (k : Kind) (opening : List Item) (ts : ItemTrees) (closing : List Item) (cs : List Near) → is_leaf k ≡ false → HasOrigin k opening ts closing
+    → list_all is_page (own_by (is_leaf k) opening (held_by_all ts) closing) ≡ true → (AreOwn ts → AllByRecursion IsFree cs) → MayGroup k cs
+may_group k opening ts closing cs leaf n e f = by_span (span_held k)
+  where
+    by_span : (k ≡ kind.Nowiki) ⊎ (is_leaf k ≡ false → holds_text k ≡ true → may_hold k span.kind ≡ true) → MayGroup k cs
+    by_span (inr g) = inl (g leaf)
+    by_span (inl g) =
+        let n2 : list_all is_page (opening ++ closing) ≡ true → AreOwn ts = subst (λ (x : Kind). HasOrigin x opening ts closing) g n in
+        inr (f (n2 (ap (λ v. list_all is_page (own_by v opening (held_by_all ts) closing)) (sym leaf) ∙ e)))
+
+childless_runs : (calls : List OuterCall) (o : Option ℕ) (at : ℕ) (p : Option ℕ) (ts : ItemTrees) → is_childless (all_unplaced ts) ≡ true
+    → is_childless (trees (near_runs calls (group_data calls) (near calls (group_data calls) o at p ts))) ≡ true
+childless_runs calls o at p nothing e = refl
+childless_runs calls o at p (further t ts) e = absurd cc
+
+mutual
+  walked_drawn : (calls : List OuterCall) (k : ℕ) (q : Kind) (o : Option ℕ) (at : ℕ) (p : Option ℕ) (t : ItemTree) → clean_at o p t ≡ true
+      → IsShownIn (suc k) q (unplaced t) → IsParted t → IsDrawnIn k q (walked calls (group_data calls) o at p t)
+  walked_drawn calls k q o at p (inner h opening ts closing) e s n =
+      let place : ℕ = at + length (text_from calls o opening) in
+      let ns : List Near = near calls (group_data calls) (last_of o opening) place (first_of closing p) ts in
+      node_drawn calls k q o at p h opening ts closing (trees (near_runs calls (group_data calls) ns)) e n.0
+      (childless_runs calls (last_of o opening) place (first_of closing p) ts)
+      (λ small leaf i.
+      let good : AllByRecursion (IsNear (suc k) h.kind) ns = nears_drawn calls (suc k) h.kind (last_of o opening) place (first_of closing p) ts i.1 n.1 in
+      let same : near_nodes ns ≡ ts = near_nodes_are calls (last_of o opening) place (first_of closing p) ts in
+      let may : MayGroup h.kind ns = may_group h.kind opening ts closing ns leaf n.0 (clean_own o p h opening ts closing e)
+      (own_nears calls (last_of o opening) place (first_of closing p) ts) in (
+        order_drawn (texts_of_kind h.kind) calls (suc k) h.kind (runs near_tied ns) ns (runs_are near_tied ns) good
+            (subst (λ (us : ItemTrees). IsOrdered (texts_of_kind h.kind) (all_unplaced us)) (sym same) i.0),
+        runs_drawn calls (suc k) h.kind (runs near_tied ns) ns (runs_are near_tied ns) small may good (subst AreParted (sym same) n.1),
+      )) s
+
+  nears_drawn : (calls : List OuterCall) (k : ℕ) (q : Kind) (o : Option ℕ) (at : ℕ) (p : Option ℕ) (ts : ItemTrees) → AreShownIn (suc k) q (all_unplaced ts)
+      → AreParted ts → AllByRecursion (IsNear k q) (near calls (group_data calls) o at p ts)
+  nears_drawn calls k q o at p nothing s n = tt
+  nears_drawn calls k q o at p (further t ts) s n = (
+    record {
+      shown = s.0;
+      kind = walked_kind calls o at (first_of (held_by_all ts) p) t;
+      drawn = λ e. walked_drawn calls k q o at (first_of (held_by_all ts) p) t e s.0 n.0;
+      own = λ e f. text_own o (first_of (held_by_all ts) p) t e f;
+    },
+    nears_drawn calls k q (last_of o (tree_items t)) (at + length (text_from calls o (tree_items t))) p ts s.1 n.2,
+  )
+
+-- ---- the page
+
+abbrev body_of : ItemTrees → ItemTree
+body_of ts = inner (plain kind.Body) [] ts []
+
+placed_slices : (calls : List OuterCall) (t : ItemTree) → is_clean (tree_items t) 0 t ≡ true
+    → AreReachedSlices (page_of calls (tree_items t)) (placed calls (group_data calls) (tree_items t) (grouped (tree_items t) 0 t))
+placed_slices calls t q =
+    let g : Grouped = grouped (tree_items t) 0 t in
+    let w : start_of g + size_of g ≤ length (tree_items t) = omega (arith, start_is (tree_items t) 0 t, size_is (tree_items t) 0 t) in
+    slices calls (group_data calls) (tree_items t) g (stand (tree_items t) 0 t q).0 w
+
+-- the body as the walk makes it, without numbers
+abbrev walked_body : List OuterCall → ItemTrees → Tree
+walked_body calls ts = walked calls (group_data calls) None 0 None (body_of ts)
+
+body_label : (at : ℕ) (source : List ℕ) → IsShownLabel (kept_label false (plain kind.Body) at source [] [])
+unfolding spelling
+body_label at source = record {
+  level = refl;
+  source = record { own = refl; opening = IsUtf8-nil; closing = IsUtf8-nil };
+  shown = refl;
+  attrs = refl;
+  origin = refl;
+  mark = refl;
+  mw = refl;
+}
+
+whole_body : (page : List ℕ) (calls : List OuterCall) (ts : ItemTrees) → length page < 2 ^ 32 → AreReachedSlices page (walked_body calls ts)
+    → OfGroups IsAlmost (walked_body calls ts) → 1 + count (walked_body calls ts) ≤ 2 ^ 32 → AreShownIn 3 kind.Body (all_unplaced ts) → AreParted ts
+    → IsWritten (cut_texts (with_numbers 1 (walked_body calls ts)))
+whole_body page calls ts room s almost few shown n =
+    let ns : List Near = near calls (group_data calls) None 0 None ts in
+    let vs : Trees = trees (near_runs calls (group_data calls) ns) in
+    let good : AllByRecursion (IsNear 2 kind.Body) ns = nears_drawn calls 2 kind.Body None 0 None ts shown n in
+    let same : near_nodes ns ≡ ts = near_nodes_are calls None 0 None ts in
+    let drawn : AreDrawnIn 2 kind.Body vs =
+    runs_drawn calls 2 kind.Body (runs near_tied ns) ns (runs_are near_tied ns) (omega arith) (inl (λ e. absurd cc)) good (subst AreParted (sym same) n) in (
+      refl,
+      element_numbered 0 (label (walked_body calls ts)) (body_label 0 (text_from calls None (held_by_all ts ++ []))) refl (body_places page calls ts room s),
+      all_uncut_written 2 kind.Body (all_with_numbers 1 vs) (all_numbered_uncut page 2 1 kind.Body vs room (omega arith) (omega (arith, few)) almost s.1 drawn),
+    )
+  where
+    body_places : (page : List ℕ) (calls : List OuterCall) (ts : ItemTrees) → length page < 2 ^ 32 → AreReachedSlices page (walked_body calls ts)
+        → HasPlaces (label (walked_body calls ts)).ranges
+    body_places page calls ts room s = (omega arith, omega (arith, room, s.0.within), omega arith, omega arith)
+
+-- The annotated tree of a body whose nodes are shown and parted, and cut between characters.
+pub grouped_written : (calls : List OuterCall) (ts : ItemTrees) → ArePageCalls calls → AreShownIn 3 kind.Body (all_unplaced ts) → AreParted ts
+    → AllHoldTexts ts → length (page_of calls (tree_items (body_of ts))) < 2 ^ 32
+    → numbered_in_all ts + width (held_by_all ts) < 2 ^ 32
+    → IsWritten (annotated calls (group_data calls) (body_of ts))
+unfolding annotated
+grouped_written calls ts c shown n holds room small =
+    let t : ItemTree = body_of ts in
+    let g : Grouped = grouped (tree_items t) 0 t in
+    let p : Tree = placed calls (group_data calls) (tree_items t) g in
+    let page : List ℕ = page_of calls (tree_items t) in
+    let same : walked_body calls ts ≡ p = walk_all calls (group_data calls) t in
+    let clean : is_clean (tree_items t) 0 t ≡ true = body_clean ts in
+    let few : 1 + count (walked_body calls ts) ≤ 2 ^ 32 =
+    omega (arith, children_light calls None 0 None ts, nodes_light 3 kind.Body ts shown, small) in
+    let w : IsWritten (cut_texts (with_numbers 1 (walked_body calls ts))) =
+    whole_body page calls ts room (subst (AreReachedSlices page) (sym same) (placed_slices calls t clean))
+    (subst (OfGroups IsAlmost) (sym same) (annotated_almost calls t c (refl, IsUtf8-nil, holds, IsUtf8-nil))) few shown n in
+    subst IsWritten (ap (λ (u : Tree). cut_texts (with_numbers 1 u)) same ∙ cut_numbered 1 p (placed_bare calls (group_data calls) (tree_items t) g)) w
+
+-- ---- its numbers and groups
+
+-- it has no more numbers than its nodes have and bytes stand in it
+pub placed_few : (calls : List OuterCall) (ts : ItemTrees) → AreShownIn 3 kind.Body (all_unplaced ts)
+    → count (placed calls (group_data calls) (tree_items (body_of ts)) (grouped (tree_items (body_of ts)) 0 (body_of ts)))
+    ≤ numbered_in_all ts + width (held_by_all ts)
+placed_few calls ts shown =
+    omega (arith, children_light calls None 0 None ts, nodes_light 3 kind.Body ts shown, ap count (walk_all calls (group_data calls) (body_of ts)))
+
+pub few_groups_in : (calls : List OuterCall) (ts : ItemTrees) → AreShownIn 3 kind.Body (all_unplaced ts)
+    → numbered_in_all ts + width (held_by_all ts) < 2 ^ 32 → groups (annotated calls (group_data calls) (body_of ts)) < 2 ^ 64
+few_groups_in calls ts shown small = few_groups calls (body_of ts) (omega (arith, placed_few calls ts shown, small))
