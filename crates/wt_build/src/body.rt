@@ -16,7 +16,7 @@ use crate::text::plain_node;
 use crate::unread::Unread;
 use std::alloc::Global;
 use wt_inline::{Children, Loose, PieceTree};
-use wt_span::{Items, List, NoMemory};
+use wt_span::{Items, List, NoMemory, Piece};
 use wt_tree::Kind;
 
 /// How many tables may stand one inside the other.
@@ -85,14 +85,15 @@ fn with_next<'p, 'a>(
     }
 }
 
-/// The meaning of a page's items: blocks with what stands in them, and separators between them, by
+/// The meaning of pieces as a page: blocks with what stands in them, and separators between them, by
 /// MediaWiki's block pass in the profile's form. Joined, the sources of the tree are the texts of
-/// the items.
-pub fn build<'a>(alloc: Global, items: &Items<'a>) -> Result<Tree<'a>, NoMemory>
-    ensures { IfOk result (λ t. item_tree t.body ≡ meaning items.now.items) }
+/// the pieces.
+pub fn build_pieces<'a>(alloc: Global, pieces: &[Piece<'a>]) -> Result<Tree<'a>, NoMemory>
+    requires { All IsSoundPiece pieces.now }
+    ensures { IfOk result (λ t. item_tree t.body ≡ meaning (items pieces.now)) }
 {
     let mut children = Children::new(alloc);
-    let mut rest = Unread::of(items.pieces());
+    let mut rest = Unread::of(pieces);
     while !rest.is_empty() {
         let (grown, after) = with_next(alloc, children, rest)?;
         children = grown;
@@ -102,4 +103,11 @@ pub fn build<'a>(alloc: Global, items: &Items<'a>) -> Result<Tree<'a>, NoMemory>
     Ok(Tree {
         body: plain_node(alloc, Kind::Body, List::new(alloc), nodes),
     })
+}
+
+/// The meaning of a page's items.
+pub fn build<'a>(alloc: Global, items: &Items<'a>) -> Result<Tree<'a>, NoMemory>
+    ensures { IfOk result (λ t. item_tree t.body ≡ meaning items.now.items) }
+{
+    build_pieces(alloc, items.pieces())
 }

@@ -22,4 +22,4 @@ mod text;
 mod unit;
 mod unread;
 
-pub use body::{Tree, build};
+pub use body::{Tree, build, build_pieces};

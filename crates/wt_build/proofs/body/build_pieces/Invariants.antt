@@ -5,12 +5,12 @@ use Rattle.wt_span.specs.Origins.{IsSoundPiece}
 use Rattle.wt_inline.specs.Grown.{growth}
 use Rattle.wt_build.specs.Unread.{left}
 use Rattle.wt_build.specs.Sections.{Carries}
-use Rattle.wt_build.proofs.body.build.Given as goal
+use Rattle.wt_build.proofs.body.build_pieces.Given as goal
 
 abbrev pub invariant-loop-rest : goal.invariant-loop-rest
 invariant-loop-rest l = record {
   sound : All IsSoundPiece (left l.rest);
-  carries : Carries (growth l.initial.children) l.items.items (growth l.children) (items (left l.rest));
+  carries : Carries (growth l.initial.children) (items l.pieces) (growth l.children) (items (left l.rest));
 }
 
 abbrev pub decreases-loop-rest : goal.decreases-loop-rest
