@@ -211,7 +211,8 @@ category_shown most attrs good own small u k parent le p = (
   (tt, tt),
 )
 
-pub category_leaf : (most : ℕ) (attrs : List (AttrName × List ℕ)) → HasAttributes kind.Category attrs → (own : List Item) → most < 199 → ArePageItems own → NodeFits most (leaf (with_attrs kind.Category attrs) own)
+pub category_leaf : (most : ℕ) (attrs : List (AttrName × List ℕ)) → HasAttributes kind.Category attrs
+    → (own : List Item) → most < 199 → ArePageItems own → NodeFits most (leaf (with_attrs kind.Category attrs) own)
 category_leaf most attrs good own small u = record {
   page = (u, no_page_items, refl, tt, tt);
   element = refl;
@@ -237,7 +238,8 @@ switch_shown most attrs good own small u k parent le p = (
   (tt, tt),
 )
 
-pub switch_leaf : (most : ℕ) (attrs : List (AttrName × List ℕ)) → HasAttributes kind.Switch attrs → (own : List Item) → most < 199 → ArePageItems own → NodeFits most (leaf (with_attrs kind.Switch attrs) own)
+pub switch_leaf : (most : ℕ) (attrs : List (AttrName × List ℕ)) → HasAttributes kind.Switch attrs
+    → (own : List Item) → most < 199 → ArePageItems own → NodeFits most (leaf (with_attrs kind.Switch attrs) own)
 switch_leaf most attrs good own small u = record {
   page = (u, no_page_items, refl, tt, tt);
   element = refl;
