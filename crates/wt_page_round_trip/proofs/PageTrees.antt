@@ -26,7 +26,7 @@ use Rattle.wt_page_round_trip.specs.PageTree.{page_tree}
 abbrev pub IsItsPage : Pages → List ℕ → Type 0
 IsItsPage pages page = page_of (expanded_page pages page).outer (tree_items (meaning (expanded_page pages page).items)) ≡ page
 
-clean_meaning : (xs : List Item) → is_clean (tree_items (meaning xs)) 0 (meaning xs) ≡ true
+pub clean_meaning : (xs : List Item) → is_clean (tree_items (meaning xs)) 0 (meaning xs) ≡ true
 unfolding meaning
 clean_meaning xs = body_clean (forest (children (body_parts (rows xs))))
 
