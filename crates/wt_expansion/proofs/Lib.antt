@@ -1,4 +1,5 @@
 pub mod FoundLaws
+pub mod KnownLaws
 pub mod MarkBytes
 pub mod PageWalk
 pub mod PieceLaws

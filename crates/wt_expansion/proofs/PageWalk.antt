@@ -1,5 +1,5 @@
 -- A walk over the whole page finds the expanded page.
-use Rattle.std.proofs.Common.{◌≡◌, ℕ, true, Option, None, List, [], ◌++◌, length, drop, map, sym, ap, ◌∙◌, subst}
+use Rattle.std.proofs.Common.{◌≡◌, ℕ, true, List, [], ◌++◌, length, drop, map, sym, ap, ◌∙◌, subst}
 use Rattle.std.specs.Str.{IsUtf8}
 use Rattle.wt_span.specs.declared.form.Mode.TheVariants as mode
 use Rattle.wt_span.specs.declared.form.Piece.{Piece}
@@ -9,22 +9,16 @@ use Rattle.wt_span.specs.Items.{items}
 use Rattle.wt_span.specs.Lexemes.{words}
 use Rattle.wt_span.specs.Braces.{Member, members, reduced}
 use Rattle.wt_span.specs.Origins.{AreItems, Expanded, OuterCall, Span, outer_call, span_of}
-use Rattle.wt_expand.specs.Expansion.{Reading, joined, outputs_of, page_work, text_given, text_members}
+use Rattle.wt_expand.specs.Expansion.{Reading, joined, outputs_of, text_given, text_members}
 use Rattle.wt_expand.specs.PageCalls.{all_stretches, expanded_page, outer_calls, page_stretches, text_spans}
-use Rattle.wt_expand.specs.Work.{Entry, Pages, deep_place, first_refusal}
-use Rattle.wt_transclusion.specs.declared.refusal.ExpandRefusal.{ExpandRefusal}
-use Rattle.wt_transclusion.specs.declared.store.Store.{Store}
-use Rattle.wt_transclusion.specs.Answers.{IsRefused}
+use Rattle.wt_expand.specs.Work.{Pages}
 use Rattle.wt_transclusion.specs.Steps.{IsStretchOf, given_from}
-use Rattle.wt_transclusion.specs.Stores.{IsStore}
 use Rattle.wt_transclusion.proofs.StretchCuts.{whole_stretch}
-use Rattle.wt_levels.specs.declared.expansion.Expansion.{Expansion}
-use Rattle.wt_levels.specs.Ledgers.{Comes, ledger}
-use Rattle.wt_levels.proofs.PageLaws.{IsWorked, page_refused, page_worked, reading_is}
+use Rattle.wt_levels.proofs.PageLaws.{reading_is}
 use Rattle.wt_levels.proofs.StepLaws.{drop_none}
 use Rattle.wt_expansion.specs.declared.found.Found.{Found}
 use Rattle.wt_expansion.specs.Made.{AreAlike, Give}
-use Rattle.wt_expansion.specs.Walks.{Finds, IsFree, RefusesWork, Walked, at_page}
+use Rattle.wt_expansion.specs.Walks.{Finds, at_page}
 use Rattle.wt_expansion.proofs.PieceLaws.{page_is_items, page_pieces}
 
 -- the members of the page
@@ -75,46 +69,3 @@ page_found pages page old new to ps cs ts utf8 no_pieces no_outer no_texts f ps_
           ∙ ap (λ (x : List Span). let r : Expanded = record { items = items f.adds.pieces; outer = outer_calls done; text_calls = x } in r) same_ts
           ∙ page_is_items pages page done f.adds.pieces to alike give;
     }
-
--- ---- the whole page
-
--- the expanded page is found, and its work is done
-pub record IsExpanded (pages : Pages) (page : List ℕ) (answered told : Option (List (List ℕ))) (ps : List Piece) (cs : List Outer) (ts : List Range)
-    : Type 0 where
-  pub found : ArePage pages page ps cs ts
-  pub worked : IsWorked pages page answered told
-
--- what a walk over the whole page finds, where nothing was found before and nothing spent
-abbrev pub WalkedPage : Pages → List ℕ → ℕ → Option (List (List ℕ)) → ℕ → Found → Found → Store → ℕ → Option (List (List ℕ)) → Type 0
-WalkedPage pages page spent answered to old new store now told =
-    Walked pages page (ledger spent [] answered) (all_stretches (at_page pages) 0 true (drop 0 page) (members (page_members page)))
-    (given_from (at_page pages) true page 0 (page_members page)).work 0 to old new store now told
-
-pub page_expanded : (pages : Pages) (page : List ℕ) (spent : ℕ) (answered told : Option (List (List ℕ))) (to : ℕ) (old new : Found) (store : Store)
-    (now : ℕ) (ps : List Piece) (cs : List Outer) (ts : List Range) → IsUtf8 page → deep_place mode.Page page ≡ None → spent ≡ 0
-    → old.pieces.items ≡ [] → old.outer.items ≡ [] → old.text_calls.items ≡ [] → WalkedPage pages page spent answered to old new store now told
-    → ps ≡ new.pieces.items → cs ≡ new.outer.items → ts ≡ new.text_calls.items → IsExpanded pages page answered told ps cs ts
-page_expanded pages page spent answered told to old new store now ps cs ts utf8 fits free a b c h p q r =
-    let met = h.works.met in
-    let work = (given_from (at_page pages) true page 0 (page_members page)).work in
-    record {
-      found = page_found pages page old new to ps cs ts utf8 a b c h.finds p q r;
-      worked = page_worked pages page answered told met now fits
-          (subst (λ (es : List Entry). Comes pages page (ledger 0 [] answered) es (ledger now met told) []) (work_is pages page)
-          (subst (λ (n : ℕ). Comes pages page (ledger n [] answered) work (ledger now met told) []) free h.works.comes));
-    }
-
--- a refusal of the walk is the first one of the page
-pub page_walk_refused : (pages : Pages) (page : List ℕ) (spent : ℕ) (answered : Option (List (List ℕ))) (e : ExpandRefusal)
-    → deep_place mode.Page page ≡ None → spent ≡ 0
-    → RefusesWork pages page (ledger spent [] answered) (given_from (at_page pages) true page 0 (page_members page)).work e
-    → IsRefused (first_refusal pages page (page_work pages page)) e
-page_walk_refused pages page spent answered e fits free h =
-    let work = (given_from (at_page pages) true page 0 (page_members page)).work in
-    page_refused pages page e fits
-    (subst (λ (es : List Entry). RefusesWork pages page (ledger 0 [] answered) es e) (work_is pages page)
-    (subst (λ (n : ℕ). RefusesWork pages page (ledger n [] answered) work e) free h))
-
--- nothing is being expanded or known before
-pub free_at_first : (pages : Pages) (old x : Expansion) → x ≡ old → IsStore pages [] old.store → old.names ≡ [] → IsFree pages [] x
-free_at_first pages old x e s n = subst (λ (y : Expansion). IsFree pages [] y) (sym e) (record { stored = s; names = n })

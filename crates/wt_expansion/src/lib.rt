@@ -7,4 +7,4 @@ mod page;
 mod walk;
 
 pub use laws::{page_is_sound, pieces_are_the_page};
-pub use page::expand;
+pub use page::{ExpandedPage, expand, expand_knowing};

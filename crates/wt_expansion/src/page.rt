@@ -1,9 +1,11 @@
 //! A page with its templates expanded.
-ghost use Rattle.std.specs.Prelude.{◌≡◌, ◌<◌, ◌^◌, ◌++◌, Some, None, IfErr, IfOk, OnOk, length, option_map};
+ghost use Rattle.std.specs.Prelude.{◌≡◌, ◌<◌, ◌^◌, ◌++◌, ℕ, List, Some, None, IfErr, IfOk, OnOk, length, option_map};
 ghost use Rattle.wt_expand.specs.Expansion.{page_work};
 ghost use Rattle.wt_expand.specs.PageCalls.{expanded_page};
 ghost use Rattle.wt_expand.specs.Work.{Pages, first_refusal, names_asked};
 ghost use Rattle.wt_transclusion.specs.Answers.{IsCounted, IsRefused};
+ghost use Rattle.wt_expansion.specs.Known.{HoldsPages, KnowsMore};
+ghost use Rattle.wt_expansion.specs.Walks.{IsFree};
 
 use crate::walk::{MOST_NESTED, Walk};
 use bumpalo::Bump;
@@ -12,6 +14,66 @@ use wt_levels::{Expansion, Reader, read_page};
 use wt_outer::Folder;
 use wt_span::{Items, List};
 use wt_transclusion::ExpandRefusal;
+
+/// A page with its templates expanded, and the expansion that knows its templates and those that were known before
+/// it.
+#[derive(Drop)]
+pub struct ExpandedPage<'a> {
+    /// The items of the page.
+    pub items: Items<'a>,
+    /// The expansion, with the pages that were fetched.
+    pub expansion: Expansion<'a>,
+}
+
+/// The items of a page with its templates expanded, its outermost calls and arguments, and its text
+/// calls. The templates that the expansion knows already are taken as it knows them, and the others from a
+/// folder, each once; their texts are kept in the expansion's arena.
+///
+/// The machine's stack grows by the templates that are expanded one inside another, and by the
+/// targets of the page that stand one inside another.
+///
+/// # Errors
+///
+/// The first refusal in the order of the work; a fault of the folder; want of memory.
+pub fn expand_knowing<'a, F: Folder>(
+    alloc: Global,
+    page: &'a str,
+    arena: &'a Bump<Global>,
+    folder: &mut F,
+    expansion: Expansion<'a>,
+) -> Result<ExpandedPage<'a>, ExpandRefusal>
+    requires short { length page.now < 2 ^ 32 }
+    requires known { HoldsPages expansion }
+    ensures items { (pages : Pages) (met : List (List ℕ)) → F.pages folder.old ≡ Some pages → IsFree pages met expansion.entry
+        → IfOk result (λ found. found.items ≡ expanded_page pages page.entry.now) }
+    ensures some { IfOk result (λ found. (pages : Pages) × (found.items ≡ expanded_page pages page.entry.now)
+        × (first_refusal pages page.entry.now (page_work pages page.entry.now) ≡ None)) }
+    ensures whole { (pages : Pages) (met : List (List ℕ)) → F.pages folder.old ≡ Some pages → IsFree pages met expansion.entry
+        → OnOk result (first_refusal pages page.entry.now (page_work pages page.entry.now) ≡ None) }
+    ensures named { (pages : Pages) (met : List (List ℕ)) → F.pages folder.old ≡ Some pages → IsFree pages met expansion.entry
+        → IfOk result (λ found. KnowsMore pages met (page_work pages page.entry.now) found.expansion (F.answered folder.old) (F.answered folder.new)) }
+    ensures known { IfOk result (λ found. HoldsPages found.expansion) }
+    ensures refused { (pages : Pages) (met : List (List ℕ)) → F.pages folder.old ≡ Some pages → IsFree pages met expansion.entry
+        → IfErr result (IsRefused (first_refusal pages page.entry.now (page_work pages page.entry.now))) }
+    ensures kept { F.pages folder.new ≡ F.pages folder.old }
+    ensures count { IsCounted (F.fault_count folder.old) (F.fault_count folder.new) result }
+{
+    let text = read_page(alloc, page, arena)?;
+    let mut expansion = expansion;
+    expansion.spent = 0;
+    let mut walk = Walk::new(alloc, expansion);
+    walk.stretch(folder, Reader::start(text), page.len() as u32, MOST_NESTED)?;
+    let Walk {
+        alloc: _,
+        expansion,
+        found,
+    } = walk;
+    let pieces = List::from_vec(found.pieces);
+    let outer = List::from_vec(found.outer);
+    let text_calls = List::from_vec(found.text_calls);
+    let items = Items::new(pieces, outer, text_calls);
+    Ok(ExpandedPage { items, expansion })
+}
 
 /// The items of a page with its templates expanded, its outermost calls and arguments, and its text
 /// calls. The templates are taken from a folder, each once, and their texts are kept in the arena.
@@ -42,17 +104,7 @@ pub fn expand<'a, F: Folder>(
     ensures kept { F.pages folder.new ≡ F.pages folder.old }
     ensures count { IsCounted (F.fault_count folder.old) (F.fault_count folder.new) result }
 {
-    let text = read_page(alloc, page, arena)?;
     let expansion = Expansion::new(alloc, arena);
-    let mut walk = Walk::new(alloc, expansion);
-    walk.stretch(folder, Reader::start(text), page.len() as u32, MOST_NESTED)?;
-    let Walk {
-        alloc: _,
-        expansion: _,
-        found,
-    } = walk;
-    let pieces = List::from_vec(found.pieces);
-    let outer = List::from_vec(found.outer);
-    let text_calls = List::from_vec(found.text_calls);
-    Ok(Items::new(pieces, outer, text_calls))
+    let expanded = expand_knowing(alloc, page, arena, folder, expansion)?;
+    Ok(expanded.items)
 }

@@ -1,0 +1,130 @@
+-- A walk over the whole page, where some pages are known already.
+use Rattle.std.proofs.Common.{◌≡◌, ℕ, Bool, true, false, Option, Some, None, option_map, List, [], ◌∷◌, ◌++◌, drop, refl, sym, ap, ◌∙◌, subst, append-nil}
+use Rattle.std.specs.Str.{IsUtf8}
+use Rattle.wt_span.specs.declared.form.Mode.TheVariants as mode
+use Rattle.wt_span.specs.declared.form.Piece.{Piece}
+use Rattle.wt_span.specs.declared.form.Outer.{Outer}
+use Rattle.wt_span.specs.declared.range.Range.{Range}
+use Rattle.wt_span.specs.Braces.{members}
+use Rattle.wt_expand.specs.Expansion.{Reading, page_reading, page_work, text_given}
+use Rattle.wt_expand.specs.PageCalls.{all_stretches}
+use Rattle.wt_expand.specs.Work.{Entry, Pages, deep_place, entered, fetches, first_refusal, firsts_after, is_among, names_asked, refusal_from}
+use Rattle.wt_transclusion.specs.declared.refusal.ExpandRefusal.{ExpandRefusal}
+use Rattle.std.specs.HashMap.{get_by_text}
+use Rattle.wt_transclusion.specs.declared.read.ReadText.{ReadText}
+use Rattle.wt_transclusion.specs.declared.store.Store.{Store}
+use Rattle.wt_transclusion.specs.Answers.{IsFetched, IsRefused}
+use Rattle.wt_transclusion.specs.Steps.{given_from}
+use Rattle.wt_transclusion.specs.Stores.{Agrees, IsKept, IsKnown, IsStore}
+use Rattle.wt_transclusion.proofs.GrowthLaws.{agrees_before}
+use Rattle.wt_levels.specs.declared.expansion.Expansion.{Expansion}
+use Rattle.wt_levels.specs.Ledgers.{Comes, ledger}
+use Rattle.wt_levels.proofs.PageLaws.{entered_first, page_refused, reading_is}
+use Rattle.wt_expansion.specs.declared.found.Found.{Found}
+use Rattle.wt_expansion.specs.Known.{HoldsPages, KnowsMore}
+use Rattle.wt_expansion.specs.Walks.{IsFree, RefusesWork, Walked, at_page}
+use Rattle.wt_expansion.proofs.PageWalk.{ArePage, page_found, page_members, work_is}
+
+page_work_is : (pages : Pages) (page : List ℕ) → page_work pages page ≡ entered None ∷ (text_given (page_reading pages) page).work
+unfolding page_work
+page_work_is pages page = refl
+
+-- the page is found, nothing refuses it, and what it asked for is known
+pub record IsFound (pages : Pages) (page : List ℕ) (met : List (List ℕ)) (x : Expansion) (answered told : Option (List (List ℕ))) (ps : List Piece)
+    (cs : List Outer) (ts : List Range) : Type 0 where
+  pub found : ArePage pages page ps cs ts
+  pub allowed : first_refusal pages page (page_work pages page) ≡ None
+  pub more : KnowsMore pages met (page_work pages page) x answered told
+
+-- what a walk over the whole page finds, where nothing was found before and nothing spent
+abbrev pub WalkedFrom : Pages → List ℕ → List (List ℕ) → ℕ → Option (List (List ℕ)) → ℕ → Found → Found → Store → ℕ → Option (List (List ℕ)) → Type 0
+WalkedFrom pages page met spent answered to old new store now told =
+    Walked pages page (ledger spent met answered) (all_stretches (at_page pages) 0 true (drop 0 page) (members (page_members page)))
+    (given_from (at_page pages) true page 0 (page_members page)).work 0 to old new store now told
+
+pub page_is_found : (pages : Pages) (page : List ℕ) (met : List (List ℕ)) (spent : ℕ) (answered told : Option (List (List ℕ))) (to : ℕ)
+    (old new : Found) (x : Expansion) (ps : List Piece) (cs : List Outer) (ts : List Range) → IsUtf8 page
+    → deep_place mode.Page page ≡ None → spent ≡ 0 → old.pieces.items ≡ [] → old.outer.items ≡ [] → old.text_calls.items ≡ []
+    → x.names ≡ [] → WalkedFrom pages page met spent answered to old new x.store x.spent told
+    → ps ≡ new.pieces.items → cs ≡ new.outer.items → ts ≡ new.text_calls.items → IsFound pages page met x answered told ps cs ts
+page_is_found pages page met spent answered told to old new x ps cs ts utf8 fits free a b c names h p q r =
+    let known = h.works.met in
+    let walked = (given_from (at_page pages) true page 0 (page_members page)).work in
+    let w = (text_given (page_reading pages) page).work in
+    let comes = subst (λ (y : Reading). Comes pages page (ledger 0 met answered) (text_given y page).work (ledger x.spent known told) []) (reading_is pages)
+    (subst (λ (es : List Entry). Comes pages page (ledger 0 met answered) es (ledger x.spent known told) []) (work_is pages page)
+    (subst (λ (n : ℕ). Comes pages page (ledger n met answered) walked (ledger x.spent known told) []) free h.works.comes)) in
+    record {
+      found = page_found pages page old new to ps cs ts utf8 a b c h.finds p q r;
+      allowed = entered_first pages page fits ∙ ap (refusal_from pages page 0) (sym (append-nil w)) ∙ comes.refusal [];
+      more = record {
+        known = known;
+        free = record { stored = h.works.stored; names = names };
+        names = λ rest. ap (λ (es : List Entry). option_map (λ ns. ns ++ firsts_after met (fetches (es ++ rest))) answered) (page_work_is pages page)
+            ∙ comes.names rest;
+      };
+    }
+
+-- a refusal of the walk is the first one of the page
+pub found_refused : (pages : Pages) (page : List ℕ) (met : List (List ℕ)) (spent : ℕ) (answered : Option (List (List ℕ))) (e : ExpandRefusal)
+    → deep_place mode.Page page ≡ None → spent ≡ 0
+    → RefusesWork pages page (ledger spent met answered) (given_from (at_page pages) true page 0 (page_members page)).work e
+    → IsRefused (first_refusal pages page (page_work pages page)) e
+found_refused pages page met spent answered e fits free h =
+    let work = (given_from (at_page pages) true page 0 (page_members page)).work in
+    page_refused pages page e fits
+    (subst (λ (es : List Entry). RefusesWork pages page (ledger 0 met answered) es e) (work_is pages page)
+    (subst (λ (n : ℕ). RefusesWork pages page (ledger n met answered) work e) free h))
+
+-- an expansion whose costs are counted anew
+pub free_still : (pages : Pages) (met : List (List ℕ)) (old x : Expansion) → x.store ≡ old.store → x.names ≡ old.names → IsFree pages met old
+    → IsFree pages met x
+free_still pages met old x s n h = record { stored = subst (IsStore pages met) (sym s) h.stored; names = n ∙ h.names }
+
+-- nothing is known at first
+pub free_at_first : (pages : Pages) (x : Expansion) → ((ps : Pages) → IsStore ps [] x.store) → x.names ≡ [] → IsFree pages [] x
+free_at_first pages x s n = record { stored = s pages; names = n }
+
+pub holds_at_first : (x : Expansion) → ((ps : Pages) → IsStore ps [] x.store) → x.names ≡ [] → HoldsPages x
+holds_at_first x s n = let none : Pages = λ _. None in (none, [], free_at_first none x s n)
+
+known_anew : (pages others : Pages) (name : List ℕ) (b : Bool) (o : Option (Option ReadText)) → IsKnown others name b o
+    → ((found : Option ReadText) → o ≡ Some found → IsFetched name (pages name) found) → IsKnown pages name b o
+known_anew pages others name false o k a = k
+known_anew pages others name true None k a = k
+known_anew pages others name true (Some x) k a = a x refl
+
+-- pages that agree with what is known have the same names known
+pub store_of_agreeing : (pages others : Pages) (met : List (List ℕ)) (s : Store) → IsStore others met s → Agrees pages s → IsStore pages met s
+store_of_agreeing pages others met s h a = λ name. known_anew pages others name (is_among name met) (get_by_text s.pages name) (h name) (a name)
+
+-- pages that agree with all that is known in the end
+pub free_by_agreeing : (pages others : Pages) (met : List (List ℕ)) (old new : Expansion) → IsFree others met old → IsKept old.store new.store
+    → Agrees pages new.store → IsFree pages met old
+free_by_agreeing pages others met old new h k a =
+    record { stored = store_of_agreeing pages others met old.store h.stored (agrees_before pages old.store new.store k a); names = h.names }
+
+-- ---- the names of a page's work
+
+names_end : (a : Option (List (List ℕ))) → option_map (λ ns. ns ++ []) a ≡ a
+names_end None = refl
+names_end (Some ns) = ap Some (append-nil ns)
+
+asked_are : (es : List Entry) → names_asked es ≡ firsts_after [] (fetches es)
+unfolding names_asked
+asked_are es = refl
+
+-- where nothing was known before, the folder answered the names that the work asks for
+pub asked_at_first : (pages : Pages) (work : List Entry) (x : Expansion) (answered told : Option (List (List ℕ)))
+    → KnowsMore pages [] work x answered told → told ≡ option_map (λ ns. ns ++ names_asked work) answered
+asked_at_first pages work x answered told h =
+    sym (ap (λ es. option_map (λ ns. ns ++ es) answered) (asked_are work)
+    ∙ ap (λ es. option_map (λ ns. ns ++ firsts_after [] (fetches es)) answered) (sym (append-nil work)) ∙ h.names [] ∙ names_end told)
+
+-- what is asked for the work of two pages, one after the other
+pub asked_for_both : (pages : Pages) (first second : List Entry) (mid last_known : Expansion) (answered told last : Option (List (List ℕ)))
+    (k : KnowsMore pages [] first mid answered told) → KnowsMore pages k.known second last_known told last
+    → last ≡ option_map (λ ns. ns ++ names_asked (first ++ second)) answered
+asked_for_both pages first second mid last_known answered told last k h =
+    sym (ap (λ es. option_map (λ ns. ns ++ es) answered) (asked_are (first ++ second)) ∙ k.names second
+    ∙ ap (λ es. option_map (λ ns. ns ++ firsts_after k.known (fetches es)) told) (sym (append-nil second)) ∙ h.names [] ∙ names_end last)
