@@ -1,11 +1,12 @@
 -- How the code finds the answer to an edit, step by step.
 use Rattle.std.proofs.Common.{arith, ◌≡◌, ◌<◌, ◌≤◌, ℕ, ◌+◌, Bool, true, false, List, [], ◌∷◌, length, drop, get_or, refl, sym, ap, ◌∙◌, subst}
-use Rattle.std.specs.Prelude.{Option, Some, None, option_map, Result, Ok, Err, nat_lt, if◌then◌else◌}
+use Rattle.std.specs.Prelude.{Option, Some, None, option_map, Result, Ok, Err, nat_lt, ◌||◌, if◌then◌else◌}
 use Rattle.std.proofs.lemmas.Bool.Decides.{nat_tests}
 use Rattle.std.proofs.lemmas.List.{drop_more}
 use Rattle.wt_tree.specs.declared.node.Node.{Node, out-Node}
+use Rattle.wt_span.specs.Origins.{Expanded}
 use Rattle.wt_tree.specs.Tree.{Tree, label}
-use Rattle.wt_tree.specs.View.{view}
+use Rattle.wt_tree.specs.View.{label_of, view, views}
 use Rattle.wt_tree.proofs.Views.{view_out}
 use Rattle.wt_checks.specs.declared.refusal.Check.{Check}
 use Rattle.wt_checks.specs.Checked.{checked}
@@ -15,11 +16,12 @@ use Rattle.wt_selser.specs.declared.refusal.EditRefusal.{EditRefusal}
 use Rattle.wt_selser.specs.declared.refusal.EditRefusal.TheVariants as refusal
 use Rattle.wt_selser.specs.Changes.{Pair, marked}
 use Rattle.wt_selser.specs.Content.{bad_content}
-use Rattle.wt_selser.specs.Edits.{first_with, first_of, bad_pair, before, tangled_pair, most_bytes, if_short, unless_refused, pairs_answer, edit_answer, AnswersEdit}
+use Rattle.wt_selser.specs.Edits.{first_with, first_of, bad_pair, before, is_tangled, tangled_pair, most_bytes, if_short, unless_refused, pairs_answer, edit_answer, AnswersEdit}
+use Rattle.wt_selser.specs.GroupFaults.{has_faulty_group}
 use Rattle.wt_selser.specs.OpenTags.{touches_open_tag}
+use Rattle.wt_selser.specs.TextCalls.{touches_text_call}
 use Rattle.wt_selser.specs.Views.{pair_of, pairs_of}
 use Rattle.wt_selser.proofs.Outside.{nothing_changes}
-use Rattle.wt_selser.proofs.Spliced.{ranges_seen}
 
 id_seen : (n : Node) → (label (view n)).id ≡ (out-Node n).id
 id_seen n = rw (view_out n)
@@ -35,21 +37,57 @@ pub bad_none : (same : Tree → Tree → Bool) (p : Found) (o : Option ContentWh
     → o ≡ None → None ≡ bad_pair same (pair_of p)
 bad_none same p o e is = ap (option_map (refusal.BadContent (label (view p.new.now)).id)) (sym is ∙ e)
 
-touches_is : (page bs : List ℕ) (p : Found) (b : Bool) → bs ≡ before page (out-Node p.old.now).ranges → b ≡ touches_open_tag bs (view p.old.now)
-    → b ≡ touches_open_tag (before page (label (view p.old.now)).ranges) (view p.old.now)
-touches_is page bs p b d e =
-    e ∙ ap (λ (xs : List ℕ). touches_open_tag xs (view p.old.now)) (d ∙ ap (before page) (sym (ranges_seen p.old.now)))
+-- a block of the page that can't be read by itself, one level of its tree
+tangled_out : (items : Expanded) (page : List ℕ) (n : Node) → is_tangled items page (view n)
+    ≡ (touches_text_call items.text_calls (out-Node n).ranges
+    || (touches_open_tag (before page (out-Node n).ranges) (view n) || has_faulty_group items (views (out-Node n).children)))
+tangled_out items page n =
+    let l = label_of (out-Node n) in
+    let ts = views (out-Node n).children in
+    ap (is_tangled items page) (view_out n)
+    ∙ ap (λ t. touches_text_call items.text_calls l.ranges || (touches_open_tag (before page l.ranges) t || has_faulty_group items ts)) (sym (view_out n))
 
-pub tangled_some : (page bs : List ℕ) (p : Found) (b : Bool) → bs ≡ before page (out-Node p.old.now).ranges → b ≡ touches_open_tag bs (view p.old.now)
-    → b ≡ true → Some (refusal.Tangled (out-Node p.new.now).id) ≡ tangled_pair page (pair_of p)
-tangled_some page bs p b d e t =
+or_first : (a b : Bool) → a ≡ true → true ≡ (a || b)
+or_first a b e = sym (ap (λ c. c || b) e)
+
+or_second : (a b : Bool) → a ≡ false → b ≡ (a || b)
+or_second a b e = sym (ap (λ c. c || b) e)
+
+pub touches_call : (items : Expanded) (page : List ℕ) (n : Node) (b : Bool) → b ≡ touches_text_call items.text_calls (out-Node n).ranges → b ≡ true
+    → true ≡ is_tangled items page (view n)
+touches_call items page n b e t =
+    or_first (touches_text_call items.text_calls (out-Node n).ranges)
+    (touches_open_tag (before page (out-Node n).ranges) (view n) || has_faulty_group items (views (out-Node n).children)) (sym e ∙ t)
+    ∙ sym (tangled_out items page n)
+
+pub touches_tag : (items : Expanded) (page bs : List ℕ) (n : Node) (b c : Bool) → b ≡ touches_text_call items.text_calls (out-Node n).ranges → b ≡ false
+    → bs ≡ before page (out-Node n).ranges → c ≡ touches_open_tag bs (view n) → c ≡ true → true ≡ is_tangled items page (view n)
+touches_tag items page bs n b c e f d g t =
+    let rest = has_faulty_group items (views (out-Node n).children) in
+    let tag = touches_open_tag (before page (out-Node n).ranges) (view n) in
+    or_first tag rest (ap (λ (xs : List ℕ). touches_open_tag xs (view n)) (sym d) ∙ sym g ∙ t)
+    ∙ or_second (touches_text_call items.text_calls (out-Node n).ranges) (tag || rest) (sym e ∙ f) ∙ sym (tangled_out items page n)
+
+pub only_groups : (items : Expanded) (page bs : List ℕ) (n : Node) (ns : List Node) (b c d : Bool)
+    → b ≡ touches_text_call items.text_calls (out-Node n).ranges → b ≡ false
+    → bs ≡ before page (out-Node n).ranges → c ≡ touches_open_tag bs (view n) → c ≡ false → ns ≡ (out-Node n).children → d ≡ has_faulty_group items (views ns)
+    → d ≡ is_tangled items page (view n)
+only_groups items page bs n ns b c d e f at g h is k =
+    let rest = has_faulty_group items (views (out-Node n).children) in
+    let tag = touches_open_tag (before page (out-Node n).ranges) (view n) in
+    k ∙ ap (λ ms. has_faulty_group items (views ms)) is
+    ∙ or_second tag rest (ap (λ (xs : List ℕ). touches_open_tag xs (view n)) (sym at) ∙ sym g ∙ h)
+    ∙ or_second (touches_text_call items.text_calls (out-Node n).ranges) (tag || rest) (sym e ∙ f) ∙ sym (tangled_out items page n)
+
+pub tangled_some : (items : Expanded) (page : List ℕ) (p : Found) (b : Bool) → b ≡ is_tangled items page (view p.old.now) → b ≡ true
+    → Some (refusal.Tangled (out-Node p.new.now).id) ≡ tangled_pair items page (pair_of p)
+tangled_some items page p b e t =
     ap (λ n. Some (refusal.Tangled n)) (sym (id_seen p.new.now))
-    ∙ ap (λ c. if c then Some (refusal.Tangled (label (view p.new.now)).id) else None) (sym t ∙ touches_is page bs p b d e)
+    ∙ ap (λ c. if c then Some (refusal.Tangled (label (view p.new.now)).id) else None) (sym t ∙ e)
 
-pub tangled_none : (page bs : List ℕ) (p : Found) (b : Bool) → bs ≡ before page (out-Node p.old.now).ranges → b ≡ touches_open_tag bs (view p.old.now)
-    → b ≡ false → None ≡ tangled_pair page (pair_of p)
-tangled_none page bs p b d e t =
-    ap (λ c. if c then Some (refusal.Tangled (label (view p.new.now)).id) else None) (sym t ∙ touches_is page bs p b d e)
+pub tangled_none : (items : Expanded) (page : List ℕ) (p : Found) (b : Bool) → b ≡ is_tangled items page (view p.old.now) → b ≡ false
+    → None ≡ tangled_pair items page (pair_of p)
+tangled_none items page p b e t = ap (λ c. if c then Some (refusal.Tangled (label (view p.new.now)).id) else None) (sym t ∙ e)
 
 -- ---- the first of all pairs
 
@@ -107,25 +145,25 @@ pub new_stands : (a o : Option EditRefusal) (new : List ℕ) → o ≡ a → o �
     → unless_refused a (if_short new) ≡ Ok new
 new_stands a o new d s t = ap (λ x. unless_refused x (if_short new)) (sym d ∙ s) ∙ short_by (nat_lt most_bytes (length new)) new t
 
-pub checked_answer : (same : Tree → Tree → Bool) (page : List ℕ) (t u : Tree) (o : Option Check) (c : Check) → o ≡ checked false t u → o ≡ Some c
-    → edit_answer same page t u ≡ Err (refusal.Check c)
+pub checked_answer : (same : Tree → Tree → Bool) (items : Expanded) (page : List ℕ) (t u : Tree) (o : Option Check) (c : Check) → o ≡ checked false t u → o ≡ Some c
+    → edit_answer same items page t u ≡ Err (refusal.Check c)
 unfolding edit_answer
-checked_answer same page t u o c d s = ap (λ x. unless_refused (option_map refusal.Check x) (pairs_answer same page (marked t u))) (sym d ∙ s)
+checked_answer same items page t u o c d s = ap (λ x. unless_refused (option_map refusal.Check x) (pairs_answer same items page (marked t u))) (sym d ∙ s)
 
-pub unchecked_answer : (same : Tree → Tree → Bool) (page : List ℕ) (t u : Tree) (o : Option Check) (ps : List Pair) → o ≡ checked false t u → o ≡ None
-    → ps ≡ marked t u → pairs_answer same page ps ≡ edit_answer same page t u
+pub unchecked_answer : (same : Tree → Tree → Bool) (items : Expanded) (page : List ℕ) (t u : Tree) (o : Option Check) (ps : List Pair)
+    → o ≡ checked false t u → o ≡ None → ps ≡ marked t u → pairs_answer same items page ps ≡ edit_answer same items page t u
 unfolding edit_answer
-unchecked_answer same page t u o ps d s e =
-    ap (pairs_answer same page) e ∙ ap (λ x. unless_refused (option_map refusal.Check x) (pairs_answer same page (marked t u))) (sym s ∙ d)
+unchecked_answer same items page t u o ps d s e =
+    ap (pairs_answer same items page) e ∙ ap (λ x. unless_refused (option_map refusal.Check x) (pairs_answer same items page (marked t u))) (sym s ∙ d)
 
 -- ---- nothing is marked
 
 not_longer : (most n : ℕ) → n ≤ most → nat_lt most n ≡ false
 not_longer most n le = grind (arith, nat_tests)
 
-pub unmarked_stands : (same : Tree → Tree → Bool) (page : List ℕ) (t u : Tree) → marked t u ≡ [] → checked false t u ≡ None → length page ≤ most_bytes
-    → edit_answer same page t u ≡ Ok page
+pub unmarked_stands : (same : Tree → Tree → Bool) (items : Expanded) (page : List ℕ) (t u : Tree) → marked t u ≡ [] → checked false t u ≡ None
+    → length page ≤ most_bytes → edit_answer same items page t u ≡ Ok page
 unfolding edit_answer
-unmarked_stands same page t u m c le =
-    ap (λ x. unless_refused (option_map refusal.Check x) (pairs_answer same page (marked t u))) c ∙ ap (pairs_answer same page) m
+unmarked_stands same items page t u m c le =
+    ap (λ x. unless_refused (option_map refusal.Check x) (pairs_answer same items page (marked t u))) c ∙ ap (pairs_answer same items page) m
     ∙ ap if_short (nothing_changes page) ∙ short_by (nat_lt most_bytes (length page)) page (not_longer most_bytes (length page) le)

@@ -10,6 +10,7 @@ use Rattle.wt_tree.specs.declared.kind.Mark.TheVariants as marks
 use Rattle.wt_tree.specs.declared.kind.Ranges.{Ranges}
 use Rattle.wt_tree.specs.Kinds.{is_leaf}
 use Rattle.wt_tree.specs.Tiling.{Tiled, Covers, InPreorder, is_group, end_of}
+use Rattle.wt_span.specs.Origins.{Expanded}
 use Rattle.wt_tree.specs.Tree.{Tree, tree, Trees, none, more, label}
 use Rattle.wt_checks.specs.declared.refusal.Check.{Check}
 use Rattle.wt_checks.specs.Checked.{checked}
@@ -432,21 +433,21 @@ short_is : (b : Bool) (xs new : List ℕ) → (if b then Err refusal.NewPageTooL
 short_is true xs new e = absurd (cc)
 short_is false xs new e = cc
 
-pub new_page : (same : Tree → Tree → Bool) (page new : List ℕ) (t u : Tree) → edit_answer same page t u ≡ Ok new
+pub new_page : (same : Tree → Tree → Bool) (items : Expanded) (page new : List ℕ) (t u : Tree) → edit_answer same items page t u ≡ Ok new
     → (checked false t u ≡ None) × (spliced page (changes same (marked t u)) ≡ new)
 unfolding edit_answer
-new_page same page new t u e =
+new_page same items page new t u e =
     let ps = marked t u in
     let short = if_short (spliced page (changes same ps)) in
-    let a = refused_none (option_map refusal.Check (checked false t u)) (unless_refused (refused_pairs same page ps) short) new e in
-    let b = refused_none (refused_pairs same page ps) short new a.1 in (
+    let a = refused_none (option_map refusal.Check (checked false t u)) (unless_refused (refused_pairs same items page ps) short) new e in
+    let b = refused_none (refused_pairs same items page ps) short new a.1 in (
       checked_none (checked false t u) a.0,
       short_is (nat_lt most_bytes (length (spliced page (changes same ps)))) (spliced page (changes same ps)) new b.1,
     )
 
-pub edit_stands : (same : Tree → Tree → Bool) (page new : List ℕ) (t u : Tree) → (label t).kind ≡ kind.Body → InPreorder t → Tiled t → Covers (length page) t
-    → LeavesHoldNoNumber t → edit_answer same page t u ≡ Ok new → OutsideStands page new (changes same (marked t u))
-edit_stands same page new t u b h tiled covers bare e =
-    let n = new_page same page new t u e in
+pub edit_stands : (same : Tree → Tree → Bool) (items : Expanded) (page new : List ℕ) (t u : Tree) → (label t).kind ≡ kind.Body → InPreorder t → Tiled t
+    → Covers (length page) t → LeavesHoldNoNumber t → edit_answer same items page t u ≡ Ok new → OutsideStands page new (changes same (marked t u))
+edit_stands same items page new t u b h tiled covers bare e =
+    let n = new_page same items page new t u e in
     subst (λ (xs : List ℕ). OutsideStands page xs (changes same (marked t u))) n.1
     (outside_stands page (changes same (marked t u)) (slices_apart same page t u b h tiled covers bare n.0))

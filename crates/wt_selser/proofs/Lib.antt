@@ -16,3 +16,15 @@ pub mod Spliced
 pub mod OpenTags
 pub mod Answering
 pub mod ShownChildren
+pub mod RestoredShown
+pub mod QuoteRuns
+pub mod SharedBytes
+pub mod HeldOpen
+pub mod LinesJoined
+pub mod RunsJoined
+pub mod StandingOpen
+pub mod SliceItems
+pub mod SlicedPieces
+pub mod SlicedBreaks
+pub mod GroupFaultLaws
+pub mod NoGroups

@@ -4,16 +4,17 @@ use Rattle.std.specs.Prelude.{◌≢◌, Some, None, slice_get}
 use Rattle.std.specs.Bool.{Decides}
 use Rattle.std.proofs.lemmas.List.{drop_more}
 use Rattle.wt_tree.specs.declared.kind.Showing.{Showing}
-use Rattle.wt_tree.specs.declared.kind.Showing.TheVariants.{Characters, Inside, Nothing, Element}
+use Rattle.wt_tree.specs.declared.kind.Showing.TheVariants.{Characters, Inside, Nothing}
 use Rattle.wt_tree.specs.declared.node.Node.{Node, out-Node}
 use Rattle.wt_tree.specs.Kinds.{showing}
-use Rattle.wt_tree.specs.Plain.{Plain, text, element, Plains, ended, along, face, text_before, shown_before, plain_before, plains_before, plain}
+use Rattle.wt_tree.specs.Plain.{Plain, text, element, Plains, ended, along, text_before, shown_before, plain_before, plains_before}
+use Rattle.wt_tree.specs.Tree.{Trees}
 use Rattle.wt_tree.specs.View.{label_of, view, views}
 use Rattle.wt_tree.proofs.Views.{view_out}
 use Rattle.wt_selser.specs.declared.differing.Child.{Child}
 use Rattle.wt_selser.specs.declared.shown_node.ShownNode.{ShownNode}
 use Rattle.wt_selser.specs.declared.differing.ShownSoFar.{ShownSoFar}
-use Rattle.wt_selser.specs.Children.{listed, shown_children, followed, closed, IsCommonLen, Differs}
+use Rattle.wt_selser.specs.Children.{listed, followed, closed, IsCommonLen, Differs}
 use Rattle.wt_selser.specs.Views.{node_view, child_view, children_view, so_far, Adds}
 
 -- ---- texts that are joined
@@ -66,15 +67,13 @@ adds_text a b bs e f = λ rest.
     ∙ ap (λ xs. followed (children_view a.done.items) (text_before xs rest)) f
     ∙ ap (followed (children_view a.done.items)) (text_joined a.text.items bs rest)
 
-pub adds_element : (a b : ShownSoFar) (n : Node) (s : ShownNode) → s.node.now ≡ n → showing (out-Node n).kind ≡ Element
-    → children_view b.done.items ≡ closed (children_view a.done.items) a.text.items ++ node_view s ∷ [] → b.text.items ≡ []
-    → Adds a b (plain_before (view n))
-adds_element a b n s is e f g = λ rest.
+-- an element behind what was shown
+pub element_added : (a b : ShownSoFar) (s : ShownNode) → children_view b.done.items ≡ closed (children_view a.done.items) a.text.items ++ node_view s ∷ []
+    → b.text.items ≡ [] → (rest : Plains) → so_far b rest ≡ so_far a (along (node_view s) rest)
+element_added a b s f g = λ rest.
     ap (λ ps. followed ps (text_before b.text.items rest)) f
     ∙ ap (λ bs. followed (closed (children_view a.done.items) a.text.items ++ node_view s ∷ []) (text_before bs rest)) g
     ∙ closed_before (children_view a.done.items) a.text.items s rest
-    ∙ ap (so_far a) (ap (λ m. along (element (face (label_of (out-Node m))) (plains_before (views (out-Node m).children) ended)) rest) is
-    ∙ shown_as n Element rest e)
 
 pub adds_characters : (a b : ShownSoFar) (n : Node) (bs : List ℕ) → showing (out-Node n).kind ≡ Characters → bs ≡ (out-Node n).shown → Adds a b (text_before bs)
     → Adds a b (plain_before (view n))
@@ -102,27 +101,16 @@ left_turn a b d ns i n lt is h k = λ rest.
 pub left_none : (a b : ShownSoFar) (ns : List Node) (i : ℕ) → drop i ns ≡ [] → Left a b ns i → Adds a b (plains_before (views ns))
 left_none a b ns i e h = λ rest. ap (λ ms. so_far b (plains_before (views ms) rest)) (sym e) ∙ h rest
 
--- ---- a body
+-- ---- all that is shown
 
-pub body_shown : (a b : ShownSoFar) (n : Node) (ns : List Node) (qs : List Plain) → a.done.items ≡ [] → a.text.items ≡ [] → ns ≡ (out-Node n).children
-    → Adds a b (plains_before (views ns)) → qs ≡ closed (children_view b.done.items) b.text.items → qs ≡ shown_children (view n)
-body_shown a b n ns qs d t is h e =
+pub nodes_shown : (a b : ShownSoFar) (ts : Trees) (qs : List Plain) → a.done.items ≡ [] → a.text.items ≡ [] → Adds a b (plains_before ts)
+    → qs ≡ closed (children_view b.done.items) b.text.items → qs ≡ listed (plains_before ts ended)
+nodes_shown a b ts qs d t h e =
     e ∙ sym (closed_ended (children_view b.done.items) b.text.items)
-    ∙ ap listed (h ended ∙ ap (λ cs. followed (children_view cs) (text_before a.text.items (plains_before (views ns) ended))) d
-    ∙ ap (λ bs. text_before bs (plains_before (views ns) ended)) t ∙ ap (λ ms. plains_before (views ms) ended) is)
-    ∙ ap shown_children (sym (view_out n))
+    ∙ ap listed (h ended ∙ ap (λ cs. followed (children_view cs) (text_before a.text.items (plains_before ts ended))) d
+    ∙ ap (λ bs. text_before bs (plains_before ts ended)) t)
 
 -- ---- two children
-
-pub nodes_decided : (a b : ShownNode) (v : Bool) → Decides v (plain (view a.node.now) ≡ plain (view b.node.now)) → showing (out-Node a.node.now).kind ≡ Element
-    → showing (out-Node b.node.now).kind ≡ Element → Decides v (node_view a ≡ node_view b)
-nodes_decided a b v d e f =
-    let l : along (node_view a) ended ≡ plain (view a.node.now) = shown_as a.node.now Element ended e in
-    let r : along (node_view b) ended ≡ plain (view b.node.now) = shown_as b.node.now Element ended f in
-    (λ h. first_same (node_view a) (node_view b) (l ∙ d.0 h ∙ sym r), λ h. d.1 (sym l ∙ ap (λ p. along p ended) h ∙ r))
-  where
-    first_same : (p q : Plain) → along p ended ≡ along q ended → p ≡ q
-    first_same p q e = cc
 
 pub texts_decided : (bs cs : List ℕ) (v : Bool) → Decides v (bs ≡ cs) → Decides v (text bs ≡ text cs)
 texts_decided bs cs v d = (λ h. ap text (d.0 h), λ h. d.1 (cc))
@@ -147,7 +135,7 @@ same_more ls rs i x y m n a b h e =
     ap (λ j. take j (children_view ls)) k ∙ take_at ls i x m a ∙ ap (λ ps. ps ++ child_view x ∷ []) h
     ∙ ap (λ p. take i (children_view rs) ++ p ∷ []) e ∙ sym (take_at rs i y n b) ∙ ap (λ j. take j (children_view rs)) (sym k)
 
-views_long : (cs : List Child) → length (children_view cs) ≡ length cs
+pub views_long : (cs : List Child) → length (children_view cs) ≡ length cs
 views_long [] = refl
 views_long (c ∷ cs) = ap suc (views_long cs)
 

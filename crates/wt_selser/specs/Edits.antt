@@ -1,14 +1,17 @@
--- The answer to an edit of a page without templates: the new page, or the first refusal by its kind, then in preorder.
-use Rattle.std.specs.Prelude.{◌≡◌, ℕ, Bool, false, Option, Some, None, option_map, Result, Ok, Err, List, [], ◌∷◌, length, take, nat_lt, if◌then◌else◌}
+-- The answer to an edit of a page: the new page, or the first refusal by its kind, then in preorder.
+use Rattle.std.specs.Prelude.{◌≡◌, ℕ, Bool, false, Option, Some, None, option_map, Result, Ok, Err, List, [], ◌∷◌, length, take, nat_lt, ◌||◌, if◌then◌else◌}
 use Rattle.wt_tree.specs.declared.kind.Ranges.{Ranges}
-use Rattle.wt_tree.specs.Tree.{Tree, label}
+use Rattle.wt_span.specs.Origins.{Expanded}
+use Rattle.wt_tree.specs.Tree.{Tree, tree, label}
 use Rattle.wt_checks.specs.Checked.{checked}
 use Rattle.wt_selser.specs.declared.refusal.EditRefusal.{EditRefusal}
 use Rattle.wt_selser.specs.declared.refusal.EditRefusal.TheVariants as refusal
 use Rattle.wt_selser.specs.Changes.{Pair, marked, changes}
 use Rattle.wt_selser.specs.Content.{bad_content}
+use Rattle.wt_selser.specs.GroupFaults.{has_faulty_group}
 use Rattle.wt_selser.specs.OpenTags.{touches_open_tag}
 use Rattle.wt_selser.specs.Splice.{spliced}
+use Rattle.wt_selser.specs.TextCalls.{touches_text_call}
 
 abbrev pub first_with : {B : Type 0} → Option B → Option B → Option B
 first_with None rest = rest
@@ -29,12 +32,16 @@ abbrev pub before : List ℕ → Option Ranges → List ℕ
 before page None = []
 before page (Some r) = take r.start page
 
--- A page without templates has neither text calls nor groups, so a node is tangled where it touches an open tag.
-abbrev pub tangled_pair : List ℕ → Pair → Option EditRefusal
-tangled_pair page p = if touches_open_tag (before page (label p.old).ranges) p.old then Some (refusal.Tangled (label p.new).id) else None
+-- A block can't be read by itself where it touches a text call or an open tag, or where one of its groups has a fault.
+abbrev pub is_tangled : Expanded → List ℕ → Tree → Bool
+is_tangled items page (tree l ts) =
+    touches_text_call items.text_calls l.ranges || (touches_open_tag (before page l.ranges) (tree l ts) || has_faulty_group items ts)
 
-abbrev pub refused_pairs : (Tree → Tree → Bool) → List ℕ → List Pair → Option EditRefusal
-refused_pairs same page ps = first_with (first_of (bad_pair same) ps) (first_of (tangled_pair page) ps)
+abbrev pub tangled_pair : Expanded → List ℕ → Pair → Option EditRefusal
+tangled_pair items page p = if is_tangled items page p.old then Some (refusal.Tangled (label p.new).id) else None
+
+abbrev pub refused_pairs : (Tree → Tree → Bool) → Expanded → List ℕ → List Pair → Option EditRefusal
+refused_pairs same items page ps = first_with (first_of (bad_pair same) ps) (first_of (tangled_pair items page) ps)
 
 -- the most bytes of a page
 unfoldable pub most_bytes : ℕ
@@ -50,13 +57,13 @@ unless_refused (Some e) r = Err e
 -- ---- the answer
 
 -- of these marked nodes
-abbrev pub pairs_answer : (Tree → Tree → Bool) → List ℕ → List Pair → Result (List ℕ) EditRefusal
-pairs_answer same page ps = unless_refused (refused_pairs same page ps) (if_short (spliced page (changes same ps)))
+abbrev pub pairs_answer : (Tree → Tree → Bool) → Expanded → List ℕ → List Pair → Result (List ℕ) EditRefusal
+pairs_answer same items page ps = unless_refused (refused_pairs same items page ps) (if_short (spliced page (changes same ps)))
 
--- `same` tells nodes of one kind with one plain view
-unfoldable pub edit_answer : (Tree → Tree → Bool) → List ℕ → Tree → Tree → Result (List ℕ) EditRefusal
-edit_answer same page t edited =
-    unless_refused (option_map refusal.Check (checked false t edited)) (pairs_answer same page (marked t edited))
+-- The edit of a page with these items and this tree. `same` tells nodes of one kind with one plain view.
+unfoldable pub edit_answer : (Tree → Tree → Bool) → Expanded → List ℕ → Tree → Tree → Result (List ℕ) EditRefusal
+edit_answer same items page t edited =
+    unless_refused (option_map refusal.Check (checked false t edited)) (pairs_answer same items page (marked t edited))
 
 abbrev pub IsEditRefusal : Result (List ℕ) EditRefusal → EditRefusal → Type 0
 IsEditRefusal answer (refusal.Check c) = answer ≡ Err (refusal.Check c)

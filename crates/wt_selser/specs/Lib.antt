@@ -4,7 +4,15 @@ pub mod ContentLaws
 pub mod Standings
 pub mod Typed
 pub mod OpenTags
+pub mod OpenTexts
+pub mod TextCalls
+pub mod TangledLaws
+pub mod Toggles
+pub mod GroupItems
+pub mod PieceParts
+pub mod GroupFaults
 pub mod Changes
+pub mod Restored
 pub mod Children
 pub mod Edits
 pub mod Views

@@ -2,7 +2,9 @@
 use Rattle.std.specs.Prelude.{◌≡◌, List, map}
 use Rattle.std.specs.List.{list_any}
 use Rattle.wt_tree.specs.Plain.{Plain, Plains, text, element, face, plains_before, text_before, ended}
+use Rattle.wt_tree.specs.Tree.{Trees}
 use Rattle.wt_tree.specs.View.{view, views, label_of}
+use Rattle.wt_checks.specs.View.{indexed}
 use Rattle.wt_tree.specs.declared.node.Node.{out-Node}
 use Rattle.wt_selser.specs.declared.change.Change.{Change as Made}
 use Rattle.wt_selser.specs.declared.change.Pair.{Pair as Found}
@@ -15,6 +17,7 @@ use Rattle.wt_selser.specs.declared.refusal.ContentWhy.{ContentWhy}
 use Rattle.wt_selser.specs.Changes.{Pair}
 use Rattle.wt_selser.specs.Children.{followed}
 use Rattle.wt_selser.specs.Content.{is_element, is_href, is_line_break, is_nested}
+use Rattle.wt_selser.specs.Restored.{all_restored}
 use Rattle.wt_selser.specs.Splice.{Change}
 
 abbrev pub pair_of : Found → Pair
@@ -36,9 +39,13 @@ pub record HasFaults (f : Faults) (ws : List ContentWhy) : Type 0 where
   pub line_break : f.line_break ≡ list_any is_line_break ws
   pub nested : f.nested ≡ list_any is_nested ws
 
+-- what a node that is shown as an element holds, where its groups are restored
+abbrev pub held_view : ShownNode → Trees
+held_view s = all_restored (indexed s.page.now) (views (out-Node s.node.now).children)
+
 -- an element, and a child of a body, as it is shown
 abbrev pub node_view : ShownNode → Plain
-node_view s = element (face (label_of (out-Node s.node.now))) (plains_before (views (out-Node s.node.now).children) ended)
+node_view s = element (face (label_of (out-Node s.node.now))) (plains_before (held_view s) ended)
 
 abbrev pub child_view : Child → Plain
 child_view (child.Element s) = node_view s

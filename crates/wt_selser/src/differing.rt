@@ -2,36 +2,43 @@
 
 ghost use Rattle.std.specs.Prelude.{◌≡◌, ◌≤◌, ◌<◌, [], suc, length, IfOk, OnOk};
 ghost use Rattle.std.specs.Bool.{Decides};
+ghost use Rattle.wt_tree.specs.declared.kind.Kind.TheVariants as kind;
 ghost use Rattle.wt_tree.specs.declared.kind.Showing.TheVariants.{Element};
 ghost use Rattle.wt_tree.specs.declared.node.Node.{out-Node};
 ghost use Rattle.wt_tree.specs.Kinds.{showing};
-ghost use Rattle.wt_tree.specs.Plain.{plain_before, plains_before, text_before};
-ghost use Rattle.wt_tree.specs.View.{view, views};
-ghost use Rattle.wt_selser.specs.Children.{closed, IsCommonLen, IsFirstDiffering, shown_children};
-ghost use Rattle.wt_selser.specs.Views.{Adds, child_view, children_view, node_view};
+ghost use Rattle.wt_tree.specs.Plain.{Plains, along, ended, face, plain_before, plains_before, text_before};
+ghost use Rattle.wt_tree.specs.Tiling.{InPreorder};
+ghost use Rattle.wt_tree.specs.Tree.{label};
+ghost use Rattle.wt_tree.specs.View.{label_of, view, views};
+ghost use Rattle.wt_checks.specs.View.{indexed};
+ghost use Rattle.wt_selser.specs.Children.{closed, listed, IsCommonLen, IsFirstDiffering, shown_children};
+ghost use Rattle.wt_selser.specs.Restored.{all_restored, group_held, restored, restored_from, restored_held};
+ghost use Rattle.wt_selser.specs.Views.{Adds, child_view, children_view, held_view, node_view, so_far};
 
+use crate::group_fault::is_group;
 use crate::shown_node::ShownNode;
 use std::alloc::Global;
 use std::mem;
-use wt_span::NoMemory;
-use wt_tree::{Node, Showing, plain_eq};
+use wt_checks::{Visit, numbered_nodes, original};
+use wt_span::{NoMemory, front_of};
+use wt_tree::{Node, Showing, same_attrs, same_data, same_kind};
 
 /// A child of a body as it is shown: an element, or texts that stand next to each other.
 #[derive(Drop)]
-pub enum Child<'t, 'a> {
-    Element(ShownNode<'t, 'a>),
+pub enum Child<'p, 't, 'a> {
+    Element(ShownNode<'p, 't, 'a>),
     Text(Vec<u8>),
 }
 
 /// The children of a body so far, and a text behind them that may go on.
 #[derive(Drop)]
-pub struct ShownSoFar<'t, 'a> {
-    pub done: Vec<Child<'t, 'a>>,
+pub struct ShownSoFar<'p, 't, 'a> {
+    pub done: Vec<Child<'p, 't, 'a>>,
     pub text: Vec<u8>,
 }
 
 /// Appends a text, which is joined with a text before it.
-fn push_text(shown: &mut ShownSoFar<'_, '_>, text: &str) -> Result<(), NoMemory>
+fn push_text(shown: &mut ShownSoFar<'_, '_, '_>, text: &str) -> Result<(), NoMemory>
     ensures { OnOk result (Adds shown.old shown.new (text_before text.now)) }
 {
     shown.text.extend_from_slice(text.as_bytes())?;
@@ -39,7 +46,7 @@ fn push_text(shown: &mut ShownSoFar<'_, '_>, text: &str) -> Result<(), NoMemory>
 }
 
 /// Ends the text that may go on; an empty one is left out.
-fn end_text(alloc: Global, shown: &mut ShownSoFar<'_, '_>) -> Result<(), NoMemory>
+fn end_text(alloc: Global, shown: &mut ShownSoFar<'_, '_, '_>) -> Result<(), NoMemory>
     ensures children { OnOk result (children_view shown.new.done.items ≡ closed (children_view shown.old.done.items) shown.old.text.items) }
     ensures text { OnOk result (shown.new.text.items ≡ []) }
 {
@@ -51,15 +58,13 @@ fn end_text(alloc: Global, shown: &mut ShownSoFar<'_, '_>) -> Result<(), NoMemor
     Ok(())
 }
 
-fn push_element<'t, 'a>(
+fn push_element<'p, 't, 'a>(
     alloc: Global,
-    shown: &mut ShownSoFar<'t, 'a>,
-    node: &'t Node<'a>,
+    shown: &mut ShownSoFar<'p, 't, 'a>,
+    element: ShownNode<'p, 't, 'a>,
 ) -> Result<(), NoMemory>
-    requires { showing (out-Node node.now).kind ≡ Element }
-    ensures { OnOk result (Adds shown.old shown.new (plain_before (view node.now))) }
+    ensures { OnOk result ((rest : Plains) → so_far shown.new rest ≡ so_far shown.old (along (node_view element.entry) rest)) }
 {
-    let element = ShownNode::of(node);
     end_text(alloc, shown)?;
     shown.done.push(Child::Element(element))?;
     Ok(())
@@ -67,9 +72,10 @@ fn push_element<'t, 'a>(
 
 /// Appends what a node shows directly in a body.
 #[cycle(showing)]
-fn push_shown<'t, 'a>(
+fn push_shown<'p, 't, 'a>(
     alloc: Global,
-    shown: &mut ShownSoFar<'t, 'a>,
+    page: &'p [Visit<'t, 'a>],
+    shown: &mut ShownSoFar<'p, 't, 'a>,
     node: &'t Node<'a>,
 ) -> Result<(), NoMemory>
     ensures { OnOk result (Adds shown.old shown.new (plain_before (view node.now))) }
@@ -80,49 +86,166 @@ fn push_shown<'t, 'a>(
             Ok(())
         }
         Showing::Inside => {
-            push_all_shown(alloc, shown, node.children.as_slice())?;
+            push_all_shown(alloc, page, shown, node.children.as_slice())?;
             Ok(())
         }
         Showing::Nothing => Ok(()),
         Showing::Element => {
-            push_element(alloc, shown, node)?;
+            push_element(alloc, shown, ShownNode::of(node, front_of(page, 0)))?;
             Ok(())
         }
     }
 }
 
 #[cycle(showing)]
-fn push_all_shown<'t, 'a>(
+fn push_all_shown<'p, 't, 'a>(
     alloc: Global,
-    shown: &mut ShownSoFar<'t, 'a>,
+    page: &'p [Visit<'t, 'a>],
+    shown: &mut ShownSoFar<'p, 't, 'a>,
     nodes: &'t [Node<'a>],
 ) -> Result<(), NoMemory>
     ensures { OnOk result (Adds shown.old shown.new (plains_before (views nodes.now))) }
 {
     for node in nodes {
-        push_shown(alloc, shown, node)?;
+        push_shown(alloc, page, shown, node)?;
     }
     Ok(())
 }
 
-/// What a body shows, child by child.
-fn shown_children<'t, 'a>(alloc: Global, body: &'t Node<'a>) -> Result<Vec<Child<'t, 'a>>, NoMemory>
-    ensures { IfOk result (λ cs. children_view cs.items ≡ shown_children (view body.now)) }
+/// What a group of the edited tree holds: the nodes of the page's group of its number, where there is one.
+fn group_held<'t, 'a>(page: &[Visit<'t, 'a>], group: &'t Node<'a>) -> &'t [Node<'a>]
+    ensures { views result.now ≡ group_held (indexed page.now) (out-Node group.now).id (views (out-Node group.now).children) }
+{
+    let number = group.id;
+    if number == 0 {
+        return group.children.as_slice();
+    }
+    match original(page, number) {
+        None => group.children.as_slice(),
+        Some(visit) => visit.node.children.as_slice(),
+    }
+}
+
+/// Appends what a node of the edited tree shows directly in a body, where groups are those of the page.
+#[cycle(restoring)]
+fn push_restored<'p, 't, 'a>(
+    alloc: Global,
+    page: &'p [Visit<'t, 'a>],
+    shown: &mut ShownSoFar<'p, 't, 'a>,
+    node: &'t Node<'a>,
+) -> Result<(), NoMemory>
+    ensures { OnOk result (Adds shown.old shown.new (plain_before (restored (indexed page.now) (view node.now)))) }
+{
+    match node.kind.showing() {
+        Showing::Characters => {
+            push_text(shown, node.shown.as_str())?;
+            Ok(())
+        }
+        Showing::Inside => {
+            let group = is_group(node.kind);
+            if group {
+                push_all_shown(alloc, page, shown, group_held(page, node))?;
+                return Ok(());
+            }
+            push_all_restored(alloc, page, shown, node.children.as_slice())?;
+            Ok(())
+        }
+        Showing::Nothing => Ok(()),
+        Showing::Element => {
+            push_element(alloc, shown, ShownNode::of(node, page))?;
+            Ok(())
+        }
+    }
+}
+
+#[cycle(restoring)]
+fn push_all_restored<'p, 't, 'a>(
+    alloc: Global,
+    page: &'p [Visit<'t, 'a>],
+    shown: &mut ShownSoFar<'p, 't, 'a>,
+    nodes: &'t [Node<'a>],
+) -> Result<(), NoMemory>
+    ensures { OnOk result (Adds shown.old shown.new (plains_before (all_restored (indexed page.now) (views nodes.now)))) }
+{
+    for node in nodes {
+        push_restored(alloc, page, shown, node)?;
+    }
+    Ok(())
+}
+
+/// Appends what a node holds, where groups are those of the page.
+fn push_held<'p, 't, 'a>(
+    alloc: Global,
+    page: &'p [Visit<'t, 'a>],
+    shown: &mut ShownSoFar<'p, 't, 'a>,
+    node: &'t Node<'a>,
+) -> Result<(), NoMemory>
+    ensures { OnOk result (Adds shown.old shown.new (plains_before (restored_held (indexed page.now) (view node.now)))) }
+{
+    let group = is_group(node.kind);
+    if group {
+        push_all_shown(alloc, page, shown, group_held(page, node))?;
+        return Ok(());
+    }
+    push_all_restored(alloc, page, shown, node.children.as_slice())?;
+    Ok(())
+}
+
+/// What nodes show, child by child, where groups are those of the page.
+pub fn shown_nodes<'p, 't, 'a>(
+    alloc: Global,
+    page: &'p [Visit<'t, 'a>],
+    nodes: &'t [Node<'a>],
+) -> Result<Vec<Child<'p, 't, 'a>>, NoMemory>
+    ensures { IfOk result (λ cs. children_view cs.items ≡ listed (plains_before (all_restored (indexed page.now) (views nodes.now)) ended)) }
 {
     let mut shown = ShownSoFar {
         done: Vec::new(alloc),
         text: Vec::new(alloc),
     };
-    push_all_shown(alloc, &mut shown, body.children.as_slice())?;
+    push_all_restored(alloc, page, &mut shown, nodes)?;
     end_text(alloc, &mut shown)?;
     Ok(shown.done)
 }
 
-fn same_nodes(alloc: Global, a: ShownNode<'_, '_>, b: ShownNode<'_, '_>) -> Result<bool, NoMemory>
-    ensures { IfOk result (λ same. Decides same (node_view a.entry ≡ node_view b.entry)) }
+/// What a body of an edited tree holds, child by child, where groups are those of the page.
+fn held_nodes<'p, 't, 'a>(
+    alloc: Global,
+    page: &'p [Visit<'t, 'a>],
+    body: &'t Node<'a>,
+) -> Result<Vec<Child<'p, 't, 'a>>, NoMemory>
+    ensures { IfOk result (λ cs. children_view cs.items ≡ listed (plains_before (restored_held (indexed page.now) (view body.now)) ended)) }
 {
-    let same = plain_eq(alloc, a.node, b.node)?;
-    Ok(same)
+    let mut shown = ShownSoFar {
+        done: Vec::new(alloc),
+        text: Vec::new(alloc),
+    };
+    push_held(alloc, page, &mut shown, body)?;
+    end_text(alloc, &mut shown)?;
+    Ok(shown.done)
+}
+
+/// What a node that is shown as an element holds, child by child.
+fn held_by<'p, 't, 'a>(
+    alloc: Global,
+    element: ShownNode<'p, 't, 'a>,
+) -> Result<Vec<Child<'p, 't, 'a>>, NoMemory>
+    ensures { IfOk result (λ cs. children_view cs.items ≡ listed (plains_before (held_view element.entry) ended)) }
+{
+    let held = shown_nodes(alloc, element.page, element.node.children.as_slice())?;
+    Ok(held)
+}
+
+fn same_face(a: &Node<'_>, b: &Node<'_>) -> bool
+    ensures { Decides result (face (label_of (out-Node a.now)) ≡ face (label_of (out-Node b.now))) }
+{
+    if !same_kind(a.kind, b.kind) {
+        return false;
+    }
+    if !same_attrs(&a.attrs, &b.attrs) {
+        return false;
+    }
+    same_data(&a.mw, &b.mw)
 }
 
 fn same_text(a: &[u8], b: &[u8]) -> bool
@@ -131,13 +254,42 @@ fn same_text(a: &[u8], b: &[u8]) -> bool
     a == b
 }
 
-fn is_same(alloc: Global, a: &Child<'_, '_>, b: &Child<'_, '_>) -> Result<bool, NoMemory>
+/// Whether two elements show the same, where so many more may stand one inside the other.
+#[cycle(same)]
+fn same_nodes(
+    alloc: Global,
+    levels: u32,
+    a: ShownNode<'_, '_, '_>,
+    b: ShownNode<'_, '_, '_>,
+) -> Result<bool, NoMemory>
+    ensures { IfOk result (λ same. Decides same (node_view a.entry ≡ node_view b.entry)) }
+{
+    if levels == 0 {
+        return Err(NoMemory);
+    }
+    let alike = same_face(a.node, b.node);
+    if !alike {
+        return Ok(false);
+    }
+    let left = held_by(alloc, a)?;
+    let right = held_by(alloc, b)?;
+    let inside = same_children(alloc, levels - 1, left.as_slice(), right.as_slice())?;
+    Ok(inside)
+}
+
+#[cycle(same)]
+fn is_same(
+    alloc: Global,
+    levels: u32,
+    a: &Child<'_, '_, '_>,
+    b: &Child<'_, '_, '_>,
+) -> Result<bool, NoMemory>
     ensures { IfOk result (λ same. Decides same (child_view a.now ≡ child_view b.now)) }
 {
     match a {
         Child::Element(left) => match b {
             Child::Element(right) => {
-                let same = same_nodes(alloc, *left, *right)?;
+                let same = same_nodes(alloc, levels, *left, *right)?;
                 Ok(same)
             }
             Child::Text(_) => Ok(false),
@@ -150,10 +302,12 @@ fn is_same(alloc: Global, a: &Child<'_, '_>, b: &Child<'_, '_>) -> Result<bool, 
 }
 
 /// In how many of their first children two bodies are the same.
+#[cycle(same)]
 fn common_len(
     alloc: Global,
-    left: &[Child<'_, '_>],
-    right: &[Child<'_, '_>],
+    levels: u32,
+    left: &[Child<'_, '_, '_>],
+    right: &[Child<'_, '_, '_>],
 ) -> Result<usize, NoMemory>
     ensures { IfOk result (IsCommonLen (children_view left.now) (children_view right.now)) }
 {
@@ -161,12 +315,26 @@ fn common_len(
         if at >= right.len() {
             return Ok(at);
         }
-        let same = is_same(alloc, &left[at], &right[at])?;
+        let same = is_same(alloc, levels, &left[at], &right[at])?;
         if !same {
             return Ok(at);
         }
     }
     Ok(left.len())
+}
+
+/// Whether two lists of children are the same.
+#[cycle(same)]
+fn same_children(
+    alloc: Global,
+    levels: u32,
+    left: &[Child<'_, '_, '_>],
+    right: &[Child<'_, '_, '_>],
+) -> Result<bool, NoMemory>
+    ensures { IfOk result (λ same. Decides same (children_view left.now ≡ children_view right.now)) }
+{
+    let common = common_len(alloc, levels, left, right)?;
+    Ok(common == left.len() && common == right.len())
 }
 
 /// The number of the child at a place, counted from 1. A number past 32 bits is answered as want of
@@ -183,12 +351,12 @@ fn number_at(at: usize) -> Result<u32, NoMemory>
 /// The number, from 1, of the first place in which two lists of children differ.
 fn first_of_children(
     alloc: Global,
-    left: &[Child<'_, '_>],
-    right: &[Child<'_, '_>],
+    left: &[Child<'_, '_, '_>],
+    right: &[Child<'_, '_, '_>],
 ) -> Result<Option<u32>, NoMemory>
     ensures { IfOk result (IsFirstDiffering (children_view left.now) (children_view right.now)) }
 {
-    let common = common_len(alloc, left, right)?;
+    let common = common_len(alloc, u32::MAX, left, right)?;
     let number = number_at(common)?;
     if common < left.len() {
         return Ok(Some(number));
@@ -199,12 +367,36 @@ fn first_of_children(
     Ok(None)
 }
 
-/// The number, from 1, of the first child in which two bodies differ, or None where they show the same.
-pub fn first_differing(alloc: Global, a: &Node<'_>, b: &Node<'_>) -> Result<Option<u32>, NoMemory>
-    ensures { IfOk result (IsFirstDiffering (shown_children (view a.now)) (shown_children (view b.now))) }
+/// Whether what an element holds is shown as what a node holds is.
+pub fn shows_same(
+    alloc: Global,
+    element: ShownNode<'_, '_, '_>,
+    node: &Node<'_>,
+) -> Result<bool, NoMemory>
+    ensures { IfOk result (λ same. Decides same (plains_before (held_view element.entry) ended ≡ plains_before (views (out-Node node.now).children) ended)) }
 {
-    let left = shown_children(alloc, a)?;
-    let right = shown_children(alloc, b)?;
+    let left = held_by(alloc, element)?;
+    let right = shown_nodes(alloc, &[], node.children.as_slice())?;
+    let same = same_children(alloc, u32::MAX, left.as_slice(), right.as_slice())?;
+    Ok(same)
+}
+
+/// The number, from 1, of the first child in which a new body differs from one to which the page's was
+/// edited, or None where they show the same. In the edited one a group shows what the page's group of its
+/// number does.
+pub fn first_differing<'t, 'a>(
+    alloc: Global,
+    new: &Node<'_>,
+    page: &'t Node<'a>,
+    edited: &'t Node<'a>,
+) -> Result<Option<u32>, NoMemory>
+    requires body { (label (view page.now)).kind ≡ kind.Body }
+    requires numbered { ∥ InPreorder (view page.now) ∥₁ }
+    ensures { IfOk result (IsFirstDiffering (shown_children (view new.now)) (shown_children (restored_from (view page.now) (view edited.now)))) }
+{
+    let index = numbered_nodes(alloc, page)?;
+    let left = shown_nodes(alloc, &[], new.children.as_slice())?;
+    let right = held_nodes(alloc, index.as_slice(), edited)?;
     let found = first_of_children(alloc, left.as_slice(), right.as_slice())?;
     Ok(found)
 }

@@ -8,17 +8,19 @@ ghost use Rattle.wt_tree.specs.declared.kind.Kind.TheVariants as kind;
 ghost use Rattle.wt_kept.specs.Page.{TellsSame};
 ghost use Rattle.wt_tree.specs.declared.node.Node.{out-Node};
 ghost use Rattle.wt_selser.specs.Changes.{changes};
-ghost use Rattle.wt_selser.specs.Edits.{AnswersEdit, bad_pair, before, refused_pairs, edit_answer, pairs_answer, first_of, most_bytes, tangled_pair};
+ghost use Rattle.wt_selser.specs.Edits.{AnswersEdit, is_tangled, bad_pair, before, refused_pairs, edit_answer, pairs_answer, first_of, most_bytes, tangled_pair};
 ghost use Rattle.wt_selser.specs.Splice.{spliced};
 ghost use Rattle.wt_selser.specs.Views.{pair_of, pairs_of};
 
 use crate::change::{Pair, changes, marked_pairs, spliced};
 use crate::content::bad_content;
+use crate::group_fault::has_faulty_group;
 use crate::open_tag::touches_open_tag;
 use crate::refusal::EditRefusal;
+use crate::text_call::touches_text_call;
 use std::alloc::Global;
 use wt_checks::check;
-use wt_span::{NoMemory, Str, front_of};
+use wt_span::{Items, NoMemory, Str, front_of};
 use wt_tree::Node;
 
 /// The most bytes of a page.
@@ -66,15 +68,37 @@ fn before<'p>(page: &'p [u8], node: &Node<'_>) -> &'p [u8]
     }
 }
 
+/// Whether a block of a page with these items can't be read by itself.
+fn is_tangled(
+    alloc: Global,
+    items: &Items<'_>,
+    page: &[u8],
+    block: &Node<'_>,
+) -> Result<bool, NoMemory>
+    ensures { IfOk result (λ b. b ≡ is_tangled items.now page.now (view block.now)) }
+{
+    let call = touches_text_call(items.text_calls(), block.ranges);
+    if call {
+        return Ok(true);
+    }
+    let tag = touches_open_tag(alloc, before(page, block), block)?;
+    if tag {
+        return Ok(true);
+    }
+    let faulty = has_faulty_group(alloc, items, block.children.as_slice())?;
+    Ok(faulty)
+}
+
 fn tangled_pair(
     alloc: Global,
+    items: &Items<'_>,
     page: &[u8],
     pair: Pair<'_, '_>,
 ) -> Result<Option<EditRefusal>, NoMemory>
-    ensures { IfOk result (λ r. r ≡ tangled_pair page.now (pair_of pair.entry)) }
+    ensures { IfOk result (λ r. r ≡ tangled_pair items.now page.now (pair_of pair.entry)) }
 {
-    let touches = touches_open_tag(alloc, before(page, pair.old), pair.old)?;
-    if touches {
+    let tangled = is_tangled(alloc, items, page, pair.old)?;
+    if tangled {
         return Ok(Some(EditRefusal::Tangled(pair.new.id)));
     }
     Ok(None)
@@ -82,13 +106,14 @@ fn tangled_pair(
 
 fn first_tangled(
     alloc: Global,
+    items: &Items<'_>,
     page: &[u8],
     pairs: &[Pair<'_, '_>],
 ) -> Result<Option<EditRefusal>, NoMemory>
-    ensures { IfOk result (λ r. r ≡ first_of (tangled_pair page.now) (pairs_of pairs.now)) }
+    ensures { IfOk result (λ r. r ≡ first_of (tangled_pair items.now page.now) (pairs_of pairs.now)) }
 {
     for pair in pairs {
-        let found = tangled_pair(alloc, page, *pair)?;
+        let found = tangled_pair(alloc, items, page, *pair)?;
         if let Some(refusal) = found {
             return Ok(Some(refusal));
         }
@@ -98,16 +123,18 @@ fn first_tangled(
 
 fn refused_pairs(
     alloc: Global,
+    items: &Items<'_>,
     page: &[u8],
     pairs: &[Pair<'_, '_>],
 ) -> Result<Option<EditRefusal>, NoMemory>
-    ensures { (same : Tree → Tree → Bool) → TellsSame same → IfOk result (λ r. r ≡ refused_pairs same page.now (pairs_of pairs.now)) }
+    ensures { (same : Tree → Tree → Bool) → TellsSame same
+        → IfOk result (λ r. r ≡ refused_pairs same items.now page.now (pairs_of pairs.now)) }
 {
     let bad = first_bad(alloc, pairs)?;
     if let Some(refusal) = bad {
         return Ok(Some(refusal));
     }
-    let tangled = first_tangled(alloc, page, pairs)?;
+    let tangled = first_tangled(alloc, items, page, pairs)?;
     Ok(tangled)
 }
 
@@ -130,11 +157,16 @@ fn is_too_long(page: &str) -> bool
 }
 
 /// The new page of marked nodes.
-fn new_page(alloc: Global, page: &str, pairs: &[Pair<'_, '_>]) -> Result<Str, EditRefusal>
+fn new_page(
+    alloc: Global,
+    items: &Items<'_>,
+    page: &str,
+    pairs: &[Pair<'_, '_>],
+) -> Result<Str, EditRefusal>
     ensures { (same : Tree → Tree → Bool) → TellsSame same
-        → AnswersEdit (pairs_answer same page.now (pairs_of pairs.now)) result }
+        → AnswersEdit (pairs_answer same items.now page.now (pairs_of pairs.now)) result }
 {
-    let refused = refused_pairs(alloc, page.as_bytes(), pairs)?;
+    let refused = refused_pairs(alloc, items, page.as_bytes(), pairs)?;
     if let Some(refusal) = refused {
         return Err(refusal);
     }
@@ -146,14 +178,16 @@ fn new_page(alloc: Global, page: &str, pairs: &[Pair<'_, '_>]) -> Result<Str, Ed
     Ok(new)
 }
 
-/// The new page of an edited page without templates: the page with the insides of its marked nodes spelled
-/// anew. `tree` is the page's tree with its numbers from 1 in preorder, `edited` the tree that was read.
+/// The new page of an edited page: the page with the insides of its marked nodes spelled anew. `items` are
+/// the page's items with its templates expanded, `tree` is its tree with its numbers from 1 in preorder,
+/// `edited` the tree that was read.
 ///
 /// # Errors
 ///
 /// The first refusal in the order of `EditRefusal`, and of one kind the first in preorder.
 pub fn edit<'t, 'a>(
     alloc: Global,
+    items: &Items<'a>,
     page: &str,
     tree: &'t Node<'a>,
     edited: &'t Node<'a>,
@@ -161,12 +195,12 @@ pub fn edit<'t, 'a>(
     requires body { (label (view tree.now)).kind ≡ kind.Body }
     requires numbered { ∥ InPreorder (view tree.now) ∥₁ }
     ensures { (same : Tree → Tree → Bool) → TellsSame same
-        → AnswersEdit (edit_answer same page.now (view tree.now) (view edited.now)) result }
+        → AnswersEdit (edit_answer same items.now page.now (view tree.now) (view edited.now)) result }
 {
     let refused = check(alloc, tree, edited, false)?;
     if let Some(refusal) = refused {
         return Err(EditRefusal::Check(refusal));
     }
     let pairs = marked_pairs(alloc, tree, edited)?;
-    new_page(alloc, page, pairs.as_slice())
+    new_page(alloc, items, page, pairs.as_slice())
 }

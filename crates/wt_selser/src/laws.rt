@@ -2,18 +2,20 @@
 
 ghost use Rattle.std.specs.Prelude.{◌≡◌, ◌≤◌, ◌↔◌, ℕ, Bool, List, [], length, Option, None, Ok, true, false};
 ghost use Rattle.wt_checks.specs.Checked.{checked};
+ghost use Rattle.wt_span.specs.Origins.{Expanded};
 ghost use Rattle.wt_tree.specs.Plain.{Plain};
-ghost use Rattle.wt_tree.specs.Tiling.{Covers, InPreorder, Tiled};
-ghost use Rattle.wt_tree.specs.Tree.{Tree, label};
+ghost use Rattle.wt_tree.specs.Tiling.{Covers, InPreorder, NoneIsGroup, Tiled};
+ghost use Rattle.wt_tree.specs.Tree.{Label, Tree, Trees, label, tree};
 ghost use Rattle.wt_tree.specs.declared.kind.Kind.TheVariants as kind;
 ghost use Rattle.wt_kept.specs.Page.{TellsSame};
 ghost use Rattle.wt_selser.specs.Children.{IsFirstDiffering, differing};
 ghost use Rattle.wt_selser.specs.Changes.{changes, marked};
-ghost use Rattle.wt_selser.specs.Edits.{edit_answer, most_bytes};
+ghost use Rattle.wt_selser.specs.Edits.{before, edit_answer, is_tangled, most_bytes};
 ghost use Rattle.wt_selser.specs.Leaves.{LeavesHoldNoNumber};
-ghost use Rattle.wt_selser.specs.OpenTags.{EndsOpen, ends_open};
+ghost use Rattle.wt_selser.specs.OpenTags.{EndsOpen, ends_open, touches_open_tag};
 ghost use Rattle.wt_selser.specs.SameNodes.{same_node};
 ghost use Rattle.wt_selser.specs.Splice.{Change, spliced, AreApart, OutsideStands};
+ghost use Rattle.wt_selser.specs.TextCalls.{touches_text_call};
 
 /// Where the slices stand in the page one after the other, what stands outside them stands in the
 /// new page byte for byte and in its order, and between it what was written for each slice.
@@ -48,19 +50,26 @@ pub fn edit_is_a_splice()
     ensures apart { (same : Tree → Tree → Bool) (page : List ℕ) (tree edited : Tree) → (label tree).kind ≡ kind.Body → InPreorder tree → Tiled tree
         → Covers (length page) tree → LeavesHoldNoNumber tree → checked false tree edited ≡ None
         → AreApart 0 (changes same (marked tree edited)) (length page) }
-    ensures stands { (same : Tree → Tree → Bool) (page new : List ℕ) (tree edited : Tree) → (label tree).kind ≡ kind.Body → InPreorder tree
-        → Tiled tree → Covers (length page) tree → LeavesHoldNoNumber tree → edit_answer same page tree edited ≡ Ok new
+    ensures stands { (same : Tree → Tree → Bool) (items : Expanded) (page new : List ℕ) (tree edited : Tree) → (label tree).kind ≡ kind.Body
+        → InPreorder tree → Tiled tree → Covers (length page) tree → LeavesHoldNoNumber tree → edit_answer same items page tree edited ≡ Ok new
         → OutsideStands page new (changes same (marked tree edited)) }
 {}
 
 /// Where nothing is marked and the checks refuse nothing, the new page is the page.
 pub fn unmarked_edit_is_the_page()
-    ensures { (same : Tree → Tree → Bool) (page : List ℕ) (tree edited : Tree) → marked tree edited ≡ [] → checked false tree edited ≡ None
-        → length page ≤ most_bytes → edit_answer same page tree edited ≡ Ok page }
+    ensures { (same : Tree → Tree → Bool) (items : Expanded) (page : List ℕ) (tree edited : Tree) → marked tree edited ≡ []
+        → checked false tree edited ≡ None → length page ≤ most_bytes → edit_answer same items page tree edited ≡ Ok page }
 {}
 
 /// A text ends in an open tag exactly where a `<` with an ASCII letter behind it stands in it, and from
 /// there on no `<`, `>` or line break.
 pub fn open_tags()
     ensures { (text : List ℕ) → (ends_open text ≡ true) ↔ EndsOpen text }
+{}
+
+/// A block without groups that touches no text call and no open tag isn't tangled.
+#[tactic(auto, using(crate::proofs::NoGroups::untangled))]
+pub fn groups_alone_tangle()
+    ensures { (items : Expanded) (page : List ℕ) (l : Label) (ts : Trees) → NoneIsGroup ts → touches_text_call items.text_calls l.ranges ≡ false
+        → touches_open_tag (before page l.ranges) (tree l ts) ≡ false → is_tangled items page (tree l ts) ≡ false }
 {}

@@ -24,7 +24,7 @@ fn begins_like(word: &[u8], bytes: &[u8]) -> bool
 
 /// How many bytes the beginning of a URL takes; 0 where none begins.
 #[tactic(auto, unfolding(wt_tiles::specs::Urls::scheme_len))]
-fn scheme_len(bytes: &[u8]) -> usize
+pub fn scheme_len(bytes: &[u8]) -> usize
     ensures value { result ≡ scheme_len (byte_glyphs bytes.now) }
     ensures within { result ≤ length bytes.now }
 {

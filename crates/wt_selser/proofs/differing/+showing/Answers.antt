@@ -1,6 +1,7 @@
 use Rattle.std.proofs.Common.{sym, ◌∙◌}
 use Rattle.std.proofs.lemmas.List.{drop_all}
 use Rattle.wt_selser.proofs.ShownChildren.{adds_characters, adds_inside, adds_nothing, left_turn, left_none}
+use Rattle.wt_selser.proofs.RestoredShown.{shown_element}
 use Rattle.wt_selser.proofs.differing.+showing.Goals as goal
 
 pub push_shown-returns-in_ok-push_text-in-Characters : goal.push_shown-returns-in_ok-push_text-in-Characters
@@ -25,3 +26,8 @@ pub push_all_shown-returns : goal.push_all_shown-returns
 push_all_shown-returns t c =
     left_none c.args.shown.now c.loop-node.shown c.args.nodes.now c.loop-node.node-index
     (drop_all c.loop-node.node-index c.args.nodes.now c.loop-node-test.false) c.loop-node.invariant
+
+pub push_shown-returns-in_ok-push_element-in-Element : goal.push_shown-returns-in_ok-push_element-in-Element
+push_shown-returns-in_ok-push_element-in-Element t c =
+    shown_element c.args.shown.now c.push_element.new.shown c.args.node.now c.of.result (sym c.showing.ensures ∙ c.in-Element.is)
+    c.of.ensures.node (c.of.ensures.page ∙ c.front_of.ensures) c.in_ok-push_element-in-Element.ensures

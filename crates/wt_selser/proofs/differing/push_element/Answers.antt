@@ -2,12 +2,12 @@ use Rattle.std.proofs.Common.{◌++◌, ◌∷◌, [], ap, ◌∙◌}
 use Rattle.std.proofs.lemmas.List.{map-append}
 use Rattle.wt_selser.specs.declared.differing.Child.TheVariants as child
 use Rattle.wt_selser.specs.Views.{child_view, children_view, node_view}
-use Rattle.wt_selser.proofs.ShownChildren.{adds_element}
+use Rattle.wt_selser.proofs.ShownChildren.{element_added}
 use Rattle.wt_selser.proofs.differing.push_element.Goals as goal
 
 pub returns : goal.returns
 returns c =
-    let s = c.of-element.result in
-    adds_element c.args.shown.now (record { done = c.push.new.self; text = c.end_text.new.shown.text }) c.args.node.now s c.of-element.ensures c.requires
+    let s = c.args.element in
+    element_added c.args.shown.now (record { done = c.push.new.self; text = c.end_text.new.shown.text }) s
     (ap children_view c.in_ok-push.ensures.items ∙ map-append child_view c.end_text.new.shown.done.items (child.Element s ∷ [])
     ∙ ap (λ ps. ps ++ node_view s ∷ []) c.in_ok-end_text.ensures.children) c.in_ok-end_text.ensures.text

@@ -9,11 +9,11 @@ use Rattle.wt_selser.proofs.editing.edit.Goals as goal
 
 pub returns-in-Some : goal.returns-in-Some
 returns-in-Some c = λ same tells.
-    checked_answer same c.args.page.now (view c.args.tree.now) (view c.args.edited.now) c.in_ok-refused.refused c.in-Some.refusal c.in_ok-refused.ensures
+    checked_answer same c.args.items.now c.args.page.now (view c.args.tree.now) (view c.args.edited.now) c.in_ok-refused.refused c.in-Some.refusal c.in_ok-refused.ensures
     c.in-Some.is
 
 pub returns : goal.returns
 returns c = λ same tells.
     subst (λ (a : Result (List ℕ) EditRefusal). AnswersEdit a c.new_page.result)
-    (unchecked_answer same c.args.page.now (view c.args.tree.now) (view c.args.edited.now) c.in_ok-refused.refused (pairs_of c.as_slice.result.now)
+    (unchecked_answer same c.args.items.now c.args.page.now (view c.args.tree.now) (view c.args.edited.now) c.in_ok-refused.refused (pairs_of c.as_slice.result.now)
     c.in_ok-refused.ensures c.in_default.is (ap pairs_of c.as_slice.ensures.value ∙ c.in_ok-pairs.ensures)) (c.new_page.ensures same tells)

@@ -7,15 +7,15 @@ use Rattle.wt_selser.proofs.editing.first_tangled.Goals as goal
 
 pub returns-in-Some : goal.returns-in-Some
 returns-in-Some c =
-    found_here (tangled_pair c.args.page.now) c.args.pairs.now c.loop-pair.pair-index c.pair-item.result c.in_ok-found.found c.in-Some.refusal
+    found_here (tangled_pair c.args.items.now c.args.page.now) c.args.pairs.now c.loop-pair.pair-index c.pair-item.result c.in_ok-found.found c.in-Some.refusal
     c.loop-pair.invariant c.loop-pair-test.true c.pair-item.is c.in_ok-found.ensures c.in-Some.is
 
 pub loop-pair-preserved : goal.loop-pair-preserved
 loop-pair-preserved c =
-    found_later (tangled_pair c.args.page.now) c.args.pairs.now c.loop-pair.pair-index c.pair-item.result c.in_ok-found.found
+    found_later (tangled_pair c.args.items.now c.args.page.now) c.args.pairs.now c.loop-pair.pair-index c.pair-item.result c.in_ok-found.found
     c.loop-pair.invariant c.loop-pair-test.true c.pair-item.is c.in_ok-found.ensures c.in_default.is
 
 pub returns : goal.returns
 returns c =
     sym (c.loop-pair.invariant
-    ∙ ap (λ ps. first_of (tangled_pair c.args.page.now) (pairs_of ps)) (drop_all c.loop-pair.pair-index c.args.pairs.now c.loop-pair-test.false))
+    ∙ ap (λ ps. first_of (tangled_pair c.args.items.now c.args.page.now) (pairs_of ps)) (drop_all c.loop-pair.pair-index c.args.pairs.now c.loop-pair-test.false))

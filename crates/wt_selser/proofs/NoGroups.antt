@@ -1,0 +1,42 @@
+-- A block without groups is tangled by text calls and open tags alone.
+use Rattle.std.proofs.Common.{◌≡◌, ℕ, false, List, refl, ap, ◌∙◌}
+use Rattle.std.specs.Prelude.{◌||◌, if◌then◌else◌}
+use Rattle.wt_span.specs.Origins.{Expanded}
+use Rattle.wt_tree.specs.Tiling.{HasNoGroup, NoneIsGroup}
+use Rattle.wt_tree.specs.Tree.{Label, Tree, tree, Trees, none, more}
+use Rattle.wt_kept.specs.declared.kinds.Way.{Way}
+use Rattle.wt_kept.specs.declared.kinds.Way.TheVariants as way
+use Rattle.wt_kept.specs.Kinds.{shape}
+use Rattle.wt_selser.specs.Edits.{before, is_tangled}
+use Rattle.wt_selser.specs.GroupFaults.{faulty_at, has_faulty_group, is_faulty_node}
+use Rattle.wt_selser.specs.OpenTags.{touches_open_tag}
+use Rattle.wt_selser.specs.OpenTexts.{in_style}
+use Rattle.wt_selser.specs.TextCalls.{touches_text_call}
+
+style_fine : (w : Way) → in_style w false ≡ false
+style_fine way.Nothing = refl
+style_fine way.Characters = refl
+style_fine way.Bold = refl
+style_fine way.Italic = refl
+style_fine way.Shown = refl
+style_fine way.PageLink = refl
+style_fine way.ExternalLink = refl
+style_fine way.Tag = refl
+style_fine way.Break = refl
+style_fine way.AsItStood = refl
+
+mutual
+  node_fine : (items : Expanded) (t : Tree) → HasNoGroup t → is_faulty_node items t ≡ false
+  node_fine items (tree l ts) h =
+      ap (λ b. if b then faulty_at items l.ranges ts else in_style (shape l.kind).way (has_faulty_group items ts)) h.0
+      ∙ ap (in_style (shape l.kind).way) (all_fine items ts h.1) ∙ style_fine (shape l.kind).way
+
+  all_fine : (items : Expanded) (ts : Trees) → NoneIsGroup ts → has_faulty_group items ts ≡ false
+  all_fine items none h = refl
+  all_fine items (more t ts) h = ap (λ b. b || has_faulty_group items ts) (node_fine items t h.0) ∙ all_fine items ts h.1
+
+pub untangled : (items : Expanded) (page : List ℕ) (l : Label) (ts : Trees) → NoneIsGroup ts → touches_text_call items.text_calls l.ranges ≡ false
+    → touches_open_tag (before page l.ranges) (tree l ts) ≡ false → is_tangled items page (tree l ts) ≡ false
+untangled items page l ts h e f =
+    ap (λ b. b || (touches_open_tag (before page l.ranges) (tree l ts) || has_faulty_group items ts)) e
+    ∙ ap (λ b. b || has_faulty_group items ts) f ∙ all_fine items ts h
