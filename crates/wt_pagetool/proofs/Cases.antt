@@ -5,16 +5,17 @@ use Rattle.wt_names.specs.Namespace.{prefix_of, full_name_of}
 use Rattle.wt_names.specs.Reading.{whole_in, cut_namespace, title_in}
 use Rattle.wt_names.specs.Good.{is_forbidden, is_allowed, has_signature, is_step, begins_with_step, holds_step, ends_with_step, is_good, read_text}
 use Rattle.wt_pagetool.specs.declared.command.PageCommand.TheVariants as pages
-use Rattle.wt_pagetool.specs.declared.command.Command.TheVariants.{Page, Edit, Wikitext}
-use Rattle.wt_pagetool.specs.declared.refusal.Refusal.TheVariants.{Usage, Absent, NotUtf8, NotBuilt, HtmlTooLong, Html, Unfit, Unsourced, Checked, BadContent, Unspelled}
-use Rattle.wt_pagetool.specs.Words.{page_name, command_of}
+use Rattle.wt_pagetool.specs.declared.command.Command.TheVariants.{Page, Edit, Gen, Wikitext}
+use Rattle.wt_pagetool.specs.declared.refusal.Refusal.TheVariants.{Usage, Absent, NotUtf8, BracesTooDeep, HtmlTooLong, Html, Unfit, Unsourced, Checked, BadContent, Unspelled}
+use Rattle.wt_pagetool.specs.Words.{page_name, section_count, command_of}
+use Rattle.wt_expand.specs.Work.{Pages, braces_too_deep}
 use Rattle.wt_tree.specs.Tree.{Tree}
 use Rattle.wt_html_grammar.specs.declared.why.HtmlWhy.TheVariants as ill_why
 use Rattle.wt_fitting.specs.declared.why.FitWhy.TheVariants as fit_whys
 use Rattle.wt_fitting.specs.Read.{page as as_page, misfit}
 use Rattle.wt_checks.specs.declared.refusal.Check.TheVariants as checks
 use Rattle.wt_selser.specs.declared.refusal.ContentWhy.TheVariants as contents
-use Rattle.wt_pagetool.specs.Answers.{refused, title_answer, page_answer, made, source_answer, unspelled_by, edited_answer, edit_of, answer_told}
+use Rattle.wt_pagetool.specs.Answers.{Answer, refused, title_answer, expanded_by, made, source_answer, unspelled_by, edited_answer, edit_of, answer_told}
 use Rattle.wt_pagetool.specs.Refusals.{html_why, fit_why, content_why, check_name, text_of, line_of}
 
 -- the words
@@ -78,28 +79,57 @@ unfolding source_answer
 no_place = refl
 
 -- an edit by HTML that doesn't fit, of whatever page; one of which no page stands under the title, whatever the input
-edit_unfit : (page : List ℕ) → edited_answer page (misfit 2 fit_whys.Place) ≡ refused (Unfit 2 fit_whys.Place)
+edit_unfit : (pages : Pages) (page : List ℕ) → edited_answer pages page (misfit 2 fit_whys.Place) ≡ refused (Unfit 2 fit_whys.Place)
 unfolding edited_answer
-edit_unfit page = refl
+edit_unfit pages page = refl
 
-edit_of_none : (input : List ℕ) → edit_of None input ≡ refused Absent
+edit_of_none : (pages : Pages) (input : List ℕ) → edit_of pages None input ≡ refused Absent
 unfolding title_answer
-edit_of_none input = refl
+edit_of_none pages input = refl
 
 -- a new page that shows in its third child something else than the edited tree
 edit_unspelled : (new : List ℕ) → unspelled_by new (Some 3) ≡ refused (Unspelled 3)
 edit_unspelled new = refl
 
 -- a folder without a page of this title, and a page that isn't UTF-8, whatever is made of a page
-no_page : page_answer None (made pages.Ranges) ≡ refused Absent
+no_page : (folder : Pages) → title_answer None (made pages.Ranges folder) ≡ refused Absent
 unfolding title_answer
-no_page = refl
+no_page folder = refl
+
+-- an expansion that is refused, and one that isn't
+template_too_deep : (answer : Answer) (place : ℕ) → expanded_by answer (Some (braces_too_deep None place)) ≡ refused (BracesTooDeep None place)
+template_too_deep answer place = refl
+
+-- a number of sections: from 1 to 10,000 without leading zeros
+gen_ten : command_of (codes "gen" ∷ codes "10" ∷ []) ≡ Some (Gen 10)
+unfolding command_of section_count
+gen_ten = refl
+
+gen_most : section_count (codes "10000") ≡ Some 10000
+unfolding section_count
+gen_most = refl
+
+gen_more : section_count (codes "10001") ≡ None
+unfolding section_count
+gen_more = refl
+
+gen_zero : section_count (codes "0") ≡ None
+unfolding section_count
+gen_zero = refl
+
+gen_leading : section_count (codes "01") ≡ None
+unfolding section_count
+gen_leading = refl
+
+gen_signed : section_count (codes "+1") ≡ None
+unfolding section_count
+gen_signed = refl
+
+gen_empty : section_count [] ≡ None
+unfolding section_count
+gen_empty = refl
 
 -- the lines, with the digits of a number as they stand
-not_built_line : (place : ℕ) → line_of (NotBuilt place) ≡ codes "wtround: not built at " ++ decimal place ++ codes "\n"
-unfolding line_of text_of
-not_built_line place = refl
-
 not_utf8_line : (place : ℕ) → line_of (NotUtf8 place) ≡ codes "wtround: page not UTF-8 at " ++ decimal place ++ codes "\n"
 unfolding line_of text_of
 not_utf8_line place = refl

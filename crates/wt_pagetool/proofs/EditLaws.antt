@@ -1,9 +1,18 @@
 -- `edit`: from what was read, compared and spelled to the answer of the program.
-use Rattle.std.proofs.Common.{◌≡◌, ℕ, List, Bool, true, false, cond, refl, sym, ap, ◌∙◌, subst}
-use Rattle.std.specs.Prelude.{nat_lt, length, Option, Some, None, option_map, IsErrAnd, Result, Ok, Err}
+use Rattle.std.proofs.Common.{◌≡◌, ℕ, [], ◌∷◌, ◌++◌, List, Bool, true, false, cond, refl, sym, ap, ◌∙◌, subst, append-nil}
+use Rattle.std.specs.Prelude.{nat_lt, length, Option, Some, None, option_map, IfSome, IfOk, IsErrAnd, Result, Ok, Err}
 use Rattle.std.specs.Io.KnownBytes.{Appends, IsAtEnd}
 use Rattle.wt_outer.specs.Device.{Pages}
-use Rattle.wt_tree.specs.Tree.{Tree}
+use Rattle.wt_span.specs.Origins.{Expanded}
+use Rattle.wt_tree.specs.Tree.{Tree, tree}
+use Rattle.wt_expand.specs.Expansion.{page_work}
+use Rattle.wt_expand.specs.PageCalls.{expanded_page}
+use Rattle.wt_expand.specs.Work.{Entry, Refused, fetches, firsts_after, names_asked}
+use Rattle.wt_transclusion.specs.declared.refusal.ExpandRefusal.{ExpandRefusal}
+use Rattle.wt_transclusion.specs.declared.refusal.ExpandRefusal.TheVariants as of_expansion
+use Rattle.wt_transclusion.specs.Answers.{IsRefused}
+use Rattle.wt_levels.specs.declared.expansion.Expansion.{Expansion}
+use Rattle.wt_expansion.specs.Known.{KnowsMore}
 use Rattle.wt_fitting.specs.Read.{Read, page as as_page, ill, misfit, read}
 use Rattle.wt_html_in.specs.Answers.{body_of, Answers}
 use Rattle.wt_html_in.specs.declared.edited.Edited.{Edited}
@@ -12,12 +21,14 @@ use Rattle.wt_html_in.specs.declared.refusal.HtmlRefusal.TheVariants as refusals
 use Rattle.wt_checks.specs.declared.refusal.Check.{Check}
 use Rattle.wt_checks.specs.Checked.{checked}
 use Rattle.wt_page_round_trip.specs.PageTree.{page_tree}
+use Rattle.wt_page_round_trip.proofs.HeldPages.{its_page}
 use Rattle.wt_page_round_trip.proofs.PageTrees.{page_tiled, page_covered, page_numbered}
 use Rattle.wt_selser.specs.declared.refusal.EditRefusal.{EditRefusal}
 use Rattle.wt_selser.specs.declared.refusal.EditRefusal.TheVariants as of_edit
 use Rattle.wt_selser.specs.Changes.{marked, changes}
 use Rattle.wt_selser.specs.Children.{IsFirstDiffering, shown_children, differing}
-use Rattle.wt_selser.specs.Edits.{edit_answer, unless_refused, if_short, most_bytes, refused_pairs, AnswersEdit}
+use Rattle.wt_selser.specs.Edits.{edit_answer, unless_refused, if_short, most_bytes, refused_pairs, AnswersEdit as AnswersAs}
+use Rattle.wt_selser.specs.Restored.{restored_from}
 use Rattle.wt_selser.specs.SameNodes.{same_node}
 use Rattle.wt_selser.specs.Splice.{spliced}
 use Rattle.wt_selser.proofs.DifferingLaws.{differing_is, none_same}
@@ -27,82 +38,213 @@ use Rattle.wt_pagetool.specs.declared.refusal.Refusal.{Refusal}
 use Rattle.wt_pagetool.specs.declared.command.Command.TheVariants.{Edit}
 use Rattle.wt_pagetool.specs.Refusals.{refusal_of_edit}
 use Rattle.wt_pagetool.specs.Words.{command_of}
-use Rattle.wt_pagetool.specs.Answers.{done, page_answer, unbuilt_place, IsAnswered, input_answer, unspelled_by, unspelled_answer, new_answer, edit_by, edited_answer, edit_of, edit_told, answer_told}
-use Rattle.wt_pagetool.specs.Causes.{Answered, Refuses, refusal_of}
-use Rattle.wt_pagetool.specs.Reports.{new_page, WroteEdit}
+use Rattle.wt_pagetool.specs.Answers.{Answer, done, refusal_of_page, expanded_by, title_answer, IsText, IsAnswered, input_answer, unspelled_by, unspelled_answer, new_by, new_expanded, new_answer, edit_by, edit_from, edit_to, edited_answer, edit_of, edit_told, answer_told}
+use Rattle.wt_pagetool.specs.Causes.{Answered, Refuses, IsFetched, refusal_of, refusal_of_new}
+use Rattle.wt_pagetool.specs.Devices.{FolderUse, AnswersEdit, AsksForBoth}
+use Rattle.wt_pagetool.specs.Outputs.{output_bytes}
+use Rattle.wt_pagetool.specs.Reports.{answer_of_edit, new_page, WroteEdit}
 use Rattle.wt_pagetool.proofs.AnswerLaws.{input_done}
+use Rattle.wt_pagetool.proofs.ExpandLaws.{fetched_as, names_joined, stands_is}
 use Rattle.wt_pagetool.proofs.LeavesLaws.{page_leaves}
-use Rattle.wt_pagetool.proofs.PageLaws.{text_of, page_text, page_answered, page_made, stands_made}
-use Rattle.wt_pagetool.proofs.ShownLaws.{same_shown, page_body, page_face, read_face}
+use Rattle.wt_pagetool.proofs.PageLaws.{text_of, page_text, title_made, title_stands, expanded_done}
+use Rattle.wt_pagetool.proofs.ShownLaws.{IsBare, same_shown, page_body, page_face, read_face}
 
 -- ---- the new page
 
+-- a refusal of the new page's expansion
+new_refusal_is : (answer : Answer) (o : Option Refused) (e : ExpandRefusal) → IsRefused o e → Refuses (refusal_of_new e) (new_by answer o)
+new_refusal_is answer o (of_expansion.BracesTooDeep title place) is = ap (new_by answer) is
+new_refusal_is answer o of_expansion.TooLarge is = ap (new_by answer) is
+new_refusal_is answer o of_expansion.FolderFault is = tt
+new_refusal_is answer o (of_expansion.TemplateNotUtf8 title place) is = ap (new_by answer) is
+new_refusal_is answer o (of_expansion.TemplateTooLong title) is = ap (new_by answer) is
+new_refusal_is answer o of_expansion.NoMemory is = tt
+
+-- a new page that is text is answered by its expansion
+text_new : (pages : Pages) (t edited : Tree) (new : List ℕ) → IsText new → new_answer pages t edited new ≡ new_expanded pages t edited new
+text_new pages t edited new whole = whole (new_expanded pages t edited)
+
+-- the new page's expansion is refused
+pub new_refused : (pages : Pages) (t edited : Tree) (new text : List ℕ) (e : ExpandRefusal) (r : Refusal) → IsText new → text ≡ new
+    → r ≡ refusal_of_new e → IsRefused (refusal_of_page pages text) e → Refuses r (new_answer pages t edited new)
+new_refused pages t edited new text e r whole same is h =
+    let o : IsRefused (refusal_of_page pages new) e = subst (λ bs. IsRefused (refusal_of_page pages bs) e) same h in
+    subst (Refuses r) (sym (text_new pages t edited new whole))
+    (subst (λ x. Refuses x (new_expanded pages t edited new)) (sym is)
+    (new_refusal_is (unspelled_answer pages t edited new) (refusal_of_page pages new) e o))
+
 -- what the comparison of the new page's tree with the edited tree answers
-pub meant : (edited t : Tree) (new : List ℕ) (o : Option ℕ) → IsAnswered new → t ≡ page_tree new
-    → IsFirstDiffering (shown_children t) (shown_children edited) o → new_answer edited new ≡ unspelled_by new o
-meant edited t new o answered is found =
-    let told : o ≡ differing 1 (shown_children t) (shown_children edited) =
-    differing_is (shown_children t) (shown_children edited) o found in
-    answered (unspelled_answer edited) ∙ ap (unspelled_by new) (sym (subst (λ x. o ≡ differing 1 (shown_children x) (shown_children edited)) is told))
+pub meant : (pages : Pages) (t edited u : Tree) (new text : List ℕ) (o : Option ℕ) → IsText new → text ≡ new → refusal_of_page pages text ≡ None
+    → u ≡ page_tree pages text → IsFirstDiffering (shown_children u) (shown_children (restored_from t edited)) o
+    → new_answer pages t edited new ≡ unspelled_by new o
+meant pages t edited u new text o whole same unrefused is found =
+    let none : refusal_of_page pages new ≡ None = subst (λ bs. refusal_of_page pages bs ≡ None) same unrefused in
+    let page : u ≡ page_tree pages new = is ∙ ap (page_tree pages) same in
+    let shown = shown_children (restored_from t edited) in
+    let told : o ≡ differing 1 (shown_children u) shown = differing_is (shown_children u) shown o found in
+    text_new pages t edited new whole ∙ ap (new_by (unspelled_answer pages t edited new)) none
+    ∙ ap (unspelled_by new) (sym (subst (λ x. o ≡ differing 1 (shown_children x) shown) page told))
 
 -- a refusal of an edit is its answer
-pub edit_refused : (edited : Tree) (answer : Result (List ℕ) EditRefusal) (e : EditRefusal) → AnswersEdit answer (Err e)
-    → Refuses (refusal_of_edit e) (edit_by edited answer)
-edit_refused edited answer (of_edit.Check c) is = ap (edit_by edited) is
-edit_refused edited answer (of_edit.BadContent n why) is = ap (edit_by edited) is
-edit_refused edited answer (of_edit.Tangled n) is = ap (edit_by edited) is
-edit_refused edited answer of_edit.NewPageTooLong is = ap (edit_by edited) is
-edit_refused edited answer of_edit.NoMemory is = tt
+edit_refused : (pages : Pages) (t edited : Tree) (answer : Result (List ℕ) EditRefusal) (e : EditRefusal) → AnswersAs answer (Err e)
+    → Refuses (refusal_of_edit e) (edit_by pages t edited answer)
+edit_refused pages t edited answer (of_edit.Check c) is = ap (edit_by pages t edited) is
+edit_refused pages t edited answer (of_edit.BadContent n why) is = ap (edit_by pages t edited) is
+edit_refused pages t edited answer (of_edit.Tangled n) is = ap (edit_by pages t edited) is
+edit_refused pages t edited answer of_edit.NewPageTooLong is = ap (edit_by pages t edited) is
+edit_refused pages t edited answer of_edit.NoMemory is = tt
 
-pub edit_refused_from : (edited : Tree) (answer : Result (List ℕ) EditRefusal) (e : EditRefusal) (result : Result Output Refusal)
-    → AnswersEdit answer (Err e) → IsErrAnd result (λ r. r ≡ refusal_of_edit e) → Answered (edit_by edited answer) result
-edit_refused_from edited answer e (Ok output) answers is = absurd is
-edit_refused_from edited answer e (Err r) answers is =
-    subst (λ x. Refuses x (edit_by edited answer)) (sym is) (edit_refused edited answer e answers)
+pub edit_refused_from : (pages : Pages) (t edited : Tree) (answer : Result (List ℕ) EditRefusal) (e : EditRefusal) (result : Result Output Refusal)
+    → AnswersAs answer (Err e) → IsErrAnd result (λ r. r ≡ refusal_of_edit e) → Answered (edit_by pages t edited answer) result
+edit_refused_from pages t edited answer e (Ok output) answers is = absurd is
+edit_refused_from pages t edited answer e (Err r) answers is =
+    subst (λ x. Refuses x (edit_by pages t edited answer)) (sym is) (edit_refused pages t edited answer e answers)
 
-pub new_page_is : (edited : Tree) (answer : Result (List ℕ) EditRefusal) (new bytes : List ℕ) → answer ≡ Ok new → bytes ≡ new
-    → new_answer edited bytes ≡ done bytes → edit_by edited answer ≡ done new
-new_page_is edited answer new bytes is same meant = ap (edit_by edited) is ∙ subst (λ bs. new_answer edited bs ≡ done bs) same meant
+pub new_page_is : (pages : Pages) (t edited : Tree) (answer : Result (List ℕ) EditRefusal) (new bytes : List ℕ) → answer ≡ Ok new → bytes ≡ new
+    → new_answer pages t edited bytes ≡ done bytes → edit_by pages t edited answer ≡ done new
+new_page_is pages t edited answer new bytes is same meant =
+    ap (edit_by pages t edited) is ∙ subst (λ bs. new_answer pages t edited bs ≡ done bs) same meant
 
-pub new_page_refused : (edited : Tree) (answer : Result (List ℕ) EditRefusal) (new bytes : List ℕ) (r : Refusal)
-    (result : Result Output Refusal) → answer ≡ Ok new → bytes ≡ new → Refuses r (new_answer edited bytes)
-    → IsErrAnd result (λ x. x ≡ r) → Answered (edit_by edited answer) result
-new_page_refused edited answer new bytes r (Ok output) is same refuses err = absurd err
-new_page_refused edited answer new bytes r (Err x) is same refuses err =
-    subst (λ y. Refuses y (edit_by edited answer)) (sym err) (subst (Refuses r) (ap (new_answer edited) same ∙ sym (ap (edit_by edited) is)) refuses)
+pub new_page_refused : (pages : Pages) (t edited : Tree) (answer : Result (List ℕ) EditRefusal) (new bytes : List ℕ) (r : Refusal)
+    (result : Result Output Refusal) → answer ≡ Ok new → bytes ≡ new → Refuses r (new_answer pages t edited bytes)
+    → IsErrAnd result (λ x. x ≡ r) → Answered (edit_by pages t edited answer) result
+new_page_refused pages t edited answer new bytes r (Ok output) is same refuses err = absurd err
+new_page_refused pages t edited answer new bytes r (Err x) is same refuses err =
+    subst (λ y. Refuses y (edit_by pages t edited answer)) (sym err)
+    (subst (Refuses r) (ap (new_answer pages t edited) same ∙ sym (ap (edit_by pages t edited) is)) refuses)
+
+-- ---- from the tree of the page
+
+-- the edit of what was expanded is that of the page
+pub edit_expanded : (pages : Pages) (page : List ℕ) (items : Expanded) (t edited : Tree) (result : Result Output Refusal)
+    → refusal_of_page pages page ≡ None → items ≡ expanded_page pages page → t ≡ page_tree pages page
+    → Answered (edit_by pages t edited (edit_answer same_node items page t edited)) result → Answered (edit_to pages page edited) result
+edit_expanded pages page items t edited result unrefused is same answered =
+    let by_items = subst (λ (x : Expanded). Answered (edit_by pages t edited (edit_answer same_node x page t edited)) result) is answered in
+    let by_tree = subst (λ (x : Tree). Answered (edit_by pages x edited (edit_answer same_node (expanded_page pages page) page x edited)) result)
+    same by_items in
+    subst (λ o. Answered (expanded_by (edit_from pages page edited) o) result) (sym unrefused) by_tree
 
 -- ---- from what was read
 
-pub edited_read : (page : List ℕ) (edited : Edited) (t : Tree) (bytes : List ℕ) (result : Result Output Refusal) → Answers (Ok edited) bytes
-    → t ≡ body_of edited → Answered (edit_by t (edit_answer same_node page (page_tree page) t)) result
-    → Answered (edited_answer page (read bytes)) result
+pub edited_read : (pages : Pages) (page : List ℕ) (edited : Edited) (t : Tree) (bytes : List ℕ) (result : Result Output Refusal)
+    → Answers (Ok edited) bytes → t ≡ body_of edited → Answered (edit_to pages page t) result
+    → Answered (edited_answer pages page (read bytes)) result
 unfolding edited_answer
-edited_read page edited t bytes result reads is answered =
-    subst (λ r. Answered (edited_answer page r) result) (sym reads)
-    (subst (λ x. Answered (edit_by x (edit_answer same_node page (page_tree page) x)) result) is answered)
+edited_read pages page edited t bytes result reads is answered =
+    subst (λ r. Answered (edited_answer pages page r) result) (sym reads)
+    (subst (λ x. Answered (edit_to pages page x) result) is answered)
 
-unread : (page : List ℕ) (refusal : HtmlRefusal) (bytes : List ℕ) → Answers (Err refusal) bytes
-    → Refuses (refusal_of refusal) (edited_answer page (read bytes))
+unread : (pages : Pages) (page : List ℕ) (refusal : HtmlRefusal) (bytes : List ℕ) → Answers (Err refusal) bytes
+    → Refuses (refusal_of refusal) (edited_answer pages page (read bytes))
 unfolding edited_answer
-unread page (refusals.Html place why) bytes reads = rw reads refl
-unread page (refusals.Unfit n why) bytes reads = rw reads refl
-unread page refusals.NoMemory bytes reads = tt
+unread pages page (refusals.Html place why) bytes reads = rw reads refl
+unread pages page (refusals.Unfit n why) bytes reads = rw reads refl
+unread pages page refusals.NoMemory bytes reads = tt
 
-pub unread_from : (page : List ℕ) (refusal : HtmlRefusal) (bytes : List ℕ) (result : Result Output Refusal) → Answers (Err refusal) bytes
-    → IsErrAnd result (λ r. r ≡ refusal_of refusal) → Answered (edited_answer page (read bytes)) result
-unread_from page refusal bytes (Ok output) reads is = absurd is
-unread_from page refusal bytes (Err r) reads is =
-    subst (λ x. Refuses x (edited_answer page (read bytes))) (sym is) (unread page refusal bytes reads)
+pub unread_from : (pages : Pages) (page : List ℕ) (refusal : HtmlRefusal) (bytes : List ℕ) (result : Result Output Refusal)
+    → Answers (Err refusal) bytes → IsErrAnd result (λ r. r ≡ refusal_of refusal) → Answered (edited_answer pages page (read bytes)) result
+unread_from pages page refusal bytes (Ok output) reads is = absurd is
+unread_from pages page refusal bytes (Err r) reads is =
+    subst (λ x. Refuses x (edited_answer pages page (read bytes))) (sym is) (unread pages page refusal bytes reads)
+
+-- ---- what is asked of the folder
+
+names_end : (a : Option (List (List ℕ))) → option_map (λ ns. ns ++ []) a ≡ a
+names_end None = refl
+names_end (Some ns) = ap Some (append-nil ns)
+
+-- for a new page the names that aren't known
+pub asked_new : (pages : Pages) (met : List (List ℕ)) (new text : List ℕ) (x : Expansion) (before after : Option (List (List ℕ))) → text ≡ new
+    → KnowsMore pages met (page_work pages text) x before after
+    → after ≡ option_map (λ ns. ns ++ firsts_after met (fetches (page_work pages new))) before
+asked_new pages met new text x before after same k =
+    let h = subst (λ bs. KnowsMore pages met (page_work pages bs) x before after) same k in
+    sym (ap (λ es. option_map (λ ns. ns ++ firsts_after met (fetches es)) before) (sym (append-nil (page_work pages new))) ∙ h.names []
+    ∙ names_end after)
+
+asked_are : (es : List Entry) → names_asked es ≡ firsts_after [] (fetches es)
+unfolding names_asked
+asked_are es = refl
+
+-- for the page, and then for the new page
+pub asked_both : (pages : Pages) (page : List ℕ) (x : Expansion) (before middle after : Option (List (List ℕ))) (result : Result Output Refusal)
+    (k : KnowsMore pages [] (page_work pages page) x before middle)
+    → IfOk result (λ output. after ≡ option_map (λ ns. ns ++ firsts_after k.known (fetches (page_work pages (output_bytes output)))) middle)
+    → IfOk result (λ output. AsksForBoth pages page (output_bytes output) before after)
+asked_both pages page x before middle after (Err r) k second = tt
+asked_both pages page x before middle after (Ok output) k second =
+    let works = page_work pages page ++ page_work pages (output_bytes output) in
+    second ∙ sym (k.names (page_work pages (output_bytes output))) ∙ ap (λ es. option_map (λ ns. ns ++ es) before) (sym (asked_are works))
+
+named_ok : (f : FolderUse) (middle : Option (List (List ℕ))) (pages : Pages) (title page text : List ℕ) (result : Result Output Refusal)
+    → text ≡ page → middle ≡ option_map (λ ns. ns ++ title ∷ []) f.names_before → f.pages_after ≡ f.pages_before
+    → IfOk result (λ output. AsksForBoth pages text (output_bytes output) middle f.names_after)
+    → IfOk result (λ output. AnswersEdit f pages title page (output_bytes output))
+named_ok f middle pages title page text (Err reason) same first kept second = tt
+named_ok f middle pages title page text (Ok output) same first kept second =
+    let new = output_bytes output in
+    record {
+      answered = names_joined f.names_before middle f.names_after title (names_asked (page_work pages page ++ page_work pages new)) first
+          (second ∙ ap (λ bs. option_map (λ names. names ++ names_asked (page_work pages bs ++ page_work pages new)) middle) same);
+      pages_kept = kept;
+    }
+
+named_stands : (f : FolderUse) (middle : Option (List (List ℕ))) (pages : Pages) (title page text : List ℕ) (result : Result Output Refusal)
+    (stands : Option (List ℕ)) → IsFetched stands (fetched_as page) → IsText page → text ≡ page
+    → middle ≡ option_map (λ ns. ns ++ title ∷ []) f.names_before → f.pages_after ≡ f.pages_before
+    → IfOk result (λ output. AsksForBoth pages text (output_bytes output) middle f.names_after)
+    → IfSome stands (λ bytes. IfOk result (λ output. AnswersEdit f pages title bytes (output_bytes output)))
+named_stands f middle pages title page text result None fetched whole same first kept second = tt
+named_stands f middle pages title page text result (Some bytes) fetched whole same first kept second =
+    named_ok f middle pages title bytes text result (same ∙ sym (stands_is bytes page fetched whole)) first kept second
+
+named_told : (told : Option Pages) (f : FolderUse) (middle : Option (List (List ℕ))) (title page text : List ℕ) (result : Result Output Refusal)
+    → IfSome told (λ pages. IsFetched (pages title) (fetched_as page)) → IsText page → text ≡ page
+    → middle ≡ option_map (λ ns. ns ++ title ∷ []) f.names_before → f.pages_after ≡ f.pages_before
+    → ((pages : Pages) → told ≡ Some pages → IfOk result (λ output. AsksForBoth pages text (output_bytes output) middle f.names_after))
+    → IfSome told (λ pages. IfSome (pages title) (λ bytes. IfOk result (λ output. AnswersEdit f pages title bytes (output_bytes output))))
+named_told None f middle title page text result fetched whole same first kept second = tt
+named_told (Some pages) f middle title page text result fetched whole same first kept second =
+    named_stands f middle pages title page text result (pages title) fetched whole same first kept (second pages refl)
+
+-- the folder's pages as they were before, after the first fetch and at the end
+pub edit_named : (f : FolderUse) (middle_pages : Option Pages) (middle : Option (List (List ℕ))) (title page text : List ℕ)
+    (result : Result Output Refusal) → IfSome f.pages_before (λ pages. IsFetched (pages title) (fetched_as page)) → IsText page → text ≡ page
+    → middle ≡ option_map (λ ns. ns ++ title ∷ []) f.names_before → middle_pages ≡ f.pages_before → f.pages_after ≡ middle_pages
+    → ((pages : Pages) → middle_pages ≡ Some pages
+    → IfOk result (λ output. AsksForBoth pages text (output_bytes output) middle f.names_after))
+    → IfSome f.pages_before (λ pages. IfSome (pages title) (λ bytes. IfOk result (λ output. AnswersEdit f pages title bytes (output_bytes output))))
+edit_named f middle_pages middle title page text result fetched whole same first once kept second =
+    named_told f.pages_before f middle title page text result fetched whole same first (kept ∙ once) (λ pages e. second pages (once ∙ e))
+
+-- ---- what stands under the title
+
+edited_stands : (pages : Pages) (stands : Option (List ℕ)) (page text bytes : List ℕ) (result : Result Output Refusal)
+    → IsFetched stands (fetched_as page) → IsText page → text ≡ page
+    → Answered (input_answer (edited_answer pages text) bytes) result → Answered (edit_of pages stands bytes) result
+edited_stands pages stands page text bytes result fetched whole same answered =
+    let made : List ℕ → Answer = λ bs. input_answer (edited_answer pages bs) bytes in
+    subst (λ a. Answered a result) (ap made same ∙ sym (fetched made ∙ whole made)) answered
+
+-- the page that was fetched is edited
+pub edited_title : (told : Option Pages) (left : Option (List ℕ)) (title page text : List ℕ) (result : Result Output Refusal)
+    → IfSome told (λ pages. IsFetched (pages title) (fetched_as page)) → IsText page → text ≡ page
+    → ((pages : Pages) → told ≡ Some pages → IfSome left (λ bytes. Answered (input_answer (edited_answer pages text) bytes) result))
+    → IfSome (edit_told told left title) (λ a. Answered a result)
+edited_title None left title page text result fetched whole same answered = tt
+edited_title (Some pages) None title page text result fetched whole same answered = tt
+edited_title (Some pages) (Some bytes) title page text result fetched whole same answered =
+    edited_stands pages (pages title) page text bytes result fetched whole same (answered pages refl)
 
 -- ---- an answer that is done is the new page
 
-record IsNewPage (page : List ℕ) (edited : Tree) (bytes : List ℕ) : Type 0 where
-  pub built : unbuilt_place (new_page page edited) ≡ None
-  pub answered : IsAnswered (new_page page edited)
-  pub allowed : checked false (page_tree page) edited ≡ None
-  pub answer : edit_answer same_node page (page_tree page) edited ≡ Ok (new_page page edited)
-  pub is : bytes ≡ new_page page edited
-  pub shows : shown_children (page_tree (new_page page edited)) ≡ shown_children edited
+record IsNewPage (pages : Pages) (page : List ℕ) (edited : Tree) (bytes : List ℕ) : Type 0 where
+  pub answered : IsAnswered pages (new_page pages page edited)
+  pub allowed : checked false (page_tree pages page) edited ≡ None
+  pub answer : answer_of_edit pages page edited ≡ Ok (new_page pages page edited)
+  pub is : bytes ≡ new_page pages page edited
+  pub shows : shown_children (page_tree pages (new_page pages page edited)) ≡ shown_children (restored_from (page_tree pages page) edited)
 
 short_ok : (text new : List ℕ) (v : Bool) → cond v (Err of_edit.NewPageTooLong) (Ok text) ≡ Ok new → new ≡ text
 short_ok text new true e = cc
@@ -117,68 +259,99 @@ checked_ok : (o : Option Check) (p : Option EditRefusal) (text new : List ℕ)
 checked_ok None p text new e = (refl, unrefused_ok p text new e)
 checked_ok (Some c) p text new e = cc
 
-answer_ok : (page : List ℕ) (t edited : Tree) (new : List ℕ) → edit_answer same_node page t edited ≡ Ok new
+answer_ok : (items : Expanded) (page : List ℕ) (t edited : Tree) (new : List ℕ) → edit_answer same_node items page t edited ≡ Ok new
     → (checked false t edited ≡ None) × (new ≡ spliced page (changes same_node (marked t edited)))
 unfolding edit_answer
-answer_ok page t edited new e =
-    checked_ok (checked false t edited) (refused_pairs same_node page (marked t edited)) (spliced page (changes same_node (marked t edited))) new e
+answer_ok items page t edited new e =
+    checked_ok (checked false t edited) (refused_pairs same_node items page (marked t edited)) (spliced page (changes same_node (marked t edited)))
+    new e
 
 unspelled_done : (new bytes : List ℕ) (o : Option ℕ) → unspelled_by new o ≡ done bytes → (bytes ≡ new) × (o ≡ None)
 unspelled_done new bytes None e = (cc, refl)
 unspelled_done new bytes (Some k) e = cc
 
-new_page_done : (page : List ℕ) (edited : Tree) (bytes : List ℕ) (answer : Result (List ℕ) EditRefusal)
-    → edit_answer same_node page (page_tree page) edited ≡ answer → edit_by edited answer ≡ done bytes → IsNewPage page edited bytes
-new_page_done page edited bytes (Err e) is d = cc
-new_page_done page edited bytes (Ok new) is d =
-    let a = answer_ok page (page_tree page) edited new is in
-    let m = page_made new bytes (unspelled_answer edited) d in
-    let u = unspelled_done new bytes (differing 1 (shown_children (page_tree new)) (shown_children edited)) m.is in
-    let shown = none_same 1 (shown_children (page_tree new)) (shown_children edited) u.1 in
-    let answered = page_answered new (page_text new m.within m.text) m.built in
+new_done : (answer : Answer) (bytes : List ℕ) (o : Option Refused) → new_by answer o ≡ done bytes → (o ≡ None) × (answer ≡ done bytes)
+new_done answer bytes (Some r) e = cc
+new_done answer bytes None e = (refl, e)
+
+new_page_done : (pages : Pages) (page : List ℕ) (edited : Tree) (bytes : List ℕ) (answer : Result (List ℕ) EditRefusal)
+    → answer_of_edit pages page edited ≡ answer → edit_by pages (page_tree pages page) edited answer ≡ done bytes
+    → IsNewPage pages page edited bytes
+new_page_done pages page edited bytes (Err e) is d = cc
+new_page_done pages page edited bytes (Ok new) is d =
+    let t = page_tree pages page in
+    let a = answer_ok (expanded_page pages page) page t edited new is in
+    let m = title_made new bytes (new_expanded pages t edited) d in
+    let n = new_done (unspelled_answer pages t edited new) bytes (refusal_of_page pages new) m.is in
+    let shown = shown_children (restored_from t edited) in
+    let u = unspelled_done new bytes (differing 1 (shown_children (page_tree pages new)) shown) n.1 in
+    let same = none_same 1 (shown_children (page_tree pages new)) shown u.1 in
+    let answered : IsAnswered pages new = record { text = page_text new m.within m.text; unrefused = n.0 } in
     record {
-      built = subst (λ bs. unbuilt_place bs ≡ None) a.1 m.built;
-      answered = subst IsAnswered a.1 answered;
+      answered = subst (IsAnswered pages) a.1 answered;
       allowed = a.0;
       answer = is ∙ ap Ok a.1;
       is = u.0 ∙ a.1;
-      shows = subst (λ bs. shown_children (page_tree bs) ≡ shown_children edited) a.1 shown;
+      shows = subst (λ bs. shown_children (page_tree pages bs) ≡ shown) a.1 same;
     }
 
-abbrev IsEdited : List ℕ → Read → List ℕ → Type 0
-IsEdited page r bytes = (t : Tree) × (unsourced : Option ℕ) × (r ≡ as_page t unsourced) × IsNewPage page t bytes
+record IsEdited (pages : Pages) (page : List ℕ) (r : Read) (bytes : List ℕ) : Type 0 where
+  pub edited : Tree
+  pub unsourced : Option ℕ
+  pub reads : r ≡ as_page edited unsourced
+  pub unrefused : refusal_of_page pages page ≡ None
+  pub new : IsNewPage pages page edited bytes
 
-edited_done : (page : List ℕ) (r : Read) (bytes : List ℕ) → edited_answer page r ≡ done bytes → IsEdited page r bytes
+edited_done : (pages : Pages) (page : List ℕ) (r : Read) (bytes : List ℕ) → edited_answer pages page r ≡ done bytes → IsEdited pages page r bytes
 unfolding edited_answer
-edited_done page (as_page t unsourced) bytes e =
-    (t, unsourced, refl, new_page_done page t bytes (edit_answer same_node page (page_tree page) t) refl e)
-edited_done page (ill place why) bytes e = cc
-edited_done page (misfit n why) bytes e = cc
-
-pub wrote_edit : (stands : Option (List ℕ)) (input bytes : List ℕ) (left old new : Option (List ℕ)) → edit_of stands input ≡ done bytes
-    → IsAtEnd left → Appends old new bytes → WroteEdit stands input left old new
-wrote_edit stands input bytes left old new e ended wrote =
-    let h = stands_made stands (λ page. input_answer (edited_answer page) input) bytes e in
-    let m = input_done (edited_answer h.0) input bytes h.3 in
-    let d = edited_done h.0 (read input) bytes m.1 in
-    let is : page_answer (Some h.0) (λ page. input_answer (edited_answer page) input) ≡ done bytes =
-    subst (λ o. page_answer o (λ page. input_answer (edited_answer page) input) ≡ done bytes) h.1 e in
-    let old_page = page_made h.0 bytes (λ page. input_answer (edited_answer page) input) is in
+edited_done pages page (as_page t unsourced) bytes e =
+    let x = expanded_done (edit_from pages page t) bytes (refusal_of_page pages page) e in
     record {
-      page = h.0;
-      edited = d.0;
-      unsourced = d.1;
+      edited = t;
+      unsourced = unsourced;
+      reads = refl;
+      unrefused = x.0;
+      new = new_page_done pages page t bytes (answer_of_edit pages page t) refl x.1;
+    }
+edited_done pages page (ill place why) bytes e = cc
+edited_done pages page (misfit n why) bytes e = cc
+
+restored_bare : (page t : Tree) → IsBare t → IsBare (restored_from page t)
+restored_bare page (tree l ts) h = h
+
+pub wrote_edit : (pages : Pages) (title input bytes : List ℕ) (folder : FolderUse) (left old new : Option (List ℕ))
+    → edit_of pages (pages title) input ≡ done bytes → IsAtEnd left → Appends old new bytes
+    → IfSome (pages title) (λ page. AnswersEdit folder pages title page bytes) → WroteEdit pages title input folder left old new
+wrote_edit pages title input bytes folder left old new e ended wrote names =
+    let made : List ℕ → Answer = λ page. input_answer (edited_answer pages page) input in
+    let h = title_stands (pages title) made bytes e in
+    let page = h.0 in
+    let m = input_done (edited_answer pages page) input bytes h.2 in
+    let d = edited_done pages page (read input) bytes m.1 in
+    let its = title_made page bytes made (subst (λ o. title_answer o made ≡ done bytes) h.1 e) in
+    let text = text_of page its.text in
+    let t = page_tree pages page in
+    record {
+      page = page;
+      edited = d.edited;
+      unsourced = d.unsourced;
       found = h.1;
       within = m.0;
-      reads = d.2;
+      reads = d.reads;
       ended = ended;
-      allowed = d.3.allowed;
-      unrefused = d.3.answer;
-      wrote = subst (Appends old new) d.3.is wrote;
-      outside = edit_stands same_node h.0 (new_page h.0 d.0) (page_tree h.0) d.0 (page_body h.0) (page_numbered h.0) (page_tiled h.0)
-          (page_covered h.0) (page_leaves h.0 old_page.within (text_of h.0 old_page.text) h.2) d.3.answer;
-      answered = d.3.answered;
-      shows = same_shown (page_tree (new_page h.0 d.0)) d.0 (page_face (new_page h.0 d.0)) (read_face input d.0 d.1 d.2) d.3.shows;
+      expanded = d.unrefused;
+      allowed = d.new.allowed;
+      unrefused = d.new.answer;
+      wrote = subst (Appends old new) d.new.is wrote;
+      outside = edit_stands same_node (expanded_page pages page) page (new_page pages page d.edited) t d.edited (page_body pages page)
+          (page_numbered pages page) (page_tiled pages page)
+          (page_covered pages page (its_page pages page text d.unrefused))
+          (page_leaves pages page text its.within d.unrefused) d.new.answer;
+      answered = d.new.answered;
+      shows = same_shown (page_tree pages (new_page pages page d.edited)) (restored_from t d.edited)
+          (page_face pages (new_page pages page d.edited)) (restored_bare t d.edited (read_face input d.edited d.unsourced d.reads)) d.new.shows;
+      names = subst (λ bs. AnswersEdit folder pages title page bs) d.new.is
+          (subst (λ o. IfSome o (λ p. AnswersEdit folder pages title p bytes)) h.1 names);
     }
 
 pub told_edit : (pages : Option Pages) (input : Option (List ℕ)) (words : List (List ℕ)) (title : List ℕ)

@@ -1,8 +1,20 @@
 -- `expand`: from what the expansion of a page answers to the answer of the program.
-use Rattle.std.proofs.Common.{◌≡◌, ℕ, List, ◌∷◌, [], ◌++◌, refl, sym, ap, ◌∙◌, subst, append_assoc}
+use Rattle.std.proofs.Common.{◌≡◌, ◌<◌, ◌≤◌, ◌^◌, ℕ, List, ◌∷◌, [], ◌++◌, true, length, IsUtf8, refl, sym, ap, ◌∙◌, subst, arith, append_assoc}
 use Rattle.std.specs.Prelude.{Option, Some, None, option_map, IfSome, OnOk, Result, Ok, Err}
 use Rattle.std.specs.Io.KnownBytes.{Appends}
 use Rattle.wt_outer.specs.Device.{Pages}
+use Rattle.wt_span.specs.Cuts.{page_of}
+use Rattle.wt_span.specs.Items.{Item}
+use Rattle.wt_span.specs.Origins.{OuterCall, Expanded}
+use Rattle.wt_tree.specs.Tree.{Tree}
+use Rattle.wt_inline.specs.ItemTree.{ItemTree, tree_items}
+use Rattle.wt_body.specs.Body.{meaning}
+use Rattle.wt_ranges.specs.Annotated.{annotated}
+use Rattle.wt_ranges.specs.Clean.{is_clean}
+use Rattle.wt_ranges.specs.GroupData.{group_data}
+use Rattle.wt_page_round_trip.specs.PageTree.{expanded_tree, page_tree}
+use Rattle.wt_page_round_trip.proofs.HeldPages.{its_page}
+use Rattle.wt_page_round_trip.proofs.PageTrees.{clean_meaning}
 use Rattle.wt_expand.specs.Texts.{shown_text}
 use Rattle.wt_expand.specs.PageCalls.{expanded_page}
 use Rattle.wt_expand.specs.Expansion.{page_work}
@@ -14,21 +26,25 @@ use Rattle.wt_pagetool.specs.declared.output.Output.{Output}
 use Rattle.wt_pagetool.specs.declared.refusal.Refusal.{Refusal}
 use Rattle.wt_pagetool.specs.declared.command.Command.TheVariants.{Expand}
 use Rattle.wt_pagetool.specs.Words.{command_of}
-use Rattle.wt_pagetool.specs.Answers.{done, title_answer, expansion_by, expansion_of, refusal_of_page, answer_told, IsText}
-use Rattle.wt_pagetool.specs.Causes.{IsFetched, Refuses, IsOfTitle, IsKept, refusal_of_expansion}
+use Rattle.wt_pagetool.specs.Answers.{Answer, done, title_answer, expanded_by, expansion_of, refusal_of_page, answer_told, IsText}
+use Rattle.wt_pagetool.specs.Causes.{IsFetched, Refuses, RefusesExpansion, IsOfTitle, IsKept, refusal_of_expansion}
 use Rattle.wt_pagetool.specs.Devices.{FolderUse, AnswersExpansion}
 use Rattle.wt_pagetool.specs.Reports.{WroteExpansion}
-use Rattle.wt_pagetool.proofs.PageLaws.{title_stands}
+use Rattle.wt_pagetool.proofs.PageLaws.{title_stands, expanded_made}
 
 -- ---- refusals
 
-pub refusal_is : (shown : List ℕ) (o : Option Refused) (e : ExpandRefusal) → IsRefused o e → Refuses (refusal_of_expansion e) (expansion_by shown o)
-refusal_is shown o (of_expansion.BracesTooDeep title place) is = ap (expansion_by shown) is
-refusal_is shown o of_expansion.TooLarge is = ap (expansion_by shown) is
-refusal_is shown o of_expansion.FolderFault is = tt
-refusal_is shown o (of_expansion.TemplateNotUtf8 title place) is = ap (expansion_by shown) is
-refusal_is shown o (of_expansion.TemplateTooLong title) is = ap (expansion_by shown) is
-refusal_is shown o of_expansion.NoMemory is = tt
+pub refusal_is : (answer : Answer) (o : Option Refused) (e : ExpandRefusal) → IsRefused o e → Refuses (refusal_of_expansion e) (expanded_by answer o)
+refusal_is answer o (of_expansion.BracesTooDeep title place) is = ap (expanded_by answer) is
+refusal_is answer o of_expansion.TooLarge is = ap (expanded_by answer) is
+refusal_is answer o of_expansion.FolderFault is = tt
+refusal_is answer o (of_expansion.TemplateNotUtf8 title place) is = ap (expanded_by answer) is
+refusal_is answer o (of_expansion.TemplateTooLong title) is = ap (expanded_by answer) is
+refusal_is answer o of_expansion.NoMemory is = tt
+
+-- whatever is made of the expanded page
+pub expansion_refused : (o : Option Refused) (e : ExpandRefusal) → IsRefused o e → RefusesExpansion o (refusal_of_expansion e)
+expansion_refused o e is = λ answer. refusal_is answer o e is
 
 pub refusal_of_title : (before after : ℕ) (e : ExpandRefusal) → IsCountedErr before after e → IsOfTitle before after (refusal_of_expansion e)
 refusal_of_title before after (of_expansion.BracesTooDeep title place) h = tt
@@ -51,8 +67,8 @@ refusal_kept before after of_expansion.NoMemory h = λ a. absurd a
 
 -- ---- an answer
 
-pub shown_is : (shown text : List ℕ) (o : Option Refused) → o ≡ None → text ≡ shown → expansion_by shown o ≡ done text
-shown_is shown text o none same = ap (expansion_by shown) none ∙ ap done (sym same)
+pub shown_is : (shown text : List ℕ) (o : Option Refused) → o ≡ None → text ≡ shown → expanded_by (done shown) o ≡ done text
+shown_is shown text o none same = ap (expanded_by (done shown)) none ∙ ap done (sym same)
 
 abbrev pub fetched_as : List ℕ → Result (List ℕ) Refusal
 fetched_as page = Ok page
@@ -66,7 +82,7 @@ names_joined (Some ns) middle after title names first second =
     second ∙ ap (option_map (λ xs. xs ++ names)) first ∙ ap Some (append_assoc ns (title ∷ []) names)
 
 -- a page that is text is the one that stands under the title
-stands_is : (stands page : List ℕ) → IsFetched (Some stands) (fetched_as page) → IsText page → stands ≡ page
+pub stands_is : (stands page : List ℕ) → IsFetched (Some stands) (fetched_as page) → IsText page → stands ≡ page
 stands_is stands page fetched text =
     let h = title_stands (Some stands) (λ bs. done bs) page (fetched (λ bs. done bs) ∙ text (λ bs. done bs)) in
     let e : stands ≡ h.0 = let f = h.1 in cc in
@@ -115,25 +131,18 @@ expansion_named f middle_pages middle title page text result fetched whole same 
 
 -- ---- the clause
 
-abbrev IsShown : Pages → List ℕ → List ℕ → Type 0
-IsShown pages page bytes = (refusal_of_page pages page ≡ None) × (bytes ≡ shown_text (expanded_page pages page).items)
-
-shown_of : (shown bytes : List ℕ) (o : Option Refused) → expansion_by shown o ≡ done bytes → (o ≡ None) × (bytes ≡ shown)
-shown_of shown bytes (Some r) e = cc
-shown_of shown bytes None e = (refl, cc)
-
 pub wrote_expansion : (pages : Pages) (title : List ℕ) (folder : FolderUse) (bytes : List ℕ) (old new : Option (List ℕ))
     → title_answer (pages title) (expansion_of pages) ≡ done bytes → Appends old new bytes
     → IfSome (pages title) (λ page. AnswersExpansion folder pages title page) → WroteExpansion pages title folder old new
 wrote_expansion pages title folder bytes old new e wrote names =
-    let h = title_stands (pages title) (expansion_of pages) bytes e in
-    let s = shown_of (shown_text (expanded_page pages h.0).items) bytes (refusal_of_page pages h.0) h.2 in
+    let h = expanded_made pages (pages title) (λ page. done (shown_text (expanded_page pages page).items)) bytes e in
+    let same : bytes ≡ shown_text (expanded_page pages h.page).items = let f = h.is in cc in
     record {
-      page = h.0;
-      found = h.1;
-      unrefused = s.0;
-      wrote = subst (Appends old new) s.1 wrote;
-      names = subst (λ o. IfSome o (λ page. AnswersExpansion folder pages title page)) h.1 names;
+      page = h.page;
+      found = h.found;
+      unrefused = h.unrefused;
+      wrote = subst (Appends old new) same wrote;
+      names = subst (λ o. IfSome o (λ page. AnswersExpansion folder pages title page)) h.found names;
     }
 
 pub told_expansion : (pages : Option Pages) (input : Option (List ℕ)) (words : List (List ℕ)) (title : List ℕ)
@@ -141,3 +150,35 @@ pub told_expansion : (pages : Option Pages) (input : Option (List ℕ)) (words :
     → answer_told pages input words ≡ option_map (λ ps. title_answer (ps title) (expansion_of ps)) pages
 unfolding answer_told
 told_expansion pages input words title e = rw e refl
+
+-- ---- the tree of an expanded page
+
+-- what stands on the page for its expanded items is no longer than a page
+pub page_small : (pages : Pages) (page : List ℕ) (e : Expanded) → IsUtf8 page → length page ≤ 2097152 → refusal_of_page pages page ≡ None
+    → e ≡ expanded_page pages page → length (page_of e.outer (tree_items (meaning e.items))) < 2 ^ 32
+page_small pages page e text room unrefused is =
+    let its : length (page_of (expanded_page pages page).outer (tree_items (meaning (expanded_page pages page).items))) ≡ length page =
+    ap length (its_page pages page text unrefused) in
+    let same : length (page_of e.outer (tree_items (meaning e.items)))
+    ≡ length (page_of (expanded_page pages page).outer (tree_items (meaning (expanded_page pages page).items))) =
+    ap (λ (x : Expanded). length (page_of x.outer (tree_items (meaning x.items)))) is in
+    omega (arith, room, its, same)
+
+pub tree_expanded : (pages : Pages) (page : List ℕ) (t : Tree) (e : Expanded) → t ≡ expanded_tree e → e ≡ expanded_page pages page → t ≡ page_tree pages page
+tree_expanded pages page t e is same = is ∙ ap expanded_tree same
+
+-- the tree of items is made of the meaning that was built
+pub meaning_small : (calls : List OuterCall) (xs : List Item) (t : ItemTree) → t ≡ meaning xs
+    → length (page_of calls (tree_items (meaning xs))) < 2 ^ 32 → length (page_of calls (tree_items t)) < 2 ^ 32
+meaning_small calls xs t is small = subst (λ u. length (page_of calls (tree_items u)) < 2 ^ 32) (sym is) small
+
+pub meaning_clean : (xs : List Item) (t : ItemTree) → t ≡ meaning xs → is_clean (tree_items t) 0 t ≡ true
+meaning_clean xs t is = ap (λ u. is_clean (tree_items u) 0 u) is ∙ clean_meaning xs
+
+pub meaning_tree : (t : Tree) (e : Expanded) (m : ItemTree) → m ≡ meaning e.items → t ≡ annotated e.outer (group_data e.outer) m → t ≡ expanded_tree e
+meaning_tree t e m is made = made ∙ ap (λ u. annotated e.outer (group_data e.outer) u) is
+
+-- what holds however it ended holds where it is done
+pub on_any : {T X : Type 0} (r : Result T Refusal) → X → OnOk r X
+on_any (Ok value) x = x
+on_any (Err reason) x = tt

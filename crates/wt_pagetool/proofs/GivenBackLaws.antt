@@ -11,30 +11,30 @@ use Rattle.wt_pagetool.specs.declared.status.Status.{Status}
 use Rattle.wt_pagetool.specs.declared.refusal.Refusal.{Refusal}
 use Rattle.wt_pagetool.specs.declared.refusal.Refusal.TheVariants.{HtmlTooLong}
 use Rattle.wt_pagetool.specs.declared.command.Command.TheVariants.{Wikitext}
+use Rattle.wt_pagetool.specs.declared.command.PageCommand.TheVariants.{Html}
 use Rattle.wt_pagetool.specs.Outputs.{output_bytes}
 use Rattle.wt_pagetool.specs.Statuses.{code}
 use Rattle.wt_pagetool.specs.Refusals.{status_of}
 use Rattle.wt_page_round_trip.specs.PageTree.{page_tree}
 use Rattle.wt_pagetool.specs.Words.{command_of}
-use Rattle.wt_pagetool.specs.Answers.{done, refused, html_of, html_answer, source_answer, wikitext_answer, answer_told}
+use Rattle.wt_pagetool.specs.Answers.{done, refused, refusal_of_page, made_of_tree, html_answer, source_answer, wikitext_answer, answer_told}
 use Rattle.wt_pagetool.specs.Causes.{Answered}
 use Rattle.wt_pagetool.specs.Devices.{SinkUse}
 use Rattle.wt_pagetool.specs.Reports.{Reported}
 use Rattle.wt_pagetool.specs.GivenBack.{IsReadBack, IsGivenBack, GaveBack}
-use Rattle.wt_pagetool.proofs.PageLaws.{text_of, page_made}
+use Rattle.wt_pagetool.proofs.PageLaws.{expanded_made}
 use Rattle.wt_pagetool.proofs.AnswerLaws.{input_within}
-use Rattle.wt_pagetool.proofs.WikitextLaws.{source_sourced}
+use Rattle.wt_pagetool.proofs.WikitextLaws.{source_sourced, told_wikitext}
 use Rattle.wt_pagetool.proofs.StatusLaws.{IsUnansweredBy, unanswered, no_refusal}
-use Rattle.wt_pagetool.proofs.RunLaws.{told_wikitext}
 use Rattle.wt_page_round_trip.proofs.Pages.{page_is_read, same_page}
-use Rattle.wt_page_round_trip.proofs.PageTrees.{two_a_byte}
 use Rattle.wt_round_trip.specs.Written.{unranged}
 
 -- what an answer that is HTML says of the page
-record Written (page bytes : List ℕ) : Type 0 where
+pub record Written (pages : Pages) (page bytes : List ℕ) : Type 0 where
   pub within : length page ≤ 2097152
   pub text : IsUtf8 page
-  pub is : bytes ≡ html_text (page_tree page)
+  pub unrefused : refusal_of_page pages page ≡ None
+  pub is : bytes ≡ html_text (page_tree pages page)
   pub few : length bytes ≤ 67108864
 
 abbrev IsFew : List ℕ → List ℕ → Type 0
@@ -47,32 +47,39 @@ few_html html bytes false is e =
     let few : length html ≤ 67108864 = grind (arith, nat_tests) in
     (same, subst (λ bs. length bs ≤ 67108864) (sym same) few)
 
-written : (page bytes : List ℕ) → html_answer (Some page) ≡ done bytes → Written page bytes
-written page bytes e =
-    let m = page_made page bytes html_of e in
-    let html = html_text (page_tree page) in
+-- the page that is expanded is the one that stands
+stands_there : (page other : List ℕ) → Some page ≡ Some other → other ≡ page
+stands_there page other e = cc
+
+pub written : (pages : Pages) (page bytes : List ℕ) → html_answer pages (Some page) ≡ done bytes → Written pages page bytes
+written pages page bytes e =
+    let m = expanded_made pages (Some page) (λ bs. made_of_tree Html (page_tree pages bs)) bytes e in
+    let html = html_text (page_tree pages m.page) in
     let few = few_html html bytes (nat_lt 67108864 (length html)) refl m.is in
-    record { within = m.within; text = text_of page m.text; is = few.0; few = few.1 }
+    subst (λ bs. Written pages bs bytes) (stands_there page m.page m.found)
+    (record { within = m.within; text = m.text; unrefused = m.unrefused; is = few.0; few = few.1 })
 
 -- a page whose HTML is read back is given back
-given_back : (page : List ℕ) → (IsUtf8 page → length page ≤ 2097152 → IsReadBack page) → IsGivenBack page
-given_back page back bytes e =
-    let w = written page bytes e in
-    let b = back w.text w.within in
+given_back : (pages : Pages) (page : List ℕ)
+    → (IsUtf8 page → length page ≤ 2097152 → refusal_of_page pages page ≡ None → IsReadBack pages page) → IsGivenBack pages page
+given_back pages page back bytes e =
+    let w = written pages page bytes e in
+    let b = back w.text w.within w.unrefused in
     input_within source_answer bytes w.few ∙ ap source_answer (ap read w.is ∙ b.reads) ∙ source_sourced b.tree None page refl (sym b.source)
 
-pub all_given_back : (page : List ℕ) → IsGivenBack page
-all_given_back page =
-    given_back page
-    (λ text within. record {
-      tree = unranged (page_tree page);
-      reads = page_is_read page text (omega arith) (two_a_byte page);
-      source = same_page page;
-    })
+pub read_back : (pages : Pages) (page : List ℕ) → IsUtf8 page → length page ≤ 2097152 → refusal_of_page pages page ≡ None → IsReadBack pages page
+read_back pages page text within unrefused = record {
+  tree = unranged (page_tree pages page);
+  reads = page_is_read pages page text (omega (arith, within)) unrefused;
+  source = same_page pages page text unrefused;
+}
+
+pub all_given_back : (pages : Pages) (page : List ℕ) → IsGivenBack pages page
+all_given_back pages page = given_back pages page (read_back pages page)
 
 -- ---- the clause
 
-gave_step : (page : List ℕ) (found : Result Output Refusal) (s : Status) (ended : ℕ) (o e : SinkUse) → ended ≡ code s
+pub gave_step : (page : List ℕ) (found : Result Output Refusal) (s : Status) (ended : ℕ) (o e : SinkUse) → ended ≡ code s
     → Answered (done page) found → Reported found s o e → GaveBack page ended o.taken_before o.taken_after
 gave_step page (Ok output) s ended o e is a (inl r) =
     let same : page ≡ output_bytes output = cc in
@@ -86,14 +93,14 @@ gave_step page (Err refusal) s ended o e is a (u, inr (inr t)) = inr (unanswered
 
 gave_told : (input : Option (List ℕ)) (found : Result Output Refusal) (s : Status) (ended : ℕ) (o e : SinkUse) → ended ≡ code s
     → IfSome (option_map wikitext_answer input) (λ a. Answered a found) → Reported found s o e
-    → IfSome input (λ bytes. (page : List ℕ) → html_answer (Some page) ≡ done bytes → GaveBack page ended o.taken_before o.taken_after)
+    → IfSome input (λ bytes. (pages : Pages) → (page : List ℕ) → html_answer pages (Some page) ≡ done bytes → GaveBack page ended o.taken_before o.taken_after)
 gave_told None found s ended o e is a r = tt
-gave_told (Some bytes) found s ended o e is a r = λ page h. gave_step page found s ended o e is
-    (subst (λ x. Answered x found) (all_given_back page bytes h) a) r
+gave_told (Some bytes) found s ended o e is a r = λ pages page h. gave_step page found s ended o e is
+    (subst (λ x. Answered x found) (all_given_back pages page bytes h) a) r
 
 pub run_gives_back : (pages : Option Pages) (input : Option (List ℕ)) (words : List (List ℕ)) (found : Result Output Refusal)
     (s : Status) (ended : ℕ) (o e : SinkUse) → ended ≡ code s → command_of words ≡ Some Wikitext
     → IfSome (answer_told pages input words) (λ a. Answered a found) → Reported found s o e
-    → IfSome input (λ bytes. (page : List ℕ) → html_answer (Some page) ≡ done bytes → GaveBack page ended o.taken_before o.taken_after)
+    → IfSome input (λ bytes. (pages : Pages) → (page : List ℕ) → html_answer pages (Some page) ≡ done bytes → GaveBack page ended o.taken_before o.taken_after)
 run_gives_back pages input words found s ended o e is w a r =
     gave_told input found s ended o e is (subst (λ x. IfSome x (λ y. Answered y found)) (told_wikitext pages input words w) a) r

@@ -1,23 +1,44 @@
--- In the tree of a page that is built no leaf holds a node, since the tree is written.
-use Rattle.std.proofs.Common.{◌≡◌, ℕ, suc, ◌≤◌, List, length, Bool, true, false, sym, ap, ◌∙◌, subst, arith}
-use Rattle.std.specs.Prelude.{◌||◌, not, IsUtf8, None}
+-- In the tree of a page no leaf holds a node with a number: a leaf that is written holds nothing, and in groups nothing is numbered.
+use Rattle.std.proofs.Common.{◌≡◌, ℕ, suc, ◌≤◌, List, [], ◌∷◌, ◌++◌, length, Bool, true, false, cond, None, refl, sym, ap, ◌∙◌, subst, arith}
+use Rattle.std.specs.Prelude.{◌||◌, not, IsUtf8}
+use Rattle.std.proofs.lemmas.List.Elements.{recursion_from_All}
 use Rattle.std.specs.List.{AllByRecursion}
 use Rattle.wt_tree.specs.declared.kind.Kind.{Kind}
 use Rattle.wt_tree.specs.declared.kind.Kind.TheVariants as kind
 use Rattle.wt_tree.specs.declared.row.Writing.{Writing}
 use Rattle.wt_tree.specs.declared.row.Writing.TheVariants.{AsText, AsVoid, RoundCharacter, RoundChildren, Unwritten}
-use Rattle.wt_tree.specs.Kinds.{is_leaf, writing, texts_of_kind}
-use Rattle.wt_tree.specs.Tiling.{is_group, HasNoGroup, NoneIsGroup, ids_of_all}
+use Rattle.wt_tree.specs.Kinds.{is_leaf, is_numbered, writing, texts_of_kind}
+use Rattle.wt_tree.specs.Tiling.{is_group, ids, ids_of_all, others, others_of_all}
 use Rattle.wt_tree.specs.Tree.{Label, Tree, tree, Trees, none, more}
 use Rattle.wt_round_trip.specs.Written.{IsWrittenGroup, NodeIsWritten, is_childless, IsCutIn, WrittenIn, AllWrittenIn, IsWritten}
+use Rattle.wt_expand.specs.Expansion.{page_work}
+use Rattle.wt_expand.specs.Work.{Pages, first_refusal}
 use Rattle.wt_page_round_trip.specs.PageTree.{page_tree}
 use Rattle.wt_page_round_trip.proofs.Pages.{page_written}
-use Rattle.wt_page_round_trip.proofs.PageTrees.{two_a_byte}
+use Rattle.wt_page_round_trip.proofs.PageTrees.{page_numbered}
 use Rattle.wt_selser.specs.Leaves.{LeavesHoldNoNumber, AllLeavesHoldNoNumber}
-use Rattle.wt_pagetool.specs.Answers.{unbuilt_place}
-use Rattle.wt_pagetool.proofs.BuiltLaws.{built_none}
 
-none_held : (ts : Trees) → is_childless ts ≡ true → AllByRecursion (λ n. n ≡ 0) (ids_of_all ts)
+-- ---- where nothing has a number
+
+abbrev AreZero : List ℕ → Type 0
+AreZero ns = AllByRecursion (λ n. n ≡ 0) ns
+
+both_zero : (xs ys : List ℕ) → AreZero (xs ++ ys) → AreZero xs × AreZero ys
+both_zero [] ys h = (tt, h)
+both_zero (x ∷ xs) ys h = let r = both_zero xs ys h.1 in ((h.0, r.0), r.1)
+
+mutual
+  numberless : (t : Tree) → AreZero (ids t) → LeavesHoldNoNumber t
+  numberless (tree l ts) h = (λ e. h.1, all_numberless ts h.1)
+
+  all_numberless : (ts : Trees) → AreZero (ids_of_all ts) → AllLeavesHoldNoNumber ts
+  all_numberless none h = tt
+  all_numberless (more t ts) h =
+      let both = both_zero (ids t) (ids_of_all ts) h in (numberless t both.0, all_numberless ts both.1)
+
+-- ---- where nodes are written
+
+none_held : (ts : Trees) → is_childless ts ≡ true → AreZero (ids_of_all ts)
 none_held none e = tt
 none_held (more t ts) e = cc
 
@@ -53,29 +74,45 @@ no_group k parent l ts e h =
     let f : true ≡ false = sym (ap is_group h.label.kind) ∙ e in
     cc
 
-mutual
-  leaves : (k : ℕ) (parent : Kind) (t : Tree) → WrittenIn k parent t → HasNoGroup t → LeavesHoldNoNumber t
-  leaves k parent (tree l ts) h g =
-      let group : IsWrittenGroup k parent l ts → ⊥ = no_group k parent l ts g.0 in (
-        λ e. none_held ts (leaf_childless (writing l.kind) k parent l (is_childless ts)
-            (IsCutIn (texts_of_kind l.kind) ts × AllWrittenIn (suc k) l.kind ts) (IsWrittenGroup k parent l ts) h group e),
-        below (writing l.kind) k parent l ts (IsCutIn (texts_of_kind l.kind) ts × AllWrittenIn (suc k) l.kind ts)
-            (IsWrittenGroup k parent l ts) h group (λ w. all_leaves (suc k) l.kind ts w.1 g.1),
-      )
+-- a group holds no numbers, and another node holds what isn't numbered
+in_group_or_not : (l : Label) (ts : Trees) (g : Bool) → is_group l.kind ≡ g → AreZero (cond g (ids_of_all ts) (others_of_all ts))
+    → (is_group l.kind ≡ false → AreZero (others_of_all ts) → LeavesHoldNoNumber (tree l ts)) → LeavesHoldNoNumber (tree l ts)
+in_group_or_not l ts true e z f = (λ leaf. z, all_numberless ts z)
+in_group_or_not l ts false e z f = f e z
 
-  all_leaves : (k : ℕ) (parent : Kind) (ts : Trees) → AllWrittenIn k parent ts → NoneIsGroup ts → AllLeavesHoldNoNumber ts
-  all_leaves k parent none h g = tt
-  all_leaves k parent (more t ts) h g = (leaves k parent t h.0 g.0, all_leaves k parent ts h.2 g.1)
+others_inside : (l : Label) (ts : Trees) → AreZero (others (tree l ts)) → AreZero (cond (is_group l.kind) (ids_of_all ts) (others_of_all ts))
+others_inside l ts z =
+    (both_zero (cond (is_numbered l.kind) [] (l.id ∷ [])) (cond (is_group l.kind) (ids_of_all ts) (others_of_all ts)) z).1
+
+mutual
+  leaves : (k : ℕ) (parent : Kind) (t : Tree) → WrittenIn k parent t → AreZero (others t) → LeavesHoldNoNumber t
+  leaves k parent (tree l ts) h z =
+      in_group_or_not l ts (is_group l.kind) refl (others_inside l ts z)
+      (λ e o. let group : IsWrittenGroup k parent l ts → ⊥ = no_group k parent l ts e in (
+        λ leaf. none_held ts (leaf_childless (writing l.kind) k parent l (is_childless ts)
+            (IsCutIn (texts_of_kind l.kind) ts × AllWrittenIn (suc k) l.kind ts) (IsWrittenGroup k parent l ts) h group leaf),
+        below (writing l.kind) k parent l ts (IsCutIn (texts_of_kind l.kind) ts × AllWrittenIn (suc k) l.kind ts)
+            (IsWrittenGroup k parent l ts) h group (λ w. all_leaves (suc k) l.kind ts w.1 o),
+      ))
+
+  all_leaves : (k : ℕ) (parent : Kind) (ts : Trees) → AllWrittenIn k parent ts → AreZero (others_of_all ts) → AllLeavesHoldNoNumber ts
+  all_leaves k parent none h z = tt
+  all_leaves k parent (more t ts) h z =
+      let both = both_zero (others t) (others_of_all ts) z in
+      (leaves k parent t h.0 both.0, all_leaves k parent ts h.2 both.1)
 
 no_leaf : (k : Kind) → k ≡ kind.Body → is_leaf k ≡ true → ⊥
 no_leaf k is e =
     let f : is_leaf kind.Body ≡ true = subst (λ x. is_leaf x ≡ true) is e in
     cc
 
-written_leaves : (t : Tree) → IsWritten t → HasNoGroup t → LeavesHoldNoNumber t
-written_leaves (tree l ts) h g = (λ e. absurd (no_leaf l.kind h.0 e), all_leaves 2 kind.Body ts h.2 g.1)
+written_leaves : (t : Tree) → IsWritten t → AreZero (others t) → LeavesHoldNoNumber t
+written_leaves (tree l ts) h z =
+    in_group_or_not l ts (is_group l.kind) refl (others_inside l ts z)
+    (λ e o. (λ leaf. absurd (no_leaf l.kind h.0 leaf), all_leaves 2 kind.Body ts h.2 o))
 
-pub page_leaves : (page : List ℕ) → length page ≤ 2097152 → IsUtf8 page → unbuilt_place page ≡ None → LeavesHoldNoNumber (page_tree page)
-page_leaves page within text built =
-    let g = built_none page built in
-    written_leaves (page_tree page) (page_written page text (omega arith) (two_a_byte page)) g
+pub page_leaves : (pages : Pages) (page : List ℕ) → IsUtf8 page → length page ≤ 2097152 → first_refusal pages page (page_work pages page) ≡ None
+    → LeavesHoldNoNumber (page_tree pages page)
+page_leaves pages page text within unrefused =
+    written_leaves (page_tree pages page) (page_written pages page text (omega arith) unrefused)
+    (recursion_from_All (λ n. n ≡ 0) (others (page_tree pages page)) (page_numbered pages page).unnumbered)

@@ -1,13 +1,18 @@
 pub mod AnswerLaws
-pub mod BuiltLaws
-mod Cases
+pub mod Cases
 pub mod EditLaws
+pub mod EditedLaws
 pub mod ExpandLaws
+pub mod GenLaws
 pub mod GivenBackLaws
 pub mod LeavesLaws
 pub mod PageLaws
+pub mod ReadGroups
 pub mod RefusalLines
 pub mod RunLaws
 pub mod ShownLaws
 pub mod StatusLaws
+pub mod UnchangedLaws
+pub mod UnchangedShown
+pub mod UnchangedTree
 pub mod WikitextLaws

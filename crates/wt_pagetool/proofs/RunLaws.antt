@@ -1,6 +1,6 @@
 -- What `run` ends with: from what was found and what was reported.
 use Rattle.std.proofs.Common.{◌≡◌, ℕ, List, length, true, false, Bool, cond, refl, sym, ap, ◌∙◌, subst, inl, inr}
-use Rattle.std.specs.Prelude.{◌⊎◌, ◌≢◌, nat_lt, Option, Some, None, option_map, IfSome, IfErr, OnOk, Result, Ok, Err}
+use Rattle.std.specs.Prelude.{◌⊎◌, ◌≢◌, nat_lt, Option, Some, None, option_map, IfSome, IfOk, IfErr, OnOk, Result, Ok, Err}
 use Rattle.std.specs.Io.KnownBytes.{Appends, IsAtEnd}
 use Rattle.wt_outer.specs.Device.{Pages}
 use Rattle.wt_tree.specs.Tree.{Tree}
@@ -16,24 +16,25 @@ use Rattle.wt_pagetool.specs.declared.refusal.Refusal.TheVariants.{HtmlTooLong, 
 use Rattle.wt_pagetool.specs.declared.output.Output.{Output}
 use Rattle.wt_pagetool.specs.declared.command.PageCommand.{PageCommand}
 use Rattle.wt_pagetool.specs.declared.command.PageCommand.TheVariants.{Html, Ranges}
-use Rattle.wt_pagetool.specs.declared.command.Command.TheVariants.{Page, Expand, Edit, Wikitext}
+use Rattle.wt_pagetool.specs.declared.command.Command.TheVariants.{Page, Expand, Edit, Gen, Wikitext}
 use Rattle.wt_pagetool.specs.Outputs.{output_bytes}
 use Rattle.wt_pagetool.specs.Statuses.{code, IsAnswer, IsAnswered, IsUnanswered}
-use Rattle.wt_pagetool.specs.Devices.{AnswersExpansion, SourceUse, FolderUse, SinkUse, SourceFailed, FolderFailed, Untouched, Took}
+use Rattle.wt_pagetool.specs.Devices.{AnswersExpansion, AnswersEdit, SourceUse, FolderUse, SinkUse, SourceFailed, FolderFailed, Untouched, Took}
 use Rattle.wt_pagetool.specs.Refusals.{status_of}
 use Rattle.wt_pagetool.specs.Words.{command_of, Reads}
-use Rattle.wt_pagetool.specs.Answers.{Answer, done, refused, page_output, made, title_answer, page_answer, expansion_of, edit_of, source_answer, wikitext_answer, edit_told, answer_told, status_of_answer, IsDone}
+use Rattle.wt_pagetool.specs.Answers.{Answer, done, refused, page_output, made_of_tree, made, title_answer, expansion_of, gen_answer, edit_of, source_answer, wikitext_answer, edit_told, answer_told, status_of_answer, IsDone}
 use Rattle.wt_pagetool.specs.Causes.{Answered, RefusesAs, IsKept, found_status}
 use Rattle.wt_pagetool.specs.Calls.{call, IsDueAs, IsDue, KeptCounts, NothingFailed}
-use Rattle.wt_pagetool.specs.Reports.{Reported, WasDone, WasRefused, OutFailed, ErrFailed, WrotePage, WroteExpansion, WroteEdit, WroteSource}
+use Rattle.wt_pagetool.specs.Reports.{Reported, WasDone, WasRefused, OutFailed, ErrFailed, WrotePage, WroteExpansion, WroteEdit, WroteCounts, WroteSource}
 use Rattle.wt_pagetool.proofs.StatusLaws.{is_done, is_write_fault, is_answer, IsUnansweredBy, unanswered}
-use Rattle.wt_tree.specs.Tiling.{HasNoGroup}
-use Rattle.wt_pagetool.proofs.BuiltLaws.{built_none}
 use Rattle.wt_pagetool.proofs.AnswerLaws.{input_done}
 use Rattle.wt_pagetool.proofs.EditLaws.{wrote_edit, told_edit}
-use Rattle.wt_pagetool.proofs.PageLaws.{stands_made}
+use Rattle.wt_pagetool.proofs.GenLaws.{wrote_counts, told_counts}
+use Rattle.wt_pagetool.proofs.PageLaws.{expanded_made}
 use Rattle.wt_pagetool.proofs.ExpandLaws.{wrote_expansion, told_expansion}
-use Rattle.wt_page_round_trip.proofs.PageTrees.{page_tiled, page_covered, page_slices, page_numbered}
+use Rattle.wt_page_round_trip.proofs.PageTrees.{IsItsPage, page_tiled, page_covered, page_reached, page_numbered}
+use Rattle.wt_pagetool.proofs.WikitextLaws.{told_wikitext}
+use Rattle.wt_page_round_trip.proofs.HeldPages.{its_page}
 
 -- ---- what a command makes of a page
 
@@ -41,23 +42,26 @@ within_done : (text bytes : List ℕ) (v : Bool) → cond v (refused HtmlTooLong
 within_done text bytes true e = cc
 within_done text bytes false e = cc
 
-made_is : (command : PageCommand) (page bytes : List ℕ) → made command page ≡ done bytes → bytes ≡ page_output command (page_tree page)
-made_is Html page bytes e = within_done (html_text (page_tree page)) bytes (nat_lt HTML_BYTES (length (html_text (page_tree page)))) e
-made_is Ranges page bytes e = cc
+made_is : (command : PageCommand) (t : Tree) (bytes : List ℕ) → made_of_tree command t ≡ done bytes → bytes ≡ page_output command t
+made_is Html t bytes e = within_done (html_text t) bytes (nat_lt HTML_BYTES (length (html_text t))) e
+made_is Ranges t bytes e = cc
 
-wrote_page : (command : PageCommand) (stands : Option (List ℕ)) (bytes : List ℕ) (old new : Option (List ℕ))
-    → page_answer stands (made command) ≡ done bytes → Appends old new bytes → WrotePage command stands old new
-wrote_page command stands bytes old new e wrote =
-    let h = stands_made stands (made command) bytes e in
-    let none : HasNoGroup (page_tree h.0) = built_none h.0 h.2 in
+wrote_page : (command : PageCommand) (pages : Pages) (title : List ℕ) (folder : FolderUse) (bytes : List ℕ) (old new : Option (List ℕ))
+    → title_answer (pages title) (made command pages) ≡ done bytes → Appends old new bytes
+    → IfSome (pages title) (λ page. AnswersExpansion folder pages title page) → WrotePage command pages title folder old new
+wrote_page command pages title folder bytes old new e wrote names =
+    let h = expanded_made pages (pages title) (λ page. made_of_tree command (page_tree pages page)) bytes e in
+    let its : IsItsPage pages h.page = its_page pages h.page h.text h.unrefused in
     record {
-      page = h.0;
-      found = h.1;
-      wrote = subst (Appends old new) (made_is command h.0 bytes h.3) wrote;
-      tiled = page_tiled h.0;
-      covers = page_covered h.0;
-      slices = page_slices h.0 none;
-      numbered = page_numbered h.0;
+      page = h.page;
+      found = h.found;
+      unrefused = h.unrefused;
+      wrote = subst (Appends old new) (made_is command (page_tree pages h.page) bytes h.is) wrote;
+      tiled = page_tiled pages h.page;
+      covers = page_covered pages h.page its;
+      slices = page_reached pages h.page its;
+      numbered = page_numbered pages h.page;
+      names = subst (λ o. IfSome o (λ page. AnswersExpansion folder pages title page)) h.found names;
     }
 
 -- ---- an answer that is wikitext is the source of what was read
@@ -282,22 +286,20 @@ run_kept words input folder out err found s ended is i f r h =
 
 told_page : (pages : Option Pages) (input : Option (List ℕ)) (words : List (List ℕ)) (command : PageCommand) (title : List ℕ)
     → command_of words ≡ Some (Page command title)
-    → answer_told pages input words ≡ option_map (λ ps. page_answer (ps title) (made command)) pages
+    → answer_told pages input words ≡ option_map (λ ps. title_answer (ps title) (made command ps)) pages
 unfolding answer_told
 told_page pages input words command title e = rw e refl
 
-pub told_wikitext : (pages : Option Pages) (input : Option (List ℕ)) (words : List (List ℕ)) → command_of words ≡ Some Wikitext
-    → answer_told pages input words ≡ option_map wikitext_answer input
-unfolding answer_told
-told_wikitext pages input words e = rw e refl
-
-page_found : (told : Option Pages) (command : PageCommand) (title : List ℕ) (found : Result Output Refusal) (out err : SinkUse)
-    → IfSome (option_map (λ ps. page_answer (ps title) (made command)) told) (λ a. Answered a found) → FoundDone found out err
-    → IfSome told (λ pages. WrotePage command (pages title) out.taken_before out.taken_after)
-page_found None command title found out err a f = tt
-page_found (Some pages) command title found out err a f =
-    wrote_page command (pages title) (output_bytes f.output) out.taken_before out.taken_after
-    (subst (Answered (page_answer (pages title) (made command))) f.is a) f.wrote.taken
+page_found : (told : Option Pages) (command : PageCommand) (title : List ℕ) (folder : FolderUse) (found : Result Output Refusal) (out err : SinkUse)
+    → IfSome (option_map (λ ps. title_answer (ps title) (made command ps)) told) (λ a. Answered a found)
+    → IfSome told (λ pages. IfSome (pages title) (λ page. OnOk found (AnswersExpansion folder pages title page)))
+    → FoundDone found out err
+    → IfSome told (λ pages. WrotePage command pages title folder out.taken_before out.taken_after)
+page_found None command title folder found out err a n f = tt
+page_found (Some pages) command title folder found out err a n f =
+    wrote_page command pages title folder (output_bytes f.output) out.taken_before out.taken_after
+    (subst (Answered (title_answer (pages title) (made command pages))) f.is a) f.wrote.taken
+    (subst (λ x. IfSome (pages title) (λ page. OnOk x (AnswersExpansion folder pages title page))) f.is n)
 
 wikitext_found : (left new : Option (List ℕ)) (found : Result Output Refusal) (out err : SinkUse)
     → IfSome (option_map wikitext_answer left) (λ a. Answered a found) → IsAtEnd new → FoundDone found out err
@@ -310,11 +312,13 @@ pub run_page : (words : List (List ℕ)) (input : SourceUse) (folder : FolderUse
     (found : Result Output Refusal) (s : Status) (ended : ℕ) → ended ≡ code s
     → IfSome (answer_told folder.pages_before input.left_before words) (λ a. Answered a found)
     → IfErr found (IsDue words input folder) → Reported found s out err
-    → (command : PageCommand) (title : List ℕ) → command_of words ≡ Some (Page command title) → ended ≡ code status.Done
-    → IfSome folder.pages_before (λ pages. WrotePage command (pages title) out.taken_before out.taken_after)
-run_page words input folder out err found s ended is a due r command title w e =
-    page_found folder.pages_before command title found out err
-    (subst (λ x. IfSome x (λ y. Answered y found)) (told_page folder.pages_before input.left_before words command title w) a)
+    → (command : PageCommand) (title : List ℕ) → command_of words ≡ Some (Page command title)
+    → IfSome folder.pages_before (λ pages. IfSome (pages title) (λ page. OnOk found (AnswersExpansion folder pages title page)))
+    → ended ≡ code status.Done
+    → IfSome folder.pages_before (λ pages. WrotePage command pages title folder out.taken_before out.taken_after)
+run_page words input folder out err found s ended is a due r command title w n e =
+    page_found folder.pages_before command title folder found out err
+    (subst (λ x. IfSome x (λ y. Answered y found)) (told_page folder.pages_before input.left_before words command title w) a) n
     (found_done words input folder out err found s due r (is_done s (sym is ∙ e)))
 
 ended_of : (found : Result Output Refusal) (left : Option (List ℕ)) (out err : SinkUse) → OnOk found (IsAtEnd left) → FoundDone found out err → IsAtEnd left
@@ -357,25 +361,46 @@ run_expansion words input folder out err found s ended is a due r title w n e =
     (subst (λ x. IfSome x (λ y. Answered y found)) (told_expansion folder.pages_before input.left_before words title w) a) n
     (found_done words input folder out err found s due r (is_done s (sym is ∙ e)))
 
-edit_found : (told : Option Pages) (left new : Option (List ℕ)) (title : List ℕ) (found : Result Output Refusal) (out err : SinkUse)
-    → IfSome (edit_told told left title) (λ a. Answered a found) → IsAtEnd new → FoundDone found out err
-    → IfSome told (λ pages. IfSome left (λ bytes. WroteEdit (pages title) bytes new out.taken_before out.taken_after))
-edit_found None left new title found out err a ended f = tt
-edit_found (Some pages) None new title found out err a ended f = tt
-edit_found (Some pages) (Some bytes) new title found out err a ended f =
-    wrote_edit (pages title) bytes (output_bytes f.output) new out.taken_before out.taken_after
-    (subst (Answered (edit_of (pages title) bytes)) f.is a) ended f.wrote.taken
+counts_found : (n : ℕ) (found : Result Output Refusal) (out err : SinkUse) → Answered (gen_answer n) found → FoundDone found out err
+    → WroteCounts n out.taken_before out.taken_after
+counts_found n found out err a f =
+    wrote_counts n (output_bytes f.output) out.taken_before out.taken_after (subst (Answered (gen_answer n)) f.is a) f.wrote.taken
+
+pub run_counts : (words : List (List ℕ)) (input : SourceUse) (folder : FolderUse) (out err : SinkUse)
+    (found : Result Output Refusal) (s : Status) (ended : ℕ) → ended ≡ code s
+    → IfSome (answer_told folder.pages_before input.left_before words) (λ a. Answered a found)
+    → IfErr found (IsDue words input folder) → Reported found s out err
+    → (n : ℕ) → command_of words ≡ Some (Gen n) → ended ≡ code status.Done → WroteCounts n out.taken_before out.taken_after
+run_counts words input folder out err found s ended is a due r n w e =
+    counts_found n found out err
+    (subst (λ x. IfSome x (λ y. Answered y found)) (told_counts folder.pages_before input.left_before words n w) a)
+    (found_done words input folder out err found s due r (is_done s (sym is ∙ e)))
+
+edit_found : (told : Option Pages) (left new : Option (List ℕ)) (title : List ℕ) (folder : FolderUse) (found : Result Output Refusal)
+    (out err : SinkUse) → IfSome (edit_told told left title) (λ a. Answered a found) → IsAtEnd new
+    → IfSome told (λ pages. IfSome (pages title) (λ page. IfOk found (λ output. AnswersEdit folder pages title page (output_bytes output))))
+    → FoundDone found out err
+    → IfSome told (λ pages. IfSome left (λ bytes. WroteEdit pages title bytes folder new out.taken_before out.taken_after))
+edit_found None left new title folder found out err a ended n f = tt
+edit_found (Some pages) None new title folder found out err a ended n f = tt
+edit_found (Some pages) (Some bytes) new title folder found out err a ended n f =
+    wrote_edit pages title bytes (output_bytes f.output) folder new out.taken_before out.taken_after
+    (subst (Answered (edit_of pages (pages title) bytes)) f.is a) ended f.wrote.taken
+    (subst (λ x. IfSome (pages title) (λ page. IfOk x (λ output. AnswersEdit folder pages title page (output_bytes output)))) f.is n)
 
 pub run_edit : (words : List (List ℕ)) (input : SourceUse) (folder : FolderUse) (out err : SinkUse)
     (found : Result Output Refusal) (s : Status) (ended : ℕ) → ended ≡ code s
     → IfSome (answer_told folder.pages_before input.left_before words) (λ a. Answered a found)
     → IfErr found (IsDue words input folder) → (Reads (command_of words) → OnOk found (IsAtEnd input.left_after))
     → Reported found s out err
-    → (title : List ℕ) → command_of words ≡ Some (Edit title) → ended ≡ code status.Done
+    → (title : List ℕ) → command_of words ≡ Some (Edit title)
+    → IfSome folder.pages_before (λ pages. IfSome (pages title)
+    (λ page. IfOk found (λ output. AnswersEdit folder pages title page (output_bytes output))))
+    → ended ≡ code status.Done
     → IfSome folder.pages_before (λ pages. IfSome input.left_before
-    (λ bytes. WroteEdit (pages title) bytes input.left_after out.taken_before out.taken_after))
-run_edit words input folder out err found s ended is a due ends r title w e =
+    (λ bytes. WroteEdit pages title bytes folder input.left_after out.taken_before out.taken_after))
+run_edit words input folder out err found s ended is a due ends r title w n e =
     let f = found_done words input folder out err found s due r (is_done s (sym is ∙ e)) in
-    edit_found folder.pages_before input.left_before input.left_after title found out err
+    edit_found folder.pages_before input.left_before input.left_after title folder found out err
     (subst (λ x. IfSome x (λ y. Answered y found)) (told_edit folder.pages_before input.left_before words title w) a)
-    (ended_of found input.left_after out err (ends (subst Reads (sym w) tt)) f) f
+    (ended_of found input.left_after out err (ends (subst Reads (sym w) tt)) f) n f

@@ -7,6 +7,7 @@ use Rattle.wt_tree.specs.declared.node.DataMw.{DataMw}
 use Rattle.wt_tree.specs.Kinds.{showing, spelling}
 use Rattle.wt_tree.specs.Plain.{Face, face, element, Plains, ended, along, shown_before, plains_before, plain}
 use Rattle.wt_tree.specs.Tree.{Label, Tree, tree, Trees, label}
+use Rattle.wt_expand.specs.Work.{Pages}
 use Rattle.wt_body.specs.Body.{meaning}
 use Rattle.wt_ranges.specs.Annotated.{annotated}
 use Rattle.wt_page_round_trip.specs.PageTree.{page_tree}
@@ -60,12 +61,12 @@ same_shown (tree l ts) (tree m us) f g e =
 
 -- ---- the body of a page
 
-pub page_face : (page : List ℕ) → IsBare (page_tree page)
+pub page_face : (pages : Pages) (page : List ℕ) → IsBare (page_tree pages page)
 unfolding meaning annotated
-page_face page = refl
+page_face pages page = refl
 
-pub page_body : (page : List ℕ) → (label (page_tree page)).kind ≡ kind.Body
-page_body page = ap (λ (x : Face). x.kind) (page_face page)
+pub page_body : (pages : Pages) (page : List ℕ) → (label (page_tree pages page)).kind ≡ kind.Body
+page_body pages page = ap (λ (x : Face). x.kind) (page_face pages page)
 
 -- ---- the body of what is read
 

@@ -1,8 +1,9 @@
 -- The answer to `wikitext`, from what the reader of HTML gave.
 use Rattle.std.proofs.Common.{◌≡◌, ℕ, ◌-◌, ◌<◌, ◌≤◌, List, ◌++◌, length, refl, sym, subst, arith, length-append}
-use Rattle.std.specs.Prelude.{Option, Some, None, IfSome, IfErr, IsErrAnd, Result, Ok, Err}
+use Rattle.std.specs.Prelude.{Option, Some, None, option_map, IfSome, IfErr, IsErrAnd, Result, Ok, Err}
 use Rattle.std.specs.Io.KnownBytes.{Consumes}
 use Rattle.std.proofs.KnownBytes.{Consumes-trans}
+use Rattle.wt_expand.specs.Work.{Pages}
 use Rattle.wt_tree.specs.Tree.{Tree}
 use Rattle.wt_tree.specs.Source.{flat}
 use Rattle.wt_fitting.specs.Read.{Read, page as as_page, read}
@@ -16,7 +17,9 @@ use Rattle.wt_pagetool.specs.declared.output.Output.{Output}
 use Rattle.wt_pagetool.specs.declared.limits.TheConstants.{HTML_BYTES}
 use Rattle.wt_pagetool.specs.declared.refusal.Refusal.{Refusal}
 use Rattle.wt_pagetool.specs.declared.refusal.Refusal.TheVariants.{Unsourced, InputTooLong, NoMemory}
-use Rattle.wt_pagetool.specs.Answers.{Answer, done, refused, source_answer, input_answer}
+use Rattle.wt_pagetool.specs.Answers.{Answer, done, refused, source_answer, input_answer, wikitext_answer, answer_told}
+use Rattle.wt_pagetool.specs.declared.command.Command.TheVariants.{Wikitext}
+use Rattle.wt_pagetool.specs.Words.{command_of}
 use Rattle.wt_pagetool.specs.Inputs.{FedWhole}
 use Rattle.wt_pagetool.specs.Causes.{Answered, Refuses, RefusesInput, refusal_of}
 use Rattle.wt_pagetool.proofs.AnswerLaws.{too_long_given, answered_by}
@@ -69,3 +72,10 @@ pub memory_refused : {T : Type 0} (old : Option (List ℕ)) (result : Result T R
 memory_refused old (Ok value) is = tt
 memory_refused None (Err r) is = tt
 memory_refused (Some bytes) (Err r) is = λ made. subst (λ x. Refuses x (input_answer made bytes)) (sym is) tt
+
+-- ---- the answer to the words
+
+pub told_wikitext : (pages : Option Pages) (input : Option (List ℕ)) (words : List (List ℕ)) → command_of words ≡ Some Wikitext
+    → answer_told pages input words ≡ option_map wikitext_answer input
+unfolding answer_told
+told_wikitext pages input words e = rw e refl

@@ -6,7 +6,6 @@ use Rattle.wt_tree.specs.Source.{flat}
 use Rattle.wt_markup.specs.Html.{html_text}
 use Rattle.wt_listing.specs.Listing.{listing}
 use Rattle.wt_utf8.specs.Places.{not_utf8_place}
-use Rattle.wt_not_built.specs.FirstPlace.{first_unbuilt}
 use Rattle.wt_expand.specs.Texts.{shown_text}
 use Rattle.wt_expand.specs.Work.{Refused, braces_too_deep, too_large, not_utf8, too_long, first_refusal}
 use Rattle.wt_expand.specs.Expansion.{page_work}
@@ -16,18 +15,20 @@ use Rattle.wt_page_round_trip.specs.PageTree.{page_tree}
 use Rattle.wt_selser.specs.declared.refusal.EditRefusal.{EditRefusal}
 use Rattle.wt_selser.specs.Children.{shown_children, differing}
 use Rattle.wt_selser.specs.Edits.{edit_answer}
+use Rattle.wt_selser.specs.Restored.{restored_from}
 use Rattle.wt_selser.specs.SameNodes.{same_node}
 use Rattle.wt_pagetool.specs.declared.limits.TheConstants.{PAGE_BYTES, HTML_BYTES}
 use Rattle.wt_pagetool.specs.declared.status.Status.{Status}
 use Rattle.wt_pagetool.specs.declared.status.Status.TheVariants.{Done}
 use Rattle.wt_pagetool.specs.declared.refusal.Refusal.{Refusal}
-use Rattle.wt_pagetool.specs.declared.refusal.Refusal.TheVariants.{Usage, Absent, TooLong, NotUtf8, NotBuilt, BracesTooDeep, TooLarge, TemplateNotUtf8, TemplateTooLong, HtmlTooLong, InputTooLong, Html as html_refused, Unfit, Unsourced, Unspelled}
+use Rattle.wt_pagetool.specs.declared.refusal.Refusal.TheVariants.{Usage, Absent, TooLong, NotUtf8, BracesTooDeep, TooLarge, TemplateNotUtf8, TemplateTooLong, HtmlTooLong, InputTooLong, Html as html_refused, Unfit, Unsourced, NewExpansion, Unspelled}
 use Rattle.wt_pagetool.specs.declared.command.PageCommand.{PageCommand}
 use Rattle.wt_pagetool.specs.declared.command.PageCommand.TheVariants.{Html, Ranges}
 use Rattle.wt_pagetool.specs.declared.command.Command.{Command}
-use Rattle.wt_pagetool.specs.declared.command.Command.TheVariants.{Page, Expand, Edit, Wikitext}
+use Rattle.wt_pagetool.specs.declared.command.Command.TheVariants.{Page, Expand, Edit, Gen, Wikitext}
 use Rattle.wt_pagetool.specs.Refusals.{status_of, refusal_of_edit}
 use Rattle.wt_pagetool.specs.Words.{command_of}
+use Rattle.wt_pagetool.specs.Gen.{gen_page, gen_pages, gen_line}
 
 pub data Answer : Type 0 where
   done : List ℕ → Answer
@@ -48,29 +49,32 @@ title_answer (Some page) made =
     if nat_lt PAGE_BYTES (length page) then refused TooLong
     else text_answer page made (not_utf8_place page)
 
--- a page by the first place where it isn't built
-abbrev pub built_at : List ℕ → (List ℕ → Answer) → Option ℕ → Answer
-built_at page made (Some place) = refused (NotBuilt place)
-built_at page made None = made page
-
--- the first place where a page isn't built: that of a form, or of a group, as a style without an item is
-abbrev pub unbuilt_place : List ℕ → Option ℕ
-unbuilt_place page = first_unbuilt page (page_tree page)
-
-abbrev pub built_answer : (List ℕ → Answer) → List ℕ → Answer
-built_answer made page = built_at page made (unbuilt_place page)
-
--- what stands under a title, where a page that isn't built is refused, too
-abbrev pub page_answer : Option (List ℕ) → (List ℕ → Answer) → Answer
-page_answer stands made = title_answer stands (built_answer made)
-
 -- the page is text of no more bytes than a page may have, whatever is made of it
 abbrev pub IsText : List ℕ → Type 0
 IsText page = (made : List ℕ → Answer) → title_answer (Some page) made ≡ made page
 
--- nothing refuses the page, whatever is made of it
-abbrev pub IsAnswered : List ℕ → Type 0
-IsAnswered page = (made : List ℕ → Answer) → page_answer (Some page) made ≡ made page
+-- ---- a page with its templates
+
+-- why an expansion is refused
+abbrev pub expansion_refusal : Refused → Refusal
+expansion_refusal (braces_too_deep template place) = BracesTooDeep template place
+expansion_refusal too_large = TooLarge
+expansion_refusal (not_utf8 template place) = TemplateNotUtf8 template place
+expansion_refusal (too_long template) = TemplateTooLong template
+
+-- the first refusal of the page's work
+abbrev pub refusal_of_page : Pages → List ℕ → Option Refused
+refusal_of_page pages page = first_refusal pages page (page_work pages page)
+
+-- the answer of an expansion that is refused, or this one
+abbrev pub expanded_by : Answer → Option Refused → Answer
+expanded_by answer (Some r) = refused (expansion_refusal r)
+expanded_by answer None = answer
+
+-- nothing refuses the page or its expansion
+pub record IsAnswered (pages : Pages) (page : List ℕ) : Type 0 where
+  pub text : IsText page
+  pub unrefused : refusal_of_page pages page ≡ None
 
 -- ---- what is made of a page
 
@@ -87,36 +91,30 @@ abbrev pub made_of_tree : PageCommand → Tree → Answer
 made_of_tree Html t = html_within (page_output Html t)
 made_of_tree Ranges t = done (page_output Ranges t)
 
-abbrev pub made : PageCommand → List ℕ → Answer
-made command page = made_of_tree command (page_tree page)
-
-abbrev pub html_of : List ℕ → Answer
-html_of page = made Html page
+-- what a command makes of a page that is text: of the tree of the expanded page, or what its work refuses first
+abbrev pub made : PageCommand → Pages → List ℕ → Answer
+made command pages page = expanded_by (made_of_tree command (page_tree pages page)) (refusal_of_page pages page)
 
 -- `html` of what stands under the title
-abbrev pub html_answer : Option (List ℕ) → Answer
-html_answer stands = page_answer stands html_of
+abbrev pub html_answer : Pages → Option (List ℕ) → Answer
+html_answer pages stands = title_answer stands (made Html pages)
 
--- ---- what a page shows with its templates expanded
-
--- why an expansion is refused
-abbrev pub expansion_refusal : Refused → Refusal
-expansion_refusal (braces_too_deep template place) = BracesTooDeep template place
-expansion_refusal too_large = TooLarge
-expansion_refusal (not_utf8 template place) = TemplateNotUtf8 template place
-expansion_refusal (too_long template) = TemplateTooLong template
-
-abbrev pub expansion_by : List ℕ → Option Refused → Answer
-expansion_by shown (Some r) = refused (expansion_refusal r)
-expansion_by shown None = done shown
-
--- the first refusal of the page's work
-abbrev pub refusal_of_page : Pages → List ℕ → Option Refused
-refusal_of_page pages page = first_refusal pages page (page_work pages page)
-
--- `expand`: what the items of the expanded page show, or what its work refuses first
+-- `expand`: what the items of the expanded page show
 abbrev pub expansion_of : Pages → List ℕ → Answer
-expansion_of pages page = expansion_by (shown_text (expanded_page pages page).items) (refusal_of_page pages page)
+expansion_of pages page = expanded_by (done (shown_text (expanded_page pages page).items)) (refusal_of_page pages page)
+
+-- ---- a page that is made from a number
+
+-- the line of a page of so many bytes, where its HTML isn't too long
+abbrev pub told_of_tree : ℕ → Tree → Answer
+told_of_tree bytes t = if nat_lt HTML_BYTES (length (html_text t)) then refused HtmlTooLong else done (gen_line bytes t)
+
+abbrev pub gen_of : List ℕ → Answer
+gen_of page = expanded_by (told_of_tree (length page) (page_tree gen_pages page)) (refusal_of_page gen_pages page)
+
+-- `gen` of so many sections
+abbrev pub gen_answer : ℕ → Answer
+gen_answer n = title_answer (Some (gen_page n)) gen_of
 
 -- ---- what is made of an input
 
@@ -144,31 +142,52 @@ abbrev pub unspelled_by : List ℕ → Option ℕ → Answer
 unspelled_by new None = done new
 unspelled_by new (Some k) = refused (Unspelled k)
 
--- the first child, counted from 1, in which they differ
-abbrev pub unspelled_answer : Tree → List ℕ → Answer
-unspelled_answer edited new = unspelled_by new (differing 1 (shown_children (page_tree new)) (shown_children edited))
+-- the first child, counted from 1, in which the new page's tree and the edited tree differ; in the edited tree a kept group is
+-- what the page's group of its number holds
+abbrev pub unspelled_answer : Pages → Tree → Tree → List ℕ → Answer
+unspelled_answer pages t edited new =
+    unspelled_by new (differing 1 (shown_children (page_tree pages new)) (shown_children (restored_from t edited)))
 
--- A new page is refused as any page is, and where it doesn't show what the edited tree shows.
-abbrev pub new_answer : Tree → List ℕ → Answer
-new_answer edited new = page_answer (Some new) (unspelled_answer edited)
+-- the new page where nothing refuses its expansion
+abbrev pub new_by : Answer → Option Refused → Answer
+new_by answer (Some r) = refused NewExpansion
+new_by answer None = answer
 
-abbrev pub edit_by : Tree → Result (List ℕ) EditRefusal → Answer
-edit_by edited (Ok new) = new_answer edited new
-edit_by edited (Err e) = refused (refusal_of_edit e)
+abbrev pub new_expanded : Pages → Tree → Tree → List ℕ → Answer
+new_expanded pages t edited new = new_by (unspelled_answer pages t edited new) (refusal_of_page pages new)
+
+-- A new page is refused as any page is, where its expansion is refused, and where it doesn't show what the edited tree
+-- shows.
+abbrev pub new_answer : Pages → Tree → Tree → List ℕ → Answer
+new_answer pages t edited new = title_answer (Some new) (new_expanded pages t edited)
+
+-- of a page of this tree, by the answer of its edit
+abbrev pub edit_by : Pages → Tree → Tree → Result (List ℕ) EditRefusal → Answer
+edit_by pages t edited (Ok new) = new_answer pages t edited new
+edit_by pages t edited (Err e) = refused (refusal_of_edit e)
+
+-- the edit of an expanded page to this tree
+abbrev pub edit_from : Pages → List ℕ → Tree → Answer
+edit_from pages page edited =
+    let t = page_tree pages page in
+    edit_by pages t edited (edit_answer same_node (expanded_page pages page) page t edited)
+
+abbrev pub edit_to : Pages → List ℕ → Tree → Answer
+edit_to pages page edited = expanded_by (edit_from pages page edited) (refusal_of_page pages page)
 
 -- the edit of a page to what was read; elements may have no source
-unfoldable pub edited_answer : List ℕ → Read → Answer
-edited_answer page (as_page t unsourced) = edit_by t (edit_answer same_node page (page_tree page) t)
-edited_answer page (ill place why) = refused (html_refused place why)
-edited_answer page (misfit n why) = refused (Unfit n why)
+unfoldable pub edited_answer : Pages → List ℕ → Read → Answer
+edited_answer pages page (as_page t unsourced) = edit_to pages page t
+edited_answer pages page (ill place why) = refused (html_refused place why)
+edited_answer pages page (misfit n why) = refused (Unfit n why)
 
--- `edit` of what stands under the title, to this input
-abbrev pub edit_of : Option (List ℕ) → List ℕ → Answer
-edit_of stands input = page_answer stands (λ page. input_answer (edited_answer page) input)
+-- `edit` of what stands under the title, to this input, which is read to its end before the page is expanded
+abbrev pub edit_of : Pages → Option (List ℕ) → List ℕ → Answer
+edit_of pages stands input = title_answer stands (λ page. input_answer (edited_answer pages page) input)
 
 -- where both the pages and the input are told
 abbrev pub edit_told : Option Pages → Option (List ℕ) → List ℕ → Option Answer
-edit_told pages input title = option_and_then (λ ps. option_map (λ bytes. edit_of (ps title) bytes) input) pages
+edit_told pages input title = option_and_then (λ ps. option_map (λ bytes. edit_of ps (ps title) bytes) input) pages
 
 -- ---- commands
 
@@ -176,9 +195,10 @@ edit_told pages input title = option_and_then (λ ps. option_map (λ bytes. edit
 -- told.
 abbrev pub answer_to : Option Pages → Option (List ℕ) → Option Command → Option Answer
 answer_to pages input None = Some (refused Usage)
-answer_to pages input (Some (Page command title)) = option_map (λ ps. page_answer (ps title) (made command)) pages
+answer_to pages input (Some (Page command title)) = option_map (λ ps. title_answer (ps title) (made command ps)) pages
 answer_to pages input (Some (Expand title)) = option_map (λ ps. title_answer (ps title) (expansion_of ps)) pages
 answer_to pages input (Some (Edit title)) = edit_told pages input title
+answer_to pages input (Some (Gen n)) = Some (gen_answer n)
 answer_to pages input (Some Wikitext) = option_map wikitext_answer input
 
 -- the answer to these words over a folder of these pages and this input

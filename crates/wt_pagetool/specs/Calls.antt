@@ -3,7 +3,7 @@ use Rattle.std.specs.Prelude.{◌≡◌, ℕ, ⊤, List, Option, None, IfSome}
 use Rattle.wt_pagetool.specs.declared.status.Status.{Status}
 use Rattle.wt_pagetool.specs.declared.status.Status.TheVariants as status
 use Rattle.wt_pagetool.specs.declared.refusal.Refusal.{Refusal}
-use Rattle.wt_pagetool.specs.Words.{command_of, Fetches, Reads}
+use Rattle.wt_pagetool.specs.Words.{command_of, Fetches, HasPage, Reads}
 use Rattle.wt_pagetool.specs.Devices.{SourceUse, FolderUse, SinkUse, SourceFailed, FolderFailed, SinkFailed}
 use Rattle.wt_pagetool.specs.Refusals.{status_of}
 use Rattle.wt_pagetool.specs.Answers.{Answer, refused, answer_told}
@@ -30,7 +30,7 @@ IsTold words input folder r = IfSome (answer_told folder.pages_before input.left
 
 -- When a refusal is due, by how it ends the call:
 -- * usage: the words are none of a command;
--- * the page, the HTML or the edit is refused: the command fetches a page, reads HTML, or does both, and this refusal
+-- * the page, the HTML or the edit is refused: the command has a page, reads HTML, or fetches and reads, and this refusal
 --   is the answer to the words, where that is told;
 -- * the input or the folder failed: the command reads or fetches, and the device's count rose;
 -- * want of memory: in any call.
@@ -38,7 +38,7 @@ IsTold words input folder r = IfSome (answer_told folder.pages_before input.left
 abbrev pub IsDueAs : Status → List (List ℕ) → SourceUse → FolderUse → Refusal → Type 0
 IsDueAs status.Done words input folder r = ⊥
 IsDueAs status.Usage words input folder r = command_of words ≡ None
-IsDueAs status.PageRefused words input folder r = Fetches (command_of words) × IsTold words input folder r
+IsDueAs status.PageRefused words input folder r = HasPage (command_of words) × IsTold words input folder r
 IsDueAs status.HtmlRefused words input folder r = Reads (command_of words) × IsTold words input folder r
 IsDueAs status.EditRefused words input folder r =
     Fetches (command_of words) × Reads (command_of words) × IsTold words input folder r

@@ -3,6 +3,7 @@ use Rattle.std.specs.Prelude.{◌≡◌, ⊤, ℕ, List, Option, Some, Result, O
 use Rattle.wt_outer.specs.Device.{Rose}
 use Rattle.wt_outer.specs.declared.device.FetchRefusal.{FetchRefusal}
 use Rattle.wt_outer.specs.declared.device.FetchRefusal.TheVariants as of_fetch
+use Rattle.wt_expand.specs.Work.{Refused}
 use Rattle.wt_transclusion.specs.declared.refusal.ExpandRefusal.{ExpandRefusal}
 use Rattle.wt_transclusion.specs.declared.refusal.ExpandRefusal.TheVariants as of_expansion
 use Rattle.wt_html_in.specs.declared.refusal.HtmlRefusal.{HtmlRefusal}
@@ -10,13 +11,13 @@ use Rattle.wt_html_in.specs.declared.refusal.HtmlRefusal.TheVariants as of_html
 use Rattle.wt_pagetool.specs.declared.status.Status.{Status}
 use Rattle.wt_pagetool.specs.declared.status.Status.TheVariants as status
 use Rattle.wt_pagetool.specs.declared.refusal.Refusal.{Refusal}
-use Rattle.wt_pagetool.specs.declared.refusal.Refusal.TheVariants.{NotBuilt, BracesTooDeep, TooLarge, TemplateNotUtf8, TemplateTooLong, Html, Unfit, FolderFault, NoMemory}
+use Rattle.wt_pagetool.specs.declared.refusal.Refusal.TheVariants.{BracesTooDeep, TooLarge, TemplateNotUtf8, TemplateTooLong, Html, Unfit, NewExpansion, FolderFault, NoMemory}
 use Rattle.wt_pagetool.specs.declared.output.Output.{Output}
 use Rattle.wt_pagetool.specs.Outputs.{output_bytes}
 use Rattle.wt_pagetool.specs.Statuses.{IsAnswer}
 use Rattle.wt_pagetool.specs.Refusals.{status_of}
 use Rattle.wt_fitting.specs.Read.{Read}
-use Rattle.wt_pagetool.specs.Answers.{Answer, done, refused, title_answer, page_answer, input_answer}
+use Rattle.wt_pagetool.specs.Answers.{Answer, done, refused, title_answer, expanded_by, input_answer}
 
 -- ---- of an answer
 
@@ -81,16 +82,6 @@ IsOfTitle before after r = IsTitleStatus before after (status_of r)
 abbrev pub RefusesTitle : Option (List ℕ) → Refusal → Type 0
 RefusesTitle stands r = (made : List ℕ → Answer) → Refuses r (title_answer stands made)
 
--- the same, or the page isn't built
-abbrev pub RefusesPage : Option (List ℕ) → Refusal → Type 0
-RefusesPage stands r = (made : List ℕ → Answer) → Refuses r (page_answer stands made)
-
--- a form that isn't built stands here, or memory ran out
-abbrev pub IsUnbuilt : Option ℕ → Refusal → Type 0
-IsUnbuilt first (NotBuilt place) = first ≡ Some place
-IsUnbuilt first NoMemory = ⊤
-IsUnbuilt first r = ⊥
-
 -- why a folder gives no answer
 abbrev pub fetch_refusal : FetchRefusal → Refusal
 fetch_refusal of_fetch.Failed = FolderFault
@@ -103,6 +94,10 @@ IsFetched stands (Err r) = RefusesTitle stands r
 
 -- ---- of an expansion
 
+-- the refusal refuses an expansion, whatever is made of the expanded page
+abbrev pub RefusesExpansion : Option Refused → Refusal → Type 0
+RefusesExpansion first r = (answer : Answer) → Refuses r (expanded_by answer first)
+
 -- what the expansion of a page answers, as the program names it
 abbrev pub refusal_of_expansion : ExpandRefusal → Refusal
 refusal_of_expansion (of_expansion.BracesTooDeep template place) = BracesTooDeep template place
@@ -111,6 +106,15 @@ refusal_of_expansion of_expansion.FolderFault = FolderFault
 refusal_of_expansion (of_expansion.TemplateNotUtf8 template place) = TemplateNotUtf8 template place
 refusal_of_expansion (of_expansion.TemplateTooLong template) = TemplateTooLong template
 refusal_of_expansion of_expansion.NoMemory = NoMemory
+
+-- what the expansion of a new page answers
+abbrev pub refusal_of_new : ExpandRefusal → Refusal
+refusal_of_new (of_expansion.BracesTooDeep template place) = NewExpansion
+refusal_of_new of_expansion.TooLarge = NewExpansion
+refusal_of_new of_expansion.FolderFault = FolderFault
+refusal_of_new (of_expansion.TemplateNotUtf8 template place) = NewExpansion
+refusal_of_new (of_expansion.TemplateTooLong template) = NewExpansion
+refusal_of_new of_expansion.NoMemory = NoMemory
 
 -- ---- of an input
 

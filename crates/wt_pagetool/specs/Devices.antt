@@ -98,6 +98,17 @@ pub record AnswersExpansion (f : FolderUse) (pages : Pages) (title page : List �
   pub answered : f.names_after ≡ option_map (λ before. before ++ title ∷ names_asked (page_work pages page)) f.names_before
   pub pages_kept : f.pages_after ≡ f.pages_before
 
+-- after these names were answered, those were that are asked for by the work of a page, and then by that of a new page, each once
+abbrev pub AsksForBoth : Pages → List ℕ → List ℕ → Option (List (List ℕ)) → Option (List (List ℕ)) → Type 0
+AsksForBoth pages page new before after = after ≡ option_map (λ ns. ns ++ names_asked (page_work pages page ++ page_work pages new)) before
+
+-- The folder answered the page's title, and then the names of the pages that are fetched for the expansion of the page and of the
+-- new page, each once, in the order of their first fetch: what was fetched for the page isn't fetched again for the new page. It
+-- kept its pages.
+pub record AnswersEdit (f : FolderUse) (pages : Pages) (title page new : List ℕ) : Type 0 where
+  pub answered : f.names_after ≡ option_map (λ before. before ++ title ∷ names_asked (page_work pages page ++ page_work pages new)) f.names_before
+  pub pages_kept : f.pages_after ≡ f.pages_before
+
 -- ---- a sink
 
 abbrev pub SinkFailed : SinkUse → Type 0

@@ -2,10 +2,12 @@ pub mod Answers
 pub mod Calls
 pub mod Causes
 pub mod Devices
+pub mod Gen
 pub mod GivenBack
 pub mod Inputs
 pub mod Outputs
 pub mod Refusals
 pub mod Reports
 pub mod Statuses
+pub mod Unchanged
 pub mod Words

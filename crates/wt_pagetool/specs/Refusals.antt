@@ -14,7 +14,7 @@ use Rattle.wt_selser.specs.declared.refusal.ContentWhy.TheVariants as bad
 use Rattle.wt_pagetool.specs.declared.status.Status.{Status}
 use Rattle.wt_pagetool.specs.declared.status.Status.TheVariants as status
 use Rattle.wt_pagetool.specs.declared.refusal.Refusal.{Refusal}
-use Rattle.wt_pagetool.specs.declared.refusal.Refusal.TheVariants.{Usage, Absent, TooLong, NotUtf8, NotBuilt, BracesTooDeep, TooLarge, TemplateNotUtf8, TemplateTooLong, HtmlTooLong, InputTooLong, Html, Unfit, Unsourced, Checked, BadContent, Tangled, NewPageTooLong, Unspelled, ReadFault, FolderFault, WriteFault, NoMemory}
+use Rattle.wt_pagetool.specs.declared.refusal.Refusal.TheVariants.{Usage, Absent, TooLong, NotUtf8, BracesTooDeep, TooLarge, TemplateNotUtf8, TemplateTooLong, HtmlTooLong, InputTooLong, Html, Unfit, Unsourced, Checked, BadContent, Tangled, NewPageTooLong, NewExpansion, Unspelled, ReadFault, FolderFault, WriteFault, NoMemory}
 
 -- how a call ends that is refused so
 abbrev pub status_of : Refusal → Status
@@ -22,7 +22,6 @@ status_of Usage = status.Usage
 status_of Absent = status.PageRefused
 status_of TooLong = status.PageRefused
 status_of (NotUtf8 place) = status.PageRefused
-status_of (NotBuilt place) = status.PageRefused
 status_of (BracesTooDeep template place) = status.PageRefused
 status_of TooLarge = status.PageRefused
 status_of (TemplateNotUtf8 template place) = status.PageRefused
@@ -36,6 +35,7 @@ status_of (Checked c) = status.EditRefused
 status_of (BadContent n why) = status.EditRefused
 status_of (Tangled n) = status.EditRefused
 status_of NewPageTooLong = status.EditRefused
+status_of NewExpansion = status.EditRefused
 status_of (Unspelled k) = status.EditRefused
 status_of ReadFault = status.ReadFault
 status_of FolderFault = status.FolderFault
@@ -102,7 +102,6 @@ text_of Usage = usage_text
 text_of Absent = codes "no such page"
 text_of TooLong = codes "page too long"
 text_of (NotUtf8 place) = codes "page not UTF-8 at " ++ decimal place
-text_of (NotBuilt place) = codes "not built at " ++ decimal place
 text_of (BracesTooDeep template place) = codes "braces too deep at " ++ decimal place ++ in_template template
 text_of TooLarge = codes "expansion too large"
 text_of (TemplateNotUtf8 template place) = template ++ codes " not UTF-8 at " ++ decimal place
@@ -116,6 +115,7 @@ text_of (Checked c) = codes "edit refused: " ++ check_name c ++ codes " " ++ dec
 text_of (BadContent n why) = codes "edit refused: BadContent " ++ decimal n ++ codes " " ++ content_why why
 text_of (Tangled n) = codes "edit refused: Tangled " ++ decimal n
 text_of NewPageTooLong = codes "edit refused: NewPageTooLong"
+text_of NewExpansion = codes "edit refused: NewExpansion"
 text_of (Unspelled k) = codes "edit refused: Unspelled " ++ decimal k
 text_of ReadFault = codes "read fault"
 text_of FolderFault = codes "folder fault"

@@ -8,12 +8,15 @@ use Rattle.wt_tree.specs.Tree.{Tree}
 use Rattle.wt_tree.specs.Plain.{plain}
 use Rattle.wt_tree.specs.Source.{flat}
 use Rattle.wt_tree.specs.Tiling.{Tiled, Covers, InPreorder}
-use Rattle.wt_ranges.specs.Slices.{AreSlices}
+use Rattle.wt_ranges.specs.Reached.{AreReachedSlices}
 use Rattle.wt_fitting.specs.Read.{page as as_page, read}
+use Rattle.wt_markup.specs.Html.{html_text}
 use Rattle.wt_page_round_trip.specs.PageTree.{page_tree}
 use Rattle.wt_checks.specs.Checked.{checked}
 use Rattle.wt_selser.specs.Changes.{marked, changes}
+use Rattle.wt_selser.specs.declared.refusal.EditRefusal.{EditRefusal}
 use Rattle.wt_selser.specs.Edits.{edit_answer}
+use Rattle.wt_selser.specs.Restored.{restored_from}
 use Rattle.wt_selser.specs.SameNodes.{same_node}
 use Rattle.wt_selser.specs.Splice.{spliced, OutsideStands}
 use Rattle.wt_pagetool.specs.declared.limits.TheConstants.{HTML_BYTES}
@@ -24,7 +27,8 @@ use Rattle.wt_pagetool.specs.declared.refusal.Refusal.TheVariants.{WriteFault, N
 use Rattle.wt_pagetool.specs.declared.output.Output.{Output}
 use Rattle.wt_pagetool.specs.declared.command.PageCommand.{PageCommand}
 use Rattle.wt_pagetool.specs.Outputs.{output_bytes}
-use Rattle.wt_pagetool.specs.Devices.{FolderUse, AnswersExpansion, SinkUse, Untouched, Took, FailedAfter, TookOrFailed}
+use Rattle.wt_pagetool.specs.Devices.{FolderUse, AnswersExpansion, AnswersEdit, SinkUse, Untouched, Took, FailedAfter, TookOrFailed}
+use Rattle.wt_pagetool.specs.Gen.{back, gen_line, gen_page, gen_pages}
 use Rattle.wt_pagetool.specs.Statuses.{code}
 use Rattle.wt_pagetool.specs.Refusals.{status_of, line_of}
 use Rattle.wt_pagetool.specs.Answers.{done, page_output, refusal_of_page, IsAnswered}
@@ -86,16 +90,19 @@ pub record ErrFailed (c : Call) : Type 0 where
 
 -- ---- what is written
 
--- a page stands under the title, and `out` took what the command writes of its tree, whose ranges tile it and are
--- slices of it, and whose numbers are in preorder
-pub record WrotePage (command : PageCommand) (stands : Option (List ℕ)) (old new : Option (List ℕ)) : Type 0 where
+-- a page stands under the title whose expansion nothing refuses, and `out` took what the command writes of the tree of the
+-- expanded page, whose ranges tile the page and are slices of it, but for what stands in groups, and whose numbers are in
+-- preorder; the folder was asked for the pages that this takes
+pub record WrotePage (command : PageCommand) (pages : Pages) (title : List ℕ) (folder : FolderUse) (old new : Option (List ℕ)) : Type 0 where
   pub page : List ℕ
-  pub found : stands ≡ Some page
-  pub wrote : Appends old new (page_output command (page_tree page))
-  pub tiled : Tiled (page_tree page)
-  pub covers : Covers (length page) (page_tree page)
-  pub slices : AreSlices page (page_tree page)
-  pub numbered : InPreorder (page_tree page)
+  pub found : pages title ≡ Some page
+  pub unrefused : refusal_of_page pages page ≡ None
+  pub wrote : Appends old new (page_output command (page_tree pages page))
+  pub tiled : Tiled (page_tree pages page)
+  pub covers : Covers (length page) (page_tree pages page)
+  pub slices : AreReachedSlices page (page_tree pages page)
+  pub numbered : InPreorder (page_tree pages page)
+  pub names : AnswersExpansion folder pages title page
 
 -- a page stands under the title whose expansion nothing refuses, and `out` took what the items of the expanded page show;
 -- the folder was asked for the pages that this takes
@@ -106,6 +113,11 @@ pub record WroteExpansion (pages : Pages) (title : List ℕ) (folder : FolderUse
   pub wrote : Appends old new (shown_text (expanded_page pages page).items)
   pub names : AnswersExpansion folder pages title page
 
+-- `out` took the line of the page that is made with so many sections, and as many bytes come back from its HTML as it has
+pub record WroteCounts (count : ℕ) (old new : Option (List ℕ)) : Type 0 where
+  pub wrote : Appends old new (gen_line (length (gen_page count)) (page_tree gen_pages (gen_page count)))
+  pub comes_back : back (read (html_text (page_tree gen_pages (gen_page count)))) ≡ length (gen_page count)
+
 -- the whole input stands for a page each of whose elements tells its source, and `out` took the source of its tree
 pub record WroteSource (input : List ℕ) (left old new : Option (List ℕ)) : Type 0 where
   pub tree : Tree
@@ -115,24 +127,31 @@ pub record WroteSource (input : List ℕ) (left old new : Option (List ℕ)) : T
   pub wrote : Appends old new (flat tree)
 
 -- The new page of an edit: the page with the inside of each marked node, and nothing else, replaced by its spelling.
-abbrev pub new_page : List ℕ → Tree → List ℕ
-new_page page edited = spliced page (changes same_node (marked (page_tree page) edited))
+abbrev pub new_page : Pages → List ℕ → Tree → List ℕ
+new_page pages page edited = spliced page (changes same_node (marked (page_tree pages page) edited))
 
--- A page stands under the title, and the whole input for an edited tree that differs from the page's only where it may;
--- nothing refuses the edit, and `out` took the new page, in which all that stands outside the insides of the marked nodes
--- stands as in the page, byte for byte and in its order. Nothing refuses the new page, and the plain view of its tree is that
--- of the edited tree.
-pub record WroteEdit (stands : Option (List ℕ)) (input : List ℕ) (left old new : Option (List ℕ)) : Type 0 where
+-- the answer to the edit of an expanded page
+abbrev pub answer_of_edit : Pages → List ℕ → Tree → Result (List ℕ) EditRefusal
+answer_of_edit pages page edited = edit_answer same_node (expanded_page pages page) page (page_tree pages page) edited
+
+-- A page stands under the title whose expansion nothing refuses, and the whole input for an edited tree that differs from the
+-- page's only where it may; nothing refuses the edit, and `out` took the new page, in which all that stands outside the insides
+-- of the marked nodes stands as in the page, byte for byte and in its order. Nothing refuses the new page or its expansion, and
+-- the plain view of its tree is that of the edited tree, in which a kept group is what the page's group of its number holds. The
+-- folder was asked for the pages that the page and the new page take, for each once.
+pub record WroteEdit (pages : Pages) (title input : List ℕ) (folder : FolderUse) (left old new : Option (List ℕ)) : Type 0 where
   pub page : List ℕ
   pub edited : Tree
   pub unsourced : Option ℕ
-  pub found : stands ≡ Some page
+  pub found : pages title ≡ Some page
   pub within : length input ≤ HTML_BYTES
   pub reads : read input ≡ as_page edited unsourced
   pub ended : IsAtEnd left
-  pub allowed : checked false (page_tree page) edited ≡ None
-  pub unrefused : edit_answer same_node page (page_tree page) edited ≡ Ok (new_page page edited)
-  pub wrote : Appends old new (new_page page edited)
-  pub outside : OutsideStands page (new_page page edited) (changes same_node (marked (page_tree page) edited))
-  pub answered : IsAnswered (new_page page edited)
-  pub shows : plain (page_tree (new_page page edited)) ≡ plain edited
+  pub expanded : refusal_of_page pages page ≡ None
+  pub allowed : checked false (page_tree pages page) edited ≡ None
+  pub unrefused : answer_of_edit pages page edited ≡ Ok (new_page pages page edited)
+  pub wrote : Appends old new (new_page pages page edited)
+  pub outside : OutsideStands page (new_page pages page edited) (changes same_node (marked (page_tree pages page) edited))
+  pub answered : IsAnswered pages (new_page pages page edited)
+  pub shows : plain (page_tree pages (new_page pages page edited)) ≡ plain (restored_from (page_tree pages page) edited)
+  pub names : AnswersEdit folder pages title page (new_page pages page edited)

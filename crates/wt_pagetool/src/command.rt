@@ -1,6 +1,7 @@
 ghost use Rattle.std.specs.Prelude.{◌≡◌, IfOk, option_map};
-ghost use Rattle.wt_pagetool.specs.Words.{whole_name, page_name, page_command, command_of};
+ghost use Rattle.wt_pagetool.specs.Words.{whole_name, page_name, section_count, page_command, command_of};
 
+use crate::count::section_count;
 use std::alloc::Global;
 use wt_names::{Title, full_name, read_title};
 use wt_span::{List, NoMemory, Str};
@@ -23,6 +24,8 @@ pub enum Command {
     Expand(Str),
     /// The page of this full name, changed as its HTML, which is the input, was.
     Edit(Str),
+    /// What is told of a page that is made with so many sections.
+    Gen(u32),
     /// The source of the page whose HTML is the input.
     Wikitext,
 }
@@ -78,7 +81,16 @@ fn edit_of(alloc: Global, title: &str) -> Result<Option<Command>, NoMemory>
     }
 }
 
-/// A command over a page, and its title.
+fn gen_of(count: &str) -> Option<Command>
+    ensures { result ≡ option_map (λ n. Command.Gen n) (section_count count.now) }
+{
+    match section_count(count) {
+        Some(count) => Some(Command::Gen(count)),
+        None => None,
+    }
+}
+
+/// A command of two words: the title of a page is the second, or a number of sections.
 fn page_command(alloc: Global, word: &str, title: &str) -> Result<Option<Command>, NoMemory>
     ensures { IfOk result (λ command. command ≡ page_command word.now title.now) }
 {
@@ -93,6 +105,9 @@ fn page_command(alloc: Global, word: &str, title: &str) -> Result<Option<Command
     }
     if word == "edit" {
         return edit_of(alloc, title);
+    }
+    if word == "gen" {
+        return Ok(gen_of(title));
     }
     Ok(None)
 }

@@ -1,112 +1,196 @@
 //! The command that changes a page as its HTML was changed.
 
-ghost use Rattle.std.specs.Prelude.{◌≡◌, ◌≤◌, [], ◌∷◌, ℕ, List, None, Some, IfSome, IfErr, OnOk};
+ghost use Rattle.std.specs.Prelude.{◌≡◌, ◌≤◌, ◌++◌, ◌∷◌, ℕ, List, None, Some, IfSome, IfOk, IfErr, OnOk, length, option_map};
 ghost use Rattle.std.specs.Io.KnownBytes.{IsAtEnd};
-ghost use Rattle.wt_outer.specs.Device.{Rose};
-ghost use Rattle.wt_tree.specs.View.{view};
+ghost use Rattle.wt_expand.specs.Expansion.{page_work};
+ghost use Rattle.wt_expand.specs.PageCalls.{expanded_page};
+ghost use Rattle.wt_expand.specs.Work.{Pages, fetches, firsts_after, names_asked};
+ghost use Rattle.wt_expansion.specs.Known.{HoldsPages};
+ghost use Rattle.wt_expansion.specs.Walks.{IsFree};
 ghost use Rattle.wt_fitting.specs.Read.{read};
 ghost use Rattle.wt_html_in.specs.Feeding.{IsFed};
+ghost use Rattle.wt_outer.specs.Device.{Rose};
 ghost use Rattle.wt_page_round_trip.specs.PageTree.{page_tree};
 ghost use Rattle.wt_selser.specs.Edits.{edit_answer};
 ghost use Rattle.wt_selser.specs.SameNodes.{same_node};
-ghost use Rattle.wt_pagetool.specs.Answers.{done, unbuilt_place, input_answer, new_answer, edit_by, edited_answer, edit_of, edit_told};
-ghost use Rattle.wt_pagetool.specs.Causes.{Answered, Refuses, IsOfEdit, IsKept, found_status};
-ghost use Rattle.wt_pagetool.specs.Devices.{fetched_from, AnswersFirst, AnswersNames};
-ghost use Rattle.wt_pagetool.specs.Statuses.{IsAnswer};
+ghost use Rattle.wt_tree.specs.Tiling.{InPreorder};
+ghost use Rattle.wt_tree.specs.Tree.{label};
+ghost use Rattle.wt_tree.specs.View.{view};
+ghost use Rattle.wt_tree.specs.declared.kind.Kind.TheVariants as kind;
+ghost use Rattle.wt_pagetool.specs.Answers.{done, input_answer, new_answer, edit_by, edit_to, edited_answer, edit_told};
+ghost use Rattle.wt_pagetool.specs.Causes.{Answered, Refuses, IsOfEdit, IsKept, refusal_of_new};
+ghost use Rattle.wt_pagetool.specs.Devices.{fetched_from, AnswersEdit, AsksForBoth};
+ghost use Rattle.wt_pagetool.specs.Outputs.{output_bytes};
 
 use crate::fetch::fetched_page;
+use crate::known_page::{KnownPage, known_page};
+use crate::limits::PAGE_BYTES;
 use crate::output::Output;
-use crate::page::{text_of_page, tree_of_page, tree_of_text};
+use crate::page::text_of_page;
 use crate::refusal::Refusal;
 use crate::wikitext_command::read_all;
 use bumpalo::Bump;
 use std::alloc::Global;
 use wt_html_in::Reader;
+use wt_levels::Expansion;
 use wt_outer::{Folder, Source};
 use wt_selser::{edit, first_differing};
-use wt_tree::{Annotated, Node};
+use wt_transclusion::ExpandRefusal;
+use wt_tree::Node;
 
-/// Refuses a new page that doesn't show what the edited tree shows.
-fn check_meaning(alloc: Global, new_page: &[u8], edited: &Node<'_>) -> Result<(), Refusal>
-    ensures meant { OnOk result (new_answer (view edited.now) new_page.now ≡ done new_page.now) }
-    ensures refused { IfErr result (λ r. Refuses r (new_answer (view edited.now) new_page.now)) }
-    ensures of_edit { IfErr result (IsOfEdit ⊥ ⊥) }
+/// Why a new page is refused, by the refusal of its expansion.
+fn new_refusal(refusal: ExpandRefusal) -> Refusal
+    ensures { result ≡ refusal_of_new refusal }
 {
-    let tree = tree_of_page(alloc, new_page)?;
-    match first_differing(alloc, tree.body(), edited)? {
-        Some(child) => Err(Refusal::Unspelled(child)),
-        None => Ok(()),
+    match refusal {
+        ExpandRefusal::BracesTooDeep { .. } => Refusal::NewExpansion,
+        ExpandRefusal::TooLarge => Refusal::NewExpansion,
+        ExpandRefusal::FolderFault => Refusal::FolderFault,
+        ExpandRefusal::TemplateNotUtf8 { .. } => Refusal::NewExpansion,
+        ExpandRefusal::TemplateTooLong { .. } => Refusal::NewExpansion,
+        ExpandRefusal::NoMemory => Refusal::NoMemory,
     }
 }
 
-/// The new page of a page of this tree, by the tree to which it was edited.
-fn new_page<'a>(
+/// Refuses a new page that doesn't show what the edited tree shows, where groups are those of the page. What the
+/// expansion of the page knows isn't fetched again.
+fn check_meaning<'a, F: Folder>(
+    alloc: Global,
+    new_page: &'a [u8],
+    tree: &Node<'a>,
+    edited: &Node<'a>,
+    arena: &'a Bump<Global>,
+    folder: &mut F,
+    expansion: Expansion<'a>,
+) -> Result<(), Refusal>
+    requires body { (label (view tree.now)).kind ≡ kind.Body }
+    requires numbered { ∥ InPreorder (view tree.now) ∥₁ }
+    requires known { HoldsPages expansion }
+    ensures meant { (pages : Pages) (met : List (List ℕ)) → F.pages folder.old ≡ Some pages → IsFree pages met expansion.entry
+        → OnOk result (new_answer pages (view tree.now) (view edited.now) new_page.entry.now ≡ done new_page.entry.now) }
+    ensures refused { (pages : Pages) (met : List (List ℕ)) → F.pages folder.old ≡ Some pages → IsFree pages met expansion.entry
+        → IfErr result (λ r. Refuses r (new_answer pages (view tree.now) (view edited.now) new_page.entry.now)) }
+    ensures named { (pages : Pages) (met : List (List ℕ)) → F.pages folder.old ≡ Some pages → IsFree pages met expansion.entry
+        → OnOk result (F.answered folder.new
+        ≡ option_map (λ ns. ns ++ firsts_after met (fetches (page_work pages new_page.entry.now))) (F.answered folder.old)) }
+    ensures of_edit { IfErr result (IsOfEdit ⊥ (Rose (F.fault_count folder.old) (F.fault_count folder.new))) }
+    ensures count { IsKept result (F.fault_count folder.old) (F.fault_count folder.new) }
+    ensures kept { F.pages folder.new ≡ F.pages folder.old }
+{
+    let text = text_of_page(new_page)?;
+    match known_page(alloc, text, arena, folder, expansion) {
+        Ok(found) => match first_differing(alloc, found.annotated.body(), tree, edited)? {
+            Some(child) => Err(Refusal::Unspelled(child)),
+            None => Ok(()),
+        },
+        Err(refusal) => Err(new_refusal(refusal)),
+    }
+}
+
+/// The new page of a page that was expanded, by the tree to which it was edited.
+fn new_page<'a, F: Folder>(
     alloc: Global,
     page: &str,
-    tree: &Annotated<'a>,
+    found: KnownPage<'a>,
     edited: &Node<'a>,
+    arena: &'a Bump<Global>,
+    folder: &mut F,
 ) -> Result<Output, Refusal>
-    requires tree { view tree.now.body ≡ page_tree page.now }
-    requires built { unbuilt_place page.now ≡ None }
-    ensures answered { Answered (edit_by (view edited.now) (edit_answer same_node page.now (page_tree page.now) (view edited.now))) result }
-    ensures of_edit { IfErr result (IsOfEdit ⊥ ⊥) }
+    requires body { (label (view found.annotated.tree.body)).kind ≡ kind.Body }
+    requires known { HoldsPages found.expansion }
+    ensures answered { (pages : Pages) (met : List (List ℕ)) → F.pages folder.old ≡ Some pages → IsFree pages met found.entry.expansion
+        → Answered (edit_by pages (view found.entry.annotated.tree.body) (view edited.now)
+        (edit_answer same_node found.entry.annotated.items page.now (view found.entry.annotated.tree.body) (view edited.now))) result }
+    ensures named { (pages : Pages) (met : List (List ℕ)) → F.pages folder.old ≡ Some pages → IsFree pages met found.entry.expansion
+        → IfOk result (λ output. F.answered folder.new
+        ≡ option_map (λ ns. ns ++ firsts_after met (fetches (page_work pages (output_bytes output)))) (F.answered folder.old)) }
+    ensures of_edit { IfErr result (IsOfEdit ⊥ (Rose (F.fault_count folder.old) (F.fault_count folder.new))) }
+    ensures count { IsKept result (F.fault_count folder.old) (F.fault_count folder.new) }
+    ensures kept { F.pages folder.new ≡ F.pages folder.old }
 {
-    let changed = edit(alloc, page, tree.body(), edited)?;
-    check_meaning(alloc, changed.as_str().as_bytes(), edited)?;
+    let KnownPage {
+        annotated,
+        expansion,
+    } = found;
+    let tree = annotated.body();
+    let changed = edit(alloc, annotated.items(), page, tree, edited)?;
+    let text = arena.try_alloc_str(changed.as_str())?;
+    check_meaning(
+        alloc,
+        text.as_bytes(),
+        tree,
+        edited,
+        arena,
+        folder,
+        expansion,
+    )?;
     Ok(Output::Text(changed))
 }
 
-/// The new page of a page of this tree, by the HTML that was fed.
-fn edit_of_read<'a>(
+/// The new page of a page that is text, by the tree to which it was edited.
+fn edit_to<'a, F: Folder>(
     alloc: Global,
-    page: &str,
-    tree: &Annotated<'a>,
-    reader: Reader<'a>,
+    page: &'a str,
+    edited: &Node<'a>,
+    arena: &'a Bump<Global>,
+    folder: &mut F,
 ) -> Result<Output, Refusal>
-    requires tree { view tree.now.body ≡ page_tree page.now }
-    requires built { unbuilt_place page.now ≡ None }
-    ensures answered { (bytes : List ℕ) → IsFed reader.entry bytes → Answered (edited_answer page.now (read bytes)) result }
-    ensures of_edit { IfErr result (IsOfEdit ⊥ ⊥) }
+    requires room { length page.now ≤ PAGE_BYTES }
+    ensures answered { (pages : Pages) → F.pages folder.old ≡ Some pages → Answered (edit_to pages page.now (view edited.now)) result }
+    ensures named { (pages : Pages) → F.pages folder.old ≡ Some pages
+        → IfOk result (λ output. AsksForBoth pages page.now (output_bytes output) (F.answered folder.old) (F.answered folder.new)) }
+    ensures of_edit { IfErr result (IsOfEdit ⊥ (Rose (F.fault_count folder.old) (F.fault_count folder.new))) }
+    ensures count { IsKept result (F.fault_count folder.old) (F.fault_count folder.new) }
+    ensures kept { F.pages folder.new ≡ F.pages folder.old }
+{
+    let expansion = Expansion::new(alloc, arena);
+    let found = known_page(alloc, page, arena, folder, expansion)?;
+    new_page(alloc, page, found, edited, arena, folder)
+}
+
+/// The new page of a page that is text, by the HTML that was fed.
+fn edit_of_read<'a, F: Folder>(
+    alloc: Global,
+    page: &'a str,
+    reader: Reader<'a>,
+    arena: &'a Bump<Global>,
+    folder: &mut F,
+) -> Result<Output, Refusal>
+    requires room { length page.now ≤ PAGE_BYTES }
+    ensures answered { (pages : Pages) (bytes : List ℕ) → F.pages folder.old ≡ Some pages → IsFed reader.entry bytes
+        → Answered (edited_answer pages page.now (read bytes)) result }
+    ensures named { (pages : Pages) → F.pages folder.old ≡ Some pages
+        → IfOk result (λ output. AsksForBoth pages page.now (output_bytes output) (F.answered folder.old) (F.answered folder.new)) }
+    ensures of_edit { IfErr result (IsOfEdit ⊥ (Rose (F.fault_count folder.old) (F.fault_count folder.new))) }
+    ensures count { IsKept result (F.fault_count folder.old) (F.fault_count folder.new) }
+    ensures kept { F.pages folder.new ≡ F.pages folder.old }
 {
     let edited = reader.finish()?;
-    new_page(alloc, page, tree, edited.body())
+    edit_to(alloc, page, edited.body(), arena, folder)
 }
 
-/// The new page of a page of this tree, by the HTML that the input gives. The texts that are read will lie in
-/// the arena.
-fn edit_of_tree<'a, S: Source>(
+/// The new page of a page that is text, by the HTML that the input gives, which is read to its end first.
+fn edit_of_text<S: Source, F: Folder>(
     alloc: Global,
     page: &str,
-    tree: &Annotated<'a>,
-    arena: &'a Bump<Global>,
     input: &mut S,
+    folder: &mut F,
 ) -> Result<Output, Refusal>
-    requires tree { view tree.now.body ≡ page_tree page.now }
-    requires built { unbuilt_place page.now ≡ None }
-    ensures answered { IfSome (S.left input.old) (λ bytes. Answered (input_answer (edited_answer page.now) bytes) result) }
-    ensures of_edit { IfErr result (IsOfEdit (Rose (S.fault_count input.old) (S.fault_count input.new)) ⊥) }
+    requires room { length page.now ≤ PAGE_BYTES }
+    ensures answered { (pages : Pages) → F.pages folder.old ≡ Some pages → IfSome (S.left input.old)
+        (λ bytes. Answered (input_answer (edited_answer pages page.now) bytes) result) }
+    ensures named { (pages : Pages) → F.pages folder.old ≡ Some pages
+        → IfOk result (λ output. AsksForBoth pages page.now (output_bytes output) (F.answered folder.old) (F.answered folder.new)) }
+    ensures of_edit { IfErr result (IsOfEdit (Rose (S.fault_count input.old) (S.fault_count input.new))
+        (Rose (F.fault_count folder.old) (F.fault_count folder.new))) }
     ensures ended { OnOk result (IsAtEnd (S.left input.new)) }
-    ensures kept { IsKept result (S.fault_count input.old) (S.fault_count input.new) }
+    ensures input_kept { IsKept result (S.fault_count input.old) (S.fault_count input.new) }
+    ensures folder_kept { IsKept result (F.fault_count folder.old) (F.fault_count folder.new) }
+    ensures kept { F.pages folder.new ≡ F.pages folder.old }
 {
-    let reader = read_all(alloc, arena, input)?;
-    edit_of_read(alloc, page, tree, reader)
-}
-
-/// The new page of these bytes, by the HTML that the input gives.
-fn edit_of_page<'a, S: Source>(
-    alloc: Global,
-    page: &'a [u8],
-    arena: &'a Bump<Global>,
-    input: &mut S,
-) -> Result<Output, Refusal>
-    ensures answered { IfSome (S.left input.old) (λ bytes. Answered (edit_of (Some page.entry.now) bytes) result) }
-    ensures of_edit { IfErr result (IsOfEdit (Rose (S.fault_count input.old) (S.fault_count input.new)) ⊥) }
-    ensures ended { OnOk result (IsAtEnd (S.left input.new)) }
-    ensures kept { IsKept result (S.fault_count input.old) (S.fault_count input.new) }
-{
-    let text = text_of_page(page)?;
-    let tree = tree_of_text(alloc, text)?;
-    edit_of_tree(alloc, text, &tree, arena, input)
+    let arena = Bump::new(alloc);
+    let reader = read_all(alloc, &arena, input)?;
+    edit_of_read(alloc, page, reader, &arena, folder)
 }
 
 /// The page under a title, changed as its HTML, which is the input, was.
@@ -117,16 +201,16 @@ pub fn edited_page<S: Source, F: Folder>(
     folder: &mut F,
 ) -> Result<Output, Refusal>
     ensures answered { IfSome (edit_told (F.pages folder.old) (S.left input.old) title.now) (λ a. Answered a result) }
+    ensures named { IfSome (F.pages folder.old) (λ pages. IfSome (pages title.now) (λ page. IfOk result
+        (λ output. AnswersEdit (fetched_from F.Folder folder.old folder.new) pages title.now page (output_bytes output)))) }
     ensures of_edit { IfErr result (IsOfEdit (Rose (S.fault_count input.old) (S.fault_count input.new))
         (Rose (F.fault_count folder.old) (F.fault_count folder.new))) }
     ensures ended { OnOk result (IsAtEnd (S.left input.new)) }
     ensures input_kept { IsKept result (S.fault_count input.old) (S.fault_count input.new) }
     ensures folder_kept { IsKept result (F.fault_count folder.old) (F.fault_count folder.new) }
-    ensures asks { AnswersFirst (fetched_from F.Folder folder.old folder.new) (title.now ∷ []) }
-    ensures asked { IsAnswer (found_status result)
-        → AnswersNames (fetched_from F.Folder folder.old folder.new) (title.now ∷ []) }
+    ensures kept { F.pages folder.new ≡ F.pages folder.old }
 {
     let page = fetched_page(alloc, title, folder)?;
-    let arena = Bump::new(alloc);
-    edit_of_page(alloc, page.as_slice(), &arena, input)
+    let text = text_of_page(page.as_slice())?;
+    edit_of_text(alloc, text, input, folder)
 }

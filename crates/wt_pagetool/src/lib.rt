@@ -2,9 +2,12 @@
 #![tactic(auto)]
 
 mod command;
+mod count;
 mod edit_command;
 mod expand_command;
 mod fetch;
+mod gen_command;
+mod known_page;
 mod laws;
 mod limits;
 mod output;
@@ -17,7 +20,7 @@ mod top;
 mod wikitext_command;
 mod write;
 
-pub use laws::{pages_come_back, whole_tree};
+pub use laws::{pages_come_back, unchanged_page_stays, whole_tree};
 pub use limits::{HTML_BYTES, PAGE_BYTES};
 pub use status::Status;
 pub use top::run;

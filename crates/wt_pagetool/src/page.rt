@@ -1,50 +1,85 @@
-ghost use Rattle.std.specs.Prelude.{◌≡◌, ◌≤◌, [], length, OnOk, IfOk, IfErr, Some, None};
+//! The tree of a page with its templates expanded.
+
+ghost use Rattle.std.specs.Prelude.{◌≡◌, ◌≤◌, ◌<◌, ◌^◌, ◌++◌, length, OnOk, IfOk, IfErr, Some, None, option_map};
+ghost use Rattle.wt_expand.specs.Expansion.{page_work};
+ghost use Rattle.wt_expand.specs.PageCalls.{expanded_page};
+ghost use Rattle.wt_expand.specs.Work.{Pages, names_asked};
+ghost use Rattle.wt_inline.specs.ItemTree.{tree_items};
+ghost use Rattle.wt_body.specs.Body.{meaning};
+ghost use Rattle.wt_page_round_trip.specs.PageTree.{expanded_tree, page_tree};
+ghost use Rattle.wt_span.specs.Cuts.{page_of};
 ghost use Rattle.wt_tree.specs.View.{view};
-ghost use Rattle.wt_expand.specs.PageItems.{page_items};
-ghost use Rattle.wt_pagetool.specs.Answers.{unbuilt_place, IsText, IsAnswered};
-ghost use Rattle.wt_page_round_trip.specs.PageTree.{page_tree};
-ghost use Rattle.wt_pagetool.specs.Causes.{IsUnbuilt, RefusesTitle, RefusesPage, IsOfPage};
+ghost use Rattle.wt_pagetool.specs.Answers.{refusal_of_page, IsText};
+ghost use Rattle.wt_pagetool.specs.Causes.{RefusesTitle, RefusesExpansion, IsOfPage, IsOfTitle, IsKept};
 
 use crate::limits::PAGE_BYTES;
 use crate::refusal::Refusal;
+use bumpalo::Bump;
 use std::alloc::Global;
 use wt_build::build;
-use wt_expand::page_items;
-use wt_not_built::first_unbuilt;
+use wt_expansion::expand;
+use wt_outer::Folder;
 use wt_ranges::{Annotated, group};
 use wt_span::{Items, NoMemory};
 use wt_tree::Annotated as Tree;
 use wt_utf8::read_text;
 
-/// The tree of a page, of its items.
-fn tree_of_items<'a>(
-    alloc: Global,
-    page: &'a str,
-    items: Items<'a>,
-) -> Result<Annotated<'a>, NoMemory>
-    requires items { items.items ≡ page_items page.now }
-    requires outer { items.outer ≡ [] }
-    requires room { length page.now ≤ PAGE_BYTES }
-    ensures tree { IfOk result (λ a. view a.tree.body ≡ page_tree page.entry.now) }
+/// The tree of an expanded page, with its items.
+pub fn annotated_of_items<'a>(alloc: Global, items: Items<'a>) -> Result<Annotated<'a>, NoMemory>
+    requires { length (page_of items.outer (tree_items (meaning items.items))) < 2 ^ 32 }
+    ensures tree { IfOk result (λ a. view a.tree.body ≡ expanded_tree items.entry) }
     ensures items { IfOk result (λ a. a.items ≡ items.entry) }
 {
     let meaning = build(alloc, &items)?;
     group(alloc, items, meaning.into_body())
 }
 
-/// The tree of a page that is text, if all of it is built.
-pub fn tree_of_text<'a>(alloc: Global, page: &'a str) -> Result<Tree<'a>, Refusal>
+/// The tree of a page that is text, with its templates, which are taken from the folder, expanded; and the
+/// items that it comes from. The texts of the templates lie in the arena.
+pub fn annotated_of_text<'a, F: Folder>(
+    alloc: Global,
+    page: &'a str,
+    arena: &'a Bump<Global>,
+    folder: &mut F,
+) -> Result<Annotated<'a>, Refusal>
     requires room { length page.now ≤ PAGE_BYTES }
-    ensures tree { IfOk result (λ tree. view tree.body ≡ page_tree page.entry.now) }
-    ensures built { IfOk result (λ tree. unbuilt_place page.entry.now ≡ None) }
-    ensures refused { IfErr result (IsUnbuilt (unbuilt_place page.entry.now)) }
+    ensures tree { (pages : Pages) → F.pages folder.old ≡ Some pages → IfOk result (λ a. view a.tree.body ≡ page_tree pages page.entry.now) }
+    ensures items { (pages : Pages) → F.pages folder.old ≡ Some pages → IfOk result (λ a. a.items ≡ expanded_page pages page.entry.now) }
+    ensures refused { (pages : Pages) → F.pages folder.old ≡ Some pages → IfErr result (RefusesExpansion (refusal_of_page pages page.entry.now)) }
+    ensures of_title { IfErr result (IsOfTitle (F.fault_count folder.old) (F.fault_count folder.new)) }
+    ensures count { IsKept result (F.fault_count folder.old) (F.fault_count folder.new) }
+    ensures kept { F.pages folder.new ≡ F.pages folder.old }
+    ensures whole { (pages : Pages) → F.pages folder.old ≡ Some pages → OnOk result (refusal_of_page pages page.entry.now ≡ None) }
+    ensures named { (pages : Pages) → F.pages folder.old ≡ Some pages
+        → OnOk result (F.answered folder.new
+        ≡ option_map (λ names. names ++ names_asked (page_work pages page.entry.now)) (F.answered folder.old)) }
 {
-    let items = page_items(alloc, page)?;
-    let tree = tree_of_items(alloc, page, items)?;
-    match first_unbuilt(page, tree.items().pieces(), tree.body()) {
-        Some(place) => Err(Refusal::NotBuilt(place)),
-        None => Ok(tree.into_tree()),
-    }
+    let items = expand(alloc, page, arena, folder)?;
+    let tree = annotated_of_items(alloc, items)?;
+    Ok(tree)
+}
+
+/// The tree of a page that is text, with its templates, which are taken from the folder, expanded. The
+/// texts of the templates lie in the arena.
+pub fn tree_of_text<'a, F: Folder>(
+    alloc: Global,
+    page: &'a str,
+    arena: &'a Bump<Global>,
+    folder: &mut F,
+) -> Result<Tree<'a>, Refusal>
+    requires room { length page.now ≤ PAGE_BYTES }
+    ensures tree { (pages : Pages) → F.pages folder.old ≡ Some pages → IfOk result (λ tree. view tree.body ≡ page_tree pages page.entry.now) }
+    ensures refused { (pages : Pages) → F.pages folder.old ≡ Some pages → IfErr result (RefusesExpansion (refusal_of_page pages page.entry.now)) }
+    ensures of_title { IfErr result (IsOfTitle (F.fault_count folder.old) (F.fault_count folder.new)) }
+    ensures count { IsKept result (F.fault_count folder.old) (F.fault_count folder.new) }
+    ensures kept { F.pages folder.new ≡ F.pages folder.old }
+    ensures whole { (pages : Pages) → F.pages folder.old ≡ Some pages → OnOk result (refusal_of_page pages page.entry.now ≡ None) }
+    ensures named { (pages : Pages) → F.pages folder.old ≡ Some pages
+        → OnOk result (F.answered folder.new
+        ≡ option_map (λ names. names ++ names_asked (page_work pages page.entry.now)) (F.answered folder.old)) }
+{
+    let annotated = annotated_of_text(alloc, page, arena, folder)?;
+    Ok(annotated.into_tree())
 }
 
 /// The text of a page that is neither too long nor anything but UTF-8.
@@ -62,15 +97,4 @@ pub fn text_of_page(page: &[u8]) -> Result<&str, Refusal>
         Ok(text) => Ok(text),
         Err(place) => Err(Refusal::NotUtf8(place as u32)),
     }
-}
-
-/// The tree of a page that nothing refuses.
-pub fn tree_of_page<'a>(alloc: Global, page: &'a [u8]) -> Result<Tree<'a>, Refusal>
-    ensures tree { IfOk result (λ tree. view tree.body ≡ page_tree page.entry.now) }
-    ensures answered { IfOk result (λ tree. IsAnswered page.entry.now) }
-    ensures refused { IfErr result (RefusesPage (Some page.entry.now)) }
-    ensures of_page { IfErr result IsOfPage }
-{
-    let text = text_of_page(page)?;
-    tree_of_text(alloc, text)
 }

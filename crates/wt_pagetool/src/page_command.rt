@@ -1,17 +1,19 @@
-ghost use Rattle.std.specs.Prelude.{◌≡◌, [], ◌∷◌, IfSome, IfErr, Some};
+ghost use Rattle.std.specs.Prelude.{◌≡◌, ◌≤◌, ◌++◌, length, IfSome, IfErr, OnOk, Some, option_map};
+ghost use Rattle.wt_expand.specs.Expansion.{page_work};
+ghost use Rattle.wt_expand.specs.Work.{Pages, names_asked};
 ghost use Rattle.wt_markup.specs.Html.{html_text};
 ghost use Rattle.wt_tree.specs.View.{view};
-ghost use Rattle.wt_pagetool.specs.Answers.{html_within, made_of_tree, made, page_answer};
-ghost use Rattle.wt_pagetool.specs.Causes.{Answered, IsOfPage, IsOfTitle, IsKept, found_status};
-ghost use Rattle.wt_pagetool.specs.Devices.{fetched_from, AnswersFirst, AnswersNames};
-ghost use Rattle.wt_pagetool.specs.Statuses.{IsAnswer};
+ghost use Rattle.wt_pagetool.specs.Answers.{html_within, made_of_tree, made, title_answer};
+ghost use Rattle.wt_pagetool.specs.Causes.{Answered, IsOfPage, IsOfTitle, IsKept};
+ghost use Rattle.wt_pagetool.specs.Devices.{fetched_from, AnswersExpansion};
 
 use crate::command::PageCommand;
 use crate::fetch::fetched_page;
-use crate::limits::HTML_BYTES;
+use crate::limits::{HTML_BYTES, PAGE_BYTES};
 use crate::output::Output;
-use crate::page::tree_of_page;
+use crate::page::{text_of_page, tree_of_text};
 use crate::refusal::Refusal;
+use bumpalo::Bump;
 use std::alloc::Global;
 use wt_html_out::{LengthRefusal, html_bytes_within};
 use wt_listing::listing;
@@ -46,12 +48,24 @@ fn output_of_tree(
     }
 }
 
-/// What a command makes of the bytes of a page.
-fn output_of_page(alloc: Global, command: PageCommand, page: &[u8]) -> Result<Output, Refusal>
-    ensures answered { Answered (page_answer (Some page.now) (made command)) result }
-    ensures of_page { IfErr result IsOfPage }
+/// What a command makes of a page that is text.
+fn output_of_text<F: Folder>(
+    alloc: Global,
+    command: PageCommand,
+    page: &str,
+    folder: &mut F,
+) -> Result<Output, Refusal>
+    requires room { length page.now ≤ PAGE_BYTES }
+    ensures answered { (pages : Pages) → F.pages folder.old ≡ Some pages → Answered (made command pages page.now) result }
+    ensures of_title { IfErr result (IsOfTitle (F.fault_count folder.old) (F.fault_count folder.new)) }
+    ensures count { IsKept result (F.fault_count folder.old) (F.fault_count folder.new) }
+    ensures kept { F.pages folder.new ≡ F.pages folder.old }
+    ensures named { (pages : Pages) → F.pages folder.old ≡ Some pages
+        → OnOk result (F.answered folder.new
+        ≡ option_map (λ names. names ++ names_asked (page_work pages page.now)) (F.answered folder.old)) }
 {
-    let tree = tree_of_page(alloc, page)?;
+    let arena = Bump::new(alloc);
+    let tree = tree_of_text(alloc, page, &arena, folder)?;
     output_of_tree(alloc, command, &tree)
 }
 
@@ -63,13 +77,14 @@ pub fn output_of_title<F: Folder>(
     folder: &mut F,
 ) -> Result<Output, Refusal>
     ensures answered { IfSome (F.pages folder.old)
-        (λ pages. Answered (page_answer (pages title.now) (made command)) result) }
+        (λ pages. Answered (title_answer (pages title.now) (made command pages)) result) }
     ensures of_title { IfErr result (IsOfTitle (F.fault_count folder.old) (F.fault_count folder.new)) }
-    ensures kept { IsKept result (F.fault_count folder.old) (F.fault_count folder.new) }
-    ensures asks { AnswersFirst (fetched_from F.Folder folder.old folder.new) (title.now ∷ []) }
-    ensures asked { IsAnswer (found_status result)
-        → AnswersNames (fetched_from F.Folder folder.old folder.new) (title.now ∷ []) }
+    ensures count { IsKept result (F.fault_count folder.old) (F.fault_count folder.new) }
+    ensures kept { F.pages folder.new ≡ F.pages folder.old }
+    ensures named { IfSome (F.pages folder.old) (λ pages. IfSome (pages title.now)
+        (λ page. OnOk result (AnswersExpansion (fetched_from F.Folder folder.old folder.new) pages title.now page))) }
 {
     let page = fetched_page(alloc, title, folder)?;
-    output_of_page(alloc, command, page.as_slice())
+    let text = text_of_page(page.as_slice())?;
+    output_of_text(alloc, command, text, folder)
 }

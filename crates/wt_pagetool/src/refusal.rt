@@ -23,8 +23,6 @@ pub enum Refusal {
     TooLong,
     /// The page isn't UTF-8.
     NotUtf8(u32),
-    /// The page has a form that isn't built.
-    NotBuilt(u32),
     /// Some call or argument has a hundred others round it, in the page itself or in what is taken of the
     /// template of this full name.
     BracesTooDeep { template: Option<Str>, place: u32 },
@@ -52,6 +50,8 @@ pub enum Refusal {
     Tangled(u32),
     /// The new page is longer than a page may be.
     NewPageTooLong,
+    /// The expansion of the new page is refused.
+    NewExpansion,
     /// The new page doesn't mean what the edited tree shows, first in this child of the body, counted
     /// from 1.
     Unspelled(u32),
@@ -161,7 +161,6 @@ impl Refusal {
             Refusal::Absent
             | Refusal::TooLong
             | Refusal::NotUtf8(_)
-            | Refusal::NotBuilt(_)
             | Refusal::BracesTooDeep { .. }
             | Refusal::TooLarge
             | Refusal::TemplateNotUtf8 { .. }
@@ -175,6 +174,7 @@ impl Refusal {
             | Refusal::BadContent { .. }
             | Refusal::Tangled(_)
             | Refusal::NewPageTooLong
+            | Refusal::NewExpansion
             | Refusal::Unspelled(_) => Status::EditRefused,
             Refusal::ReadFault => Status::ReadFault,
             Refusal::FolderFault => Status::FolderFault,
@@ -332,7 +332,6 @@ pub fn line_of(alloc: Global, refusal: &Refusal) -> Result<String, AllocError>
         Refusal::Absent => format!(in alloc; "wtround: no such page\n"),
         Refusal::TooLong => format!(in alloc; "wtround: page too long\n"),
         Refusal::NotUtf8(place) => format!(in alloc; "wtround: page not UTF-8 at {place}\n"),
-        Refusal::NotBuilt(place) => format!(in alloc; "wtround: not built at {place}\n"),
         Refusal::BracesTooDeep { template, place } => braces_line(alloc, template, *place),
         Refusal::TooLarge => format!(in alloc; "wtround: expansion too large\n"),
         Refusal::TemplateNotUtf8 { template, place } => {
@@ -348,6 +347,7 @@ pub fn line_of(alloc: Global, refusal: &Refusal) -> Result<String, AllocError>
         Refusal::BadContent { node, why } => content_line(alloc, *node, *why),
         Refusal::Tangled(node) => format!(in alloc; "wtround: edit refused: Tangled {node}\n"),
         Refusal::NewPageTooLong => format!(in alloc; "wtround: edit refused: NewPageTooLong\n"),
+        Refusal::NewExpansion => format!(in alloc; "wtround: edit refused: NewExpansion\n"),
         Refusal::Unspelled(child) => format!(in alloc;
             "wtround: edit refused: Unspelled {child}\n"
         ),

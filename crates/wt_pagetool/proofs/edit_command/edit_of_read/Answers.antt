@@ -3,11 +3,11 @@ use Rattle.wt_pagetool.proofs.EditLaws.{edited_read, unread_from}
 use Rattle.wt_pagetool.proofs.edit_command.edit_of_read.Goals as goal
 
 pub returns-in_err-edited-clause-answered : goal.returns-in_err-edited-clause-answered
-returns-in_err-edited-clause-answered c bytes fed =
-    unread_from c.args.page.now c.in_err-edited.field-0.0 bytes c.from_residual.result (c.in_err-edited.ensures.answers bytes fed)
+returns-in_err-edited-clause-answered g c = λ pages bytes told fed.
+    unread_from pages c.args.page.now c.in_err-edited.field-0.0 bytes c.from_residual.result (c.in_err-edited.ensures.answers bytes fed)
     c.from_residual.ensures.1
 
 pub returns-clause-answered : goal.returns-clause-answered
-returns-clause-answered c bytes fed =
-    edited_read c.args.page.now c.in_ok-edited.edited (view c.body.result.now) bytes c.new_page.result
-    (c.in_ok-edited.ensures.answers bytes fed) c.body.ensures c.new_page.ensures.answered
+returns-clause-answered g c = λ pages bytes told fed.
+    edited_read pages c.args.page.now c.in_ok-edited.edited (view c.body.result.now) bytes c.edit_to.result
+    (c.in_ok-edited.ensures.answers bytes fed) c.body.ensures (c.edit_to.ensures.answered pages told)

@@ -1,40 +1,74 @@
-use Rattle.std.proofs.Common.{◌≡◌, ap, ◌∙◌, subst}
-use Rattle.std.specs.Prelude.{Ok, Err}
-use Rattle.wt_tree.specs.Tree.{label}
+use Rattle.std.proofs.Common.{◌≡◌, ◌++◌, option_map, ap, ◌∙◌, refl, rules, subst, sym}
+use Rattle.std.specs.Prelude.{IsErrAnd, Ok, Err}
+use Rattle.wt_span.specs.Origins.{Expanded}
+use Rattle.wt_tree.specs.Tree.{Tree, label}
 use Rattle.wt_tree.specs.View.{view}
-use Rattle.wt_page_round_trip.specs.PageTree.{page_tree}
+use Rattle.wt_expand.specs.Expansion.{page_work}
+use Rattle.wt_expand.specs.Work.{fetches, firsts_after}
 use Rattle.wt_selser.specs.Edits.{edit_answer, AnswersEdit}
 use Rattle.wt_selser.specs.SameNodes.{same_node}
 use Rattle.wt_selser.proofs.SameTells.{tells_same}
+use Rattle.wt_pagetool.specs.Answers.{done, new_answer}
+use Rattle.wt_pagetool.specs.Causes.{Refuses}
 use Rattle.wt_pagetool.proofs.EditLaws.{edit_refused_from, new_page_is, new_page_refused}
-use Rattle.wt_pagetool.proofs.ShownLaws.{page_body}
 use Rattle.wt_pagetool.proofs.edit_command.new_page.Goals as goal
 
 pub edit-requires-clause-body : goal.edit-requires-clause-body
-edit-requires-clause-body c =
-    ap (λ t. (label t).kind) (ap view c.body.ensures.body ∙ c.requires.tree) ∙ page_body c.args.page.now
+edit-requires-clause-body g c = ap (λ t. (label t).kind) (ap view c.body-tree.ensures.body) ∙ c.requires.body
+
+pub check_meaning-requires-clause-body : goal.check_meaning-requires-clause-body
+check_meaning-requires-clause-body g c = ap (λ t. (label t).kind) (ap view c.body-tree.ensures.body) ∙ c.requires.body
 
 pub returns-in_err-changed-clause-answered : goal.returns-in_err-changed-clause-answered
-returns-in_err-changed-clause-answered c =
-    let tree : view c.body.result.now ≡ page_tree c.args.page.now = ap view c.body.ensures.body ∙ c.requires.tree in
-    edit_refused_from (view c.args.edited.now) (edit_answer same_node c.args.page.now (page_tree c.args.page.now) (view c.args.edited.now))
-    c.in_err-changed.field-0.0 c.from_residual.result
-    (subst (λ t. AnswersEdit (edit_answer same_node c.args.page.now t (view c.args.edited.now)) (Err c.in_err-changed.field-0.0)) tree
-    (c.in_err-changed.ensures same_node tells_same)) c.from_residual.ensures.1
+returns-in_err-changed-clause-answered g c = λ pages met told free.
+    let page = c.args.page.now in
+    let edited = view c.args.edited.now in
+    let items = c.args.found.annotated.items in
+    let t = view c.args.found.annotated.tree.body in
+    let is_tree : view c.body-tree.result.now ≡ t = ap view c.body-tree.ensures.body in
+    let refused = c.in_err-changed.field-0.0 in
+    edit_refused_from pages t edited (edit_answer same_node items page t edited) refused c.from_residual.result
+    (subst (λ (x : Tree). AnswersEdit (edit_answer same_node items page x edited) (Err refused)) is_tree
+    (subst (λ (x : Expanded). AnswersEdit (edit_answer same_node x page (view c.body-tree.result.now) edited) (Err refused)) c.items.ensures
+    (c.in_err-changed.ensures same_node tells_same))) c.from_residual.ensures.1
 
 pub returns-in_err-check_meaning-clause-answered : goal.returns-in_err-check_meaning-clause-answered
-returns-in_err-check_meaning-clause-answered c =
-    let tree : view c.body.result.now ≡ page_tree c.args.page.now = ap view c.body.ensures.body ∙ c.requires.tree in
-    new_page_refused (view c.args.edited.now) (edit_answer same_node c.args.page.now (page_tree c.args.page.now) (view c.args.edited.now))
-    c.in_ok-changed.changed c.as_bytes.result.now c.in_err-check_meaning.field-0.0 c.from_residual-in_err-check_meaning.result
-    (subst (λ t. AnswersEdit (edit_answer same_node c.args.page.now t (view c.args.edited.now)) (Ok c.in_ok-changed.changed)) tree
-    (c.in_ok-changed.ensures same_node tells_same)) (c.as_bytes.ensures.value ∙ c.as_str.ensures)
-    c.in_err-check_meaning.ensures.refused c.from_residual-in_err-check_meaning.ensures.1
+returns-in_err-check_meaning-clause-answered g c = λ pages met told free.
+    let page = c.args.page.now in
+    let edited = view c.args.edited.now in
+    let items = c.args.found.annotated.items in
+    let t = view c.args.found.annotated.tree.body in
+    let is_tree : view c.body-tree.result.now ≡ t = ap view c.body-tree.ensures.body in
+    let new = c.in_ok-changed.changed in
+    let bytes = c.as_bytes.result.now in
+    let refused = c.in_err-check_meaning.field-0.0 in
+    let handed : c.from_residual-in_err-check_meaning.result ≡ Err refused = search rules in
+    new_page_refused pages t edited (edit_answer same_node items page t edited) new bytes refused
+    c.from_residual-in_err-check_meaning.result
+    (subst (λ (x : Tree). AnswersEdit (edit_answer same_node items page x edited) (Ok new)) is_tree
+    (subst (λ (x : Expanded). AnswersEdit (edit_answer same_node x page (view c.body-tree.result.now) edited) (Ok new)) c.items.ensures
+    (c.in_ok-changed.ensures same_node tells_same))) (c.as_bytes.ensures.value ∙ c.in_ok-text.ensures ∙ c.as_str.ensures)
+    (subst (λ (x : Tree). Refuses refused (new_answer pages x edited bytes)) is_tree
+    (c.in_err-check_meaning.ensures.refused pages met told free)) (subst (λ x. IsErrAnd x (λ r. r ≡ refused)) (sym handed) refl)
 
 pub returns-clause-answered : goal.returns-clause-answered
-returns-clause-answered c =
-    let tree : view c.body.result.now ≡ page_tree c.args.page.now = ap view c.body.ensures.body ∙ c.requires.tree in
-    new_page_is (view c.args.edited.now) (edit_answer same_node c.args.page.now (page_tree c.args.page.now) (view c.args.edited.now))
-    c.in_ok-changed.changed c.as_bytes.result.now
-    (subst (λ t. AnswersEdit (edit_answer same_node c.args.page.now t (view c.args.edited.now)) (Ok c.in_ok-changed.changed)) tree
-    (c.in_ok-changed.ensures same_node tells_same)) (c.as_bytes.ensures.value ∙ c.as_str.ensures) c.in_ok-check_meaning.ensures.meant
+returns-clause-answered g c = λ pages met told free.
+    let page = c.args.page.now in
+    let edited = view c.args.edited.now in
+    let items = c.args.found.annotated.items in
+    let t = view c.args.found.annotated.tree.body in
+    let is_tree : view c.body-tree.result.now ≡ t = ap view c.body-tree.ensures.body in
+    let new = c.in_ok-changed.changed in
+    let bytes = c.as_bytes.result.now in
+    new_page_is pages t edited (edit_answer same_node items page t edited) new bytes
+    (subst (λ (x : Tree). AnswersEdit (edit_answer same_node items page x edited) (Ok new)) is_tree
+    (subst (λ (x : Expanded). AnswersEdit (edit_answer same_node x page (view c.body-tree.result.now) edited) (Ok new)) c.items.ensures
+    (c.in_ok-changed.ensures same_node tells_same))) (c.as_bytes.ensures.value ∙ c.in_ok-text.ensures ∙ c.as_str.ensures)
+    (subst (λ (x : Tree). new_answer pages x edited bytes ≡ done bytes) is_tree (c.in_ok-check_meaning.ensures.meant pages met told free))
+
+pub returns-clause-named : goal.returns-clause-named
+returns-clause-named g c = λ pages met told free.
+    let before = g.F.Folder.answered c.args.folder.now in
+    c.in_ok-check_meaning.ensures.named pages met told free
+    ∙ ap (λ bs. option_map (λ ns. ns ++ firsts_after met (fetches (page_work pages bs))) before)
+    (c.as_bytes.ensures.value ∙ c.in_ok-text.ensures ∙ c.as_str.ensures)

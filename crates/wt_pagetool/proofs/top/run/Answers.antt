@@ -1,6 +1,9 @@
-use Rattle.wt_pagetool.proofs.RunLaws.{run_page, run_wikitext, run_exact, run_done, run_refused, run_fault, run_complete, run_kept, run_found, run_expansion, run_edit}
+use Rattle.std.proofs.Common.{refl, sym, subst}
+use Rattle.wt_pagetool.proofs.RunLaws.{run_page, run_wikitext, run_exact, run_done, run_refused, run_fault, run_complete, run_kept, run_found, run_expansion, run_counts, run_edit}
 use Rattle.wt_pagetool.proofs.GivenBackLaws.{run_gives_back}
+use Rattle.wt_pagetool.proofs.UnchangedLaws.{run_changes_nothing}
 use Rattle.wt_pagetool.specs.Answers.{answer_told}
+use Rattle.wt_pagetool.specs.Words.{Edits, Shows}
 use Rattle.wt_pagetool.specs.Devices.{read_from, fetched_from, written_to}
 use Rattle.wt_pagetool.proofs.top.run.Goals as goal
 
@@ -10,7 +13,8 @@ returns-clause-page g c command title is e =
     (fetched_from g.F.Folder c.args.folder.now c.find_answer-found.new.folder)
     (written_to g.W.Sink c.args.out.now c.report.new.out) (written_to g.E.Sink c.args.err.now c.report.new.err)
     c.find_answer-found.result c.report.result c.code.result c.code.ensures c.find_answer-found.ensures.answered
-    c.find_answer-found.ensures.due c.report.ensures command title is e
+    c.find_answer-found.ensures.due c.report.ensures command title is
+    (c.find_answer-found.ensures.named title (subst (Shows title) (sym is) refl)) e
 
 pub returns-clause-expansion : goal.returns-clause-expansion
 returns-clause-expansion g c title is e =
@@ -18,7 +22,7 @@ returns-clause-expansion g c title is e =
     (fetched_from g.F.Folder c.args.folder.now c.find_answer-found.new.folder)
     (written_to g.W.Sink c.args.out.now c.report.new.out) (written_to g.E.Sink c.args.err.now c.report.new.err)
     c.find_answer-found.result c.report.result c.code.result c.code.ensures c.find_answer-found.ensures.answered
-    c.find_answer-found.ensures.due c.report.ensures title is (c.find_answer-found.ensures.named title is) e
+    c.find_answer-found.ensures.due c.report.ensures title is (c.find_answer-found.ensures.named title (subst (Shows title) (sym is) refl)) e
 
 pub returns-clause-wikitext : goal.returns-clause-wikitext
 returns-clause-wikitext g c is e =
@@ -34,13 +38,28 @@ returns-clause-edit g c title is e =
     (fetched_from g.F.Folder c.args.folder.now c.find_answer-found.new.folder)
     (written_to g.W.Sink c.args.out.now c.report.new.out) (written_to g.E.Sink c.args.err.now c.report.new.err)
     c.find_answer-found.result c.report.result c.code.result c.code.ensures c.find_answer-found.ensures.answered
-    c.find_answer-found.ensures.due c.find_answer-found.ensures.ended c.report.ensures title is e
+    c.find_answer-found.ensures.due c.find_answer-found.ensures.ended c.report.ensures title is
+    (c.find_answer-found.ensures.edited title (subst (Edits title) (sym is) refl)) e
+
+pub returns-clause-counted : goal.returns-clause-counted
+returns-clause-counted g c count is e =
+    run_counts c.args.words.now (read_from g.S.Source c.args.input.now c.find_answer-found.new.input)
+    (fetched_from g.F.Folder c.args.folder.now c.find_answer-found.new.folder)
+    (written_to g.W.Sink c.args.out.now c.report.new.out) (written_to g.E.Sink c.args.err.now c.report.new.err)
+    c.find_answer-found.result c.report.result c.code.result c.code.ensures c.find_answer-found.ensures.answered
+    c.find_answer-found.ensures.due c.report.ensures count is e
 
 pub returns-clause-gives_back : goal.returns-clause-gives_back
 returns-clause-gives_back g c is =
     run_gives_back (g.F.Folder.pages c.args.folder.now) (g.S.Source.left c.args.input.now) c.args.words.now
     c.find_answer-found.result c.report.result c.code.result (written_to g.W.Sink c.args.out.now c.report.new.out)
     (written_to g.E.Sink c.args.err.now c.report.new.err) c.code.ensures is c.find_answer-found.ensures.answered c.report.ensures
+
+pub returns-clause-changes_nothing : goal.returns-clause-changes_nothing
+returns-clause-changes_nothing g c title is =
+    run_changes_nothing (g.F.Folder.pages c.args.folder.now) (g.S.Source.left c.args.input.now) c.args.words.now
+    c.find_answer-found.result c.report.result c.code.result (written_to g.W.Sink c.args.out.now c.report.new.out)
+    (written_to g.E.Sink c.args.err.now c.report.new.err) c.code.ensures title is c.find_answer-found.ensures.answered c.report.ensures
 
 pub returns-clause-exact : goal.returns-clause-exact
 returns-clause-exact g c =

@@ -1,3 +1,0 @@
-pub mod FirstPlace
-pub mod Groups
-pub mod Unbuilt

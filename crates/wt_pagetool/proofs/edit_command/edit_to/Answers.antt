@@ -1,0 +1,41 @@
+use Rattle.std.proofs.Common.{ap, ◌∙◌, []}
+use Rattle.wt_tree.specs.Tree.{label}
+use Rattle.wt_tree.specs.View.{view}
+use Rattle.wt_expansion.proofs.KnownLaws.{free_at_first, holds_at_first}
+use Rattle.wt_pagetool.proofs.EditLaws.{asked_both, edit_expanded}
+use Rattle.wt_pagetool.proofs.EditedLaws.{edit_unexpanded}
+use Rattle.wt_pagetool.proofs.ShownLaws.{page_body}
+use Rattle.wt_pagetool.proofs.edit_command.edit_to.Goals as goal
+
+pub known_page-requires-clause-known : goal.known_page-requires-clause-known
+known_page-requires-clause-known g c =
+    holds_at_first c.new-expansion.result c.new-expansion.ensures.store c.new-expansion.ensures.names
+
+pub new_page-requires-clause-body : goal.new_page-requires-clause-body
+new_page-requires-clause-body g c =
+    let s = c.in_ok-found.ensures.some in ap (λ t. (label t).kind) s.1 ∙ page_body s.0 c.args.page.now
+
+pub returns-in_err-found-clause-answered : goal.returns-in_err-found-clause-answered
+returns-in_err-found-clause-answered g c = λ pages told.
+    let free = free_at_first pages c.new-expansion.result c.new-expansion.ensures.store c.new-expansion.ensures.names in
+    edit_unexpanded pages c.args.page.now (view c.args.edited.now) c.in_err-found.field-0.0 c.from_residual.result
+    (c.in_err-found.ensures.refused pages [] told free) c.from_residual.ensures.1
+
+pub returns-clause-answered : goal.returns-clause-answered
+returns-clause-answered g c = λ pages told.
+    let free = free_at_first pages c.new-expansion.result c.new-expansion.ensures.store c.new-expansion.ensures.names in
+    let found = c.in_ok-found.found in
+    let more = c.in_ok-found.ensures.named pages [] told free in
+    edit_expanded pages c.args.page.now found.annotated.items (view found.annotated.tree.body) (view c.args.edited.now) c.new_page.result
+    (c.in_ok-found.ensures.whole pages [] told free) (c.in_ok-found.ensures.items pages [] told free)
+    (c.in_ok-found.ensures.tree pages [] told free)
+    (c.new_page.ensures.answered pages more.known (c.in_ok-found.ensures.kept ∙ told) more.free)
+
+pub returns-clause-named : goal.returns-clause-named
+returns-clause-named g c = λ pages told.
+    let d = g.F.Folder in
+    let free = free_at_first pages c.new-expansion.result c.new-expansion.ensures.store c.new-expansion.ensures.names in
+    let more = c.in_ok-found.ensures.named pages [] told free in
+    asked_both pages c.args.page.now c.in_ok-found.found.expansion (d.answered c.args.folder.now) (d.answered c.known_page.new.folder)
+    (d.answered c.new_page.new.folder) c.new_page.result more
+    (c.new_page.ensures.named pages more.known (c.in_ok-found.ensures.kept ∙ told) more.free)

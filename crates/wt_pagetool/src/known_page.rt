@@ -1,0 +1,66 @@
+//! The tree of a page some of whose templates are known already.
+
+ghost use Rattle.std.specs.Prelude.{◌≡◌, ◌≤◌, ℕ, List, length, OnOk, IfOk, IfErr, Some, None};
+ghost use Rattle.wt_expand.specs.Expansion.{page_work};
+ghost use Rattle.wt_expand.specs.PageCalls.{expanded_page};
+ghost use Rattle.wt_expand.specs.Work.{Pages};
+ghost use Rattle.wt_expansion.specs.Known.{HoldsPages, KnowsMore};
+ghost use Rattle.wt_expansion.specs.Walks.{IsFree};
+ghost use Rattle.wt_page_round_trip.specs.PageTree.{page_tree};
+ghost use Rattle.wt_tree.specs.View.{view};
+ghost use Rattle.wt_transclusion.specs.Answers.{IsCounted, IsRefused};
+ghost use Rattle.wt_pagetool.specs.Answers.{refusal_of_page};
+
+use crate::limits::PAGE_BYTES;
+use crate::page::annotated_of_items;
+use bumpalo::Bump;
+use std::alloc::Global;
+use wt_expansion::expand_knowing;
+use wt_levels::Expansion;
+use wt_outer::Folder;
+use wt_ranges::Annotated;
+use wt_transclusion::ExpandRefusal;
+
+/// The tree of a page with its items, and the expansion that knows the page's templates.
+#[derive(Drop)]
+pub struct KnownPage<'a> {
+    /// The tree and its items.
+    pub annotated: Annotated<'a>,
+    /// What was fetched for the page, and what was known before it.
+    pub expansion: Expansion<'a>,
+}
+
+/// The tree of a page that is text, with its templates expanded: those that the expansion knows are taken as
+/// it knows them, and the others from the folder.
+pub fn known_page<'a, F: Folder>(
+    alloc: Global,
+    page: &'a str,
+    arena: &'a Bump<Global>,
+    folder: &mut F,
+    expansion: Expansion<'a>,
+) -> Result<KnownPage<'a>, ExpandRefusal>
+    requires room { length page.now ≤ PAGE_BYTES }
+    requires known { HoldsPages expansion }
+    ensures tree { (pages : Pages) (met : List (List ℕ)) → F.pages folder.old ≡ Some pages → IsFree pages met expansion.entry
+        → IfOk result (λ found. view found.annotated.tree.body ≡ page_tree pages page.entry.now) }
+    ensures items { (pages : Pages) (met : List (List ℕ)) → F.pages folder.old ≡ Some pages → IsFree pages met expansion.entry
+        → IfOk result (λ found. found.annotated.items ≡ expanded_page pages page.entry.now) }
+    ensures refused { (pages : Pages) (met : List (List ℕ)) → F.pages folder.old ≡ Some pages → IsFree pages met expansion.entry
+        → IfErr result (IsRefused (refusal_of_page pages page.entry.now)) }
+    ensures whole { (pages : Pages) (met : List (List ℕ)) → F.pages folder.old ≡ Some pages → IsFree pages met expansion.entry
+        → OnOk result (refusal_of_page pages page.entry.now ≡ None) }
+    ensures named { (pages : Pages) (met : List (List ℕ)) → F.pages folder.old ≡ Some pages → IsFree pages met expansion.entry
+        → IfOk result (λ found. KnowsMore pages met (page_work pages page.entry.now) found.expansion
+        (F.answered folder.old) (F.answered folder.new)) }
+    ensures known { IfOk result (λ found. HoldsPages found.expansion) }
+    ensures some { IfOk result (λ found. (pages : Pages) × (view found.annotated.tree.body ≡ page_tree pages page.entry.now)) }
+    ensures count { IsCounted (F.fault_count folder.old) (F.fault_count folder.new) result }
+    ensures kept { F.pages folder.new ≡ F.pages folder.old }
+{
+    let expanded = expand_knowing(alloc, page, arena, folder, expansion)?;
+    let annotated = annotated_of_items(alloc, expanded.items)?;
+    Ok(KnownPage {
+        annotated,
+        expansion: expanded.expansion,
+    })
+}
