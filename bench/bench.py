@@ -1,8 +1,8 @@
 #!/usr/bin/env python3
 """Measures the proved `wtround`: `html` on pages of 64 KiB, 512 KiB and 2 MiB, `wikitext` on HTML of 512 KiB,
 8 MiB and 64 MiB less a page's frame, of the HTML of pages with comments and entities, and of what `html` answers
-for pages of links, URLs, styles and tags (a third of the size for apostrophes); `html` on pages of lists and tables; `expand` on pages of calls;
-`edit` on pages of which one word or a word of each paragraph was changed.
+for pages of links, URLs, styles and tags (a third of the size for apostrophes); `html` on pages of lists and tables, and of templates; `expand` on pages of
+calls; `gen` of 100, 1,000 and 10,000 sections; `edit` on pages of which one word or a word of each paragraph was changed.
 
   bench/bench.py PROGRAM [OTHER]
 
@@ -95,13 +95,40 @@ def each_paragraph(html):
     return html.replace(b"<p id=", b'<p data-wt-edit="content" id=').replace(b"river runs", b"brook runs")
 
 
-EDIT_KINDS = {
-    "one word of an article": (lines(article), one_word),
-    "a word of each paragraph": (lines(lambda k: (WORDS + "\n") * 3 + "\n"), each_paragraph),
+# The templates of a section of an article that has some two calls for each KiB.
+WITH_CALLS = {
+    "Template%3ABox": b"{|\n! {{{name}}}\n|-\n| {{{1|}}} || {{lang|de|{{{name}}}}}\n|}",
+    "Template%3ALang": b"''{{{2}}}''",
+    "Template%3ACite": b"<ref>{{{title}}}, p. {{{page|1}}}.</ref>",
 }
 
 
-# Pages with calls, and the files of the templates that they call.
+def called_article(k):
+    """A section of an article that takes a box, words and notes from templates."""
+    box = "" if k % 4 else f"{{{{box|{k}|name=Part {k}}}}}\n"
+    return (f"== Part {k} ==\n{box}'''The {WORDS}''', {{{{lang|cs|reka}}}} {k}, {WORDS}.{{{{cite|title=Atlas|page={k}}}}}\n\n"
+            f"* {WORDS}\n* [http://a.b/{k} there] and {WORDS}\n\n" + f"{WORDS}, " * 5 + f"{WORDS}.\n\n")
+
+
+CALL_KINDS = {
+    "an article with templates": (lines(called_article), WITH_CALLS),
+    "calls of an absent page": (whole("{{x}}"), {}),
+    "calls in list items": (whole("* a {{T}} b\n"), {"Template%3AT": b"''t''"}),
+    "a table made by three templates": (
+        lambda size: b"{{A}}\n" + whole("{{B|x}}\n")(size) + b"{{C}}",
+        {"Template%3AA": b"{|", "Template%3AB": b"|-\n| {{{1}}} || y", "Template%3AC": b"|}"},
+    ),
+}
+
+# Pages of which the HTML is changed, and the templates that they call.
+EDIT_KINDS = {
+    "one word of an article": (lines(article), one_word, {}),
+    "a word of each paragraph": (lines(lambda k: (WORDS + "\n") * 3 + "\n"), each_paragraph, {}),
+    "one word of an article with templates": (lines(called_article), one_word, WITH_CALLS),
+}
+
+
+# Pages of which the text is expanded, and the files of the templates that they call.
 ARGUMENTS = "|".join(f"a{k}={k}" for k in range(1000))
 HANDED = {f"Template%3AL{k}": b"{{L%d|{{{1}}}}}" % (k + 1) for k in range(1, 40)}
 EXPAND_KINDS = {
@@ -183,12 +210,15 @@ def run(program, folder, words):
     return best, peak
 
 
-def answer(program, page):
-    """What `html` of the first program answers for a page."""
+def answer(program, page, templates={}):
+    """What `html` of the first program answers for a page with these templates."""
     with tempfile.TemporaryDirectory() as folder:
         os.mkdir(os.path.join(folder, "pages"))
         with open(os.path.join(folder, "pages", "Main.wiki"), "wb") as out:
             out.write(page)
+        for name, text in templates.items():
+            with open(os.path.join(folder, "pages", name + ".wiki"), "wb") as out:
+                out.write(text)
         return subprocess.run([program, "html", "Main"], cwd=folder, capture_output=True).stdout
 
 
@@ -204,7 +234,7 @@ def measure(programs, title, words, sizes, make, templates={}, given=None):
                 with open(os.path.join(folder, "pages", name + ".wiki"), "wb") as out:
                     out.write(text)
             with open(os.path.join(folder, "in"), "wb") as out:
-                out.write(given(answer(programs[0], made)) if given else made if words[0] == "wikitext" else b"")
+                out.write(given(answer(programs[0], made, templates)) if given else made if words[0] == "wikitext" else b"")
             cells, spent = [], []
             for n, program in enumerate(programs):
                 seconds, peak = run(program, folder, words)
@@ -238,8 +268,12 @@ def main():
         measure(programs, f"html, {kind}", ["html", "Main"], SIZES, make)
     for kind, (make, templates) in EXPAND_KINDS.items():
         measure(programs, f"expand, {kind}", ["expand", "Main"], SIZES, make, templates)
-    for kind, (make, given) in EDIT_KINDS.items():
-        measure(programs, f"edit, {kind}", ["edit", "Main"], SIZES, make, given=given)
+    for kind, (make, templates) in CALL_KINDS.items():
+        measure(programs, f"html, {kind}", ["html", "Main"], SIZES, make, templates)
+    for sections in (100, 1_000, 10_000):
+        measure(programs, f"gen {sections}", ["gen", str(sections)], [67 * sections], lambda size: b"a" * size)
+    for kind, (make, given, templates) in EDIT_KINDS.items():
+        measure(programs, f"edit, {kind}", ["edit", "Main"], SIZES, make, templates, given)
     for kind, make in HTML_KINDS.items():
         measure(programs, f"wikitext, {kind}", ["wikitext"], HTML_SIZES, make)
     for kind, make in INLINE_KINDS.items():

@@ -74,7 +74,7 @@ class Lines(unittest.TestCase):
     def test_each_kind_of_refusal(self) -> None:
         lines = [
             "usage: wtround html TITLE | wikitext | edit TITLE | ranges TITLE | expand TITLE | gen N",
-            "no such page", "page too long", "page not UTF-8 at 7", "not built at 0", "html too long", "input too long",
+            "no such page", "page too long", "page not UTF-8 at 7", "html too long", "input too long",
             "braces too deep at 300", "braces too deep at 3 in Template:A b", "expansion too large", "element 3 has no source",
             "Template:X not UTF-8 at 0", "Template:X too long", "Über not UTF-8 at 1", "read fault", "folder fault",
             "write fault", "no memory",
@@ -91,7 +91,7 @@ class Lines(unittest.TestCase):
                 self.assertTrue(tool.read_refusal(line).advice.endswith("."))
 
     def test_other_lines_are_refused(self) -> None:
-        for line in ["", "bash: wtround: command not found", "wtround: not built", "html refused at 5: Other"]:
+        for line in ["", "bash: wtround: command not found", "wtround: no such", "html refused at 5: Other"]:
             with self.subTest(line=line), self.assertRaises(tool.ExplainError):
                 tool.read_refusal(line)
 
@@ -135,21 +135,16 @@ class Commands(unittest.TestCase):
         return done.stdout.decode(), done.stderr.decode()
 
     def test_a_page(self) -> None:
-        (self.root / "Opava.wiki").write_text("The town\nlies on {{river|the Opava}}.\n")
-        shown, _ = self.run_tool("Opava.wiki", stdin="wtround: proving ..\nwtround: not built at 17\n")
+        (self.root / "Opava.wiki").write_bytes(b"The town\nlies on the \xd6pava.\n")
+        shown, _ = self.run_tool("Opava.wiki", stdin="wtround: proving ..\nwtround: page not UTF-8 at 22\n")
         self.assertEqual(
             shown,
-            "Opava.wiki:2:9: not built at 17\n"
-            "    lies on {{river|the Opava}}.\n"
-            "            ^\n"
-            "Here stands the sign { of template calls, which this version of wtround does not read: "
-            "take it out of the page, or use a later version.\n",
+            "Opava.wiki:2:14: page not UTF-8 at 22\n"
+            "    lies on the \\xd6pava.\n"
+            "                    ^\n"
+            "Here the page stops being UTF-8: convert it (for example with `iconv -f ISO-8859-1 -t UTF-8`), "
+            "or remove these bytes.\n",
         )
-
-    def test_a_style_with_nothing_in_it(self) -> None:
-        (self.root / "Main.wiki").write_text("''a'''b''")
-        shown, _ = self.run_tool("Main.wiki", stdin="wtround: not built at 9\n")
-        self.assertIn("Here stands a bold or italic text with nothing in it, which this version", shown)
 
     def test_a_template_is_shown_in_its_own_file(self) -> None:
         (self.root / "Main.wiki").write_text("{{a b}}")
@@ -164,8 +159,8 @@ class Commands(unittest.TestCase):
 
     def test_statuses(self) -> None:
         (self.root / "short").write_text("abc")
-        self.assertIn("is not in this file", self.run_tool("short", "wtround: not built at 9", status=1)[1])
-        self.assertIn("No such file", self.run_tool("absent", "wtround: not built at 9", status=1)[1])
+        self.assertIn("is not in this file", self.run_tool("short", "wtround: braces too deep at 9", status=1)[1])
+        self.assertIn("No such file", self.run_tool("absent", "wtround: braces too deep at 9", status=1)[1])
         self.assertIn("no line of wtround", self.run_tool("short", status=1)[1])
         self.run_tool("a", "b", "c", status=2)
 
