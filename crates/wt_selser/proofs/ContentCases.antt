@@ -151,6 +151,45 @@ break_in_heading : bad_content same (heading []) (heading (text (codes "a" ++ 10
 unfolding bad_content shape kept_with
 break_in_heading = refl
 
+-- a changed entity shows a text, and an entity is no paragraph
+abbrev entity : List ℕ → Tree
+entity shown = tree (labelled kind.Entity 2 shown) none
+
+break_in_changed_entity : bad_content changed (para (entity (codes "&") ∷ [])) (para (entity (10 ∷ codes "&") ∷ [])) ≡ Some LineBreak
+unfolding bad_content shape kept_with
+break_in_changed_entity = refl
+
+break_in_kept_entity : bad_content same (para (entity (10 ∷ []) ∷ [])) (para (entity (10 ∷ []) ∷ [])) ≡ None
+unfolding bad_content shape kept_with
+break_in_kept_entity = refl
+
+-- ---- nothing takes the place of what may not change
+
+sub_for_comment : bad_content changed (para (node kind.Comment 2 [] ∷ [])) (para (node (kind.Tag tag.Sub) 2 [] ∷ [])) ≡ Some Element
+unfolding bad_content shape kept_with
+sub_for_comment = refl
+
+bold_for_line_break : bad_content changed (para (node kind.Br 2 [] ∷ [])) (para (node kind.Bold 2 [] ∷ [])) ≡ Some Element
+unfolding bad_content shape kept_with
+bold_for_line_break = refl
+
+bold_for_sub : bad_content changed (para (node (kind.Tag tag.Sub) 2 [] ∷ [])) (para (node kind.Bold 2 [] ∷ [])) ≡ None
+unfolding bad_content shape kept_with
+bold_for_sub = refl
+
+-- ---- a tag as it was, with a link in it
+
+abbrev sub_with_link : Tree
+sub_with_link = node (kind.Tag tag.Sub) 2 (node kind.WikiLink 3 [] ∷ [])
+
+link_in_kept_tag : bad_content same (para (sub_with_link ∷ [])) (para (linked kind.ExtLink (codes "http://a") (sub_with_link ∷ []) ∷ [])) ≡ Some Nested
+unfolding bad_content shape kept_with scheme_len is_url_char
+link_in_kept_tag = refl
+
+kept_tag_outside_links : bad_content same (para (sub_with_link ∷ [])) (para (sub_with_link ∷ [])) ≡ None
+unfolding bad_content shape kept_with
+kept_tag_outside_links = refl
+
 -- ---- of several reasons the first by their order
 
 all_reasons : bad_content same (heading []) (heading (text (10 ∷ [])
@@ -175,7 +214,7 @@ kept_link = tree (record (labelled kind.WikiLink 2 []) { attrs = (attr.Href, cod
 
 typed_before_link : AreTyped (para (kept_link ∷ [])) true (trees (text (codes "a\nb") ∷ node kind.Bold 0 (text (codes "c") ∷ []) ∷ kept_link ∷ []))
 unfolding shape kept_with
-typed_before_link = (tt, ((refl, tt), ((record { kept = _; found = refl; kind = refl; shown = refl }, (refl, ((refl, tt), tt))), tt)))
+typed_before_link = (tt, (((refl, tt), tt), ((record { kept = _; found = refl; kind = refl; shown = refl }, (refl, ((refl, tt), tt))), tt)))
 
 typed_before_link_stands : bad_content same (para (kept_link ∷ []))
     (para (text (codes "a\nb") ∷ node kind.Bold 0 (text (codes "c") ∷ []) ∷ kept_link ∷ [])) ≡ None

@@ -18,7 +18,7 @@ use Rattle.wt_selser.specs.declared.content.Faults.{Faults}
 use Rattle.wt_selser.specs.declared.content.Spot.{Spot}
 use Rattle.wt_selser.specs.declared.content.Standing.{Standing}
 use Rattle.wt_selser.specs.declared.refusal.ContentWhy.{ContentWhy}
-use Rattle.wt_selser.specs.Content.{all_faults, below, faults, faults_by, first_why, held, if_any, is_link, is_open, nested_fault, outermost, own_faults, standing}
+use Rattle.wt_selser.specs.Content.{all_faults, below, brings_link, faults, faults_by, first_why, held, holds_link, if_any, is_link, is_open, nested_fault, outermost, own_faults, standing}
 use Rattle.wt_selser.specs.Standings.{CountsAs}
 use Rattle.wt_selser.specs.Views.{HasFaults}
 
@@ -27,26 +27,28 @@ use Rattle.wt_selser.specs.Views.{HasFaults}
 -- what is wrong from a node on, by the way it is written, how it counts as standing, and what is wrong with it by itself
 pub visited : (n : Node) (w : Way) (p : Page) (x : Spot) (s : Standing) (why : Option ContentWhy) → (shape (out-Node n).kind).way ≡ w
     → CountsAs w s (standing p (view n)) → if_any why ≡ own_faults w x s (label_of (out-Node n))
-    → faults p x (view n) ≡ nested_fault (x.in_link && is_link w)
+    → faults p x (view n) ≡ nested_fault (x.in_link && brings_link w s (holds_link (view n)))
     ++ (if_any why ++ (if is_open w s then all_faults p (below x w) (views (out-Node n).children) else []))
 visited n w p x s why e a own =
     let l = label_of (out-Node n) in
     let ts = views (out-Node n).children in
     let r = standing p (view n) in
     let inside = all_faults p (below x w) ts in
-    let nested = nested_fault (x.in_link && is_link w) in
+    let holds = holds_link (view n) in
+    let fault : Bool → List ContentWhy = λ b. nested_fault (x.in_link && (if b then is_link w else holds)) ++ (if_any why ++ (if b then inside else [])) in
     ap (faults p x) (view_out n)
-    ∙ ap (λ (t : Tree). faults_by (shape l.kind).way x (standing p t) l (all_faults p (below x (shape l.kind).way) ts)) (sym (view_out n))
-    ∙ ap (λ (v : Way). faults_by v x r l (all_faults p (below x v) ts)) e
-    ∙ ap (λ (ws : List ContentWhy). nested ++ (ws ++ (if is_open w r then inside else []))) (sym (own ∙ a.faults x l))
-    ∙ ap (λ (b : Bool). nested ++ (if_any why ++ (if b then inside else []))) (sym a.opens)
+    ∙ ap (λ (t : Tree). faults_by (shape l.kind).way x (standing p t) l (holds_link t) (all_faults p (below x (shape l.kind).way) ts)) (sym (view_out n))
+    ∙ ap (λ (v : Way). faults_by v x r l holds (all_faults p (below x v) ts)) e
+    ∙ ap (λ (ws : List ContentWhy). nested_fault (x.in_link && brings_link w r holds) ++ (ws ++ (if is_open w r then inside else [])))
+    (sym (own ∙ a.faults x l))
+    ∙ ap fault (sym a.opens)
 
 pub closed_visit : (n : Node) (w : Way) (p : Page) (x : Spot) (s : Standing) (why : Option ContentWhy) (f : Faults) (ws : List ContentWhy)
     → (shape (out-Node n).kind).way ≡ w → CountsAs w s (standing p (view n)) → if_any why ≡ own_faults w x s (label_of (out-Node n))
-    → is_open w s ≡ false → HasFaults f ((ws ++ nested_fault (x.in_link && is_link w)) ++ if_any why) → HasFaults f (ws ++ faults p x (view n))
+    → is_open w s ≡ false → HasFaults f ((ws ++ nested_fault (x.in_link && brings_link w s (holds_link (view n)))) ++ if_any why) → HasFaults f (ws ++ faults p x (view n))
 closed_visit n w p x s why f ws e a own closed h =
     let inside = all_faults p (below x w) (views (out-Node n).children) in
-    let nested = nested_fault (x.in_link && is_link w) in
+    let nested = nested_fault (x.in_link && brings_link w s (holds_link (view n))) in
     let seen : faults p x (view n) ≡ nested ++ (if_any why ++ []) =
     visited n w p x s why e a own ∙ ap (λ (b : Bool). nested ++ (if_any why ++ (if b then inside else []))) closed in
     let joined : (ws ++ nested) ++ if_any why ≡ ws ++ (nested ++ (if_any why ++ [])) = simp (append_assoc, append-nil) in
@@ -55,11 +57,11 @@ closed_visit n w p x s why f ws e a own closed h =
 pub open_visit : (n : Node) (w : Way) (p : Page) (x y : Spot) (s : Standing) (why : Option ContentWhy) (f : Faults) (ws : List ContentWhy) (ns : List Node)
     → y ≡ below x w → ns ≡ (out-Node n).children → (shape (out-Node n).kind).way ≡ w → CountsAs w s (standing p (view n))
     → if_any why ≡ own_faults w x s (label_of (out-Node n)) → is_open w s ≡ true
-    → HasFaults f (((ws ++ nested_fault (x.in_link && is_link w)) ++ if_any why) ++ all_faults p y (views ns))
+    → HasFaults f (((ws ++ nested_fault (x.in_link && brings_link w s (holds_link (view n)))) ++ if_any why) ++ all_faults p y (views ns))
     → HasFaults f (ws ++ faults p x (view n))
 open_visit n w p x y s why f ws ns under are e a own opened h =
     let inside = all_faults p (below x w) (views (out-Node n).children) in
-    let nested = nested_fault (x.in_link && is_link w) in
+    let nested = nested_fault (x.in_link && brings_link w s (holds_link (view n))) in
     let seen : faults p x (view n) ≡ nested ++ (if_any why ++ inside) =
     visited n w p x s why e a own ∙ ap (λ (b : Bool). nested ++ (if_any why ++ (if b then inside else []))) opened in
     let held_so : all_faults p y (views ns) ≡ inside =

@@ -2,6 +2,7 @@ mod Cases
 mod ContentCases
 pub mod Faulting
 pub mod FirstReason
+pub mod LinksApart
 pub mod TypedStands
 pub mod Untouched
 pub mod Urls

@@ -4,10 +4,11 @@ use Rattle.std.specs.Prelude.{◌||◌, if◌then◌else◌, List}
 use Rattle.wt_tree.specs.Plain.{plain}
 use Rattle.wt_tree.specs.Tiling.{is_group, HasNoGroup, NoneIsGroup}
 use Rattle.wt_tree.specs.Tree.{Tree, tree, Trees, none, more, label}
+use Rattle.wt_kept.specs.Kinds.{shape}
 use Rattle.wt_kept.specs.Kept.{Kept, kept_with}
 use Rattle.wt_kept.specs.Page.{TellsSame, node_or, page_of, restored, restored_all}
 use Rattle.wt_selser.specs.declared.content.Standing.TheVariants as stands
-use Rattle.wt_selser.specs.Content.{standing, standing_of}
+use Rattle.wt_selser.specs.Content.{changed_from, standing, standing_of}
 use Rattle.wt_selser.specs.Typed.{IsUntouched}
 
 -- without groups nothing is restored
@@ -35,4 +36,4 @@ untouched_is_same same old t tells h u =
     let told : same (restored p.kept t) node ≡ true =
     (tells (restored p.kept t) node).1 (ap (λ (v : Tree). (label v).kind) back ∙ u.kind, ap plain back ∙ u.shown) in
     ap (λ (o : Option Kept). standing_of p o t) u.found
-    ∙ ap (λ (b : Bool). if b then stands.Same else stands.Changed) (or_true (is_group (label node).kind) (same (restored p.kept t) node) told)
+    ∙ ap (λ (b : Bool). if b then stands.Same else changed_from (shape (label node).kind).way) (or_true (is_group (label node).kind) (same (restored p.kept t) node) told)

@@ -2,6 +2,7 @@
 use Rattle.std.specs.Prelude.{ℕ, ◌+◌, ◌==◌, ◌&&◌, ◌||◌, Bool, true, false, not, is_some, Option, Some, None, List, [], ◌∷◌, ◌++◌, length, nat_lt, if◌then◌else◌}
 use Rattle.std.specs.List.{list_any}
 use Rattle.wt_names.specs.Written.{read_link}
+use Rattle.wt_tree.specs.Tiling.{is_group}
 use Rattle.wt_tree.specs.Tree.{Label, Tree, tree, Trees, none, more, label}
 use Rattle.wt_tiles.specs.Glyphs.{byte_glyphs}
 use Rattle.wt_tiles.specs.Urls.{scheme_len, url_items}
@@ -42,30 +43,55 @@ is_link way.AsItStood = false
 
 -- ---- how a node stands to the page
 
--- it is new, it was changed, or it is as it was in the page
+-- What a changed node comes to, by the way in which the page's node is written: one that stands as it stood, and a line break, may
+-- only be replaced.
+abbrev pub changed_from : Way → Standing
+changed_from way.Nothing = stands.Changed
+changed_from way.Characters = stands.Changed
+changed_from way.Bold = stands.Changed
+changed_from way.Italic = stands.Changed
+changed_from way.Shown = stands.Changed
+changed_from way.PageLink = stands.Changed
+changed_from way.ExternalLink = stands.Changed
+changed_from way.Tag = stands.Changed
+changed_from way.Break = stands.Replaced
+changed_from way.AsItStood = stands.Replaced
+
+-- it is new; or with its number the page has a node, as which it still is, or which was changed or replaced by it
 abbrev pub standing_of : Page → Option Kept → Tree → Standing
 standing_of p None t = stands.New
-standing_of p (Some k) t = if is_unchanged p k t then stands.Same else stands.Changed
+standing_of p (Some k) t = if is_unchanged p k t then stands.Same else changed_from (shape (label k.node).kind).way
 
 abbrev pub standing : Page → Tree → Standing
 standing p t = standing_of p (kept_with (label t).id p.kept) t
 
 -- ---- what is wrong with a node by itself
 
+-- it may be new and changed, but nothing may be replaced by it
+abbrev pub if_replaced : Standing → List ContentWhy
+if_replaced stands.New = []
+if_replaced stands.Changed = []
+if_replaced stands.Replaced = why.Element ∷ []
+if_replaced stands.Same = []
+
 -- only the page may bring it
 abbrev pub if_new : Standing → List ContentWhy
 if_new stands.New = why.Element ∷ []
 if_new stands.Changed = []
+if_new stands.Replaced = why.Element ∷ []
 if_new stands.Same = []
 
+-- it may be new, but not changed
 abbrev pub if_changed : Standing → List ContentWhy
 if_changed stands.New = []
 if_changed stands.Changed = why.Element ∷ []
+if_changed stands.Replaced = why.Element ∷ []
 if_changed stands.Same = []
 
 abbrev pub unless_same : Standing → List ContentWhy → List ContentWhy
 unless_same stands.New ws = ws
 unless_same stands.Changed ws = ws
+unless_same stands.Replaced ws = why.Element ∷ []
 unless_same stands.Same ws = []
 
 -- a link that leads nowhere
@@ -78,17 +104,24 @@ has_break text = list_any (λ b. b == 10) text
 abbrev pub break_fault : Bool → List ℕ → List ContentWhy
 break_fault in_paragraph text = if not in_paragraph && has_break text then why.LineBreak ∷ [] else []
 
+-- An entity may not be new, and what a changed one shows is a text that stands elsewhere than directly in a paragraph.
+abbrev pub shown_faults : Standing → List ℕ → List ContentWhy
+shown_faults stands.New text = why.Element ∷ []
+shown_faults stands.Changed text = break_fault false text
+shown_faults stands.Replaced text = why.Element ∷ []
+shown_faults stands.Same text = []
+
 abbrev pub nested_fault : Bool → List ContentWhy
 nested_fault nested = if nested then why.Nested ∷ [] else []
 
 -- By the way in which its kind is written. Bold, italic, links and line breaks may be new; a tag, an entity and a nowiki may be
--- changed, as links may; everything else is as it stands in the page.
+-- changed, as links may; everything else is as it stands in the page, and nothing takes its place with its number.
 abbrev pub own_faults : Way → Spot → Standing → Label → List ContentWhy
 own_faults way.Nothing x s l = []
 own_faults way.Characters x s l = break_fault x.in_paragraph l.shown
-own_faults way.Bold x s l = []
-own_faults way.Italic x s l = []
-own_faults way.Shown x s l = if_new s
+own_faults way.Bold x s l = if_replaced s
+own_faults way.Italic x s l = if_replaced s
+own_faults way.Shown x s l = shown_faults s l.shown
 own_faults way.PageLink x s l = unless_same s (link_fault (is_some (read_link (href_of l))))
 own_faults way.ExternalLink x s l = unless_same s (link_fault (is_url (href_of l)))
 own_faults way.Tag x s l = if_new s
@@ -98,6 +131,7 @@ own_faults way.AsItStood x s l = unless_same s (why.Element ∷ [])
 abbrev pub is_same : Standing → Bool
 is_same stands.New = false
 is_same stands.Changed = false
+is_same stands.Replaced = false
 is_same stands.Same = true
 
 -- Whether what it holds is looked into: always of bold and italic, and of other nodes where they aren't as they were. Texts and
@@ -121,18 +155,33 @@ if_any (Some w) = w ∷ []
 
 -- ---- of all nodes
 
+-- a link stands in it, itself or within, outside groups
+abbrev mutual
+  pub holds_link : Tree → Bool
+  holds_link (tree l ts) = is_link (shape l.kind).way || (not (is_group l.kind) && any_holds_link ts)
+
+  pub any_holds_link : Trees → Bool
+  any_holds_link none = false
+  any_holds_link (more t ts) = holds_link t || any_holds_link ts
+
+-- it brings a link where it stands: it is one, or it isn't looked into and holds one
+abbrev pub brings_link : Way → Standing → Bool → Bool
+brings_link w s holds = if is_open w s then is_link w else holds
+
 -- where the children of a node stand
 abbrev pub below : Spot → Way → Spot
 below x w = record { in_paragraph = false; in_link = x.in_link || is_link w }
 
--- what is wrong from a node on: that it is a link in a link, what is wrong with it by itself, and what is wrong inside it
-abbrev pub faults_by : Way → Spot → Standing → Label → List ContentWhy → List ContentWhy
-faults_by w x s l inside = nested_fault (x.in_link && is_link w) ++ (own_faults w x s l ++ (if is_open w s then inside else []))
+-- What is wrong from a node on: that it brings a link into a link, what is wrong with it by itself, and what is wrong inside it.
+-- `holds` tells whether a link stands in it.
+abbrev pub faults_by : Way → Spot → Standing → Label → Bool → List ContentWhy → List ContentWhy
+faults_by w x s l holds inside =
+    nested_fault (x.in_link && brings_link w s holds) ++ (own_faults w x s l ++ (if is_open w s then inside else []))
 
 abbrev mutual
   pub faults : Page → Spot → Tree → List ContentWhy
   faults p x (tree l ts) =
-      faults_by (shape l.kind).way x (standing p (tree l ts)) l (all_faults p (below x (shape l.kind).way) ts)
+      faults_by (shape l.kind).way x (standing p (tree l ts)) l (holds_link (tree l ts)) (all_faults p (below x (shape l.kind).way) ts)
 
   pub all_faults : Page → Spot → Trees → List ContentWhy
   all_faults p x none = []

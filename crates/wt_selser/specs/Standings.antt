@@ -7,12 +7,12 @@ use Rattle.wt_selser.specs.declared.content.Spot.{Spot}
 use Rattle.wt_selser.specs.declared.content.Standing.{Standing}
 use Rattle.wt_selser.specs.Content.{is_open, own_faults}
 
--- for all but texts, bold and italic
+-- for all but texts
 abbrev pub asks_page : Way → Bool
 asks_page way.Nothing = false
 asks_page way.Characters = false
-asks_page way.Bold = false
-asks_page way.Italic = false
+asks_page way.Bold = true
+asks_page way.Italic = true
 asks_page way.Shown = true
 asks_page way.PageLink = true
 asks_page way.ExternalLink = true

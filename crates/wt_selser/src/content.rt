@@ -10,10 +10,11 @@ ghost use Rattle.wt_kept.specs.Page.{TellsSame};
 ghost use Rattle.wt_kept.specs.Gathered.{kept_view};
 ghost use Rattle.wt_kept.specs.PageViews.{page_view};
 ghost use Rattle.wt_escape.specs.Spelling.{href_of};
-ghost use Rattle.wt_selser.specs.Content.{all_faults, bad_content, below, faults, first_why, has_break, if_any, is_link, is_open, is_paragraph, is_same, link_fault, nested_fault, outermost, own_faults, standing, standing_of, unless_same};
-ghost use Rattle.wt_selser.specs.Standings.{CountsAs, asks_page};
+ghost use Rattle.wt_selser.specs.Content.{all_faults, any_holds_link, bad_content, below, brings_link, changed_from, faults, first_why, has_break, holds_link, if_any, if_changed, if_new, if_replaced, is_link, is_open, is_paragraph, is_same, link_fault, nested_fault, outermost, own_faults, shown_faults, standing, standing_of, unless_same};
+ghost use Rattle.wt_selser.specs.Standings.{CountsAs};
 ghost use Rattle.wt_selser.specs.Views.{HasFaults};
 
+use crate::group_fault::is_group;
 use crate::refusal::ContentWhy;
 use crate::url::is_url;
 use std::alloc::Global;
@@ -23,11 +24,13 @@ use wt_names::title_of_href;
 use wt_span::NoMemory;
 use wt_tree::Node;
 
-/// How a node of the edited tree stands to the page: it is new, it was changed, or it is as it was.
+/// How a node of the edited tree stands to the page: it is new; or the page has a node with its number,
+/// which it changed, which it took the place of although that may not change, or which it still is.
 #[derive(Clone, Copy, Debug)]
 pub enum Standing {
     New,
     Changed,
+    Replaced,
     Same,
 }
 
@@ -118,6 +121,27 @@ fn is_link(way: Way) -> bool
     }
 }
 
+/// Whether a link stands in a node, itself or within, outside groups.
+#[cycle(linking)]
+fn holds_link(node: &Node<'_>) -> bool
+    ensures { result ≡ holds_link (view node.now) }
+{
+    is_link(shape(node.kind).way)
+        || !is_group(node.kind) && any_holds_link(node.children.as_slice())
+}
+
+#[cycle(linking)]
+fn any_holds_link(nodes: &[Node<'_>]) -> bool
+    ensures { result ≡ any_holds_link (views nodes.now) }
+{
+    for node in nodes {
+        if holds_link(node) {
+            return true;
+        }
+    }
+    false
+}
+
 // ---- one node
 
 fn has_break(text: &[u8]) -> bool
@@ -129,6 +153,17 @@ fn has_break(text: &[u8]) -> bool
         }
     }
     false
+}
+
+/// What a changed node comes to, by the way in which the page's node is written.
+fn changed_from(way: Way) -> Standing
+    ensures { result ≡ changed_from way }
+{
+    match way {
+        Way::Nothing | Way::Characters | Way::Bold | Way::Italic | Way::Shown => Standing::Changed,
+        Way::PageLink | Way::ExternalLink | Way::Tag => Standing::Changed,
+        Way::Break | Way::AsItStood => Standing::Replaced,
+    }
 }
 
 /// How a kept node stands to the page's.
@@ -145,7 +180,7 @@ fn standing_of(
     if unchanged {
         Ok(Standing::Same)
     } else {
-        Ok(Standing::Changed)
+        Ok(changed_from(shape(kept.node.kind).way))
     }
 }
 
@@ -164,6 +199,63 @@ fn standing_in(alloc: Global, page: &Page<'_, '_>, node: &Node<'_>) -> Result<St
     }
 }
 
+/// What is wrong with an entity or a `nowiki` that shows this text.
+fn shown_fault(standing: Standing, text: &[u8]) -> Option<ContentWhy>
+    ensures { if_any result ≡ shown_faults standing text.now }
+{
+    match standing {
+        Standing::New | Standing::Replaced => Some(ContentWhy::Element),
+        Standing::Changed => {
+            if has_break(text) {
+                Some(ContentWhy::LineBreak)
+            } else {
+                None
+            }
+        }
+        Standing::Same => None,
+    }
+}
+
+/// What is wrong with a node that only the page may bring.
+fn new_fault(standing: Standing) -> Option<ContentWhy>
+    ensures { if_any result ≡ if_new standing }
+{
+    match standing {
+        Standing::New | Standing::Replaced => Some(ContentWhy::Element),
+        Standing::Changed | Standing::Same => None,
+    }
+}
+
+/// What is wrong with a node that may be new, but not changed.
+fn changed_fault(standing: Standing) -> Option<ContentWhy>
+    ensures { if_any result ≡ if_changed standing }
+{
+    match standing {
+        Standing::Changed | Standing::Replaced => Some(ContentWhy::Element),
+        Standing::New | Standing::Same => None,
+    }
+}
+
+/// What is wrong with a node that may be new and changed.
+fn replaced_fault(standing: Standing) -> Option<ContentWhy>
+    ensures { if_any result ≡ if_replaced standing }
+{
+    match standing {
+        Standing::Replaced => Some(ContentWhy::Element),
+        Standing::New | Standing::Changed | Standing::Same => None,
+    }
+}
+
+/// What is wrong with a node that stands as it stood.
+fn unless_same(standing: Standing) -> Option<ContentWhy>
+    ensures { if_any result ≡ unless_same standing (ContentWhy.Element ∷ []) }
+{
+    match standing {
+        Standing::New | Standing::Changed | Standing::Replaced => Some(ContentWhy::Element),
+        Standing::Same => None,
+    }
+}
+
 /// What is wrong with a node by itself, if something is.
 fn own_fault(
     alloc: Global,
@@ -175,7 +267,7 @@ fn own_fault(
     ensures { IfOk result (λ found. if_any found ≡ own_faults way spot standing (label_of (out-Node node.now))) }
 {
     match way {
-        Way::Nothing | Way::Bold | Way::Italic => Ok(None),
+        Way::Nothing => Ok(None),
         Way::Characters => {
             if !spot.in_paragraph && has_break(node.shown.as_str().as_bytes()) {
                 Ok(Some(ContentWhy::LineBreak))
@@ -183,18 +275,11 @@ fn own_fault(
                 Ok(None)
             }
         }
-        Way::Shown | Way::Tag => match standing {
-            Standing::New => Ok(Some(ContentWhy::Element)),
-            Standing::Changed | Standing::Same => Ok(None),
-        },
-        Way::Break => match standing {
-            Standing::Changed => Ok(Some(ContentWhy::Element)),
-            Standing::New | Standing::Same => Ok(None),
-        },
-        Way::AsItStood => match standing {
-            Standing::New | Standing::Changed => Ok(Some(ContentWhy::Element)),
-            Standing::Same => Ok(None),
-        },
+        Way::Bold | Way::Italic => Ok(replaced_fault(standing)),
+        Way::Shown => Ok(shown_fault(standing, node.shown.as_str().as_bytes())),
+        Way::Tag => Ok(new_fault(standing)),
+        Way::Break => Ok(changed_fault(standing)),
+        Way::AsItStood => Ok(unless_same(standing)),
         Way::PageLink => {
             let good = leads_to_title(alloc, node)?;
             Ok(link_fault(standing, good))
@@ -209,6 +294,7 @@ fn link_fault(standing: Standing, good: bool) -> Option<ContentWhy>
 {
     match standing {
         Standing::Same => None,
+        Standing::Replaced => Some(ContentWhy::Element),
         Standing::New | Standing::Changed => { if good { None } else { Some(ContentWhy::Href) } }
     }
 }
@@ -217,7 +303,7 @@ fn is_same(standing: Standing) -> bool
     ensures { result ≡ is_same standing }
 {
     match standing {
-        Standing::New | Standing::Changed => false,
+        Standing::New | Standing::Changed | Standing::Replaced => false,
         Standing::Same => true,
     }
 }
@@ -234,14 +320,29 @@ fn is_open(way: Way, standing: Standing) -> bool
     }
 }
 
-/// Whether it counts how a node that is written so stands to the page.
-fn asks_page(way: Way) -> bool
-    ensures { result ≡ asks_page way }
+/// How bold or italic stands to the page. It may hold whatever it does, so it isn't compared with a node of
+/// the page that may change.
+fn style_standing(
+    alloc: Global,
+    page: &Page<'_, '_>,
+    node: &Node<'_>,
+) -> Result<Standing, NoMemory>
+    ensures { (same : Tree → Tree → Bool) → TellsSame same
+        → IfOk result (λ s. if_replaced s ≡ if_replaced (standing (page_view same page.now) (view node.now))) }
 {
-    match way {
-        Way::Nothing | Way::Characters | Way::Bold | Way::Italic => false,
-        Way::Shown | Way::PageLink | Way::ExternalLink => true,
-        Way::Tag | Way::Break | Way::AsItStood => true,
+    let kept = page.find(node.id);
+    match kept {
+        None => Ok(Standing::New),
+        Some(kept) => {
+            let changed = changed_from(shape(kept.node.kind).way);
+            match changed {
+                Standing::Replaced => {
+                    let standing = standing_of(alloc, page, kept, node)?;
+                    Ok(standing)
+                }
+                Standing::New | Standing::Changed | Standing::Same => Ok(changed),
+            }
+        }
     }
 }
 
@@ -255,19 +356,41 @@ fn standing_by(
     ensures { (same : Tree → Tree → Bool) → TellsSame same
         → IfOk result (λ s. CountsAs way s (standing (page_view same page.now) (view node.now))) }
 {
-    if !asks_page(way) {
-        return Ok(Standing::New);
+    match way {
+        Way::Nothing | Way::Characters => Ok(Standing::New),
+        Way::Bold | Way::Italic => {
+            let standing = style_standing(alloc, page, node)?;
+            Ok(standing)
+        }
+        Way::Shown | Way::PageLink | Way::ExternalLink | Way::Tag | Way::Break | Way::AsItStood => {
+            let standing = standing_in(alloc, page, node)?;
+            Ok(standing)
+        }
     }
-    let standing = standing_in(alloc, page, node)?;
-    Ok(standing)
 }
 
 // ---- all nodes
 
-fn nested_fault(spot: Spot, way: Way) -> Option<ContentWhy>
-    ensures { if_any result ≡ nested_fault (spot.in_link && is_link way) }
+/// Whether a node brings a link where it stands: it is one, or it isn't looked into and holds one.
+fn brings_link(way: Way, standing: Standing, node: &Node<'_>) -> bool
+    ensures { result ≡ brings_link way standing (holds_link (view node.now)) }
 {
-    if spot.in_link && is_link(way) {
+    if is_open(way, standing) {
+        is_link(way)
+    } else {
+        holds_link(node)
+    }
+}
+
+fn nested_fault(
+    spot: Spot,
+    way: Way,
+    standing: Standing,
+    node: &Node<'_>,
+) -> Option<ContentWhy>
+    ensures { if_any result ≡ nested_fault (spot.in_link && brings_link way standing (holds_link (view node.now))) }
+{
+    if spot.in_link && brings_link(way, standing, node) {
         Some(ContentWhy::Nested)
     } else {
         None
@@ -313,8 +436,8 @@ fn visit(
         → HasFaults found.new (ws ++ faults (page_view same page.now) spot (view node.now))) }
 {
     let way = shape(node.kind).way;
-    found.add_any(nested_fault(spot, way));
     let standing = standing_by(alloc, way, page, node)?;
+    found.add_any(nested_fault(spot, way, standing, node));
     let why = own_fault(alloc, way, spot, standing, node)?;
     found.add_any(why);
     if is_open(way, standing) {

@@ -1,11 +1,12 @@
 //! Laws of what may stand in a content, which do nothing when they are called.
 
-ghost use Rattle.std.specs.Prelude.{◌≡◌, ℕ, Bool, true, List, None};
-ghost use Rattle.wt_tree.specs.Tree.{Tree};
+ghost use Rattle.std.specs.Prelude.{◌≡◌, ℕ, Bool, true, false, List, [], None};
+ghost use Rattle.wt_tree.specs.Tree.{Tree, Trees};
 ghost use Rattle.wt_tree.specs.Tiling.{HasNoGroup};
-ghost use Rattle.wt_kept.specs.Page.{TellsSame, page_of};
+ghost use Rattle.wt_kept.specs.Page.{Page, TellsSame, page_of};
+ghost use Rattle.wt_selser.specs.declared.content.Spot.{Spot};
 ghost use Rattle.wt_selser.specs.declared.content.Standing.TheVariants as stands;
-ghost use Rattle.wt_selser.specs.Content.{bad_content, content_faults, held, is_url, outermost, standing};
+ghost use Rattle.wt_selser.specs.Content.{all_faults, any_holds_link, bad_content, content_faults, held, is_url, outermost, standing};
 ghost use Rattle.wt_selser.specs.ContentLaws.{IsFirstReason, IsReadWhole};
 ghost use Rattle.wt_selser.specs.Typed.{AreTyped, IsUntouched};
 
@@ -34,4 +35,10 @@ pub fn first_reason()
 #[tactic(auto, using(crate::proofs::UrlsRead::read_whole))]
 pub fn urls_are_read()
     ensures { (bs : List ℕ) → is_url bs ≡ true → IsReadWhole bs }
+{}
+
+/// What is taken in a link holds no link, outside groups.
+#[tactic(auto, using(crate::proofs::LinksApart::all_are_free))]
+pub fn links_hold_no_links()
+    ensures { (page : Page) (spot : Spot) (ts : Trees) → spot.in_link ≡ true → all_faults page spot ts ≡ [] → any_holds_link ts ≡ false }
 {}

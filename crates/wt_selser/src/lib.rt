@@ -20,7 +20,9 @@ mod text_call;
 mod toggles;
 mod url;
 
-pub use content_laws::{first_reason, typed_text_stands, untouched_nodes_stand, urls_are_read};
+pub use content_laws::{
+    first_reason, links_hold_no_links, typed_text_stands, untouched_nodes_stand, urls_are_read,
+};
 pub use differing::first_differing;
 pub use editing::edit;
 pub use laws::{
