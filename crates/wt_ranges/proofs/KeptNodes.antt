@@ -1,5 +1,5 @@
 -- Nodes that are kept.
-use Rattle.std.proofs.Common.{◌≡◌, ℕ, ◌+◌, Bool, true, false, Option, Some, List, [], ◌++◌, length, refl, sym, ap, ◌∙◌, arith, length-append}
+use Rattle.std.proofs.Common.{◌≡◌, ℕ, ◌+◌, ◌-◌, Bool, true, false, Option, Some, List, [], ◌++◌, length, refl, sym, ap, ◌∙◌, arith, length-append}
 use Rattle.wt_tree.specs.declared.kind.Ranges.{Ranges}
 use Rattle.wt_tree.specs.declared.node.Node.{Node}
 use Rattle.wt_tree.specs.Kinds.{is_leaf}
@@ -17,12 +17,14 @@ use Rattle.wt_ranges.specs.WithoutCalls.{inside_by}
 use Rattle.wt_ranges.specs.declared.child.Child.{Child}
 use Rattle.wt_ranges.specs.declared.kept.Frame.{Frame}
 use Rattle.wt_ranges.specs.declared.node.Sources.{Sources}
+use Rattle.wt_ranges.specs.declared.tree_walk.Walk.{Walk}
 use Rattle.wt_ranges.specs.Annotated.{kept_label}
 use Rattle.wt_ranges.specs.Children.{near_of, children_at}
 use Rattle.wt_ranges.specs.GroupData.{group_data}
 use Rattle.wt_ranges.specs.Kept.{opened, filled, frame_ranges, IsFrame}
 use Rattle.wt_ranges.specs.Nodes.{node_label}
 use Rattle.wt_ranges.specs.Seams.{first_of, last_of, text_from}
+use Rattle.wt_ranges.specs.TreeWalk.{HasLasts, HasWidths}
 use Rattle.wt_ranges.specs.Walked.{near_runs, walked}
 use Rattle.wt_ranges.proofs.HeldPieces.{item_tree_out}
 use Rattle.wt_ranges.proofs.Seams.{text_append_from}
@@ -69,6 +71,34 @@ leaf_kept calls c u s own ps qs ns r w e f g m t i h x y =
     ∙ sym (ap (walked calls (group_data calls) c.before c.byte c.after) (item_tree_out n))
 
 -- ---- other nodes
+
+-- a frame by a walk through the node
+pub frame_is : (calls : List OuterCall) (c : Child) (w : Walk) (r : Ranges) (s : Sources) (a : Option ℕ) → HasLasts c.before c.tree w
+    → HasWidths calls c.before c.tree w
+    → r ≡ record { start = c.byte; end = c.byte + w.closed.width; open_w = w.opened.width; close_w = w.closed.width - w.filled.width }
+    → texts_of s.opening ≡ text_from calls c.before (items (out-PieceTree c.tree).opening)
+    → texts_of s.closing ≡ text_from calls w.filled.last (items (out-PieceTree c.tree).closing) → texts_of s.own ≡ []
+    → a ≡ first_of (items (out-PieceTree c.tree).closing) c.after
+    → IsFrame calls c (record { ranges = r; sources = s; before = w.opened.last; byte = c.byte + w.opened.width; after = a })
+frame_is calls c w r s a h g e opening closing own after =
+    let is : ℕ → ℕ → ℕ → Ranges = λ x y z. record { start = c.byte; end = c.byte + x; open_w = y; close_w = z } in
+    let front : ℕ = length (text_from calls c.before (items (out-PieceTree c.tree).opening)) in
+    let whole : ℕ = length (text_from calls c.before (tree_items (item_tree c.tree))) in
+    let back : w.closed.width - w.filled.width ≡ length (text_from calls (filled c.before c.tree) (items (out-PieceTree c.tree).closing)) =
+    omega (arith, g.closing) in
+    record {
+      ranges =
+          e
+          ∙ ap (λ (n : ℕ). is n w.opened.width (w.closed.width - w.filled.width)) g.whole
+          ∙ ap (λ (n : ℕ). is whole n (w.closed.width - w.filled.width)) g.opening
+          ∙ ap (λ (n : ℕ). is whole front n) back;
+      opening = opening;
+      closing = closing ∙ ap (λ (o : Option ℕ). text_from calls o (items (out-PieceTree c.tree).closing)) h.filled;
+      own = own;
+      before = h.opened;
+      byte = ap (λ (n : ℕ). c.byte + n) g.opening;
+      after = after;
+    }
 
 inner_by : (is : Bool) (h : Head) (at : ℕ) (source opening closing : List ℕ) (us : Trees) → is ≡ false
     → tree (kept_label is h at source opening closing) (inside_by is us)

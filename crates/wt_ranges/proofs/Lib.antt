@@ -29,6 +29,7 @@ pub mod PieceWalks
 pub mod Places
 pub mod PlainTrees
 pub mod PlainView
+pub mod Progresses
 pub mod RunCuts
 pub mod Seams
 pub mod Slices
@@ -36,6 +37,7 @@ pub mod Smallest
 pub mod StandsCut
 pub mod TakenApart
 pub mod Tiles
+pub mod TreeWalks
 pub mod UnplacedNodes
 pub mod Walks
 pub mod Widths

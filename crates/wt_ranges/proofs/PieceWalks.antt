@@ -1,10 +1,10 @@
 -- Items of pieces: those of one piece come from one call.
-use Rattle.std.proofs.Common.{◌≡◌, ℕ, suc, ◌+◌, ◌<◌, Bool, true, false, Option, None, Some, List, [], ◌∷◌, ◌++◌, ◌⊎◌, inl, inr, length, map, take, drop, get_or, refl, sym, ap, ◌∙◌, subst, cond, ◌≤◌, arith, append-nil, length-append}
+use Rattle.std.proofs.Common.{◌≡◌, ℕ, suc, ◌+◌, ◌<◌, Bool, true, false, Option, None, Some, List, [], ◌∷◌, ◌++◌, ◌⊎◌, inl, inr, length, map, take, drop, get_or, refl, sym, ap, ◌∙◌, subst, cond, arith, append-nil}
 use Rattle.std.specs.Prelude.{slice_get, not, ◌&&◌, ◌||◌, ◌==◌}
 use Rattle.std.specs.List.{list_all, list_any}
 use Rattle.std.proofs.lemmas.Grind.{flat_map-append}
 use Rattle.std.proofs.lemmas.Bool.Decides.{nat_tests}
-use Rattle.std.proofs.lemmas.List.{drop_more, take_more, take-append-drop}
+use Rattle.std.proofs.lemmas.List.{drop_more, take_more}
 use Rattle.std.proofs.lemmas.List.Folds.{list_all-append, list_any-append}
 use Rattle.wt_span.specs.declared.form.Form.{Form}
 use Rattle.wt_span.specs.declared.form.Form.TheVariants as form
@@ -15,8 +15,8 @@ use Rattle.wt_span.specs.Origins.{OuterCall}
 use Rattle.wt_span.specs.Cuts.{source_of_call, text_by}
 use Rattle.wt_ranges.specs.Clean.{is_no_call, is_page}
 use Rattle.wt_ranges.specs.Pieces.{is_characters, is_hollow}
-use Rattle.wt_ranges.specs.Seams.{first_of, last_of, parted, text_from}
-use Rattle.wt_ranges.proofs.Seams.{last_append, first_append, text_append_from}
+use Rattle.wt_ranges.specs.Seams.{first_found, last_of, parted, text_from}
+use Rattle.wt_ranges.proofs.Seams.{either, last_append, found_append, text_append_from}
 
 -- ---- one piece
 
@@ -65,10 +65,10 @@ last_piece o p =
     (λ b cs e. last_chars (call_of_origin p.origin) cs) refl
     (one_or_chars p.form (call_of_origin p.origin) (bytes_of p.text))
 
-pub first_piece : (p : Piece) (o : Option ℕ) → first_of (items_of p) o ≡ cond (is_hollow p) o (call_of_origin p.origin)
-first_piece p o =
-    by_hollow (λ xs v. first_of xs o ≡ cond v o (call_of_origin p.origin)) p.form (call_of_origin p.origin) (bytes_of p.text) refl (λ b cs e. refl) refl
-    (one_or_chars p.form (call_of_origin p.origin) (bytes_of p.text))
+pub found_piece : (p : Piece) → first_found (items_of p) ≡ cond (is_hollow p) None (Some (call_of_origin p.origin))
+found_piece p =
+    by_hollow (λ xs v. first_found xs ≡ cond v None (Some (call_of_origin p.origin))) p.form (call_of_origin p.origin) (bytes_of p.text) refl
+    (λ b cs e. refl) refl (one_or_chars p.form (call_of_origin p.origin) (bytes_of p.text))
 
 all_chars : (o : Option ℕ) (b : ℕ) (bs : List ℕ) → list_all is_page (map (char o) (b ∷ bs)) ≡ is_no_call o
 all_chars None b [] = refl
@@ -145,13 +145,21 @@ pub items_more : (ps : List Piece) (p : Piece) → items (ps ++ p ∷ []) ≡ it
 items_more ps p = items_append ps (p ∷ []) ∙ ap (λ xs. items ps ++ xs) (append-nil (items_of p))
 
 -- the pieces from one on, and up to one
-pub first_step : (ps : List Piece) (at : ℕ) (p : Piece) (o : Option ℕ) → at < length ps → p ≡ get_or ps at p
-    → first_of (items (drop at ps)) o ≡ cond (is_hollow p) (first_of (items (drop (at + 1) ps)) o) (call_of_origin p.origin)
-first_step ps at p o l e =
-    ap (λ qs. first_of (items qs) o) (drop_more ps at p l)
-    ∙ ap (λ q. first_of (items_of q ++ items (drop (at + 1) ps)) o) (sym e)
-    ∙ first_append (items_of p) (items (drop (at + 1) ps)) o
-    ∙ first_piece p (first_of (items (drop (at + 1) ps)) o)
+pub items_turn : (ps : List Piece) (at : ℕ) (p : Piece) → at < length ps → p ≡ get_or ps at p
+    → items (drop at ps) ≡ items_of p ++ items (drop (at + 1) ps)
+items_turn ps at p l e = ap items (drop_more ps at p l) ∙ ap (λ q. items_of q ++ items (drop (at + 1) ps)) (sym e)
+
+pub found_step : (ps : List Piece) (at : ℕ) (p : Piece) → at < length ps → p ≡ get_or ps at p
+    → first_found (items (drop at ps)) ≡ cond (is_hollow p) (first_found (items (drop (at + 1) ps))) (Some (call_of_origin p.origin))
+found_step ps at p l e =
+    ap first_found (items_turn ps at p l e)
+    ∙ found_append (items_of p) (items (drop (at + 1) ps))
+    ∙ ap (λ f. either f (first_found (items (drop (at + 1) ps)))) (found_piece p)
+    ∙ either_cond (is_hollow p) (call_of_origin p.origin) (first_found (items (drop (at + 1) ps)))
+  where
+    either_cond : (v : Bool) (o : Option ℕ) (r : Option (Option ℕ)) → either (cond v None (Some o)) r ≡ cond v r (Some o)
+    either_cond true o r = refl
+    either_cond false o r = refl
 
 pub last_step : (ps : List Piece) (at : ℕ) (p : Piece) (o : Option ℕ) → at < length ps → p ≡ get_or ps at p
     → last_of o (items (take (at + 1) ps)) ≡ last_of (last_of o (items (take at ps))) (items_of p)
@@ -183,21 +191,11 @@ text_step_pieces calls ps at p o l e =
     ∙ ap (text_from calls o) (items_more (take at ps) p)
     ∙ text_append_from calls o (items (take at ps)) (items_of p)
 
--- so many pieces take no more bytes than all
-pub text_front : (calls : List OuterCall) (ps : List Piece) (n : ℕ) (o : Option ℕ)
-    → length (text_from calls o (items (take n ps))) ≤ length (text_from calls o (items ps))
-text_front calls ps n o =
-    let e : text_from calls o (items ps) ≡ text_from calls o (items (take n ps)) ++ text_from calls (last_of o (items (take n ps))) (items (drop n ps)) =
-    ap (λ qs. text_from calls o (items qs)) (sym (take-append-drop n ps)) ∙ ap (text_from calls o) (items_append (take n ps) (drop n ps))
-    ∙ text_append_from calls o (items (take n ps)) (items (drop n ps)) in
-    omega (arith, ap length e, length-append (text_from calls o (items (take n ps))) (text_from calls (last_of o (items (take n ps))) (items (drop n ps))))
-
-pub first_found : (ps : List Piece) (at : ℕ) (p : Piece) (o call : Option ℕ) (v : Bool) → at < length ps → p ≡ get_or ps at p → v ≡ is_hollow p → v ≡ false
-    → call ≡ call_of_origin p.origin → first_of (items (drop at ps)) o ≡ first_of (items ps) o
-    → call ≡ first_of (items ps) o
-first_found ps at p o call true l e h n c i = cc
-first_found ps at p o call false l e h n c i =
-    c ∙ ap (λ v. cond v (first_of (items (drop (at + 1) ps)) o) (call_of_origin p.origin)) h ∙ sym (first_step ps at p o l e) ∙ i
+pub found_here : (ps : List Piece) (at : ℕ) (p : Piece) (call : Option ℕ) (v : Bool) → at < length ps → p ≡ get_or ps at p → v ≡ is_hollow p → v ≡ false
+    → call ≡ call_of_origin p.origin → first_found (items (drop at ps)) ≡ first_found (items ps) → Some call ≡ first_found (items ps)
+found_here ps at p call true l e h n c i = cc
+found_here ps at p call false l e h n c i =
+    ap Some c ∙ ap (λ v. cond v (first_found (items (drop (at + 1) ps))) (Some (call_of_origin p.origin))) h ∙ sym (found_step ps at p l e) ∙ i
 
 -- ---- one more piece of a loop
 
@@ -209,13 +207,6 @@ bytes_step calls ps at p o last xs ys bs l e x t b y =
     ∙ ap (λ cs. cs ++ bs) x
     ∙ ap (λ cs. text_from calls o (items (take at ps)) ++ cs) (b ∙ ap (λ q. text_from calls q (items_of p)) t)
     ∙ sym (text_step_pieces calls ps at p o l e)
-
-pub width_step : (calls : List OuterCall) (ps : List Piece) (at : ℕ) (p : Piece) (o last : Option ℕ) (w n : ℕ) (bs : List ℕ) → at < length ps
-    → p ≡ get_or ps at p → w ≡ length (text_from calls o (items (take at ps))) → last ≡ last_of o (items (take at ps))
-    → bs ≡ text_from calls last (items_of p) → n ≡ length bs → w + n ≡ length (text_from calls o (items (take (at + 1) ps)))
-width_step calls ps at p o last w n bs l e x t b y =
-    let more = bytes_step calls ps at p o last (text_from calls o (items (take at ps))) (text_from calls o (items (take at ps)) ++ bs) bs l e refl t b refl in
-    omega (arith, x, y, ap length more, length-append (text_from calls o (items (take at ps))) bs)
 
 pub call_step : (ps : List Piece) (at : ℕ) (p : Piece) (o last next : Option ℕ) → at < length ps → p ≡ get_or ps at p → last ≡ last_of o (items (take at ps))
     → next ≡ last_of last (items_of p) → next ≡ last_of o (items (take (at + 1) ps))

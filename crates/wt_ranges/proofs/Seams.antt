@@ -1,10 +1,10 @@
 -- A cut of the whole page, told by the calls beside it.
-use Rattle.std.proofs.Common.{◌≡◌, ℕ, zero, suc, ◌+◌, Option, None, List, [], ◌∷◌, ◌++◌, length, drop, refl, sym, ap, ◌∙◌, cond, arith, append_assoc}
+use Rattle.std.proofs.Common.{◌≡◌, ℕ, zero, suc, ◌+◌, Option, None, Some, List, [], ◌∷◌, ◌++◌, length, drop, refl, sym, ap, ◌∙◌, cond, arith, append_assoc}
 use Rattle.std.specs.Prelude.{slice_get}
 use Rattle.wt_span.specs.Items.{Item, call_of}
 use Rattle.wt_span.specs.Origins.{OuterCall}
 use Rattle.wt_span.specs.Cuts.{call_of_item, is_free, origin_text, text_at, text_between}
-use Rattle.wt_ranges.specs.Seams.{last_of, first_of, parted, text_step, text_from}
+use Rattle.wt_ranges.specs.Seams.{last_of, first_of, first_found, parted, text_step, text_from}
 use Rattle.wt_ranges.proofs.Calls.{at_get, at_rest}
 
 -- the call of the item before a cut, and of the one after it
@@ -55,6 +55,30 @@ last_append o (x ∷ xs) ys = last_append (call_of x) xs ys
 pub first_append : (xs ys : List Item) (o : Option ℕ) → first_of (xs ++ ys) o ≡ first_of xs (first_of ys o)
 first_append [] ys o = refl
 first_append (x ∷ xs) ys o = refl
+
+-- what is found in the first, or else in the second
+abbrev pub either : Option (Option ℕ) → Option (Option ℕ) → Option (Option ℕ)
+either None other = other
+either (Some call) other = Some call
+
+pub found_append : (xs ys : List Item) → first_found (xs ++ ys) ≡ either (first_found xs) (first_found ys)
+found_append [] ys = refl
+found_append (x ∷ xs) ys = refl
+
+-- the first call is the one that is found, or else the one behind
+abbrev pub or_call : Option (Option ℕ) → Option ℕ → Option ℕ
+or_call None o = o
+or_call (Some call) o = call
+
+pub first_is : (xs : List Item) (o : Option ℕ) → first_of xs o ≡ or_call (first_found xs) o
+first_is [] o = refl
+first_is (x ∷ xs) o = refl
+
+pub first_some : (xs : List Item) (o call : Option ℕ) → first_found xs ≡ Some call → first_of xs o ≡ call
+first_some xs o call e = first_is xs o ∙ ap (λ (f : Option (Option ℕ)). or_call f o) e
+
+pub first_none : (xs : List Item) (o : Option ℕ) → first_found xs ≡ None → first_of xs o ≡ o
+first_none xs o e = first_is xs o ∙ ap (λ (f : Option (Option ℕ)). or_call f o) e
 
 pub text_append_from : (calls : List OuterCall) (o : Option ℕ) (xs ys : List Item)
     → text_from calls o (xs ++ ys) ≡ text_from calls o xs ++ text_from calls (last_of o xs) ys

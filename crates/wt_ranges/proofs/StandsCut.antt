@@ -10,7 +10,7 @@ use Rattle.wt_tree.specs.Recutting.{is_empty}
 use Rattle.wt_tree.specs.Tree.{Tree, Trees, none, more, label}
 use Rattle.wt_tree.specs.View.{texts_of, view, views}
 use Rattle.wt_tree.proofs.CutOnly.{and_none, begun, cut_alone, or_true, text_border}
-use Rattle.wt_ranges.specs.StandsCut.{IsGap, IsWords, Passes, WholeStands, FrontStands, AloneStands, BeforeStands, FirstStands}
+use Rattle.wt_ranges.specs.StandsCut.{IsGap, IsWords, WholeStands, FrontStands, AloneStands, BeforeStands, FirstStands}
 
 -- the only one of these texts
 pub only_text : (own : List Text) (t : Text) → 1 ≤ length own → length own < 2 → t ≡ get_or own 0 t → texts_of own ≡ bytes_of t
@@ -112,9 +112,8 @@ standing P Q true true e h = absurd (cc e)
 standing P Q true false e h = h
 standing P Q false y e h = tt
 
-pub other_alone : (behind : Bool) (t : Tree) (r : Option Bool) → is_text t ≡ false → Passes behind t r → AloneStands behind t r
-other_alone behind t None e h = tt
-other_alone behind t (Some now) e h =
+pub other_alone : (behind : Bool) (t : Tree) (now : Bool) → is_text t ≡ false → now ≡ (behind || is_border t) → AloneStands behind t (Some now)
+other_alone behind t now e h =
     (λ leads. subst (λ x. StandsBy x false (IsWhole behind leads t) (Unit {0})) (sym e) tt, h)
 
 pub whole_alone : (behind : Bool) (t : Tree) (r : Option Bool) → is_text t ≡ true → WholeStands behind t r → AloneStands behind t r

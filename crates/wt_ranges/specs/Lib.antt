@@ -19,11 +19,13 @@ pub mod OpenedChild
 pub mod PassNodes
 pub mod Pieces
 pub mod Preorder
+pub mod Progress
 pub mod Reached
 pub mod RunTrees
 pub mod Seams
 pub mod Slices
 pub mod StandsCut
+pub mod TreeWalk
 pub mod Ungrouped
 pub mod Walked
 pub mod WithoutCalls

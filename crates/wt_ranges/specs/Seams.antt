@@ -1,6 +1,6 @@
 -- Cuts and bytes as a walk over the items finds them: a cut lies between the call of the last item before it and that of the
 -- first item after it, and nothing else of the page is asked for.
-use Rattle.std.specs.Prelude.{ℕ, Bool, not, Option, List, [], ◌∷◌, ◌++◌, if◌then◌else◌}
+use Rattle.std.specs.Prelude.{ℕ, Bool, not, Option, Some, None, List, [], ◌∷◌, ◌++◌, if◌then◌else◌}
 use Rattle.wt_span.specs.Items.{Item, source, call_of}
 use Rattle.wt_span.specs.Origins.{OuterCall, same_call}
 use Rattle.wt_span.specs.Cuts.{text_by}
@@ -14,6 +14,11 @@ last_of o (x ∷ xs) = last_of (call_of x) xs
 abbrev pub first_of : List Item → Option ℕ → Option ℕ
 first_of [] o = o
 first_of (x ∷ xs) o = call_of x
+
+-- the call of the first item, if there is an item
+abbrev pub first_found : List Item → Option (Option ℕ)
+first_found [] = None
+first_found (x ∷ xs) = Some (call_of x)
 
 -- a cut between items of these calls is free
 abbrev pub parted : Option ℕ → Option ℕ → Bool

@@ -13,11 +13,6 @@ IsGap t = (t ≡ sep_leaf (label t).ranges (label t).own) × (is_blank (label t)
 abbrev pub IsWords : Tree → Type 0
 IsWords t = (t ≡ text_leaf (label t).ranges (label t).own) × (has_break (label t).own ≡ false) × (are_spaces (label t).own ≡ false)
 
--- whether the border is passed behind a child
-abbrev pub Passes : Bool → Tree → Option Bool → Type 0
-Passes behind t None = Unit {0}
-Passes behind t (Some now) = now ≡ (behind || is_border t)
-
 -- it stands cut by itself, whatever leads from it to a block
 abbrev pub WholeStands : Bool → Tree → Option Bool → Type 0
 WholeStands behind t None = Unit {0}

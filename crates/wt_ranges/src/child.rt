@@ -14,7 +14,8 @@ ghost use Rattle.std.specs.Prelude.{
   true,
   IfOk,
 };
-ghost use Rattle.std.specs.List.{list_all, list_any};
+ghost use Rattle.std.specs.List.{list_all};
+ghost use Rattle.wt_tree.specs.Kinds.{is_leaf};
 ghost use Rattle.wt_span.specs.Items.{items};
 ghost use Rattle.wt_inline.specs.ItemTree.{forest, tree_items, held_by_all};
 ghost use Rattle.wt_inline.specs.View.{item_tree, item_trees};
@@ -23,14 +24,15 @@ ghost use Rattle.wt_ranges.specs.Children.{children_at, nears_of, tree_after, tr
 ghost use Rattle.wt_ranges.specs.Clean.{is_body, is_page, own_by};
 ghost use Rattle.wt_ranges.specs.Pieces.{outer_calls};
 ghost use Rattle.wt_ranges.specs.Seams.{first_of, last_of, parted, text_from};
+ghost use Rattle.wt_ranges.specs.TreeWalk.{HasLasts};
 ghost use Rattle.wt_ranges.specs.Walked.{clean_at, free_places};
 
-use crate::held::{held_pieces, pieces_of_all};
-use crate::page_text::page_width;
-use crate::seam::{are_of_page, first_call, has_page_item, is_parted, last_call};
+use crate::seam::{are_of_page, first_call, is_parted};
+use crate::tree_seam::{are_trees_of_page, first_call_of, first_call_of_all, holds_page_item};
+use crate::tree_walk::{Walk, walk_through};
 use std::alloc::Global;
-use wt_inline::PieceTree;
-use wt_span::{List, NoMemory, Outer, Piece};
+use wt_inline::{PieceTree, with_room};
+use wt_span::{List, NoMemory, Outer};
 use wt_tree::Kind;
 
 /// A child with what stands round it: the calls of the last item before it and of the first item
@@ -66,39 +68,32 @@ struct Findings {
 /// Whether the four cuts of a node are free, which stands between items of these calls.
 fn has_free_places(
     before: Option<u32>,
-    opening: &[Piece<'_>],
-    inside: &[Piece<'_>],
-    closing: &[Piece<'_>],
     after: Option<u32>,
+    tree: &PieceTree<'_>,
+    walk: Walk,
 ) -> bool
-    ensures { result ≡ free_places before (items opening.now) (items inside.now) (items closing.now) after }
+    requires { HasLasts before tree.now walk }
+    ensures { result ≡ free_places before (items (out-PieceTree tree.now).opening)
+        (held_by_all (forest (item_trees (out-PieceTree tree.now).children))) (items (out-PieceTree tree.now).closing) after }
 {
-    let behind_inside = first_call(closing, after);
-    let behind_opening = first_call(inside, behind_inside);
-    let opened = last_call(before, opening);
-    let filled = last_call(opened, inside);
-    if !is_parted(before, first_call(opening, behind_opening)) {
+    let behind_inside = first_call(tree.closing.as_slice(), after);
+    let behind_opening = first_call_of_all(tree.children.as_slice(), behind_inside);
+    let first = first_call(tree.opening.as_slice(), behind_opening);
+    if !is_parted(before, first) || !is_parted(walk.opened.last, behind_opening) {
         return false;
     }
-    if !is_parted(opened, behind_opening) {
-        return false;
-    }
-    is_parted(filled, behind_inside) && is_parted(last_call(filled, closing), after)
+    is_parted(walk.filled.last, behind_inside) && is_parted(walk.closed.last, after)
 }
 
 /// Whether a node's own items are the page's: its delimiters, or all of a leaf.
-fn has_own_of_page(
-    is_leaf: bool,
-    opening: &[Piece<'_>],
-    inside: &[Piece<'_>],
-    closing: &[Piece<'_>],
-) -> bool
-    ensures { result ≡ list_all is_page (own_by is_leaf (items opening.now) (items inside.now) (items closing.now)) }
+fn has_own_of_page(tree: &PieceTree<'_>) -> bool
+    ensures { result ≡ list_all is_page (own_by (is_leaf (out-PieceTree tree.now).head.kind) (items (out-PieceTree tree.now).opening)
+        (held_by_all (forest (item_trees (out-PieceTree tree.now).children))) (items (out-PieceTree tree.now).closing)) }
 {
-    if is_leaf && !are_of_page(inside) {
+    if tree.head.kind.is_leaf() && !are_trees_of_page(tree.children.as_slice()) {
         return false;
     }
-    are_of_page(opening) && are_of_page(closing)
+    are_of_page(tree.opening.as_slice()) && are_of_page(tree.closing.as_slice())
 }
 
 fn is_body(kind: Kind) -> bool
@@ -110,52 +105,37 @@ fn is_body(kind: Kind) -> bool
     }
 }
 
-/// Whether a node is clean that stands between items of these calls and holds these pieces inside.
-fn is_clean<'a>(
-    before: Option<u32>,
-    after: Option<u32>,
-    tree: &PieceTree<'a>,
-    inside: &[Piece<'a>],
-    whole: &[Piece<'a>],
-) -> bool
-    requires inside { items inside.now ≡ held_by_all (forest (item_trees (out-PieceTree tree.now).children)) }
-    requires whole { items whole.now ≡ tree_items (item_tree tree.now) }
+/// Whether a node is clean that stands between items of these calls.
+fn is_clean(before: Option<u32>, after: Option<u32>, tree: &PieceTree<'_>, walk: Walk) -> bool
+    requires { HasLasts before tree.now walk }
     ensures { result ≡ clean_at before after (item_tree tree.now) }
 {
-    let opening = tree.opening.as_slice();
-    let closing = tree.closing.as_slice();
-    if !has_free_places(before, opening, inside, closing, after) {
+    if !has_free_places(before, after, tree, walk) || !has_own_of_page(tree) {
         return false;
     }
-    if !has_own_of_page(tree.head.kind.is_leaf(), opening, inside, closing) {
-        return false;
-    }
-    is_body(tree.head.kind) || has_page_item(whole)
+    is_body(tree.head.kind) || holds_page_item(tree)
 }
 
 /// Reads what a child holds that stands between items of these calls.
 fn read_child<'a>(
-    alloc: Global,
     calls: &[Outer<'a>],
     tree: &PieceTree<'a>,
     before: Option<u32>,
     after: Option<u32>,
-) -> Result<Findings, NoMemory>
+) -> Findings
     requires { length (text_from (outer_calls calls.now) before (tree_items (item_tree tree.now))) < 2 ^ 32 }
-    ensures last { IfOk result (λ f. f.last ≡ last_of before (tree_items (item_tree tree.now))) }
-    ensures width { IfOk result (λ f. f.width ≡ length (text_from (outer_calls calls.now) before (tree_items (item_tree tree.now)))) }
-    ensures free { IfOk result (λ f. f.free ≡ parted before (first_of (tree_items (item_tree tree.now)) after)) }
-    ensures clean { IfOk result (λ f. f.clean ≡ clean_at before after (item_tree tree.now)) }
+    ensures last { result.last ≡ last_of before (tree_items (item_tree tree.now)) }
+    ensures width { result.width ≡ length (text_from (outer_calls calls.now) before (tree_items (item_tree tree.now))) }
+    ensures free { result.free ≡ parted before (first_of (tree_items (item_tree tree.now)) after) }
+    ensures clean { result.clean ≡ clean_at before after (item_tree tree.now) }
 {
-    let inside = pieces_of_all(alloc, tree.children.as_slice())?;
-    let held = held_pieces(alloc, tree)?;
-    let held = held.as_slice();
-    Ok(Findings {
-        last: last_call(before, held),
-        width: page_width(calls, before, held),
-        free: is_parted(before, first_call(held, after)),
-        clean: is_clean(before, after, tree, inside.as_slice(), held),
-    })
+    let walk = walk_through(calls, before, tree);
+    Findings {
+        last: walk.closed.last,
+        width: walk.closed.width,
+        free: is_parted(before, first_call_of(tree, after)),
+        clean: is_clean(before, after, tree, walk),
+    }
 }
 
 /// Trees with the call of the first item behind each, from the last tree to the first.
@@ -170,8 +150,7 @@ fn with_followers<'a>(
     let mut followed = Vec::new(alloc);
     let mut after = after;
     while let Some(tree) = trees.pop() {
-        let held = held_pieces(alloc, &tree)?;
-        let first = first_call(held.as_slice(), after);
+        let first = first_call_of(&tree, after);
         followed.push(Followed { tree, after })?;
         after = first;
     }
@@ -192,11 +171,11 @@ pub fn children<'a>(
     ensures { IfOk result (λ cs. nears_of (outer_calls calls.now) cs ≡ children_at (outer_calls calls.now) before byte after (item_trees trees.entry)) }
 {
     let mut followed = with_followers(alloc, trees, after)?;
-    let mut children = List::new(alloc);
+    let mut children = with_room(alloc, followed.len())?;
     let mut last = before;
     let mut at = byte;
     while let Some(Followed { tree, after }) = followed.pop() {
-        let found = read_child(alloc, calls, &tree, last, after)?;
+        let found = read_child(calls, &tree, last, after);
         let child = Child {
             tree,
             before: last,

@@ -10,6 +10,7 @@ ghost use Rattle.wt_ranges.specs.CutTexts.{all_cut_texts, cut_as, cut_texts};
 use crate::node::is_group;
 use crate::stands_cut::stand_cut;
 use std::alloc::Global;
+use wt_inline::with_room;
 use wt_span::{List, NoMemory};
 use wt_tree::{Kind, Node, Texts, recut_texts};
 
@@ -44,7 +45,7 @@ pub fn cut_as<'a>(
 fn cut_nodes<'a>(alloc: Global, nodes: List<Node<'a>>) -> Result<List<Node<'a>>, NoMemory>
     ensures { IfOk result (λ ns. views ns ≡ all_cut_texts (views nodes.entry)) }
 {
-    let mut cut = List::new(alloc);
+    let mut cut = with_room(alloc, nodes.len())?;
     for node in nodes.into_vec() {
         let node = cut_node(alloc, node)?;
         cut.push(node)?;

@@ -23,7 +23,7 @@ use crate::node::{leaf_sources, node};
 use crate::page_text::{page_texts, page_width};
 use crate::unplaced::unplaced_nodes;
 use std::alloc::Global;
-use wt_inline::{NodeHead, PieceTree};
+use wt_inline::{NodeHead, PieceTree, with_room};
 use wt_span::{List, NoMemory, Outer, Piece, Str, Text};
 use wt_tree::{DataMw, Kind, Node, Ranges};
 
@@ -54,7 +54,7 @@ fn group_start(children: &[Child<'_>]) -> Start
 fn trees_of<'a>(alloc: Global, children: List<Child<'a>>) -> Result<List<PieceTree<'a>>, NoMemory>
     ensures { IfOk result (λ ts. ts ≡ trees_of children.entry) }
 {
-    let mut trees = List::new(alloc);
+    let mut trees = with_room(alloc, children.len())?;
     for child in children.into_vec() {
         trees.push(child.tree)?;
     }

@@ -30,7 +30,7 @@ use crate::number::number_tree;
 use crate::pass::annotated_node;
 use crate::run::{Run, cut_runs};
 use std::alloc::Global;
-use wt_inline::{NodeHead, PieceTree};
+use wt_inline::{NodeHead, PieceTree, with_room};
 use wt_span::{List, NoMemory, Outer};
 use wt_tree::Node;
 
@@ -93,7 +93,7 @@ fn run_nodes<'a>(
     requires fit { AllByRecursion (RunFits (outer_calls calls.now)) runs }
     ensures { IfOk result (λ ns. map view ns ≡ map (run_tree (outer_calls calls.now)) runs.entry) }
 {
-    let mut nodes = List::new(alloc);
+    let mut nodes = with_room(alloc, runs.len())?;
     for run in runs.into_vec() {
         let node = run_node(alloc, calls, run)?;
         nodes.push(node)?;

@@ -21,15 +21,6 @@ fn push_held<'a>(out: &mut List<Piece<'a>>, tree: &PieceTree<'a>) -> Result<(), 
     Ok(())
 }
 
-/// All pieces that a tree holds, in their order.
-pub fn held_pieces<'a>(alloc: Global, tree: &PieceTree<'a>) -> Result<List<Piece<'a>>, NoMemory>
-    ensures { IfOk result (λ l. items l ≡ tree_items (item_tree tree.now)) }
-{
-    let mut out = List::new(alloc);
-    push_held(&mut out, tree)?;
-    Ok(out)
-}
-
 /// All pieces that trees hold, tree after tree.
 pub fn pieces_of_all<'a>(
     alloc: Global,

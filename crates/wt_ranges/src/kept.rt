@@ -1,28 +1,28 @@
 //! Nodes that are kept, with their places and sources on the page.
 
-ghost use Rattle.std.specs.Prelude.{◌≡◌, ◌+◌, ◌^◌, ◌<◌, [], length, IfOk, Some, true};
+ghost use Rattle.std.specs.Prelude.{◌≡◌, ◌+◌, ◌-◌, ◌^◌, ◌<◌, ◌≤◌, [], IfOk, Some, true};
 ghost use Rattle.wt_span.specs.Items.{items};
 ghost use Rattle.wt_tree.specs.Kinds.{is_leaf};
 ghost use Rattle.wt_tree.specs.Tree.{tree};
 ghost use Rattle.wt_tree.specs.View.{texts_of, view, views};
 ghost use Rattle.wt_ranges.specs.Labels.{leaf_open};
-ghost use Rattle.wt_inline.specs.ItemTree.{tree_items};
-ghost use Rattle.wt_inline.specs.View.{head_of, item_tree};
+ghost use Rattle.wt_inline.specs.View.{head_of};
 ghost use Rattle.wt_inline.specs.declared.tree.PieceTree.{out-PieceTree};
 ghost use Rattle.wt_ranges.specs.Children.{near_of};
-ghost use Rattle.wt_ranges.specs.Kept.{Fits, IsFrame, filled as filled_by, frame_ranges};
+ghost use Rattle.wt_ranges.specs.Kept.{Fits, IsFrame};
 ghost use Rattle.wt_ranges.specs.Nodes.{node_label};
 ghost use Rattle.wt_ranges.specs.Pieces.{outer_calls};
 ghost use Rattle.wt_ranges.specs.Seams.{text_from};
 
 use crate::child::Child;
-use crate::held::{held_pieces, pieces_of_all};
+use crate::held::own_pieces;
 use crate::node::{Sources, leaf_sources, node};
 use crate::page_text::{page_texts, page_width};
-use crate::seam::{first_call, last_call};
+use crate::seam::first_call;
+use crate::tree_walk::{Walk, walk_through};
 use std::alloc::Global;
-use wt_inline::NodeHead;
-use wt_span::{List, NoMemory, Outer, Piece};
+use wt_inline::{NodeHead, PieceTree};
+use wt_span::{List, NoMemory, Outer};
 use wt_tree::{Kind, Node, Ranges};
 
 /// What a kept node takes from the page beside its children: its ranges and delimiters, and the
@@ -69,31 +69,37 @@ pub fn kept_leaf<'a>(
     requires fits { Fits (outer_calls calls.now) child }
     ensures { IfOk result (λ n. view n ≡ (near_of (outer_calls calls.now) child.entry).whole) }
 {
-    let held = held_pieces(alloc, &child.tree)?;
-    let width = page_width(calls, child.before, held.as_slice());
-    let own = page_texts(alloc, calls, child.before, held.as_slice())?;
-    let ranges = leaf_ranges(child.tree.head.kind, child.byte, width);
+    let Child {
+        tree,
+        before,
+        byte,
+        ..
+    } = child;
+    let PieceTree {
+        head,
+        opening,
+        children,
+        closing,
+    } = tree;
+    let held = own_pieces(opening, children.as_slice(), closing.as_slice())?;
+    let width = page_width(calls, before, held.as_slice());
+    let own = page_texts(alloc, calls, before, held.as_slice())?;
+    let ranges = leaf_ranges(head.kind, byte, width);
     let sources = leaf_sources(alloc, own);
-    Ok(node(child.tree.head, Some(ranges), sources, List::new(alloc)))
+    Ok(node(head, Some(ranges), sources, List::new(alloc)))
 }
 
-/// The ranges of a node round its children.
-fn inner_ranges<'a>(
-    calls: &[Outer<'a>],
-    child: &Child<'a>,
-    whole: &[Piece<'a>],
-    filled: Option<u32>,
-) -> Ranges
-    requires fits { Fits (outer_calls calls.now) child.now }
-    requires whole { items whole.now ≡ tree_items (item_tree child.now.tree) }
-    requires filled { filled ≡ filled_by child.now.before child.now.tree }
-    ensures { result ≡ frame_ranges (outer_calls calls.now) child.now }
+/// The ranges of a node round its children that begins there, by a walk through it.
+fn inner_ranges(byte: u32, walk: Walk) -> Ranges
+    requires fits { byte + walk.closed.width < 2 ^ 32 }
+    requires order { walk.filled.width ≤ walk.closed.width }
+    ensures { result ≡ record { start = byte; end = byte + walk.closed.width; open_w = walk.opened.width; close_w = walk.closed.width - walk.filled.width } }
 {
     Ranges {
-        start: child.byte,
-        end: child.byte + page_width(calls, child.before, whole),
-        open_w: page_width(calls, child.before, child.tree.opening.as_slice()),
-        close_w: page_width(calls, filled, child.tree.closing.as_slice()),
+        start: byte,
+        end: byte + walk.closed.width,
+        open_w: walk.opened.width,
+        close_w: walk.closed.width - walk.filled.width,
     }
 }
 
@@ -126,17 +132,14 @@ pub fn inner_frame<'a>(
     requires { Fits (outer_calls calls.now) child.now }
     ensures { IfOk result (λ f. IsFrame (outer_calls calls.now) child.now f) }
 {
-    let held = held_pieces(alloc, &child.tree)?;
-    let inside = pieces_of_all(alloc, child.tree.children.as_slice())?;
-    let before = last_call(child.before, child.tree.opening.as_slice());
-    let filled = last_call(before, inside.as_slice());
-    let ranges = inner_ranges(calls, child, held.as_slice(), filled);
-    let sources = inner_sources(alloc, calls, child, filled)?;
+    let walk = walk_through(calls, child.before, &child.tree);
+    let ranges = inner_ranges(child.byte, walk);
+    let sources = inner_sources(alloc, calls, child, walk.filled.last)?;
     Ok(Frame {
         ranges,
         sources,
-        before,
-        byte: child.byte + ranges.open_w,
+        before: walk.opened.last,
+        byte: child.byte + walk.opened.width,
         after: first_call(child.tree.closing.as_slice(), child.after),
     })
 }

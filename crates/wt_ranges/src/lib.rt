@@ -22,6 +22,8 @@ mod piece;
 mod run;
 mod seam;
 mod stands_cut;
+mod tree_seam;
+mod tree_walk;
 mod unplaced;
 
 pub use laws::{

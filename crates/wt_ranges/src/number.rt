@@ -15,6 +15,7 @@ ghost use Rattle.wt_ranges.specs.NumberedNodes.{AreNumbered, IsNumbered};
 
 use crate::node::is_group;
 use std::alloc::Global;
+use wt_inline::with_room;
 use wt_span::{List, NoMemory};
 use wt_tree::{Kind, Node};
 
@@ -66,7 +67,7 @@ fn number_children<'a>(
     if is_group(kind) {
         return Ok(AllNumbered { nodes, next });
     }
-    let mut numbered = List::new(alloc);
+    let mut numbered = with_room(alloc, nodes.len())?;
     let mut behind = next;
     for node in nodes.into_vec() {
         let made = number_node(alloc, node, behind)?;

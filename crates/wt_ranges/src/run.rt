@@ -5,6 +5,7 @@ ghost use Rattle.wt_ranges.specs.RunTrees.{begins_run, is_alone, AreRunsOf, CutS
 
 use crate::child::Child;
 use std::alloc::Global;
+use wt_inline::with_room;
 use wt_span::NoMemory;
 
 /// A run of children: a clean one by itself, or those of a group.
@@ -48,7 +49,7 @@ fn begins_run(run: &[Child<'_>], child: &Child<'_>) -> bool
 fn single<'a>(alloc: Global, child: Child<'a>) -> Result<wt_span::List<Child<'a>>, NoMemory>
     ensures { IfOk result (λ cs. cs ≡ child.entry ∷ []) }
 {
-    let mut children = wt_span::List::new(alloc);
+    let mut children = with_room(alloc, 1)?;
     children.push(child)?;
     Ok(children)
 }

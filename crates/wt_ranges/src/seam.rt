@@ -5,7 +5,7 @@ ghost use Rattle.std.specs.List.{list_all, list_any};
 ghost use Rattle.wt_span.specs.Items.{call_of_origin, items, items_of};
 ghost use Rattle.wt_ranges.specs.Clean.{is_page};
 ghost use Rattle.wt_ranges.specs.Pieces.{is_hollow};
-ghost use Rattle.wt_ranges.specs.Seams.{first_of, last_of, parted};
+ghost use Rattle.wt_ranges.specs.Seams.{first_found, first_of, last_of, parted};
 
 use wt_span::{Form, Origin, Piece};
 
@@ -51,29 +51,28 @@ pub fn last_of_piece(before: Option<u32>, piece: Piece<'_>) -> Option<u32>
     }
 }
 
-/// The call of the last item, behind one of the call `before`.
-#[tactic(auto, using(crate::proofs::PieceWalks::last_step))]
-pub fn last_call(before: Option<u32>, pieces: &[Piece<'_>]) -> Option<u32>
-    ensures { result ≡ last_of before (items pieces.now) }
-{
-    let mut last = before;
-    for piece in pieces {
-        last = last_of_piece(last, *piece);
-    }
-    last
-}
-
-/// The call of the first item, before one of the call `after`.
-#[tactic(auto, using(crate::proofs::PieceWalks::first_step))]
-pub fn first_call(pieces: &[Piece<'_>], after: Option<u32>) -> Option<u32>
-    ensures { result ≡ first_of (items pieces.now) after }
+/// The call of the first item, if there is one.
+#[tactic(auto, using(crate::proofs::PieceWalks::found_step))]
+pub fn first_found(pieces: &[Piece<'_>]) -> Option<Option<u32>>
+    ensures { result ≡ first_found (items pieces.now) }
 {
     for piece in pieces {
         if !is_hollow(*piece) {
-            return call_of(piece.origin);
+            return Some(call_of(piece.origin));
         }
     }
-    after
+    None
+}
+
+/// The call of the first item, before one of the call `after`.
+#[tactic(auto, using(crate::proofs::Seams::first_some, crate::proofs::Seams::first_none))]
+pub fn first_call(pieces: &[Piece<'_>], after: Option<u32>) -> Option<u32>
+    ensures { result ≡ first_of (items pieces.now) after }
+{
+    match first_found(pieces) {
+        Some(call) => call,
+        None => after,
+    }
 }
 
 #[tactic(auto, using(crate::proofs::PieceWalks::all_piece))]

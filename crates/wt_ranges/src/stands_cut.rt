@@ -1,18 +1,21 @@
 //! Children that are known to stand cut, as nearly all do: those needn't be cut anew.
 
-ghost use Rattle.std.specs.Prelude.{◌≡◌, [], true, false};
+ghost use Rattle.std.specs.Prelude.{◌≡◌, ◌||◌, [], true, false};
 ghost use Rattle.wt_span.specs.Slice.{bytes_of};
 ghost use Rattle.wt_tree.specs.Cutting.{begins_with_break, AreCut};
 ghost use Rattle.wt_tree.specs.Recut.{
+  any_shows_block,
   are_spaces,
   front_ranges,
   has_break,
   is_blank,
+  is_border,
   is_text,
   joined_ranges,
   leaf_label,
   rest_ranges,
   sep_leaf,
+  shows_block,
   text_leaf,
 };
 ghost use Rattle.wt_tree.specs.Tree.{none, tree};
@@ -25,11 +28,9 @@ ghost use Rattle.wt_ranges.specs.StandsCut.{
   FrontStands,
   IsGap,
   IsWords,
-  Passes,
   WholeStands,
 };
 
-use crate::node::is_group;
 use wt_span::{Text, rest_of};
 use wt_tree::{Kind, Mark, Node, Ranges, Writing};
 
@@ -204,16 +205,36 @@ fn is_words(node: &Node<'_>) -> bool
     !has_break(own) && !are_spaces(own) && is_text_leaf(node)
 }
 
-/// What is found of a node that is no text: whether the border is passed behind it. Of groups nothing
-/// is.
-fn found_other(behind: bool, node: &Node<'_>) -> Option<bool>
-    requires { is_text (view node.now) ≡ false }
-    ensures { Passes behind (view node.now) result }
+/// Whether a node is a block or a list, or a group that shows one.
+#[cycle(showing)]
+#[tactic(auto, using(wt_tree::proofs::Views::view_out))]
+fn shows_block(node: &Node<'_>) -> bool
+    ensures { result ≡ shows_block (view node.now) }
 {
-    if is_group(node.kind) {
-        return None;
+    match node.kind {
+        Kind::Group => any_shows_block(node.children.as_slice()),
+        kind => kind.is_block(),
     }
-    Some(behind || node.kind.is_block())
+}
+
+#[cycle(showing)]
+fn any_shows_block(nodes: &[Node<'_>]) -> bool
+    ensures { result ≡ any_shows_block (views nodes.now) }
+{
+    for node in nodes {
+        if shows_block(node) {
+            return true;
+        }
+    }
+    false
+}
+
+/// Whether the border is passed behind a node that is no text.
+fn is_passed_by(behind: bool, node: &Node<'_>) -> bool
+    requires { is_text (view node.now) ≡ false }
+    ensures { result ≡ (behind || is_border (view node.now)) }
+{
+    behind || shows_block(node)
 }
 
 /// What is found of a text that no other one follows.
@@ -252,7 +273,7 @@ fn found_alone(behind: bool, node: &Node<'_>) -> Option<bool>
     if is_text(node) {
         return found_whole(behind, node);
     }
-    found_other(behind, node)
+    Some(is_passed_by(behind, node))
 }
 
 #[tactic(auto, using(crate::proofs::StandsCut::front_before, crate::proofs::StandsCut::alone_before))]

@@ -11,10 +11,10 @@ ghost use Rattle.wt_inline.specs.declared.tree.PieceTree.{out-PieceTree};
 ghost use Rattle.wt_ranges.specs.Annotated.{unplaced, all_unplaced};
 ghost use Rattle.wt_ranges.specs.Nodes.{node_label};
 
-use crate::held::{held_pieces, source_texts};
+use crate::held::{own_pieces, source_texts};
 use crate::node::{Sources, leaf_sources, node};
 use std::alloc::Global;
-use wt_inline::{NodeHead, PieceTree};
+use wt_inline::{NodeHead, PieceTree, with_room};
 use wt_span::{List, NoMemory, Piece};
 use wt_tree::Node;
 
@@ -22,10 +22,16 @@ fn unplaced_leaf<'a>(alloc: Global, tree: PieceTree<'a>) -> Result<Node<'a>, NoM
     requires { is_leaf (out-PieceTree tree).head.kind ≡ true }
     ensures { IfOk result (λ n. view n ≡ unplaced (item_tree tree.entry)) }
 {
-    let held = held_pieces(alloc, &tree)?;
+    let PieceTree {
+        head,
+        opening,
+        children,
+        closing,
+    } = tree;
+    let held = own_pieces(opening, children.as_slice(), closing.as_slice())?;
     let own = source_texts(alloc, held.as_slice())?;
     let sources = leaf_sources(alloc, own);
-    Ok(node(tree.head, None, sources, List::new(alloc)))
+    Ok(node(head, None, sources, List::new(alloc)))
 }
 
 /// A node round its children.
@@ -55,7 +61,7 @@ pub fn unplaced_nodes<'a>(
 ) -> Result<List<Node<'a>>, NoMemory>
     ensures { IfOk result (λ ns. views ns ≡ all_unplaced (forest (item_trees trees.entry))) }
 {
-    let mut nodes = List::new(alloc);
+    let mut nodes = with_room(alloc, trees.len())?;
     for tree in trees.into_vec() {
         let node = unplaced_node(alloc, tree)?;
         nodes.push(node)?;

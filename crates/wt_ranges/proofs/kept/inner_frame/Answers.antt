@@ -1,15 +1,25 @@
-use Rattle.std.proofs.Common.{◌≡◌, length, ap, arith}
+use Rattle.std.proofs.Common.{ap, ◌∙◌, arith}
 use Rattle.wt_span.specs.Items.{items}
-use Rattle.wt_inline.specs.declared.tree.PieceTree.{out-PieceTree}
 use Rattle.wt_ranges.specs.Pieces.{outer_calls}
-use Rattle.wt_ranges.specs.Seams.{text_from}
-use Rattle.wt_ranges.proofs.KeptNodes.{parts_fit}
+use Rattle.wt_ranges.specs.Seams.{first_of}
+use Rattle.wt_ranges.proofs.KeptNodes.{frame_is, parts_fit}
 use Rattle.wt_ranges.proofs.kept.inner_frame.Goals as goal
+
+pub inner_ranges-ranges-requires : goal.inner_ranges-ranges-requires
+inner_ranges-ranges-requires c = record {
+  fits = omega (arith, c.walk_through-walk.ensures.widths.whole, c.requires);
+  order = omega (arith, c.walk_through-walk.ensures.widths.closing);
+}
 
 pub overflow_add-result : goal.overflow_add-result
 overflow_add-result c =
-    let calls = outer_calls c.args.calls.now in
     let child = c.args.child.now in
-    let e : c.inner_ranges-ranges.result.open_w ≡ length (text_from calls child.before (items (out-PieceTree child.tree).opening)) =
-    ap (λ r. r.open_w) c.inner_ranges-ranges.ensures in
-    omega (arith, e, parts_fit calls child.before child.tree, c.requires)
+    omega (arith, c.walk_through-walk.ensures.widths.opening, parts_fit (outer_calls c.args.calls.now) child.before child.tree, c.requires)
+
+pub returns : goal.returns
+returns c =
+    let child = c.args.child.now in
+    frame_is (outer_calls c.args.calls.now) child c.walk_through-walk.result c.inner_ranges-ranges.result c.in_ok-sources.sources c.first_call.result
+    c.walk_through-walk.ensures.lasts c.walk_through-walk.ensures.widths c.inner_ranges-ranges.ensures c.in_ok-sources.ensures.opening
+    c.in_ok-sources.ensures.closing c.in_ok-sources.ensures.own
+    (c.first_call.ensures ∙ ap (λ ps. first_of (items ps) child.after) c.as_slice.ensures)
