@@ -1,7 +1,14 @@
+pub mod Each
+pub mod JsonText
 pub mod MwBack
 pub mod MwCases
+pub mod MwPieces
+pub mod MwTold
+pub mod MwUtf8
 pub mod Mws
+pub mod Ordered
 pub mod ReadsBack
+pub mod Runs
 pub mod Same
 pub mod Shapes
 pub mod SyncPieces

@@ -5,6 +5,7 @@ use Rattle.std.proofs.lemmas.List.{append-nil}
 use Rattle.std.proofs.lemmas.Bool.Decides.{Decides-ltb}
 use Rattle.std.specs.Prelude.{◌&&◌, Ok, is_some, nat_lt, unwrap_or, if◌then◌else◌}
 use Rattle.std.specs.List.{AllByRecursion, list_all}
+use Rattle.std.proofs.lemmas.List.Elements.{recursion_from_All}
 use Rattle.std.specs.List.Sorted.{IsStrictlySortedBy}
 use Rattle.std.specs.Ordering.{nat_cmp, match_ordering, ordering_reverse}
 use Rattle.std.specs.Cmp.Lexicographic.{slice_cmp}
@@ -19,17 +20,18 @@ use Rattle.wt_tree.specs.declared.node.Part.TheVariants as part
 use Rattle.wt_datamw.specs.Mw.{wt_data, params_from, params_data, template_data, part_data, parts_items, mw_data}
 use Rattle.wt_datamw.specs.SyncRead.{small}
 use Rattle.wt_datamw.specs.MwRead.{all_items, all_values, is_source, is_part, is_mw_shape, part_is_small, has_small_numbers, params_of, template_of, part_of, parts_of, mw_of_data, HasOrderedParams, HasOrderedNames}
+use Rattle.wt_datamw.specs.MwValues.{IsPart, IsMw}
 
-abbrev Param : Type 0
+abbrev pub Param : Type 0
 Param = List ℕ × List ℕ
 
-abbrev names : List Param → List (List ℕ)
+abbrev pub names : List Param → List (List ℕ)
 names ps = map (λ p. p.0) ps
 
 -- ---- parameters
 
 -- the members that parameters in order are written as
-sources : List Param → Members
+unfoldable pub sources : List Param → Members
 sources [] = no_members
 sources (p ∷ ps) = member p.0 (wt_data p.1) (sources ps)
 
@@ -47,7 +49,7 @@ put_last (d ∷ done) p more h =
     let above : slice_cmp nat_cmp p.0 d.0 ≡ Greater = nat_list_cmp_total.antisymm p.0 d.0 ∙ ap ordering_reverse (below_middle d.0 done p more h.0) in
     rw above (ap (member d.0 (wt_data d.1)) (put_last done p more h.1))
 
-all_last : (done ps : List Param) → IsStrictlySortedBy (slice_cmp nat_cmp) (names (done ++ ps)) → params_from (sources done) ps ≡ sources (done ++ ps)
+pub all_last : (done ps : List Param) → IsStrictlySortedBy (slice_cmp nat_cmp) (names (done ++ ps)) → params_from (sources done) ps ≡ sources (done ++ ps)
 all_last done [] h = ap sources (sym (append-nil done))
 all_last done (p ∷ ps) h =
     let joins : (done ++ p ∷ []) ++ ps ≡ done ++ p ∷ ps = append_assoc done (p ∷ []) ps in
@@ -132,6 +134,21 @@ parts_small (p ∷ ps) h =
     let first = and_left (part_is_small (part_data p)) (list_all (λ p. part_is_small (part_data p)) ps) h in
     let more = and_right (part_is_small (part_data p)) (list_all (λ p. part_is_small (part_data p)) ps) h in
     and_true (part_is_small (part_data p)) (all_items part_is_small (parts_items ps)) first (parts_small ps more)
+
+part_small : (p : Part) → IsPart p → part_is_small (part_data p) ≡ true
+part_small (part.Template target href ps i) h = template_small target href ps i h.3
+part_small (part.Param source) h = refl
+part_small (part.Literal text) h = refl
+
+parts_are_small : (ps : List Part) → AllByRecursion IsPart ps → all_items part_is_small (parts_items ps) ≡ true
+parts_are_small [] h = refl
+parts_are_small (p ∷ ps) h = and_true (part_is_small (part_data p)) (all_items part_is_small (parts_items ps)) (part_small p h.0) (parts_are_small ps h.1)
+
+pub mw_small : (d : DataMw) → IsMw d → has_small_numbers (mw_data d) ≡ true
+unfolding has_small_numbers
+mw_small (mw.Parts ps) h = parts_are_small ps (recursion_from_All IsPart ps h)
+mw_small (mw.Extension name None) h = refl
+mw_small (mw.Extension name (Some body)) h = refl
 
 pub reads_ordered : (d : DataMw) → has_small_numbers (mw_data d) ≡ true → HasOrderedNames d → mw_of_data (mw_data d) ≡ Ok d
 unfolding mw_of_data is_mw_shape has_small_numbers

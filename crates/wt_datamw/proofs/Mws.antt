@@ -1,4 +1,4 @@
--- The JSON of `data-mw` has no floats, and nests a few levels deep.
+-- The parameters of `data-mw` have no floats, and the whole nests a few levels deep.
 use Rattle.std.proofs.Common.{◌≡◌, ◌≤◌, ℕ, Bool, true, false, List, [], ◌∷◌, Some, None, refl, ap, ◌∙◌, arith}
 use Rattle.std.specs.Prelude.{◌||◌}
 use Rattle.std.specs.Ordering.{nat_cmp, match_ordering}
@@ -6,7 +6,7 @@ use Rattle.std.specs.Cmp.Lexicographic.{slice_cmp}
 use Rattle.std.specs.declared.cmp.Ordering.{Ordering}
 use Rattle.std.specs.declared.cmp.Ordering.TheVariants.{Less, Equal, Greater}
 use Rattle.serde_json.specs.Data.{Data, Members, member, no_members, put, depth, items_depth, members_depth}
-use Rattle.serde_json.specs.Written.{has_float, items_have_float, members_have_float}
+use Rattle.serde_json.specs.Written.{has_float, members_have_float}
 use Rattle.wt_tree.specs.declared.node.DataMw.{DataMw}
 use Rattle.wt_tree.specs.declared.node.DataMw.TheVariants as mw
 use Rattle.wt_tree.specs.declared.node.Part.{Part}
@@ -43,21 +43,9 @@ params_free : (ps : List (List ℕ × List ℕ)) (ms : Members) → members_have
 params_free [] ms h = h
 params_free (p ∷ ps) ms h = params_free ps (put p.0 (wt_data p.1) ms) (put_free p.0 (wt_data p.1) ms refl h)
 
-part_free : (p : Part) → has_float (part_data p) ≡ false
-unfolding template_data params_data
-part_free (part.Template target href ps i) = or_free (members_have_float (params_from no_members ps) || false) false
-    (or_free (members_have_float (params_from no_members ps)) false (params_free ps no_members refl) refl) refl
-part_free (part.Param source) = refl
-part_free (part.Literal text) = refl
-
-parts_free : (ps : List Part) → items_have_float (parts_items ps) ≡ false
-parts_free [] = refl
-parts_free (p ∷ ps) = or_free (has_float (part_data p)) (items_have_float (parts_items ps)) (part_free p) (parts_free ps)
-
-pub mw_free : (d : DataMw) → has_float (mw_data d) ≡ false
-mw_free (mw.Parts ps) = or_free (items_have_float (parts_items ps)) false (parts_free ps) refl
-mw_free (mw.Extension name None) = refl
-mw_free (mw.Extension name (Some body)) = refl
+pub params_no_float : (ps : List (List ℕ × List ℕ)) → has_float (params_data ps) ≡ false
+unfolding params_data
+params_no_float ps = params_free ps no_members refl
 
 match_depth : (n : ℕ) (o : Ordering) (a b c : Members) → members_depth a ≤ n → members_depth b ≤ n → members_depth c ≤ n
     → members_depth (match_ordering o a b c) ≤ n

@@ -1,9 +1,9 @@
-ghost use Rattle.std.specs.Prelude.{◌≡◌, ◌<◌, ◌^◌, IfOk, IfSome, Ok};
-ghost use Rattle.std.specs.Str.{IsUtf8};
+ghost use Rattle.std.specs.Prelude.{◌≡◌, ◌<◌, ◌^◌, IfOk, Ok};
 ghost use Rattle.wt_datamw.specs.Sync.{sync_text};
 ghost use Rattle.wt_datamw.specs.SyncRead.{IsSmall, sync_told};
 
 use crate::sync_write::push_sync_text;
+use crate::texts::{check_text, check_text_if_any, text_of};
 use std::alloc::Global;
 use wt_span::{NoMemory, Str};
 use wt_tree::Ranges;
@@ -38,23 +38,6 @@ pub fn places_of(sync: &Sync) -> Ranges
     }
 }
 
-/// A source is UTF-8, as every text is.
-fn check_source(source: &Option<Str>)
-    ensures { IfSome source.now IsUtf8 }
-{
-    if let Some(text) = source {
-        let _text = text.as_str();
-    }
-}
-
-/// The text of these bytes.
-fn text_of(bytes: Vec<u8>) -> Str
-    requires { IsUtf8 bytes.items }
-    ensures { result ≡ bytes.items }
-{
-    Str::from_string(String::from_utf8(bytes).unwrap())
-}
-
 /// The text of `data-parsoid`, as compact JSON with its keys in byte order. (It is not escaped for
 /// the attribute.)
 #[tactic(auto, using(crate::proofs::SyncUtf8::sync_utf8, crate::proofs::SyncTold::sync_read))]
@@ -64,9 +47,9 @@ pub fn sync_to_text(alloc: Global, s: &Sync) -> Result<Str, NoMemory>
     ensures back { IfOk result (λ text. sync_told text ≡ Ok s.now) }
 {
     let _places = places_of(s);
-    let _opening = s.opening.as_str();
-    let _closing = s.closing.as_str();
-    check_source(&s.src);
+    check_text(&s.opening);
+    check_text(&s.closing);
+    check_text_if_any(&s.src);
     let mut bytes = Vec::new(alloc);
     push_sync_text(&mut bytes, s)?;
     Ok(text_of(bytes))

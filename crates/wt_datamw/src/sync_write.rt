@@ -1,70 +1,14 @@
 //! The text of `data-parsoid`, written piece by piece.
 
-ghost use Rattle.std.specs.Prelude.{◌≡◌, ◌++◌, ◌<◌, OnOk, codes, decimal};
-ghost use Rattle.std.specs.Char.{digit_char};
-ghost use Rattle.json.specs.Print.{escape, escape_byte, quoted};
+ghost use Rattle.std.specs.Prelude.{◌≡◌, ◌++◌, OnOk};
 ghost use Rattle.wt_datamw.specs.Sync.{sync_text};
 ghost use Rattle.wt_datamw.specs.SyncPieces.{closing_text, next_text, dsr_text, opening_text, source_text, sync_pieces};
 
+use crate::json_text::push_quoted;
 use crate::sync::Sync;
 use wt_outer::{push, push_number};
 use wt_span::{NoMemory, Str};
 use wt_tree::Ranges;
-
-/// The hexadecimal digit of a number.
-fn hex_digit(number: u8) -> u8
-    requires { number < 16 }
-    ensures { result ≡ digit_char number }
-{
-    if number < 10 {
-        b'0' + number
-    } else {
-        b'a' + (number - 10)
-    }
-}
-
-/// What stands in a string of JSON for a byte.
-#[tactic(auto, unfolding(json::specs::Print::escape_byte))]
-fn push_byte(out: &mut Vec<u8>, byte: u8) -> Result<(), NoMemory>
-    ensures { OnOk result (out.new.items ≡ out.old.items ++ escape_byte byte) }
-{
-    match byte {
-        b'"' => push(out, b"\\\"")?,
-        b'\\' => push(out, b"\\\\")?,
-        8 => push(out, b"\\b")?,
-        12 => push(out, b"\\f")?,
-        b'\n' => push(out, b"\\n")?,
-        b'\r' => push(out, b"\\r")?,
-        b'\t' => push(out, b"\\t")?,
-        0..=31 => {
-            let digits = [hex_digit(byte / 16), hex_digit(byte % 16)];
-            push(out, b"\\u00")?;
-            push(out, &digits)?;
-        }
-        _ => out.push(byte)?,
-    }
-    Ok(())
-}
-
-/// What stands in a string of JSON for a text.
-fn push_escaped(out: &mut Vec<u8>, text: &[u8]) -> Result<(), NoMemory>
-    ensures { OnOk result (out.new.items ≡ out.old.items ++ escape text.now) }
-{
-    for byte in text {
-        push_byte(out, *byte)?;
-    }
-    Ok(())
-}
-
-/// A string of JSON.
-fn push_quoted(out: &mut Vec<u8>, text: &[u8]) -> Result<(), NoMemory>
-    ensures { OnOk result (out.new.items ≡ out.old.items ++ quoted text.now) }
-{
-    push(out, b"\"")?;
-    push_escaped(out, text)?;
-    push(out, b"\"")?;
-    Ok(())
-}
 
 #[tactic(auto, unfolding(json::specs::Print::escape_byte))]
 fn push_closing(out: &mut Vec<u8>, text: &str) -> Result<(), NoMemory>

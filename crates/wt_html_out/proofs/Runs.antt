@@ -5,13 +5,10 @@ use Rattle.std.specs.List.{flat_map, list_all}
 use Rattle.std.proofs.lemmas.Grind.{flat_map-append}
 use Rattle.std.proofs.lemmas.List.{take-append-drop}
 use Rattle.std.proofs.Math.Seq.{take-add, take-length}
+use Rattle.wt_datamw.proofs.Runs.{both, plain_run}
 use Rattle.wt_markup.specs.Escapes.{escape, escape_double, escape_single, is_control}
 use Rattle.wt_html_out.specs.Counts.{SpendsSome}
 use Rattle.wt_html_out.specs.Runs.{is_plain}
-
-both : (a b : Bool) → (a && b) ≡ true → (a ≡ true) × (b ≡ true)
-both true b e = (refl, e)
-both false b e = cc
 
 false_of : (t : Bool) → not t ≡ true → t ≡ false
 false_of true e = cc
@@ -48,12 +45,6 @@ plain_single : (b : ℕ) → is_plain 39 b ≡ true → escape_single b ≡ b �
 unfolding escape_single
 plain_single b e = if_not (b == 39) _ _ (plain_quote 39 b e) ∙ plain_text 39 b e
 
-plain_run : (f : ℕ → List ℕ) (p : ℕ → Bool) → ((b : ℕ) → p b ≡ true → f b ≡ b ∷ []) → (bs : List ℕ) → list_all p bs ≡ true → flat_map f bs ≡ bs
-plain_run f p h [] e = refl
-plain_run f p h (b ∷ bs) e =
-    let t = both (p b) (list_all p bs) e in
-    ap (λ xs. xs ++ flat_map f bs) (h b t.0) ∙ ap (λ xs. b ∷ xs) (plain_run f p h bs t.1)
-
 pub run_text : (bs : List ℕ) → list_all (is_plain 38) bs ≡ true → flat_map escape bs ≡ bs
 run_text bs e = plain_run escape (is_plain 38) (plain_text 38) bs e
 
@@ -62,25 +53,6 @@ run_double bs e = plain_run escape_double (is_plain 34) plain_double bs e
 
 pub run_single : (bs : List ℕ) → list_all (is_plain 39) bs ≡ true → flat_map escape_single bs ≡ bs
 run_single bs e = plain_run escape_single (is_plain 39) plain_single bs e
-
--- a run that was pushed
-pub wrote_run : (f : ℕ → List ℕ) (old new bytes front : List ℕ) (n : ℕ) → front ≡ take n bytes → new ≡ old ++ front → flat_map f front ≡ front
-    → new ≡ old ++ flat_map f (take n bytes)
-wrote_run f old new bytes front n is e run = e ∙ ap (λ xs. old ++ xs) (sym run ∙ ap (flat_map f) is)
-
--- a byte that was pushed
-pub wrote_byte : (f : ℕ → List ℕ) (old new bytes : List ℕ) → 0 < length bytes → new ≡ old ++ f (get_or bytes 0 0) → new ≡ old ++ flat_map f (take 1 bytes)
-wrote_byte f old new [] lt e = absurd (omega arith)
-wrote_byte f old new (b ∷ bs) lt e = e ∙ ap (λ xs. old ++ xs) (sym (append-nil (f b)))
-
--- some more that was pushed
-pub wrote_more : (f : ℕ → List ℕ) (old out new bytes rest : List ℕ) (at n : ℕ) → out ≡ old ++ flat_map f (take at bytes) → rest ≡ drop at bytes
-    → new ≡ out ++ flat_map f (take n rest) → new ≡ old ++ flat_map f (take (at + n) bytes)
-wrote_more f old out new bytes rest at n o is e =
-    e ∙ ap (λ xs. xs ++ flat_map f (take n rest)) o ∙ append_assoc old (flat_map f (take at bytes)) (flat_map f (take n rest))
-    ∙ ap (λ xs. old ++ (flat_map f (take at bytes) ++ flat_map f (take n xs))) is
-    ∙ ap (λ xs. old ++ xs) (sym (flat_map-append f (take at bytes) (take n (drop at bytes))))
-    ∙ ap (λ xs. old ++ flat_map f xs) (sym (take-add at n bytes))
 
 -- what is plain all through is as it is when it is escaped
 pub kept_behind : (out : List ℕ) (at : ℕ) (text : List ℕ) (n : ℕ) → text ≡ drop at out → n ≡ length text → list_all (is_plain 39) (take n text) ≡ true

@@ -1,6 +1,7 @@
 ghost use Rattle.std.specs.Prelude.{◌≡◌, ◌≤◌, ◌++◌, take, drop, length, IfOk, OnOk};
 ghost use Rattle.wt_markup.specs.Escapes.{escaped_single};
 ghost use Rattle.wt_markup.specs.Html.{attribute, attributes, id_attribute, mw_attribute, leaf_sync, inner_sync, sync_of, sync_start, sync_value, sync_attribute, carried_attributes, attributes_of};
+ghost use Rattle.wt_datamw.specs.Mw.{mw_text};
 ghost use Rattle.wt_datamw.specs.Sync.{sync_text};
 ghost use Rattle.wt_tree.specs.Kinds.{one_if_any, fixed_of, fixed_attributes};
 ghost use Rattle.wt_tree.specs.View.{texts_of, attrs_of, label_of};
@@ -8,7 +9,7 @@ ghost use Rattle.wt_tree.specs.declared.node.Node.{out-Node};
 
 use crate::bytes::{plain_len, push_escaped_double, push_escaped_single};
 use std::alloc::Global;
-use wt_datamw::{Sync, push_sync_text, to_text};
+use wt_datamw::{Sync, push_mw_text, push_sync_text};
 use wt_outer::{push, push_number};
 use wt_span::{NoMemory, Str, Text, rest_of};
 use wt_tree::{Attr, AttrName, DataMw, Fixed, Kind, Node, Ranges};
@@ -64,6 +65,32 @@ fn push_id(out: &mut Vec<u8>, id: u32) -> Result<(), NoMemory>
     Ok(())
 }
 
+/// Escapes what stands behind a place, as a value that stands in `'`. Mostly nothing of it needs an
+/// escape, and it stays as it is.
+fn escape_behind(alloc: Global, out: &mut Vec<u8>, at: usize) -> Result<(), NoMemory>
+    requires { at ≤ length out.old.items }
+    ensures { OnOk result (out.new.items ≡ take at out.old.items ++ escaped_single (drop at out.old.items)) }
+{
+    let written = rest_of(out.as_slice(), at);
+    if plain_len(b'\'', written) == written.len() {
+        return Ok(());
+    }
+    let text = Vec::from_slice(alloc, written)?;
+    out.truncate(at);
+    push_escaped_single(out, text.as_slice())?;
+    Ok(())
+}
+
+/// The text of `data-mw`, as a value that stands in `'`.
+fn push_mw_escaped(alloc: Global, out: &mut Vec<u8>, mw: &DataMw) -> Result<(), NoMemory>
+    ensures { OnOk result (out.new.items ≡ out.old.items ++ escaped_single (mw_text mw.now)) }
+{
+    let at = out.len();
+    push_mw_text(alloc, out, mw)?;
+    escape_behind(alloc, out, at)?;
+    Ok(())
+}
+
 #[tactic(auto, unfolding(wt_markup::specs::Html::mw_attribute))]
 fn push_mw(alloc: Global, out: &mut Vec<u8>, mw: &Option<DataMw>) -> Result<(), NoMemory>
     ensures { OnOk result (out.new.items ≡ out.old.items ++ mw_attribute mw.now) }
@@ -71,9 +98,8 @@ fn push_mw(alloc: Global, out: &mut Vec<u8>, mw: &Option<DataMw>) -> Result<(), 
     let Some(value) = mw else {
         return Ok(());
     };
-    let text = to_text(alloc, value)?;
     push(out, b" data-mw='")?;
-    push_escaped_single(out, text.as_str().as_bytes())?;
+    push_mw_escaped(alloc, out, value)?;
     push(out, b"'")?;
     Ok(())
 }
@@ -129,22 +155,6 @@ fn push_sync_start(out: &mut Vec<u8>) -> Result<(), NoMemory>
     ensures { OnOk result (out.new.items ≡ out.old.items ++ sync_start) }
 {
     push(out, b" data-parsoid='")?;
-    Ok(())
-}
-
-/// Escapes what stands behind a place, as a value that stands in `'`. Mostly nothing of it needs an
-/// escape, and it stays as it is.
-fn escape_behind(alloc: Global, out: &mut Vec<u8>, at: usize) -> Result<(), NoMemory>
-    requires { at ≤ length out.old.items }
-    ensures { OnOk result (out.new.items ≡ take at out.old.items ++ escaped_single (drop at out.old.items)) }
-{
-    let written = rest_of(out.as_slice(), at);
-    if plain_len(b'\'', written) == written.len() {
-        return Ok(());
-    }
-    let text = Vec::from_slice(alloc, written)?;
-    out.truncate(at);
-    push_escaped_single(out, text.as_slice())?;
     Ok(())
 }
 

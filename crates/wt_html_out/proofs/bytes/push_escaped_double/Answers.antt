@@ -1,6 +1,6 @@
 use Rattle.std.proofs.Common.{ap, length, length-drop, arith}
 use Rattle.wt_markup.specs.Escapes.{escape_double}
-use Rattle.wt_html_out.proofs.Runs.{wrote_more}
+use Rattle.wt_datamw.proofs.Runs.{wrote_more}
 use Rattle.wt_html_out.proofs.bytes.push_escaped_double.Goals as goal
 
 pub loop-at-preserved : goal.loop-at-preserved

@@ -2,7 +2,8 @@ use Rattle.std.proofs.Common.{◌∙◌, ap}
 use Rattle.std.specs.List.{list_all}
 use Rattle.wt_markup.specs.Escapes.{escape_single}
 use Rattle.wt_html_out.specs.Runs.{is_plain}
-use Rattle.wt_html_out.proofs.Runs.{run_single, wrote_run, wrote_byte}
+use Rattle.wt_datamw.proofs.Runs.{wrote_run, wrote_byte}
+use Rattle.wt_html_out.proofs.Runs.{run_single}
 use Rattle.wt_html_out.proofs.bytes.push_some_single.Goals as goal
 
 pub returns-in_ok-push-clause-wrote : goal.returns-in_ok-push-clause-wrote
