@@ -15,6 +15,8 @@ pub mod PageChains
 pub mod EditChains
 pub mod Spliced
 pub mod OpenTags
+pub mod Endings
+pub mod Passing
 pub mod Answering
 pub mod ShownChildren
 pub mod RestoredShown

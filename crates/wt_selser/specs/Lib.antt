@@ -15,6 +15,7 @@ pub mod Changes
 pub mod Restored
 pub mod Children
 pub mod Edits
+pub mod Passes
 pub mod Views
 pub mod SameNodes
 pub mod Leaves

@@ -1,14 +1,14 @@
 //! The new page of an edited page.
 
-ghost use Rattle.std.specs.Prelude.{◌≡◌, Bool, IfOk, length, nat_lt, take};
+ghost use Rattle.std.specs.Prelude.{◌≡◌, Bool, IfOk, length, nat_lt};
 ghost use Rattle.wt_tree.specs.Tiling.{InPreorder};
 ghost use Rattle.wt_tree.specs.Tree.{Tree, label};
 ghost use Rattle.wt_tree.specs.View.{view};
 ghost use Rattle.wt_tree.specs.declared.kind.Kind.TheVariants as kind;
 ghost use Rattle.wt_kept.specs.Page.{TellsSame};
-ghost use Rattle.wt_tree.specs.declared.node.Node.{out-Node};
 ghost use Rattle.wt_selser.specs.Changes.{changes};
-ghost use Rattle.wt_selser.specs.Edits.{AnswersEdit, is_tangled, bad_pair, before, refused_pairs, edit_answer, pairs_answer, first_of, most_bytes, tangled_pair};
+ghost use Rattle.wt_selser.specs.Edits.{AnswersEdit, is_tangled, bad_pair, refused_pairs, edit_answer, pairs_answer, first_of, most_bytes, tangled_pair};
+ghost use Rattle.wt_selser.specs.Passes.{AreOf};
 ghost use Rattle.wt_selser.specs.Splice.{spliced};
 ghost use Rattle.wt_selser.specs.Views.{pair_of, pairs_of};
 
@@ -16,11 +16,11 @@ use crate::change::{Pair, changes, marked_pairs, spliced};
 use crate::content::bad_content;
 use crate::group_fault::has_faulty_group;
 use crate::open_tag::touches_open_tag;
+use crate::passes::{Passes, text_calls};
 use crate::refusal::EditRefusal;
-use crate::text_call::touches_text_call;
 use std::alloc::Global;
 use wt_checks::check;
-use wt_span::{Items, NoMemory, Str, front_of};
+use wt_span::{Items, NoMemory, Str};
 use wt_tree::Node;
 
 /// The most bytes of a page.
@@ -48,40 +48,23 @@ fn first_bad(alloc: Global, pairs: &[Pair<'_, '_>]) -> Result<Option<EditRefusal
     Ok(None)
 }
 
-/// The first bytes of a text, all where it has no more.
-fn front(text: &[u8], count: usize) -> &[u8]
-    ensures { result.now ≡ take count text.now }
-{
-    if count >= text.len() {
-        return text;
-    }
-    front_of(text, count)
-}
-
-/// What stands in the page before a node of it.
-fn before<'p>(page: &'p [u8], node: &Node<'_>) -> &'p [u8]
-    ensures { result.now ≡ before page.now (out-Node node.now).ranges }
-{
-    match node.ranges {
-        None => &[],
-        Some(ranges) => front(page, ranges.start as usize),
-    }
-}
-
 /// Whether a block of a page with these items can't be read by itself.
 fn is_tangled(
     alloc: Global,
     items: &Items<'_>,
     page: &[u8],
+    passes: &mut Passes,
     block: &Node<'_>,
 ) -> Result<bool, NoMemory>
-    ensures { IfOk result (λ b. b ≡ is_tangled items.now page.now (view block.now)) }
+    requires { AreOf items.now page.now passes.old }
+    ensures value { IfOk result (λ b. b ≡ is_tangled items.now page.now (view block.now)) }
+    ensures passes { AreOf items.now page.now passes.new }
 {
-    let call = touches_text_call(items.text_calls(), block.ranges);
+    let call = passes.calls.touches(text_calls(items), block.ranges);
     if call {
         return Ok(true);
     }
-    let tag = touches_open_tag(alloc, before(page, block), block)?;
+    let tag = touches_open_tag(alloc, page, &mut passes.tags, block)?;
     if tag {
         return Ok(true);
     }
@@ -93,17 +76,21 @@ fn tangled_pair(
     alloc: Global,
     items: &Items<'_>,
     page: &[u8],
+    passes: &mut Passes,
     pair: Pair<'_, '_>,
 ) -> Result<Option<EditRefusal>, NoMemory>
-    ensures { IfOk result (λ r. r ≡ tangled_pair items.now page.now (pair_of pair.entry)) }
+    requires { AreOf items.now page.now passes.old }
+    ensures value { IfOk result (λ r. r ≡ tangled_pair items.now page.now (pair_of pair.entry)) }
+    ensures passes { AreOf items.now page.now passes.new }
 {
-    let tangled = is_tangled(alloc, items, page, pair.old)?;
+    let tangled = is_tangled(alloc, items, page, passes, pair.old)?;
     if tangled {
         return Ok(Some(EditRefusal::Tangled(pair.new.id)));
     }
     Ok(None)
 }
 
+/// The pairs stand in the page's order, so the page and its text calls are gone through once.
 fn first_tangled(
     alloc: Global,
     items: &Items<'_>,
@@ -112,8 +99,9 @@ fn first_tangled(
 ) -> Result<Option<EditRefusal>, NoMemory>
     ensures { IfOk result (λ r. r ≡ first_of (tangled_pair items.now page.now) (pairs_of pairs.now)) }
 {
+    let mut passes = Passes::start();
     for pair in pairs {
-        let found = tangled_pair(alloc, items, page, *pair)?;
+        let found = tangled_pair(alloc, items, page, &mut passes, *pair)?;
         if let Some(refusal) = found {
             return Ok(Some(refusal));
         }

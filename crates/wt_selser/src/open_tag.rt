@@ -5,8 +5,12 @@ ghost use Rattle.std.specs.Prelude.{◌≡◌, ◌<◌, ◌-◌, ◌==◌, ◌&&
 ghost use Rattle.std.specs.Char.{is_ascii_alphabetic};
 ghost use Rattle.wt_tree.specs.Source.{flat};
 ghost use Rattle.wt_tree.specs.View.{view, views};
+ghost use Rattle.wt_tree.specs.declared.node.Node.{out-Node};
+ghost use Rattle.wt_selser.specs.Edits.{before};
 ghost use Rattle.wt_selser.specs.OpenTags.{any_ends_open, bare_len, ends_open, is_stop, node_ends_open, touches_open_tag};
+ghost use Rattle.wt_selser.specs.Passes.{IsReadTo};
 
+use crate::tag_pass::TagPass;
 use std::alloc::Global;
 use wt_kept::{Way, shape};
 use wt_span::NoMemory;
@@ -80,11 +84,19 @@ fn any_ends_open(alloc: Global, nodes: &[Node<'_>]) -> Result<bool, NoMemory>
     Ok(false)
 }
 
-/// Whether a block of the page touches an open tag; `before` is what stands before it in the page.
-pub fn touches_open_tag(alloc: Global, before: &[u8], block: &Node<'_>) -> Result<bool, NoMemory>
-    ensures { IfOk result (λ ends. ends ≡ touches_open_tag before.now (view block.now)) }
+/// Whether a block of the page touches an open tag.
+pub fn touches_open_tag(
+    alloc: Global,
+    page: &[u8],
+    tags: &mut TagPass,
+    block: &Node<'_>,
+) -> Result<bool, NoMemory>
+    requires { IsReadTo page.now tags.old }
+    ensures value { IfOk result (λ ends. ends ≡ touches_open_tag (before page.now (out-Node block.now).ranges) (view block.now)) }
+    ensures page { IsReadTo page.now tags.new }
 {
-    if ends_open(before) {
+    let within = tags.is_in_tag(page, block.ranges);
+    if within {
         return Ok(true);
     }
     any_ends_open(alloc, block.children.as_slice())
