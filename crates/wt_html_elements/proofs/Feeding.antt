@@ -1,58 +1,35 @@
--- What was fed, and one byte or some more.
-use Rattle.std.proofs.Common.{◌≡◌, ℕ, ◌+◌, ◌-◌, ◌<◌, ◌≤◌, Bool, true, false, codes, length-drop, Option, Some, None, Result, Ok, Err, List, [], ◌∷◌, ◌++◌, length, length-append, get_or, append_assoc, take, drop, refl, sym, ap, ◌∙◌, subst, arith}
-use Rattle.std.specs.Prelude.{IfSome, IfOk, IfErr, OnOk, if◌then◌else◌}
+-- What was read, and one byte or a run more.
+use Rattle.std.proofs.Common.{◌≡◌, ℕ, ◌+◌, ◌<◌, ◌≤◌, true, codes, length-drop, Option, Some, None, Result, Ok, Err, List, [], ◌∷◌, ◌++◌, length, take, drop, get_or, append_assoc, refl, sym, ap, ◌∙◌, subst, arith}
+use Rattle.std.specs.Prelude.{◌==◌}
 use Rattle.std.specs.List.{list_all}
-use Rattle.std.proofs.lemmas.List.{take-append-drop}
-use Rattle.std.proofs.Math.Seq.{take-add}
+use Rattle.std.proofs.lemmas.List.{take-append-drop, length-take-le}
 use Rattle.wt_html_grammar.specs.declared.why.HtmlWhy.{HtmlWhy}
-use Rattle.wt_html_grammar.specs.declared.why.HtmlWhy.TheVariants.{End}
 use Rattle.wt_html_grammar.specs.declared.event.Event.{Event}
-use Rattle.wt_html_grammar.specs.Grammar.{Front}
-use Rattle.wt_html_grammar.specs.Machine.{State, start, step, mended, run, onward}
-use Rattle.wt_html_grammar.specs.Places.{is_accepted}
-use Rattle.wt_html_grammar.specs.Markup.{Markup, empty, more, meaning, Stands}
-use Rattle.wt_html_grammar.specs.Events.{Building, calm, put, out, tell, tell_on, built}
-use Rattle.wt_html_grammar.proofs.Steps.{run_append}
-use Rattle.wt_html_grammar.proofs.Telling.{stands_told}
-use Rattle.wt_html_grammar.proofs.Places.{run_push, run_err, taken_last, taken_err, refused, cut_off, well_of, no_front}
-use Rattle.wt_html_elements.proofs.Reasons.{never_end}
-use Rattle.wt_html_grammar.proofs.Whole.{front_of}
+use Rattle.wt_html_grammar.specs.Signs.{is_void, is_lower, is_name_byte, is_attribute_byte, in_text, in_value}
+use Rattle.wt_html_grammar.specs.Machine.{State, start, first, doctype, inside, less, naming, gap, attribute, named_so, equals, value, valued, slashed, closing, closed, escaping, Escape, ampersand, apart, letters, sharp, digits, wide, Tag, step, mended, run, onward}
+use Rattle.wt_html_grammar.specs.Places.{taken}
+use Rattle.wt_html_grammar.specs.Markup.{empty}
+use Rattle.wt_html_grammar.specs.Events.{Building, calm, put, out, out_open, out_end, out_name, out_escape, unit_if, decoded, tell, tell_on, built}
+use Rattle.wt_html_grammar.proofs.Steps.{if_case, run_append}
+use Rattle.wt_html_grammar.proofs.Places.{run_push, run_err, taken_last, taken_err}
 use Rattle.wt_html_elements.specs.declared.fault.Fault.{Fault}
 use Rattle.wt_html_elements.specs.declared.fault.Fault.TheVariants as faults
-use Rattle.wt_html_elements.specs.declared.fault.HtmlRefusal.{HtmlRefusal}
-use Rattle.wt_html_elements.specs.declared.fault.HtmlRefusal.TheVariants as refusals
-use Rattle.wt_html_elements.specs.declared.content.Content.{Content}
-use Rattle.wt_html_elements.specs.declared.reader.Reader.{Reader}
 use Rattle.wt_html_elements.specs.declared.machine.Mode.{Mode}
 use Rattle.wt_html_elements.specs.declared.machine.Mode.TheVariants as modes
 use Rattle.wt_html_elements.specs.declared.machine.Within.{Within}
 use Rattle.wt_html_elements.specs.declared.machine.Within.TheVariants as withins
 use Rattle.wt_html_elements.specs.declared.machine.Machine.{Machine}
-use Rattle.wt_html_elements.specs.declared.builder.Builder.{Builder}
-use Rattle.wt_html_elements.specs.View.{inside_of, place_at, view, Takes}
-use Rattle.wt_html_elements.specs.Kept.{IsKept, is_between}
+use Rattle.wt_html_elements.specs.declared.reading.Reading.{Reading}
+use Rattle.wt_html_elements.specs.View.{inside_of, place_at, view, view_after}
+use Rattle.wt_html_elements.specs.Built.{building}
+use Rattle.wt_html_elements.specs.Held.{tag_len, moved, needed, spent, fits, may_be_put}
+use Rattle.wt_html_elements.specs.Kept.{IsKept}
 use Rattle.wt_html_elements.specs.Runs.{stays, put_run}
+use Rattle.wt_html_elements.specs.Reads.{parts_of, state_of, Reads, held_behind, TookByte, TookRun, Took}
 use Rattle.wt_html_elements.proofs.Keeping.{none_kept}
-use Rattle.wt_html_elements.proofs.Standing.{IsShort, next_held, push_kept}
-use Rattle.wt_html_elements.proofs.Runs.{runs_of}
-use Rattle.wt_html_elements.specs.Built.{view_content, views, building}
-use Rattle.wt_html_elements.specs.Answer.{RefusedFor, IsIll, Answers, FedAs, IsFed, answer_of, refusal_of}
-
-pub record Fed (r : Reader) (bytes : List ℕ) : Type 0 where
-  pub runs : run start bytes ≡ Ok (view r.machine)
-  pub count : r.taken ≡ length bytes
-  pub built : building r.builder ≡ built bytes
-  pub token : r.token_at ≤ r.taken
-  pub kept : IsKept bytes (r.taken - r.token_at)
-
-fed_none : (r : Reader) (bytes : List ℕ) → r.failed ≡ None → IsFed r bytes → Fed r bytes
-fed_none r bytes e h =
-    let P : Option HtmlRefusal → Type 0 = λ o. FedAs o r bytes in
-    let g : FedAs None r bytes = subst P e h in
-    record { runs = g.0; count = g.1; built = g.2; token = g.3; kept = g.4 }
-
-none_fed : (r : Reader) (bytes : List ℕ) → r.failed ≡ None → Fed r bytes → IsFed r bytes
-none_fed r bytes e h = let P : Option HtmlRefusal → Type 0 = λ o. FedAs o r bytes in subst P (sym e) (h.runs, h.count, h.built, h.token, h.kept)
+use Rattle.wt_html_elements.proofs.Standing.{IsShort, push_kept}
+use Rattle.wt_html_elements.proofs.Runs.{runs_of, run_view}
+use Rattle.wt_html_elements.proofs.Going.{Linked, Holds, goes_byte}
 
 tell_more : (bs cs : List ℕ) (t : State) (x : Building) (g : State → Building)
     → ((u : State) → run u bs ≡ Ok t → tell (g u) u (bs ++ cs) ≡ tell (tell (g u) u bs) t cs)
@@ -72,233 +49,218 @@ tell_append (b ∷ bs) cs x s t e = tell_more bs cs t x (λ u. put x (out s b)) 
 told_last : (x : Building) (s t : State) (b : ℕ) → mended b (step s b) ≡ Ok t → tell x s (b ∷ []) ≡ put x (out s b)
 told_last x s t b e = ap (tell_on x (λ u. put x (out s b))) e
 
--- nothing was fed
-pub new_fed : (r : Reader) → r.failed ≡ None → r.taken ≡ 0 → r.token_at ≡ 0 → view r.machine ≡ start → building r.builder ≡ calm [] empty → IsFed r []
-new_fed r e k a m b =
-    let P : ℕ → Type 0 = IsKept [] in
-    none_fed r [] e (record {
-      runs = ap Ok (sym m);
-      count = k;
-      built = b;
-      token = omega (arith, k, a);
-      kept = subst P (omega (arith, k, a)) none_kept;
-    })
+-- nothing was read
+pub new_reads : (g : Reading) → ((x : Building) → view g.machine x ≡ start) → building g.builder ≡ calm [] empty → Reads g [] 0
+new_reads g m b =
+    let s : state_of g ≡ start = m (parts_of g) in
+    (ap Ok (sym s), b ∙ ap (λ u. needed u (built [])) (sym s), ap (λ u. fits u (parts_of g)) s ∙ ap (fits start) b,
+    omega (arith, ap tag_len b, ap spent s), none_kept)
 
--- what is held after some bytes more
-held_after : (t : Bool) (taken at n new_taken new_at : ℕ) → at ≤ taken → new_taken ≡ taken + n → new_at ≡ (if t then taken + n else at)
-    → (new_at ≤ new_taken) × (next_held t ((taken - at) + n) ≡ new_taken - new_at)
-held_after true taken at n new_taken new_at le e f = (omega (arith, e, f), omega (arith, e, f))
-held_after false taken at n new_taken new_at le e f = (omega (arith, e, f), omega (arith, e, f, le))
-
-short_at : (k : Mode) (m : Machine) → IsShort (place_at k m)
-short_at modes.Start m = tt
-short_at modes.First m = tt
-short_at modes.Doctype m = omega (arith, length-drop m.at (codes "doctype html>"))
-short_at modes.Inside m = tt
-short_at modes.Less m = tt
-short_at modes.Naming m = tt
-short_at modes.Gap m = tt
-short_at modes.Attribute m = tt
-short_at modes.Named m = tt
-short_at modes.Equals m = tt
-short_at modes.Value m = tt
-short_at modes.Valued m = tt
-short_at modes.Slashed m = tt
-short_at modes.Closing m = tt
-short_at modes.Closed m = tt
+short_at : (k : Mode) (m : Machine) (x : Building) → IsShort (place_at k m x)
+short_at modes.Start m x = tt
+short_at modes.First m x = tt
+short_at modes.Doctype m x = omega (arith, length-drop m.at (codes "doctype html>"))
+short_at modes.Inside m x = tt
+short_at modes.Less m x = tt
+short_at modes.Naming m x = tt
+short_at modes.Gap m x = tt
+short_at modes.Attribute m x = tt
+short_at modes.Named m x = tt
+short_at modes.Equals m x = tt
+short_at modes.Value m x = tt
+short_at modes.Valued m x = tt
+short_at modes.Slashed m x = tt
+short_at modes.Closing m x = tt
+short_at modes.Closed m x = tt
 
 short_in : (w : Within) (s : State) → IsShort s → IsShort (inside_of w s)
 short_in withins.Nothing s h = h
 short_in (withins.Escape e) s h = tt
 short_in (withins.Character f) s h = tt
 
-short_view : (m : Machine) → IsShort (view m)
-short_view m = short_in m.within (place_at m.mode m) (short_at m.mode m)
+short_view : (m : Machine) (x : Building) → IsShort (view m x)
+short_view m x = short_in m.within (place_at m.mode m x) (short_at m.mode m x)
+
+linked_at : (k : Mode) (m : Machine) (x : Building) → Linked (place_at k m x) x
+linked_at modes.Start m x = tt
+linked_at modes.First m x = tt
+linked_at modes.Doctype m x = tt
+linked_at modes.Inside m x = tt
+linked_at modes.Less m x = tt
+linked_at modes.Naming m x = tt
+linked_at modes.Gap m x = tt
+linked_at modes.Attribute m x = (refl, refl)
+linked_at modes.Named m x = tt
+linked_at modes.Equals m x = tt
+linked_at modes.Value m x = tt
+linked_at modes.Valued m x = tt
+linked_at modes.Slashed m x = tt
+linked_at modes.Closing m x = tt
+linked_at modes.Closed m x = tt
+
+linked_in : (w : Within) (s : State) (x : Building) → Linked s x → Linked (inside_of w s) x
+linked_in withins.Nothing s x h = h
+linked_in (withins.Escape e) s x h = tt
+linked_in (withins.Character f) s x h = tt
 
 -- a byte that was taken
-pub byte_ok : (r q : Reader) (m : Machine) (y : Builder) (b : ℕ) (v : Event) → r.failed ≡ None → q.failed ≡ r.failed → q.taken ≡ r.taken + 1
-    → q.token_at ≡ (if is_between (view m) then r.taken + 1 else r.token_at) → q.machine ≡ m → q.builder ≡ y
-    → mended b (step (view r.machine) b) ≡ Ok (view m) → v ≡ out (view r.machine) b → building y ≡ put (building r.builder) v
-    → (bytes : List ℕ) → IsFed r bytes → IsFed q (bytes ++ b ∷ [])
-byte_ok r q m y b v e f k a machine builder h o w bytes fed =
-    let g = fed_none r bytes e fed in
-    let held = held_after (is_between (view m)) r.taken r.token_at 1 q.taken q.token_at g.token k a in
-    let P : ℕ → Type 0 = IsKept (bytes ++ b ∷ []) in
-    none_fed q (bytes ++ b ∷ []) (f ∙ e) (record {
-      runs = run_push bytes b start (view r.machine) g.runs ∙ h ∙ ap (λ n. Ok (view n)) (sym machine);
-      count = omega (arith, length-append bytes (b ∷ []), g.count, k);
-      built = ap building builder ∙ w ∙ ap (put (building r.builder)) o ∙ ap (λ x. put x (out (view r.machine) b)) g.built
-          ∙ sym (told_last (built bytes) (view r.machine) (view m) b h)
-          ∙ sym (tell_append bytes (b ∷ []) (calm [] empty) start (view r.machine) g.runs);
-      token = held.0;
-      kept = subst P held.1 (push_kept bytes b (r.taken - r.token_at) (view r.machine) (view m) g.runs h (short_view m) g.kept);
-    })
+pub byte_reads : (g h : Reading) (b : ℕ) (e : Event) → mended b (step (state_of g) b) ≡ Ok (view_after h.machine (parts_of g) e) → e ≡ out (state_of g) b
+    → parts_of h ≡ moved (parts_of g) e → (bytes : List ℕ) (k : ℕ) → Reads g bytes k → Reads h (bytes ++ b ∷ []) (held_behind (state_of h) (k + 1))
+byte_reads g h b e m o p bytes k r =
+    let s : State = state_of g in
+    let t : State = state_of h in
+    let x : Building = parts_of g in
+    let y : Building = built bytes in
+    let f : mended b (step s b) ≡ Ok t = m ∙ ap (λ z. Ok (view h.machine z)) (sym p) in
+    let q : parts_of h ≡ moved x (out s b) = p ∙ ap (moved x) o in
+    let l : Linked s x = linked_in g.machine.within (place_at g.machine.mode g.machine x) x (linked_at g.machine.mode g.machine x) in
+    let n : Holds t (moved x (out s b)) (put y (out s b)) (k + 1) = goes_byte s t b x y k l r.1 r.2 r.3 f in
+    let u : built (bytes ++ b ∷ []) ≡ put y (out s b) =
+    tell_append bytes (b ∷ []) (calm [] empty) start s r.0 ∙ told_last y s t b f in
+    (run_push bytes b start s r.0 ∙ f, q ∙ n.same ∙ ap (needed t) (sym u), ap (fits t) q ∙ n.fit, omega (arith, ap tag_len q, n.few),
+    push_kept bytes b k s t r.0 f (short_view h.machine (parts_of h)) r.4)
 
--- the place of the open token after so many bytes
-abbrev token_after : Machine → ℕ → ℕ → ℕ → ℕ
-token_after m taken n at = if is_between (view m) then taken + n else at
+pub byte_ill : (g h : Reading) (b : ℕ) (w : HtmlWhy) → mended b (step (state_of g) b) ≡ Err w → (bytes : List ℕ) (k : ℕ) → Reads g bytes k
+    → TookByte (Err (faults.Html w)) h bytes b k
+byte_ill g h b w m bytes k r = (run_push bytes b start (state_of g) r.0 ∙ m, taken_last bytes b start (state_of g) w r.0 m)
 
--- a run of bytes that was taken
-pub run_ok : (r p q : Reader) (bs : List ℕ) (n : ℕ) → r.failed ≡ None → p.failed ≡ r.failed → p.taken ≡ r.taken → p.token_at ≡ r.token_at
-    → p.machine ≡ r.machine
-    → building p.builder ≡ put_run (building r.builder) (view r.machine) bs
-    → q.failed ≡ p.failed → q.taken ≡ p.taken + n → q.token_at ≡ (if is_between (view p.machine) then p.taken + n else p.token_at)
-    → q.machine ≡ p.machine → q.builder ≡ p.builder → n ≡ length bs → 0 < length bs → list_all (stays (view r.machine)) bs ≡ true
-    → (bytes : List ℕ) → IsFed r bytes → IsFed q (bytes ++ bs)
-run_ok r p q bs n e pf pt pa pm w qf qt qa qm qb is lt all bytes fed =
-    let g = fed_none r bytes e fed in
-    let x = runs_of (view r.machine) bs lt all in
-    let k : q.taken ≡ r.taken + length bs = omega (arith, qt, pt, is) in
-    let a : q.token_at ≡ token_after r.machine r.taken (length bs) r.token_at =
-    qa ∙ ap (λ m. token_after m p.taken n p.token_at) pm ∙ ap (λ t. token_after r.machine t n p.token_at) pt
-    ∙ ap (λ t. token_after r.machine r.taken t p.token_at) is ∙ ap (token_after r.machine r.taken (length bs)) pa in
-    let held = held_after (is_between (view r.machine)) r.taken r.token_at (length bs) q.taken q.token_at g.token k a in
-    let P : ℕ → Type 0 = IsKept (bytes ++ bs) in
-    none_fed q (bytes ++ bs) (qf ∙ pf ∙ e) (record {
-      runs = run_append start bytes bs ∙ ap (onward (λ u. run u bs)) g.runs ∙ x.runs ∙ ap (λ m. Ok (view m)) (sym (qm ∙ pm));
-      count = omega (arith, length-append bytes bs, g.count, k);
-      built = ap building qb ∙ w ∙ ap (λ y. put_run y (view r.machine) bs) g.built ∙ sym (x.tells (built bytes))
-          ∙ sym (tell_append bytes bs (calm [] empty) start (view r.machine) g.runs);
-      token = held.0;
-      kept = subst P held.1 (x.keeps bytes (r.taken - r.token_at) (short_view r.machine) g.runs g.kept);
-    })
+-- a run that was taken
+pub run_reads : (g h : Reading) (bs : List ℕ) → h.machine ≡ g.machine → g.machine.within ≡ withins.Nothing
+    → parts_of h ≡ put_run (parts_of g) (state_of g) bs → 0 < length bs → list_all (stays (state_of g)) bs ≡ true
+    → (bytes : List ℕ) (k : ℕ) → Reads g bytes k → Reads h (bytes ++ bs) (held_behind (state_of h) (k + length bs))
+run_reads g h bs m z p lt all bytes k r =
+    let s : State = state_of g in
+    let t : State = state_of h in
+    let y : Building = built bytes in
+    let x = runs_of s bs lt all in
+    let e : t ≡ s = ap (λ n. view n (parts_of h)) m ∙ ap (view g.machine) p ∙ run_view g.machine (parts_of g) bs z in
+    let q : parts_of h ≡ put_run (needed s y) s bs = p ∙ ap (λ v. put_run v s bs) r.1 in
+    let P : State → Type 0 = λ u.
+        (run start (bytes ++ bs) ≡ Ok u) × (parts_of h ≡ needed u (built (bytes ++ bs))) × (fits u (parts_of h) ≡ true)
+        × (tag_len (parts_of h) + spent u ≤ held_behind u (k + length bs)) × IsKept (bytes ++ bs) (held_behind u (k + length bs)) in
+    let few : tag_len (needed s y) + spent s ≤ k = omega (arith, ap tag_len r.1, r.3) in
+    let u : built (bytes ++ bs) ≡ put_run y s bs = tell_append bytes bs (calm [] empty) start s r.0 ∙ x.tells y in
+    subst P (sym e) (
+      run_append start bytes bs ∙ ap (onward (λ v. run v bs)) r.0 ∙ x.runs,
+      q ∙ x.same y ∙ ap (needed s) (sym u),
+      ap (fits s) p ∙ x.fit (parts_of g) r.2,
+      omega (arith, ap tag_len q, x.few y k few),
+      x.keeps bytes k (short_view g.machine (parts_of g)) r.0 r.4,
+    )
 
--- no memory
-pub byte_memory : (r q : Reader) (b : ℕ) → q.failed ≡ Some refusals.NoMemory → (bytes : List ℕ) → IsFed r bytes → IsFed q (bytes ++ b ∷ [])
-byte_memory r q b e bytes fed = let P : Option HtmlRefusal → Type 0 = λ o. FedAs o q (bytes ++ b ∷ []) in subst P (sym e) tt
+-- what a byte tells may be built
+may_open : (t : Tag) (b : ℕ) (x : Building) → may_be_put x (out_open t b) ≡ true
+may_open t b x =
+    if_case (λ e. may_be_put x e ≡ true) (b == 62) _ _ (λ _. if_case (λ e. may_be_put x e ≡ true) (is_void t.name) _ _ (λ _. refl) (λ _. refl)) (λ _. refl)
 
--- a byte that wasn't
-pub byte_err : (r q : Reader) (b : ℕ) (v : Event) (f : Fault) (s : State) → r.failed ≡ None → q.failed ≡ Some (refusal_of r.taken f)
-    → Takes (mended b (step (view r.machine) b)) v (Err f) s
-    → (bytes : List ℕ) → IsFed r bytes → IsFed q (bytes ++ b ∷ [])
-byte_err r q b v (faults.Html w) s e g h bytes fed =
-    let d = fed_none r bytes e fed in
-    let P : Option HtmlRefusal → Type 0 = λ o. FedAs o q (bytes ++ b ∷ []) in
-    subst P (sym g) (run_push bytes b start (view r.machine) d.runs ∙ h, taken_last bytes b start (view r.machine) w d.runs h ∙ sym d.count)
-byte_err r q b v faults.NoMemory s e g h bytes fed = byte_memory r q b g bytes fed
+may_end : (b : ℕ) (x : Building) → may_be_put x (out_end b) ≡ true
+may_end b x = if_case (λ e. may_be_put x e ≡ true) (b == 62) _ _ (λ _. refl) (λ _. refl)
 
--- a reader that has failed takes no notice of what comes
-pub failed_fed : (o : Option HtmlRefusal) (e : HtmlRefusal) (r : Reader) (bytes others : List ℕ) → o ≡ Some e → FedAs o r bytes → FedAs o r (bytes ++ others)
-failed_fed None e r bytes others is h = absurd cc
-failed_fed (Some (refusals.Html place w)) e r bytes others is h = (run_err bytes others start w h.0, taken_err bytes others start w h.0 ∙ h.1)
-failed_fed (Some refusals.NoMemory) e r bytes others is h = tt
+may_name : (b : ℕ) (x : Building) → may_be_put x (out_name b) ≡ true
+may_name b x = if_case (λ e. may_be_put x e ≡ true) (is_lower b) _ _ (λ _. refl) (λ _. refl)
 
--- what a failed reader says is right
-pub failed_right : (o : Option HtmlRefusal) (e : HtmlRefusal) (r : Reader) (bytes : List ℕ) → o ≡ Some e → FedAs o r bytes → RefusedFor bytes e
-failed_right None e r bytes is h = absurd cc
-failed_right (Some (refusals.Html place w)) e r bytes is h =
-    let f = refused bytes w h.0 in
-    let P : ℕ → Type 0 = λ k. RefusedFor bytes (refusals.Html k w) in
-    let Q : HtmlRefusal → Type 0 = RefusedFor bytes in
-    let same : refusals.Html place w ≡ e = cc in
-    subst Q same (subst P h.1 f)
-failed_right (Some refusals.NoMemory) e r bytes is h =
-    let Q : HtmlRefusal → Type 0 = RefusedFor bytes in
-    let same : refusals.NoMemory ≡ e = cc in
-    subst Q same tt
+may_text : (ns : List (List ℕ)) (o : Option ℕ) (x : Building) → may_be_put x (unit_if (inside ns) o) ≡ true
+may_text ns None x = refl
+may_text ns (Some c) x = refl
 
-pub going_front : (r : Reader) (bytes : List ℕ) → r.failed ≡ None → IsFed r bytes → Front bytes
-going_front r bytes e h = front_of bytes (view r.machine) (fed_none r bytes e h).runs
+may_value : (t : Tag) (q : ℕ) (o : Option ℕ) (x : Building) → may_be_put x (unit_if (value t q) o) ≡ true
+may_value t q None x = refl
+may_value t q (Some c) x = refl
 
--- what it has built stands for what was fed
-pub ends_well : (r : Reader) (bytes : List ℕ) (n : Content) → r.failed ≡ None → is_accepted (view r.machine) ≡ true
-    → ((t : Markup) → views r.builder.root.items ≡ more t empty → view_content n ≡ t) → IsFed r bytes → Stands bytes (view_content n)
-ends_well r bytes n e a o h =
-    let g = fed_none r bytes e h in
-    let w = well_of bytes (view r.machine) g.runs a in
-    let t : Markup = meaning w.0.root in
-    let s : Stands bytes t = (w.0, w.1, w.2, refl) in
-    let b = ap (λ (x : Building). x.root) (g.built ∙ stands_told bytes t s) in
-    (w.0, w.1, w.2, sym (o t b))
+may_text_escape : (ns : List (List ℕ)) (e : Escape) (b : ℕ) (x : Building) → may_be_put x (out_escape (inside ns) e b) ≡ true
+may_text_escape ns ampersand b x = refl
+may_text_escape ns apart b x = refl
+may_text_escape ns (letters n cs) b x = may_text ns (decoded (letters n cs) b) x
+may_text_escape ns sharp b x = refl
+may_text_escape ns (digits r k n) b x = may_text ns (decoded (digits r k n) b) x
+may_text_escape ns (wide low high n) b x = refl
 
-pub ends_ill : (r : Reader) (bytes : List ℕ) → r.failed ≡ None → is_accepted (view r.machine) ≡ false → IsFed r bytes
-    → RefusedFor bytes (refusals.Html r.taken End)
-ends_ill r bytes e a h =
-    let g = fed_none r bytes e h in
-    let P : ℕ → Type 0 = λ k. RefusedFor bytes (refusals.Html k End) in
-    subst P (sym g.count) (cut_off bytes (view r.machine) g.runs a)
+may_value_escape : (t : Tag) (q : ℕ) (e : Escape) (b : ℕ) (x : Building) → may_be_put x (out_escape (value t q) e b) ≡ true
+may_value_escape t q ampersand b x = refl
+may_value_escape t q apart b x = refl
+may_value_escape t q (letters n cs) b x = may_value t q (decoded (letters n cs) b) x
+may_value_escape t q sharp b x = refl
+may_value_escape t q (digits r k n) b x = may_value t q (decoded (digits r k n) b) x
+may_value_escape t q (wide low high n) b x = refl
 
-answer_ok : (f : Option HtmlRefusal) (u : Unit {0}) → Ok u ≡ answer_of f → f ≡ None
-answer_ok None u e = refl
-answer_ok (Some r) u e = cc
+may_put : (s : State) (b : ℕ) (x : Building) → fits s x ≡ true → may_be_put x (out s b) ≡ true
+may_put start b x f = refl
+may_put first b x f = may_name b x
+may_put (doctype cs) b x f = refl
+may_put (inside []) b x f = refl
+may_put (inside (n ∷ ns)) b x f = if_case (λ e. may_be_put x e ≡ true) (in_text b) _ _ (λ _. refl) (λ _. refl)
+may_put (less ns) b x f = may_name b x
+may_put (naming ns n) b x f = if_case (λ e. may_be_put x e ≡ true) (is_name_byte b) _ _ (λ _. refl) (λ _. may_open (record { outer = ns; name = n; seen = [] }) b x)
+may_put (gap t) b x f = if_case (λ e. may_be_put x e ≡ true) (is_attribute_byte b) _ _ (λ _. refl) (λ _. may_open t b x)
+may_put (attribute t a) b x f = if_case (λ e. may_be_put x e ≡ true) (is_attribute_byte b) _ _ (λ _. refl) (λ _. refl)
+may_put (named_so t) b x f = refl
+may_put (equals t) b x f =
+    if_case (λ e. may_be_put x e ≡ true) (b == 34) _ _ (λ _. refl) (λ _. if_case (λ e. may_be_put x e ≡ true) (b == 39) _ _ (λ _. refl) (λ _. refl))
+may_put (value t q) b x f =
+    if_case (λ e. may_be_put x e ≡ true) (in_value q b) _ _ (λ _. refl) (λ _. if_case (λ e. may_be_put x e ≡ true) (b == q) _ _ (λ _. f) (λ _. refl))
+may_put (valued t) b x f = may_open t b x
+may_put (slashed t) b x f = refl
+may_put (closing (c ∷ cs) ns) b x f = refl
+may_put (closing [] ns) b x f = may_end b x
+may_put (closed ns) b x f = may_end b x
+may_put (escaping (inside ns) e) b x f = may_text_escape ns e b x
+may_put (escaping (value t q) e) b x f = may_value_escape t q e b x
+may_put (escaping start e) b x f = absurd cc
+may_put (escaping first e) b x f = absurd cc
+may_put (escaping (doctype cs) e) b x f = absurd cc
+may_put (escaping (less ns) e) b x f = absurd cc
+may_put (escaping (naming ns n) e) b x f = absurd cc
+may_put (escaping (gap t) e) b x f = absurd cc
+may_put (escaping (attribute t a) e) b x f = absurd cc
+may_put (escaping (named_so t) e) b x f = absurd cc
+may_put (escaping (equals t) e) b x f = absurd cc
+may_put (escaping (valued t) e) b x f = absurd cc
+may_put (escaping (slashed t) e) b x f = absurd cc
+may_put (escaping (closing cs ns) e) b x f = absurd cc
+may_put (escaping (closed ns) e) b x f = absurd cc
+may_put (escaping (escaping s d) e) b x f = absurd cc
 
-pub answer_err : (f : Option HtmlRefusal) (e : HtmlRefusal) → Err e ≡ answer_of f → f ≡ Some e
-answer_err None e h = cc
-answer_err (Some r) e h = cc
+pub may_be : (s : State) (b : ℕ) (x : Building) (e : Event) → e ≡ out s b → fits s x ≡ true → may_be_put x e ≡ true
+may_be s b x e o f = ap (may_be_put x) o ∙ may_put s b x f
 
--- what a call that goes on says, and one that doesn't
-pub front_clause : (r : Reader) (o : Result (Unit {0}) HtmlRefusal) → o ≡ answer_of r.failed → OnOk o ((bytes : List ℕ) → IsFed r bytes → Front bytes)
-front_clause r (Ok u) e = λ bytes h. going_front r bytes (answer_ok r.failed u e) h
-front_clause r (Err f) e = tt
+-- what was taken of a piece
+pub run_took : (g h : Reading) (piece front : List ℕ) (n : ℕ) → front ≡ take n piece → n ≤ length piece
+    → ((bytes : List ℕ) (k : ℕ) → Reads g bytes k → Reads h (bytes ++ front) (held_behind (state_of h) (k + length front)))
+    → (bytes : List ℕ) (k : ℕ) → Reads g bytes k → Reads h (bytes ++ take n piece) (held_behind (state_of h) (k + n))
+run_took g h piece front n e l f bytes k r =
+    let P : List ℕ → ℕ → Type 0 = λ w j. Reads h (bytes ++ w) (held_behind (state_of h) (k + j)) in
+    let Q : ℕ → Type 0 = P (take n piece) in
+    let R : List ℕ → Type 0 = λ w. P w (length w) in
+    subst Q (length-take-le n piece l) (subst R e (f bytes k r))
 
-pub refused_clause : (r : Reader) (o : Result (Unit {0}) HtmlRefusal) → o ≡ answer_of r.failed
-    → IfErr o (λ e. (bytes : List ℕ) → IsFed r bytes → RefusedFor bytes e)
-refused_clause r (Ok u) e = tt
-refused_clause r (Err f) e = λ bytes h. failed_right r.failed f r bytes (answer_err r.failed f e) h
+pub byte_took : (g h : Reading) (piece : List ℕ) (b : ℕ) → b ∷ [] ≡ take 1 piece
+    → ((bytes : List ℕ) (k : ℕ) → Reads g bytes k → Reads h (bytes ++ b ∷ []) (held_behind (state_of h) (k + 1)))
+    → (bytes : List ℕ) (k : ℕ) → Reads g bytes k → Reads h (bytes ++ take 1 piece) (held_behind (state_of h) (k + 1))
+byte_took g h piece b e f bytes k r =
+    let P : List ℕ → Type 0 = λ w. Reads h (bytes ++ w) (held_behind (state_of h) (k + 1)) in subst P e (f bytes k r)
 
--- some of a piece behind what was fed of it
-pub some_fed : (r : Reader) (bytes piece rest : List ℕ) (at n : ℕ) → rest ≡ drop at piece → IsFed r ((bytes ++ take at piece) ++ take n rest)
-    → IsFed r (bytes ++ take (at + n) piece)
-some_fed r bytes piece rest at n is h =
-    let P : List ℕ → Type 0 = IsFed r in
-    let Q : List ℕ → Type 0 = λ w. IsFed r ((bytes ++ take at piece) ++ take n w) in
-    subst P (append_assoc bytes (take at piece) (take n (drop at piece)) ∙ ap (λ x. bytes ++ x) (sym (take-add at n piece))) (subst Q is h)
+pub run_failed : (g h : Reading) (piece front : List ℕ) (f : Fault) (o : Result ℕ Fault) → o ≡ Err f
+    → ((bytes : List ℕ) (k : ℕ) → Reads g bytes k → TookRun (Err f) h bytes front k) → (bytes : List ℕ) (k : ℕ) → Reads g bytes k → Took o h bytes piece k
+run_failed g h piece front f o e w bytes k r =
+    let P : Result ℕ Fault → Type 0 = λ p. Took p h bytes piece k in
+    let Q : Fault → Type 0 = λ d. Took (Err d) h bytes piece k in
+    subst P (sym e) (subst Q (sym (w bytes k r)) tt)
 
--- all of it, where the reader fails
-pub rest_fed : (r : Reader) (bytes piece rest : List ℕ) (at : ℕ) → rest ≡ drop at piece → IsFed r ((bytes ++ take at piece) ++ rest) → IsFed r (bytes ++ piece)
-rest_fed r bytes piece rest at is h =
-    let P : List ℕ → Type 0 = IsFed r in
-    let Q : List ℕ → Type 0 = λ w. IsFed r ((bytes ++ take at piece) ++ w) in
-    subst P (append_assoc bytes (take at piece) (drop at piece) ∙ ap (λ x. bytes ++ x) (take-append-drop at piece)) (subst Q is h)
+err_took : (h : Reading) (piece : List ℕ) (b : ℕ) (f : Fault) (bytes : List ℕ) (k : ℕ) → b ∷ [] ≡ take 1 piece → TookByte (Err f) h bytes b k
+    → Took (Err f) h bytes piece k
+err_took h piece b (faults.Html w) bytes k e t =
+    let whole : (bytes ++ b ∷ []) ++ drop 1 piece ≡ bytes ++ piece =
+    append_assoc bytes (b ∷ []) (drop 1 piece) ∙ ap (λ x. bytes ++ (x ++ drop 1 piece)) e ∙ ap (λ x. bytes ++ x) (take-append-drop 1 piece) in
+    let P : List ℕ → Type 0 = λ x. (run start x ≡ Err w) × (taken start x ≡ length bytes) in
+    subst P whole (run_err (bytes ++ b ∷ []) (drop 1 piece) start w t.0, taken_err (bytes ++ b ∷ []) (drop 1 piece) start w t.0 ∙ t.1)
+err_took h piece b faults.NoMemory bytes k e t = tt
 
--- a reader that has failed within a piece takes no notice of what comes
-pub front_fed : (r : Reader) (e : HtmlRefusal) (bytes piece front : List ℕ) (n : ℕ) → Err e ≡ answer_of r.failed → front ≡ take n piece
-    → IsFed r (bytes ++ front) → IfSome r.failed (λ _. IsFed r (bytes ++ piece))
-front_fed r e bytes piece front n a is h =
-    let P : List ℕ → Type 0 = IsFed r in
-    let Q : List ℕ → Type 0 = λ w. IsFed r (bytes ++ w) in
-    any_some r.failed (IsFed r (bytes ++ piece))
-    (subst P (append_assoc bytes (take n piece) (drop n piece) ∙ ap (λ x. bytes ++ x) (take-append-drop n piece))
-    (failed_fed r.failed e r (bytes ++ take n piece) (drop n piece) (answer_err r.failed e a) (subst Q is h)))
-  where
-    any_some : (o : Option HtmlRefusal) (X : Type 0) → X → IfSome o (λ _. X)
-    any_some None X x = tt
-    any_some (Some f) X x = x
-
-pub is_some_fed : (o : Option HtmlRefusal) (e : HtmlRefusal) (X : Type 0) → o ≡ Some e → IfSome o (λ _. X) → X
-is_some_fed None e X is h = absurd cc
-is_some_fed (Some f) e X is h = h
+pub byte_failed : (g h : Reading) (piece : List ℕ) (b : ℕ) (f : Fault) (o : Result ℕ Fault) → o ≡ Err f → b ∷ [] ≡ take 1 piece
+    → ((bytes : List ℕ) (k : ℕ) → Reads g bytes k → TookByte (Err f) h bytes b k) → (bytes : List ℕ) (k : ℕ) → Reads g bytes k → Took o h bytes piece k
+byte_failed g h piece b f o e d w bytes k r =
+    let P : Result ℕ Fault → Type 0 = λ p. Took p h bytes piece k in subst P (sym e) (err_took h piece b f bytes k d (w bytes k r))
 
 -- a byte is the front of a piece
 pub first_one : (piece : List ℕ) → 0 < length piece → get_or piece 0 0 ∷ [] ≡ take 1 piece
 first_one [] lt = absurd (omega arith)
 first_one (b ∷ bs) lt = refl
-
--- what it keeps
-pub kept_is : (r : Reader) (k : ℕ) → r.failed ≡ None → k ≡ r.taken - r.token_at → (bytes : List ℕ) → IsFed r bytes → IsKept bytes k
-kept_is r k e f bytes h = let P : ℕ → Type 0 = IsKept bytes in subst P (sym f) (fed_none r bytes e h).kept
-
--- no well-formed input begins so
-pub failed_ill : (o : Option HtmlRefusal) (e : HtmlRefusal) (r : Reader) (bytes : List ℕ) → o ≡ Some e → FedAs o r bytes → IsIll bytes e
-failed_ill None e r bytes is h = absurd cc
-failed_ill (Some (refusals.Html place w)) e r bytes is h =
-    let Q : HtmlRefusal → Type 0 = IsIll bytes in
-    let same : refusals.Html place w ≡ e = cc in
-    subst Q same (no_front bytes w h.0, never_end bytes w h.0)
-failed_ill (Some refusals.NoMemory) e r bytes is h =
-    let Q : HtmlRefusal → Type 0 = IsIll bytes in
-    let same : refusals.NoMemory ≡ e = cc in
-    subst Q same tt
-
-pub ill_clause : (r : Reader) (o : Result (Unit {0}) HtmlRefusal) → o ≡ answer_of r.failed → IfErr o (λ e. (bytes : List ℕ) → IsFed r bytes → IsIll bytes e)
-ill_clause r (Ok u) e = tt
-ill_clause r (Err f) e = λ bytes h. failed_ill r.failed f r bytes (answer_err r.failed f e) h
-
-no_memory : (bytes : List ℕ) (e : HtmlRefusal) → e ≡ refusals.NoMemory → RefusedFor bytes e
-no_memory bytes e h = let P : HtmlRefusal → Type 0 = RefusedFor bytes in subst P (sym h) tt
-
-pub ends : (r : Reader) (bytes : List ℕ) (o : Result Content HtmlRefusal) → r.failed ≡ None → is_accepted (view r.machine) ≡ true
-    → IfOk o (λ n. (t : Markup) → views r.builder.root.items ≡ more t empty → view_content n ≡ t) → IfErr o (λ e. e ≡ refusals.NoMemory)
-    → IsFed r bytes → Answers o bytes
-ends r bytes (Ok n) e a h m f = ends_well r bytes n e a h f
-ends r bytes (Err g) e a h m f = no_memory bytes g m

@@ -1,10 +1,12 @@
-pub mod Taking
 pub mod Contents
-pub mod Feeding
 pub mod Among
+pub mod Taking
 pub mod Scan
 pub mod Tokens
 pub mod Keeping
 pub mod Standing
-pub mod Runs
 pub mod Reasons
+pub mod Going
+pub mod Runs
+pub mod Feeding
+pub mod Answering

@@ -1,9 +1,9 @@
 -- Taking a run of bytes that stand for themselves is taking its bytes one by one.
-use Rattle.std.proofs.Common.{◌≡◌, ℕ, zero, suc, ◌+◌, ◌<◌, Bool, true, false, Ok, List, [], ◌∷◌, ◌++◌, length, drop, map, refl, sym, ap, ◌∙◌, subst, append_assoc, nat_lt, arith, codes}
-use Rattle.std.specs.Prelude.{◌==◌, ◌&&◌, nat_le, reverse}
+use Rattle.std.proofs.Common.{◌≡◌, ℕ, zero, suc, ◌+◌, ◌<◌, ◌≤◌, Bool, true, false, Ok, List, [], ◌∷◌, ◌++◌, length, drop, map, refl, sym, ap, ◌∙◌, subst, append_assoc, length-append, nat_lt, arith, codes}
+use Rattle.std.specs.Prelude.{◌&&◌, nat_le}
 use Rattle.std.specs.List.{list_all}
 use Rattle.std.proofs.lemmas.Bool.Decides.{nat_tests}
-use Rattle.std.proofs.lemmas.List.{length-reverse, length-map, append-nil}
+use Rattle.std.proofs.lemmas.List.{append-nil}
 use Rattle.wt_html_grammar.specs.Signs.{in_text, in_value}
 use Rattle.wt_html_grammar.specs.Machine.{State, start, first, doctype, inside, less, naming, gap, attribute, named_so, equals, value, valued, slashed, closing, closed, escaping, Tag, is_plain, mended, step, onward, run}
 use Rattle.wt_html_grammar.specs.Events.{Building, Frame, with_open, with_value, add_bytes, put, out, tell, tell_on}
@@ -15,8 +15,10 @@ use Rattle.wt_html_elements.specs.declared.machine.Mode.TheVariants as modes
 use Rattle.wt_html_elements.specs.declared.machine.Within.{Within}
 use Rattle.wt_html_elements.specs.declared.machine.Within.TheVariants as withins
 use Rattle.wt_html_elements.specs.declared.machine.Machine.{Machine}
-use Rattle.wt_html_elements.specs.View.{stack, inside_of, place_at, place_of, view}
+use Rattle.wt_html_elements.specs.View.{inside_of, place_at, place_of, view, names, first_name, other_names}
 use Rattle.wt_html_elements.specs.Runs.{stays, put_run}
+use Rattle.wt_html_elements.specs.Held.{tag_len, needed, spent, fits}
+use Rattle.wt_html_elements.specs.Reads.{held_behind}
 use Rattle.wt_html_elements.proofs.Standing.{IsShort, next_held, push_kept}
 
 both : (a b : Bool) → (a && b) ≡ true → (a ≡ true) × (b ≡ true)
@@ -94,12 +96,18 @@ tell_value t q (b ∷ bs) x h =
 pub record Runs (s : State) (bs : List ℕ) : Type 0 where
   pub runs : run s bs ≡ Ok s
   pub tells : (x : Building) → tell x s bs ≡ put_run x s bs
+  pub same : (y : Building) → put_run (needed s y) s bs ≡ needed s (put_run y s bs)
+  pub fit : (x : Building) → fits s x ≡ true → fits s (put_run x s bs) ≡ true
+  pub few : (y : Building) (k : ℕ) → tag_len (needed s y) + spent s ≤ k → tag_len (put_run (needed s y) s bs) + spent s ≤ held_behind s (k + length bs)
   pub keeps : (bytes : List ℕ) (k : ℕ) → IsShort s → run start bytes ≡ Ok s → IsKept bytes k → IsKept (bytes ++ bs) (next_held (is_between s) (k + length bs))
 
 runs_text : (n : List ℕ) (ns : List (List ℕ)) (bs : List ℕ) → 0 < length bs → list_all (is_plain in_text) bs ≡ true → Runs (inside (n ∷ ns)) bs
 runs_text n ns bs lt h = record {
   runs = run_stays (inside (n ∷ ns)) (is_plain in_text) (stays_text n ns) bs h;
   tells = λ x. tell_text n ns bs x h;
+  same = λ y. refl;
+  fit = λ x e. e;
+  few = λ y k l. omega arith;
   keeps = λ bytes k i r g. kept_stays (inside (n ∷ ns)) (is_plain in_text) (stays_text n ns) i bs bytes k lt h r g;
 }
 
@@ -107,6 +115,9 @@ runs_value : (t : Tag) (q : ℕ) (bs : List ℕ) → 0 < length bs → list_all 
 runs_value t q bs lt h = record {
   runs = run_stays (value t q) (is_plain (in_value q)) (stays_value t q) bs h;
   tells = λ x. tell_value t q bs x h;
+  same = λ y. refl;
+  fit = λ x e. e;
+  few = λ y k l. omega (arith, length-append y.value bs, l);
   keeps = λ bytes k i r g. kept_stays (value t q) (is_plain (in_value q)) (stays_value t q) i bs bytes k lt h r g;
 }
 
@@ -133,24 +144,6 @@ runs_of (closing cs ns) bs lt h = absurd (nowhere (stays (closing cs ns)) (λ b.
 runs_of (closed ns) bs lt h = absurd (nowhere (stays (closed ns)) (λ b. refl) bs lt h)
 runs_of (escaping s e) bs lt h = absurd (nowhere (stays (escaping s e)) (λ b. refl) bs lt h)
 
--- in the contents of an open element
-stays_open : (ns : List (List ℕ)) (bs : List ℕ) → (length ns == 0) ≡ false → list_all (is_plain in_text) bs ≡ true → list_all (stays (inside ns)) bs ≡ true
-stays_open [] bs e h = absurd cc
-stays_open (n ∷ ns) bs e h = h
-
-pub stays_inside : {V : Type 0} (f : V → List ℕ) (xs ys : List V) (bs : List ℕ) (t : Bool) → xs ≡ ys → t ≡ (length xs == 0) → t ≡ false
-    → list_all (is_plain in_text) bs ≡ true → list_all (stays (inside (reverse (map f ys)))) bs ≡ true
-stays_inside f xs ys bs t same e g h =
-    stays_open (reverse (map f ys)) bs
-    (ap (λ (k : ℕ). k == 0) (length-reverse (map f ys) ∙ length-map ys f ∙ ap length (sym same)) ∙ sym e ∙ g) h
-
-pub stays_at : (m : Machine) (bs : List ℕ) → m.within ≡ withins.Nothing → m.mode ≡ modes.Inside → list_all (stays (inside (stack m))) bs ≡ true
-    → list_all (stays (view m)) bs ≡ true
-stays_at m bs e f h =
-    let P : Within → Type 0 = λ v. list_all (stays (inside_of v (place_of m))) bs ≡ true in
-    let Q : Mode → Type 0 = λ k. list_all (stays (place_at k m)) bs ≡ true in
-    subst P (sym e) (subst Q (sym f) h)
-
 -- a doctype is whole
 pub between_word : (word : List ℕ) (at : ℕ) → is_between (doctype (drop at word)) ≡ nat_le (length word) at
 between_word [] zero = refl
@@ -167,9 +160,48 @@ between_word (c ∷ cs) (suc at) = between_word cs at ∙ less (length cs) at
     less : (k m : ℕ) → nat_le k m ≡ nat_le (suc k) (suc m)
     less k m = grind (arith, nat_tests)
 
-pub between_doctype : (m : Machine) (w : List ℕ) → m.within ≡ withins.Nothing → m.mode ≡ modes.Doctype → w ≡ codes "doctype html>"
-    → nat_le (length w) m.at ≡ is_between (view m)
-between_doctype m w e f g =
-    let P : Within → Type 0 = λ v. nat_le (length w) m.at ≡ is_between (inside_of v (place_of m)) in
-    let Q : Mode → Type 0 = λ k. nat_le (length w) m.at ≡ is_between (place_at k m) in
+pub between_doctype : (m : Machine) (x : Building) (w : List ℕ) → m.within ≡ withins.Nothing → m.mode ≡ modes.Doctype → w ≡ codes "doctype html>"
+    → nat_le (length w) m.at ≡ is_between (view m x)
+between_doctype m x w e f g =
+    let P : Within → Type 0 = λ v. nat_le (length w) m.at ≡ is_between (inside_of v (place_of m x)) in
+    let Q : Mode → Type 0 = λ k. nat_le (length w) m.at ≡ is_between (place_at k m x) in
     subst P (sym e) (subst Q (sym f) (ap (λ (xs : List ℕ). nat_le (length xs) m.at) g ∙ sym (between_word (codes "doctype html>") m.at)))
+
+-- a run leaves the machine where it is
+names_add : (fs : List Frame) (bs : List ℕ) → names (add_bytes fs bs) ≡ names fs
+names_add [] bs = refl
+names_add (f ∷ fs) bs = refl
+
+first_add : (fs : List Frame) (bs : List ℕ) → first_name (add_bytes fs bs) ≡ first_name fs
+first_add [] bs = refl
+first_add (f ∷ fs) bs = refl
+
+other_add : (fs : List Frame) (bs : List ℕ) → other_names (add_bytes fs bs) ≡ other_names fs
+other_add [] bs = refl
+other_add (f ∷ fs) bs = refl
+
+abbrev tag_with : List (List ℕ) → List ℕ → List (List ℕ) → Tag
+tag_with ns n seen = record { outer = ns; name = n; seen = seen }
+
+run_place : (k : Mode) (m : Machine) (x : Building) (bs : List ℕ) → place_at k m (put_run x (place_at k m x) bs) ≡ place_at k m x
+run_place modes.Start m x bs = refl
+run_place modes.First m x bs = refl
+run_place modes.Doctype m x bs = refl
+run_place modes.Inside m x bs = ap inside (names_add x.opened bs)
+run_place modes.Less m x bs = ap less (names_add x.opened bs)
+run_place modes.Naming m x bs = ap (λ ns. naming ns x.name) (names_add x.opened bs)
+run_place modes.Gap m x bs = ap (λ ns. gap (tag_with ns x.name (map (λ p. p.0) x.attributes))) (names_add x.opened bs)
+run_place modes.Attribute m x bs = ap (λ ns. attribute (tag_with ns x.name (map (λ p. p.0) x.attributes)) x.key) (names_add x.opened bs)
+run_place modes.Named m x bs = ap (λ ns. named_so (tag_with ns x.name (map (λ p. p.0) x.attributes ++ x.key ∷ []))) (names_add x.opened bs)
+run_place modes.Equals m x bs = ap (λ ns. equals (tag_with ns x.name (map (λ p. p.0) x.attributes ++ x.key ∷ []))) (names_add x.opened bs)
+run_place modes.Value m x bs = refl
+run_place modes.Valued m x bs = ap (λ ns. valued (tag_with ns x.name (map (λ p. p.0) x.attributes))) (names_add x.opened bs)
+run_place modes.Slashed m x bs = ap (λ ns. slashed (tag_with ns x.name (map (λ p. p.0) x.attributes))) (names_add x.opened bs)
+run_place modes.Closing m x bs = ap (λ n. closing (drop m.at n) (other_names (add_bytes x.opened bs))) (first_add x.opened bs)
+    ∙ ap (closing (drop m.at (first_name x.opened))) (other_add x.opened bs)
+run_place modes.Closed m x bs = ap closed (other_add x.opened bs)
+
+pub run_view : (m : Machine) (x : Building) (bs : List ℕ) → m.within ≡ withins.Nothing → view m (put_run x (view m x) bs) ≡ view m x
+run_view m x bs e =
+    let P : Within → Type 0 = λ w. inside_of w (place_at m.mode m (put_run x (inside_of w (place_at m.mode m x)) bs)) ≡ inside_of w (place_at m.mode m x) in
+    subst P (sym e) (run_place m.mode m x bs)

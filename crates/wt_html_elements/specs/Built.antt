@@ -1,12 +1,14 @@
 -- What contracts see in what is built.
-use Rattle.std.specs.Prelude.{Option, Some, None, List, [], ◌∷◌, map, reverse}
+use Rattle.std.specs.Prelude.{◌≡◌, Option, Some, None, List, [], ◌∷◌, map, reverse}
 use Rattle.wt_html_grammar.specs.Markup.{Pair, Markup, Markups, text, node, empty, more}
 use Rattle.wt_html_grammar.specs.Events.{Frame, Building}
 use Rattle.wt_html_elements.specs.declared.content.Attribute.{Attribute}
 use Rattle.wt_html_elements.specs.declared.content.Content.{Content, fold-Content}
 use Rattle.wt_html_elements.specs.declared.content.Content.TheOpen.{Content-F}
 use Rattle.wt_html_elements.specs.declared.content.OpenElement.{OpenElement}
+use Rattle.wt_html_elements.specs.declared.tag.OpenTag.{OpenTag}
 use Rattle.wt_html_elements.specs.declared.builder.Builder.{Builder}
+use Rattle.wt_html_elements.specs.Attributes.{pairs_in}
 
 abbrev pub markups : List Markup → Markups
 markups [] = empty
@@ -36,12 +38,20 @@ abbrev pub frames : Option OpenElement → List OpenElement → List Frame
 frames None others = []
 frames (Some e) others = frame e ∷ reverse (map frame others)
 
-abbrev pub building : Builder → Building
-building b = record {
-  opened = frames b.inner b.outer.items;
-  name = b.name.items;
-  attributes = pairs b.attributes.items;
-  key = b.key.items;
-  value = b.value.items;
-  root = views b.root.items;
+-- nothing is left of a tag
+abbrev pub IsEmptyTag : OpenTag → Type 0
+IsEmptyTag t = (t.name.items ≡ []) × (pairs_in t.attributes ≡ []) × (t.key.items ≡ []) × (t.value.items ≡ [])
+
+-- the start tag that is read, among the open elements and the root
+abbrev pub tagged : OpenTag → List Frame → Markups → Building
+tagged t fs root = record {
+  opened = fs;
+  name = t.name.items;
+  attributes = pairs_in t.attributes;
+  key = t.key.items;
+  value = t.value.items;
+  root = root;
 }
+
+abbrev pub building : Builder → Building
+building b = tagged b.tag (frames b.inner b.outer.items) (views b.root.items)

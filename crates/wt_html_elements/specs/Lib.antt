@@ -1,6 +1,10 @@
 pub mod View
 pub mod Built
 pub mod Answer
-pub mod Names
+pub mod Attributes
 pub mod Runs
 pub mod Kept
+pub mod Held
+pub mod Reads
+pub mod Fed
+pub mod Faults

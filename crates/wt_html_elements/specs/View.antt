@@ -1,12 +1,10 @@
--- What contracts see in a machine: its state.
-use Rattle.std.specs.Prelude.{◌≡◌, ℕ, Option, Some, None, Result, Ok, Err, List, drop, map, reverse, codes, if◌then◌else◌}
+-- What contracts see in a machine, over what was built so far: its state.
+use Rattle.std.specs.Prelude.{◌≡◌, ℕ, Option, Some, None, Result, Ok, Err, List, [], ◌∷◌, drop, map, codes}
 use Rattle.wt_html_grammar.specs.declared.why.HtmlWhy.{HtmlWhy}
-use Rattle.wt_html_grammar.specs.declared.why.HtmlWhy.TheVariants as why
 use Rattle.wt_html_grammar.specs.declared.event.Event.{Event}
-use Rattle.wt_html_grammar.specs.Signs.{letters_of, begins_character}
-use Rattle.wt_html_grammar.specs.Machine.{Escape, ampersand, apart, letters, sharp, digits, wide, Turn, stop, on, ended, State, start, first, doctype, inside, less, naming, gap, attribute, named_so, equals, value, valued, slashed, closing, closed, escaping, Tag}
-use Rattle.wt_html_elements.specs.declared.fault.Fault.{Fault}
-use Rattle.wt_html_elements.specs.declared.fault.Fault.TheVariants as faults
+use Rattle.wt_html_grammar.specs.Signs.{letters_of}
+use Rattle.wt_html_grammar.specs.Machine.{Escape, ampersand, apart, letters, sharp, digits, wide, Turn, stop, on, ended, State, start, first, doctype, inside, less, naming, gap, attribute, named_so, equals, value, valued, slashed, closing, closed, escaping, Tag, with_seen}
+use Rattle.wt_html_grammar.specs.Events.{Frame, Building}
 use Rattle.wt_html_elements.specs.declared.escape.EscapeAt.{EscapeAt}
 use Rattle.wt_html_elements.specs.declared.escape.EscapeAt.TheVariants as escapes
 use Rattle.wt_html_elements.specs.declared.escape.TurnTo.{TurnTo}
@@ -16,7 +14,7 @@ use Rattle.wt_html_elements.specs.declared.machine.Mode.TheVariants as modes
 use Rattle.wt_html_elements.specs.declared.machine.Within.{Within}
 use Rattle.wt_html_elements.specs.declared.machine.Within.TheVariants as withins
 use Rattle.wt_html_elements.specs.declared.machine.Machine.{Machine}
-use Rattle.wt_html_elements.specs.Names.{names_in}
+use Rattle.wt_html_elements.specs.Held.{moved}
 
 abbrev pub escape_of : EscapeAt → Escape
 escape_of escapes.Ampersand = ampersand
@@ -31,47 +29,63 @@ Turns turns.Stop t c = t ≡ stop
 Turns (turns.On e) t c = (t ≡ on (escape_of e)) × (c ≡ None)
 Turns (turns.Ended x) t c = (t ≡ ended) × (c ≡ Some x)
 
--- the names of the open elements, the innermost first
-abbrev pub stack : Machine → List (List ℕ)
-stack m = reverse (map (λ n. n.items) m.open.items)
+-- the names of open elements, the innermost first
+abbrev pub names : List Frame → List (List ℕ)
+names fs = map (λ f. f.name) fs
 
-abbrev pub tag_of : Machine → Tag
-tag_of m = record { outer = stack m; name = m.name.items; seen = names_in m.seen }
+-- the name of the innermost, and those round it
+abbrev pub first_name : List Frame → List ℕ
+first_name [] = []
+first_name (f ∷ fs) = f.name
 
-abbrev pub place_at : Mode → Machine → State
-place_at modes.Start m = start
-place_at modes.First m = first
-place_at modes.Doctype m = doctype (drop m.at (codes "doctype html>"))
-place_at modes.Inside m = inside (stack m)
-place_at modes.Less m = less (stack m)
-place_at modes.Naming m = naming (stack m) m.name.items
-place_at modes.Gap m = gap (tag_of m)
-place_at modes.Attribute m = attribute (tag_of m) m.word.items
-place_at modes.Named m = named_so (tag_of m)
-place_at modes.Equals m = equals (tag_of m)
-place_at modes.Value m = value (tag_of m) m.quote
-place_at modes.Valued m = valued (tag_of m)
-place_at modes.Slashed m = slashed (tag_of m)
-place_at modes.Closing m = closing (drop m.at m.name.items) (stack m)
-place_at modes.Closed m = closed (stack m)
+abbrev pub other_names : List Frame → List (List ℕ)
+other_names [] = []
+other_names (f ∷ fs) = names fs
 
-abbrev pub place_of : Machine → State
-place_of m = place_at m.mode m
+-- the names of the whole attributes
+abbrev pub attribute_names : Building → List (List ℕ)
+attribute_names x = map (λ p. p.0) x.attributes
+
+-- the start tag that is read; and behind the name of an attribute, which is then one of its names
+abbrev pub tag_of : Building → Tag
+tag_of x = record { outer = names x.opened; name = x.name; seen = attribute_names x }
+
+abbrev pub tag_behind_key : Building → Tag
+tag_behind_key x = with_seen (tag_of x) x.key
+
+abbrev pub place_at : Mode → Machine → Building → State
+place_at modes.Start m x = start
+place_at modes.First m x = first
+place_at modes.Doctype m x = doctype (drop m.at (codes "doctype html>"))
+place_at modes.Inside m x = inside (names x.opened)
+place_at modes.Less m x = less (names x.opened)
+place_at modes.Naming m x = naming (names x.opened) x.name
+place_at modes.Gap m x = gap (tag_of x)
+place_at modes.Attribute m x = attribute (tag_of x) x.key
+place_at modes.Named m x = named_so (tag_behind_key x)
+place_at modes.Equals m x = equals (tag_behind_key x)
+place_at modes.Value m x = value (tag_behind_key x) m.quote
+place_at modes.Valued m x = valued (tag_of x)
+place_at modes.Slashed m x = slashed (tag_of x)
+place_at modes.Closing m x = closing (drop m.at (first_name x.opened)) (other_names x.opened)
+place_at modes.Closed m x = closed (other_names x.opened)
+
+abbrev pub place_of : Machine → Building → State
+place_of m x = place_at m.mode m x
 
 abbrev pub inside_of : Within → State → State
 inside_of withins.Nothing s = s
 inside_of (withins.Escape e) s = escaping s (escape_of e)
 inside_of (withins.Character f) s = escaping s (wide f.low f.high f.more)
 
-abbrev pub view : Machine → State
-view m = inside_of m.within (place_of m)
+abbrev pub view : Machine → Building → State
+view m x = inside_of m.within (place_of m x)
 
--- what a step answers, unless memory ran out: the next state and what the byte tells, or why not
-abbrev pub Takes : Result State HtmlWhy → Event → Result Event Fault → State → Type 0
-Takes o v (Ok e) s = (o ≡ Ok s) × (e ≡ v)
-Takes o v (Err (faults.Html w)) s = o ≡ Err w
-Takes o v (Err faults.NoMemory) s = Unit {0}
+-- the state once what a byte tells is built
+abbrev pub view_after : Machine → Building → Event → State
+view_after m x e = view m (moved x e)
 
-abbrev pub mended_fault : ℕ → Fault → Fault
-mended_fault b (faults.Html w) = faults.Html (if begins_character b then w else why.NotUtf8)
-mended_fault b faults.NoMemory = faults.NoMemory
+-- what a step answers: what the byte tells, with the state behind it, or why it can't stand there
+abbrev pub Takes : Result State HtmlWhy → Event → Result Event HtmlWhy → (Event → State) → Type 0
+Takes o v (Ok e) f = (o ≡ Ok (f e)) × (e ≡ v)
+Takes o v (Err w) f = o ≡ Err w

@@ -1,24 +1,26 @@
-ghost use Rattle.std.specs.Prelude.{◌≡◌, ℕ, ◌++◌, ◌∷◌, [], OnOk, IfOk, IfErr, encode_utf8};
+ghost use Rattle.std.specs.Prelude.{◌≡◌, ℕ, ◌++◌, ◌∷◌, [], OnOk, IfOk, IfErr, encode_utf8, length, true};
 ghost use Rattle.wt_html_grammar.specs.Markup.{Markup, node, empty, more};
-ghost use Rattle.wt_html_grammar.specs.Events.{calm, closed_into, put, with_open, add_bytes, with_value};
+ghost use Rattle.wt_html_grammar.specs.Events.{calm, close, closed_into, put, with_open, add_bytes, with_value};
+ghost use Rattle.wt_html_elements.specs.Held.{may_be_put, is_some_open, moved};
+ghost use Rattle.wt_html_elements.specs.Runs.{put_run};
 ghost use Rattle.wt_html_elements.specs.Built.{view_content, views, pairs, frame, building};
+ghost use Rattle.wt_html_elements.specs.View.{first_name};
 
-use crate::content::{Attribute, Content, OpenElement};
-use crate::fault::{Fault, HtmlRefusal};
+use crate::content::{Content, OpenElement};
+use crate::fault::HtmlRefusal;
+use crate::tag::OpenTag;
 use std::alloc::Global;
 use std::mem;
 use wt_html_grammar::Event;
+use wt_span::NoMemory;
 
-/// What is built: the innermost open element and those round it, the start tag that is read, with
-/// its name, its attributes and the attribute that is read, and the root where it is whole.
+/// What is built: the innermost open element and those round it, the start tag that is read, and the
+/// root where it is whole.
 #[derive(Drop)]
 pub struct Builder {
     pub inner: Option<OpenElement>,
     pub outer: Vec<OpenElement>,
-    pub name: Vec<u8>,
-    pub attributes: Vec<Attribute>,
-    pub key: Vec<u8>,
-    pub value: Vec<u8>,
+    pub tag: OpenTag,
     pub root: Vec<Content>,
 }
 
@@ -29,60 +31,39 @@ impl Builder {
         Builder {
             inner: None,
             outer: Vec::new(alloc),
-            name: Vec::new(alloc),
-            attributes: Vec::new(alloc),
-            key: Vec::new(alloc),
-            value: Vec::new(alloc),
+            tag: OpenTag::new(alloc),
             root: Vec::new(alloc),
         }
     }
 
-    fn begin_name(&mut self, byte: u8) -> Result<(), Fault>
-        ensures { OnOk result (building self.new ≡ put (building self.old) (Event.NameBegin byte)) }
+    /// Whether an element is open.
+    pub fn has_open(&self) -> bool
+        ensures { result ≡ is_some_open (building self.now).opened }
     {
-        self.name.clear();
-        self.name.push(byte)?;
-        self.attributes.clear();
-        Ok(())
+        self.inner.is_some()
     }
 
-    fn begin_key(&mut self, byte: u8) -> Result<(), Fault>
-        ensures { OnOk result (building self.new ≡ put (building self.old) (Event.KeyBegin byte)) }
+    /// How many elements are open.
+    pub fn depth(&self) -> usize
+        ensures { result ≡ length (building self.now).opened }
     {
-        self.key.clear();
-        self.key.push(byte)?;
-        Ok(())
+        match &self.inner {
+            None => 0,
+            Some(_) => self.outer.len() + 1,
+        }
     }
 
-    fn value_char(&mut self, character: char) -> Result<(), Fault>
-        ensures { OnOk result (building self.new ≡ put (building self.old) (Event.ValueChar character)) }
+    /// The name of the innermost element that is open; none where none is.
+    pub fn innermost_name(&self) -> &[u8]
+        ensures { result.now ≡ first_name (building self.now).opened }
     {
-        let mut bytes = [0_u8; 4];
-        let encoded = character.encode_utf8(&mut bytes);
-        self.value.extend_from_slice(encoded.as_bytes())?;
-        Ok(())
+        match &self.inner {
+            None => &[],
+            Some(element) => element.name.as_slice(),
+        }
     }
 
-    fn end_value(&mut self, alloc: Global) -> Result<(), Fault>
-        ensures { OnOk result (building self.new ≡ put (building self.old) Event.ValueEnd) }
-    {
-        let name = Vec::from_slice(alloc, self.key.as_slice())?;
-        let value = Vec::from_slice(alloc, self.value.as_slice())?;
-        self.attributes.push(Attribute { name, value })?;
-        Ok(())
-    }
-
-    /// Nothing is left of a tag.
-    fn calm(&mut self)
-        ensures { building self.new ≡ calm (building self.old).opened (building self.old).root }
-    {
-        self.name.clear();
-        self.attributes.clear();
-        self.key.clear();
-        self.value.clear();
-    }
-
-    fn push_open(&mut self, element: OpenElement) -> Result<(), Fault>
+    fn push_open(&mut self, element: OpenElement) -> Result<(), NoMemory>
         ensures { OnOk result (building self.new ≡ with_open (building self.old) (frame element ∷ (building self.old).opened)) }
     {
         match mem::replace(&mut self.inner, Some(element)) {
@@ -97,22 +78,19 @@ impl Builder {
         }
     }
 
-    fn open(&mut self, alloc: Global) -> Result<(), Fault>
+    fn open(&mut self, alloc: Global) -> Result<(), NoMemory>
         ensures { OnOk result (building self.new ≡ put (building self.old) Event.Opened) }
     {
-        let name = mem::replace(&mut self.name, Vec::new(alloc));
-        let attributes = mem::replace(&mut self.attributes, Vec::new(alloc));
+        let (name, attributes) = self.tag.take(alloc)?;
         self.push_open(OpenElement {
             name,
             attributes,
             contents: Vec::new(alloc),
             run: Vec::new(alloc),
-        })?;
-        self.calm();
-        Ok(())
+        })
     }
 
-    fn text_byte(&mut self, byte: u8) -> Result<(), Fault>
+    fn text_byte(&mut self, byte: u8) -> Result<(), NoMemory>
         ensures { OnOk result (building self.new ≡ put (building self.old) (Event.Byte byte)) }
     {
         match &mut self.inner {
@@ -122,7 +100,7 @@ impl Builder {
         Ok(())
     }
 
-    fn text_char(&mut self, character: char) -> Result<(), Fault>
+    fn text_char(&mut self, character: char) -> Result<(), NoMemory>
         ensures { OnOk result (building self.new ≡ put (building self.old) (Event.Char character)) }
     {
         let mut bytes = [0_u8; 4];
@@ -135,7 +113,7 @@ impl Builder {
     }
 
     /// Takes bytes of a text at once.
-    pub fn text_run(&mut self, run: &[u8]) -> Result<(), Fault>
+    pub fn text_run(&mut self, run: &[u8]) -> Result<(), NoMemory>
         ensures { OnOk result (building self.new ≡ with_open (building self.old) (add_bytes (building self.old).opened run.now)) }
     {
         match &mut self.inner {
@@ -146,16 +124,17 @@ impl Builder {
     }
 
     /// Takes bytes of a value at once.
-    pub fn value_run(&mut self, run: &[u8]) -> Result<(), Fault>
+    pub fn value_run(&mut self, run: &[u8]) -> Result<(), NoMemory>
         ensures { OnOk result (building self.new ≡ with_value (building self.old) ((building self.old).value ++ run.now)) }
     {
-        self.value.extend_from_slice(run)?;
+        self.tag.value.extend_from_slice(run)?;
         Ok(())
     }
 
-    fn close_into(&mut self, alloc: Global, whole: Content) -> Result<(), Fault>
+    fn close_into(&mut self, alloc: Global, whole: Content) -> Result<(), NoMemory>
         ensures { OnOk result (building self.new ≡ closed_into (view_content whole) (building self.old).opened (building self.old).root) }
     {
+        self.tag.clear();
         match self.inner.take() {
             None => {
                 self.root.clear();
@@ -166,15 +145,13 @@ impl Builder {
                 self.inner = Some(element);
             }
         }
-        self.calm();
         Ok(())
     }
 
-    fn void(&mut self, alloc: Global) -> Result<(), Fault>
+    fn void(&mut self, alloc: Global) -> Result<(), NoMemory>
         ensures { OnOk result (building self.new ≡ put (building self.old) Event.Void) }
     {
-        let name = mem::replace(&mut self.name, Vec::new(alloc));
-        let attributes = mem::replace(&mut self.attributes, Vec::new(alloc));
+        let (name, attributes) = self.tag.take(alloc)?;
         let contents = Vec::new(alloc);
         self.close_into(
             alloc,
@@ -183,15 +160,14 @@ impl Builder {
                 attributes,
                 contents,
             },
-        )?;
-        Ok(())
+        )
     }
 
-    fn close(&mut self, alloc: Global) -> Result<(), Fault>
+    fn close(&mut self, alloc: Global) -> Result<(), NoMemory>
         ensures { OnOk result (building self.new ≡ put (building self.old) Event.Closed) }
     {
         match self.inner.take() {
-            None => self.calm(),
+            None => self.tag.clear(),
             Some(element) => {
                 self.inner = self.outer.pop();
                 let whole = element.into_content()?;
@@ -202,20 +178,21 @@ impl Builder {
     }
 
     /// Takes what a byte tells.
-    pub fn put(&mut self, alloc: Global, event: Event) -> Result<(), Fault>
-        ensures { OnOk result (building self.new ≡ put (building self.old) event) }
+    pub fn put(&mut self, alloc: Global, event: Event) -> Result<(), NoMemory>
+        requires { may_be_put (building self.old) event ≡ true }
+        ensures { OnOk result (building self.new ≡ moved (building self.old) event) }
     {
         match event {
             Event::Quiet => {}
             Event::Byte(byte) => self.text_byte(byte)?,
-            Event::ValueByte(byte) => self.value.push(byte)?,
-            Event::NameBegin(byte) => self.begin_name(byte)?,
-            Event::Name(byte) => self.name.push(byte)?,
-            Event::KeyBegin(byte) => self.begin_key(byte)?,
-            Event::Key(byte) => self.key.push(byte)?,
-            Event::ValueBegin => self.value.clear(),
-            Event::ValueChar(character) => self.value_char(character)?,
-            Event::ValueEnd => self.end_value(alloc)?,
+            Event::ValueByte(byte) => self.tag.value.push(byte)?,
+            Event::NameBegin(byte) => self.tag.begin_name(byte)?,
+            Event::Name(byte) => self.tag.name.push(byte)?,
+            Event::KeyBegin(byte) => self.tag.begin_key(byte)?,
+            Event::Key(byte) => self.tag.key.push(byte)?,
+            Event::ValueBegin => self.tag.value.clear(),
+            Event::ValueChar(character) => self.tag.value_char(character)?,
+            Event::ValueEnd => self.tag.end_value(alloc)?,
             Event::Opened => self.open(alloc)?,
             Event::Void => self.void(alloc)?,
             Event::Char(character) => self.text_char(character)?,

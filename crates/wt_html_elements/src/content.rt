@@ -3,8 +3,8 @@ ghost use Rattle.wt_html_grammar.specs.Markup.{text, node, empty, flush};
 ghost use Rattle.wt_html_grammar.specs.Events.{append, tree_of, with_child};
 ghost use Rattle.wt_html_elements.specs.Built.{view_content, views, pairs, frame};
 
-use crate::fault::Fault;
 use std::alloc::Global;
+use wt_span::NoMemory;
 
 /// An attribute as it was read: its name, and its value in UTF-8 with the escapes decoded.
 #[derive(Drop)]
@@ -41,7 +41,7 @@ fn text_of(run: Vec<u8>) -> Content
 }
 
 /// The contents with the text behind them, where it isn't empty.
-fn flushed(contents: Vec<Content>, run: Vec<u8>) -> Result<Vec<Content>, Fault>
+fn flushed(contents: Vec<Content>, run: Vec<u8>) -> Result<Vec<Content>, NoMemory>
     ensures { IfOk result (λ v. views v.items ≡ append (views contents.items) (flush run.items empty)) }
 {
     let mut contents = contents;
@@ -55,7 +55,7 @@ fn flushed(contents: Vec<Content>, run: Vec<u8>) -> Result<Vec<Content>, Fault>
 
 impl OpenElement {
     /// The element with all that it holds.
-    pub fn into_content(self) -> Result<Content, Fault>
+    pub fn into_content(self) -> Result<Content, NoMemory>
         ensures { IfOk result (λ c. view_content c ≡ tree_of (frame self)) }
     {
         let OpenElement {
@@ -73,7 +73,7 @@ impl OpenElement {
     }
 
     /// The element with a child behind what it holds.
-    pub fn with_child(self, alloc: Global, child: Content) -> Result<OpenElement, Fault>
+    pub fn with_child(self, alloc: Global, child: Content) -> Result<OpenElement, NoMemory>
         ensures { IfOk result (λ e. frame e ≡ with_child (frame self) (view_content child)) }
     {
         let OpenElement {

@@ -2,18 +2,22 @@
 //! elements and texts for which it stands, or the exact place and reason of its first fault.
 #![tactic(auto)]
 
+mod attributes;
 mod builder;
 mod content;
 mod escape;
 mod fault;
 mod laws;
 mod machine;
-mod names;
 mod reader;
+mod reading;
 mod signs;
+mod tag;
+mod whole;
 
 pub use content::{Attribute, Content};
 pub use fault::HtmlRefusal;
 pub use laws::one_kept;
-pub use reader::{Reader, read_elements};
+pub use reader::Reader;
+pub use whole::read_elements;
 pub use wt_html_grammar::HtmlWhy;

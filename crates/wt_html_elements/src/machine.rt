@@ -1,4 +1,4 @@
-ghost use Rattle.std.specs.Prelude.{◌≡◌, ℕ, ◌<◌, ◌≤◌, ◌≢◌, ◌==◌, true, take, List, [], ◌∷◌, Ok, Err, length, drop, codes, if◌then◌else◌};
+ghost use Rattle.std.specs.Prelude.{◌≡◌, ℕ, ◌<◌, ◌≤◌, ◌≢◌, ◌==◌, true, false, take, List, [], ◌∷◌, Ok, Err, length, drop, codes, if◌then◌else◌};
 ghost use Rattle.std.specs.List.{list_all};
 ghost use Rattle.wt_html_grammar.specs.Signs.{is_among, is_void, in_text, in_value};
 ghost use Rattle.wt_html_grammar.specs.Machine.{start, first, doctype, inside, less, naming, gap, attribute, named_so, equals, value, valued, slashed, closing, closed, wide, in_contents, in_doctype, special, at_open, at_end, at_name, end_tag, with_seen, turned, in_escape, is_plain, mended, step};
@@ -7,17 +7,18 @@ ghost use Rattle.wt_html_grammar.specs.Places.{is_accepted};
 ghost use Rattle.wt_html_grammar.specs.declared.event.Event.TheVariants as ev;
 ghost use Rattle.wt_html_elements.specs.Kept.{is_between};
 ghost use Rattle.wt_html_elements.specs.Runs.{stays};
-ghost use Rattle.wt_html_elements.specs.View.{view, place_of, stack, tag_of, escape_of, Takes};
+ghost use Rattle.wt_html_elements.specs.View.{view, view_after, names, first_name, other_names, place_of, tag_of, tag_behind_key, escape_of, Takes};
+ghost use Rattle.wt_html_elements.specs.Held.{fits, is_some_open, is_some_attribute, moved};
+ghost use Rattle.wt_html_elements.specs.Built.{building};
+ghost use Rattle.wt_html_grammar.specs.Events.{Building};
 
+use crate::builder::Builder;
 use crate::escape::{EscapeAt, TurnTo, turn};
-use crate::fault::{Fault, mended};
-use crate::names::AttributeNames;
+use crate::fault::mended;
 use crate::signs::{
     is_attribute_byte, is_lower, is_name_byte, is_plain_text, is_plain_value, is_quote, is_space,
     is_void,
 };
-use std::alloc::Global;
-use std::mem;
 use wt_html_grammar::{Event, Following, HtmlWhy, follow};
 
 /// Where a reader is, outside escapes and characters of several bytes.
@@ -48,19 +49,14 @@ pub enum Within {
     Character(Following),
 }
 
-/// The machine that takes byte after byte. `open` has the names of the open elements, the innermost
-/// last; `name` the name of the tag that is read, and `at` how much of it or of the doctype has
-/// come; `seen` the names of the tag's attributes; `word` the name of an attribute that is read, and
-/// `quote` the quote of its value.
-#[derive(Drop)]
+/// The machine that takes byte after byte, and holds none of them: what is read lies in a `Builder`.
+/// `at` says how much of a doctype or of the name of an end tag has come, and `quote` has the quote of
+/// the value that is read.
+#[derive(Clone, Copy, Debug, PartialEq, Eq)]
 pub struct Machine {
     pub mode: Mode,
     pub within: Within,
-    pub open: Vec<Vec<u8>>,
-    pub name: Vec<u8>,
     pub at: usize,
-    pub seen: AttributeNames,
-    pub word: Vec<u8>,
     pub quote: u8,
 }
 
@@ -97,25 +93,21 @@ fn value_run_len(quote: u8, bytes: &[u8]) -> usize
 }
 
 impl Machine {
-    pub fn new(alloc: Global) -> Machine
-        ensures { view result ≡ start }
+    pub fn new() -> Machine
+        ensures { (x : Building) → view result x ≡ start }
     {
         Machine {
             mode: Mode::Start,
             within: Within::Nothing,
-            open: Vec::new(alloc),
-            name: Vec::new(alloc),
             at: 0,
-            seen: AttributeNames::new(alloc),
-            word: Vec::new(alloc),
             quote: 0,
         }
     }
 
-    fn in_start(&mut self, byte: u8) -> Result<Event, Fault>
+    fn in_start(&mut self, builder: &Builder, byte: u8) -> Result<Event, HtmlWhy>
         requires within { self.old.within ≡ Within.Nothing }
         requires mode { self.old.mode ≡ Mode.Start }
-        ensures { Takes (step start byte) (out start byte) result (view self.new) }
+        ensures { Takes (step start byte) (out start byte) result (view_after self.new (building builder.now)) }
     {
         if is_space(byte) {
             Ok(Event::Quiet)
@@ -123,40 +115,39 @@ impl Machine {
             self.mode = Mode::First;
             Ok(Event::Quiet)
         } else {
-            Err(Fault::Html(HtmlWhy::Syntax))
+            Err(HtmlWhy::Syntax)
         }
     }
 
-    fn begin_name(&mut self, byte: u8) -> Result<Event, Fault>
+    fn begin_name(&mut self, builder: &Builder, byte: u8) -> Result<Event, HtmlWhy>
         requires within { self.old.within ≡ Within.Nothing }
-        ensures { Takes (Ok (naming (stack self.old) (byte ∷ []))) (ev.NameBegin byte) result (view self.new) }
+        ensures { Takes (Ok (naming (names (building builder.now).opened) (byte ∷ []))) (ev.NameBegin byte) result (view_after self.new (building builder.now)) }
     {
-        self.name.clear();
-        self.name.push(byte)?;
         self.mode = Mode::Naming;
         Ok(Event::NameBegin(byte))
     }
 
-    fn in_first(&mut self, byte: u8) -> Result<Event, Fault>
+    fn in_first(&mut self, builder: &Builder, byte: u8) -> Result<Event, HtmlWhy>
         requires within { self.old.within ≡ Within.Nothing }
-        ensures { Takes (step first byte) (out first byte) result (view self.new) }
+        requires head { is_some_open (building builder.now).opened ≡ false }
+        ensures { Takes (step first byte) (out first byte) result (view_after self.new (building builder.now)) }
     {
         if is_lower(byte) {
-            self.open.clear();
-            self.begin_name(byte)
+            self.begin_name(builder, byte)
         } else if byte == 33 {
             self.at = 0;
             self.mode = Mode::Doctype;
             Ok(Event::Quiet)
         } else {
-            Err(Fault::Html(HtmlWhy::Syntax))
+            Err(HtmlWhy::Syntax)
         }
     }
 
-    fn in_doctype(&mut self, byte: u8) -> Result<Event, Fault>
+    fn in_doctype(&mut self, builder: &Builder, byte: u8) -> Result<Event, HtmlWhy>
         requires within { self.old.within ≡ Within.Nothing }
+        requires head { is_some_open (building builder.now).opened ≡ false }
         requires mode { self.old.mode ≡ Mode.Doctype }
-        ensures { Takes (in_doctype (drop self.old.at (codes "doctype html>")) byte) ev.Quiet result (view self.new) }
+        ensures { Takes (in_doctype (drop self.old.at (codes "doctype html>")) byte) ev.Quiet result (view_after self.new (building builder.now)) }
     {
         match doctype().get(self.at) {
             Some(letter) => {
@@ -164,50 +155,48 @@ impl Machine {
                     self.at += 1;
                     Ok(Event::Quiet)
                 } else {
-                    Err(Fault::Html(HtmlWhy::Syntax))
+                    Err(HtmlWhy::Syntax)
                 }
             }
-            None => self.behind_doctype(byte),
+            None => self.behind_doctype(builder, byte),
         }
     }
 
-    fn behind_doctype(&mut self, byte: u8) -> Result<Event, Fault>
+    fn behind_doctype(&mut self, builder: &Builder, byte: u8) -> Result<Event, HtmlWhy>
         requires within { self.old.within ≡ Within.Nothing }
+        requires head { is_some_open (building builder.now).opened ≡ false }
         requires mode { self.old.mode ≡ Mode.Doctype }
         requires whole { length (codes "doctype html>") ≤ self.old.at }
-        ensures { Takes (in_doctype [] byte) ev.Quiet result (view self.new) }
+        ensures { Takes (in_doctype [] byte) ev.Quiet result (view_after self.new (building builder.now)) }
     {
         if is_space(byte) {
             Ok(Event::Quiet)
         } else if byte == 60 {
-            self.open.clear();
             self.mode = Mode::Less;
             Ok(Event::Quiet)
         } else {
-            Err(Fault::Html(HtmlWhy::Syntax))
+            Err(HtmlWhy::Syntax)
         }
     }
 
-    fn in_inside(&mut self, byte: u8) -> Result<Event, Fault>
+    fn in_inside(&mut self, builder: &Builder, byte: u8) -> Result<Event, HtmlWhy>
         requires within { self.old.within ≡ Within.Nothing }
         requires mode { self.old.mode ≡ Mode.Inside }
-        ensures { Takes (step (inside (stack self.old)) byte) (out (inside (stack self.old)) byte) result (view self.new) }
+        ensures { Takes (step (inside (names (building builder.now).opened)) byte) (out (inside (names (building builder.now).opened)) byte) result (view_after self.new (building builder.now)) }
     {
-        if self.open.as_slice().is_empty() {
-            if is_space(byte) {
-                Ok(Event::Quiet)
-            } else {
-                Err(Fault::Html(HtmlWhy::Syntax))
-            }
+        if builder.has_open() {
+            self.in_contents(builder, byte)
+        } else if is_space(byte) {
+            Ok(Event::Quiet)
         } else {
-            self.in_contents(byte)
+            Err(HtmlWhy::Syntax)
         }
     }
 
-    fn in_contents(&mut self, byte: u8) -> Result<Event, Fault>
+    fn in_contents(&mut self, builder: &Builder, byte: u8) -> Result<Event, HtmlWhy>
         requires within { self.old.within ≡ Within.Nothing }
         requires mode { self.old.mode ≡ Mode.Inside }
-        ensures { Takes (in_contents (stack self.old) byte) (if in_text byte then ev.Byte byte else ev.Quiet) result (view self.new) }
+        ensures { Takes (in_contents (names (building builder.now).opened) byte) (if in_text byte then ev.Byte byte else ev.Quiet) result (view_after self.new (building builder.now)) }
     {
         if is_plain_text(byte) {
             Ok(Event::Byte(byte))
@@ -215,21 +204,22 @@ impl Machine {
             self.mode = Mode::Less;
             Ok(Event::Quiet)
         } else {
-            self.special(byte, Event::Byte(byte))
+            self.special(builder, byte, Event::Byte(byte))
         }
     }
 
     /// A byte of a text or of a value that begins an escape, or a character of several bytes.
-    fn special(&mut self, byte: u8, told: Event) -> Result<Event, Fault>
+    fn special(&mut self, builder: &Builder, byte: u8, told: Event) -> Result<Event, HtmlWhy>
         requires within { self.old.within ≡ Within.Nothing }
-        ensures { Takes (special (place_of self.old) byte) (if byte == 38 then ev.Quiet else told) result (view self.new) }
+        requires told { place_of self.old (moved (building builder.now) told) ≡ place_of self.old (building builder.now) }
+        ensures { Takes (special (place_of self.old (building builder.now)) byte) (if byte == 38 then ev.Quiet else told) result (view_after self.new (building builder.now)) }
     {
         if byte == 38 {
             self.within = Within::Escape(EscapeAt::Ampersand);
             return Ok(Event::Quiet);
         }
         match follow(byte) {
-            None => Err(Fault::Html(HtmlWhy::NotUtf8)),
+            None => Err(HtmlWhy::NotUtf8),
             Some(following) => {
                 self.within = Within::Character(following);
                 Ok(told)
@@ -237,105 +227,98 @@ impl Machine {
         }
     }
 
-    fn end_tag(&mut self) -> Result<Event, Fault>
+    fn end_tag(&mut self, builder: &Builder) -> Result<Event, HtmlWhy>
         requires within { self.old.within ≡ Within.Nothing }
-        ensures { Takes (end_tag (stack self.old)) ev.Quiet result (view self.new) }
+        ensures { Takes (end_tag (names (building builder.now).opened)) ev.Quiet result (view_after self.new (building builder.now)) }
     {
-        match self.open.pop() {
-            None => Err(Fault::Html(HtmlWhy::Syntax)),
-            Some(name) => {
-                self.name = name;
-                self.at = 0;
-                self.mode = Mode::Closing;
-                Ok(Event::Quiet)
-            }
+        if builder.has_open() {
+            self.at = 0;
+            self.mode = Mode::Closing;
+            Ok(Event::Quiet)
+        } else {
+            Err(HtmlWhy::Syntax)
         }
     }
 
-    fn in_less(&mut self, byte: u8) -> Result<Event, Fault>
+    fn in_less(&mut self, builder: &Builder, byte: u8) -> Result<Event, HtmlWhy>
         requires within { self.old.within ≡ Within.Nothing }
-        ensures { Takes (step (less (stack self.old)) byte) (out (less (stack self.old)) byte) result (view self.new) }
+        ensures { Takes (step (less (names (building builder.now).opened)) byte) (out (less (names (building builder.now).opened)) byte) result (view_after self.new (building builder.now)) }
     {
         if is_lower(byte) {
-            if self.open.len() < 200 {
-                self.begin_name(byte)
+            if builder.depth() < 200 {
+                self.begin_name(builder, byte)
             } else {
-                Err(Fault::Html(HtmlWhy::TooDeep))
+                Err(HtmlWhy::TooDeep)
             }
         } else if byte == 47 {
-            self.end_tag()
+            self.end_tag(builder)
         } else {
-            Err(Fault::Html(HtmlWhy::Syntax))
+            Err(HtmlWhy::Syntax)
         }
     }
 
-    fn open_element(&mut self, alloc: Global) -> Result<Event, Fault>
+    fn open_element(&mut self, builder: &Builder) -> Result<Event, HtmlWhy>
         requires within { self.old.within ≡ Within.Nothing }
-        ensures { Takes (at_open (tag_of self.old) 62) (out_open (tag_of self.old) 62) result (view self.new) }
+        ensures { Takes (at_open (tag_of (building builder.now)) 62) (out_open (tag_of (building builder.now)) 62) result (view_after self.new (building builder.now)) }
     {
-        if is_void(self.name.as_slice()) {
-            self.mode = Mode::Inside;
-            return Ok(Event::Void);
-        }
-        let name = mem::replace(&mut self.name, Vec::new(alloc));
-        self.open.push(name)?;
         self.mode = Mode::Inside;
-        Ok(Event::Opened)
+        if is_void(builder.tag.name.as_slice()) {
+            Ok(Event::Void)
+        } else {
+            Ok(Event::Opened)
+        }
     }
 
-    fn at_open(&mut self, alloc: Global, byte: u8) -> Result<Event, Fault>
+    fn at_open(&mut self, builder: &Builder, byte: u8) -> Result<Event, HtmlWhy>
         requires within { self.old.within ≡ Within.Nothing }
-        ensures { Takes (at_open (tag_of self.old) byte) (out_open (tag_of self.old) byte) result (view self.new) }
+        ensures { Takes (at_open (tag_of (building builder.now)) byte) (out_open (tag_of (building builder.now)) byte) result (view_after self.new (building builder.now)) }
     {
         if is_space(byte) {
             self.mode = Mode::Gap;
             Ok(Event::Quiet)
         } else if byte == 62 {
-            self.open_element(alloc)
+            self.open_element(builder)
         } else if byte == 47 {
-            if is_void(self.name.as_slice()) {
+            if is_void(builder.tag.name.as_slice()) {
                 self.mode = Mode::Slashed;
                 Ok(Event::Quiet)
             } else {
-                Err(Fault::Html(HtmlWhy::Syntax))
+                Err(HtmlWhy::Syntax)
             }
         } else {
-            Err(Fault::Html(HtmlWhy::Syntax))
+            Err(HtmlWhy::Syntax)
         }
     }
 
-    fn in_naming(&mut self, alloc: Global, byte: u8) -> Result<Event, Fault>
+    fn in_naming(&mut self, builder: &Builder, byte: u8) -> Result<Event, HtmlWhy>
         requires within { self.old.within ≡ Within.Nothing }
         requires mode { self.old.mode ≡ Mode.Naming }
-        ensures { Takes (step (naming (stack self.old) self.old.name.items) byte) (out (naming (stack self.old) self.old.name.items) byte) result
-            (view self.new) }
+        requires none { is_some_attribute (building builder.now).attributes ≡ false }
+        ensures { Takes (step (naming (names (building builder.now).opened) (building builder.now).name) byte) (out (naming (names (building builder.now).opened) (building builder.now).name) byte) result
+            (view_after self.new (building builder.now)) }
     {
         if is_name_byte(byte) {
-            self.name.push(byte)?;
             Ok(Event::Name(byte))
         } else {
-            self.seen.clear();
-            self.at_open(alloc, byte)
+            self.at_open(builder, byte)
         }
     }
 
-    fn in_gap(&mut self, alloc: Global, byte: u8) -> Result<Event, Fault>
+    fn in_gap(&mut self, builder: &Builder, byte: u8) -> Result<Event, HtmlWhy>
         requires within { self.old.within ≡ Within.Nothing }
-        ensures { Takes (step (gap (tag_of self.old)) byte) (out (gap (tag_of self.old)) byte) result (view self.new) }
+        ensures { Takes (step (gap (tag_of (building builder.now))) byte) (out (gap (tag_of (building builder.now))) byte) result (view_after self.new (building builder.now)) }
     {
         if is_attribute_byte(byte) {
-            self.word.clear();
-            self.word.push(byte)?;
             self.mode = Mode::Attribute;
             Ok(Event::KeyBegin(byte))
         } else {
-            self.at_open(alloc, byte)
+            self.at_open(builder, byte)
         }
     }
 
-    fn at_name(&mut self, byte: u8) -> Result<Event, Fault>
+    fn at_name(&mut self, builder: &Builder, byte: u8) -> Result<Event, HtmlWhy>
         requires within { self.old.within ≡ Within.Nothing }
-        ensures { Takes (at_name (tag_of self.old) byte) ev.Quiet result (view self.new) }
+        ensures { Takes (at_name (tag_behind_key (building builder.now)) byte) ev.Quiet result (view_after self.new (building builder.now)) }
     {
         if is_space(byte) {
             self.mode = Mode::Named;
@@ -344,42 +327,39 @@ impl Machine {
             self.mode = Mode::Equals;
             Ok(Event::Quiet)
         } else {
-            Err(Fault::Html(HtmlWhy::Syntax))
+            Err(HtmlWhy::Syntax)
         }
     }
 
-    fn end_attribute_name(&mut self, alloc: Global, byte: u8) -> Result<Event, Fault>
+    fn end_attribute_name(&mut self, builder: &Builder, byte: u8) -> Result<Event, HtmlWhy>
         requires within { self.old.within ≡ Within.Nothing }
-        ensures { Takes (if is_among self.old.word.items (tag_of self.old).seen then Err HtmlWhy.Repeated else at_name
-            (with_seen (tag_of self.old) self.old.word.items) byte) ev.Quiet result (view self.new) }
+        ensures { Takes (if is_among (building builder.now).key (tag_of (building builder.now)).seen then Err HtmlWhy.Repeated else at_name
+            (tag_behind_key (building builder.now)) byte) ev.Quiet result (view_after self.new (building builder.now)) }
     {
-        let word = mem::replace(&mut self.word, Vec::new(alloc));
-        let added = self.seen.insert(word)?;
-        if added {
-            self.at_name(byte)
+        if builder.tag.attributes.contains(builder.tag.key.as_slice()) {
+            Err(HtmlWhy::Repeated)
         } else {
-            Err(Fault::Html(HtmlWhy::Repeated))
+            self.at_name(builder, byte)
         }
     }
 
-    fn in_attribute(&mut self, alloc: Global, byte: u8) -> Result<Event, Fault>
+    fn in_attribute(&mut self, builder: &Builder, byte: u8) -> Result<Event, HtmlWhy>
         requires within { self.old.within ≡ Within.Nothing }
         requires mode { self.old.mode ≡ Mode.Attribute }
-        ensures { Takes (step (attribute (tag_of self.old) self.old.word.items) byte) (out (attribute (tag_of self.old) self.old.word.items) byte) result
-            (view self.new) }
+        ensures { Takes (step (attribute (tag_of (building builder.now)) (building builder.now).key) byte) (out (attribute (tag_of (building builder.now)) (building builder.now).key) byte) result
+            (view_after self.new (building builder.now)) }
     {
         if is_attribute_byte(byte) {
-            self.word.push(byte)?;
             Ok(Event::Key(byte))
         } else {
-            self.end_attribute_name(alloc, byte)
+            self.end_attribute_name(builder, byte)
         }
     }
 
-    fn in_equals(&mut self, byte: u8) -> Result<Event, Fault>
+    fn in_equals(&mut self, builder: &Builder, byte: u8) -> Result<Event, HtmlWhy>
         requires within { self.old.within ≡ Within.Nothing }
         requires mode { self.old.mode ≡ Mode.Equals }
-        ensures { Takes (step (equals (tag_of self.old)) byte) (out (equals (tag_of self.old)) byte) result (view self.new) }
+        ensures { Takes (step (equals (tag_behind_key (building builder.now))) byte) (out (equals (tag_behind_key (building builder.now))) byte) result (view_after self.new (building builder.now)) }
     {
         if is_quote(byte) {
             self.quote = byte;
@@ -388,14 +368,14 @@ impl Machine {
         } else if is_space(byte) {
             Ok(Event::Quiet)
         } else {
-            Err(Fault::Html(HtmlWhy::Syntax))
+            Err(HtmlWhy::Syntax)
         }
     }
 
-    fn in_value(&mut self, byte: u8) -> Result<Event, Fault>
+    fn in_value(&mut self, builder: &Builder, byte: u8) -> Result<Event, HtmlWhy>
         requires within { self.old.within ≡ Within.Nothing }
         requires mode { self.old.mode ≡ Mode.Value }
-        ensures { Takes (step (value (tag_of self.old) self.old.quote) byte) (out (value (tag_of self.old) self.old.quote) byte) result (view self.new) }
+        ensures { Takes (step (value (tag_behind_key (building builder.now)) self.old.quote) byte) (out (value (tag_behind_key (building builder.now)) self.old.quote) byte) result (view_after self.new (building builder.now)) }
     {
         if is_plain_value(self.quote, byte) {
             Ok(Event::ValueByte(byte))
@@ -403,25 +383,25 @@ impl Machine {
             self.mode = Mode::Valued;
             Ok(Event::ValueEnd)
         } else {
-            self.special(byte, Event::ValueByte(byte))
+            self.special(builder, byte, Event::ValueByte(byte))
         }
     }
 
-    fn in_slashed(&mut self, byte: u8) -> Result<Event, Fault>
+    fn in_slashed(&mut self, builder: &Builder, byte: u8) -> Result<Event, HtmlWhy>
         requires within { self.old.within ≡ Within.Nothing }
-        ensures { Takes (step (slashed (tag_of self.old)) byte) ev.Void result (view self.new) }
+        ensures { Takes (step (slashed (tag_of (building builder.now))) byte) ev.Void result (view_after self.new (building builder.now)) }
     {
         if byte == 62 {
             self.mode = Mode::Inside;
             Ok(Event::Void)
         } else {
-            Err(Fault::Html(HtmlWhy::Syntax))
+            Err(HtmlWhy::Syntax)
         }
     }
 
-    fn at_end(&mut self, byte: u8) -> Result<Event, Fault>
+    fn at_end(&mut self, builder: &Builder, byte: u8) -> Result<Event, HtmlWhy>
         requires within { self.old.within ≡ Within.Nothing }
-        ensures { Takes (at_end (stack self.old) byte) (out_end byte) result (view self.new) }
+        ensures { Takes (at_end (other_names (building builder.now).opened) byte) (out_end byte) result (view_after self.new (building builder.now)) }
     {
         if is_space(byte) {
             self.mode = Mode::Closed;
@@ -430,66 +410,67 @@ impl Machine {
             self.mode = Mode::Inside;
             Ok(Event::Closed)
         } else {
-            Err(Fault::Html(HtmlWhy::Syntax))
+            Err(HtmlWhy::Syntax)
         }
     }
 
-    fn behind_end_name(&mut self, byte: u8) -> Result<Event, Fault>
+    fn behind_end_name(&mut self, builder: &Builder, byte: u8) -> Result<Event, HtmlWhy>
         requires within { self.old.within ≡ Within.Nothing }
-        ensures { Takes (step (closing [] (stack self.old)) byte) (out (closing [] (stack self.old)) byte) result (view self.new) }
+        ensures { Takes (step (closing [] (other_names (building builder.now).opened)) byte) (out (closing [] (other_names (building builder.now).opened)) byte) result (view_after self.new (building builder.now)) }
     {
         if is_name_byte(byte) {
-            Err(Fault::Html(HtmlWhy::EndTag))
+            Err(HtmlWhy::EndTag)
         } else {
-            self.at_end(byte)
+            self.at_end(builder, byte)
         }
     }
 
-    fn in_closing(&mut self, byte: u8) -> Result<Event, Fault>
+    fn in_closing(&mut self, builder: &Builder, byte: u8) -> Result<Event, HtmlWhy>
         requires within { self.old.within ≡ Within.Nothing }
         requires mode { self.old.mode ≡ Mode.Closing }
-        ensures { Takes (step (closing (drop self.old.at self.old.name.items) (stack self.old)) byte)
-            (out (closing (drop self.old.at self.old.name.items) (stack self.old)) byte) result (view self.new) }
+        ensures { Takes (step (closing (drop self.old.at (first_name (building builder.now).opened)) (other_names (building builder.now).opened)) byte)
+            (out (closing (drop self.old.at (first_name (building builder.now).opened)) (other_names (building builder.now).opened)) byte) result (view_after self.new (building builder.now)) }
     {
-        match self.name.get(self.at) {
+        match builder.innermost_name().get(self.at) {
             Some(letter) => {
                 if byte == *letter {
                     self.at += 1;
                     Ok(Event::Quiet)
                 } else {
-                    Err(Fault::Html(HtmlWhy::EndTag))
+                    Err(HtmlWhy::EndTag)
                 }
             }
-            None => self.behind_end_name(byte),
+            None => self.behind_end_name(builder, byte),
         }
     }
 
-    fn in_place(&mut self, alloc: Global, byte: u8) -> Result<Event, Fault>
+    fn in_place(&mut self, builder: &Builder, byte: u8) -> Result<Event, HtmlWhy>
         requires within { self.old.within ≡ Within.Nothing }
-        ensures { Takes (step (place_of self.old) byte) (out (place_of self.old) byte) result (view self.new) }
+        requires fits { fits (place_of self.old (building builder.now)) (building builder.now) ≡ true }
+        ensures { Takes (step (place_of self.old (building builder.now)) byte) (out (place_of self.old (building builder.now)) byte) result (view_after self.new (building builder.now)) }
     {
         match self.mode {
-            Mode::Inside => self.in_inside(byte),
-            Mode::Value => self.in_value(byte),
-            Mode::Start => self.in_start(byte),
-            Mode::First => self.in_first(byte),
-            Mode::Doctype => self.in_doctype(byte),
-            Mode::Less => self.in_less(byte),
-            Mode::Naming => self.in_naming(alloc, byte),
-            Mode::Gap => self.in_gap(alloc, byte),
-            Mode::Attribute => self.in_attribute(alloc, byte),
-            Mode::Named => self.at_name(byte),
-            Mode::Equals => self.in_equals(byte),
-            Mode::Valued => self.at_open(alloc, byte),
-            Mode::Slashed => self.in_slashed(byte),
-            Mode::Closing => self.in_closing(byte),
-            Mode::Closed => self.at_end(byte),
+            Mode::Inside => self.in_inside(builder, byte),
+            Mode::Value => self.in_value(builder, byte),
+            Mode::Start => self.in_start(builder, byte),
+            Mode::First => self.in_first(builder, byte),
+            Mode::Doctype => self.in_doctype(builder, byte),
+            Mode::Less => self.in_less(builder, byte),
+            Mode::Naming => self.in_naming(builder, byte),
+            Mode::Gap => self.in_gap(builder, byte),
+            Mode::Attribute => self.in_attribute(builder, byte),
+            Mode::Named => self.at_name(builder, byte),
+            Mode::Equals => self.in_equals(builder, byte),
+            Mode::Valued => self.at_open(builder, byte),
+            Mode::Slashed => self.in_slashed(builder, byte),
+            Mode::Closing => self.in_closing(builder, byte),
+            Mode::Closed => self.at_end(builder, byte),
         }
     }
 
     /// A byte that was taken of a text or of a value.
-    fn told_byte(&self, byte: u8) -> Event
-        ensures { result ≡ unit_byte (place_of self.now) byte }
+    fn told_byte(&self, builder: &Builder, byte: u8) -> Event
+        ensures { result ≡ unit_byte (place_of self.now (building builder.now)) byte }
     {
         match self.mode {
             Mode::Value => Event::ValueByte(byte),
@@ -497,8 +478,8 @@ impl Machine {
         }
     }
 
-    fn told_char(&self, character: char) -> Event
-        ensures { result ≡ unit_char (place_of self.now) character }
+    fn told_char(&self, builder: &Builder, character: char) -> Event
+        ensures { result ≡ unit_char (place_of self.now (building builder.now)) character }
     {
         match self.mode {
             Mode::Value => Event::ValueChar(character),
@@ -506,29 +487,39 @@ impl Machine {
         }
     }
 
-    fn in_escape(&mut self, escape: EscapeAt, byte: u8) -> Result<Event, Fault>
-        ensures { Takes (turned (place_of self.old) (escape_of escape) (in_escape (escape_of escape) byte))
-            (out_escape (place_of self.old) (escape_of escape) byte) result (view self.new) }
+    fn in_escape(
+        &mut self,
+        builder: &Builder,
+        escape: EscapeAt,
+        byte: u8,
+    ) -> Result<Event, HtmlWhy>
+        ensures { Takes (turned (place_of self.old (building builder.now)) (escape_of escape) (in_escape (escape_of escape) byte))
+            (out_escape (place_of self.old (building builder.now)) (escape_of escape) byte) result (view_after self.new (building builder.now)) }
     {
         match turn(escape, byte) {
-            TurnTo::Stop => Err(Fault::Html(HtmlWhy::Escape)),
+            TurnTo::Stop => Err(HtmlWhy::Escape),
             TurnTo::On(escape) => {
                 self.within = Within::Escape(escape);
                 Ok(Event::Quiet)
             }
             TurnTo::Ended(character) => {
                 self.within = Within::Nothing;
-                Ok(self.told_char(character))
+                Ok(self.told_char(builder, character))
             }
         }
     }
 
-    fn in_character(&mut self, following: Following, byte: u8) -> Result<Event, Fault>
-        ensures { Takes (turned (place_of self.old) (wide following.low following.high following.more)
-            (in_escape (wide following.low following.high following.more) byte)) (unit_byte (place_of self.old) byte) result (view self.new) }
+    fn in_character(
+        &mut self,
+        builder: &Builder,
+        following: Following,
+        byte: u8,
+    ) -> Result<Event, HtmlWhy>
+        ensures { Takes (turned (place_of self.old (building builder.now)) (wide following.low following.high following.more)
+            (in_escape (wide following.low following.high following.more) byte)) (unit_byte (place_of self.old (building builder.now)) byte) result (view_after self.new (building builder.now)) }
     {
         if byte < following.low || following.high < byte {
-            return Err(Fault::Html(HtmlWhy::NotUtf8));
+            return Err(HtmlWhy::NotUtf8);
         }
         if following.more == 0 {
             self.within = Within::Nothing;
@@ -539,53 +530,55 @@ impl Machine {
                 more: following.more - 1,
             });
         }
-        Ok(self.told_byte(byte))
+        Ok(self.told_byte(builder, byte))
     }
 
-    fn step(&mut self, alloc: Global, byte: u8) -> Result<Event, Fault>
-        ensures { Takes (step (view self.old) byte) (out (view self.old) byte) result (view self.new) }
+    fn step(&mut self, builder: &Builder, byte: u8) -> Result<Event, HtmlWhy>
+        requires fits { fits (view self.old (building builder.now)) (building builder.now) ≡ true }
+        ensures { Takes (step (view self.old (building builder.now)) byte) (out (view self.old (building builder.now)) byte) result (view_after self.new (building builder.now)) }
     {
         match self.within {
-            Within::Nothing => self.in_place(alloc, byte),
-            Within::Escape(escape) => self.in_escape(escape, byte),
-            Within::Character(following) => self.in_character(following, byte),
+            Within::Nothing => self.in_place(builder, byte),
+            Within::Escape(escape) => self.in_escape(builder, escape, byte),
+            Within::Character(following) => self.in_character(builder, following, byte),
         }
     }
 
     /// Takes a byte and says what it tells, or why it can't stand there.
-    pub fn take(&mut self, alloc: Global, byte: u8) -> Result<Event, Fault>
-        ensures { Takes (mended byte (step (view self.old) byte)) (out (view self.old) byte) result (view self.new) }
+    pub fn take(&mut self, builder: &Builder, byte: u8) -> Result<Event, HtmlWhy>
+        requires fits { fits (view self.old (building builder.now)) (building builder.now) ≡ true }
+        ensures { Takes (mended byte (step (view self.old (building builder.now)) byte)) (out (view self.old (building builder.now)) byte) result (view_after self.new (building builder.now)) }
     {
-        match self.step(alloc, byte) {
+        match self.step(builder, byte) {
             Ok(event) => Ok(event),
-            Err(fault) => Err(mended(byte, fault)),
+            Err(why) => Err(mended(byte, why)),
         }
     }
 
     /// How many bytes at the front stand for themselves in the text or in the value that is read, so that
     /// the machine stays where it is; none elsewhere.
-    pub fn run_len(&self, bytes: &[u8]) -> usize
-        ensures run { list_all (stays (view self.now)) (take result bytes.now) ≡ true }
+    pub fn run_len(&self, builder: &Builder, bytes: &[u8]) -> usize
+        ensures run { list_all (stays (view self.now (building builder.now))) (take result bytes.now) ≡ true }
         ensures within { result ≤ length bytes.now }
         ensures place { 0 < result → self.now.within ≡ Within.Nothing }
     {
         match self.within {
-            Within::Nothing => self.run_len_here(bytes),
+            Within::Nothing => self.run_len_here(builder, bytes),
             _ => 0,
         }
     }
 
-    fn run_len_here(&self, bytes: &[u8]) -> usize
+    fn run_len_here(&self, builder: &Builder, bytes: &[u8]) -> usize
         requires { self.now.within ≡ Within.Nothing }
-        ensures run { list_all (stays (view self.now)) (take result bytes.now) ≡ true }
+        ensures run { list_all (stays (view self.now (building builder.now))) (take result bytes.now) ≡ true }
         ensures within { result ≤ length bytes.now }
     {
         match self.mode {
             Mode::Inside => {
-                if self.open.as_slice().is_empty() {
-                    0
-                } else {
+                if builder.has_open() {
                     text_run_len(bytes)
+                } else {
+                    0
                 }
             }
             Mode::Value => value_run_len(self.quote, bytes),
@@ -595,7 +588,7 @@ impl Machine {
 
     /// Whether the machine stands between two tags, characters or escapes.
     pub fn is_between(&self) -> bool
-        ensures { result ≡ is_between (view self.now) }
+        ensures { (x : Building) → result ≡ is_between (view self.now x) }
     {
         match self.within {
             Within::Nothing => match self.mode {
@@ -608,12 +601,12 @@ impl Machine {
     }
 
     /// Whether nothing more is needed.
-    pub fn is_accepted(&self) -> bool
-        ensures { result ≡ is_accepted (view self.now) }
+    pub fn is_accepted(&self, builder: &Builder) -> bool
+        ensures { result ≡ is_accepted (view self.now (building builder.now)) }
     {
         match self.within {
             Within::Nothing => match self.mode {
-                Mode::Inside => self.open.is_empty(),
+                Mode::Inside => !builder.has_open(),
                 _ => false,
             },
             _ => false,

@@ -10,7 +10,8 @@ use Rattle.wt_html_elements.specs.declared.fault.HtmlRefusal.{HtmlRefusal as Ele
 use Rattle.wt_html_elements.specs.declared.fault.HtmlRefusal.TheVariants as elements_refusals
 use Rattle.wt_html_elements.specs.declared.reader.Reader.{Reader as ElementsReader}
 use Rattle.wt_html_elements.specs.Built.{view_content}
-use Rattle.wt_html_elements.specs.Answer.{IsFed as IsFedElements, FedAs, IsIll as IsIllElements, IsAtLeast as IsAtLeastElements, answer_of, RefusedFor as ElementsRefusedFor}
+use Rattle.wt_html_elements.specs.Fed.{FedAs}
+use Rattle.wt_html_elements.specs.Answer.{IsFed as IsFedElements, IsIll as IsIllElements, IsAtLeast as IsAtLeastElements, answer_of, RefusedFor as ElementsRefusedFor}
 use Rattle.wt_fitting.specs.declared.why.FitWhy.{FitWhy}
 use Rattle.wt_fitting.specs.Fit.{elements, body_of}
 use Rattle.wt_fitting.specs.Read.{page, ill, misfit, read}
@@ -36,7 +37,7 @@ ill_answer bytes (elements_refusals.Html place w) h = one_read bytes (ill place 
 ill_answer bytes elements_refusals.NoMemory h = tt
 
 fed_count : (r : ElementsReader) (bytes : List ℕ) → r.failed ≡ None → IsFedElements r bytes → r.taken ≡ length bytes
-fed_count r bytes e h = let P : Option ElementsRefusal → Type 0 = λ o. FedAs o r bytes in let q : FedAs None r bytes = subst P e h in q.1
+fed_count r bytes e h = let P : Option ElementsRefusal → Type 0 = λ o. FedAs o r.reading r.taken r.token_at bytes in let q : FedAs None r.reading r.taken r.token_at bytes = subst P e h in q.1
 
 pub root_few : (r : ElementsReader) (root : Content) → ∥ ((bytes : List ℕ) × IsFedElements r bytes) ∥₁
     → ((bytes : List ℕ) → IsFedElements r bytes → Stands bytes (view_content root))

@@ -2,7 +2,7 @@
 use Rattle.std.specs.Prelude.{◌≡◌, ℕ, ◌≤◌, Option, Some, None, List}
 use Rattle.wt_html_grammar.specs.Grammar.{Front}
 use Rattle.wt_html_grammar.specs.declared.why.HtmlWhy.TheVariants.{End}
-use Rattle.wt_html_elements.specs.Answer.{IsFed as IsFedElements}
+use Rattle.wt_html_elements.specs.Answer.{IsFed as IsFedElements, held_len}
 use Rattle.wt_html_elements.specs.declared.fault.HtmlRefusal.{HtmlRefusal as ElementsRefusal}
 use Rattle.wt_html_elements.specs.declared.fault.HtmlRefusal.TheVariants as elements
 use Rattle.wt_html_in.specs.declared.reader.Reader.{Reader}
@@ -16,6 +16,10 @@ IsFed r bytes = IsFedElements r.elements bytes
 -- how many bytes were taken
 unfoldable pub taken_of : Reader → ℕ
 taken_of r = r.elements.taken
+
+-- how many bytes it holds of the start tag that is read: of its name and its attributes
+unfoldable pub held_of : Reader → ℕ
+held_of r = held_len r.elements
 
 abbrev pub refusal_told : ElementsRefusal → HtmlRefusal
 refusal_told (elements.Html place w) = refusals.Html place w

@@ -23,7 +23,7 @@ pub struct Reader<'a> {
 
 impl<'a> Reader<'a> {
     ghost use Rattle.wt_html_in.specs.Answers.{Answers, RefusedFor};
-    ghost use Rattle.wt_html_in.specs.Feeding.{IsFed, IsIll, IsAtLeast, taken_of, failed_of};
+    ghost use Rattle.wt_html_in.specs.Feeding.{IsFed, IsIll, IsAtLeast, taken_of, failed_of, held_of};
 
     #[tactic(auto, unfolding(crate::specs::Feeding::IsFed, crate::specs::Feeding::taken_of, crate::specs::Feeding::failed_of))]
     /// A reader that was fed nothing. The nodes' texts will lie in the arena.
@@ -62,10 +62,12 @@ impl<'a> Reader<'a> {
         }
     }
 
-    #[tactic(auto, unfolding(crate::specs::Feeding::IsFed, crate::specs::Feeding::failed_of))]
+    #[tactic(auto, unfolding(crate::specs::Feeding::IsFed, crate::specs::Feeding::failed_of, crate::specs::Feeding::held_of))]
     /// How many bytes of the input are held undecoded: those of a tag, a doctype, an escape or a character
     /// that isn't whole yet. A reader that has failed holds none.
     pub fn kept(&self) -> u32
+        // of a start tag that isn't whole it holds no more, neither of its name nor of its attributes
+        ensures held { held_of self.now ≤ result }
         ensures kept { failed_of self.now ≡ None → (bytes : List ℕ) → IsFed self.now bytes → IsKept bytes result }
         ensures failed { IfSome (failed_of self.now) (λ _. result ≡ 0) }
     {

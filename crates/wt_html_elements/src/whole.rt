@@ -1,0 +1,18 @@
+ghost use Rattle.std.specs.Prelude.{◌<◌, ◌^◌, length};
+ghost use Rattle.wt_html_elements.specs.Answer.{Answers};
+
+use crate::content::Content;
+use crate::fault::HtmlRefusal;
+use crate::reader::Reader;
+use std::alloc::Global;
+
+/// The root element for which the whole input stands, or the place and the reason of its first
+/// fault.
+pub fn read_elements(alloc: Global, input: &[u8]) -> Result<Content, HtmlRefusal>
+    requires { length input.now < 2 ^ 32 }
+    ensures { Answers result input.now }
+{
+    let mut reader = Reader::new(alloc);
+    reader.feed(alloc, input)?;
+    reader.finish()
+}
