@@ -52,9 +52,13 @@ told_last x s t b e = ap (tell_on x (λ u. put x (out s b))) e
 -- nothing was read
 pub new_reads : (g : Reading) → ((x : Building) → view g.machine x ≡ start) → building g.builder ≡ calm [] empty → Reads g [] 0
 new_reads g m b =
-    let s : state_of g ≡ start = m (parts_of g) in
-    (ap Ok (sym s), b ∙ ap (λ u. needed u (built [])) (sym s), ap (λ u. fits u (parts_of g)) s ∙ ap (fits start) b,
-    omega (arith, ap tag_len b, ap spent s), none_kept)
+    let s : state_of g ≡ start = m (parts_of g) in (
+      ap Ok (sym s),
+      b ∙ ap (λ u. needed u (built [])) (sym s),
+      ap (λ u. fits u (parts_of g)) s ∙ ap (fits start) b,
+      omega (arith, ap tag_len b, ap spent s),
+      none_kept,
+    )
 
 short_at : (k : Mode) (m : Machine) (x : Building) → IsShort (place_at k m x)
 short_at modes.Start m x = tt
@@ -116,9 +120,13 @@ byte_reads g h b e m o p bytes k r =
     let l : Linked s x = linked_in g.machine.within (place_at g.machine.mode g.machine x) x (linked_at g.machine.mode g.machine x) in
     let n : Holds t (moved x (out s b)) (put y (out s b)) (k + 1) = goes_byte s t b x y k l r.1 r.2 r.3 f in
     let u : built (bytes ++ b ∷ []) ≡ put y (out s b) =
-    tell_append bytes (b ∷ []) (calm [] empty) start s r.0 ∙ told_last y s t b f in
-    (run_push bytes b start s r.0 ∙ f, q ∙ n.same ∙ ap (needed t) (sym u), ap (fits t) q ∙ n.fit, omega (arith, ap tag_len q, n.few),
-    push_kept bytes b k s t r.0 f (short_view h.machine (parts_of h)) r.4)
+    tell_append bytes (b ∷ []) (calm [] empty) start s r.0 ∙ told_last y s t b f in (
+      run_push bytes b start s r.0 ∙ f,
+      q ∙ n.same ∙ ap (needed t) (sym u),
+      ap (fits t) q ∙ n.fit,
+      omega (arith, ap tag_len q, n.few),
+      push_kept bytes b k s t r.0 f (short_view h.machine (parts_of h)) r.4,
+    )
 
 pub byte_ill : (g h : Reading) (b : ℕ) (w : HtmlWhy) → mended b (step (state_of g) b) ≡ Err w → (bytes : List ℕ) (k : ℕ) → Reads g bytes k
     → TookByte (Err (faults.Html w)) h bytes b k
@@ -136,8 +144,8 @@ run_reads g h bs m z p lt all bytes k r =
     let e : t ≡ s = ap (λ n. view n (parts_of h)) m ∙ ap (view g.machine) p ∙ run_view g.machine (parts_of g) bs z in
     let q : parts_of h ≡ put_run (needed s y) s bs = p ∙ ap (λ v. put_run v s bs) r.1 in
     let P : State → Type 0 = λ u.
-        (run start (bytes ++ bs) ≡ Ok u) × (parts_of h ≡ needed u (built (bytes ++ bs))) × (fits u (parts_of h) ≡ true)
-        × (tag_len (parts_of h) + spent u ≤ held_behind u (k + length bs)) × IsKept (bytes ++ bs) (held_behind u (k + length bs)) in
+    (run start (bytes ++ bs) ≡ Ok u) × (parts_of h ≡ needed u (built (bytes ++ bs))) × (fits u (parts_of h) ≡ true)
+    × (tag_len (parts_of h) + spent u ≤ held_behind u (k + length bs)) × IsKept (bytes ++ bs) (held_behind u (k + length bs)) in
     let few : tag_len (needed s y) + spent s ≤ k = omega (arith, ap tag_len r.1, r.3) in
     let u : built (bytes ++ bs) ≡ put_run y s bs = tell_append bytes bs (calm [] empty) start s r.0 ∙ x.tells y in
     subst P (sym e) (

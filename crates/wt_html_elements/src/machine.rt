@@ -487,12 +487,7 @@ impl Machine {
         }
     }
 
-    fn in_escape(
-        &mut self,
-        builder: &Builder,
-        escape: EscapeAt,
-        byte: u8,
-    ) -> Result<Event, HtmlWhy>
+    fn in_escape(&mut self, builder: &Builder, escape: EscapeAt, byte: u8) -> Result<Event, HtmlWhy>
         ensures { Takes (turned (place_of self.old (building builder.now)) (escape_of escape) (in_escape (escape_of escape) byte))
             (out_escape (place_of self.old (building builder.now)) (escape_of escape) byte) result (view_after self.new (building builder.now)) }
     {

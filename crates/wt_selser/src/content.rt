@@ -322,11 +322,7 @@ fn is_open(way: Way, standing: Standing) -> bool
 
 /// How bold or italic stands to the page. It may hold whatever it does, so it isn't compared with a node of
 /// the page that may change.
-fn style_standing(
-    alloc: Global,
-    page: &Page<'_, '_>,
-    node: &Node<'_>,
-) -> Result<Standing, NoMemory>
+fn style_standing(alloc: Global, page: &Page<'_, '_>, node: &Node<'_>) -> Result<Standing, NoMemory>
     ensures { (same : Tree → Tree → Bool) → TellsSame same
         → IfOk result (λ s. if_replaced s ≡ if_replaced (standing (page_view same page.now) (view node.now))) }
 {
@@ -382,12 +378,7 @@ fn brings_link(way: Way, standing: Standing, node: &Node<'_>) -> bool
     }
 }
 
-fn nested_fault(
-    spot: Spot,
-    way: Way,
-    standing: Standing,
-    node: &Node<'_>,
-) -> Option<ContentWhy>
+fn nested_fault(spot: Spot, way: Way, standing: Standing, node: &Node<'_>) -> Option<ContentWhy>
     ensures { if_any result ≡ nested_fault (spot.in_link && brings_link way standing (holds_link (view node.now))) }
 {
     if spot.in_link && brings_link(way, standing, node) {

@@ -9,22 +9,22 @@ take_some-requires-clause-fits c = fits_now c.args.self.now.failed c.args.self.n
 pub invariant_of-self : goal.invariant_of-self
 invariant_of-self c = record {
   fed = more_fed c.args.self.now.failed c.args.self.now.failed c.args.self.now.reading c.take_some.new.self c.args.self.now.taken c.args.self.now.token_at (c.args.self.now.taken + c.in-Ok.count) (c.args.self.now.taken + c.in-Ok.count) (take c.in-Ok.count c.args.piece.now) c.args.self.now.fed
-    (whole_fed c.args.self.now.failed c.args.self.now.failed c.args.self.now.reading c.take_some.new.self c.args.self.now.taken c.args.self.now.token_at (c.args.self.now.taken + c.in-Ok.count) (c.args.self.now.taken + c.in-Ok.count) c.in-Ok.count c.args.piece.now c.requires.going refl c.in-Ok.ensures.within c.in-Ok.ensures.took refl
-    (sym (c.is_between.ensures (parts_of c.take_some.new.self)) ∙ c.if-is_between.true) refl);
+      (whole_fed c.args.self.now.failed c.args.self.now.failed c.args.self.now.reading c.take_some.new.self c.args.self.now.taken c.args.self.now.token_at (c.args.self.now.taken + c.in-Ok.count) (c.args.self.now.taken + c.in-Ok.count) c.in-Ok.count c.args.piece.now c.requires.going refl c.in-Ok.ensures.within c.in-Ok.ensures.took refl
+      (sym (c.is_between.ensures (parts_of c.take_some.new.self)) ∙ c.if-is_between.true) refl);
 }
 
 pub invariant_of-self-else-is_between : goal.invariant_of-self-else-is_between
 invariant_of-self-else-is_between c = record {
   fed = more_fed c.args.self.now.failed c.args.self.now.failed c.args.self.now.reading c.take_some.new.self c.args.self.now.taken c.args.self.now.token_at (c.args.self.now.taken + c.in-Ok.count) c.args.self.now.token_at (take c.in-Ok.count c.args.piece.now) c.args.self.now.fed
-    (part_fed c.args.self.now.failed c.args.self.now.failed c.args.self.now.reading c.take_some.new.self c.args.self.now.taken c.args.self.now.token_at (c.args.self.now.taken + c.in-Ok.count) c.args.self.now.token_at c.in-Ok.count c.args.piece.now c.requires.going refl c.in-Ok.ensures.within c.in-Ok.ensures.took refl
-    (sym (c.is_between.ensures (parts_of c.take_some.new.self)) ∙ c.if-is_between.false) refl);
+      (part_fed c.args.self.now.failed c.args.self.now.failed c.args.self.now.reading c.take_some.new.self c.args.self.now.taken c.args.self.now.token_at (c.args.self.now.taken + c.in-Ok.count) c.args.self.now.token_at c.in-Ok.count c.args.piece.now c.requires.going refl c.in-Ok.ensures.within c.in-Ok.ensures.took refl
+      (sym (c.is_between.ensures (parts_of c.take_some.new.self)) ∙ c.if-is_between.false) refl);
 }
 
 pub invariant_of-self-in-Err : goal.invariant_of-self-in-Err
 invariant_of-self-in-Err c = record {
   fed = more_fed c.args.self.now.failed (Some c.refusal_of-refusal.result) c.args.self.now.reading c.new.result c.args.self.now.taken c.args.self.now.token_at c.args.self.now.taken c.args.self.now.token_at c.args.piece.now c.args.self.now.fed
-    (failed_piece c.args.self.now.failed _ c.refusal_of-refusal.result c.in-Err.fault c.args.self.now.reading c.take_some.new.self c.new.result c.args.self.now.taken c.args.self.now.token_at
-    c.args.self.now.taken c.args.self.now.token_at c.args.piece.now c.requires.going refl c.refusal_of-refusal.ensures c.in-Err.ensures.took c.new.ensures);
+      (failed_piece c.args.self.now.failed _ c.refusal_of-refusal.result c.in-Err.fault c.args.self.now.reading c.take_some.new.self c.new.result c.args.self.now.taken c.args.self.now.token_at
+      c.args.self.now.taken c.args.self.now.token_at c.args.piece.now c.requires.going refl c.refusal_of-refusal.ensures c.in-Err.ensures.took c.new.ensures);
 }
 
 pub returns-then-is_between-clause-fed : goal.returns-then-is_between-clause-fed
