@@ -4,7 +4,6 @@ use Rattle.std.specs.Prelude.{slice_get, not, ◌&&◌}
 use Rattle.std.proofs.lemmas.List.{take_all, take_more}
 use Rattle.wt_tree.specs.declared.node.DataMw.TheVariants as mw
 use Rattle.wt_tree.specs.declared.node.Part.{Part as Datum}
-use Rattle.wt_tree.specs.declared.node.Part.TheVariants as datum
 use Rattle.wt_span.specs.declared.form.Piece.{Piece}
 use Rattle.wt_span.specs.Items.{Item, char, call_of_origin, items_of, items}
 use Rattle.wt_span.specs.Origins.{OuterCall}

@@ -1,7 +1,6 @@
 -- What is known of a placed tree before its texts are cut: no text has a closing delimiter, and no leaf but a group has children.
 use Rattle.std.proofs.Common.{◌≡◌, ℕ, ◌+◌, Bool, true, false, List, [], refl, ap}
 use Rattle.wt_tree.specs.declared.kind.Kind.{Kind}
-use Rattle.wt_tree.specs.declared.kind.Kind.TheVariants as kind
 use Rattle.wt_tree.specs.Kinds.{writing, is_leaf}
 use Rattle.wt_tree.specs.Recut.{is_as_text}
 use Rattle.wt_tree.specs.Tiling.{is_group}
