@@ -33,3 +33,24 @@ pushed_new eq f g k v h (d ∷ ds) e =
     let n = neither (bytes_eq (f k) (f d.0)) (is_among (f k) (names_of (pairs_of f g ds))) e in
     ap (λ b. pairs_of f g (if b then (d.0, v) ∷ ds else d ∷ insert_entry eq ds k v)) (h d.0 ∙ n.0)
     ∙ ap (λ ps. (f d.0, g d.1) ∷ ps) (pushed_new eq f g k v h ds n.1)
+
+-- ---- the first, and the rest behind them
+
+pub found_first : (k : List ℕ) (xs ys : List Pair) → is_among k (names_of xs) ≡ true → is_among k (names_of (xs ++ ys)) ≡ true
+found_first k [] ys e = cc
+found_first k (x ∷ xs) ys e = by (bytes_eq k x.0) e (found_first k xs ys)
+  where
+    by : (b : Bool) → (b || is_among k (names_of xs)) ≡ true → (is_among k (names_of xs) ≡ true → is_among k (names_of (xs ++ ys)) ≡ true)
+        → (b || is_among k (names_of (xs ++ ys))) ≡ true
+    by true f h = refl
+    by false f h = h f
+
+pub sought_behind : (k : List ℕ) (xs ys : List Pair) → is_among k (names_of xs) ≡ false → is_among k (names_of (xs ++ ys)) ≡ is_among k (names_of ys)
+sought_behind k [] ys e = refl
+sought_behind k (x ∷ xs) ys e =
+    let n = neither (bytes_eq k x.0) (is_among k (names_of xs)) e in
+    ap (λ b. b || is_among k (names_of (xs ++ ys))) n.0 ∙ sought_behind k xs ys n.1
+
+pub not_behind : (k : List ℕ) (xs ys : List Pair) → is_among k (names_of (xs ++ ys)) ≡ false → is_among k (names_of ys) ≡ false
+not_behind k [] ys e = e
+not_behind k (x ∷ xs) ys e = not_behind k xs ys (neither (bytes_eq k x.0) (is_among k (names_of (xs ++ ys))) e).1

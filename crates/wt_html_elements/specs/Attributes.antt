@@ -1,7 +1,10 @@
--- The whole attributes of a tag, in their order.
-use Rattle.std.specs.Prelude.{List, map}
+-- The whole attributes of a tag, in their order: the first, and the rest behind them.
+use Rattle.std.specs.Prelude.{List, ◌++◌, map}
 use Rattle.wt_html_grammar.specs.Markup.{Pair}
 use Rattle.wt_html_elements.specs.declared.attributes.Attributes.{Attributes}
 
+abbrev pub rest_pairs : Attributes → List Pair
+rest_pairs a = map (λ e. (e.0.items, e.1.items)) a.rest.entries
+
 abbrev pub pairs_in : Attributes → List Pair
-pairs_in a = map (λ e. (e.0.items, e.1.items)) a.map.entries
+pairs_in a = map (λ x. (x.name.items, x.value.items)) a.first.items ++ rest_pairs a

@@ -1,10 +1,21 @@
-use Rattle.std.proofs.Common.{◌∙◌}
-use Rattle.std.specs.Str.{bytes_eq}
-use Rattle.std.proofs.lemmas.Map.Made.{is_some-lookup}
-use Rattle.wt_html_elements.proofs.Among.{any_among}
+use Rattle.std.proofs.Common.{◌∙◌, List, sym, ap, map}
+use Rattle.wt_html_grammar.specs.Signs.{is_among}
+use Rattle.wt_html_elements.specs.declared.content.Attribute.{Attribute}
+use Rattle.wt_html_elements.specs.Attributes.{rest_pairs}
+use Rattle.wt_html_elements.specs.Built.{pairs}
+use Rattle.wt_html_elements.proofs.Among.{found_first, sought_behind}
 use Rattle.wt_html_elements.proofs.attributes.Attributes.contains.Goals as goal
 
-pub returns : goal.returns
-returns c =
-    c.contains_key.ensures ∙ is_some-lookup (λ y. bytes_eq c.args.name.now y.items) c.args.self.now.map.entries
-    ∙ any_among (λ n. n.items) (λ n. n.items) c.args.name.now c.args.self.now.map.entries
+pub returns-then-is_among : goal.returns-then-is_among
+returns-then-is_among c =
+    let first = c.args.self.now.first.items in
+    let seen = ap (λ (xs : List Attribute). is_among c.args.name.now (map (λ p. p.0) (pairs xs))) c.as_slice.ensures.value in
+    c.if-is_among.true
+    ∙ sym (found_first c.args.name.now (pairs first) (rest_pairs c.args.self.now) (sym seen ∙ sym c.is_among.ensures ∙ c.if-is_among.true))
+
+pub returns-else-is_among : goal.returns-else-is_among
+returns-else-is_among c =
+    let first = c.args.self.now.first.items in
+    let seen = ap (λ (xs : List Attribute). is_among c.args.name.now (map (λ p. p.0) (pairs xs))) c.as_slice.ensures.value in
+    c.is_in_rest.ensures
+    ∙ sym (sought_behind c.args.name.now (pairs first) (rest_pairs c.args.self.now) (sym seen ∙ sym c.is_among.ensures ∙ c.if-is_among.false))
