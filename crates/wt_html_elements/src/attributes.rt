@@ -1,4 +1,4 @@
-ghost use Rattle.std.specs.Prelude.{◌≡◌, ℕ, ◌++◌, [], ◌∷◌, map, false, OnOk, IfOk};
+ghost use Rattle.std.specs.Prelude.{◌≡◌, ◌++◌, [], ◌∷◌, map, false, OnOk, IfOk};
 ghost use Rattle.wt_html_grammar.specs.Signs.{is_among};
 ghost use Rattle.wt_html_elements.specs.Attributes.{pairs_in, rest_pairs};
 ghost use Rattle.wt_html_elements.specs.Built.{pairs};

@@ -1,8 +1,7 @@
 ghost use Rattle.std.specs.Prelude.{◌≡◌, ℕ, ◌++◌, ◌∷◌, [], OnOk, IfOk, IfErr, encode_utf8, length, true};
 ghost use Rattle.wt_html_grammar.specs.Markup.{Markup, node, empty, more};
-ghost use Rattle.wt_html_grammar.specs.Events.{calm, close, closed_into, put, with_open, add_bytes, with_value};
+ghost use Rattle.wt_html_grammar.specs.Events.{calm, closed_into, put, with_open, add_bytes, with_value};
 ghost use Rattle.wt_html_elements.specs.Held.{may_be_put, is_some_open, moved};
-ghost use Rattle.wt_html_elements.specs.Runs.{put_run};
 ghost use Rattle.wt_html_elements.specs.Built.{view_content, views, pairs, frame, building};
 ghost use Rattle.wt_html_elements.specs.View.{first_name};
 

@@ -1,8 +1,8 @@
-ghost use Rattle.std.specs.Prelude.{◌≡◌, ℕ, ◌<◌, ◌≤◌, ◌≢◌, ◌==◌, true, false, take, List, [], ◌∷◌, Ok, Err, length, drop, codes, if◌then◌else◌};
+ghost use Rattle.std.specs.Prelude.{◌≡◌, ℕ, ◌<◌, ◌≤◌, ◌==◌, true, false, take, [], ◌∷◌, Ok, Err, length, drop, codes, if◌then◌else◌};
 ghost use Rattle.std.specs.List.{list_all};
 ghost use Rattle.wt_html_grammar.specs.Signs.{is_among, is_void, in_text, in_value};
-ghost use Rattle.wt_html_grammar.specs.Machine.{start, first, doctype, inside, less, naming, gap, attribute, named_so, equals, value, valued, slashed, closing, closed, wide, in_contents, in_doctype, special, at_open, at_end, at_name, end_tag, with_seen, turned, in_escape, is_plain, mended, step};
-ghost use Rattle.wt_html_grammar.specs.Events.{out, out_open, out_end, out_escape, unit_byte, unit_char};
+ghost use Rattle.wt_html_grammar.specs.Machine.{start, first, doctype, inside, less, naming, gap, attribute, named_so, equals, value, valued, slashed, closing, closed, wide, in_contents, in_doctype, special, at_open, at_end, at_name, end_tag, turned, in_escape, is_plain, mended, step};
+ghost use Rattle.wt_html_grammar.specs.Events.{Building, out, out_open, out_end, out_escape, unit_byte, unit_char};
 ghost use Rattle.wt_html_grammar.specs.Places.{is_accepted};
 ghost use Rattle.wt_html_grammar.specs.declared.event.Event.TheVariants as ev;
 ghost use Rattle.wt_html_elements.specs.Kept.{is_between};
@@ -10,7 +10,6 @@ ghost use Rattle.wt_html_elements.specs.Runs.{stays};
 ghost use Rattle.wt_html_elements.specs.View.{view, view_after, names, first_name, other_names, place_of, tag_of, tag_behind_key, escape_of, Takes};
 ghost use Rattle.wt_html_elements.specs.Held.{fits, is_some_open, is_some_attribute, moved};
 ghost use Rattle.wt_html_elements.specs.Built.{building};
-ghost use Rattle.wt_html_grammar.specs.Events.{Building};
 
 use crate::builder::Builder;
 use crate::escape::{EscapeAt, TurnTo, turn};

@@ -1,4 +1,4 @@
-ghost use Rattle.std.specs.Prelude.{◌≡◌, ℕ, ◌+◌, ◌^◌, ◌<◌, ◌≤◌, ◌++◌, List, [], ◌∷◌, length, take, true, None, Some, Ok, Err, IfSome, OnOk, IfOk, IfErr};
+ghost use Rattle.std.specs.Prelude.{◌≡◌, ℕ, ◌+◌, ◌^◌, ◌<◌, ◌≤◌, ◌++◌, List, [], length, take, None, Some, Ok, Err, IfSome, OnOk, IfOk, IfErr};
 ghost use Rattle.wt_html_grammar.specs.Grammar.{Front};
 ghost use Rattle.wt_html_elements.specs.Kept.{IsKept};
 ghost use Rattle.wt_html_elements.specs.Fed.{FedAs};

@@ -1,4 +1,4 @@
-ghost use Rattle.std.specs.Prelude.{◌≡◌, ℕ, ◌++◌, ◌∷◌, [], true, not, map, encode_utf8, OnOk, IfOk};
+ghost use Rattle.std.specs.Prelude.{◌≡◌, ◌++◌, ◌∷◌, [], true, not, map, encode_utf8, OnOk, IfOk};
 ghost use Rattle.wt_html_grammar.specs.Signs.{is_among};
 ghost use Rattle.wt_html_elements.specs.Attributes.{pairs_in};
 ghost use Rattle.wt_html_elements.specs.Built.{pairs, IsEmptyTag};
