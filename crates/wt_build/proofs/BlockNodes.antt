@@ -10,19 +10,18 @@ use Rattle.wt_lines.specs.declared.kind.LineKind.{LineKind}
 use Rattle.wt_lines.specs.declared.kind.LineKind.TheVariants as line
 use Rattle.wt_tables.specs.Parts.{unit_kind}
 use Rattle.wt_inline.specs.ItemTree.{ItemTree}
-use Rattle.wt_build.specs.declared.row.RowAt.{RowAt}
-use Rattle.wt_build.specs.declared.stretch.StretchAt.{StretchAt}
-use Rattle.wt_body.specs.Rows.{Row, kind_of, first_lead, last_ending, row_items}
+use Rattle.wt_rows.specs.declared.row.RowAt.{RowAt}
+use Rattle.wt_rows.specs.declared.stretch.StretchAt.{StretchAt}
+use Rattle.wt_body.specs.Rows.{Row, kind_of, first_lead, last_ending}
 use Rattle.wt_body.specs.Stretches.{gap, tree_block}
 use Rattle.wt_body.specs.Lists.{lists}
 use Rattle.wt_body.specs.Texts.{with_separators}
 use Rattle.wt_body.specs.Tables.{Reading, gaps, table}
 use Rattle.wt_body.specs.Body.{block_stretches, blocks_by, within}
-use Rattle.wt_build.specs.Views.{slice, row_view, rows_view, stretch_view, stretches_view}
-use Rattle.wt_build.specs.Units.{kind_at}
-use Rattle.wt_build.specs.Ready.{IsReadyRow, AreInOrder, AreReadyRows, reading_at}
-use Rattle.wt_build.specs.Blocks.{run_of, IsBlockLen, is_lone, AreOneBlock, block_node, IsBetween, IsNodeKind}
-use Rattle.wt_build.proofs.LaterLines.{slices_join}
+use Rattle.wt_rows.specs.Views.{row_view, rows_view, stretch_view, stretches_view, IsBetween}
+use Rattle.wt_rows.specs.Units.{kind_at}
+use Rattle.wt_rows.specs.Ready.{AreInOrder, AreReadyRows}
+use Rattle.wt_build.specs.Blocks.{reading_at, run_of, IsBlockLen, is_lone, AreOneBlock, block_node, IsNodeKind}
 
 -- ---- a node between separators
 
@@ -46,15 +45,6 @@ between_is ps rs first last t u ss s ef el b e =
     ∙ ap (λ v. gap (row_view ps first).lead ∷ tree_block v ∷ gap (row_view ps last).ending ∷ []) e
     ∙ ap (λ xs. gap xs ∷ tree_block u ∷ gap (row_view ps last).ending ∷ []) (sym (first_is ps rs first s ef))
     ∙ ap (λ xs. gap (first_lead (rows_view ps rs)) ∷ tree_block u ∷ gap xs ∷ []) (sym (last_is ps rs (length rs - 1) last (omega arith) el))
-
-pub gap_is : (ps : List Piece) (r : RowAt) → IsReadyRow ps r → items (slice r.start r.end ps) ≡ row_items (row_view ps r)
-gap_is ps r h =
-    let a = slice r.start r.from ps in
-    let b = slice r.from r.to ps in
-    let c = slice r.to r.end ps in
-    ap items (slices_join ps r.start r.from r.end h.lead (omega (arith, h.items, h.ending))
-    ∙ ap (λ xs. a ++ xs) (slices_join ps r.from r.to r.end h.items h.ending))
-    ∙ flat_map-append items_of a (b ++ c) ∙ ap (λ xs. items a ++ xs) (flat_map-append items_of b c)
 
 one_row : (rs : List RowAt) (r : RowAt) → length rs ≡ 1 → r ≡ get_or rs 0 r → rs ≡ r ∷ []
 one_row [] r l e = absurd (omega arith)

@@ -1,5 +1,5 @@
 -- The first block of rows.
-use Rattle.std.proofs.Common.{◌≡◌, ℕ, zero, suc, ◌+◌, Bool, true, false, List, [], ◌∷◌, ◌++◌, length, take, drop, map, get_or, ◌<◌, refl, sym, ap, ◌∙◌, subst, cond, arith, append-nil}
+use Rattle.std.proofs.Common.{◌≡◌, ℕ, suc, ◌+◌, Bool, true, false, List, [], ◌∷◌, ◌++◌, length, take, drop, map, get_or, ◌<◌, refl, sym, ap, ◌∙◌, subst, cond, arith, append-nil}
 use Rattle.std.specs.Prelude.{◌||◌, All}
 use Rattle.std.specs.List.{flat_map, prefix_len}
 use Rattle.std.proofs.Math.Numerals.{one-add}
@@ -12,14 +12,15 @@ use Rattle.wt_lines.specs.declared.kind.LineKind.{LineKind}
 use Rattle.wt_lines.specs.declared.kind.LineKind.TheVariants as line
 use Rattle.wt_blocks.specs.Paragraphs.{is_text}
 use Rattle.wt_tables.specs.Extents.{is_open, inner_len}
-use Rattle.wt_tables.specs.Parts.{joined, taken_len, put_first, units_from, units, unit_kind}
-use Rattle.wt_build.specs.declared.row.RowAt.{RowAt}
+use Rattle.wt_tables.specs.Parts.{joined, taken_len, units, unit_kind}
+use Rattle.wt_rows.specs.declared.row.RowAt.{RowAt}
 use Rattle.wt_body.specs.Rows.{Row, kind_of}
 use Rattle.wt_body.specs.Tables.{Reading}
 use Rattle.wt_body.specs.Body.{is_list_line, is_pre_line, one_block, same_block, run_stretches, blocks_by}
-use Rattle.wt_build.specs.Views.{row_view, rows_view}
-use Rattle.wt_build.specs.Units.{kind_at, unit_len}
+use Rattle.wt_rows.specs.Views.{row_view, rows_view}
+use Rattle.wt_rows.specs.Units.{kind_at, unit_len}
 use Rattle.wt_build.specs.Blocks.{joined_len, run_of, IsBlockLen, is_lone, AreOneBlock}
+use Rattle.wt_rows.proofs.FirstUnits.{units_more, unit_one}
 
 or_none : (b : Bool) → (b || false) ≡ true → b ≡ true
 or_none true e = refl
@@ -83,20 +84,6 @@ same_kind line.List j e = list_only j e
 same_kind line.Pre j e = pre_only j (or_none (is_pre_line j) e)
 same_kind line.Text j e = text_only j (or_none (is_text j) e)
 
-taken_none : (k : LineKind) → is_open k ≡ false → (n : ℕ) → taken_len k n ≡ 0
-taken_none line.Blank e n = refl
-taken_none line.TableOpen e n = absurd cc
-taken_none line.TableEnd e n = refl
-taken_none line.Caption e n = refl
-taken_none line.Row e n = refl
-taken_none line.Cell e n = refl
-taken_none line.Header e n = refl
-taken_none line.Heading e n = refl
-taken_none line.Rule e n = refl
-taken_none line.List e n = refl
-taken_none line.Pre e n = refl
-taken_none line.Text e n = refl
-
 open_is : (k : LineKind) → is_open k ≡ true → k ≡ line.TableOpen
 open_is line.Blank e = absurd cc
 open_is line.TableOpen e = refl
@@ -110,22 +97,6 @@ open_is line.Rule e = absurd cc
 open_is line.List e = absurd cc
 open_is line.Pre e = absurd cc
 open_is line.Text e = absurd cc
-
--- ---- units
-
-units_behind : (n : ℕ) (rs : List Row) → units_from kind_of n rs ≡ take n rs ∷ units kind_of (drop n rs)
-units_behind zero [] = refl
-units_behind (suc n) [] = refl
-units_behind zero (r ∷ rs) = refl
-units_behind (suc n) (r ∷ rs) = ap (put_first r) (units_behind n rs)
-
-units_more : (r : Row) (rs : List Row)
-    → units kind_of (r ∷ rs)
-    ≡ (r ∷ take (taken_len r.kind (inner_len (map kind_of rs))) rs) ∷ units kind_of (drop (taken_len r.kind (inner_len (map kind_of rs))) rs)
-units_more r rs = ap (put_first r) (units_behind (taken_len r.kind (inner_len (map kind_of rs))) rs)
-
-pub unit_one : (r : Row) (rs : List Row) → is_open r.kind ≡ false → units kind_of (r ∷ rs) ≡ (r ∷ []) ∷ units kind_of rs
-unit_one r rs h = units_more r rs ∙ ap (λ n. (r ∷ take n rs) ∷ units kind_of (drop n rs)) (taken_none r.kind h (inner_len (map kind_of rs)))
 
 -- ---- runs of units
 

@@ -18,8 +18,9 @@ use Rattle.wt_tables.proofs.Numbers.{numbers_len}
 use Rattle.wt_tiles.specs.declared.tile.Tile.{Tile}
 use Rattle.wt_body.specs.Rows.{signs}
 use Rattle.wt_body.specs.Lists.{is_bare, seen_signs, colon_at, term_len, with_blanks}
-use Rattle.wt_build.specs.Prefixes.{seen_sign, seen_by}
-use Rattle.wt_build.proofs.Items.{low_sign, blanks_cut}
+use Rattle.wt_build.specs.SeenSigns.{seen_sign, seen_by}
+use Rattle.wt_rows.proofs.LowSigns.{low_sign}
+use Rattle.wt_build.proofs.Items.{blanks_cut}
 
 abbrev is_other : ℕ → Bool
 is_other s = not (s == 58)

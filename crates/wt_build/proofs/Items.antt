@@ -1,74 +1,21 @@
 -- Items of lists: their delimiters, and what they hold.
-use Rattle.std.proofs.Common.{◌≡◌, ◌<◌, ◌≤◌, ℕ, zero, suc, ◌+◌, ◌-◌, true, None, List, [], ◌∷◌, ◌++◌, length, take, drop, map, get_or, refl, sym, ap, ◌∙◌, subst, arith, length-drop}
-use Rattle.std.specs.Prelude.{reverse, min}
+use Rattle.std.proofs.Common.{◌≡◌, ◌<◌, ◌≤◌, ℕ, zero, suc, ◌+◌, ◌-◌, true, List, length, take, drop, map, get_or, refl, sym, ap, ◌∙◌, subst, arith, length-drop}
+use Rattle.std.specs.Prelude.{min}
 use Rattle.std.specs.List.{prefix_len}
 use Rattle.std.proofs.lemmas.Bool.Decides.{nat_tests}
-use Rattle.std.proofs.lemmas.List.{get_or-drop, length-map, reverse-append, length-take-le, length-reverse}
+use Rattle.std.proofs.lemmas.List.{get_or-drop, length-map, length-take-le}
 use Rattle.std.proofs.lemmas.List.Sums.{prefix_len-le-length, prefix_len_passes}
 use Rattle.wt_span.specs.Bytes.{is_blank}
-use Rattle.wt_span.specs.declared.form.Form.{Form}
-use Rattle.wt_span.specs.declared.form.Form.TheVariants as form
-use Rattle.wt_span.specs.Items.{Item, char, whole, sign}
+use Rattle.wt_span.specs.Items.{Item, sign}
 use Rattle.wt_blocks.specs.Nesting.{is_list_sign}
-use Rattle.wt_tiles.specs.Glyphs.{glyph_of, glyph_of_form}
-use Rattle.wt_tiles.specs.Edges.{is_low, low_at}
+use Rattle.wt_tiles.specs.Glyphs.{glyph_of}
 use Rattle.wt_tiles.specs.Cutting.{IsEdgeIn}
 use Rattle.wt_tiles.proofs.Words.{edge_after}
-use Rattle.wt_inline.specs.ItemTree.{Head, inner, forest}
-use Rattle.wt_inline.specs.Parts.{Part, children}
-use Rattle.wt_inline.specs.Grown.{Grown, Grows, made}
 use Rattle.wt_body.specs.Rows.{signs}
-use Rattle.wt_body.specs.Stretches.{Stretch, gap, block, is_gap, block_len, before_end, end_gaps, stretches_parts, opened_by, tree_block}
 use Rattle.wt_body.specs.Lists.{prefix_of, with_blanks, item_opening_len}
-use Rattle.wt_build.specs.Views.{IsOpenedBy}
-
--- ---- a node that begins with what stands on a line
-
-gaps_before_block : (ps : List Part) (ss : List Stretch) → prefix_len is_gap (ss ++ block ps ∷ []) ≡ prefix_len is_gap ss
-gaps_before_block ps [] = refl
-gaps_before_block ps (gap xs ∷ ss) = ap (λ n. 1 + n) (gaps_before_block ps ss)
-gaps_before_block ps (block qs ∷ ss) = refl
-
-block_first : (ps : List Part) (ss : List Stretch) → block_len (block ps ∷ ss) ≡ suc (block_len ss)
-block_first ps ss =
-    let back : prefix_len is_gap (reverse (block ps ∷ ss)) ≡ prefix_len is_gap (reverse ss) =
-    ap (prefix_len is_gap) (reverse-append (block ps ∷ []) ss) ∙ gaps_before_block ps (reverse ss) in
-    let few : prefix_len is_gap (reverse ss) ≤ length (reverse ss) = prefix_len-le-length is_gap (reverse ss) in
-    let len : length (reverse ss) ≡ length ss = length-reverse ss in
-    let down : suc (length ss) - prefix_len is_gap (reverse ss) ≡ suc (length ss - prefix_len is_gap (reverse ss)) = omega arith in
-    ap (λ n. suc (length ss) - n) back ∙ down
-
-pub opened_line_is : (h : Head) (o : List Item) (f g : Grown) (ps : List Part) (ss ls : List Stretch) → f ≡ record { trees = []; run = None }
-    → Grows f ps g → IsOpenedBy h o g ss ls → ls ≡ opened_by h o (block ps ∷ ss)
-opened_line_is h o f g ps ss ls ef grows is =
-    let len = block_first ps ss in
-    let front : before_end (block ps ∷ ss) ≡ block ps ∷ before_end ss = ap (λ n. take n (block ps ∷ ss)) len in
-    let back : end_gaps (block ps ∷ ss) ≡ end_gaps ss = ap (λ n. drop n (block ps ∷ ss)) len in
-    let qs = stretches_parts (before_end ss) in
-    let held : made g qs ≡ children (ps ++ qs) = grows qs ∙ ap (λ (k : Grown). made k (ps ++ qs)) ef in
-    is
-    ∙ ap (λ ts. tree_block (inner h o (forest ts) []) ∷ end_gaps ss) held
-    ∙ ap (λ us. tree_block (inner h o (forest (children (stretches_parts us))) []) ∷ end_gaps ss) (sym front)
-    ∙ ap (λ us. tree_block (inner h o (forest (children (stretches_parts (before_end (block ps ∷ ss))))) []) ∷ us) (sym back)
+use Rattle.wt_rows.proofs.LowSigns.{low_sign}
 
 -- ---- where an open delimiter ends
-
-form_low : (f : Form) → is_low (glyph_of_form f) ≡ true
-form_low form.Chars = refl
-form_low (form.Entity c) = refl
-form_low form.Nowiki = refl
-form_low form.Extension = refl
-form_low form.Function = refl
-form_low form.Comment = refl
-form_low form.Include = refl
-form_low form.Hidden = refl
-form_low form.EmptyCall = refl
-
-pub low_sign : (xs : List Item) (i : ℕ) → i < length xs → get_or (signs xs) i 0 < 128 → low_at (map glyph_of xs) i ≡ true
-low_sign [] i w l = absurd (omega arith)
-low_sign (char o b ∷ xs) zero w l = grind (arith, nat_tests)
-low_sign (whole f o bs ∷ xs) zero w l = form_low f
-low_sign (x ∷ xs) (suc i) w l = low_sign xs i (omega arith) l
 
 blank_low : (s : ℕ) → is_blank s ≡ true → s < 128
 blank_low s e = grind (arith, nat_tests)

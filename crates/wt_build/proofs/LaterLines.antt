@@ -1,17 +1,10 @@
 -- Later lines of a block.
-use Rattle.std.proofs.Common.{◌≡◌, ◌≤◌, inr, ℕ, ◌+◌, ◌-◌, true, List, [], ◌∷◌, ◌++◌, length, take, drop, refl, sym, ap, ◌∙◌, arith, append_assoc}
+use Rattle.std.proofs.Common.{◌≡◌, ◌≤◌, inr, ℕ, true, List, [], ◌∷◌, ◌++◌, length, drop, sym, ap, ◌∙◌, arith, append_assoc}
 use Rattle.std.specs.Prelude.{codes, nat_lt}
 use Rattle.std.proofs.lemmas.Bool.Decides.{nat_tests}
-use Rattle.std.proofs.lemmas.List.{drop-drop}
-use Rattle.std.proofs.Math.Seq.{take-add}
-use Rattle.std.proofs.lemmas.Grind.{flat_map-append}
 use Rattle.wt_span.specs.Bytes.{begins}
-use Rattle.wt_span.specs.declared.form.Form.{Form}
-use Rattle.wt_span.specs.declared.form.Form.TheVariants as form
 use Rattle.wt_span.specs.declared.form.Piece.{Piece}
-use Rattle.wt_span.specs.Items.{Item, char, whole, items, items_of}
-use Rattle.wt_tiles.specs.Glyphs.{glyph_of_form}
-use Rattle.wt_tiles.specs.Edges.{is_low}
+use Rattle.wt_span.specs.Items.{Item, char, whole, items}
 use Rattle.wt_tiles.specs.Cutting.{IsEdgeIn}
 use Rattle.wt_inline.specs.declared.loose.Loose.TheVariants.{Text}
 use Rattle.wt_inline.specs.ItemTree.{ItemTree}
@@ -20,32 +13,16 @@ use Rattle.wt_inline.specs.Grown.{Grown, Grows, made}
 use Rattle.wt_context.specs.Line.{line_parts}
 use Rattle.wt_body.specs.Rows.{Row, signs}
 use Rattle.wt_body.specs.Texts.{skipped, later_pre}
-use Rattle.wt_build.specs.Views.{slice}
+use Rattle.wt_rows.specs.Views.{slice}
+use Rattle.wt_rows.proofs.LowSigns.{form_low}
+use Rattle.wt_rows.proofs.Straying.{slices_join}
 
 -- ---- slices that follow one another
 
-pub slices_join : (ps : List Piece) (a b c : ℕ) → a ≤ b → b ≤ c → slice a c ps ≡ slice a b ps ++ slice b c ps
-slices_join ps a b c h k =
-    let both : c - a ≡ (b - a) + (c - b) = omega arith in
-    let place : a + (b - a) ≡ b = omega arith in
-    ap (λ n. take n (drop a ps)) both ∙ take-add (b - a) (c - b) (drop a ps)
-    ∙ ap (λ qs. slice a b ps ++ take (c - b) qs) (drop-drop (b - a) a ps ∙ ap (λ n. drop n ps) place)
-
 pub whole_line : (ps line : List Piece) (a b c : ℕ) → a ≤ b → b ≤ c → line ≡ slice a c ps → items line ≡ items (slice a b ps) ++ items (slice b c ps)
-whole_line ps line a b c h k e = ap items (e ∙ slices_join ps a b c h k) ∙ flat_map-append items_of (slice a b ps) (slice b c ps)
+whole_line ps line a b c h k e = ap items e ∙ slices_join ps a b c h k
 
 -- ---- a space at the front
-
-form_low : (f : Form) → is_low (glyph_of_form f) ≡ true
-form_low form.Chars = refl
-form_low (form.Entity c) = refl
-form_low form.Nowiki = refl
-form_low form.Extension = refl
-form_low form.Function = refl
-form_low form.Comment = refl
-form_low form.Include = refl
-form_low form.Hidden = refl
-form_low form.EmptyCall = refl
 
 pub space_within : (xs : List Item) → begins (codes " ") (signs xs) ≡ true → 1 ≤ length xs
 space_within [] e = cc

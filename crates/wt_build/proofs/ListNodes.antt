@@ -13,15 +13,16 @@ use Rattle.wt_blocks.specs.Nesting.{is_list_sign, IsPrefix}
 use Rattle.wt_blocks.specs.declared.nest.ListNode.{ListNode, out-ListNode, fold_out-ListNode}
 use Rattle.wt_blocks.specs.View.{view_step, list_tree, list_trees}
 use Rattle.wt_inline.specs.ItemTree.{plain}
-use Rattle.wt_build.specs.declared.row.RowAt.{RowAt}
-use Rattle.wt_build.specs.declared.stretch.StretchAt.{StretchAt}
+use Rattle.wt_rows.specs.declared.row.RowAt.{RowAt}
+use Rattle.wt_rows.specs.declared.stretch.StretchAt.{StretchAt}
 use Rattle.wt_body.specs.Rows.{Row, signs, unwritten_end}
 use Rattle.wt_body.specs.Stretches.{Stretch, enclosed}
 use Rattle.wt_body.specs.Lists.{item_kind, line_item, begins_at, row_at, list_stretches, all_lists, prefixes, prefix_of}
-use Rattle.wt_build.specs.Prefixes.{list_signs}
+use Rattle.wt_rows.specs.Prefixes.{list_signs}
 use Rattle.wt_build.specs.Nodes.{node_by}
-use Rattle.wt_build.specs.Ready.{Begins, AreInOrder, AreListRows}
-use Rattle.wt_build.specs.Views.{row_view, rows_view, stretch_view, stretches_view}
+use Rattle.wt_rows.specs.Ready.{Begins, AreInOrder}
+use Rattle.wt_build.specs.Blocks.{AreListRows}
+use Rattle.wt_rows.specs.Views.{row_view, rows_view, stretch_view, stretches_view}
 
 -- ---- nodes
 

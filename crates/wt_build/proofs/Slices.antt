@@ -6,7 +6,7 @@ use Rattle.wt_span.specs.declared.form.Piece.{Piece}
 use Rattle.wt_span.specs.Origins.{IsSoundPiece}
 use Rattle.wt_lines.specs.Pieces.{AllParted}
 use Rattle.wt_headings.proofs.Pieces.{parted_rest, parted_front}
-use Rattle.wt_build.specs.Views.{slice}
+use Rattle.wt_rows.specs.Views.{slice}
 
 pub sound_slice : (ps q : List Piece) (a b : ℕ) → All IsSoundPiece ps → q ≡ slice a b ps → All IsSoundPiece q
 sound_slice ps q a b h e = subst (All IsSoundPiece) (sym e) (All-take IsSoundPiece _ _ (All-drop IsSoundPiece _ _ h))

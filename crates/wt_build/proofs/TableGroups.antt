@@ -9,9 +9,10 @@ use Rattle.wt_inline.specs.ItemTree.{plain}
 use Rattle.wt_body.specs.Rows.{Row, kind_of}
 use Rattle.wt_body.specs.Stretches.{enclosed}
 use Rattle.wt_body.specs.Tables.{Reading, cell_stretches, row_by as row_stretches_by, row_stretches, rows_stretches, table_inside}
-use Rattle.wt_build.specs.Units.{plain_count}
-use Rattle.wt_build.specs.Groups.{group_rows, goes_on, row_with, row_of_groups, rows_of_groups, body_of_groups, captions_count, inside_groups}
-use Rattle.wt_build.proofs.Grouping.{runs_front, plain_are, AreFirst, first_are, first_rest, count_same}
+use Rattle.wt_rows.specs.Units.{plain_count}
+use Rattle.wt_rows.specs.Groups.{group_rows, goes_on, captions_count}
+use Rattle.wt_build.specs.RowGroups.{row_with, row_of_groups, rows_of_groups, body_of_groups, inside_groups}
+use Rattle.wt_rows.proofs.Grouping.{runs_front, plain_are, AreFirst, first_are, first_rest, count_same}
 
 stray_all : (n : ℕ) (u : List Row) (us : List (List Row)) → (u ++ joined (take n us)) ++ joined (drop n us) ≡ u ++ joined us
 stray_all n u us =

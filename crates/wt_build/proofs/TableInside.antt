@@ -10,22 +10,23 @@ use Rattle.wt_lines.specs.declared.kind.LineKind.{LineKind}
 use Rattle.wt_lines.specs.declared.kind.LineKind.TheVariants as line
 use Rattle.wt_tables.specs.Extents.{inner_len, is_open}
 use Rattle.wt_tables.specs.Parts.{unit_kind, taken_len, is_row, is_caption, begins_part}
-use Rattle.wt_build.specs.declared.row.RowAt.{RowAt}
-use Rattle.wt_build.specs.declared.group.Group.{Group}
-use Rattle.wt_build.specs.declared.stretch.StretchAt.{StretchAt}
-use Rattle.wt_body.specs.Rows.{Row, signs, kind_of}
+use Rattle.wt_rows.specs.declared.row.RowAt.{RowAt}
+use Rattle.wt_rows.specs.declared.group.Group.{Group}
+use Rattle.wt_rows.specs.declared.stretch.StretchAt.{StretchAt}
+use Rattle.wt_body.specs.Rows.{signs, kind_of}
 use Rattle.wt_tree.specs.declared.kind.Kind.TheVariants as kind
 use Rattle.wt_inline.specs.ItemTree.{plain}
 use Rattle.wt_body.specs.Stretches.{Stretch, enclosed}
 use Rattle.wt_body.specs.Tables.{Reading, cell_stretches, first_items}
-use Rattle.wt_build.specs.Ready.{Begins, BeginsCell, IsReadyRow, AreInOrder}
-use Rattle.wt_build.specs.Units.{kind_at, plain_count}
-use Rattle.wt_build.specs.Groups.{group_rows, captions_count, rows_of_groups, body_of_groups, inside_groups}
-use Rattle.wt_build.specs.GroupViews.{group_view, groups_view}
+use Rattle.wt_rows.specs.Ready.{Begins, BeginsCell, IsReadyRow, AreInOrder}
+use Rattle.wt_rows.specs.Units.{kind_at, plain_count}
+use Rattle.wt_rows.specs.Groups.{group_rows, captions_count}
+use Rattle.wt_build.specs.RowGroups.{rows_of_groups, body_of_groups, inside_groups}
+use Rattle.wt_rows.specs.GroupViews.{group_view, groups_view}
 use Rattle.wt_build.specs.CellGroups.{groups_rows, FirstBegins, AllBegin, IsPartRow, IsPart, AreParts, StartsPart}
-use Rattle.wt_build.specs.Views.{row_view, rows_view, stretch_view, stretches_view}
-use Rattle.wt_build.proofs.Grouping.{group_len, group_front, plain_from, taken_within}
-use Rattle.wt_build.proofs.GroupSteps.{groups_viewed, kind_viewed}
+use Rattle.wt_rows.specs.Views.{row_view, rows_view, stretch_view, stretches_view}
+use Rattle.wt_rows.proofs.Grouping.{group_len, group_front, plain_from, taken_within}
+use Rattle.wt_rows.proofs.GroupSteps.{groups_viewed, kind_viewed}
 use Rattle.wt_build.proofs.TableRows.{map_map, map_front}
 
 -- ---- what a row of a kind begins with

@@ -6,24 +6,24 @@ use Rattle.std.proofs.lemmas.List.{drop-drop, drop-map, take-map, take_all}
 use Rattle.wt_tree.specs.declared.kind.Kind.TheVariants as kind
 use Rattle.wt_span.specs.Bytes.{begins}
 use Rattle.wt_span.specs.declared.form.Piece.{Piece}
-use Rattle.wt_lines.specs.declared.kind.LineKind.TheVariants as line
 use Rattle.wt_tables.specs.Parts.{unit_kind, is_row}
 use Rattle.wt_inline.specs.ItemTree.{plain}
-use Rattle.wt_build.specs.declared.row.RowAt.{RowAt}
-use Rattle.wt_build.specs.declared.group.Group.{Group}
-use Rattle.wt_build.specs.declared.stretch.StretchAt.{StretchAt}
+use Rattle.wt_rows.specs.declared.row.RowAt.{RowAt}
+use Rattle.wt_rows.specs.declared.group.Group.{Group}
+use Rattle.wt_rows.specs.declared.stretch.StretchAt.{StretchAt}
 use Rattle.wt_body.specs.Rows.{Row, signs, kind_of}
 use Rattle.wt_body.specs.Stretches.{Stretch, enclosed}
 use Rattle.wt_body.specs.Tables.{Reading, cell_stretches, first_items, row_by}
-use Rattle.wt_build.specs.Units.{kind_at}
-use Rattle.wt_build.specs.Groups.{goes_on, row_groups, row_with, row_of_groups, rows_of_groups}
-use Rattle.wt_build.specs.GroupViews.{group_view, groups_view}
+use Rattle.wt_rows.specs.Units.{kind_at}
+use Rattle.wt_rows.specs.Groups.{goes_on}
+use Rattle.wt_build.specs.RowGroups.{row_groups, row_with, row_of_groups, rows_of_groups}
+use Rattle.wt_rows.specs.GroupViews.{group_view, groups_view}
 use Rattle.wt_build.specs.CellGroups.{groups_rows, FirstBegins, AllBegin, IsPart, AreParts}
-use Rattle.wt_build.specs.Views.{rows_view, stretches_view}
-use Rattle.wt_build.proofs.Grouping.{runs_front}
-use Rattle.wt_build.proofs.GroupSteps.{kind_viewed}
+use Rattle.wt_rows.specs.Views.{rows_view, stretches_view}
+use Rattle.wt_rows.proofs.Grouping.{runs_front}
+use Rattle.wt_rows.proofs.GroupSteps.{kind_viewed}
 use Rattle.wt_build.proofs.TableSteps.{group_more}
-use Rattle.wt_build.proofs.Celling.{made_added}
+use Rattle.wt_rows.proofs.Celling.{made_added}
 
 -- ---- a row: by its first group
 

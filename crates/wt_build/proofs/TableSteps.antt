@@ -4,19 +4,20 @@ use Rattle.std.specs.List.{flat_map}
 use Rattle.std.proofs.lemmas.List.{drop_more, drop_all}
 use Rattle.wt_span.specs.declared.form.Piece.{Piece}
 use Rattle.wt_tables.specs.Cells.{cells_from}
-use Rattle.wt_build.specs.declared.row.RowAt.{RowAt}
-use Rattle.wt_build.specs.declared.group.Group.{Group}
-use Rattle.wt_build.specs.declared.stretch.StretchAt.{StretchAt}
+use Rattle.wt_rows.specs.declared.row.RowAt.{RowAt}
+use Rattle.wt_rows.specs.declared.group.Group.{Group}
+use Rattle.wt_rows.specs.declared.stretch.StretchAt.{StretchAt}
 use Rattle.wt_body.specs.Rows.{Row, signs}
 use Rattle.wt_body.specs.Stretches.{Stretch, gap}
 use Rattle.wt_body.specs.Tables.{Reading, gaps, cells_by, cell_stretches}
 use Rattle.wt_body.specs.Body.{within}
-use Rattle.wt_build.specs.Ready.{BeginsCell, AreReadyRows, reading_at}
-use Rattle.wt_build.specs.GroupViews.{group_view}
+use Rattle.wt_rows.specs.Ready.{BeginsCell, AreReadyRows}
+use Rattle.wt_build.specs.Blocks.{reading_at}
+use Rattle.wt_rows.specs.GroupViews.{group_view}
 use Rattle.wt_build.specs.CellGroups.{groups_rows, FirstBegins, AllBegin}
-use Rattle.wt_build.specs.Views.{row_view, rows_view, stretches_view}
-use Rattle.wt_build.proofs.Celling.{made_added}
-use Rattle.wt_build.proofs.Straying.{ready_front, ready_rest}
+use Rattle.wt_rows.specs.Views.{row_view, rows_view, stretches_view}
+use Rattle.wt_rows.proofs.Celling.{made_added}
+use Rattle.wt_rows.proofs.Straying.{ready_front, ready_rest}
 
 -- ---- what is read in a cell
 

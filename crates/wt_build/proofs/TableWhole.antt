@@ -3,17 +3,18 @@ use Rattle.std.proofs.Common.{◌≡◌, ◌≤◌, ℕ, suc, ◌+◌, ◌-◌, 
 use Rattle.std.proofs.lemmas.List.{take-map, drop-map, length-map, length-take}
 use Rattle.wt_span.specs.declared.form.Piece.{Piece}
 use Rattle.wt_tables.specs.Parts.{table_of}
-use Rattle.wt_build.specs.declared.row.RowAt.{RowAt}
+use Rattle.wt_rows.specs.declared.row.RowAt.{RowAt}
 use Rattle.wt_body.specs.Rows.{Row, kind_of}
 use Rattle.wt_body.specs.Stretches.{Stretch}
 use Rattle.wt_body.specs.Tables.{Reading, gaps, table_by, table_inside, last_of, without_last, table}
-use Rattle.wt_build.specs.Units.{kind_at, plain_count}
-use Rattle.wt_build.specs.Groups.{group_rows, inside_groups}
-use Rattle.wt_build.specs.Delimiters.{table_with}
-use Rattle.wt_build.specs.Views.{row_view, rows_view}
-use Rattle.wt_build.proofs.Grouping.{plain_within}
-use Rattle.wt_build.proofs.GroupSteps.{kinds_viewed}
-use Rattle.wt_build.proofs.JoinedRows.{take_take}
+use Rattle.wt_rows.specs.Units.{kind_at, plain_count}
+use Rattle.wt_rows.specs.Groups.{group_rows}
+use Rattle.wt_build.specs.RowGroups.{inside_groups}
+use Rattle.wt_rows.specs.Delimiters.{table_with}
+use Rattle.wt_rows.specs.Views.{row_view, rows_view}
+use Rattle.wt_rows.proofs.Grouping.{plain_within}
+use Rattle.wt_rows.proofs.GroupSteps.{kinds_viewed}
+use Rattle.wt_rows.proofs.JoinedRows.{take_take}
 use Rattle.wt_build.proofs.TableGroups.{inside_is, opening_is}
 
 pub table_short : (read : Reading) (ps : List Piece) (rows : List RowAt) → length rows ≤ 1 → gaps (rows_view ps rows) ≡ table read (rows_view ps rows)

@@ -5,7 +5,7 @@ use Rattle.std.specs.Prelude.{codes, true}
 use Rattle.std.proofs.lemmas.List.{drop_more}
 use Rattle.wt_span.specs.Bytes.{begins}
 use Rattle.wt_span.specs.declared.form.Piece.{Piece}
-use Rattle.wt_span.specs.Items.{Item, items}
+use Rattle.wt_span.specs.Items.{Item}
 use Rattle.wt_lines.specs.declared.kind.LineKind.{LineKind}
 use Rattle.wt_lines.specs.declared.kind.LineKind.TheVariants as line
 use Rattle.wt_tree.specs.declared.kind.Kind.TheVariants as kind
@@ -14,15 +14,15 @@ use Rattle.wt_inline.specs.ItemTree.{ItemTree, plain, inner, forest}
 use Rattle.wt_inline.specs.Parts.{Part, parts, children}
 use Rattle.wt_inline.specs.Grown.{Grown, Grows, made}
 use Rattle.wt_context.specs.Line.{line_parts}
-use Rattle.wt_build.specs.declared.row.RowAt.{RowAt}
+use Rattle.wt_rows.specs.declared.row.RowAt.{RowAt}
 use Rattle.wt_build.specs.declared.text.TextKind.{TextKind}
 use Rattle.wt_build.specs.declared.text.TextKind.TheVariants as text
 use Rattle.wt_body.specs.Rows.{Row, signs}
 use Rattle.wt_body.specs.Texts.{para, pre}
-use Rattle.wt_build.specs.Views.{row_view, rows_view, IsRest}
-use Rattle.wt_build.specs.Ready.{Begins, IsReadyRow, AreInOrder}
+use Rattle.wt_rows.specs.Views.{row_view, rows_view, IsRest}
+use Rattle.wt_rows.specs.Ready.{Begins, IsReadyRow, AreInOrder}
 use Rattle.wt_build.specs.Blocks.{later_of, later_from}
-use Rattle.wt_build.proofs.Growing.{rest_step}
+use Rattle.wt_rows.proofs.Growing.{rest_step}
 
 pub pre_begins : (ps : List Piece) (r : RowAt) → IsReadyRow ps r → r.kind ≡ line.Pre → begins (codes " ") (signs (row_view ps r).items) ≡ true
 pre_begins ps r h e = subst (λ (k : LineKind). Begins k (signs (row_view ps r).items)) e h.begins

@@ -1,27 +1,35 @@
 -- Blocks in code: rows of one block, and what they give.
-use Rattle.std.specs.Prelude.{◌≡◌, ◌<◌, ℕ, Bool, true, false, List, [], ◌∷◌, ◌++◌, All, length, take, drop}
+use Rattle.std.specs.Prelude.{◌≡◌, ◌<◌, ℕ, Bool, true, false, List, [], ◌∷◌, ◌++◌, All, length, take, drop, ◌≤◌, zero, suc, codes}
 use Rattle.std.specs.List.{prefix_len}
 use Rattle.wt_lines.specs.declared.kind.LineKind.{LineKind}
 use Rattle.wt_lines.specs.declared.kind.LineKind.TheVariants as line
 use Rattle.wt_inline.specs.Parts.{Part}
-use Rattle.wt_build.specs.declared.row.RowAt.{RowAt}
+use Rattle.wt_rows.specs.declared.row.RowAt.{RowAt}
 use Rattle.wt_build.specs.declared.text.TextKind.{TextKind}
 use Rattle.wt_build.specs.declared.text.TextKind.TheVariants as text
 use Rattle.wt_span.specs.declared.form.Piece.{Piece}
 use Rattle.wt_tables.specs.Parts.{unit_kind}
 use Rattle.wt_inline.specs.ItemTree.{ItemTree}
 use Rattle.wt_headings.specs.Headings.{heading}
-use Rattle.wt_build.specs.declared.stretch.StretchAt.{StretchAt}
-use Rattle.wt_body.specs.Rows.{Row, kind_of}
-use Rattle.wt_body.specs.Stretches.{Stretch, gap, tree_block}
+use Rattle.wt_body.specs.Rows.{Row, kind_of, signs}
+use Rattle.wt_body.specs.Stretches.{Stretch}
 use Rattle.wt_body.specs.Texts.{later_parts, later_line, later_pre, para, pre, rule}
-use Rattle.wt_body.specs.Tables.{Reading, first_items}
-use Rattle.wt_body.specs.Body.{one_block, block_stretches, blocks_by}
-use Rattle.wt_build.specs.Views.{row_view, rows_view, stretches_view}
-use Rattle.wt_build.specs.Units.{kind_at}
-use Rattle.wt_build.specs.Ready.{AreListRows}
+use Rattle.wt_body.specs.Tables.{Reading, first_items, gaps}
+use Rattle.wt_body.specs.Body.{one_block, block_stretches, blocks_by, within}
+use Rattle.wt_rows.specs.Views.{rows_view}
+use Rattle.wt_rows.specs.Units.{kind_at}
+use Rattle.wt_span.specs.Bytes.{begins}
 
 -- ---- text
+
+-- its places are in order
+pub record IsOrdered (r : RowAt) : Type 0 where
+  pub lead : r.start ≤ r.from
+  pub items : r.from ≤ r.to
+
+-- it begins with a space
+abbrev pub IsSpaced : Row → Type 0
+IsSpaced r = begins (codes " ") (signs r.items) ≡ true
 
 -- how a later line is read
 abbrev pub later_of : TextKind → Row → List Part
@@ -42,6 +50,15 @@ later_from k [] = []
 later_from k (r ∷ rs) = later_parts (later_of k) r.ending rs
 
 -- ---- blocks
+
+-- how cells are read in which so many tables may stand one inside the other
+abbrev pub reading_at : ℕ → Reading
+reading_at zero = gaps
+reading_at (suc n) = within n
+
+-- the rows are lines of lists
+abbrev pub AreListRows : List RowAt → Type 0
+AreListRows rs = All (λ r. r.kind ≡ line.List) rs
 
 -- how many of these rows make one block with a row of this kind before them
 abbrev pub joined_len : LineKind → List RowAt → ℕ
@@ -108,8 +125,3 @@ block_node line.Rule rs = rule (first_items rs)
 block_node line.List rs = para rs
 block_node line.Pre rs = pre rs
 block_node line.Text rs = para rs
-
--- these stretches are the node between what stands before the first of rows and what ends the last
-abbrev pub IsBetween : ItemTree → RowAt → RowAt → List StretchAt → Type 0
-IsBetween t first last ss = (ps : List Piece)
-    → stretches_view ps ss ≡ gap (row_view ps first).lead ∷ tree_block t ∷ gap (row_view ps last).ending ∷ []

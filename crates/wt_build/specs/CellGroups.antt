@@ -4,12 +4,12 @@ use Rattle.std.specs.List.{AllByRecursion}
 use Rattle.wt_span.specs.Bytes.{begins}
 use Rattle.wt_span.specs.declared.form.Piece.{Piece}
 use Rattle.wt_tables.specs.Parts.{is_row, is_caption, begins_part}
-use Rattle.wt_build.specs.declared.row.RowAt.{RowAt}
-use Rattle.wt_build.specs.declared.group.Group.{Group}
+use Rattle.wt_rows.specs.declared.row.RowAt.{RowAt}
+use Rattle.wt_rows.specs.declared.group.Group.{Group}
 use Rattle.wt_body.specs.Rows.{Row, signs}
-use Rattle.wt_build.specs.Ready.{BeginsCell}
-use Rattle.wt_build.specs.GroupViews.{groups_view}
-use Rattle.wt_build.specs.Views.{rows_view}
+use Rattle.wt_rows.specs.Ready.{BeginsCell}
+use Rattle.wt_rows.specs.GroupViews.{groups_view}
+use Rattle.wt_rows.specs.Views.{rows_view}
 
 abbrev pub groups_rows : List Piece → List RowAt → List Group → List (List Row)
 groups_rows ps rs gs = map (rows_view ps) (groups_view rs gs)

@@ -1,13 +1,6 @@
 pub mod Blocks
-pub mod Building
+pub mod Carrying
 pub mod CellGroups
-pub mod Delimiters
-pub mod Groups
-pub mod GroupViews
 pub mod Nodes
-pub mod Prefixes
-pub mod Ready
-pub mod Sections
-pub mod Units
-pub mod Unread
-pub mod Views
+pub mod RowGroups
+pub mod SeenSigns

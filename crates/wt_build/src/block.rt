@@ -11,21 +11,19 @@ ghost use Rattle.wt_inline.specs.View.{item_tree};
 ghost use Rattle.wt_headings.specs.Headings.{heading};
 ghost use Rattle.wt_body.specs.Tables.{Reading, gaps};
 ghost use Rattle.wt_body.specs.Body.{is_list_line, is_pre_line, one_block, block_stretches, within};
-ghost use Rattle.wt_build.specs.Views.{row_view, rows_view, stretches_view};
-ghost use Rattle.wt_build.specs.Units.{kind_at};
-ghost use Rattle.wt_build.specs.Ready.{IsReadyRow, AreReadyRows, reading_at};
-ghost use Rattle.wt_build.specs.Blocks.{joined_len, AreOneBlock, IsBlockLen, block_node, IsNodeKind, IsBetween};
+ghost use Rattle.wt_rows.specs.Views.{row_view, rows_view, stretches_view};
+ghost use Rattle.wt_rows.specs.Units.{kind_at};
+ghost use Rattle.wt_rows.specs.Ready.{IsReadyRow, AreReadyRows};
+ghost use Rattle.wt_build.specs.Blocks.{reading_at, joined_len, AreOneBlock, IsBlockLen, block_node, IsNodeKind};
 
 use crate::list::lists;
-use crate::row::{RowAt, between};
-use crate::stretch::StretchAt;
 use crate::table::table;
 use crate::text::{paragraph, preformatted, rule_tree};
-use crate::unit::unit_len;
 use std::alloc::Global;
 use wt_headings::heading;
 use wt_inline::PieceTree;
 use wt_lines::LineKind;
+use wt_rows::{RowAt, StretchAt, between, unit_len, with_separators};
 use wt_span::{List, NoMemory, Piece, front_of, rest_of};
 
 fn is_text(kind: LineKind) -> bool
@@ -86,29 +84,6 @@ fn block_len(rows: &[RowAt]) -> usize
         return unit_len(rows);
     }
     1 + joined_len(rest_of(rows, 1), kind)
-}
-
-/// A node between what stands before the first of its rows and what ends the last.
-fn with_separators<'a>(
-    alloc: Global,
-    tree: PieceTree<'a>,
-    first: RowAt,
-    last: RowAt,
-) -> Result<List<StretchAt<'a>>, NoMemory>
-    ensures { IfOk result (λ l. IsBetween (item_tree tree.entry) first last l) }
-{
-    let node = Box::new(alloc, tree)?;
-    let mut out = List::new(alloc);
-    out.push(StretchAt::Gap {
-        from: first.start,
-        to: first.from,
-    })?;
-    out.push(StretchAt::Tree(node))?;
-    out.push(StretchAt::Gap {
-        from: last.to,
-        to: last.end,
-    })?;
-    Ok(out)
 }
 
 /// A row as a gap.

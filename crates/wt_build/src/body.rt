@@ -6,16 +6,14 @@ ghost use Rattle.wt_span.specs.Origins.{IsSoundPiece};
 ghost use Rattle.wt_inline.specs.Grown.{growth};
 ghost use Rattle.wt_inline.specs.View.{item_tree};
 ghost use Rattle.wt_body.specs.Body.{meaning};
-ghost use Rattle.wt_build.specs.Unread.{left};
-ghost use Rattle.wt_build.specs.Sections.{Carries};
+ghost use Rattle.wt_rows.specs.Unread.{left};
+ghost use Rattle.wt_build.specs.Carrying.{Carries};
 
 use crate::block::blocks;
-use crate::section::next_section;
-use crate::stretch::with_stretches;
 use crate::text::plain_node;
-use crate::unread::Unread;
 use std::alloc::Global;
 use wt_inline::{Children, Loose, PieceTree};
+use wt_rows::{Unread, next_section, with_stretches};
 use wt_span::{Items, List, NoMemory, Piece};
 use wt_tree::Kind;
 

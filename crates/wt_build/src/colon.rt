@@ -10,7 +10,7 @@ ghost use Rattle.wt_tiles.specs.Tiles.{tiles};
 ghost use Rattle.wt_tiles.specs.Contexts.{in_line};
 ghost use Rattle.wt_tiles.specs.Cutting.{tile_of};
 ghost use Rattle.wt_body.specs.Lists.{is_bare, seen_signs, term_len};
-ghost use Rattle.wt_build.specs.Prefixes.{seen_by, seen_sign};
+ghost use Rattle.wt_build.specs.SeenSigns.{seen_by, seen_sign};
 
 use std::alloc::Global;
 use wt_lines::{Sign, Signs};

@@ -1,23 +1,17 @@
 //! The innermost item that a line of a list begins.
 
-ghost use Rattle.std.specs.Prelude.{◌≡◌, ◌∷◌, Some, All, IfOk};
+ghost use Rattle.std.specs.Prelude.{◌≡◌, Some, All, IfOk};
 ghost use Rattle.wt_span.specs.Items.{items};
 ghost use Rattle.wt_span.specs.Origins.{IsSoundPiece};
-ghost use Rattle.wt_inline.specs.View.{head_of, item_tree};
-ghost use Rattle.wt_context.specs.Line.{line_parts};
+ghost use Rattle.wt_inline.specs.View.{item_tree};
 ghost use Rattle.wt_body.specs.Lists.{item_opening_len, item_kind, item_by, term_len, term, line_item};
-ghost use Rattle.wt_body.specs.Stretches.{block, opened_by};
-ghost use Rattle.wt_build.specs.Views.{row_view, stretches_view};
+ghost use Rattle.wt_rows.specs.Views.{row_view, stretches_view};
 
 use crate::colon::term_len;
-use crate::cut::cut;
-use crate::prefix::{prefix_of, with_blanks};
-use crate::row::{RowAt, between};
-use crate::stretch::{StretchAt, opened_by};
 use std::alloc::Global;
 use wt_context::line_children;
-use wt_headings::with_content;
-use wt_inline::{Children, NodeHead, PieceTree};
+use wt_inline::{NodeHead, PieceTree};
+use wt_rows::{RowAt, StretchAt, before, between, cut, opened_line, prefix_of, with_blanks};
 use wt_span::{List, NoMemory, Piece};
 use wt_tree::Kind;
 
@@ -30,39 +24,6 @@ pub fn item_kind(sign: char) -> Kind
         ':' => Kind::Dd,
         _ => Kind::Li,
     }
-}
-
-/// A stretch before others.
-pub fn before<'a>(
-    alloc: Global,
-    stretch: StretchAt<'a>,
-    others: List<StretchAt<'a>>,
-) -> Result<List<StretchAt<'a>>, NoMemory>
-    ensures { IfOk result (λ l. l ≡ stretch.entry ∷ others.entry) }
-{
-    let mut others = others.into_vec();
-    let mut out = Vec::with_capacity(alloc, others.len() + 1)?;
-    out.push(stretch)?;
-    out.append(&mut others)?;
-    Ok(List::from_vec(out))
-}
-
-/// A node with an open delimiter that holds what stands on a line, or is left of it, and then
-/// stretches up to the last node.
-pub fn opened_line<'a>(
-    alloc: Global,
-    head: NodeHead,
-    opening: List<Piece<'a>>,
-    line: &[Piece<'a>],
-    pieces: &[Piece<'a>],
-    after: List<StretchAt<'a>>,
-) -> Result<List<StretchAt<'a>>, NoMemory>
-    requires { All IsSoundPiece line.now }
-    ensures { IfOk result (λ l. stretches_view pieces.now l
-        ≡ opened_by (head_of head) (items opening.entry) (block (line_parts (items line.now)) ∷ stretches_view pieces.now after.entry)) }
-{
-    let children = with_content(alloc, Children::new(alloc), line)?;
-    opened_by(alloc, head, opening, children, pieces, after)
 }
 
 /// How many items the open delimiter of an item has: the prefix of its line, and the blanks behind.

@@ -6,18 +6,17 @@ ghost use Rattle.wt_span.specs.Origins.{IsSoundPiece};
 ghost use Rattle.wt_blocks.specs.View.{list_tree, list_trees};
 ghost use Rattle.wt_blocks.specs.ListTree.{forest};
 ghost use Rattle.wt_body.specs.Lists.{list_kind, begins_at, row_at, list_stretches, all_lists, prefixes, lists};
-ghost use Rattle.wt_build.specs.Ready.{AreReadyRows, AreListRows};
+ghost use Rattle.wt_rows.specs.Ready.{AreReadyRows};
+ghost use Rattle.wt_build.specs.Blocks.{AreListRows};
 ghost use Rattle.wt_build.specs.Nodes.{node_by};
-ghost use Rattle.wt_build.specs.Views.{row_view, rows_view, stretches_view};
+ghost use Rattle.wt_rows.specs.Views.{row_view, rows_view, stretches_view};
 
 use crate::item::{item_kind, line_item};
-use crate::prefix::prefix_of;
-use crate::row::RowAt;
-use crate::stretch::{StretchAt, enclosed};
 use std::alloc::Global;
 use wt_blocks::{ListNode, nest_lists};
 use wt_inline::NodeHead;
 use wt_lines::LineKind;
+use wt_rows::{RowAt, StretchAt, enclosed, prefix_of};
 use wt_span::{List, NoMemory, Piece, Str};
 use wt_tree::Kind;
 

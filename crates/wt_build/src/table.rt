@@ -6,22 +6,21 @@ ghost use Rattle.wt_tables.specs.Extents.{is_open};
 ghost use Rattle.wt_tables.specs.Parts.{unit_kind};
 ghost use Rattle.wt_body.specs.Rows.{kind_of};
 ghost use Rattle.wt_body.specs.Tables.{cell_stretches, table};
-ghost use Rattle.wt_build.specs.Ready.{AreReadyRows, reading_at};
-ghost use Rattle.wt_build.specs.Units.{kind_at};
-ghost use Rattle.wt_build.specs.Groups.{group_rows, row_of_groups, rows_of_groups, body_of_groups, inside_groups};
+ghost use Rattle.wt_rows.specs.Ready.{AreReadyRows};
+ghost use Rattle.wt_build.specs.Blocks.{reading_at};
+ghost use Rattle.wt_rows.specs.Units.{kind_at};
+ghost use Rattle.wt_rows.specs.Groups.{group_rows};
+ghost use Rattle.wt_build.specs.RowGroups.{row_of_groups, rows_of_groups, body_of_groups, inside_groups};
 ghost use Rattle.wt_build.specs.CellGroups.{groups_rows, FirstBegins, AllBegin, AreParts, StartsPart};
-ghost use Rattle.wt_build.specs.Views.{rows_view, stretches_view};
+ghost use Rattle.wt_rows.specs.Views.{rows_view, stretches_view};
 
 use crate::block::blocks;
-use crate::cell::row_cells;
-use crate::delimiter::gaps;
-use crate::group::{Group, captions_len, going_len, groups};
-use crate::part::{opened_row, whole_table};
-use crate::row::RowAt;
-use crate::stretch::{StretchAt, enclosed};
-use crate::unit::plain_len;
 use std::alloc::Global;
 use wt_inline::NodeHead;
+use wt_rows::{
+    Group, RowAt, StretchAt, captions_len, enclosed, gaps, going_len, groups, opened_row,
+    plain_len, row_cells, whole_table,
+};
 use wt_span::{List, NoMemory, Piece, front_of, rest_of};
 use wt_tree::Kind;
 

@@ -10,16 +10,15 @@ ghost use Rattle.wt_inline.specs.declared.loose.Loose.TheVariants.{Text};
 ghost use Rattle.wt_inline.specs.Parts.{parts, children};
 ghost use Rattle.wt_context.specs.Line.{line_parts};
 ghost use Rattle.wt_body.specs.Texts.{later_line, later_pre, para, pre, rule};
-ghost use Rattle.wt_build.specs.Views.{row_view, rows_view, IsOrdered, IsSpaced};
-ghost use Rattle.wt_build.specs.Ready.{IsReadyRow, AreReadyRows};
+ghost use Rattle.wt_rows.specs.Views.{row_view, rows_view};
+ghost use Rattle.wt_build.specs.Blocks.{IsOrdered, IsSpaced, later_of, IsOf, AreOf, later_from};
+ghost use Rattle.wt_rows.specs.Ready.{IsReadyRow, AreReadyRows};
 ghost use Rattle.wt_build.specs.declared.text.TextKind.TheVariants as text_kind;
-ghost use Rattle.wt_build.specs.Blocks.{later_of, IsOf, AreOf, later_from};
 
-use crate::cut::cut;
-use crate::row::{RowAt, between};
 use std::alloc::Global;
 use wt_headings::with_content;
 use wt_inline::{Children, Loose, NodeHead, PieceTree};
+use wt_rows::{RowAt, between, cut};
 use wt_span::{List, NoMemory, Piece};
 use wt_tree::Kind;
 
@@ -95,7 +94,7 @@ fn with_later_pre<'a>(
 }
 
 /// What lines of text make.
-#[derive(Clone, Copy, Debug)]
+#[derive(Clone, Copy)]
 pub enum TextKind {
     Para,
     Pre,

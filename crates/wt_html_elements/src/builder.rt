@@ -182,22 +182,33 @@ impl Builder {
         ensures { OnOk result (building self.new ≡ moved (building self.old) event) }
     {
         match event {
-            Event::Quiet => {}
-            Event::Byte(byte) => self.text_byte(byte)?,
-            Event::ValueByte(byte) => self.tag.value.push(byte)?,
-            Event::NameBegin(byte) => self.tag.begin_name(byte)?,
-            Event::Name(byte) => self.tag.name.push(byte)?,
-            Event::KeyBegin(byte) => self.tag.begin_key(byte)?,
-            Event::Key(byte) => self.tag.key.push(byte)?,
-            Event::ValueBegin => self.tag.value.clear(),
-            Event::ValueChar(character) => self.tag.value_char(character)?,
-            Event::ValueEnd => self.tag.end_value(alloc)?,
-            Event::Opened => self.open(alloc)?,
-            Event::Void => self.void(alloc)?,
-            Event::Char(character) => self.text_char(character)?,
-            Event::Closed => self.close(alloc)?,
+            Event::Quiet => Ok(()),
+            Event::Byte(byte) => self.text_byte(byte),
+            Event::ValueByte(byte) => {
+                self.tag.value.push(byte)?;
+                Ok(())
+            }
+            Event::NameBegin(byte) => self.tag.begin_name(byte),
+            Event::Name(byte) => {
+                self.tag.name.push(byte)?;
+                Ok(())
+            }
+            Event::KeyBegin(byte) => self.tag.begin_key(byte),
+            Event::Key(byte) => {
+                self.tag.key.push(byte)?;
+                Ok(())
+            }
+            Event::ValueBegin => {
+                self.tag.value.clear();
+                Ok(())
+            }
+            Event::ValueChar(character) => self.tag.value_char(character),
+            Event::ValueEnd => self.tag.end_value(alloc),
+            Event::Opened => self.open(alloc),
+            Event::Void => self.void(alloc),
+            Event::Char(character) => self.text_char(character),
+            Event::Closed => self.close(alloc),
         }
-        Ok(())
     }
 
     /// The root that was read.

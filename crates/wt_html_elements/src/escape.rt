@@ -9,7 +9,7 @@ use wt_html_grammar::{EscapeName, Radix};
 
 /// How far an escape has come: behind `&`, behind `&a`, in a name, behind `&#`, or in a number, with
 /// the count of its digits and their value.
-#[derive(Clone, Copy, Debug, PartialEq, Eq)]
+#[derive(Clone, Copy)]
 pub enum EscapeAt {
     Ampersand,
     Apart,
@@ -20,7 +20,7 @@ pub enum EscapeAt {
 
 /// What a byte does in an escape: it can't stand there, it goes on, or it ends it, and the escape
 /// stands for this character.
-#[derive(Clone, Copy, Debug, PartialEq, Eq)]
+#[derive(Clone, Copy)]
 pub enum TurnTo {
     Stop,
     On(EscapeAt),

@@ -13,7 +13,7 @@ pub enum HtmlRefusal {
 }
 
 /// Why a piece isn't taken.
-#[derive(Clone, Copy, Debug, PartialEq, Eq)]
+#[derive(Clone, Copy)]
 pub enum Fault {
     Html(HtmlWhy),
     NoMemory,

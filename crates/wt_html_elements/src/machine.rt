@@ -21,7 +21,7 @@ use crate::signs::{
 use wt_html_grammar::{Event, Following, HtmlWhy, follow};
 
 /// Where a reader is, outside escapes and characters of several bytes.
-#[derive(Clone, Copy, Debug, PartialEq, Eq)]
+#[derive(Clone, Copy)]
 pub enum Mode {
     Start,
     First,
@@ -41,7 +41,7 @@ pub enum Mode {
 }
 
 /// Whether a reader is inside an escape or a character, and how far that has come.
-#[derive(Clone, Copy, Debug, PartialEq, Eq)]
+#[derive(Clone, Copy)]
 pub enum Within {
     Nothing,
     Escape(EscapeAt),
@@ -51,7 +51,7 @@ pub enum Within {
 /// The machine that takes byte after byte, and holds none of them: what is read lies in a `Builder`.
 /// `at` says how much of a doctype or of the name of an end tag has come, and `quote` has the quote of
 /// the value that is read.
-#[derive(Clone, Copy, Debug, PartialEq, Eq)]
+#[derive(Clone, Copy)]
 pub struct Machine {
     pub mode: Mode,
     pub within: Within,

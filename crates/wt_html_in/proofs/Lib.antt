@@ -1,8 +1,5 @@
-pub mod OwnPairs
+pub mod Sources
 pub mod RolesFound
-pub mod Values
-pub mod Labels
-pub mod Joining
 pub mod Blocks
 pub mod Pieces
 pub mod Walking

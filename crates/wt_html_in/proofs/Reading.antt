@@ -16,9 +16,9 @@ use Rattle.wt_fitting.specs.declared.why.FitWhy.{FitWhy}
 use Rattle.wt_fitting.specs.Fit.{elements, body_of}
 use Rattle.wt_fitting.specs.Read.{page, ill, misfit, read}
 use Rattle.wt_fitting.proofs.OneReading.{in_words, one_read}
-use Rattle.wt_html_in.specs.Texts.{is_utf8_markup}
+use Rattle.wt_html_heads.specs.Texts.{is_utf8_markup}
 use Rattle.wt_html_in.specs.declared.edited.Edited.{Edited}
-use Rattle.wt_html_in.specs.declared.refusal.FitFault.TheVariants as faults
+use Rattle.wt_html_heads.specs.declared.fault.FitFault.TheVariants as faults
 use Rattle.wt_html_in.specs.declared.refusal.HtmlRefusal.{HtmlRefusal}
 use Rattle.wt_html_in.specs.Answers.{body_of as body_told, unsourced_of, RefusedFor}
 use Rattle.wt_html_in.specs.Feeding.{refusal_told, failure_told, IsIll, IsAtLeast}

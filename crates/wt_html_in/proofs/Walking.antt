@@ -1,10 +1,10 @@
 -- A walk over elements, one after another.
 use Rattle.std.proofs.Common.{◌≡◌, ℕ, zero, suc, ◌+◌, ◌<◌, ◌^◌, Bool, true, false, Option, Some, None, Result, Ok, Err, List, [], ◌∷◌, ◌++◌, refl, sym, ap, ap₂, ◌∙◌, arith, subst, drop}
-use Rattle.std.specs.Prelude.{◌||◌, if◌then◌else◌, length, is_some, slice_get, IfOk, IfErr}
+use Rattle.std.specs.Prelude.{◌||◌, if◌then◌else◌, length, is_some, slice_get}
 use Rattle.std.specs.Option.{option_or, option_map}
 use Rattle.wt_tree.specs.declared.kind.Kind.{Kind}
 use Rattle.wt_tree.specs.Tree.{tree}
-use Rattle.wt_tree.specs.View.{view, views}
+use Rattle.wt_tree.specs.View.{views}
 use Rattle.wt_tree.specs.declared.node.Node.{Node}
 use Rattle.wt_html_grammar.specs.Markup.{Pair, Markup, Markups, text, node, empty, more}
 use Rattle.wt_html_elements.specs.declared.content.Content.{Content}
@@ -14,21 +14,22 @@ use Rattle.wt_fitting.specs.declared.standing.Standing.TheVariants as stands
 use Rattle.wt_fitting.specs.Groups.{Piece, single, gathered, standing, is_grouped, is_dropped, open_after}
 use Rattle.wt_fitting.specs.Fit.{Misfit, Spot as Place, within, onto, onto_told, with_children, is_block_element, behind_it, elements, elements_of_all, row_as, leaf_in, fit_row, fit_text, fit_node, fit_nodes}
 use Rattle.wt_fitting.specs.Unsourced.{is_unsourced, unsourced_as, unsourced_nodes}
-use Rattle.wt_html_in.specs.Texts.{is_utf8_markup, are_utf8_markups}
-use Rattle.wt_html_in.specs.declared.refusal.FitFault.{FitFault}
-use Rattle.wt_html_in.specs.declared.refusal.FitFault.TheVariants as faults
-use Rattle.wt_html_in.specs.declared.head.Headed.{Headed}
-use Rattle.wt_html_in.specs.declared.head.Spot.{Spot}
+use Rattle.wt_html_heads.specs.Texts.{is_utf8_markup, are_utf8_markups}
+use Rattle.wt_html_heads.specs.declared.fault.FitFault.{FitFault}
+use Rattle.wt_html_heads.specs.declared.fault.FitFault.TheVariants as faults
+use Rattle.wt_html_heads.specs.declared.head.Headed.{Headed}
+use Rattle.wt_html_heads.specs.declared.head.Spot.{Spot}
 use Rattle.wt_html_in.specs.declared.walk.Walk.{Walk}
 use Rattle.wt_html_in.specs.declared.walk.Made.{Made}
 use Rattle.wt_html_in.specs.declared.roles.Role.{Role}
 use Rattle.wt_html_in.specs.declared.roles.Role.TheVariants as are
 use Rattle.wt_html_in.specs.Roles.{text_role, role_at, roles, standing_in, text_piece}
 use Rattle.wt_html_in.specs.Gathering.{gathered_with}
-use Rattle.wt_html_in.specs.Fits.{label_of_head, piece_by, made_by, held_in, RowFits, spot_with, unsourced_here, unsourced_among, unsourced_one, Passed, piece_of, is_block_piece, FitsPiece, FitsNodes}
+use Rattle.wt_html_heads.specs.Heads.{label_of_head, piece_by, made_by, RowFits, spot_with}
+use Rattle.wt_html_in.specs.Fits.{held_in, unsourced_here, unsourced_among, unsourced_one, Passed, piece_of, is_block_piece, FitsPiece, FitsNodes}
 use Rattle.wt_html_in.proofs.Blocks.{block_made, node_moves}
 use Rattle.wt_html_in.proofs.Pieces.{listed, ends_open, append_none, gathered_add, follows, stays_open}
-use Rattle.wt_html_in.proofs.Values.{and_right}
+use Rattle.wt_html_heads.proofs.Values.{and_right}
 
 -- pieces that were made, before what is still to come
 abbrev pub ontos : List Piece → Result (List Piece) Misfit → Result (List Piece) Misfit
@@ -217,12 +218,6 @@ text_ok w s r bs o e = λ g ts q. (
   },
 )
 
-pub text_result : (w : Walk) (s : Spot) (r : Role) (bs : List ℕ) (o : Result Made FitFault) → IfOk o (λ m. piece_of m ≡ text_piece r s.outer bs)
-    → IfErr o (λ e. e ≡ faults.NoMemory) → FitsPiece w s r (text bs) w o
-text_result w s r bs (Ok m) e f = text_ok w s r bs m e
-text_result w s r bs (Err faults.NoMemory) e f = tt
-text_result w s r bs (Err (faults.Unfit n y)) e f = absurd cc
-
 -- ---- an element, by what it is and by what stands in it
 
 abbrev pub Begun : Walk → Spot → Standing → List ℕ → List Pair → Markups → Result Headed FitFault → Type 0
@@ -265,20 +260,18 @@ stood_is w v s g z name ps c h f e =
     ∙ ap (λ n. made_by h (with_children j h.head.kind (label_of_head h.head) (fit_nodes n (within h.head.kind j) c))) next
 
 pub element_ok : (w v u : Walk) (s : Spot) (r : Role) (z : Standing) (name : List ℕ) (ps : List Pair) (c : Markups) (h : Headed)
-    (ns : List Node) (n : Node) (o : Made)
+    (ns : List Node) (o : Made)
     → z ≡ standing_in r → Begun w s z name ps c (Ok h) → Passed w v 1 (unsourced_here s.inside z w.next ps)
     → FitsNodes v h.head.kind (s.inside || is_grouped z) c u (Ok ns)
-    → view n ≡ tree (label_of_head h.head) (held_in (s.inside || is_grouped z) h.head.kind (views ns))
-    → piece_of o ≡ Some (piece_by h.group h.standing (view n))
+    → piece_of o ≡ Some (piece_by h.group h.standing (tree (label_of_head h.head) (held_in (s.inside || is_grouped z) h.head.kind (views ns))))
     → FitsPiece w s r (node name ps c) u (Ok o)
-element_ok w v u s r z name ps c h ns n o y f p g e m = λ group ts q.
+element_ok w v u s r z name ps c h ns o y f p g m = λ group ts q.
     let j = s.inside || is_grouped z in
     let is : z ≡ standing group ps = y ∙ ap standing_in q in (
       ap (λ x. stood w.next s group x name ps c) (sym is)
           ∙ stood_is w v s group z name ps c h f p.next
           ∙ ap (λ x. made_by h (with_children j h.head.kind (label_of_head h.head) x)) g.1
           ∙ ap (λ x. made_by h (Ok (tree (label_of_head h.head) (held_in j h.head.kind x)))) g.2
-          ∙ ap (λ x. made_by h (Ok x)) (sym e)
           ∙ ap Ok (sym m),
       record {
         next = omega (arith, p.next, g.3.next);

@@ -7,8 +7,8 @@ use Rattle.wt_fitting.specs.Fit.{elements_of_all, is_marked_root, fit_body, Foun
 use Rattle.wt_fitting.specs.Unsourced.{is_marked, unsourced_body}
 use Rattle.wt_html_in.specs.declared.frame.Found.{Found}
 use Rattle.wt_html_in.specs.declared.edited.Edited.{Edited}
-use Rattle.wt_html_in.specs.declared.refusal.FitFault.{FitFault}
-use Rattle.wt_html_in.specs.declared.refusal.FitFault.TheVariants as faults
+use Rattle.wt_html_heads.specs.declared.fault.FitFault.{FitFault}
+use Rattle.wt_html_heads.specs.declared.fault.FitFault.TheVariants as faults
 use Rattle.wt_html_in.specs.Answers.{body_of, unsourced_of}
 
 abbrev pub found_of : ℕ → List Pair → Markups → FoundBody

@@ -1,7 +1,4 @@
-pub mod Texts
-pub mod Told
 pub mod Sources
-pub mod Words
 pub mod Roles
 pub mod Gathering
 pub mod Fits

@@ -1,20 +1,18 @@
-ghost use Rattle.std.specs.Prelude.{◌≡◌, ◌+◌, ◌<◌, ◌^◌, true, IfOk, IfErr, Some};
+ghost use Rattle.std.specs.Prelude.{◌≡◌, ◌+◌, ◌<◌, ◌^◌, true, IfOk, Some};
 ghost use Rattle.wt_html_elements.specs.Built.{view_content, pairs, views};
 ghost use Rattle.wt_fitting.specs.Fit.{elements, elements_of_all, elements_in, is_marked_root, body_in, body_of};
-ghost use Rattle.wt_html_in.specs.Texts.{is_utf8_markup, are_utf8_markups, are_utf8_values};
+ghost use Rattle.wt_html_heads.specs.Texts.{is_utf8_markup, are_utf8_markups, are_utf8_values};
 ghost use Rattle.wt_html_in.specs.Frame.{found_of, found_if_any, is_element, number_behind_one, number_behind, body_as, is_root, marked_here, FitsBody};
 
-use crate::attributes::{has, is_marked, is_typed};
 use crate::edited::Edited;
-use crate::head::body_head;
 use crate::nodes::node_of;
-use crate::number::id_of;
-use crate::refusal::FitFault;
 use crate::walk::{Walk, nodes};
 use bumpalo::Bump;
 use std::alloc::Global;
 use wt_fitting::FitWhy;
 use wt_html_elements::{Attribute, Content};
+use wt_html_heads::{FitFault, body_head, has, id_of, is_marked, is_typed};
+use wt_span::NoMemory;
 use wt_tree::Kind;
 
 /// The body of a document, with the number of its element.
@@ -59,9 +57,8 @@ fn is_element(content: &Content) -> bool
 }
 
 /// The elements alone.
-fn elements_in(alloc: Global, contents: Vec<Content>) -> Result<Vec<Content>, FitFault>
-    ensures elements { IfOk result (λ v. views v.items ≡ elements_in (views contents.items)) }
-    ensures memory { IfErr result (λ e. e ≡ FitFault.NoMemory) }
+fn elements_in(alloc: Global, contents: Vec<Content>) -> Result<Vec<Content>, NoMemory>
+    ensures { IfOk result (λ v. views v.items ≡ elements_in (views contents.items)) }
 {
     let mut elements = Vec::new(alloc);
     for content in contents {
@@ -157,10 +154,9 @@ fn is_root(name: &[u8], attributes: &[Attribute]) -> bool
 }
 
 /// The body of a document.
-fn find_body(alloc: Global, root: Content) -> Result<Option<Found>, FitFault>
+fn find_body(alloc: Global, root: Content) -> Result<Option<Found>, NoMemory>
     requires { elements (view_content root) + 1 < 2 ^ 32 }
-    ensures found { IfOk result (λ f. found_if_any f ≡ body_of (view_content root)) }
-    ensures memory { IfErr result (λ e. e ≡ FitFault.NoMemory) }
+    ensures { IfOk result (λ f. found_if_any f ≡ body_of (view_content root)) }
 {
     match root {
         Content::Text(_) => Ok(None),

@@ -3,20 +3,12 @@
 #![tactic(auto)]
 
 mod answer;
-mod attributes;
-mod carried;
-mod data;
 mod edited;
 mod frame;
-mod head;
 mod nodes;
-mod number;
-mod own;
 mod reader;
 mod refusal;
 mod roles;
-mod row;
-mod typed;
 mod walk;
 mod whole;
 

@@ -1,34 +1,31 @@
-ghost use Rattle.std.specs.Prelude.{◌≡◌, true, Some, None, option_map, IfOk, IfErr};
+ghost use Rattle.std.specs.Prelude.{◌≡◌, true, Some, None, option_map, IfOk};
 ghost use Rattle.std.specs.Str.{is_utf8};
 ghost use Rattle.wt_tree.specs.Tree.{tree, none as no_trees};
 ghost use Rattle.wt_tree.specs.View.{view, views, texts_of};
 ghost use Rattle.wt_tree.specs.Recut.{leaf_label, text_leaf, sep_leaf};
 ghost use Rattle.wt_fitting.specs.Fit.{leaf_in, source_of};
-ghost use Rattle.wt_html_in.specs.Fits.{label_of_head, held_in};
+ghost use Rattle.wt_html_heads.specs.Heads.{label_of_head};
+ghost use Rattle.wt_html_in.specs.Fits.{held_in};
 ghost use Rattle.wt_html_in.specs.Sources.{source_view, source_told, sourced_label};
 
-use crate::attributes::text_of;
-use crate::head::Head;
-use crate::refusal::FitFault;
-use crate::row::{holds_text, shows_text};
 use bumpalo::Bump;
 use std::alloc::Global;
 use wt_datamw::Sync;
-use wt_span::{List, Str, Text};
+use wt_html_heads::{Head, holds_text, shows_text, text_of};
+use wt_span::{List, NoMemory, Str, Text};
 use wt_tree::{Kind, Mark, Node, Ranges, Texts, recut_texts};
 
 /// A text in the arena; nothing where it is empty. One of 2^32 - 1 bytes or more is answered as want
 /// of memory.
-fn kept<'a>(alloc: Global, arena: &'a Bump<Global>, text: &str) -> Result<List<Text<'a>>, FitFault>
-    ensures texts { IfOk result (λ l. texts_of l ≡ text.now) }
-    ensures memory { IfErr result (λ e. e ≡ FitFault.NoMemory) }
+fn kept<'a>(alloc: Global, arena: &'a Bump<Global>, text: &str) -> Result<List<Text<'a>>, NoMemory>
+    ensures { IfOk result (λ l. texts_of l ≡ text.now) }
 {
     match text.as_bytes() {
         [] => Ok(List::new(alloc)),
         [_, ..] => {
             let text = arena.try_alloc_str(text)?;
             if 4294967295 <= text.len() {
-                return Err(FitFault::NoMemory);
+                return Err(NoMemory);
             }
             let texts = Vec::from_array(alloc, [Text::new(text, 0)])?;
             Ok(List::from_vec(texts))
@@ -56,18 +53,16 @@ fn leaf<'a>(alloc: Global, kind: Kind, own: List<Text<'a>>, shown: Str) -> Node<
     }
 }
 
-fn text_leaf<'a>(alloc: Global, arena: &'a Bump<Global>, text: &str) -> Result<Node<'a>, FitFault>
-    ensures leaf { IfOk result (λ n. view n ≡ text_leaf None text.now) }
-    ensures memory { IfErr result (λ e. e ≡ FitFault.NoMemory) }
+fn text_leaf<'a>(alloc: Global, arena: &'a Bump<Global>, text: &str) -> Result<Node<'a>, NoMemory>
+    ensures { IfOk result (λ n. view n ≡ text_leaf None text.now) }
 {
     let own = kept(alloc, arena, text)?;
     let shown = Str::copy_of(alloc, text)?;
     Ok(leaf(alloc, Kind::Text, own, shown))
 }
 
-fn sep_leaf<'a>(alloc: Global, arena: &'a Bump<Global>, text: &str) -> Result<Node<'a>, FitFault>
-    ensures leaf { IfOk result (λ n. view n ≡ sep_leaf None text.now) }
-    ensures memory { IfErr result (λ e. e ≡ FitFault.NoMemory) }
+fn sep_leaf<'a>(alloc: Global, arena: &'a Bump<Global>, text: &str) -> Result<Node<'a>, NoMemory>
+    ensures { IfOk result (λ n. view n ≡ sep_leaf None text.now) }
 {
     let own = kept(alloc, arena, text)?;
     Ok(leaf(alloc, Kind::Sep, own, Str::new(alloc)))
@@ -80,10 +75,9 @@ pub fn leaf_in<'a>(
     arena: &'a Bump<Global>,
     outer: Kind,
     bytes: &[u8],
-) -> Result<Option<Node<'a>>, FitFault>
+) -> Result<Option<Node<'a>>, NoMemory>
     requires { is_utf8 bytes.now ≡ true }
-    ensures leaf { IfOk result (λ o. option_map view o ≡ leaf_in outer bytes.now) }
-    ensures memory { IfErr result (λ e. e ≡ FitFault.NoMemory) }
+    ensures { IfOk result (λ o. option_map view o ≡ leaf_in outer bytes.now) }
 {
     if shows_text(outer) {
         return Ok(None);
@@ -122,9 +116,8 @@ fn own_of<'a>(
     alloc: Global,
     arena: &'a Bump<Global>,
     src: &Option<Str>,
-) -> Result<List<Text<'a>>, FitFault>
-    ensures texts { IfOk result (λ l. texts_of l ≡ source_of src.now) }
-    ensures memory { IfErr result (λ e. e ≡ FitFault.NoMemory) }
+) -> Result<List<Text<'a>>, NoMemory>
+    ensures { IfOk result (λ l. texts_of l ≡ source_of src.now) }
 {
     match src {
         None => Ok(List::new(alloc)),
@@ -136,9 +129,8 @@ fn source_in<'a>(
     alloc: Global,
     arena: &'a Bump<Global>,
     sync: &Sync,
-) -> Result<Source<'a>, FitFault>
-    ensures source { IfOk result (λ s. source_view s ≡ source_told (Some sync.now)) }
-    ensures memory { IfErr result (λ e. e ≡ FitFault.NoMemory) }
+) -> Result<Source<'a>, NoMemory>
+    ensures { IfOk result (λ s. source_view s ≡ source_told (Some sync.now)) }
 {
     let opening = kept(alloc, arena, sync.opening.as_str())?;
     let closing = kept(alloc, arena, sync.closing.as_str())?;
@@ -155,9 +147,8 @@ fn source_for<'a>(
     alloc: Global,
     arena: &'a Bump<Global>,
     sync: &Option<Sync>,
-) -> Result<Source<'a>, FitFault>
-    ensures source { IfOk result (λ s. source_view s ≡ source_told sync.now) }
-    ensures memory { IfErr result (λ e. e ≡ FitFault.NoMemory) }
+) -> Result<Source<'a>, NoMemory>
+    ensures { IfOk result (λ s. source_view s ≡ source_told sync.now) }
 {
     match sync {
         None => Ok(no_source(alloc)),
@@ -207,18 +198,14 @@ fn children_in<'a>(
     inside: bool,
     kind: Kind,
     nodes: List<Node<'a>>,
-) -> Result<List<Node<'a>>, FitFault>
-    ensures children { IfOk result (λ l. views l ≡ held_in inside kind (views nodes.entry)) }
-    ensures memory { IfErr result (λ e. e ≡ FitFault.NoMemory) }
+) -> Result<List<Node<'a>>, NoMemory>
+    ensures { IfOk result (λ l. views l ≡ held_in inside kind (views nodes.entry)) }
 {
     if inside {
         return Ok(nodes);
     }
     match kind.shape().texts {
-        Texts::Bordered => {
-            let cut = recut_texts(alloc, nodes)?;
-            Ok(cut)
-        }
+        Texts::Bordered => recut_texts(alloc, nodes),
         Texts::Separators => Ok(nodes),
         Texts::Page => Ok(nodes),
         Texts::OwnCharacter => Ok(nodes),
@@ -226,16 +213,15 @@ fn children_in<'a>(
 }
 
 /// The node that an element is.
-#[tactic(auto, using(crate::proofs::Labels::sourced_is))]
+#[tactic(auto, using(crate::proofs::Sources::sourced_is))]
 pub fn node_of<'a>(
     alloc: Global,
     arena: &'a Bump<Global>,
     inside: bool,
     head: Head,
     nodes: List<Node<'a>>,
-) -> Result<Node<'a>, FitFault>
-    ensures node { IfOk result (λ n. view n ≡ tree (label_of_head head) (held_in inside head.kind (views nodes.entry))) }
-    ensures memory { IfErr result (λ e. e ≡ FitFault.NoMemory) }
+) -> Result<Node<'a>, NoMemory>
+    ensures { IfOk result (λ n. view n ≡ tree (label_of_head head) (held_in inside head.kind (views nodes.entry))) }
 {
     let source = source_for(alloc, arena, &head.sync)?;
     let children = children_in(alloc, inside, head.kind, nodes)?;

@@ -1,6 +1,5 @@
 ghost use Rattle.std.specs.Prelude.{◌≡◌};
 
-use std::alloc::{AllocError, AllocFailed};
 use wt_fitting::FitWhy;
 use wt_html_grammar::HtmlWhy;
 use wt_span::NoMemory;
@@ -26,42 +25,5 @@ impl From<NoMemory> for HtmlRefusal {
 
     fn from(_e: NoMemory) -> HtmlRefusal {
         HtmlRefusal::NoMemory
-    }
-}
-
-/// Why a tree of elements is no page.
-#[derive(Clone, Copy, Debug, PartialEq, Eq)]
-pub enum FitFault {
-    Unfit { element: u32, why: FitWhy },
-    NoMemory,
-}
-
-impl From<AllocError> for FitFault {
-    ghost use Rattle.wt_html_in.specs.declared.refusal.FitFault.TheVariants.{NoMemory};
-
-    ghost from_gives = { λ _ e. e ≡ NoMemory };
-
-    fn from(_e: AllocError) -> FitFault {
-        FitFault::NoMemory
-    }
-}
-
-impl<T: Drop> From<AllocFailed<T>> for FitFault {
-    ghost use Rattle.wt_html_in.specs.declared.refusal.FitFault.TheVariants.{NoMemory};
-
-    ghost from_gives = { λ _ e. e ≡ NoMemory };
-
-    fn from(_e: AllocFailed<T>) -> FitFault {
-        FitFault::NoMemory
-    }
-}
-
-impl From<NoMemory> for FitFault {
-    ghost use Rattle.wt_html_in.specs.declared.refusal.FitFault.TheVariants as faults;
-
-    ghost from_gives = { λ _ e. e ≡ faults.NoMemory };
-
-    fn from(_e: NoMemory) -> FitFault {
-        FitFault::NoMemory
     }
 }

@@ -1,20 +1,19 @@
 //! What each text and element is among its siblings: which of them make up groups.
 
-ghost use Rattle.std.specs.Prelude.{◌≡◌, ◌<◌, Some, None, length, slice_get, option_map, IfOk, IfErr};
+ghost use Rattle.std.specs.Prelude.{◌≡◌, ◌<◌, Some, None, length, slice_get, option_map, IfOk};
 ghost use Rattle.wt_html_elements.specs.Built.{pairs, view_content, views};
-ghost use Rattle.wt_fitting.specs.Groups.{goes_on, is_further, is_gap, is_grouped, is_open, open_by, standing, standing_by};
+ghost use Rattle.wt_fitting.specs.Groups.{goes_on, is_further, is_gap, is_open, open_by, standing, standing_by};
 ghost use Rattle.wt_html_in.specs.Roles.{about_of, open_behind, role_at, roles, standing_in, text_role};
 
-use crate::attributes::{has, value_of};
-use crate::refusal::FitFault;
 use std::alloc::Global;
 use wt_fitting::Standing;
 use wt_html_elements::{Attribute, Content};
-use wt_span::rest_of;
+use wt_html_heads::{has, value_of};
+use wt_span::{NoMemory, rest_of};
 
 /// What a text or an element is: white space between two elements of a group, which is nothing, another
 /// text, or an element by how it stands.
-#[derive(Clone, Copy, Debug)]
+#[derive(Clone, Copy)]
 pub enum Role {
     Gap,
     Text,
@@ -49,17 +48,6 @@ fn standing(group: Option<&[u8]>, attributes: &[Attribute]) -> Standing
     match value_of(b"about".as_slice(), attributes) {
         None => Standing::Alone,
         Some(about) => standing_by(group, about, has(b"data-mw".as_slice(), attributes)),
-    }
-}
-
-pub fn is_grouped(standing: Standing) -> bool
-    ensures { result ≡ is_grouped standing }
-{
-    match standing {
-        Standing::Alone => false,
-        Standing::First => true,
-        Standing::Further => true,
-        Standing::Astray => false,
     }
 }
 
@@ -179,9 +167,8 @@ fn open_behind<'t>(role: Role, group: Option<&'t [u8]>, content: &'t Content) ->
 }
 
 /// What each of these is.
-pub fn roles(alloc: Global, contents: &[Content]) -> Result<Vec<Role>, FitFault>
-    ensures roles { IfOk result (λ v. v.items ≡ roles None (views contents.now)) }
-    ensures memory { IfErr result (λ e. e ≡ FitFault.NoMemory) }
+pub fn roles(alloc: Global, contents: &[Content]) -> Result<Vec<Role>, NoMemory>
+    ensures { IfOk result (λ v. v.items ≡ roles None (views contents.now)) }
 {
     let mut found = Vec::with_capacity(alloc, contents.len())?;
     let mut group = None;

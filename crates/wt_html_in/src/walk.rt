@@ -1,4 +1,4 @@
-ghost use Rattle.std.specs.Prelude.{◌≡◌, ◌+◌, ◌<◌, ◌^◌, ◌&&◌, ◌||◌, true, Some, option_map, IfOk, OnOk, IfErr};
+ghost use Rattle.std.specs.Prelude.{◌≡◌, ◌+◌, ◌<◌, ◌^◌, ◌&&◌, ◌||◌, true, Some, option_map, IfOk, OnOk};
 ghost use Rattle.std.specs.Str.{is_utf8};
 ghost use Rattle.wt_tree.specs.Tree.{tree, none as no_trees, more as one_more};
 ghost use Rattle.wt_tree.specs.View.{view, views as trees};
@@ -7,26 +7,25 @@ ghost use Rattle.wt_html_elements.specs.Built.{view_content, pairs, views};
 ghost use Rattle.wt_fitting.specs.Groups.{is_grouped, single};
 ghost use Rattle.wt_fitting.specs.Fit.{leaf_in, row_as, fit_row, elements, elements_of_all};
 ghost use Rattle.wt_fitting.specs.Unsourced.{is_unsourced};
-ghost use Rattle.wt_html_in.specs.Texts.{are_utf8_values, is_utf8_markup, are_utf8_markups};
+ghost use Rattle.wt_html_heads.specs.Texts.{are_utf8_values, is_utf8_markup, are_utf8_markups};
+ghost use Rattle.wt_html_heads.specs.Heads.{RowFits, spot_with, label_of_head, piece_by};
 ghost use Rattle.wt_html_in.specs.Roles.{text_piece};
 ghost use Rattle.wt_html_in.specs.Gathering.{with_child, into_last, gathered_with};
-ghost use Rattle.wt_html_in.specs.Fits.{RowFits, spot_with, label_of_head, piece_by, is_block_piece, piece_of, FitsPiece, FitsNodes, Passed, is_asked, unsourced_here};
+ghost use Rattle.wt_html_in.specs.Fits.{held_in, is_block_piece, piece_of, FitsPiece, FitsNodes, Passed, is_asked, unsourced_here};
 
-use crate::attributes::is_unsourced;
-use crate::head::{Head, Headed, Spot, headed_by};
 use crate::nodes::{leaf_in, node_of};
-use crate::refusal::FitFault;
-use crate::roles::{Role, is_grouped, role_in, roles, standing_in};
+use crate::roles::{Role, role_in, roles, standing_in};
 use bumpalo::Bump;
 use std::alloc::Global;
 use wt_fitting::Standing;
 use wt_html_elements::{Attribute, Content};
-use wt_span::List;
+use wt_html_heads::{FitFault, Head, Headed, Spot, headed_by, is_grouped, is_unsourced};
+use wt_span::{List, NoMemory};
 use wt_tree::{Kind, Node};
 
 /// Where a walk over elements in document order has come: the number of the next element, and the
 /// first one so far that has no source.
-#[derive(Clone, Copy, Debug)]
+#[derive(Clone, Copy)]
 pub struct Walk {
     pub next: u32,
     pub unsourced: Option<u32>,
@@ -134,9 +133,8 @@ fn is_behind(behind: bool, made: &Made<'_>) -> bool
 
 /// A node with one more child.
 #[tactic(auto, using(crate::proofs::Pieces::views_push))]
-fn with_child<'a>(node: Node<'a>, child: Node<'a>) -> Result<Node<'a>, FitFault>
-    ensures node { IfOk result (λ n. view n ≡ with_child (view node.entry) (view child.entry)) }
-    ensures memory { IfErr result (λ e. e ≡ FitFault.NoMemory) }
+fn with_child<'a>(node: Node<'a>, child: Node<'a>) -> Result<Node<'a>, NoMemory>
+    ensures { IfOk result (λ n. view n ≡ with_child (view node.entry) (view child.entry)) }
 {
     let mut node = node;
     node.children.push(child)?;
@@ -145,9 +143,8 @@ fn with_child<'a>(node: Node<'a>, child: Node<'a>) -> Result<Node<'a>, FitFault>
 
 /// Puts a node into the last one, where there is one.
 #[tactic(auto, using(crate::proofs::Pieces::views_push, crate::proofs::Pieces::into_pushed))]
-fn push_into_last<'a>(nodes: &mut Vec<Node<'a>>, node: Node<'a>) -> Result<(), FitFault>
-    ensures pushed { OnOk result (trees nodes.new.items ≡ into_last (trees nodes.old.items) (view node.entry)) }
-    ensures memory { IfErr result (λ e. e ≡ FitFault.NoMemory) }
+fn push_into_last<'a>(nodes: &mut Vec<Node<'a>>, node: Node<'a>) -> Result<(), NoMemory>
+    ensures { OnOk result (trees nodes.new.items ≡ into_last (trees nodes.old.items) (view node.entry)) }
 {
     match nodes.pop() {
         None => Ok(()),
@@ -160,9 +157,8 @@ fn push_into_last<'a>(nodes: &mut Vec<Node<'a>>, node: Node<'a>) -> Result<(), F
 }
 
 #[tactic(auto, using(crate::proofs::Pieces::views_push))]
-fn push_node<'a>(nodes: &mut Vec<Node<'a>>, node: Node<'a>) -> Result<(), FitFault>
-    ensures pushed { OnOk result (trees nodes.new.items ≡ appended (trees nodes.old.items) (one_more (view node.entry) no_trees)) }
-    ensures memory { IfErr result (λ e. e ≡ FitFault.NoMemory) }
+fn push_node<'a>(nodes: &mut Vec<Node<'a>>, node: Node<'a>) -> Result<(), NoMemory>
+    ensures { OnOk result (trees nodes.new.items ≡ appended (trees nodes.old.items) (one_more (view node.entry) no_trees)) }
 {
     nodes.push(node)?;
     Ok(())
@@ -174,9 +170,8 @@ fn group_node<'a>(
     arena: &'a Bump<Global>,
     group: Head,
     first: Node<'a>,
-) -> Result<Node<'a>, FitFault>
-    ensures node { IfOk result (λ n. view n ≡ tree (label_of_head group) (one_more (view first.entry) no_trees)) }
-    ensures memory { IfErr result (λ e. e ≡ FitFault.NoMemory) }
+) -> Result<Node<'a>, NoMemory>
+    ensures { IfOk result (λ n. view n ≡ tree (label_of_head group) (one_more (view first.entry) no_trees)) }
 {
     let children = Vec::from_array(alloc, [first])?;
     node_of(alloc, arena, true, group, List::from_vec(children))
@@ -188,9 +183,8 @@ fn push_made<'a>(
     arena: &'a Bump<Global>,
     nodes: &mut Vec<Node<'a>>,
     made: Made<'a>,
-) -> Result<(), FitFault>
-    ensures pushed { OnOk result (trees nodes.new.items ≡ gathered_with (trees nodes.old.items) (piece_of made.entry)) }
-    ensures memory { IfErr result (λ e. e ≡ FitFault.NoMemory) }
+) -> Result<(), NoMemory>
+    ensures { OnOk result (trees nodes.new.items ≡ gathered_with (trees nodes.old.items) (piece_of made.entry)) }
 {
     match made {
         Made::Nothing => Ok(()),
@@ -209,10 +203,9 @@ fn leaf_made<'a>(
     arena: &'a Bump<Global>,
     outer: Kind,
     bytes: &[u8],
-) -> Result<Made<'a>, FitFault>
+) -> Result<Made<'a>, NoMemory>
     requires { is_utf8 bytes.now ≡ true }
-    ensures made { IfOk result (λ m. piece_of m ≡ option_map single (leaf_in outer bytes.now)) }
-    ensures memory { IfErr result (λ e. e ≡ FitFault.NoMemory) }
+    ensures { IfOk result (λ m. piece_of m ≡ option_map single (leaf_in outer bytes.now)) }
 {
     match leaf_in(alloc, arena, outer, bytes)? {
         None => Ok(Made::Nothing),
@@ -227,16 +220,35 @@ fn text_made<'a>(
     role: Role,
     outer: Kind,
     bytes: &[u8],
-) -> Result<Made<'a>, FitFault>
+) -> Result<Made<'a>, NoMemory>
     requires { is_utf8 bytes.now ≡ true }
-    ensures made { IfOk result (λ m. piece_of m ≡ text_piece role outer bytes.now) }
-    ensures memory { IfErr result (λ e. e ≡ FitFault.NoMemory) }
+    ensures { IfOk result (λ m. piece_of m ≡ text_piece role outer bytes.now) }
 {
     match role {
         Role::Gap => Ok(Made::Nothing),
         Role::Text => leaf_made(alloc, arena, outer, bytes),
         Role::Element(_) => leaf_made(alloc, arena, outer, bytes),
     }
+}
+
+/// What an element is made into, when the nodes that stand in it are these, in a group or not.
+fn made_with<'a>(
+    alloc: Global,
+    arena: &'a Bump<Global>,
+    inside: bool,
+    headed: Headed,
+    nodes: List<Node<'a>>,
+) -> Result<Made<'a>, NoMemory>
+    ensures { IfOk result (λ m. piece_of m ≡ Some (piece_by headed.group headed.standing
+        (tree (label_of_head headed.head) (held_in inside headed.head.kind (trees nodes.entry))))) }
+{
+    let Headed {
+        standing,
+        group,
+        head,
+    } = headed;
+    let node = node_of(alloc, arena, inside, head, nodes)?;
+    Ok(made_of(standing, group, node))
 }
 
 /// Whether what stands in an element is in a group.
@@ -261,7 +273,10 @@ fn piece<'a>(
     ensures { FitsPiece walk.old spot role (view_content content) walk.new result }
 {
     match content {
-        Content::Text(bytes) => text_made(alloc, arena, role, spot.outer, bytes.as_slice()),
+        Content::Text(bytes) => {
+            let made = text_made(alloc, arena, role, spot.outer, bytes.as_slice())?;
+            Ok(made)
+        }
         Content::Element {
             name,
             attributes,
@@ -277,15 +292,10 @@ fn piece<'a>(
                 attributes,
                 contents.as_slice(),
             )?;
-            let Headed {
-                standing: told,
-                group,
-                head,
-            } = headed;
             let inside = is_within(spot.inside, standing);
-            let children = nodes(alloc, arena, walk, head.kind, inside, contents)?;
-            let node = node_of(alloc, arena, inside, head, children)?;
-            Ok(made_of(told, group, node))
+            let children = nodes(alloc, arena, walk, headed.head.kind, inside, contents)?;
+            let made = made_with(alloc, arena, inside, headed, children)?;
+            Ok(made)
         }
     }
 }

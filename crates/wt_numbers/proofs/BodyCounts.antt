@@ -15,7 +15,7 @@ use Rattle.wt_body.specs.Stretches.{stretches_parts}
 use Rattle.wt_body.specs.Tables.{Reading, gaps}
 use Rattle.wt_body.specs.Body.{is_list_line, one_block, same_block, block_stretches, run_stretches, blocks_by, within, most_tables, blocks, meaning}
 use Rattle.wt_body.proofs.HeldBody.{units_joined}
-use Rattle.wt_ranges.specs.Counted.{numbered}
+use Rattle.wt_annotated.specs.Counted.{numbered}
 use Rattle.wt_numbers.specs.Numbers.{makes_all}
 use Rattle.wt_numbers.proofs.Makes.{children_count}
 use Rattle.wt_numbers.proofs.Allowances.{allowed_all, allowed_append, AreFit, fit_front, fit_back}

@@ -36,7 +36,7 @@ use Rattle.wt_context.specs.Heads.{bare_url_head}
 use Rattle.wt_context.specs.Nodes.{Reading, opening_of, inside_of, closing_of, trail_of, leaf_head, leaf_tree, round_parts, bare_url, trail_parts, nested_head, nested_by, nested_tree, tile_tree, segments_by, tile_segments, segments}
 use Rattle.wt_context.specs.Line.{within, most_contexts, context_parts, line_parts, line_trees}
 use Rattle.wt_context.proofs.ContextStyles.{styles_fill}
-use Rattle.wt_ranges.specs.Counted.{count_by, numbered, numbered_in_all}
+use Rattle.wt_annotated.specs.Counted.{count_by, numbered, numbered_in_all}
 use Rattle.wt_numbers.specs.Numbers.{makes_all}
 use Rattle.wt_numbers.proofs.Makes.{makes_append, makes_cut, counts, counts_append, children_count, parts_count}
 use Rattle.wt_numbers.proofs.StyleCounts.{quotes, quotes_append, styles_few}

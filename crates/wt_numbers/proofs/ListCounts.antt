@@ -19,7 +19,7 @@ use Rattle.wt_body.specs.Stretches.{Stretch, gap, block, opened_by, enclosed}
 use Rattle.wt_body.specs.Lists.{prefix_of, with_blanks, item_opening_len, colon_at, term_len, item_kind, list_kind, term, item_by, line_item, begins_at, row_at, list_stretches, all_lists, prefixes, lists}
 use Rattle.wt_body.specs.Body.{is_list_line}
 use Rattle.wt_body.proofs.HeldLists.{Fits, fits_front, fits_back, AllGoOn, run_goes_on, all_stay, fits_inner, begins_here, fits_all}
-use Rattle.wt_ranges.specs.Counted.{numbered}
+use Rattle.wt_annotated.specs.Counted.{numbered}
 use Rattle.wt_numbers.specs.Numbers.{makes_all}
 use Rattle.wt_numbers.proofs.Makes.{makes_cut}
 use Rattle.wt_numbers.proofs.ContextCounts.{node_count, line_count}

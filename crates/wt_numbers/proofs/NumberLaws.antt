@@ -7,8 +7,8 @@ use Rattle.wt_span.specs.Items.{Item, char, whole, sources}
 use Rattle.wt_inline.specs.RawTag.{inside_len, behind, inside_of, opening_len}
 use Rattle.wt_inline.specs.Inside.{read_with, inside_items}
 use Rattle.wt_inline.specs.Parts.{form_leaf, inside_part, nowiki, whole_tree}
-use Rattle.wt_ranges.specs.Counted.{numbered}
-use Rattle.wt_ranges.specs.Labels.{width}
+use Rattle.wt_annotated.specs.Counted.{numbered}
+use Rattle.wt_annotated.specs.Labels.{width}
 use Rattle.wt_numbers.specs.Numbers.{makes_all}
 use Rattle.wt_numbers.proofs.Makes.{counts, children_count}
 

@@ -15,7 +15,7 @@ use Rattle.wt_body.specs.Rows.{Row, first_lead, last_ending}
 use Rattle.wt_body.specs.Stretches.{gap, tree_block}
 use Rattle.wt_body.specs.Texts.{with_separators, later_parts, later_line, para_parts, para, skipped, later_pre, pre_opening, pre_parts, pre, rule}
 use Rattle.wt_body.specs.Body.{rule_row, heading_row}
-use Rattle.wt_ranges.specs.Counted.{numbered}
+use Rattle.wt_annotated.specs.Counted.{numbered}
 use Rattle.wt_numbers.specs.Numbers.{makes_all}
 use Rattle.wt_numbers.proofs.Makes.{makes_append, makes_cut, counts, counts_append, parts_count}
 use Rattle.wt_numbers.proofs.ContextCounts.{node_count, leaf_count, line_count, line_trees_count}

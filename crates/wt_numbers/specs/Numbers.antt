@@ -2,7 +2,7 @@
 use Rattle.std.specs.Prelude.{ℕ, ◌+◌, List, [], ◌∷◌}
 use Rattle.wt_span.specs.Items.{Item, char, whole}
 use Rattle.wt_inline.specs.Parts.{whole_tree}
-use Rattle.wt_ranges.specs.Counted.{numbered}
+use Rattle.wt_annotated.specs.Counted.{numbered}
 
 -- a character makes none, and a form those of its own node
 abbrev pub makes : Item → ℕ

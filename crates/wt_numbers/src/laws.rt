@@ -3,8 +3,8 @@
 ghost use Rattle.std.specs.Prelude.{◌≤◌, ◌+◌, ◌*◌, List, length};
 ghost use Rattle.wt_span.specs.Items.{Item};
 ghost use Rattle.wt_body.specs.Body.{meaning};
-ghost use Rattle.wt_ranges.specs.Counted.{numbered};
-ghost use Rattle.wt_ranges.specs.Labels.{width};
+ghost use Rattle.wt_annotated.specs.Counted.{numbered};
+ghost use Rattle.wt_annotated.specs.Labels.{width};
 ghost use Rattle.wt_numbers.specs.Numbers.{makes_all};
 
 /// At most two nodes for each item have a number: a list and an item by a sign of a prefix, or a block

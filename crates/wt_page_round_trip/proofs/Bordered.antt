@@ -15,8 +15,8 @@ use Rattle.wt_inline.specs.declared.loose.Loose.{Loose}
 use Rattle.wt_inline.specs.declared.loose.Loose.TheVariants.{Text, Sep}
 use Rattle.wt_inline.specs.ItemTree.{ItemTree, inner, forest}
 use Rattle.wt_inline.specs.Parts.{Part, loose, node, held_parts, one_leaf, loose_kind, loose_leaf, child, children}
-use Rattle.wt_ranges.specs.Labels.{label_at}
-use Rattle.wt_ranges.specs.Annotated.{unplaced, all_unplaced}
+use Rattle.wt_annotated.specs.Labels.{label_at}
+use Rattle.wt_annotated.specs.Annotated.{unplaced, all_unplaced}
 use Rattle.wt_page_round_trip.proofs.ShownNodes.{can_follow, are_in_line}
 use Rattle.wt_page_round_trip.proofs.Separated.{goes_first, head_of, IsPartIn}
 

@@ -21,9 +21,9 @@ use Rattle.wt_fitting.specs.Rows.{shows_text}
 use Rattle.wt_round_trip.specs.Written.{has_level, HasSource, IsShown, HasAttributes, HasData, is_extension_label, is_childless}
 use Rattle.wt_inline.specs.ItemTree.{plain, ItemTrees, inner, leaf, forest, held_by_all}
 use Rattle.wt_inline.specs.Parts.{Part, children}
-use Rattle.wt_ranges.specs.Labels.{label_at}
-use Rattle.wt_ranges.specs.WithoutCalls.{inside_by}
-use Rattle.wt_ranges.specs.Annotated.{no_place, all_unplaced}
+use Rattle.wt_annotated.specs.Labels.{label_at}
+use Rattle.wt_annotated.specs.WithoutCalls.{inside_by}
+use Rattle.wt_annotated.specs.Annotated.{no_place, all_unplaced}
 use Rattle.wt_page_round_trip.proofs.InlineNodes.{with_attrs}
 use Rattle.wt_page_round_trip.proofs.OfPage.{ArePageItems, no_page_items, page_utf8}
 use Rattle.wt_page_round_trip.proofs.OwnNodes.{HasOrigin}

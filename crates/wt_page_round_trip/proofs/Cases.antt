@@ -32,8 +32,8 @@ use Rattle.wt_body.specs.Texts.{para}
 use Rattle.wt_body.specs.Rows.{rows as rows_of}
 use Rattle.wt_blocks.specs.Headings.{level, opening, inside, closing}
 use Rattle.wt_body.specs.Body.{blocks, meaning}
-use Rattle.wt_ranges.specs.WithoutCalls.{annotated}
-use Rattle.wt_ranges.specs.Labels.{label_at}
+use Rattle.wt_annotated.specs.WithoutCalls.{annotated}
+use Rattle.wt_annotated.specs.Labels.{label_at}
 
 -- the tree of a page that has no group
 abbrev page_tree : List ℕ → Tree

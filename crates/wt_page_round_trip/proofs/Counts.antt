@@ -8,8 +8,8 @@ use Rattle.wt_lex.proofs.TagForms.{OptTag, TagFits, opening_fits}
 use Rattle.wt_lex.proofs.WholeTags.{raw_at}
 use Rattle.wt_inline.specs.RawTag.{len_of, opening_len, behind, inside_len}
 use Rattle.wt_inline.specs.Parts.{nowiki, whole_tree}
-use Rattle.wt_ranges.specs.Labels.{width}
-use Rattle.wt_ranges.specs.Counted.{numbered}
+use Rattle.wt_annotated.specs.Labels.{width}
+use Rattle.wt_annotated.specs.Counted.{numbered}
 use Rattle.wt_numbers.specs.Numbers.{makes_all}
 use Rattle.wt_numbers.proofs.BodyCounts.{meaning_count}
 use Rattle.wt_numbers.proofs.NumberLaws.{nowiki_inside}

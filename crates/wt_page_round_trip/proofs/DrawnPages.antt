@@ -20,23 +20,23 @@ use Rattle.wt_span.specs.Runs.{runs}
 use Rattle.wt_span.proofs.RunLaws.{runs_are}
 use Rattle.wt_round_trip.specs.Written.{HasPlaces, is_childless, IsWritten}
 use Rattle.wt_inline.specs.ItemTree.{Head, plain, ItemTree, inner, ItemTrees, nothing, further, tree_items, held_by_all}
-use Rattle.wt_ranges.specs.Annotated.{kept_label, unplaced, all_unplaced, placed, annotated}
-use Rattle.wt_ranges.specs.Clean.{is_page, own_by, is_clean}
-use Rattle.wt_ranges.specs.Counted.{numbered_in_all}
-use Rattle.wt_ranges.specs.CutTexts.{cut_texts}
-use Rattle.wt_ranges.specs.GroupData.{group_data}
-use Rattle.wt_ranges.specs.Grouped.{Grouped, grouped}
-use Rattle.wt_ranges.specs.Labels.{width, if_leaf, if_inner, label_at}
-use Rattle.wt_ranges.specs.Numbering.{count, with_numbers, all_with_numbers}
-use Rattle.wt_ranges.specs.Reached.{AreReachedSlices, start_of, size_of}
-use Rattle.wt_ranges.specs.Seams.{last_of, first_of, text_from}
-use Rattle.wt_ranges.specs.Walked.{clean_at, Near, near_tied, near_nodes, near_runs, walked, near}
-use Rattle.wt_ranges.specs.WithoutCalls.{inside_by}
-use Rattle.wt_ranges.proofs.CutNumbered.{cut_numbered}
-use Rattle.wt_ranges.proofs.CutPlaced.{placed_bare}
-use Rattle.wt_ranges.proofs.Ends.{start_is, size_is, stand, body_clean}
-use Rattle.wt_ranges.proofs.Slices.{slices}
-use Rattle.wt_ranges.proofs.Walks.{walk_all}
+use Rattle.wt_annotated.specs.Annotated.{kept_label, unplaced, all_unplaced, placed, annotated}
+use Rattle.wt_annotated.specs.Clean.{is_page, own_by, is_clean}
+use Rattle.wt_annotated.specs.Counted.{numbered_in_all}
+use Rattle.wt_annotated.specs.CutTexts.{cut_texts}
+use Rattle.wt_annotated.specs.GroupData.{group_data}
+use Rattle.wt_annotated.specs.Grouped.{Grouped, grouped}
+use Rattle.wt_annotated.specs.Labels.{width, if_leaf, if_inner, label_at}
+use Rattle.wt_annotated.specs.Numbering.{count, with_numbers, all_with_numbers}
+use Rattle.wt_annotated.specs.Reached.{AreReachedSlices, start_of, size_of}
+use Rattle.wt_annotated.specs.Seams.{last_of, first_of, text_from}
+use Rattle.wt_annotated.specs.Walked.{clean_at, Near, near_tied, near_nodes, near_runs, walked, near}
+use Rattle.wt_annotated.specs.WithoutCalls.{inside_by}
+use Rattle.wt_annotated.proofs.CutNumbered.{cut_numbered}
+use Rattle.wt_annotated.proofs.CutPlaced.{placed_bare}
+use Rattle.wt_annotated.proofs.Ends.{start_is, size_is, stand, body_clean}
+use Rattle.wt_annotated.proofs.Slices.{slices}
+use Rattle.wt_annotated.proofs.Walks.{walk_all}
 use Rattle.wt_page_round_trip.specs.GroupTexts.{ArePageCalls, AllHoldTexts}
 use Rattle.wt_page_round_trip.proofs.LabelledGroups.{IfGroup, OfGroups, IsAlmost, annotated_almost}
 use Rattle.wt_page_round_trip.proofs.OwnNodes.{is_own, AreOwn, HasOrigin, IsParted, AreParted}

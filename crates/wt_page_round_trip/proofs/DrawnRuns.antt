@@ -22,10 +22,10 @@ use Rattle.wt_span.specs.Origins.{OuterCall}
 use Rattle.wt_span.specs.Runs.{IsRun, AreRuns}
 use Rattle.wt_round_trip.specs.Written.{leaf_kind, HasLeafKind, joins, goes_behind, are_ordered, is_childless}
 use Rattle.wt_inline.specs.ItemTree.{ItemTree, inner}
-use Rattle.wt_ranges.specs.Annotated.{unplaced, all_unplaced}
-use Rattle.wt_ranges.specs.GroupData.{group_data}
-use Rattle.wt_ranges.specs.Labels.{label_at}
-use Rattle.wt_ranges.specs.Walked.{Near, near_tied, near_nodes, near_group, near_run}
+use Rattle.wt_annotated.specs.Annotated.{unplaced, all_unplaced}
+use Rattle.wt_annotated.specs.GroupData.{group_data}
+use Rattle.wt_annotated.specs.Labels.{label_at}
+use Rattle.wt_annotated.specs.Walked.{Near, near_tied, near_nodes, near_group, near_run}
 use Rattle.wt_page_round_trip.proofs.OwnNodes.{is_own, are_one_kind, is_one_text, IsApartFrom, AreParted}
 use Rattle.wt_page_round_trip.proofs.DrawnTrees.{IsInOrder, IsDrawnIn, AreDrawnIn}
 use Rattle.wt_page_round_trip.proofs.Shown.{none_group, blocks_fit, elements_fit, group_follows}

@@ -19,7 +19,7 @@ use Rattle.wt_expand.specs.Work.{Pages}
 use Rattle.wt_expand.specs.Expansion.{Output, called_output, front_braces, back_braces, target_part, part_outputs, outputs_of, text_members, page_reading}
 use Rattle.wt_expand.specs.PageCalls.{Stretch, own, outer, text_call, outer_at, call_stretches, stretches_of, all_stretches, from_call, outer_items, numbered, outer_calls, page_stretches, expanded_page}
 use Rattle.wt_expansion.proofs.SoundMembers.{text_width}
-use Rattle.wt_ranges.specs.Seams.{parted, text_from}
+use Rattle.wt_annotated.specs.Seams.{parted, text_from}
 
 -- ---- calls
 

@@ -30,7 +30,7 @@ use Rattle.wt_inline.specs.RawTag.{len_of, name_of, is_alone, before_closing, op
 use Rattle.wt_inline.specs.Carried.{extension_typeof, placeholder_typeof, noinclude_typeof, onlyinclude_typeof, includeonly_typeof, include_typeof, extension_data}
 use Rattle.wt_inline.specs.Parts.{form_leaf, whole_tree}
 use Rattle.wt_inline.proofs.RawTags.{closing_sign, tag_border, sign_border}
-use Rattle.wt_ranges.specs.Labels.{label_at}
+use Rattle.wt_annotated.specs.Labels.{label_at}
 use Rattle.wt_page_round_trip.proofs.OfPage.{IsPageForm, IsGivenBy, IsPageItem, form_page, no_page_items}
 use Rattle.wt_page_round_trip.proofs.Parts.{IsWrittenNode}
 

@@ -31,10 +31,10 @@ use Rattle.wt_context.specs.Line.{context_parts, line_trees}
 use Rattle.wt_body.specs.Texts.{para}
 use Rattle.wt_body.specs.Rows.{rows as rows_of}
 use Rattle.wt_body.specs.Body.{blocks, meaning}
-use Rattle.wt_ranges.specs.Annotated.{annotated}
-use Rattle.wt_ranges.specs.GroupData.{group_data}
-use Rattle.wt_ranges.specs.GroupWord.{transclusion_word}
-use Rattle.wt_ranges.specs.Labels.{label_at}
+use Rattle.wt_annotated.specs.Annotated.{annotated}
+use Rattle.wt_annotated.specs.GroupData.{group_data}
+use Rattle.wt_annotated.specs.GroupWord.{transclusion_word}
+use Rattle.wt_annotated.specs.Labels.{label_at}
 
 -- the tree of a page that calls nothing
 abbrev page_tree : List ℕ → Tree

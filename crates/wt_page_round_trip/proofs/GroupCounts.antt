@@ -11,12 +11,12 @@ use Rattle.wt_tree.specs.Tree.{Tree, tree, Trees, none, more}
 use Rattle.wt_markup.specs.Html.{groups_by, groups, groups_of_all}
 use Rattle.wt_span.specs.Origins.{OuterCall}
 use Rattle.wt_inline.specs.ItemTree.{ItemTree, tree_items}
-use Rattle.wt_ranges.specs.Annotated.{placed, annotated}
-use Rattle.wt_ranges.specs.CutTexts.{cut_texts}
-use Rattle.wt_ranges.specs.GroupData.{group_data}
-use Rattle.wt_ranges.specs.Grouped.{grouped}
-use Rattle.wt_ranges.specs.Numbering.{next_after, count, count_all, with_numbers, all_with_numbers}
-use Rattle.wt_ranges.proofs.CutNumbers.{cut_texts_few}
+use Rattle.wt_annotated.specs.Annotated.{placed, annotated}
+use Rattle.wt_annotated.specs.CutTexts.{cut_texts}
+use Rattle.wt_annotated.specs.GroupData.{group_data}
+use Rattle.wt_annotated.specs.Grouped.{grouped}
+use Rattle.wt_annotated.specs.Numbering.{next_after, count, count_all, with_numbers, all_with_numbers}
+use Rattle.wt_annotated.proofs.CutNumbers.{cut_texts_few}
 
 -- ---- groups have numbers
 

@@ -12,15 +12,15 @@ use Rattle.wt_span.specs.Origins.{OuterCall}
 use Rattle.wt_fitting.specs.Groups.{transclusion, param}
 use Rattle.wt_round_trip.specs.Written.{IsNumber, IsWord, IsGroupLabel}
 use Rattle.wt_call_data.specs.CallData.{next_call}
-use Rattle.wt_ranges.specs.Annotated.{group_label}
-use Rattle.wt_ranges.specs.GroupData.{call_parts, data_parts, group_data, next_number}
-use Rattle.wt_ranges.specs.GroupParts.{Part, called, slice_part, parts}
-use Rattle.wt_ranges.specs.GroupWord.{transclusion_word, argument_word, part_word, parts_word}
-use Rattle.wt_ranges.specs.Numbering.{with_id}
-use Rattle.wt_ranges.specs.Seams.{parted, text_from}
-use Rattle.wt_ranges.specs.Walked.{longer, slice_since, part_step, parts_from}
-use Rattle.wt_ranges.proofs.PartWalks.{parts_are}
-use Rattle.wt_ranges.proofs.Seams.{before_call, text_is}
+use Rattle.wt_annotated.specs.Annotated.{group_label}
+use Rattle.wt_annotated.specs.GroupData.{call_parts, data_parts, group_data, next_number}
+use Rattle.wt_annotated.specs.GroupParts.{Part, called, slice_part, parts}
+use Rattle.wt_annotated.specs.GroupWord.{transclusion_word, argument_word, part_word, parts_word}
+use Rattle.wt_annotated.specs.Numbering.{with_id}
+use Rattle.wt_annotated.specs.Seams.{parted, text_from}
+use Rattle.wt_annotated.specs.Walked.{longer, slice_since, part_step, parts_from}
+use Rattle.wt_annotated.proofs.PartWalks.{parts_are}
+use Rattle.wt_annotated.proofs.Seams.{before_call, text_is}
 use Rattle.wt_page_round_trip.specs.GroupTexts.{ArePageCalls, AreOwnTexts}
 use Rattle.wt_page_round_trip.proofs.GroupJson.{IsTextPart, parts_written}
 use Rattle.wt_page_round_trip.proofs.CallParts.{call_text}

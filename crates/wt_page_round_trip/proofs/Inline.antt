@@ -32,8 +32,8 @@ use Rattle.wt_inline.specs.ItemTree.{forest, tree_items}
 use Rattle.wt_inline.specs.Parts.{Part, loose, node, held_parts, one_leaf, loose_leaf, child, children, form_leaf, inside_part, nowiki, whole_tree, parts}
 use Rattle.wt_inline.proofs.HeldLaws.{sources_chars}
 use Rattle.wt_inline.proofs.Insides.{entity_some, entity_within, entity_border}
-use Rattle.wt_ranges.specs.Clean.{is_page}
-use Rattle.wt_ranges.specs.Labels.{label_at}
+use Rattle.wt_annotated.specs.Clean.{is_page}
+use Rattle.wt_annotated.specs.Labels.{label_at}
 use Rattle.wt_page_round_trip.proofs.TextItems.{continues, IfOther, IsSeam, AreTexts, before_low}
 use Rattle.wt_page_round_trip.proofs.OfPage.{IsPageForm, IsPageItem, AreOfPage, chars_page, same_self}
 use Rattle.wt_page_round_trip.proofs.OwnNodes.{is_own, AreOwn}

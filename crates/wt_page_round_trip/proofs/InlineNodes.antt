@@ -12,8 +12,8 @@ use Rattle.wt_round_trip.specs.Written.{HasAttributes}
 use Rattle.wt_inline.specs.Carried.{placeholder_typeof}
 use Rattle.wt_inline.specs.ItemTree.{Head, ItemTree, ItemTrees, nothing, leaf, inner, forest}
 use Rattle.wt_inline.specs.Parts.{Part, children}
-use Rattle.wt_ranges.specs.Annotated.{unplaced}
-use Rattle.wt_ranges.specs.Labels.{label_at}
+use Rattle.wt_annotated.specs.Annotated.{unplaced}
+use Rattle.wt_annotated.specs.Labels.{label_at}
 use Rattle.wt_page_round_trip.proofs.OfPage.{ArePageItems, no_page_items, page_utf8}
 use Rattle.wt_page_round_trip.proofs.PageNodes.{IsPageNode, ArePageNodes, children_nodes, node_utf8}
 use Rattle.wt_page_round_trip.proofs.Parts.{children_shown}

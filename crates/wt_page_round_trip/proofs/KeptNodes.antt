@@ -19,12 +19,12 @@ use Rattle.wt_span.specs.Cuts.{text_by}
 use Rattle.wt_span.specs.Origins.{OuterCall}
 use Rattle.wt_round_trip.specs.Written.{IsTextIn, HasSource}
 use Rattle.wt_inline.specs.ItemTree.{Head, ItemTree, inner, ItemTrees, tree_items, held_by_all}
-use Rattle.wt_ranges.specs.Clean.{is_no_call, is_page, is_body, own_by}
-use Rattle.wt_ranges.specs.Labels.{if_leaf, if_inner}
-use Rattle.wt_ranges.specs.Seams.{last_of, first_of, parted, text_step, text_from}
-use Rattle.wt_ranges.specs.Walked.{free_places, clean_at}
-use Rattle.wt_ranges.proofs.Calls.{all_split}
-use Rattle.wt_ranges.proofs.PlainTrees.{all_joined}
+use Rattle.wt_annotated.specs.Clean.{is_no_call, is_page, is_body, own_by}
+use Rattle.wt_annotated.specs.Labels.{if_leaf, if_inner}
+use Rattle.wt_annotated.specs.Seams.{last_of, first_of, parted, text_step, text_from}
+use Rattle.wt_annotated.specs.Walked.{free_places, clean_at}
+use Rattle.wt_annotated.proofs.Calls.{all_split}
+use Rattle.wt_annotated.proofs.PlainTrees.{all_joined}
 use Rattle.wt_page_round_trip.proofs.DrawnTrees.{NodeIsDrawn}
 use Rattle.wt_page_round_trip.proofs.ShownNodes.{IsShownLabel, NodeIsShown}
 

@@ -19,19 +19,19 @@ use Rattle.wt_span.specs.Runs.{runs, AreRuns}
 use Rattle.wt_span.proofs.RunLaws.{runs_are}
 use Rattle.wt_round_trip.specs.Written.{IsNumber, IsGroupLabel}
 use Rattle.wt_inline.specs.ItemTree.{ItemTree, inner, ItemTrees, nothing, further, tree_items, held_by_all}
-use Rattle.wt_ranges.specs.Annotated.{kept_label, group_label, placed, annotated}
-use Rattle.wt_ranges.specs.Clean.{is_clean}
-use Rattle.wt_ranges.specs.CutTexts.{cut_as, cut_texts, all_cut_texts}
-use Rattle.wt_ranges.specs.GroupData.{group_data}
-use Rattle.wt_ranges.specs.Grouped.{grouped}
-use Rattle.wt_ranges.specs.Numbering.{next_after, count, count_all, with_id, with_numbers, all_with_numbers}
-use Rattle.wt_ranges.specs.Reached.{AreReachedSlices, reached, reached_in_all}
-use Rattle.wt_ranges.specs.Seams.{last_of, first_of, text_from}
-use Rattle.wt_ranges.specs.Slices.{IsSlice, StandsIn}
-use Rattle.wt_ranges.specs.Walked.{parts_from, Near, near_tied, near_nodes, near_group, near_run, near_runs, walked, near}
-use Rattle.wt_ranges.specs.WithoutCalls.{inside_by}
-use Rattle.wt_ranges.proofs.AnnotatedTree.{annotated_slices}
-use Rattle.wt_ranges.proofs.Walks.{walk_all}
+use Rattle.wt_annotated.specs.Annotated.{kept_label, group_label, placed, annotated}
+use Rattle.wt_annotated.specs.Clean.{is_clean}
+use Rattle.wt_annotated.specs.CutTexts.{cut_as, cut_texts, all_cut_texts}
+use Rattle.wt_annotated.specs.GroupData.{group_data}
+use Rattle.wt_annotated.specs.Grouped.{grouped}
+use Rattle.wt_annotated.specs.Numbering.{next_after, count, count_all, with_id, with_numbers, all_with_numbers}
+use Rattle.wt_annotated.specs.Reached.{AreReachedSlices, reached, reached_in_all}
+use Rattle.wt_annotated.specs.Seams.{last_of, first_of, text_from}
+use Rattle.wt_annotated.specs.Slices.{IsSlice, StandsIn}
+use Rattle.wt_annotated.specs.Walked.{parts_from, Near, near_tied, near_nodes, near_group, near_run, near_runs, walked, near}
+use Rattle.wt_annotated.specs.WithoutCalls.{inside_by}
+use Rattle.wt_annotated.proofs.AnnotatedTree.{annotated_slices}
+use Rattle.wt_annotated.proofs.Walks.{walk_all}
 use Rattle.wt_page_round_trip.specs.GroupTexts.{ArePageCalls, AreOwnTexts, HoldsTexts, AllHoldTexts, HasGroupLabel}
 use Rattle.wt_page_round_trip.proofs.OwnTexts.{own_joined}
 use Rattle.wt_page_round_trip.proofs.GroupLabels.{labelled}

@@ -22,14 +22,14 @@ use Rattle.wt_span.proofs.RunLaws.{runs_are}
 use Rattle.wt_round_trip.specs.Written.{is_childless}
 use Rattle.wt_inline.specs.ItemTree.{ItemTree, inner, ItemTrees, nothing, further, tree_items, held_by_all}
 use Rattle.wt_inline.proofs.HeldLaws.{sources_append}
-use Rattle.wt_ranges.specs.Annotated.{unplaced, all_unplaced}
-use Rattle.wt_ranges.specs.Counted.{count_by, numbered, numbered_in_all}
-use Rattle.wt_ranges.specs.GroupData.{group_data}
-use Rattle.wt_ranges.specs.Labels.{width, if_leaf, label_at}
-use Rattle.wt_ranges.specs.Numbering.{count, count_all}
-use Rattle.wt_ranges.specs.Seams.{last_of, first_of, text_from}
-use Rattle.wt_ranges.specs.Walked.{Near, near_tied, near_nodes, near_group, near_run, near_runs, walked, near}
-use Rattle.wt_ranges.specs.WithoutCalls.{inside_by}
+use Rattle.wt_annotated.specs.Annotated.{unplaced, all_unplaced}
+use Rattle.wt_annotated.specs.Counted.{count_by, numbered, numbered_in_all}
+use Rattle.wt_annotated.specs.GroupData.{group_data}
+use Rattle.wt_annotated.specs.Labels.{width, if_leaf, label_at}
+use Rattle.wt_annotated.specs.Numbering.{count, count_all}
+use Rattle.wt_annotated.specs.Seams.{last_of, first_of, text_from}
+use Rattle.wt_annotated.specs.Walked.{Near, near_tied, near_nodes, near_group, near_run, near_runs, walked, near}
+use Rattle.wt_annotated.specs.WithoutCalls.{inside_by}
 use Rattle.wt_page_round_trip.proofs.ShownNodes.{NodeIsShown, IsShownIn, AreShownIn}
 
 -- ---- nodes that aren't part of a leaf

@@ -22,8 +22,8 @@ use Rattle.wt_inline.specs.ItemTree.{tree_items}
 use Rattle.wt_inline.proofs.HeldLaws.{sources_opened}
 use Rattle.wt_body.specs.Body.{meaning}
 use Rattle.wt_body.proofs.HeldBody.{held_meaning}
-use Rattle.wt_ranges.specs.Seams.{parted, text_step, text_from}
-use Rattle.wt_ranges.proofs.Groupings.{page_is}
+use Rattle.wt_annotated.specs.Seams.{parted, text_step, text_from}
+use Rattle.wt_annotated.proofs.Seams.{page_is}
 use Rattle.wt_page_round_trip.proofs.ExpandedPages.{page_step, call_text, no_text, expanded_stands}
 
 -- ---- items of one origin

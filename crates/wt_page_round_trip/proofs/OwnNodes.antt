@@ -6,7 +6,7 @@ use Rattle.wt_span.specs.Items.{Item}
 use Rattle.wt_tree.specs.declared.kind.Kind.{Kind}
 use Rattle.wt_tree.specs.declared.kind.Kind.TheVariants as kind
 use Rattle.wt_inline.specs.ItemTree.{ItemTree, inner, ItemTrees, nothing, further, tree_items, held_by_all}
-use Rattle.wt_ranges.specs.Clean.{is_page}
+use Rattle.wt_annotated.specs.Clean.{is_page}
 
 -- no item of it comes from a call
 abbrev pub is_own : ItemTree → Bool

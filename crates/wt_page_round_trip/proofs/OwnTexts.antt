@@ -7,7 +7,7 @@ use Rattle.std.proofs.lemmas.Str.{IsUtf8-nil, IsUtf8-append, IsCharBoundary-star
 use Rattle.wt_span.specs.Cuts.{source_of_call}
 use Rattle.wt_span.specs.Items.{Item, char, whole, sources}
 use Rattle.wt_span.specs.Origins.{OuterCall}
-use Rattle.wt_ranges.specs.Seams.{parted, text_from}
+use Rattle.wt_annotated.specs.Seams.{parted, text_from}
 use Rattle.wt_page_round_trip.proofs.TextItems.{CanCut, cut_at, cut_end, more_cut}
 use Rattle.wt_page_round_trip.specs.GroupTexts.{IsPageCall, ArePageCalls, AreOwnTexts}
 

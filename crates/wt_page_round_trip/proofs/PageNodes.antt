@@ -16,7 +16,7 @@ use Rattle.wt_inline.specs.declared.loose.Loose.TheVariants.{Text, Sep}
 use Rattle.wt_inline.specs.ItemTree.{ItemTree, inner, ItemTrees, nothing, further, forest, tree_items, held_by_all}
 use Rattle.wt_inline.specs.Parts.{Part, loose, node, held_parts, same_loose, same_origin, one_leaf, loose_leaf, child, children}
 use Rattle.wt_inline.proofs.HeldLaws.{sources_append}
-use Rattle.wt_ranges.specs.Clean.{is_page}
+use Rattle.wt_annotated.specs.Clean.{is_page}
 use Rattle.wt_page_round_trip.proofs.TextItems.{continues, IfOther, CanCut, before_first, first_byte, cut_end, more_cut, seam_by}
 use Rattle.wt_page_round_trip.proofs.OfPage.{ArePageItems, no_page_items, page_utf8, chars_page}
 use Rattle.wt_page_round_trip.proofs.OwnNodes.{are_one_kind, is_one_text, IsApartFrom, HasOrigin}

@@ -8,7 +8,7 @@ use Rattle.wt_inline.specs.Parts.{Part, children}
 use Rattle.wt_body.specs.Rows.{rows}
 use Rattle.wt_body.specs.Stretches.{stretches_parts}
 use Rattle.wt_body.specs.Body.{blocks}
-use Rattle.wt_ranges.specs.Annotated.{all_unplaced}
+use Rattle.wt_annotated.specs.Annotated.{all_unplaced}
 use Rattle.wt_page_round_trip.proofs.OfPage.{ArePageItems}
 use Rattle.wt_page_round_trip.proofs.PageNodes.{ArePageNodes, children_nodes}
 use Rattle.wt_page_round_trip.proofs.Parts.{children_shown}

@@ -13,13 +13,13 @@ use Rattle.wt_inline.specs.ItemTree.{forest, tree_items}
 use Rattle.wt_inline.specs.Parts.{children}
 use Rattle.wt_body.specs.Rows.{rows}
 use Rattle.wt_body.specs.Body.{body_parts, meaning}
-use Rattle.wt_ranges.specs.Slices.{IsSlice, AreSlices}
-use Rattle.wt_ranges.specs.Annotated.{annotated}
-use Rattle.wt_ranges.specs.Clean.{is_clean}
-use Rattle.wt_ranges.specs.GroupData.{group_data}
-use Rattle.wt_ranges.specs.Reached.{AreReachedSlices, reached, reached_in_all}
-use Rattle.wt_ranges.proofs.AnnotatedTree.{annotated_tiles, annotated_covers, annotated_slices, annotated_source, annotated_numbered}
-use Rattle.wt_ranges.proofs.Ends.{body_clean}
+use Rattle.wt_annotated.specs.Slices.{IsSlice, AreSlices}
+use Rattle.wt_annotated.specs.Annotated.{annotated}
+use Rattle.wt_annotated.specs.Clean.{is_clean}
+use Rattle.wt_annotated.specs.GroupData.{group_data}
+use Rattle.wt_annotated.specs.Reached.{AreReachedSlices, reached, reached_in_all}
+use Rattle.wt_annotated.proofs.AnnotatedTree.{annotated_tiles, annotated_covers, annotated_slices, annotated_source, annotated_numbered}
+use Rattle.wt_annotated.proofs.Ends.{body_clean}
 use Rattle.wt_page_round_trip.specs.PageTree.{page_tree}
 
 -- what stands on the page for the meaning of its expanded items is the page

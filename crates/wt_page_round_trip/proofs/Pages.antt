@@ -15,10 +15,10 @@ use Rattle.wt_expand.specs.Work.{Pages, first_refusal}
 use Rattle.wt_inline.specs.ItemTree.{ItemTrees, tree_items, held_by_all}
 use Rattle.wt_body.specs.Body.{meaning}
 use Rattle.wt_body.proofs.HeldBody.{sources_meaning}
-use Rattle.wt_ranges.specs.Annotated.{annotated}
-use Rattle.wt_ranges.specs.Counted.{numbered_in_all}
-use Rattle.wt_ranges.specs.GroupData.{group_data}
-use Rattle.wt_ranges.specs.Labels.{width}
+use Rattle.wt_annotated.specs.Annotated.{annotated}
+use Rattle.wt_annotated.specs.Counted.{numbered_in_all}
+use Rattle.wt_annotated.specs.GroupData.{group_data}
+use Rattle.wt_annotated.specs.Labels.{width}
 use Rattle.wt_page_round_trip.specs.GroupTexts.{ArePageCalls}
 use Rattle.wt_page_round_trip.specs.PageTree.{page_tree}
 use Rattle.wt_page_round_trip.proofs.Counts.{page_few}

@@ -18,8 +18,8 @@ use Rattle.wt_inline.specs.Carried.{shown_item}
 use Rattle.wt_inline.specs.ItemTree.{ItemTree, forest}
 use Rattle.wt_inline.specs.Parts.{Part, loose, node, held_parts, one_leaf, loose_kind, loose_leaf, child, children}
 use Rattle.wt_inline.proofs.HeldLaws.{sources_chars}
-use Rattle.wt_ranges.specs.Annotated.{unplaced, all_unplaced}
-use Rattle.wt_ranges.specs.Labels.{label_at}
+use Rattle.wt_annotated.specs.Annotated.{unplaced, all_unplaced}
+use Rattle.wt_annotated.specs.Labels.{label_at}
 use Rattle.wt_page_round_trip.proofs.PageLines.{all_right}
 use Rattle.wt_page_round_trip.proofs.PageNodes.{IsPageNode, IsElement, ArePageParts, IsLeafRun, leaf_run}
 use Rattle.wt_page_round_trip.proofs.ShownNodes.{IsShownIn, AreShownIn}

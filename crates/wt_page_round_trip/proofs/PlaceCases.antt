@@ -29,8 +29,8 @@ use Rattle.wt_headings.specs.Headings.{heading}
 use Rattle.wt_body.specs.Texts.{para}
 use Rattle.wt_body.specs.Rows.{rows as rows_of}
 use Rattle.wt_body.specs.Body.{blocks, meaning}
-use Rattle.wt_ranges.specs.Labels.{label_at}
-use Rattle.wt_ranges.specs.WithoutCalls.{annotated}
+use Rattle.wt_annotated.specs.Labels.{label_at}
+use Rattle.wt_annotated.specs.WithoutCalls.{annotated}
 
 abbrev page : List ℕ → List Item
 page bs = map (char None) bs

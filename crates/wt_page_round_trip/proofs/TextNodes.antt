@@ -19,7 +19,7 @@ use Rattle.wt_context.specs.Line.{line_parts, line_trees}
 use Rattle.wt_blocks.specs.Headings.{level as heading_level, opening, inside, closing}
 use Rattle.wt_blocks.proofs.HeadingLaws.{joined as heading_joined}
 use Rattle.wt_headings.specs.Headings.{heading}
-use Rattle.wt_ranges.specs.Annotated.{all_unplaced}
+use Rattle.wt_annotated.specs.Annotated.{all_unplaced}
 use Rattle.wt_body.specs.Rows.{Row, signs, first_lead, last_ending}
 use Rattle.wt_body.specs.Texts.{with_separators, later_parts, later_line, para_parts, para, skipped, later_pre, pre_opening, pre_parts, pre, rule}
 use Rattle.wt_body.specs.Tables.{gaps}

@@ -7,7 +7,7 @@ use Rattle.wt_tree.specs.declared.kind.Kind.{Kind}
 use Rattle.wt_inline.specs.declared.loose.Loose.TheVariants.{Text}
 use Rattle.wt_inline.specs.ItemTree.{ItemTree}
 use Rattle.wt_inline.specs.Parts.{Part, node, parts}
-use Rattle.wt_ranges.specs.Annotated.{unplaced}
+use Rattle.wt_annotated.specs.Annotated.{unplaced}
 use Rattle.wt_page_round_trip.proofs.TextItems.{AreTexts}
 use Rattle.wt_page_round_trip.proofs.OfPage.{AreOfPage}
 use Rattle.wt_page_round_trip.proofs.PageLines.{all_both}

@@ -5,8 +5,8 @@ use Rattle.wt_tree.specs.Tree.{Tree}
 use Rattle.wt_expand.specs.Work.{Pages}
 use Rattle.wt_expand.specs.PageCalls.{expanded_page}
 use Rattle.wt_body.specs.Body.{meaning}
-use Rattle.wt_ranges.specs.Annotated.{annotated}
-use Rattle.wt_ranges.specs.GroupData.{group_data}
+use Rattle.wt_annotated.specs.Annotated.{annotated}
+use Rattle.wt_annotated.specs.GroupData.{group_data}
 
 abbrev pub expanded_tree : Expanded → Tree
 expanded_tree e = annotated e.outer (group_data e.outer) (meaning e.items)

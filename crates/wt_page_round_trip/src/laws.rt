@@ -12,14 +12,14 @@ ghost use Rattle.wt_expand.specs.Expansion.{page_work};
 ghost use Rattle.wt_expand.specs.Work.{Pages, first_refusal};
 ghost use Rattle.wt_body.specs.Body.{meaning};
 ghost use Rattle.wt_inline.specs.ItemTree.{ItemTree, tree_items};
-ghost use Rattle.wt_ranges.specs.Annotated.{annotated, placed};
-ghost use Rattle.wt_ranges.specs.Clean.{is_clean};
-ghost use Rattle.wt_ranges.specs.CutTexts.{cut_texts};
-ghost use Rattle.wt_ranges.specs.GroupData.{group_data};
-ghost use Rattle.wt_ranges.specs.Grouped.{grouped};
-ghost use Rattle.wt_ranges.specs.Numbering.{count};
-ghost use Rattle.wt_ranges.specs.Reached.{AreReachedSlices, reached};
-ghost use Rattle.wt_ranges.specs.Slices.{AreSlices};
+ghost use Rattle.wt_annotated.specs.Annotated.{annotated, placed};
+ghost use Rattle.wt_annotated.specs.Clean.{is_clean};
+ghost use Rattle.wt_annotated.specs.CutTexts.{cut_texts};
+ghost use Rattle.wt_annotated.specs.GroupData.{group_data};
+ghost use Rattle.wt_annotated.specs.Grouped.{grouped};
+ghost use Rattle.wt_annotated.specs.Numbering.{count};
+ghost use Rattle.wt_annotated.specs.Reached.{AreReachedSlices, reached};
+ghost use Rattle.wt_annotated.specs.Slices.{AreSlices};
 ghost use Rattle.wt_page_round_trip.specs.GroupTexts.{
   AreOwnTexts,
   ArePageCalls,

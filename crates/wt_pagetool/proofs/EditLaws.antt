@@ -26,12 +26,12 @@ use Rattle.wt_page_round_trip.proofs.PageTrees.{page_tiled, page_covered, page_n
 use Rattle.wt_selser.specs.declared.refusal.EditRefusal.{EditRefusal}
 use Rattle.wt_selser.specs.declared.refusal.EditRefusal.TheVariants as of_edit
 use Rattle.wt_selser.specs.Changes.{marked, changes}
-use Rattle.wt_selser.specs.Children.{IsFirstDiffering, shown_children, differing}
+use Rattle.wt_shown.specs.Children.{IsFirstDiffering, shown_children, differing}
 use Rattle.wt_selser.specs.Edits.{edit_answer, unless_refused, if_short, most_bytes, refused_pairs, AnswersEdit as AnswersAs}
-use Rattle.wt_selser.specs.Restored.{restored_from}
-use Rattle.wt_selser.specs.SameNodes.{same_node}
+use Rattle.wt_shown.specs.Restored.{restored_from}
+use Rattle.wt_shown.specs.SameNodes.{same_node}
 use Rattle.wt_selser.specs.Splice.{spliced}
-use Rattle.wt_selser.proofs.DifferingLaws.{differing_is, none_same}
+use Rattle.wt_shown.proofs.DifferingLaws.{differing_is, none_same}
 use Rattle.wt_selser.proofs.EditChains.{edit_stands}
 use Rattle.wt_pagetool.specs.declared.output.Output.{Output}
 use Rattle.wt_pagetool.specs.declared.refusal.Refusal.{Refusal}

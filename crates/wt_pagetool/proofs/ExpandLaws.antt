@@ -9,9 +9,9 @@ use Rattle.wt_span.specs.Origins.{OuterCall, Expanded}
 use Rattle.wt_tree.specs.Tree.{Tree}
 use Rattle.wt_inline.specs.ItemTree.{ItemTree, tree_items}
 use Rattle.wt_body.specs.Body.{meaning}
-use Rattle.wt_ranges.specs.Annotated.{annotated}
-use Rattle.wt_ranges.specs.Clean.{is_clean}
-use Rattle.wt_ranges.specs.GroupData.{group_data}
+use Rattle.wt_annotated.specs.Annotated.{annotated}
+use Rattle.wt_annotated.specs.Clean.{is_clean}
+use Rattle.wt_annotated.specs.GroupData.{group_data}
 use Rattle.wt_page_round_trip.specs.PageTree.{expanded_tree, page_tree}
 use Rattle.wt_page_round_trip.proofs.HeldPages.{its_page}
 use Rattle.wt_page_round_trip.proofs.PageTrees.{clean_meaning}

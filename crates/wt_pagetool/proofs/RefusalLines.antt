@@ -6,7 +6,7 @@ use Rattle.wt_html_grammar.specs.declared.why.HtmlWhy.{HtmlWhy}
 use Rattle.wt_fitting.specs.declared.why.FitWhy.{FitWhy}
 use Rattle.wt_pagetool.specs.declared.refusal.Refusal.TheVariants.{BracesTooDeep, TemplateNotUtf8, TemplateTooLong, Html, Unfit, Unsourced, Checked, BadContent}
 use Rattle.wt_checks.specs.declared.refusal.Check.{Check}
-use Rattle.wt_selser.specs.declared.refusal.ContentWhy.{ContentWhy}
+use Rattle.wt_content.specs.declared.reason.ContentWhy.{ContentWhy}
 use Rattle.wt_pagetool.specs.Refusals.{html_why, fit_why, content_why, check_name, check_node, text_of, line_of}
 
 pub html_parts : (place : ℕ) (why : HtmlWhy) → line_of (Html place why) ≡ codes "wtround: html refused at "

@@ -9,7 +9,7 @@ use Rattle.wt_tree.specs.Plain.{Face, face, element, Plains, ended, along, shown
 use Rattle.wt_tree.specs.Tree.{Label, Tree, tree, Trees, label}
 use Rattle.wt_expand.specs.Work.{Pages}
 use Rattle.wt_body.specs.Body.{meaning}
-use Rattle.wt_ranges.specs.Annotated.{annotated}
+use Rattle.wt_annotated.specs.Annotated.{annotated}
 use Rattle.wt_page_round_trip.specs.PageTree.{page_tree}
 use Rattle.wt_datamw.specs.declared.refusal.DataWhy.{DataWhy}
 use Rattle.wt_datamw.specs.declared.sync.Sync.{Sync}
@@ -27,7 +27,7 @@ use Rattle.wt_fitting.specs.Fit.{Misfit, label_for, texts_in, text_fits, with_ch
 use Rattle.wt_fitting.specs.Groups.{Piece}
 use Rattle.wt_fitting.specs.Read.{page as as_page, ill, read_fit, read_tree, read_root, read_run, read}
 use Rattle.wt_fitting.specs.Unsourced.{unsourced}
-use Rattle.wt_selser.specs.Children.{listed, shown_children}
+use Rattle.wt_shown.specs.Children.{listed, shown_children}
 
 -- ---- from children to plain views
 

@@ -12,12 +12,12 @@ use Rattle.wt_expand.specs.Work.{Pages}
 use Rattle.wt_page_round_trip.specs.PageTree.{page_tree}
 use Rattle.wt_page_round_trip.proofs.Pages.{page_written, page_is_read}
 use Rattle.wt_page_round_trip.proofs.PageTrees.{page_numbered}
-use Rattle.wt_selser.specs.Children.{shown_children, differing}
+use Rattle.wt_shown.specs.Children.{shown_children, differing}
 use Rattle.wt_selser.specs.Edits.{most_bytes, edit_answer}
-use Rattle.wt_selser.specs.Restored.{restored_from}
-use Rattle.wt_selser.specs.SameNodes.{same_node}
+use Rattle.wt_shown.specs.Restored.{restored_from}
+use Rattle.wt_shown.specs.SameNodes.{same_node}
 use Rattle.wt_selser.proofs.Answering.{unmarked_stands}
-use Rattle.wt_selser.proofs.DifferingLaws.{differing_is}
+use Rattle.wt_shown.proofs.DifferingLaws.{differing_is}
 use Rattle.wt_pagetool.specs.declared.command.Command.TheVariants.{Edit}
 use Rattle.wt_pagetool.specs.declared.command.PageCommand.TheVariants.{Html}
 use Rattle.wt_pagetool.specs.declared.output.Output.{Output}

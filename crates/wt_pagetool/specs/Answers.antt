@@ -13,10 +13,10 @@ use Rattle.wt_expand.specs.PageCalls.{expanded_page}
 use Rattle.wt_fitting.specs.Read.{Read, page as as_page, ill, misfit, read}
 use Rattle.wt_page_round_trip.specs.PageTree.{page_tree}
 use Rattle.wt_selser.specs.declared.refusal.EditRefusal.{EditRefusal}
-use Rattle.wt_selser.specs.Children.{shown_children, differing}
+use Rattle.wt_shown.specs.Children.{shown_children, differing}
 use Rattle.wt_selser.specs.Edits.{edit_answer}
-use Rattle.wt_selser.specs.Restored.{restored_from}
-use Rattle.wt_selser.specs.SameNodes.{same_node}
+use Rattle.wt_shown.specs.Restored.{restored_from}
+use Rattle.wt_shown.specs.SameNodes.{same_node}
 use Rattle.wt_pagetool.specs.declared.limits.TheConstants.{PAGE_BYTES, HTML_BYTES}
 use Rattle.wt_pagetool.specs.declared.status.Status.{Status}
 use Rattle.wt_pagetool.specs.declared.status.Status.TheVariants.{Done}

@@ -9,8 +9,8 @@ use Rattle.wt_checks.specs.declared.refusal.Check.{Check}
 use Rattle.wt_checks.specs.declared.refusal.Check.TheVariants as check
 use Rattle.wt_selser.specs.declared.refusal.EditRefusal.{EditRefusal}
 use Rattle.wt_selser.specs.declared.refusal.EditRefusal.TheVariants as of_edit
-use Rattle.wt_selser.specs.declared.refusal.ContentWhy.{ContentWhy}
-use Rattle.wt_selser.specs.declared.refusal.ContentWhy.TheVariants as bad
+use Rattle.wt_content.specs.declared.reason.ContentWhy.{ContentWhy}
+use Rattle.wt_content.specs.declared.reason.ContentWhy.TheVariants as bad
 use Rattle.wt_pagetool.specs.declared.status.Status.{Status}
 use Rattle.wt_pagetool.specs.declared.status.Status.TheVariants as status
 use Rattle.wt_pagetool.specs.declared.refusal.Refusal.{Refusal}

@@ -8,7 +8,7 @@ use Rattle.wt_tree.specs.Tree.{Tree}
 use Rattle.wt_tree.specs.Plain.{plain}
 use Rattle.wt_tree.specs.Source.{flat}
 use Rattle.wt_tree.specs.Tiling.{Tiled, Covers, InPreorder}
-use Rattle.wt_ranges.specs.Reached.{AreReachedSlices}
+use Rattle.wt_annotated.specs.Reached.{AreReachedSlices}
 use Rattle.wt_fitting.specs.Read.{page as as_page, read}
 use Rattle.wt_markup.specs.Html.{html_text}
 use Rattle.wt_page_round_trip.specs.PageTree.{page_tree}
@@ -16,8 +16,8 @@ use Rattle.wt_checks.specs.Checked.{checked}
 use Rattle.wt_selser.specs.Changes.{marked, changes}
 use Rattle.wt_selser.specs.declared.refusal.EditRefusal.{EditRefusal}
 use Rattle.wt_selser.specs.Edits.{edit_answer}
-use Rattle.wt_selser.specs.Restored.{restored_from}
-use Rattle.wt_selser.specs.SameNodes.{same_node}
+use Rattle.wt_shown.specs.Restored.{restored_from}
+use Rattle.wt_shown.specs.SameNodes.{same_node}
 use Rattle.wt_selser.specs.Splice.{spliced, OutsideStands}
 use Rattle.wt_pagetool.specs.declared.limits.TheConstants.{HTML_BYTES}
 use Rattle.wt_pagetool.specs.declared.status.Status.{Status}

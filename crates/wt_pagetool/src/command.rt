@@ -7,7 +7,7 @@ use wt_names::{Title, full_name, read_title};
 use wt_span::{List, NoMemory, Str};
 
 /// What is written of a page.
-#[derive(Clone, Copy, Debug, PartialEq, Eq)]
+#[derive(Clone, Copy)]
 pub enum PageCommand {
     /// Its HTML.
     Html,
@@ -16,7 +16,7 @@ pub enum PageCommand {
 }
 
 /// What the words of a call ask for.
-#[derive(Debug, Drop)]
+#[derive(Drop)]
 pub enum Command {
     /// What is written of the page of this full name.
     Page(PageCommand, Str),
@@ -55,7 +55,8 @@ fn page_name(alloc: Global, word: &str) -> Result<Option<Str>, NoMemory>
 }
 
 fn of_page(alloc: Global, command: PageCommand, title: &str) -> Result<Option<Command>, NoMemory>
-    ensures { IfOk result (λ found. found ≡ option_map (λ name. Command.Page command name) (page_name title.now)) }
+    ensures { IfOk result (λ found. found ≡ option_map
+        (λ name. Command.Page command name) (page_name title.now)) }
 {
     match page_name(alloc, title)? {
         Some(name) => Ok(Some(Command::Page(command, name))),

@@ -12,7 +12,9 @@ ghost use Rattle.wt_html_in.specs.Feeding.{IsFed};
 ghost use Rattle.wt_outer.specs.Device.{Rose};
 ghost use Rattle.wt_page_round_trip.specs.PageTree.{page_tree};
 ghost use Rattle.wt_selser.specs.Edits.{edit_answer};
-ghost use Rattle.wt_selser.specs.SameNodes.{same_node};
+ghost use Rattle.wt_shown.specs.Children.{IsFirstDiffering, shown_children};
+ghost use Rattle.wt_shown.specs.Restored.{restored_from};
+ghost use Rattle.wt_shown.specs.SameNodes.{same_node};
 ghost use Rattle.wt_tree.specs.Tiling.{InPreorder};
 ghost use Rattle.wt_tree.specs.Tree.{label};
 ghost use Rattle.wt_tree.specs.View.{view};
@@ -34,7 +36,9 @@ use std::alloc::Global;
 use wt_html_in::Reader;
 use wt_levels::Expansion;
 use wt_outer::{Folder, Source};
+use wt_ranges::Annotated;
 use wt_selser::{edit, first_differing};
+use wt_span::NoMemory;
 use wt_transclusion::ExpandRefusal;
 use wt_tree::Node;
 
@@ -52,6 +56,22 @@ fn new_refusal(refusal: ExpandRefusal) -> Refusal
     }
 }
 
+/// The number, from 1, of the first child in which what was found of the new page differs from what the edited
+/// tree shows, where groups are those of the page; or None.
+fn differing_child<'a>(
+    alloc: Global,
+    found: KnownPage<'a>,
+    tree: &Node<'a>,
+    edited: &Node<'a>,
+) -> Result<Option<u32>, NoMemory>
+    requires body { (label (view tree.now)).kind ≡ kind.Body }
+    requires numbered { ∥ InPreorder (view tree.now) ∥₁ }
+    ensures { IfOk result (IsFirstDiffering (shown_children (view found.entry.annotated.tree.body))
+        (shown_children (restored_from (view tree.now) (view edited.now)))) }
+{
+    first_differing(alloc, found.annotated.body(), tree, edited)
+}
+
 /// Refuses a new page that doesn't show what the edited tree shows, where groups are those of the page. What the
 /// expansion of the page knows isn't fetched again.
 fn check_meaning<'a, F: Folder>(
@@ -66,20 +86,26 @@ fn check_meaning<'a, F: Folder>(
     requires body { (label (view tree.now)).kind ≡ kind.Body }
     requires numbered { ∥ InPreorder (view tree.now) ∥₁ }
     requires known { HoldsPages expansion }
-    ensures meant { (pages : Pages) (met : List (List ℕ)) → F.pages folder.old ≡ Some pages → IsFree pages met expansion.entry
-        → OnOk result (new_answer pages (view tree.now) (view edited.now) new_page.entry.now ≡ done new_page.entry.now) }
-    ensures refused { (pages : Pages) (met : List (List ℕ)) → F.pages folder.old ≡ Some pages → IsFree pages met expansion.entry
-        → IfErr result (λ r. Refuses r (new_answer pages (view tree.now) (view edited.now) new_page.entry.now)) }
-    ensures named { (pages : Pages) (met : List (List ℕ)) → F.pages folder.old ≡ Some pages → IsFree pages met expansion.entry
+    ensures meant { (pages : Pages) (met : List (List ℕ)) → F.pages folder.old ≡ Some pages
+        → IsFree pages met expansion.entry
+        → OnOk result (new_answer pages (view tree.now) (view edited.now) new_page.entry.now
+        ≡ done new_page.entry.now) }
+    ensures refused { (pages : Pages) (met : List (List ℕ)) → F.pages folder.old ≡ Some pages
+        → IsFree pages met expansion.entry
+        → IfErr result (λ r. Refuses r
+        (new_answer pages (view tree.now) (view edited.now) new_page.entry.now)) }
+    ensures named { (pages : Pages) (met : List (List ℕ)) → F.pages folder.old ≡ Some pages
+        → IsFree pages met expansion.entry
         → OnOk result (F.answered folder.new
-        ≡ option_map (λ ns. ns ++ firsts_after met (fetches (page_work pages new_page.entry.now))) (F.answered folder.old)) }
+        ≡ option_map (λ ns. ns ++ firsts_after met (fetches (page_work pages new_page.entry.now)))
+        (F.answered folder.old)) }
     ensures of_edit { IfErr result (IsOfEdit ⊥ (Rose (F.fault_count folder.old) (F.fault_count folder.new))) }
     ensures count { IsKept result (F.fault_count folder.old) (F.fault_count folder.new) }
     ensures kept { F.pages folder.new ≡ F.pages folder.old }
 {
     let text = text_of_page(new_page)?;
     match known_page(alloc, text, arena, folder, expansion) {
-        Ok(found) => match first_differing(alloc, found.annotated.body(), tree, edited)? {
+        Ok(found) => match differing_child(alloc, found, tree, edited)? {
             Some(child) => Err(Refusal::Unspelled(child)),
             None => Ok(()),
         },
@@ -87,31 +113,32 @@ fn check_meaning<'a, F: Folder>(
     }
 }
 
-/// The new page of a page that was expanded, by the tree to which it was edited.
+/// The new page of a page that was expanded to this tree, by the tree to which it was edited.
 fn new_page<'a, F: Folder>(
     alloc: Global,
     page: &str,
-    found: KnownPage<'a>,
+    annotated: &Annotated<'a>,
+    expansion: Expansion<'a>,
     edited: &Node<'a>,
     arena: &'a Bump<Global>,
     folder: &mut F,
 ) -> Result<Output, Refusal>
-    requires body { (label (view found.annotated.tree.body)).kind ≡ kind.Body }
-    requires known { HoldsPages found.expansion }
-    ensures answered { (pages : Pages) (met : List (List ℕ)) → F.pages folder.old ≡ Some pages → IsFree pages met found.entry.expansion
-        → Answered (edit_by pages (view found.entry.annotated.tree.body) (view edited.now)
-        (edit_answer same_node found.entry.annotated.items page.now (view found.entry.annotated.tree.body) (view edited.now))) result }
-    ensures named { (pages : Pages) (met : List (List ℕ)) → F.pages folder.old ≡ Some pages → IsFree pages met found.entry.expansion
+    requires body { (label (view annotated.now.tree.body)).kind ≡ kind.Body }
+    requires known { HoldsPages expansion }
+    ensures answered { (pages : Pages) (met : List (List ℕ)) → F.pages folder.old ≡ Some pages
+        → IsFree pages met expansion.entry
+        → Answered (edit_by pages (view annotated.now.tree.body) (view edited.now)
+        (edit_answer same_node annotated.now.items page.now (view annotated.now.tree.body)
+        (view edited.now))) result }
+    ensures named { (pages : Pages) (met : List (List ℕ)) → F.pages folder.old ≡ Some pages
+        → IsFree pages met expansion.entry
         → IfOk result (λ output. F.answered folder.new
-        ≡ option_map (λ ns. ns ++ firsts_after met (fetches (page_work pages (output_bytes output)))) (F.answered folder.old)) }
+        ≡ option_map (λ ns. ns ++ firsts_after met (fetches (page_work pages (output_bytes output))))
+        (F.answered folder.old)) }
     ensures of_edit { IfErr result (IsOfEdit ⊥ (Rose (F.fault_count folder.old) (F.fault_count folder.new))) }
     ensures count { IsKept result (F.fault_count folder.old) (F.fault_count folder.new) }
     ensures kept { F.pages folder.new ≡ F.pages folder.old }
 {
-    let KnownPage {
-        annotated,
-        expansion,
-    } = found;
     let tree = annotated.body();
     let changed = edit(alloc, annotated.items(), page, tree, edited)?;
     let text = arena.try_alloc_str(changed.as_str())?;
@@ -136,16 +163,22 @@ fn edit_to<'a, F: Folder>(
     folder: &mut F,
 ) -> Result<Output, Refusal>
     requires room { length page.now ≤ PAGE_BYTES }
-    ensures answered { (pages : Pages) → F.pages folder.old ≡ Some pages → Answered (edit_to pages page.now (view edited.now)) result }
+    ensures answered { (pages : Pages) → F.pages folder.old ≡ Some pages
+        → Answered (edit_to pages page.now (view edited.now)) result }
     ensures named { (pages : Pages) → F.pages folder.old ≡ Some pages
-        → IfOk result (λ output. AsksForBoth pages page.now (output_bytes output) (F.answered folder.old) (F.answered folder.new)) }
+        → IfOk result (λ output. AsksForBoth pages page.now (output_bytes output) (F.answered folder.old)
+        (F.answered folder.new)) }
     ensures of_edit { IfErr result (IsOfEdit ⊥ (Rose (F.fault_count folder.old) (F.fault_count folder.new))) }
     ensures count { IsKept result (F.fault_count folder.old) (F.fault_count folder.new) }
     ensures kept { F.pages folder.new ≡ F.pages folder.old }
 {
     let expansion = Expansion::new(alloc, arena);
     let found = known_page(alloc, page, arena, folder, expansion)?;
-    new_page(alloc, page, found, edited, arena, folder)
+    let KnownPage {
+        annotated,
+        expansion,
+    } = found;
+    new_page(alloc, page, &annotated, expansion, edited, arena, folder)
 }
 
 /// The new page of a page that is text, by the HTML that was fed.
@@ -157,10 +190,12 @@ fn edit_of_read<'a, F: Folder>(
     folder: &mut F,
 ) -> Result<Output, Refusal>
     requires room { length page.now ≤ PAGE_BYTES }
-    ensures answered { (pages : Pages) (bytes : List ℕ) → F.pages folder.old ≡ Some pages → IsFed reader.entry bytes
+    ensures answered { (pages : Pages) (bytes : List ℕ) → F.pages folder.old ≡ Some pages
+        → IsFed reader.entry bytes
         → Answered (edited_answer pages page.now (read bytes)) result }
     ensures named { (pages : Pages) → F.pages folder.old ≡ Some pages
-        → IfOk result (λ output. AsksForBoth pages page.now (output_bytes output) (F.answered folder.old) (F.answered folder.new)) }
+        → IfOk result (λ output. AsksForBoth pages page.now (output_bytes output) (F.answered folder.old)
+        (F.answered folder.new)) }
     ensures of_edit { IfErr result (IsOfEdit ⊥ (Rose (F.fault_count folder.old) (F.fault_count folder.new))) }
     ensures count { IsKept result (F.fault_count folder.old) (F.fault_count folder.new) }
     ensures kept { F.pages folder.new ≡ F.pages folder.old }
@@ -180,7 +215,8 @@ fn edit_of_text<S: Source, F: Folder>(
     ensures answered { (pages : Pages) → F.pages folder.old ≡ Some pages → IfSome (S.left input.old)
         (λ bytes. Answered (input_answer (edited_answer pages page.now) bytes) result) }
     ensures named { (pages : Pages) → F.pages folder.old ≡ Some pages
-        → IfOk result (λ output. AsksForBoth pages page.now (output_bytes output) (F.answered folder.old) (F.answered folder.new)) }
+        → IfOk result (λ output. AsksForBoth pages page.now (output_bytes output) (F.answered folder.old)
+        (F.answered folder.new)) }
     ensures of_edit { IfErr result (IsOfEdit (Rose (S.fault_count input.old) (S.fault_count input.new))
         (Rose (F.fault_count folder.old) (F.fault_count folder.new))) }
     ensures ended { OnOk result (IsAtEnd (S.left input.new)) }
@@ -200,9 +236,11 @@ pub fn edited_page<S: Source, F: Folder>(
     input: &mut S,
     folder: &mut F,
 ) -> Result<Output, Refusal>
-    ensures answered { IfSome (edit_told (F.pages folder.old) (S.left input.old) title.now) (λ a. Answered a result) }
+    ensures answered { IfSome (edit_told (F.pages folder.old) (S.left input.old) title.now)
+        (λ a. Answered a result) }
     ensures named { IfSome (F.pages folder.old) (λ pages. IfSome (pages title.now) (λ page. IfOk result
-        (λ output. AnswersEdit (fetched_from F.Folder folder.old folder.new) pages title.now page (output_bytes output)))) }
+        (λ output. AnswersEdit (fetched_from F.Folder folder.old folder.new) pages title.now page
+        (output_bytes output)))) }
     ensures of_edit { IfErr result (IsOfEdit (Rose (S.fault_count input.old) (S.fault_count input.new))
         (Rose (F.fault_count folder.old) (F.fault_count folder.new))) }
     ensures ended { OnOk result (IsAtEnd (S.left input.new)) }

@@ -18,7 +18,8 @@ use wt_outer::Folder;
 /// What a page that is text shows with its templates expanded.
 fn output_of_text<F: Folder>(alloc: Global, page: &str, folder: &mut F) -> Result<Output, Refusal>
     requires room { length page.now ≤ PAGE_BYTES }
-    ensures answered { (pages : Pages) → F.pages folder.old ≡ Some pages → Answered (expansion_of pages page.now) result }
+    ensures answered { (pages : Pages) → F.pages folder.old ≡ Some pages
+        → Answered (expansion_of pages page.now) result }
     ensures of_title { IfErr result (IsOfTitle (F.fault_count folder.old) (F.fault_count folder.new)) }
     ensures count { IsKept result (F.fault_count folder.old) (F.fault_count folder.new) }
     ensures kept { F.pages folder.new ≡ F.pages folder.old }
@@ -43,7 +44,8 @@ pub fn expansion_of_title<F: Folder>(
     ensures count { IsKept result (F.fault_count folder.old) (F.fault_count folder.new) }
     ensures kept { F.pages folder.new ≡ F.pages folder.old }
     ensures named { IfSome (F.pages folder.old) (λ pages. IfSome (pages title.now)
-        (λ page. OnOk result (AnswersExpansion (fetched_from F.Folder folder.old folder.new) pages title.now page))) }
+        (λ page. OnOk result (AnswersExpansion
+        (fetched_from F.Folder folder.old folder.new) pages title.now page))) }
 {
     let page = fetched_page(alloc, title, folder)?;
     let text = text_of_page(page.as_slice())?;

@@ -41,19 +41,25 @@ pub fn known_page<'a, F: Folder>(
 ) -> Result<KnownPage<'a>, ExpandRefusal>
     requires room { length page.now ≤ PAGE_BYTES }
     requires known { HoldsPages expansion }
-    ensures tree { (pages : Pages) (met : List (List ℕ)) → F.pages folder.old ≡ Some pages → IsFree pages met expansion.entry
+    ensures tree { (pages : Pages) (met : List (List ℕ)) → F.pages folder.old ≡ Some pages
+        → IsFree pages met expansion.entry
         → IfOk result (λ found. view found.annotated.tree.body ≡ page_tree pages page.entry.now) }
-    ensures items { (pages : Pages) (met : List (List ℕ)) → F.pages folder.old ≡ Some pages → IsFree pages met expansion.entry
+    ensures items { (pages : Pages) (met : List (List ℕ)) → F.pages folder.old ≡ Some pages
+        → IsFree pages met expansion.entry
         → IfOk result (λ found. found.annotated.items ≡ expanded_page pages page.entry.now) }
-    ensures refused { (pages : Pages) (met : List (List ℕ)) → F.pages folder.old ≡ Some pages → IsFree pages met expansion.entry
+    ensures refused { (pages : Pages) (met : List (List ℕ)) → F.pages folder.old ≡ Some pages
+        → IsFree pages met expansion.entry
         → IfErr result (IsRefused (refusal_of_page pages page.entry.now)) }
-    ensures whole { (pages : Pages) (met : List (List ℕ)) → F.pages folder.old ≡ Some pages → IsFree pages met expansion.entry
+    ensures whole { (pages : Pages) (met : List (List ℕ)) → F.pages folder.old ≡ Some pages
+        → IsFree pages met expansion.entry
         → OnOk result (refusal_of_page pages page.entry.now ≡ None) }
-    ensures named { (pages : Pages) (met : List (List ℕ)) → F.pages folder.old ≡ Some pages → IsFree pages met expansion.entry
+    ensures named { (pages : Pages) (met : List (List ℕ)) → F.pages folder.old ≡ Some pages
+        → IsFree pages met expansion.entry
         → IfOk result (λ found. KnowsMore pages met (page_work pages page.entry.now) found.expansion
         (F.answered folder.old) (F.answered folder.new)) }
     ensures known { IfOk result (λ found. HoldsPages found.expansion) }
-    ensures some { IfOk result (λ found. (pages : Pages) × (view found.annotated.tree.body ≡ page_tree pages page.entry.now)) }
+    ensures some { IfOk result
+        (λ found. (pages : Pages) × (view found.annotated.tree.body ≡ page_tree pages page.entry.now)) }
     ensures count { IsCounted (F.fault_count folder.old) (F.fault_count folder.new) result }
     ensures kept { F.pages folder.new ≡ F.pages folder.old }
 {

@@ -4,7 +4,7 @@ ghost use Rattle.wt_pagetool.specs.Outputs.{output_bytes};
 use wt_span::{List, Str};
 
 /// An answer: what goes to standard output.
-#[derive(Debug, Drop)]
+#[derive(Drop)]
 pub enum Output {
     /// Bytes, as the writers of HTML and of listings give them.
     Bytes(List<u8>),

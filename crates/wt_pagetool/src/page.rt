@@ -43,16 +43,21 @@ pub fn annotated_of_text<'a, F: Folder>(
     folder: &mut F,
 ) -> Result<Annotated<'a>, Refusal>
     requires room { length page.now ≤ PAGE_BYTES }
-    ensures tree { (pages : Pages) → F.pages folder.old ≡ Some pages → IfOk result (λ a. view a.tree.body ≡ page_tree pages page.entry.now) }
-    ensures items { (pages : Pages) → F.pages folder.old ≡ Some pages → IfOk result (λ a. a.items ≡ expanded_page pages page.entry.now) }
-    ensures refused { (pages : Pages) → F.pages folder.old ≡ Some pages → IfErr result (RefusesExpansion (refusal_of_page pages page.entry.now)) }
+    ensures tree { (pages : Pages) → F.pages folder.old ≡ Some pages
+        → IfOk result (λ a. view a.tree.body ≡ page_tree pages page.entry.now) }
+    ensures items { (pages : Pages) → F.pages folder.old ≡ Some pages
+        → IfOk result (λ a. a.items ≡ expanded_page pages page.entry.now) }
+    ensures refused { (pages : Pages) → F.pages folder.old ≡ Some pages
+        → IfErr result (RefusesExpansion (refusal_of_page pages page.entry.now)) }
     ensures of_title { IfErr result (IsOfTitle (F.fault_count folder.old) (F.fault_count folder.new)) }
     ensures count { IsKept result (F.fault_count folder.old) (F.fault_count folder.new) }
     ensures kept { F.pages folder.new ≡ F.pages folder.old }
-    ensures whole { (pages : Pages) → F.pages folder.old ≡ Some pages → OnOk result (refusal_of_page pages page.entry.now ≡ None) }
+    ensures whole { (pages : Pages) → F.pages folder.old ≡ Some pages
+        → OnOk result (refusal_of_page pages page.entry.now ≡ None) }
     ensures named { (pages : Pages) → F.pages folder.old ≡ Some pages
         → OnOk result (F.answered folder.new
-        ≡ option_map (λ names. names ++ names_asked (page_work pages page.entry.now)) (F.answered folder.old)) }
+        ≡ option_map (λ names. names ++ names_asked (page_work pages page.entry.now))
+        (F.answered folder.old)) }
 {
     let items = expand(alloc, page, arena, folder)?;
     let tree = annotated_of_items(alloc, items)?;
@@ -68,15 +73,19 @@ pub fn tree_of_text<'a, F: Folder>(
     folder: &mut F,
 ) -> Result<Tree<'a>, Refusal>
     requires room { length page.now ≤ PAGE_BYTES }
-    ensures tree { (pages : Pages) → F.pages folder.old ≡ Some pages → IfOk result (λ tree. view tree.body ≡ page_tree pages page.entry.now) }
-    ensures refused { (pages : Pages) → F.pages folder.old ≡ Some pages → IfErr result (RefusesExpansion (refusal_of_page pages page.entry.now)) }
+    ensures tree { (pages : Pages) → F.pages folder.old ≡ Some pages
+        → IfOk result (λ tree. view tree.body ≡ page_tree pages page.entry.now) }
+    ensures refused { (pages : Pages) → F.pages folder.old ≡ Some pages
+        → IfErr result (RefusesExpansion (refusal_of_page pages page.entry.now)) }
     ensures of_title { IfErr result (IsOfTitle (F.fault_count folder.old) (F.fault_count folder.new)) }
     ensures count { IsKept result (F.fault_count folder.old) (F.fault_count folder.new) }
     ensures kept { F.pages folder.new ≡ F.pages folder.old }
-    ensures whole { (pages : Pages) → F.pages folder.old ≡ Some pages → OnOk result (refusal_of_page pages page.entry.now ≡ None) }
+    ensures whole { (pages : Pages) → F.pages folder.old ≡ Some pages
+        → OnOk result (refusal_of_page pages page.entry.now ≡ None) }
     ensures named { (pages : Pages) → F.pages folder.old ≡ Some pages
         → OnOk result (F.answered folder.new
-        ≡ option_map (λ names. names ++ names_asked (page_work pages page.entry.now)) (F.answered folder.old)) }
+        ≡ option_map (λ names. names ++ names_asked (page_work pages page.entry.now))
+        (F.answered folder.old)) }
 {
     let annotated = annotated_of_text(alloc, page, arena, folder)?;
     Ok(annotated.into_tree())

@@ -56,7 +56,8 @@ fn output_of_text<F: Folder>(
     folder: &mut F,
 ) -> Result<Output, Refusal>
     requires room { length page.now ≤ PAGE_BYTES }
-    ensures answered { (pages : Pages) → F.pages folder.old ≡ Some pages → Answered (made command pages page.now) result }
+    ensures answered { (pages : Pages) → F.pages folder.old ≡ Some pages
+        → Answered (made command pages page.now) result }
     ensures of_title { IfErr result (IsOfTitle (F.fault_count folder.old) (F.fault_count folder.new)) }
     ensures count { IsKept result (F.fault_count folder.old) (F.fault_count folder.new) }
     ensures kept { F.pages folder.new ≡ F.pages folder.old }
@@ -82,7 +83,8 @@ pub fn output_of_title<F: Folder>(
     ensures count { IsKept result (F.fault_count folder.old) (F.fault_count folder.new) }
     ensures kept { F.pages folder.new ≡ F.pages folder.old }
     ensures named { IfSome (F.pages folder.old) (λ pages. IfSome (pages title.now)
-        (λ page. OnOk result (AnswersExpansion (fetched_from F.Folder folder.old folder.new) pages title.now page))) }
+        (λ page. OnOk result (AnswersExpansion
+        (fetched_from F.Folder folder.old folder.new) pages title.now page))) }
 {
     let page = fetched_page(alloc, title, folder)?;
     let text = text_of_page(page.as_slice())?;

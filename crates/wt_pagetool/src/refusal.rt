@@ -13,7 +13,7 @@ use wt_transclusion::ExpandRefusal;
 
 /// Why a call gives no answer. Places are bytes of the page, or of the input for `Html`; elements are
 /// counted from 1 in document order.
-#[derive(Debug, Drop)]
+#[derive(Drop)]
 pub enum Refusal {
     /// The words are none of a command.
     Usage,

@@ -47,10 +47,12 @@ fn find_answer<S: Source, F: Folder>(
         → AnswersNames (fetched_from F.Folder folder.old folder.new) (titles_of (command_of words.now)) }
     ensures named { (title : List ℕ) → Shows title (command_of words.now)
         → IfSome (F.pages folder.old) (λ pages. IfSome (pages title)
-        (λ page. OnOk result (AnswersExpansion (fetched_from F.Folder folder.old folder.new) pages title page))) }
+        (λ page. OnOk result (AnswersExpansion
+        (fetched_from F.Folder folder.old folder.new) pages title page))) }
     ensures edited { (title : List ℕ) → Edits title (command_of words.now)
         → IfSome (F.pages folder.old) (λ pages. IfSome (pages title) (λ page. IfOk result
-        (λ output. AnswersEdit (fetched_from F.Folder folder.old folder.new) pages title page (output_bytes output)))) }
+        (λ output. AnswersEdit (fetched_from F.Folder folder.old folder.new) pages title page
+        (output_bytes output)))) }
     ensures kept { F.pages folder.new ≡ F.pages folder.old }
     ensures unread { ¬ Reads (command_of words.now) → input.new ≡ input.old }
     ensures unasked { ¬ Fetches (command_of words.now) → folder.new ≡ folder.old }
@@ -113,28 +115,33 @@ pub fn run<S: Source, F: Folder, W: Sink, E: Sink>(
         (λ bytes. WroteSource bytes (S.left input.new) (W.taken out.old) (W.taken out.new)) }
 
     // `edit`, when it is done, read the input to its end and wrote the new page: the page with the inside of
-    // each marked node, and nothing else, written anew; every byte outside these insides stands in the new page, in
-    // its order. The plain view of the new page's tree is that of the edited tree, in which a kept group is what the
-    // page's group of its number holds. The folder answered the page's title and then the names of the pages that are
-    // fetched for the page and for the new page, each once, in the order of their first fetch.
-    ensures edit { (title : List ℕ) → command_of words.now ≡ Some (Command.Edit title) → result ≡ code Status.Done
-        → IfSome (F.pages folder.old) (λ pages. IfSome (S.left input.old) (λ bytes. WroteEdit pages title bytes
-        (fetched_from F.Folder folder.old folder.new) (S.left input.new) (W.taken out.old) (W.taken out.new))) }
+    // each marked node, and nothing else, written anew; every byte outside these insides stands in the new
+    // page, in its order. The plain view of the new page's tree is that of the edited tree, in which a kept
+    // group is what the page's group of its number holds. The folder answered the page's title and then the
+    // names of the pages that are fetched for the page and for the new page, each once, in the order of their
+    // first fetch.
+    ensures edit { (title : List ℕ) → command_of words.now ≡ Some (Command.Edit title)
+        → result ≡ code Status.Done
+        → IfSome (F.pages folder.old) (λ pages. IfSome (S.left input.old)
+        (λ bytes. WroteEdit pages title bytes (fetched_from F.Folder folder.old folder.new)
+        (S.left input.new) (W.taken out.old) (W.taken out.new))) }
 
     // `gen`, when it is done, wrote the line of the page that is made with so many sections: how many bytes
     // it has, how many of its nodes have numbers, how many groups it has, and how many bytes come back from
     // its HTML, which are all of its own.
-    ensures counted { (count : ℕ) → command_of words.now ≡ Some (Command.Gen count) → result ≡ code Status.Done
+    ensures counted { (count : ℕ) → command_of words.now ≡ Some (Command.Gen count)
+        → result ≡ code Status.Done
         → WroteCounts count (W.taken out.old) (W.taken out.new) }
 
     // Where the input is the HTML that `html` answers for a page, over whatever folder, `wikitext` wrote
     // this very page; or a device failed, or memory ran out.
     ensures gives_back { command_of words.now ≡ Some Command.Wikitext
-        → IfSome (S.left input.old) (λ bytes. (pages : Pages) → (page : List ℕ) → html_answer pages (Some page) ≡ done bytes
+        → IfSome (S.left input.old)
+        (λ bytes. (pages : Pages) → (page : List ℕ) → html_answer pages (Some page) ≡ done bytes
         → GaveBack page result (W.taken out.old) (W.taken out.new)) }
 
-    // Where the input is the HTML that `html` answers for the page under the title, unchanged, `edit` wrote this
-    // very page; or a device failed, or memory ran out.
+    // Where the input is the HTML that `html` answers for the page under the title, unchanged, `edit` wrote
+    // this very page; or a device failed, or memory ran out.
     ensures changes_nothing { (title : List ℕ) → command_of words.now ≡ Some (Command.Edit title)
         → IfSome (F.pages folder.old) (λ pages. IfSome (S.left input.old)
         (λ bytes. (page : List ℕ) → pages title ≡ Some page → html_answer pages (Some page) ≡ done bytes

@@ -84,7 +84,8 @@ fn source_of(alloc: Global, edited: &Edited<'_>) -> Result<Output, Refusal>
 
 /// The source of the page for which the bytes stand that were fed.
 fn source_of_read(alloc: Global, reader: Reader<'_>) -> Result<Output, Refusal>
-    ensures answered { (bytes : List ℕ) → IsFed reader.entry bytes → Answered (source_answer (read bytes)) result }
+    ensures answered { (bytes : List ℕ) → IsFed reader.entry bytes
+        → Answered (source_answer (read bytes)) result }
     ensures of_html { IfErr result IsOfHtml }
 {
     let edited = reader.finish()?;

@@ -10,12 +10,12 @@ use Rattle.wt_span.specs.Origins.{OuterCall}
 use Rattle.wt_span.specs.Slice.{bytes_of}
 use Rattle.wt_ranges.specs.declared.carried.Found.{Found}
 use Rattle.wt_ranges.specs.DataSoFar.{begins_at, TextFound, CallFound, all_parts, nothing_found, Continues}
-use Rattle.wt_ranges.specs.GroupData.{call_parts, next_number, data_parts, group_data, literal_if_any}
-use Rattle.wt_ranges.specs.GroupParts.{Part, called}
-use Rattle.wt_ranges.specs.Pieces.{is_hollow}
-use Rattle.wt_ranges.specs.Seams.{last_of, parted}
-use Rattle.wt_ranges.specs.Walked.{longer, slice_since, part_step, parts_from}
-use Rattle.wt_ranges.proofs.PieceWalks.{by_hollow, one_or_chars, page_parted, same_parted, last_piece, last_step, items_more}
+use Rattle.wt_annotated.specs.GroupData.{call_parts, next_number, data_parts, group_data, literal_if_any}
+use Rattle.wt_annotated.specs.GroupParts.{Part, called}
+use Rattle.wt_annotated.specs.Pieces.{is_hollow}
+use Rattle.wt_annotated.specs.Seams.{last_of, parted}
+use Rattle.wt_annotated.specs.Walked.{longer, slice_since, part_step, parts_from}
+use Rattle.wt_annotated.proofs.PieceWalks.{by_hollow, one_or_chars, page_parted, same_parted, last_piece, last_step, items_more}
 
 -- ---- one piece
 

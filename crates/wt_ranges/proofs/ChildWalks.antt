@@ -10,10 +10,10 @@ use Rattle.wt_inline.specs.declared.tree.PieceTree.{PieceTree}
 use Rattle.wt_ranges.specs.declared.child.Child.{Child}
 use Rattle.wt_ranges.specs.declared.child.Followed.{Followed}
 use Rattle.wt_ranges.specs.Children.{near_of, nears_of, children_at, tree_after, trees_after}
-use Rattle.wt_ranges.specs.GroupData.{group_data}
-use Rattle.wt_ranges.specs.Seams.{first_of, last_of, parted, text_from}
-use Rattle.wt_ranges.specs.Walked.{Near, clean_at, walked}
-use Rattle.wt_ranges.proofs.Seams.{first_append, text_append_from}
+use Rattle.wt_annotated.specs.GroupData.{group_data}
+use Rattle.wt_annotated.specs.Seams.{first_of, last_of, parted, text_from}
+use Rattle.wt_annotated.specs.Walked.{Near, clean_at, walked}
+use Rattle.wt_annotated.proofs.Seams.{first_append, text_append_from}
 
 abbrev pub Pair : Type 0
 Pair = ItemTree × Option ℕ

@@ -9,10 +9,10 @@ use Rattle.wt_inline.specs.declared.tree.PieceTree.{PieceTree}
 use Rattle.wt_ranges.specs.declared.child.Child.{Child}
 use Rattle.wt_ranges.specs.declared.group_node.Start.{Start}
 use Rattle.wt_ranges.specs.Children.{nears_of}
-use Rattle.wt_ranges.specs.GroupData.{group_data}
+use Rattle.wt_annotated.specs.GroupData.{group_data}
 use Rattle.wt_ranges.specs.Kept.{NearsFit, group_start, trees_of}
-use Rattle.wt_ranges.specs.Seams.{text_from}
-use Rattle.wt_ranges.specs.Walked.{near_nodes, group_at, near_group}
+use Rattle.wt_annotated.specs.Seams.{text_from}
+use Rattle.wt_annotated.specs.Walked.{near_nodes, group_at, near_group}
 
 nodes_are : (calls : List OuterCall) (cs : List Child) → near_nodes (nears_of calls cs) ≡ forest (item_trees (trees_of cs))
 nodes_are calls [] = refl

@@ -1,38 +1,31 @@
 -- Kept nodes and groups, made one after another.
-use Rattle.std.proofs.Common.{◌≡◌, ℕ, ◌+◌, ◌^◌, ◌<◌, ◌≤◌, Option, None, List, [], ◌∷◌, ◌++◌, length, map, refl, sym, ap, ◌∙◌, subst, arith, length-append, append_assoc, append-nil}
+use Rattle.std.proofs.Common.{◌≡◌, ℕ, ◌+◌, ◌^◌, ◌<◌, ◌≤◌, Option, List, [], ◌∷◌, ◌++◌, length, map, refl, sym, ap, ◌∙◌, subst, arith, length-append, append_assoc, append-nil}
 use Rattle.std.specs.List.{AllByRecursion, flat_map}
 use Rattle.std.proofs.lemmas.List.{map-append}
 use Rattle.wt_tree.specs.declared.node.Node.{Node}
 use Rattle.wt_tree.specs.Tree.{Tree, trees}
 use Rattle.wt_tree.specs.View.{view, views}
-use Rattle.wt_span.specs.Cuts.{page_of}
 use Rattle.wt_span.specs.Items.{Item}
 use Rattle.wt_span.specs.Origins.{OuterCall}
-use Rattle.wt_inline.specs.ItemTree.{ItemTree, inner, ItemTrees, nothing, further, forest, tree_items, held_by_all}
+use Rattle.wt_inline.specs.ItemTree.{ItemTree, ItemTrees, nothing, further, forest, tree_items, held_by_all}
 use Rattle.wt_inline.specs.View.{item_tree, item_trees}
 use Rattle.wt_inline.specs.declared.tree.PieceTree.{PieceTree, out-PieceTree}
 use Rattle.wt_ranges.specs.declared.child.Child.{Child}
 use Rattle.wt_ranges.specs.declared.kept.Frame.{Frame}
 use Rattle.wt_ranges.specs.declared.run.Run.{Run}
 use Rattle.wt_ranges.specs.Children.{near_of, nears_of, children_at}
-use Rattle.wt_ranges.specs.GroupData.{group_data}
-use Rattle.wt_ranges.specs.Kept.{Fits, NearsFit, RunFits, opened, IsFrame}
+use Rattle.wt_annotated.specs.GroupData.{group_data}
+use Rattle.wt_ranges.specs.Kept.{Fits, NearsFit, RunFits, IsFrame}
 use Rattle.wt_ranges.specs.RunTrees.{run_children, run_tree, AreRunsOf}
-use Rattle.wt_ranges.specs.Seams.{last_of, text_from}
-use Rattle.wt_ranges.specs.Walked.{Near, near_nodes, near_runs, near}
-use Rattle.wt_ranges.proofs.HeldPieces.{item_tree_out}
+use Rattle.wt_annotated.specs.Seams.{last_of, text_from}
+use Rattle.wt_annotated.specs.TreeWalk.{opened}
+use Rattle.wt_annotated.specs.Walked.{Near, near_nodes, near_runs, near}
+use Rattle.wt_annotated.proofs.HeldPieces.{item_tree_out}
 use Rattle.wt_ranges.proofs.KeptNodes.{parts_fit}
-use Rattle.wt_ranges.proofs.Seams.{last_append, text_append_from, text_is}
+use Rattle.wt_annotated.proofs.Seams.{last_append, text_append_from}
+use Rattle.wt_annotated.proofs.TreeWalks.{nodes_in, nodes_in_all}
 
 -- ---- how much is left
-
-abbrev mutual
-  pub nodes_in : ItemTree → ℕ
-  nodes_in (inner k o ts c) = 3 + nodes_in_all ts
-
-  pub nodes_in_all : ItemTrees → ℕ
-  nodes_in_all nothing = 0
-  nodes_in_all (further t ts) = nodes_in t + nodes_in_all ts
 
 abbrev pub child_nodes : List Child → ℕ
 child_nodes [] = 0
@@ -213,8 +206,3 @@ pub inside_is : (calls : List OuterCall) (ns : List Node) (rs : List Run) (cs : 
     → map view ns ≡ map (run_tree calls) rs → AreRunsOf rs cs → nears_of calls cs ≡ children_at calls o at p ts
     → views ns ≡ trees (near_runs calls (group_data calls) (children_at calls o at p ts))
 inside_is calls ns rs cs o at p ts e a n = ap trees (e ∙ a.become calls ∙ ap (near_runs calls (group_data calls)) n)
-
--- ---- the whole page
-
-pub page_is : (calls : List OuterCall) (all : List Item) → page_of calls all ≡ text_from calls None all
-page_is calls all = text_is calls all 0 all [] (sym (append-nil all))

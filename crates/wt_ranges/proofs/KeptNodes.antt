@@ -12,22 +12,22 @@ use Rattle.wt_span.specs.Origins.{OuterCall}
 use Rattle.wt_inline.specs.ItemTree.{Head, ItemTree, inner, ItemTrees, forest, tree_items, held_by_all}
 use Rattle.wt_inline.specs.View.{head_of, item_tree, item_trees}
 use Rattle.wt_inline.specs.declared.tree.PieceTree.{PieceTree, out-PieceTree}
-use Rattle.wt_ranges.specs.Labels.{leaf_open}
-use Rattle.wt_ranges.specs.WithoutCalls.{inside_by}
+use Rattle.wt_annotated.specs.Labels.{leaf_open}
+use Rattle.wt_annotated.specs.WithoutCalls.{inside_by}
 use Rattle.wt_ranges.specs.declared.child.Child.{Child}
 use Rattle.wt_ranges.specs.declared.kept.Frame.{Frame}
-use Rattle.wt_ranges.specs.declared.node.Sources.{Sources}
-use Rattle.wt_ranges.specs.declared.tree_walk.Walk.{Walk}
-use Rattle.wt_ranges.specs.Annotated.{kept_label}
+use Rattle.wt_annotated.specs.declared.node.Sources.{Sources}
+use Rattle.wt_annotated.specs.declared.tree_walk.Walk.{Walk}
+use Rattle.wt_annotated.specs.Annotated.{kept_label}
 use Rattle.wt_ranges.specs.Children.{near_of, children_at}
-use Rattle.wt_ranges.specs.GroupData.{group_data}
-use Rattle.wt_ranges.specs.Kept.{opened, filled, frame_ranges, IsFrame}
-use Rattle.wt_ranges.specs.Nodes.{node_label}
-use Rattle.wt_ranges.specs.Seams.{first_of, last_of, text_from}
-use Rattle.wt_ranges.specs.TreeWalk.{HasLasts, HasWidths}
-use Rattle.wt_ranges.specs.Walked.{near_runs, walked}
-use Rattle.wt_ranges.proofs.HeldPieces.{item_tree_out}
-use Rattle.wt_ranges.proofs.Seams.{text_append_from}
+use Rattle.wt_annotated.specs.GroupData.{group_data}
+use Rattle.wt_ranges.specs.Kept.{frame_ranges, IsFrame}
+use Rattle.wt_annotated.specs.Nodes.{node_label}
+use Rattle.wt_annotated.specs.Seams.{first_of, last_of, text_from}
+use Rattle.wt_annotated.specs.TreeWalk.{opened, filled, HasLasts, HasWidths}
+use Rattle.wt_annotated.specs.Walked.{near_runs, walked}
+use Rattle.wt_annotated.proofs.HeldPieces.{item_tree_out}
+use Rattle.wt_annotated.proofs.Seams.{text_append_from}
 
 -- ---- leaves
 

@@ -11,8 +11,8 @@ use Rattle.wt_span.proofs.RunLaws.{runs_cut}
 use Rattle.wt_ranges.specs.declared.child.Child.{Child}
 use Rattle.wt_ranges.specs.declared.run.Run.{Run}
 use Rattle.wt_ranges.specs.Children.{near_of, nears_of}
-use Rattle.wt_ranges.specs.GroupData.{group_data}
-use Rattle.wt_ranges.specs.Walked.{Near, near_tied, near_group, near_run, near_runs}
+use Rattle.wt_annotated.specs.GroupData.{group_data}
+use Rattle.wt_annotated.specs.Walked.{Near, near_tied, near_group, near_run, near_runs}
 use Rattle.wt_ranges.specs.RunTrees.{begins_run, is_alone, run_children, run_tree, IsRunOf, AreTied, CutSoFar, AreRunsOf}
 
 -- a tied list before a child that isn't tied to it, or before nothing, is a run

@@ -5,9 +5,9 @@ use Rattle.wt_inline.specs.ItemTree.{ItemTree, held_by_all, forest}
 use Rattle.wt_inline.specs.View.{item_tree}
 use Rattle.wt_ranges.specs.declared.child.Child.{Child}
 use Rattle.wt_ranges.specs.declared.child.Followed.{Followed}
-use Rattle.wt_ranges.specs.GroupData.{group_data}
-use Rattle.wt_ranges.specs.Seams.{first_of}
-use Rattle.wt_ranges.specs.Walked.{Near, walked, near}
+use Rattle.wt_annotated.specs.GroupData.{group_data}
+use Rattle.wt_annotated.specs.Seams.{first_of}
+use Rattle.wt_annotated.specs.Walked.{Near, walked, near}
 
 abbrev pub near_of : List OuterCall → Child → Near
 near_of calls c = record {

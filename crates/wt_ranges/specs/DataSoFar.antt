@@ -5,10 +5,10 @@ use Rattle.wt_span.specs.declared.form.Piece.{Piece}
 use Rattle.wt_span.specs.Items.{Item, call_of_origin}
 use Rattle.wt_span.specs.Origins.{OuterCall}
 use Rattle.wt_ranges.specs.declared.carried.Found.{Found}
-use Rattle.wt_ranges.specs.GroupData.{call_parts, data_parts, literal_if_any, next_number}
-use Rattle.wt_ranges.specs.Pieces.{is_hollow}
-use Rattle.wt_ranges.specs.Seams.{last_of, parted}
-use Rattle.wt_ranges.specs.Walked.{longer, parts_from}
+use Rattle.wt_annotated.specs.GroupData.{call_parts, data_parts, literal_if_any, next_number}
+use Rattle.wt_annotated.specs.Pieces.{is_hollow}
+use Rattle.wt_annotated.specs.Seams.{last_of, parted}
+use Rattle.wt_annotated.specs.Walked.{longer, parts_from}
 
 -- a piece that stands for items, behind a free cut
 abbrev pub begins_at : Option ℕ → Piece → Bool

@@ -1,11 +1,11 @@
 -- What a node that is kept takes from the page, and what fits below 2^32.
-use Rattle.std.specs.Prelude.{◌≡◌, ℕ, ◌+◌, ◌^◌, ◌<◌, Option, None, List, [], ◌∷◌, length, map}
+use Rattle.std.specs.Prelude.{◌≡◌, ◌+◌, ◌^◌, ◌<◌, None, List, [], ◌∷◌, length, map}
 use Rattle.wt_tree.specs.declared.kind.Ranges.{Ranges}
 use Rattle.wt_tree.specs.View.{texts_of}
 use Rattle.wt_span.specs.Items.{items}
 use Rattle.wt_span.specs.Origins.{OuterCall}
-use Rattle.wt_inline.specs.ItemTree.{forest, tree_items, held_by_all}
-use Rattle.wt_inline.specs.View.{item_tree, item_trees}
+use Rattle.wt_inline.specs.ItemTree.{tree_items, held_by_all}
+use Rattle.wt_inline.specs.View.{item_tree}
 use Rattle.wt_inline.specs.declared.tree.PieceTree.{PieceTree, out-PieceTree}
 use Rattle.wt_ranges.specs.declared.child.Child.{Child}
 use Rattle.wt_ranges.specs.declared.group_node.Start.{Start}
@@ -13,8 +13,9 @@ use Rattle.wt_ranges.specs.declared.kept.Frame.{Frame}
 use Rattle.wt_ranges.specs.declared.run.Run.{Run}
 use Rattle.wt_ranges.specs.Children.{nears_of}
 use Rattle.wt_ranges.specs.RunTrees.{run_children}
-use Rattle.wt_ranges.specs.Seams.{first_of, last_of, text_from}
-use Rattle.wt_ranges.specs.Walked.{Near, near_nodes}
+use Rattle.wt_annotated.specs.Seams.{first_of, text_from}
+use Rattle.wt_annotated.specs.TreeWalk.{opened, filled}
+use Rattle.wt_annotated.specs.Walked.{Near, near_nodes}
 
 -- a child ends below 2^32
 abbrev pub Fits : List OuterCall → Child → Type 0
@@ -28,13 +29,6 @@ NearsFit calls (c ∷ cs) =
 -- and so does a run of children
 abbrev pub RunFits : List OuterCall → Run → Type 0
 RunFits calls r = NearsFit calls (nears_of calls (run_children r))
-
--- the calls round a tree's inside
-abbrev pub opened : Option ℕ → PieceTree → Option ℕ
-opened o n = last_of o (items (out-PieceTree n).opening)
-
-abbrev pub filled : Option ℕ → PieceTree → Option ℕ
-filled o n = last_of (opened o n) (held_by_all (forest (item_trees (out-PieceTree n).children)))
 
 abbrev pub frame_ranges : List OuterCall → Child → Ranges
 frame_ranges calls c = record {

@@ -7,8 +7,8 @@ use Rattle.wt_ranges.specs.declared.child.Child.{Child}
 use Rattle.wt_ranges.specs.declared.run.Run.{Run}
 use Rattle.wt_ranges.specs.declared.run.Run.TheVariants.{Alone, Group}
 use Rattle.wt_ranges.specs.Children.{near_of, nears_of}
-use Rattle.wt_ranges.specs.GroupData.{group_data}
-use Rattle.wt_ranges.specs.Walked.{near_group, near_run, near_runs}
+use Rattle.wt_annotated.specs.GroupData.{group_data}
+use Rattle.wt_annotated.specs.Walked.{near_group, near_run, near_runs}
 
 abbrev pub is_alone : List Child → Bool
 is_alone [] = false

@@ -5,12 +5,12 @@ ghost use Rattle.wt_span.specs.Items.{items, items_of};
 ghost use Rattle.wt_span.specs.Origins.{IsSoundCall, outer_call};
 ghost use Rattle.wt_span.specs.Slice.{bytes_of};
 ghost use Rattle.wt_ranges.specs.DataSoFar.{CallFound, Continues, TextFound, begins_at};
-ghost use Rattle.wt_ranges.specs.GroupData.{call_parts, group_data, literal_if_any, next_number};
-ghost use Rattle.wt_ranges.specs.Pieces.{outer_calls};
-ghost use Rattle.wt_ranges.specs.Walked.{parts_from};
+ghost use Rattle.wt_annotated.specs.GroupData.{call_parts, group_data, literal_if_any, next_number};
+ghost use Rattle.wt_annotated.specs.Pieces.{outer_calls};
+ghost use Rattle.wt_annotated.specs.Walked.{parts_from};
 
-use crate::seam::{call_of, is_hollow, is_parted, last_of_piece};
 use std::alloc::Global;
+use wt_annotated::{call_of, is_hollow, is_parted, last_of_piece};
 use wt_call_data::call_part;
 use wt_span::{List, NoMemory, Outer, Piece, Str, Text};
 use wt_tree::{DataMw, Part};
@@ -153,7 +153,7 @@ fn with_piece<'a>(
 }
 
 /// What the element of a group carries that holds these pieces, behind an item of the call `before`.
-#[tactic(auto, unfolding(crate::specs::GroupData::group_data))]
+#[tactic(auto, unfolding(wt_annotated::specs::GroupData::group_data))]
 pub fn group_data<'a>(
     alloc: Global,
     calls: &[Outer<'a>],

@@ -7,22 +7,21 @@ ghost use Rattle.wt_tree.specs.Tree.{tree};
 ghost use Rattle.wt_tree.specs.View.{texts_of, view, views};
 ghost use Rattle.wt_inline.specs.ItemTree.{forest, held_by_all};
 ghost use Rattle.wt_inline.specs.View.{item_trees};
-ghost use Rattle.wt_ranges.specs.Annotated.{group_label};
+ghost use Rattle.wt_annotated.specs.Annotated.{group_label};
 ghost use Rattle.wt_ranges.specs.Children.{nears_of};
-ghost use Rattle.wt_ranges.specs.GroupData.{group_data};
+ghost use Rattle.wt_annotated.specs.GroupData.{group_data};
 ghost use Rattle.wt_ranges.specs.Kept.{NearsFit, group_start, trees_of};
-ghost use Rattle.wt_ranges.specs.Pieces.{outer_calls};
-ghost use Rattle.wt_ranges.specs.Seams.{text_from};
-ghost use Rattle.wt_ranges.specs.Walked.{group_at, near_group};
+ghost use Rattle.wt_annotated.specs.Pieces.{outer_calls};
+ghost use Rattle.wt_annotated.specs.Seams.{text_from};
+ghost use Rattle.wt_annotated.specs.Walked.{group_at, near_group};
 
 use crate::carried::group_data;
 use crate::child::Child;
 use crate::group_word::group_attrs;
-use crate::held::pieces_of_all;
-use crate::node::{leaf_sources, node};
-use crate::page_text::{page_texts, page_width};
-use crate::unplaced::unplaced_nodes;
 use std::alloc::Global;
+use wt_annotated::{
+    leaf_sources, page_texts, page_width, pieces_of_all, unnumbered_node, unplaced_nodes,
+};
 use wt_inline::{NodeHead, PieceTree, with_room};
 use wt_span::{List, NoMemory, Outer, Piece, Str, Text};
 use wt_tree::{DataMw, Kind, Node, Ranges};
@@ -88,7 +87,7 @@ fn group_leaf<'a>(
         close_w: 0,
     };
     let sources = leaf_sources(alloc, own);
-    Ok(node(head, Some(ranges), sources, children))
+    Ok(unnumbered_node(head, Some(ranges), sources, children))
 }
 
 /// A group of trees that begins there and holds these pieces.

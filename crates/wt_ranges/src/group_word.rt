@@ -2,13 +2,13 @@
 
 ghost use Rattle.std.specs.Prelude.{◌≡◌, IfOk};
 ghost use Rattle.wt_tree.specs.View.{attrs_of};
-ghost use Rattle.wt_ranges.specs.GroupWord.{group_attrs, group_word, part_word, parts_word};
+ghost use Rattle.wt_annotated.specs.GroupWord.{group_attrs, group_word, part_word, parts_word};
 
 use std::alloc::Global;
 use wt_span::{List, NoMemory, Str};
 use wt_tree::{Attr, AttrName, DataMw, Part};
 
-#[tactic(auto, unfolding(crate::specs::GroupWord::transclusion_word, crate::specs::GroupWord::argument_word))]
+#[tactic(auto, unfolding(wt_annotated::specs::GroupWord::transclusion_word, wt_annotated::specs::GroupWord::argument_word))]
 fn part_word(part: &Part) -> &'static str
     ensures { result.now ≡ part_word part.now }
 {
@@ -19,7 +19,7 @@ fn part_word(part: &Part) -> &'static str
     }
 }
 
-#[tactic(auto, unfolding(crate::specs::GroupWord::transclusion_word))]
+#[tactic(auto, unfolding(wt_annotated::specs::GroupWord::transclusion_word))]
 fn parts_word(parts: &[Part]) -> &'static str
     ensures { result.now ≡ parts_word parts.now }
 {
@@ -29,7 +29,7 @@ fn parts_word(parts: &[Part]) -> &'static str
     }
 }
 
-#[tactic(auto, unfolding(crate::specs::GroupWord::transclusion_word))]
+#[tactic(auto, unfolding(wt_annotated::specs::GroupWord::transclusion_word))]
 fn group_word(mw: &Option<DataMw>) -> &'static str
     ensures { result.now ≡ group_word mw.now }
 {

@@ -5,22 +5,20 @@ ghost use Rattle.wt_span.specs.Items.{items};
 ghost use Rattle.wt_tree.specs.Kinds.{is_leaf};
 ghost use Rattle.wt_tree.specs.Tree.{tree};
 ghost use Rattle.wt_tree.specs.View.{texts_of, view, views};
-ghost use Rattle.wt_ranges.specs.Labels.{leaf_open};
 ghost use Rattle.wt_inline.specs.View.{head_of};
 ghost use Rattle.wt_inline.specs.declared.tree.PieceTree.{out-PieceTree};
 ghost use Rattle.wt_ranges.specs.Children.{near_of};
 ghost use Rattle.wt_ranges.specs.Kept.{Fits, IsFrame};
-ghost use Rattle.wt_ranges.specs.Nodes.{node_label};
-ghost use Rattle.wt_ranges.specs.Pieces.{outer_calls};
-ghost use Rattle.wt_ranges.specs.Seams.{text_from};
+ghost use Rattle.wt_annotated.specs.Nodes.{node_label};
+ghost use Rattle.wt_annotated.specs.Pieces.{outer_calls};
+ghost use Rattle.wt_annotated.specs.Seams.{text_from};
 
 use crate::child::Child;
-use crate::held::own_pieces;
-use crate::node::{Sources, leaf_sources, node};
-use crate::page_text::{page_texts, page_width};
-use crate::seam::first_call;
-use crate::tree_walk::{Walk, walk_through};
 use std::alloc::Global;
+use wt_annotated::{
+    Sources, Walk, first_call, leaf_ranges, leaf_sources, own_pieces, page_texts, page_width,
+    unnumbered_node, walk_through,
+};
 use wt_inline::{NodeHead, PieceTree};
 use wt_span::{List, NoMemory, Outer};
 use wt_tree::{Kind, Node, Ranges};
@@ -34,29 +32,6 @@ pub struct Frame<'a> {
     pub before: Option<u32>,
     pub byte: u32,
     pub after: Option<u32>,
-}
-
-/// The open width of a leaf with so many bytes.
-fn leaf_open(kind: Kind, width: u32) -> u32
-    ensures { result ≡ leaf_open kind width }
-{
-    match kind {
-        Kind::Sep | Kind::Text | Kind::Group => 0,
-        _ => width,
-    }
-}
-
-/// The ranges of a leaf of so many bytes.
-pub fn leaf_ranges(kind: Kind, start: u32, width: u32) -> Ranges
-    requires { start + width < 2 ^ 32 }
-    ensures { result ≡ record { start = start; end = start + width; open_w = leaf_open kind width; close_w = 0 } }
-{
-    Ranges {
-        start,
-        end: start + width,
-        open_w: leaf_open(kind, width),
-        close_w: 0,
-    }
 }
 
 /// A leaf that is kept.
@@ -81,12 +56,12 @@ pub fn kept_leaf<'a>(
         children,
         closing,
     } = tree;
-    let held = own_pieces(opening, children.as_slice(), closing.as_slice())?;
+    let held = own_pieces(opening, children, closing)?;
     let width = page_width(calls, before, held.as_slice());
     let own = page_texts(alloc, calls, before, held.as_slice())?;
     let ranges = leaf_ranges(head.kind, byte, width);
     let sources = leaf_sources(alloc, own);
-    Ok(node(head, Some(ranges), sources, List::new(alloc)))
+    Ok(unnumbered_node(head, Some(ranges), sources, List::new(alloc)))
 }
 
 /// The ranges of a node round its children that begins there, by a walk through it.
@@ -149,5 +124,5 @@ pub fn kept_inner<'a>(frame: Frame<'a>, head: NodeHead, children: List<Node<'a>>
     ensures { view result ≡ tree (node_label (head_of head) (Some frame.entry.ranges) (texts_of frame.entry.sources.opening)
         (texts_of frame.entry.sources.closing) (texts_of frame.entry.sources.own)) (views children.entry) }
 {
-    node(head, Some(frame.ranges), frame.sources, children)
+    unnumbered_node(head, Some(frame.ranges), frame.sources, children)
 }

@@ -7,10 +7,10 @@ ghost use Rattle.wt_tree.specs.Tiling.{InPreorder, Tiled};
 ghost use Rattle.wt_tree.specs.View.{view};
 ghost use Rattle.wt_inline.specs.ItemTree.{tree_items};
 ghost use Rattle.wt_inline.specs.View.{item_tree};
-ghost use Rattle.wt_ranges.specs.Annotated.{annotated};
-ghost use Rattle.wt_ranges.specs.Clean.{is_clean};
-ghost use Rattle.wt_ranges.specs.GroupData.{group_data};
-ghost use Rattle.wt_ranges.specs.Pieces.{outer_calls};
+ghost use Rattle.wt_annotated.specs.Annotated.{annotated};
+ghost use Rattle.wt_annotated.specs.Clean.{is_clean};
+ghost use Rattle.wt_annotated.specs.GroupData.{group_data};
+ghost use Rattle.wt_annotated.specs.Pieces.{outer_calls};
 ghost use Rattle.wt_ranges.specs.Preorder.{InPreorder-prop};
 
 use crate::grouping::group_tree;

@@ -4,16 +4,16 @@ ghost use Rattle.std.specs.Prelude.{◌≡◌};
 ghost use Rattle.std.specs.List.{list_all, list_any};
 ghost use Rattle.wt_inline.specs.ItemTree.{forest, tree_items, held_by_all};
 ghost use Rattle.wt_inline.specs.View.{item_tree, item_trees};
-ghost use Rattle.wt_ranges.specs.Clean.{is_page};
-ghost use Rattle.wt_ranges.specs.Seams.{first_found, first_of};
+ghost use Rattle.wt_annotated.specs.Clean.{is_page};
+ghost use Rattle.wt_annotated.specs.Seams.{first_found, first_of};
 
-use crate::seam::{are_of_page, first_found, has_page_item};
+use wt_annotated::{are_of_page, first_found, has_page_item};
 use wt_inline::PieceTree;
 
 // ---- the first item
 
 #[cycle(finding)]
-#[tactic(auto, using(crate::proofs::TreeWalks::found_parts, crate::proofs::TreeWalks::found_turn))]
+#[tactic(auto, using(crate::proofs::TreeSeams::found_parts, crate::proofs::TreeSeams::found_turn))]
 fn first_found_in(tree: &PieceTree<'_>) -> Option<Option<u32>>
     ensures { result ≡ first_found (tree_items (item_tree tree.now)) }
 {
@@ -27,7 +27,7 @@ fn first_found_in(tree: &PieceTree<'_>) -> Option<Option<u32>>
 }
 
 #[cycle(finding)]
-#[tactic(auto, using(crate::proofs::TreeWalks::found_parts, crate::proofs::TreeWalks::found_turn))]
+#[tactic(auto, using(crate::proofs::TreeSeams::found_parts, crate::proofs::TreeSeams::found_turn))]
 fn first_found_in_all(trees: &[PieceTree<'_>]) -> Option<Option<u32>>
     ensures { result ≡ first_found (held_by_all (forest (item_trees trees.now))) }
 {
@@ -40,7 +40,7 @@ fn first_found_in_all(trees: &[PieceTree<'_>]) -> Option<Option<u32>>
 }
 
 /// The call of the first item of a tree, before one of the call `after`.
-#[tactic(auto, using(crate::proofs::Seams::first_some, crate::proofs::Seams::first_none))]
+#[tactic(auto, using(wt_annotated::proofs::Seams::first_some, wt_annotated::proofs::Seams::first_none))]
 pub fn first_call_of(tree: &PieceTree<'_>, after: Option<u32>) -> Option<u32>
     ensures { result ≡ first_of (tree_items (item_tree tree.now)) after }
 {
@@ -51,7 +51,7 @@ pub fn first_call_of(tree: &PieceTree<'_>, after: Option<u32>) -> Option<u32>
 }
 
 /// The call of the first item of trees, before one of the call `after`.
-#[tactic(auto, using(crate::proofs::Seams::first_some, crate::proofs::Seams::first_none))]
+#[tactic(auto, using(wt_annotated::proofs::Seams::first_some, wt_annotated::proofs::Seams::first_none))]
 pub fn first_call_of_all(trees: &[PieceTree<'_>], after: Option<u32>) -> Option<u32>
     ensures { result ≡ first_of (held_by_all (forest (item_trees trees.now))) after }
 {
@@ -65,7 +65,7 @@ pub fn first_call_of_all(trees: &[PieceTree<'_>], after: Option<u32>) -> Option<
 
 /// Whether some item of a tree is the page's own.
 #[cycle(seeking)]
-#[tactic(auto, using(crate::proofs::TreeWalks::any_parts, crate::proofs::TreeWalks::any_turn))]
+#[tactic(auto, using(crate::proofs::TreeSeams::any_parts, crate::proofs::TreeSeams::any_turn))]
 pub fn holds_page_item(tree: &PieceTree<'_>) -> bool
     ensures { result ≡ list_any is_page (tree_items (item_tree tree.now)) }
 {
@@ -75,7 +75,7 @@ pub fn holds_page_item(tree: &PieceTree<'_>) -> bool
 }
 
 #[cycle(seeking)]
-#[tactic(auto, using(crate::proofs::TreeWalks::any_parts, crate::proofs::TreeWalks::any_turn))]
+#[tactic(auto, using(crate::proofs::TreeSeams::any_parts, crate::proofs::TreeSeams::any_turn))]
 fn any_holds_page_item(trees: &[PieceTree<'_>]) -> bool
     ensures { result ≡ list_any is_page (held_by_all (forest (item_trees trees.now))) }
 {
@@ -88,7 +88,7 @@ fn any_holds_page_item(trees: &[PieceTree<'_>]) -> bool
 }
 
 #[cycle(owning)]
-#[tactic(auto, using(crate::proofs::TreeWalks::all_parts, crate::proofs::TreeWalks::all_turn))]
+#[tactic(auto, using(crate::proofs::TreeSeams::all_parts, crate::proofs::TreeSeams::all_turn))]
 fn is_tree_of_page(tree: &PieceTree<'_>) -> bool
     ensures { result ≡ list_all is_page (tree_items (item_tree tree.now)) }
 {
@@ -99,7 +99,7 @@ fn is_tree_of_page(tree: &PieceTree<'_>) -> bool
 
 /// Whether no item of trees comes from a call.
 #[cycle(owning)]
-#[tactic(auto, using(crate::proofs::TreeWalks::all_parts, crate::proofs::TreeWalks::all_turn))]
+#[tactic(auto, using(crate::proofs::TreeSeams::all_parts, crate::proofs::TreeSeams::all_turn))]
 pub fn are_trees_of_page(trees: &[PieceTree<'_>]) -> bool
     ensures { result ≡ list_all is_page (held_by_all (forest (item_trees trees.now))) }
 {

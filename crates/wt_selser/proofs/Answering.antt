@@ -11,15 +11,15 @@ use Rattle.wt_tree.proofs.Views.{view_out}
 use Rattle.wt_checks.specs.declared.refusal.Check.{Check}
 use Rattle.wt_checks.specs.Checked.{checked}
 use Rattle.wt_selser.specs.declared.change.Pair.{Pair as Found}
-use Rattle.wt_selser.specs.declared.refusal.ContentWhy.{ContentWhy}
+use Rattle.wt_content.specs.declared.reason.ContentWhy.{ContentWhy}
 use Rattle.wt_selser.specs.declared.refusal.EditRefusal.{EditRefusal}
 use Rattle.wt_selser.specs.declared.refusal.EditRefusal.TheVariants as refusal
 use Rattle.wt_selser.specs.Changes.{Pair, marked}
-use Rattle.wt_selser.specs.Content.{bad_content}
-use Rattle.wt_selser.specs.Edits.{first_with, first_of, bad_pair, before, is_tangled, tangled_pair, most_bytes, if_short, unless_refused, pairs_answer, edit_answer, AnswersEdit}
+use Rattle.wt_content.specs.Content.{bad_content}
+use Rattle.wt_selser.specs.Edits.{first_with, first_of, bad_pair, is_tangled, tangled_pair, most_bytes, if_short, unless_refused, pairs_answer, edit_answer, AnswersEdit}
 use Rattle.wt_selser.specs.GroupFaults.{has_faulty_group}
-use Rattle.wt_selser.specs.OpenTags.{touches_open_tag}
-use Rattle.wt_selser.specs.TextCalls.{touches_text_call}
+use Rattle.wt_tangled.specs.OpenTags.{before, touches_open_tag}
+use Rattle.wt_tangled.specs.TextCalls.{touches_text_call}
 use Rattle.wt_selser.specs.Views.{pair_of, pairs_of}
 use Rattle.wt_selser.proofs.Outside.{nothing_changes}
 
@@ -53,31 +53,28 @@ or_first a b e = sym (ap (λ c. c || b) e)
 or_second : (a b : Bool) → a ≡ false → b ≡ (a || b)
 or_second a b e = sym (ap (λ c. c || b) e)
 
-pub touches_call : (items : Expanded) (page : List ℕ) (n : Node) (b : Bool) → b ≡ touches_text_call items.text_calls (out-Node n).ranges → b ≡ true
+or_joined : (a b c : Bool) → ((a || b) || c) ≡ (a || (b || c))
+or_joined true b c = refl
+or_joined false b c = refl
+
+pub touches_any : (items : Expanded) (page : List ℕ) (n : Node) (b : Bool)
+    → b ≡ (touches_text_call items.text_calls (out-Node n).ranges || touches_open_tag (before page (out-Node n).ranges) (view n)) → b ≡ true
     → true ≡ is_tangled items page (view n)
-touches_call items page n b e t =
-    or_first (touches_text_call items.text_calls (out-Node n).ranges)
-    (touches_open_tag (before page (out-Node n).ranges) (view n) || has_faulty_group items (views (out-Node n).children)) (sym e ∙ t)
+touches_any items page n b e t =
+    let call = touches_text_call items.text_calls (out-Node n).ranges in
+    let tag = touches_open_tag (before page (out-Node n).ranges) (view n) in
+    let rest = has_faulty_group items (views (out-Node n).children) in
+    or_first (call || tag) rest (sym e ∙ t) ∙ or_joined call tag rest ∙ sym (tangled_out items page n)
+
+pub only_groups : (items : Expanded) (page : List ℕ) (n : Node) (ns : List Node) (b d : Bool)
+    → b ≡ (touches_text_call items.text_calls (out-Node n).ranges || touches_open_tag (before page (out-Node n).ranges) (view n)) → b ≡ false
+    → ns ≡ (out-Node n).children → d ≡ has_faulty_group items (views ns) → d ≡ is_tangled items page (view n)
+only_groups items page n ns b d e f is k =
+    let call = touches_text_call items.text_calls (out-Node n).ranges in
+    let tag = touches_open_tag (before page (out-Node n).ranges) (view n) in
+    let rest = has_faulty_group items (views (out-Node n).children) in
+    k ∙ ap (λ ms. has_faulty_group items (views ms)) is ∙ or_second (call || tag) rest (sym e ∙ f) ∙ or_joined call tag rest
     ∙ sym (tangled_out items page n)
-
-pub touches_tag : (items : Expanded) (page bs : List ℕ) (n : Node) (b c : Bool) → b ≡ touches_text_call items.text_calls (out-Node n).ranges → b ≡ false
-    → bs ≡ before page (out-Node n).ranges → c ≡ touches_open_tag bs (view n) → c ≡ true → true ≡ is_tangled items page (view n)
-touches_tag items page bs n b c e f d g t =
-    let rest = has_faulty_group items (views (out-Node n).children) in
-    let tag = touches_open_tag (before page (out-Node n).ranges) (view n) in
-    or_first tag rest (ap (λ (xs : List ℕ). touches_open_tag xs (view n)) (sym d) ∙ sym g ∙ t)
-    ∙ or_second (touches_text_call items.text_calls (out-Node n).ranges) (tag || rest) (sym e ∙ f) ∙ sym (tangled_out items page n)
-
-pub only_groups : (items : Expanded) (page bs : List ℕ) (n : Node) (ns : List Node) (b c d : Bool)
-    → b ≡ touches_text_call items.text_calls (out-Node n).ranges → b ≡ false
-    → bs ≡ before page (out-Node n).ranges → c ≡ touches_open_tag bs (view n) → c ≡ false → ns ≡ (out-Node n).children → d ≡ has_faulty_group items (views ns)
-    → d ≡ is_tangled items page (view n)
-only_groups items page bs n ns b c d e f at g h is k =
-    let rest = has_faulty_group items (views (out-Node n).children) in
-    let tag = touches_open_tag (before page (out-Node n).ranges) (view n) in
-    k ∙ ap (λ ms. has_faulty_group items (views ms)) is
-    ∙ or_second tag rest (ap (λ (xs : List ℕ). touches_open_tag xs (view n)) (sym at) ∙ sym g ∙ h)
-    ∙ or_second (touches_text_call items.text_calls (out-Node n).ranges) (tag || rest) (sym e ∙ f) ∙ sym (tangled_out items page n)
 
 pub tangled_some : (items : Expanded) (page : List ℕ) (p : Found) (b : Bool) → b ≡ is_tangled items page (view p.old.now) → b ≡ true
     → Some (refusal.Tangled (out-Node p.new.now).id) ≡ tangled_pair items page (pair_of p)

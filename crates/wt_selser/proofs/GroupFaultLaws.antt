@@ -16,17 +16,17 @@ use Rattle.wt_inline.specs.ItemTree.{forest}
 use Rattle.wt_inline.specs.View.{item_tree, item_trees}
 use Rattle.wt_inline.specs.declared.tree.PieceTree.{PieceTree, out-PieceTree}
 use Rattle.wt_body.specs.Body.{meaning}
-use Rattle.wt_ranges.specs.Annotated.{all_unplaced}
-use Rattle.wt_ranges.proofs.HeldPieces.{item_tree_out}
-use Rattle.wt_selser.specs.declared.differing.Child.{Child}
-use Rattle.wt_selser.specs.declared.shown_node.ShownNode.{ShownNode}
-use Rattle.wt_selser.specs.Children.{differing}
+use Rattle.wt_annotated.specs.Annotated.{all_unplaced}
+use Rattle.wt_annotated.proofs.HeldPieces.{item_tree_out}
+use Rattle.wt_shown.specs.declared.children.Child.{Child}
+use Rattle.wt_shown.specs.declared.shown_node.ShownNode.{ShownNode}
+use Rattle.wt_shown.specs.Children.{differing}
 use Rattle.wt_selser.specs.GroupFaults.{is_faulty, one_paragraph, paragraph_face, shows_other, trees_in}
-use Rattle.wt_selser.specs.OpenTexts.{has_open_text}
-use Rattle.wt_selser.specs.Toggles.{has_odd_line}
-use Rattle.wt_selser.specs.Views.{child_view, children_view, held_view, node_view}
-use Rattle.wt_selser.proofs.DifferingLaws.{none_same, same_none}
-use Rattle.wt_selser.proofs.ShownChildren.{views_long}
+use Rattle.wt_tangled.specs.OpenTexts.{has_open_text}
+use Rattle.wt_tangled.specs.Toggles.{has_odd_line}
+use Rattle.wt_shown.specs.Views.{child_view, children_view, held_view, node_view}
+use Rattle.wt_shown.proofs.DifferingLaws.{none_same, same_none}
+use Rattle.wt_shown.proofs.ShownChildren.{views_long}
 
 -- ---- what pieces mean
 

@@ -1,33 +1,9 @@
 mod Cases
-mod ContentCases
-pub mod Faulting
-pub mod FirstReason
-pub mod LinksApart
-pub mod TypedStands
-pub mod Untouched
-pub mod Urls
-pub mod UrlsRead
 pub mod Outside
-pub mod SameTells
-pub mod DifferingLaws
 pub mod Chains
 pub mod PageChains
 pub mod EditChains
 pub mod Spliced
-pub mod OpenTags
-pub mod Endings
-pub mod Passing
 pub mod Answering
-pub mod ShownChildren
-pub mod RestoredShown
-pub mod QuoteRuns
-pub mod SharedBytes
-pub mod HeldOpen
-pub mod LinesJoined
-pub mod RunsJoined
-pub mod StandingOpen
-pub mod SliceItems
-pub mod SlicedPieces
-pub mod SlicedBreaks
 pub mod GroupFaultLaws
 pub mod NoGroups

@@ -7,11 +7,11 @@ use Rattle.wt_tree.specs.Tree.{Label, Tree, tree, Trees, none, more}
 use Rattle.wt_kept.specs.declared.kinds.Way.{Way}
 use Rattle.wt_kept.specs.declared.kinds.Way.TheVariants as way
 use Rattle.wt_kept.specs.Kinds.{shape}
-use Rattle.wt_selser.specs.Edits.{before, is_tangled}
+use Rattle.wt_selser.specs.Edits.{is_tangled}
 use Rattle.wt_selser.specs.GroupFaults.{faulty_at, has_faulty_group, is_faulty_node}
-use Rattle.wt_selser.specs.OpenTags.{touches_open_tag}
-use Rattle.wt_selser.specs.OpenTexts.{in_style}
-use Rattle.wt_selser.specs.TextCalls.{touches_text_call}
+use Rattle.wt_tangled.specs.OpenTags.{before, touches_open_tag}
+use Rattle.wt_tangled.specs.OpenTexts.{in_style}
+use Rattle.wt_tangled.specs.TextCalls.{touches_text_call}
 
 style_fine : (w : Way) → in_style w false ≡ false
 style_fine way.Nothing = refl

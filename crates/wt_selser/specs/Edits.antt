@@ -1,17 +1,16 @@
 -- The answer to an edit of a page: the new page, or the first refusal by its kind, then in preorder.
-use Rattle.std.specs.Prelude.{◌≡◌, ℕ, Bool, false, Option, Some, None, option_map, Result, Ok, Err, List, [], ◌∷◌, length, take, nat_lt, ◌||◌, if◌then◌else◌}
-use Rattle.wt_tree.specs.declared.kind.Ranges.{Ranges}
+use Rattle.std.specs.Prelude.{◌≡◌, ℕ, Bool, false, Option, Some, None, option_map, Result, Ok, Err, List, [], ◌∷◌, length, nat_lt, ◌||◌, if◌then◌else◌}
 use Rattle.wt_span.specs.Origins.{Expanded}
 use Rattle.wt_tree.specs.Tree.{Tree, tree, label}
 use Rattle.wt_checks.specs.Checked.{checked}
 use Rattle.wt_selser.specs.declared.refusal.EditRefusal.{EditRefusal}
 use Rattle.wt_selser.specs.declared.refusal.EditRefusal.TheVariants as refusal
 use Rattle.wt_selser.specs.Changes.{Pair, marked, changes}
-use Rattle.wt_selser.specs.Content.{bad_content}
+use Rattle.wt_content.specs.Content.{bad_content}
 use Rattle.wt_selser.specs.GroupFaults.{has_faulty_group}
-use Rattle.wt_selser.specs.OpenTags.{touches_open_tag}
+use Rattle.wt_tangled.specs.OpenTags.{before, touches_open_tag}
 use Rattle.wt_selser.specs.Splice.{spliced}
-use Rattle.wt_selser.specs.TextCalls.{touches_text_call}
+use Rattle.wt_tangled.specs.TextCalls.{touches_text_call}
 
 abbrev pub first_with : {B : Type 0} → Option B → Option B → Option B
 first_with None rest = rest
@@ -26,11 +25,6 @@ first_of f (x ∷ xs) = first_with (f x) (first_of f xs)
 
 abbrev pub bad_pair : (Tree → Tree → Bool) → Pair → Option EditRefusal
 bad_pair same p = option_map (refusal.BadContent (label p.new).id) (bad_content same p.old p.new)
-
--- what stands in the page before a node
-abbrev pub before : List ℕ → Option Ranges → List ℕ
-before page None = []
-before page (Some r) = take r.start page
 
 -- A block can't be read by itself where it touches a text call or an open tag, or where one of its groups has a fault.
 abbrev pub is_tangled : Expanded → List ℕ → Tree → Bool

@@ -6,21 +6,20 @@ ghost use Rattle.wt_tree.specs.Tree.{Tree, label};
 ghost use Rattle.wt_tree.specs.View.{view};
 ghost use Rattle.wt_tree.specs.declared.kind.Kind.TheVariants as kind;
 ghost use Rattle.wt_kept.specs.Page.{TellsSame};
+ghost use Rattle.wt_tangled.specs.Passes.{AreOf};
 ghost use Rattle.wt_selser.specs.Changes.{changes};
 ghost use Rattle.wt_selser.specs.Edits.{AnswersEdit, is_tangled, bad_pair, refused_pairs, edit_answer, pairs_answer, first_of, most_bytes, tangled_pair};
-ghost use Rattle.wt_selser.specs.Passes.{AreOf};
 ghost use Rattle.wt_selser.specs.Splice.{spliced};
 ghost use Rattle.wt_selser.specs.Views.{pair_of, pairs_of};
 
 use crate::change::{Pair, changes, marked_pairs, spliced};
-use crate::content::bad_content;
 use crate::group_fault::has_faulty_group;
-use crate::open_tag::touches_open_tag;
-use crate::passes::{Passes, text_calls};
 use crate::refusal::EditRefusal;
 use std::alloc::Global;
 use wt_checks::check;
+use wt_content::bad_content;
 use wt_span::{Items, NoMemory, Str};
+use wt_tangled::Passes;
 use wt_tree::Node;
 
 /// The most bytes of a page.
@@ -60,12 +59,8 @@ fn is_tangled(
     ensures value { IfOk result (λ b. b ≡ is_tangled items.now page.now (view block.now)) }
     ensures passes { AreOf items.now page.now passes.new }
 {
-    let call = passes.calls.touches(text_calls(items), block.ranges);
-    if call {
-        return Ok(true);
-    }
-    let tag = touches_open_tag(alloc, page, &mut passes.tags, block)?;
-    if tag {
+    let touches = passes.touches(alloc, items, page, block)?;
+    if touches {
         return Ok(true);
     }
     let faulty = has_faulty_group(alloc, items, block.children.as_slice())?;

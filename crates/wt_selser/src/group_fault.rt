@@ -6,35 +6,22 @@ ghost use Rattle.wt_span.specs.Items.{items};
 ghost use Rattle.wt_span.specs.Origins.{IsSoundPiece};
 ghost use Rattle.wt_tree.specs.declared.node.Node.{out-Node};
 ghost use Rattle.wt_tree.specs.Plain.{face};
-ghost use Rattle.wt_tree.specs.Tiling.{is_group};
 ghost use Rattle.wt_tree.specs.View.{label_of, view, views};
 ghost use Rattle.wt_body.specs.Body.{meaning};
-ghost use Rattle.wt_ranges.specs.Annotated.{all_unplaced};
+ghost use Rattle.wt_annotated.specs.Annotated.{all_unplaced};
 ghost use Rattle.wt_selser.specs.GroupFaults.{faulty_at, has_faulty_group, is_faulty, is_faulty_node, one_paragraph, paragraph_face, shows_other, trees_in};
-ghost use Rattle.wt_selser.specs.Views.{children_view};
+ghost use Rattle.wt_shown.specs.Views.{children_view};
 
-use crate::differing::{Child, shown_nodes, shows_same};
-use crate::group_items::pieces_alone;
-use crate::open_text::has_open_text;
-use crate::toggles::has_odd_line;
 use std::alloc::Global;
+use wt_annotated::unplaced_nodes;
 use wt_build::build_pieces;
 use wt_inline::PieceTree;
 use wt_kept::{Way, shape};
-use wt_ranges::unplaced_nodes;
+use wt_shown::{Child, is_group, shown_nodes, shows_same};
 use wt_span::{Items, List, NoMemory, Piece};
+use wt_tangled::{has_odd_line, has_open_text, pieces_alone};
 use wt_tiles::glyphs_of;
 use wt_tree::{Kind, Node, Ranges, same_data, same_kind};
-
-/// Whether a node is a group.
-pub fn is_group(kind: Kind) -> bool
-    ensures { result ≡ is_group kind }
-{
-    match kind {
-        Kind::Group => true,
-        _ => false,
-    }
-}
 
 /// What pieces mean as a page, without places.
 fn nodes_of<'a>(alloc: Global, pieces: &[Piece<'a>]) -> Result<List<Node<'a>>, NoMemory>

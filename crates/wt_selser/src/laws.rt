@@ -1,21 +1,17 @@
 //! Laws of the new page, which do nothing when they are called.
 
-ghost use Rattle.std.specs.Prelude.{◌≡◌, ◌≤◌, ◌↔◌, ℕ, Bool, List, [], length, Option, None, Ok, true, false};
+ghost use Rattle.std.specs.Prelude.{◌≡◌, ◌≤◌, ℕ, Bool, List, [], length, None, Ok, false};
 ghost use Rattle.wt_checks.specs.Checked.{checked};
 ghost use Rattle.wt_span.specs.Origins.{Expanded};
-ghost use Rattle.wt_tree.specs.Plain.{Plain};
 ghost use Rattle.wt_tree.specs.Tiling.{Covers, InPreorder, NoneIsGroup, Tiled};
 ghost use Rattle.wt_tree.specs.Tree.{Label, Tree, Trees, label, tree};
 ghost use Rattle.wt_tree.specs.declared.kind.Kind.TheVariants as kind;
-ghost use Rattle.wt_kept.specs.Page.{TellsSame};
-ghost use Rattle.wt_selser.specs.Children.{IsFirstDiffering, differing};
 ghost use Rattle.wt_selser.specs.Changes.{changes, marked};
-ghost use Rattle.wt_selser.specs.Edits.{before, edit_answer, is_tangled, most_bytes};
+ghost use Rattle.wt_selser.specs.Edits.{edit_answer, is_tangled, most_bytes};
 ghost use Rattle.wt_selser.specs.Leaves.{LeavesHoldNoNumber};
-ghost use Rattle.wt_selser.specs.OpenTags.{EndsOpen, ends_open, touches_open_tag};
-ghost use Rattle.wt_selser.specs.SameNodes.{same_node};
+ghost use Rattle.wt_tangled.specs.OpenTags.{before, touches_open_tag};
 ghost use Rattle.wt_selser.specs.Splice.{Change, spliced, AreApart, OutsideStands};
-ghost use Rattle.wt_selser.specs.TextCalls.{touches_text_call};
+ghost use Rattle.wt_tangled.specs.TextCalls.{touches_text_call};
 
 /// Where the slices stand in the page one after the other, what stands outside them stands in the
 /// new page byte for byte and in its order, and between it what was written for each slice.
@@ -28,18 +24,6 @@ pub fn outside_stands()
 #[tactic(auto, using(crate::proofs::Outside::nothing_changes))]
 pub fn nothing_changes()
     ensures { (page : List ℕ) → spliced page [] ≡ page }
-{}
-
-/// There is a test that tells nodes of one kind with one plain view, and it can be computed.
-#[tactic(auto, using(crate::proofs::SameTells::tells_same))]
-pub fn nodes_are_told()
-    ensures { TellsSame same_node }
-{}
-
-/// The first child in which two bodies differ can be computed, and where none is told they show the same.
-pub fn differing_is_first()
-    ensures told { (xs ys : List Plain) → (r : Option ℕ) → IsFirstDiffering xs ys r → r ≡ differing 1 xs ys }
-    ensures same { (xs ys : List Plain) → differing 1 xs ys ≡ None → xs ≡ ys }
 {}
 
 /// The slices of an edit stand in the page one after the other, where the page's tree tiles it and has its
@@ -59,12 +43,6 @@ pub fn edit_is_a_splice()
 pub fn unmarked_edit_is_the_page()
     ensures { (same : Tree → Tree → Bool) (items : Expanded) (page : List ℕ) (tree edited : Tree) → marked tree edited ≡ []
         → checked false tree edited ≡ None → length page ≤ most_bytes → edit_answer same items page tree edited ≡ Ok page }
-{}
-
-/// A text ends in an open tag exactly where a `<` with an ASCII letter behind it stands in it, and from
-/// there on no `<`, `>` or line break.
-pub fn open_tags()
-    ensures { (text : List ℕ) → (ends_open text ≡ true) ↔ EndsOpen text }
 {}
 
 /// A block without groups that touches no text call and no open tag isn't tangled.

@@ -2,22 +2,22 @@ use Rattle.std.proofs.Common.{ap, arith, length, length-drop, ◌++◌, ◌+◌,
 use Rattle.std.proofs.lemmas.Bool.Decides.{nat_tests}
 use Rattle.std.proofs.lemmas.List.{length-take}
 use Rattle.std.proofs.lemmas.Result.{IfOk-weaker}
-use Rattle.wt_build.specs.Ready.{reading_at}
-use Rattle.wt_build.specs.Views.{stretches_view}
+use Rattle.wt_build.specs.Blocks.{reading_at}
+use Rattle.wt_rows.specs.Views.{stretches_view}
 use Rattle.wt_build.proofs.TableSteps.{cells_read, no_cells}
 use Rattle.std.specs.List.{prefix_len}
-use Rattle.wt_build.specs.Units.{kind_at}
-use Rattle.wt_build.specs.Groups.{goes_on}
-use Rattle.wt_build.specs.GroupViews.{groups_view}
+use Rattle.wt_rows.specs.Units.{kind_at}
+use Rattle.wt_rows.specs.Groups.{goes_on}
+use Rattle.wt_rows.specs.GroupViews.{groups_view}
 use Rattle.wt_build.proofs.TableRows.{next_parts, row_added, row_first, row_others}
 use Rattle.wt_build.proofs.TableInside.{front_begins, inside_read, parts_are, rest_parts, rest_starts}
-use Rattle.wt_build.proofs.Straying.{ready_front, ready_rest}
+use Rattle.wt_rows.proofs.Straying.{ready_front, ready_rest}
 use Rattle.wt_build.proofs.TableWhole.{table_whole}
 use Rattle.wt_build.proofs.+tabling.Goals as goal
 use Rattle.std.proofs.Common.{◌<◌, ◌≤◌, ◌+◌, length, arith}
 use Rattle.std.proofs.lemmas.List.{drop_all}
 use Rattle.wt_build.proofs.BlockNodes.{some_left, within_left, ready_drop, ready_take, front_block, blocks_step, blocks_done}
-use Rattle.wt_build.specs.Ready.{reading_at}
+use Rattle.wt_build.specs.Blocks.{reading_at}
 
 pub table::cell_stretches-returns-then-is_empty : goal.table::cell_stretches-returns-then-is_empty
 table::cell_stretches-returns-then-is_empty t c =

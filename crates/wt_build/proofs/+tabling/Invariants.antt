@@ -1,10 +1,10 @@
 use Rattle.std.proofs.Common.{drop, length, ◌*◌, ◌++◌, ◌+◌, ◌-◌, ◌≡◌, ◌≤◌}
 use Rattle.std.specs.List.{flat_map}
 use Rattle.wt_body.specs.Tables.{cell_stretches}
-use Rattle.wt_build.specs.Ready.{reading_at}
+use Rattle.wt_build.specs.Blocks.{reading_at}
 use Rattle.wt_build.specs.CellGroups.{AllBegin, AreParts, groups_rows}
-use Rattle.wt_build.specs.Views.{stretches_view}
-use Rattle.wt_build.specs.Groups.{rows_of_groups}
+use Rattle.wt_rows.specs.Views.{stretches_view}
+use Rattle.wt_build.specs.RowGroups.{rows_of_groups}
 use Rattle.wt_build.proofs.+tabling.Given as goal
 use Rattle.std.proofs.Common.{◌≤◌, ◌-◌, length, drop}
 use Rattle.wt_build.proofs.BlockNodes.{IsSoFar}

@@ -1,6 +1,6 @@
 use Rattle.std.proofs.Common.{get_or, sym}
 use Rattle.wt_lines.specs.declared.kind.LineKind.TheVariants as line
-use Rattle.wt_build.specs.declared.row.RowAt.{RowAt}
+use Rattle.wt_rows.specs.declared.row.RowAt.{RowAt}
 use Rattle.wt_build.proofs.TextRuns.{same_at}
 use Rattle.wt_build.proofs.BlockRuns.{table_first, lone_first}
 use Rattle.wt_build.proofs.block.block_len.Goals as goal

@@ -2,8 +2,8 @@ use Rattle.std.proofs.Common.{◌-◌, length, get_or, ◌∙◌, arith}
 use Rattle.std.proofs.lemmas.Result.{IfOk-weaker}
 use Rattle.wt_lines.specs.declared.kind.LineKind.TheVariants as line
 use Rattle.wt_inline.specs.View.{item_tree}
-use Rattle.wt_build.specs.declared.row.RowAt.{RowAt}
-use Rattle.wt_build.specs.Views.{rows_view}
+use Rattle.wt_rows.specs.declared.row.RowAt.{RowAt}
+use Rattle.wt_rows.specs.Views.{rows_view}
 use Rattle.wt_build.specs.Blocks.{block_node}
 use Rattle.wt_build.proofs.TextRuns.{same_at}
 use Rattle.wt_build.proofs.BlockNodes.{between_is, node_view}

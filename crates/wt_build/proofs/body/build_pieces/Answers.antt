@@ -7,8 +7,8 @@ use Rattle.wt_tree.specs.declared.kind.Kind.TheVariants as kind
 use Rattle.wt_inline.specs.Grown.{growth}
 use Rattle.wt_inline.specs.ItemTree.{plain, inner, forest}
 use Rattle.wt_inline.specs.View.{item_trees}
-use Rattle.wt_build.specs.Unread.{left}
-use Rattle.wt_build.proofs.Sections.{carries_none, carries_on, none_left, meaning_is}
+use Rattle.wt_rows.specs.Unread.{left}
+use Rattle.wt_build.proofs.Carrying.{carries_none, carries_on, none_left, meaning_is}
 use Rattle.wt_build.proofs.body.build_pieces.Goals as goal
 
 pub with_next-requires-clause-sound : goal.with_next-requires-clause-sound

@@ -3,8 +3,8 @@ use Rattle.std.specs.List.{All}
 use Rattle.wt_span.specs.Items.{items}
 use Rattle.wt_span.specs.Origins.{IsSoundPiece}
 use Rattle.wt_inline.specs.Grown.{growth}
-use Rattle.wt_build.specs.Unread.{left}
-use Rattle.wt_build.specs.Sections.{Carries}
+use Rattle.wt_rows.specs.Unread.{left}
+use Rattle.wt_build.specs.Carrying.{Carries}
 use Rattle.wt_build.proofs.body.build_pieces.Given as goal
 
 abbrev pub invariant-loop-rest : goal.invariant-loop-rest

@@ -1,7 +1,7 @@
 use Rattle.wt_span.specs.Items.{items}
 use Rattle.wt_inline.specs.Grown.{growth}
-use Rattle.wt_build.specs.Unread.{left}
-use Rattle.wt_build.proofs.Sections.{carries_section}
+use Rattle.wt_rows.specs.Unread.{left}
+use Rattle.wt_build.proofs.Carrying.{carries_section}
 use Rattle.wt_build.proofs.body.with_section.Goals as goal
 
 pub returns-clause-grown : goal.returns-clause-grown

@@ -1,7 +1,7 @@
 use Rattle.std.proofs.Common.{◌≡◌, ◌++◌, length}
 use Rattle.wt_lines.specs.Signs.{left}
 use Rattle.wt_tables.specs.Views.{numbers}
-use Rattle.wt_build.specs.Prefixes.{seen_by}
+use Rattle.wt_build.specs.SeenSigns.{seen_by}
 use Rattle.wt_build.proofs.colon.push_signs.Given as goal
 
 abbrev pub invariant-loop-sign : goal.invariant-loop-sign

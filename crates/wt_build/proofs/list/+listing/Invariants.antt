@@ -3,7 +3,7 @@ use Rattle.std.specs.Vec.Iter.{into_iter_items}
 use Rattle.wt_blocks.specs.ListTree.{forest}
 use Rattle.wt_blocks.specs.View.{list_trees}
 use Rattle.wt_body.specs.Lists.{all_lists}
-use Rattle.wt_build.specs.Views.{rows_view, stretches_view}
+use Rattle.wt_rows.specs.Views.{rows_view, stretches_view}
 use Rattle.wt_build.proofs.list.+listing.Given as goal
 
 abbrev pub invariant-all_lists-loop-node : goal.invariant-all_lists-loop-node

@@ -1,6 +1,6 @@
 use Rattle.std.proofs.Common.{◌≡◌, take}
 use Rattle.wt_body.specs.Lists.{prefixes}
-use Rattle.wt_build.specs.Views.{rows_view}
+use Rattle.wt_rows.specs.Views.{rows_view}
 use Rattle.wt_build.proofs.list.prefixes.Given as goal
 
 abbrev pub invariant-loop-row : goal.invariant-loop-row

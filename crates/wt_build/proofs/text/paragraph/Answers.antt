@@ -4,7 +4,7 @@ use Rattle.wt_tree.specs.declared.kind.Kind.TheVariants as kind
 use Rattle.wt_lines.specs.declared.kind.LineKind.TheVariants as line
 use Rattle.wt_inline.specs.ItemTree.{plain, inner, forest}
 use Rattle.wt_inline.specs.View.{item_trees}
-use Rattle.wt_build.specs.declared.row.RowAt.{RowAt}
+use Rattle.wt_rows.specs.declared.row.RowAt.{RowAt}
 use Rattle.wt_build.proofs.Slices.{sound_slice}
 use Rattle.wt_build.proofs.TextRuns.{same_at, para_is}
 use Rattle.wt_build.proofs.text.paragraph.Goals as goal

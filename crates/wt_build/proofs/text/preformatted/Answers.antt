@@ -5,7 +5,7 @@ use Rattle.wt_span.specs.Bytes.{begins}
 use Rattle.wt_span.specs.Items.{items}
 use Rattle.wt_lines.specs.declared.kind.LineKind.TheVariants as line
 use Rattle.wt_inline.specs.View.{item_trees}
-use Rattle.wt_build.specs.declared.row.RowAt.{RowAt}
+use Rattle.wt_rows.specs.declared.row.RowAt.{RowAt}
 use Rattle.wt_build.specs.declared.text.TextKind.TheVariants as text
 use Rattle.wt_body.specs.Rows.{signs}
 use Rattle.wt_build.specs.Blocks.{IsOf}

@@ -1,8 +1,8 @@
 use Rattle.std.proofs.Common.{◌-◌, get_or, arith}
 use Rattle.wt_lines.specs.declared.kind.LineKind.TheVariants as line
 use Rattle.wt_inline.specs.Grown.{growth}
-use Rattle.wt_build.specs.declared.row.RowAt.{RowAt}
-use Rattle.wt_build.specs.Views.{rows_view}
+use Rattle.wt_rows.specs.declared.row.RowAt.{RowAt}
+use Rattle.wt_rows.specs.Views.{rows_view}
 use Rattle.wt_build.specs.Blocks.{later_from}
 use Rattle.wt_build.proofs.TextRuns.{ready_at, same_at, later_step, later_done}
 use Rattle.wt_build.proofs.text.with_later_rows.Goals as goal

@@ -1,6 +1,6 @@
 use Rattle.std.proofs.Common.{◌<◌, ◌≤◌, ◌-◌, length, drop}
 use Rattle.wt_inline.specs.Grown.{growth}
-use Rattle.wt_build.specs.Views.{rows_view, IsRest}
+use Rattle.wt_rows.specs.Views.{rows_view, IsRest}
 use Rattle.wt_build.specs.Blocks.{later_from}
 use Rattle.wt_build.proofs.text.with_later_rows.Given as goal
 

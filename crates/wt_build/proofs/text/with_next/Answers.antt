@@ -5,7 +5,7 @@ use Rattle.wt_inline.specs.declared.loose.Loose.TheVariants.{Text}
 use Rattle.wt_inline.specs.Parts.{parts}
 use Rattle.wt_inline.specs.Grown.{growth, Grows}
 use Rattle.wt_build.specs.declared.text.TextKind.{TextKind}
-use Rattle.wt_build.specs.Views.{row_view}
+use Rattle.wt_rows.specs.Views.{row_view}
 use Rattle.wt_build.specs.Blocks.{later_of}
 use Rattle.wt_build.proofs.TextRuns.{grows_next}
 use Rattle.wt_build.proofs.text.with_next.Goals as goal

@@ -13,8 +13,8 @@ loop-content-preserved-in-Continue-1 c =
     (into_iter_items c.loop-content.content-iterator) (into_iter_items c.next.new.self) c.is_element.result _
     c.in_ok-push.ensures.items s c.is_element.ensures c.if-is_element.true c.loop-content.invariant
 
-pub returns-clause-elements : goal.returns-clause-elements
-returns-clause-elements c =
+pub returns : goal.returns
+returns c =
     let s : into_iter_items c.loop-content.content-iterator ≡ [] = no_items _ (sym c.loop-content.content-iterator.rest.ok.0 ∙ c.in-None.ensures.steps.0) in
     let b : into_iter_items c.into_iter-content-iterator.result ≡ c.args.contents.items = search rules in
     elements_end c.loop-content.elements.items (into_iter_items c.loop-content.content-iterator) _ s c.loop-content.invariant

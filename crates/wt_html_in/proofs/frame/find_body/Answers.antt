@@ -11,4 +11,4 @@ body_in-requires c =
     (views c.in-Element.contents.items) = search (rules, the_lemmas, fold-roll-Content) in
     few_in_root (view_content c.args.root) c.in-Element.name.items (pairs c.in-Element.attributes.items)
     (views c.in-Element.contents.items) (views c.in_ok-elements-in-Element.elements.items)
-    e c.in_ok-elements-in-Element.ensures.elements c.requires
+    e c.in_ok-elements-in-Element.ensures c.requires

@@ -1,5 +1,5 @@
 use Rattle.wt_html_in.proofs.Pieces.{child_rolled}
 use Rattle.wt_html_in.proofs.walk.with_child.Goals as goal
 
-pub returns-clause-node : goal.returns-clause-node
-returns-clause-node c = child_rolled c.args.node c.args.child c.push.new.self c.in_ok-push.ensures.ok
+pub returns : goal.returns
+returns c = child_rolled c.args.node c.args.child c.push.new.self c.in_ok-push.ensures.ok

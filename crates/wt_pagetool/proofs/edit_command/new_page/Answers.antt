@@ -6,8 +6,8 @@ use Rattle.wt_tree.specs.View.{view}
 use Rattle.wt_expand.specs.Expansion.{page_work}
 use Rattle.wt_expand.specs.Work.{fetches, firsts_after}
 use Rattle.wt_selser.specs.Edits.{edit_answer, AnswersEdit}
-use Rattle.wt_selser.specs.SameNodes.{same_node}
-use Rattle.wt_selser.proofs.SameTells.{tells_same}
+use Rattle.wt_shown.specs.SameNodes.{same_node}
+use Rattle.wt_shown.proofs.SameTells.{tells_same}
 use Rattle.wt_pagetool.specs.Answers.{done, new_answer}
 use Rattle.wt_pagetool.specs.Causes.{Refuses}
 use Rattle.wt_pagetool.proofs.EditLaws.{edit_refused_from, new_page_is, new_page_refused}
@@ -23,8 +23,8 @@ pub returns-in_err-changed-clause-answered : goal.returns-in_err-changed-clause-
 returns-in_err-changed-clause-answered g c = λ pages met told free.
     let page = c.args.page.now in
     let edited = view c.args.edited.now in
-    let items = c.args.found.annotated.items in
-    let t = view c.args.found.annotated.tree.body in
+    let items = c.args.annotated.now.items in
+    let t = view c.args.annotated.now.tree.body in
     let is_tree : view c.body-tree.result.now ≡ t = ap view c.body-tree.ensures.body in
     let refused = c.in_err-changed.field-0.0 in
     edit_refused_from pages t edited (edit_answer same_node items page t edited) refused c.from_residual.result
@@ -36,8 +36,8 @@ pub returns-in_err-check_meaning-clause-answered : goal.returns-in_err-check_mea
 returns-in_err-check_meaning-clause-answered g c = λ pages met told free.
     let page = c.args.page.now in
     let edited = view c.args.edited.now in
-    let items = c.args.found.annotated.items in
-    let t = view c.args.found.annotated.tree.body in
+    let items = c.args.annotated.now.items in
+    let t = view c.args.annotated.now.tree.body in
     let is_tree : view c.body-tree.result.now ≡ t = ap view c.body-tree.ensures.body in
     let new = c.in_ok-changed.changed in
     let bytes = c.as_bytes.result.now in
@@ -55,8 +55,8 @@ pub returns-clause-answered : goal.returns-clause-answered
 returns-clause-answered g c = λ pages met told free.
     let page = c.args.page.now in
     let edited = view c.args.edited.now in
-    let items = c.args.found.annotated.items in
-    let t = view c.args.found.annotated.tree.body in
+    let items = c.args.annotated.now.items in
+    let t = view c.args.annotated.now.tree.body in
     let is_tree : view c.body-tree.result.now ≡ t = ap view c.body-tree.ensures.body in
     let new = c.in_ok-changed.changed in
     let bytes = c.as_bytes.result.now in

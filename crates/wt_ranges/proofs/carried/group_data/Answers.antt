@@ -1,8 +1,8 @@
 use Rattle.std.proofs.Common.{arith}
 use Rattle.wt_ranges.specs.DataSoFar.{nothing_found}
-use Rattle.wt_ranges.specs.Pieces.{outer_calls}
+use Rattle.wt_annotated.specs.Pieces.{outer_calls}
 use Rattle.wt_ranges.proofs.CarriedParts.{found_all, goes_on}
-use Rattle.wt_ranges.proofs.PieceWalks.{call_step}
+use Rattle.wt_annotated.proofs.PieceWalks.{call_step}
 use Rattle.wt_ranges.proofs.carried.group_data.Goals as goal
 
 pub loop-piece-preserved : goal.loop-piece-preserved

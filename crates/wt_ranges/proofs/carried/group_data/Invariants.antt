@@ -1,8 +1,8 @@
 use Rattle.std.proofs.Common.{◌≡◌, take}
 use Rattle.wt_span.specs.Items.{items}
 use Rattle.wt_ranges.specs.DataSoFar.{Continues, nothing_found}
-use Rattle.wt_ranges.specs.Pieces.{outer_calls}
-use Rattle.wt_ranges.specs.Seams.{last_of}
+use Rattle.wt_annotated.specs.Pieces.{outer_calls}
+use Rattle.wt_annotated.specs.Seams.{last_of}
 use Rattle.wt_ranges.proofs.carried.group_data.Given as goal
 
 abbrev pub invariant-loop-piece : goal.invariant-loop-piece

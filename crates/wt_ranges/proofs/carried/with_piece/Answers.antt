@@ -1,6 +1,6 @@
 use Rattle.std.proofs.Common.{sym, ◌∙◌}
 use Rattle.std.proofs.lemmas.Result.{IfOk-weaker}
-use Rattle.wt_ranges.specs.Pieces.{outer_calls}
+use Rattle.wt_annotated.specs.Pieces.{outer_calls}
 use Rattle.wt_ranges.proofs.CarriedParts.{begun, call_goes_on, stays, text_goes_on}
 use Rattle.wt_ranges.proofs.carried.with_piece.Goals as goal
 

@@ -1,7 +1,7 @@
 use Rattle.std.proofs.Common.{length}
 use Rattle.wt_inline.specs.View.{item_trees}
 use Rattle.wt_ranges.specs.Children.{children_at}
-use Rattle.wt_ranges.specs.Pieces.{outer_calls}
+use Rattle.wt_annotated.specs.Pieces.{outer_calls}
 use Rattle.wt_ranges.proofs.ChildWalks.{Read}
 use Rattle.wt_ranges.proofs.child.children.Given as goal
 

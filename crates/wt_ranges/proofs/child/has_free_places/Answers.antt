@@ -4,13 +4,12 @@ use Rattle.wt_span.specs.Items.{Item, items}
 use Rattle.wt_inline.specs.ItemTree.{tree_items}
 use Rattle.wt_inline.specs.View.{item_tree}
 use Rattle.wt_inline.specs.declared.tree.PieceTree.{PieceTree, out-PieceTree}
-use Rattle.wt_ranges.specs.declared.tree_walk.Walk.{Walk}
-use Rattle.wt_ranges.specs.Kept.{opened, filled}
-use Rattle.wt_ranges.specs.Seams.{first_of, last_of, parted}
-use Rattle.wt_ranges.specs.TreeWalk.{HasLasts}
-use Rattle.wt_ranges.specs.Walked.{free_places}
-use Rattle.wt_ranges.proofs.Seams.{last_append}
-use Rattle.wt_ranges.proofs.TreeWalks.{held_in_all, held_parts}
+use Rattle.wt_annotated.specs.declared.tree_walk.Walk.{Walk}
+use Rattle.wt_annotated.specs.Seams.{first_of, last_of, parted}
+use Rattle.wt_annotated.specs.TreeWalk.{opened, filled, HasLasts}
+use Rattle.wt_annotated.specs.Walked.{free_places}
+use Rattle.wt_annotated.proofs.Seams.{last_append}
+use Rattle.wt_annotated.proofs.TreeWalks.{held_in_all, held_parts}
 use Rattle.wt_ranges.proofs.child.has_free_places.Goals as goal
 
 last_whole : (o : Option ℕ) (n : PieceTree) → last_of o (tree_items (item_tree n)) ≡ last_of (filled o n) (items (out-PieceTree n).closing)

@@ -5,7 +5,7 @@ use Rattle.wt_tree.specs.View.{view}
 use Rattle.wt_inline.specs.ItemTree.{forest, held_by_all}
 use Rattle.wt_inline.specs.View.{item_trees}
 use Rattle.wt_ranges.specs.Kept.{group_start}
-use Rattle.wt_ranges.specs.Pieces.{outer_calls}
+use Rattle.wt_annotated.specs.Pieces.{outer_calls}
 use Rattle.wt_ranges.proofs.GroupNodes.{group_is, group_fits}
 use Rattle.wt_ranges.proofs.group_node.group_node.Goals as goal
 

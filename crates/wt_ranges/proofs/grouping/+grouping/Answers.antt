@@ -1,7 +1,7 @@
 use Rattle.std.proofs.Common.{arith}
 use Rattle.wt_inline.specs.View.{item_trees}
 use Rattle.wt_inline.specs.declared.tree.PieceTree.{out-PieceTree}
-use Rattle.wt_ranges.specs.Pieces.{outer_calls}
+use Rattle.wt_annotated.specs.Pieces.{outer_calls}
 use Rattle.wt_ranges.proofs.Groupings.{fewer, all_fit, inside_fits}
 use Rattle.wt_ranges.proofs.grouping.+grouping.Goals as goal
 

@@ -1,8 +1,9 @@
 use Rattle.std.proofs.Common.{◌+◌}
 use Rattle.std.specs.Vec.Iter.{into_iter_items}
 use Rattle.wt_inline.specs.View.{item_tree}
-use Rattle.wt_ranges.specs.Pieces.{outer_calls}
-use Rattle.wt_ranges.proofs.Groupings.{nodes_in, run_size, runs_size, RunsSoFar}
+use Rattle.wt_annotated.specs.Pieces.{outer_calls}
+use Rattle.wt_annotated.proofs.TreeWalks.{nodes_in}
+use Rattle.wt_ranges.proofs.Groupings.{run_size, runs_size, RunsSoFar}
 use Rattle.wt_ranges.proofs.grouping.+grouping.Given as goal
 
 abbrev pub invariant-run_nodes-loop-run : goal.invariant-run_nodes-loop-run

@@ -2,11 +2,11 @@ use Rattle.std.proofs.Common.{length, sym, ap, ◌∙◌, arith}
 use Rattle.std.proofs.lemmas.Result.{IfOk-weaker}
 use Rattle.wt_inline.specs.ItemTree.{tree_items}
 use Rattle.wt_inline.specs.View.{item_tree}
-use Rattle.wt_ranges.specs.GroupData.{group_data}
-use Rattle.wt_ranges.specs.Pieces.{outer_calls}
-use Rattle.wt_ranges.proofs.AnnotatedTree.{one_pass}
-use Rattle.wt_ranges.proofs.PlainTrees.{filled_plain}
-use Rattle.wt_ranges.proofs.WithoutCalls.{own_page}
+use Rattle.wt_annotated.specs.GroupData.{group_data}
+use Rattle.wt_annotated.specs.Pieces.{outer_calls}
+use Rattle.wt_annotated.proofs.AnnotatedTree.{one_pass}
+use Rattle.wt_annotated.proofs.PlainTrees.{filled_plain}
+use Rattle.wt_annotated.proofs.WithoutCalls.{own_page}
 use Rattle.wt_ranges.proofs.grouping.group_tree.Goals as goal
 
 pub without_groups-requires : goal.without_groups-requires

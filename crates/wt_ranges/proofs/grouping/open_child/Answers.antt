@@ -1,4 +1,4 @@
-use Rattle.wt_ranges.specs.Pieces.{outer_calls}
+use Rattle.wt_annotated.specs.Pieces.{outer_calls}
 use Rattle.wt_ranges.proofs.Groupings.{inside_fits}
 use Rattle.wt_ranges.proofs.grouping.open_child.Goals as goal
 

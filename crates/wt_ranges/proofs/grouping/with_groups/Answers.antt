@@ -1,14 +1,14 @@
 use Rattle.std.proofs.Common.{length, ap, ◌∙◌, arith}
 use Rattle.std.proofs.lemmas.Result.{IfOk-weaker}
-use Rattle.wt_ranges.specs.Numbering.{with_numbers}
+use Rattle.wt_annotated.specs.Numbering.{with_numbers}
 use Rattle.wt_inline.specs.ItemTree.{tree_items}
 use Rattle.wt_inline.specs.View.{item_tree}
-use Rattle.wt_ranges.specs.Annotated.{annotated}
-use Rattle.wt_ranges.specs.CutTexts.{cut_texts}
-use Rattle.wt_ranges.specs.GroupData.{group_data}
-use Rattle.wt_ranges.specs.Pieces.{outer_calls}
-use Rattle.wt_ranges.proofs.Groupings.{page_is}
-use Rattle.wt_ranges.proofs.Walks.{walk_all}
+use Rattle.wt_annotated.specs.Annotated.{annotated}
+use Rattle.wt_annotated.specs.CutTexts.{cut_texts}
+use Rattle.wt_annotated.specs.GroupData.{group_data}
+use Rattle.wt_annotated.specs.Pieces.{outer_calls}
+use Rattle.wt_annotated.proofs.Seams.{page_is}
+use Rattle.wt_annotated.proofs.Walks.{walk_all}
 use Rattle.wt_ranges.proofs.grouping.with_groups.Goals as goal
 
 pub kept_node-requires : goal.kept_node-requires

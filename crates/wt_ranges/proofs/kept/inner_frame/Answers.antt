@@ -1,7 +1,7 @@
 use Rattle.std.proofs.Common.{ap, ◌∙◌, arith}
 use Rattle.wt_span.specs.Items.{items}
-use Rattle.wt_ranges.specs.Pieces.{outer_calls}
-use Rattle.wt_ranges.specs.Seams.{first_of}
+use Rattle.wt_annotated.specs.Pieces.{outer_calls}
+use Rattle.wt_annotated.specs.Seams.{first_of}
 use Rattle.wt_ranges.proofs.KeptNodes.{frame_is, parts_fit}
 use Rattle.wt_ranges.proofs.kept.inner_frame.Goals as goal
 

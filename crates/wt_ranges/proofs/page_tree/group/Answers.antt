@@ -2,9 +2,9 @@ use Rattle.std.proofs.Common.{sym, ap, ◌∙◌, subst}
 use Rattle.wt_tree.specs.Tiling.{InPreorder, Tiled}
 use Rattle.wt_tree.specs.Tree.{Tree}
 use Rattle.wt_inline.specs.View.{item_tree}
-use Rattle.wt_ranges.specs.Annotated.{annotated}
-use Rattle.wt_ranges.specs.GroupData.{group_data}
-use Rattle.wt_ranges.proofs.AnnotatedTree.{annotated_tiles, annotated_numbered}
+use Rattle.wt_annotated.specs.Annotated.{annotated}
+use Rattle.wt_annotated.specs.GroupData.{group_data}
+use Rattle.wt_annotated.proofs.AnnotatedTree.{annotated_tiles, annotated_numbered}
 use Rattle.wt_ranges.proofs.page_tree.group.Goals as goal
 
 pub of-requires-clause-tiled : goal.of-requires-clause-tiled

@@ -1,6 +1,6 @@
 use Rattle.std.proofs.Common.{◌≡◌, drop}
-use Rattle.wt_ranges.specs.Seams.{first_found}
-use Rattle.wt_ranges.proofs.TreeWalks.{held_in_all}
+use Rattle.wt_annotated.specs.Seams.{first_found}
+use Rattle.wt_annotated.proofs.TreeWalks.{held_in_all}
 use Rattle.wt_ranges.proofs.tree_seam.+finding.Given as goal
 
 -- what is left to look through decides

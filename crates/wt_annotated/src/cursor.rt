@@ -1,0 +1,36 @@
+ghost use Rattle.std.specs.Prelude.{◌≡◌, ◌+◌, ◌^◌, ◌<◌, IfOk};
+ghost use Rattle.wt_annotated.specs.Numbering.{number_of, next_after};
+
+use crate::number::{next_after, number_of};
+use wt_span::NoMemory;
+use wt_tree::Kind;
+
+/// Where a pass over a tree stands: the place of the next byte, and the number of the next node that
+/// has one.
+#[derive(Clone, Copy)]
+pub struct Cursor {
+    pub place: u32,
+    pub next: u32,
+}
+
+impl Cursor {
+    /// The number of a node of this kind that begins here; 0 where it has none.
+    pub fn number(self, kind: Kind) -> u32
+        ensures { result ≡ number_of kind self.next }
+    {
+        number_of(kind, self.next)
+    }
+
+    /// Behind so many bytes that a node of this kind begins with.
+    pub fn after(self, kind: Kind, width: u32) -> Result<Cursor, NoMemory>
+        requires { self.place + width < 2 ^ 32 }
+        ensures place { IfOk result (λ c. c.place ≡ self.place + width) }
+        ensures number { IfOk result (λ c. c.next ≡ next_after kind self.next) }
+    {
+        let next = next_after(kind, self.next)?;
+        Ok(Cursor {
+            place: self.place + width,
+            next,
+        })
+    }
+}

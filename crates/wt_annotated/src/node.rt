@@ -1,0 +1,97 @@
+//! Nodes of trees, made of their heads and texts.
+
+ghost use Rattle.std.specs.Prelude.{◌≡◌, ◌+◌, ◌^◌, ◌<◌, []};
+ghost use Rattle.wt_tree.specs.Tiling.{is_group};
+ghost use Rattle.wt_tree.specs.Tree.{tree};
+ghost use Rattle.wt_tree.specs.View.{texts_of, view, views};
+ghost use Rattle.wt_inline.specs.View.{head_of};
+ghost use Rattle.wt_annotated.specs.Labels.{leaf_open};
+ghost use Rattle.wt_annotated.specs.Nodes.{node_label};
+
+use std::alloc::Global;
+use wt_inline::NodeHead;
+use wt_span::{List, Text};
+use wt_tree::{Kind, Mark, Node, Ranges};
+
+/// What a node has of the page: its delimiters, or the source of a leaf.
+#[derive(Drop)]
+pub struct Sources<'a> {
+    pub opening: List<Text<'a>>,
+    pub closing: List<Text<'a>>,
+    pub own: List<Text<'a>>,
+}
+
+/// A node without a number.
+pub fn unnumbered_node<'a>(
+    head: NodeHead,
+    ranges: Option<Ranges>,
+    sources: Sources<'a>,
+    children: List<Node<'a>>,
+) -> Node<'a>
+    ensures { view result ≡ tree (node_label (head_of head) ranges (texts_of sources.entry.opening) (texts_of sources.entry.closing)
+        (texts_of sources.entry.own)) (views children.entry) }
+{
+    let Sources {
+        opening,
+        closing,
+        own,
+    } = sources;
+    Node {
+        kind: head.kind,
+        id: 0,
+        ranges,
+        opening,
+        closing,
+        own,
+        shown: head.shown,
+        attrs: head.attrs,
+        origin: None,
+        mark: Mark::Nothing,
+        mw: head.mw,
+        children,
+    }
+}
+
+/// The sources of a leaf.
+pub fn leaf_sources<'a>(alloc: Global, own: List<Text<'a>>) -> Sources<'a>
+    ensures { result ≡ record { opening = []; closing = []; own = own.entry } }
+{
+    Sources {
+        opening: List::new(alloc),
+        closing: List::new(alloc),
+        own,
+    }
+}
+
+/// The open width of a leaf with so many bytes.
+fn leaf_open(kind: Kind, width: u32) -> u32
+    ensures { result ≡ leaf_open kind width }
+{
+    match kind {
+        Kind::Sep | Kind::Text | Kind::Group => 0,
+        _ => width,
+    }
+}
+
+/// The ranges of a leaf of so many bytes.
+pub fn leaf_ranges(kind: Kind, start: u32, width: u32) -> Ranges
+    requires { start + width < 2 ^ 32 }
+    ensures { result ≡ record { start = start; end = start + width; open_w = leaf_open kind width; close_w = 0 } }
+{
+    Ranges {
+        start,
+        end: start + width,
+        open_w: leaf_open(kind, width),
+        close_w: 0,
+    }
+}
+
+/// Whether this is the kind of groups.
+pub fn is_group(kind: Kind) -> bool
+    ensures { result ≡ is_group kind }
+{
+    match kind {
+        Kind::Group => true,
+        _ => false,
+    }
+}

@@ -1,0 +1,4 @@
+pub mod Values
+pub mod OwnPairs
+pub mod Joining
+pub mod Labels

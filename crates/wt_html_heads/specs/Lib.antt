@@ -1,0 +1,4 @@
+pub mod Texts
+pub mod Told
+pub mod Words
+pub mod Heads

@@ -1,7 +1,0 @@
-use Rattle.std.proofs.Common.{arith}
-use Rattle.std.proofs.lemmas.Grind.{common_steps}
-use Rattle.wt_ranges.proofs.HeldPieces.{held_list}
-use Rattle.wt_ranges.proofs.held.pieces_of_all.Goals as goal
-
-pub returns : goal.returns
-returns c = rw (held_list c.args.trees.now) (grind (arith, common_steps))

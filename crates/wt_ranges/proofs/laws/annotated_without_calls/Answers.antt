@@ -1,6 +1,0 @@
-use Rattle.wt_ranges.proofs.AnnotatedTree.{without_calls, without_calls_or_cuts}
-use Rattle.wt_ranges.proofs.NoGroups.{only_plain}
-use Rattle.wt_ranges.proofs.laws.annotated_without_calls.Goals as goal
-
-pub returns : goal.returns
-returns c = record { anew = without_calls; same = without_calls_or_cuts; only = only_plain }

@@ -1,5 +1,0 @@
-use Rattle.wt_ranges.proofs.Ends.{body_clean}
-use Rattle.wt_ranges.proofs.laws.body_is_clean.Goals as goal
-
-pub returns : goal.returns
-returns c = body_clean

@@ -1,5 +1,0 @@
-use Rattle.wt_ranges.proofs.Calls.{all_calls}
-use Rattle.wt_ranges.proofs.laws.each_call_in_one_group.Goals as goal
-
-pub returns : goal.returns
-returns c = all_calls

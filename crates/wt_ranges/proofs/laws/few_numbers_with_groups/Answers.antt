@@ -1,5 +1,0 @@
-use Rattle.wt_ranges.proofs.AnnotatedTree.{few_numbers}
-use Rattle.wt_ranges.proofs.laws.few_numbers_with_groups.Goals as goal
-
-pub returns : goal.returns
-returns c = few_numbers

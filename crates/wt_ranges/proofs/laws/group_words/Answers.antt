@@ -1,5 +1,0 @@
-use Rattle.wt_ranges.proofs.GroupWords.{called_word, empty_word}
-use Rattle.wt_ranges.proofs.laws.group_words.Goals as goal
-
-pub returns : goal.returns
-returns c = record { called = called_word; empty = empty_word }

@@ -1,5 +1,0 @@
-use Rattle.wt_ranges.proofs.Walks.{walk_all}
-use Rattle.wt_ranges.proofs.laws.groups_by_walking.Goals as goal
-
-pub returns : goal.returns
-returns c = walk_all

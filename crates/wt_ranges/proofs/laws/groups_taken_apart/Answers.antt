@@ -1,5 +1,0 @@
-use Rattle.wt_ranges.proofs.TakenApart.{taken_apart}
-use Rattle.wt_ranges.proofs.laws.groups_taken_apart.Goals as goal
-
-pub returns : goal.returns
-returns c = taken_apart

@@ -1,5 +1,0 @@
-use Rattle.wt_ranges.proofs.StandsCut.{KnownUpTo}
-use Rattle.wt_ranges.proofs.stands_cut.stand_cut.Given as goal
-
-abbrev pub invariant-loop-at : goal.invariant-loop-at
-invariant-loop-at l = KnownUpTo l.nodes l.at l.behind

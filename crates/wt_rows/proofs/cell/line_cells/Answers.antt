@@ -1,0 +1,16 @@
+use Rattle.std.proofs.Common.{ap, ◌∙◌}
+use Rattle.std.proofs.lemmas.Result.{IfOk-weaker}
+use Rattle.wt_span.specs.Items.{items}
+use Rattle.wt_tables.specs.Cells.{cells}
+use Rattle.wt_body.specs.Tables.{cells_by}
+use Rattle.wt_rows.specs.Views.{stretches_view}
+use Rattle.wt_rows.proofs.Celling.{cells_are}
+use Rattle.wt_rows.proofs.cell.line_cells.Goals as goal
+
+pub returns : goal.returns
+returns c =
+    let ss = stretches_view c.args.pieces.now c.args.after in
+    let xs = items c.args.line.now in
+    IfOk-weaker c.cells_by.result _ _ (λ l e. e ∙ ap (λ cs. cells_by c.args.caption cs ss) (c.in_ok-cells.ensures.value
+    ∙ ap (λ ps. cells c.args.caption (items ps)) (c.from_vec.ensures ∙ c.in_ok-own.ensures.items)
+    ∙ cells_are c.args.caption xs c.requires.sign)) c.cells_by.ensures

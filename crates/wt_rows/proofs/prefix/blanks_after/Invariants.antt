@@ -1,0 +1,11 @@
+use Rattle.std.proofs.Common.{◌≡◌, ◌+◌, length}
+use Rattle.std.specs.List.{prefix_len}
+use Rattle.wt_span.specs.Bytes.{is_blank}
+use Rattle.wt_lines.specs.Signs.{left}
+use Rattle.wt_rows.proofs.prefix.blanks_after.Given as goal
+
+abbrev pub invariant-loop-sign : goal.invariant-loop-sign
+invariant-loop-sign l = l.len + prefix_len is_blank (left l.rest) ≡ l.n + prefix_len is_blank (left l.signs)
+
+abbrev pub decreases-loop-sign : goal.decreases-loop-sign
+decreases-loop-sign l = length (left l.rest)

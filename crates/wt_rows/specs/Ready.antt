@@ -1,0 +1,54 @@
+-- What rows must be that are read as blocks.
+use Rattle.std.specs.Prelude.{◌≡◌, ◌≤◌, ◌<◌, ◌||◌, ℕ, Bool, true, false, List, [], ◌∷◌, All, codes}
+use Rattle.std.specs.List.{prefix_len}
+use Rattle.wt_span.specs.Bytes.{begins}
+use Rattle.wt_span.specs.declared.form.Piece.{Piece}
+use Rattle.wt_span.specs.Origins.{IsSoundPiece}
+use Rattle.wt_lines.specs.declared.kind.LineKind.{LineKind}
+use Rattle.wt_lines.specs.declared.kind.LineKind.TheVariants as line
+use Rattle.wt_lines.specs.Pieces.{AllParted}
+use Rattle.wt_blocks.specs.Nesting.{is_list_sign}
+use Rattle.wt_rows.specs.declared.row.RowAt.{RowAt}
+use Rattle.wt_body.specs.Rows.{signs}
+use Rattle.wt_rows.specs.Views.{row_view}
+
+-- what a row of a kind begins with
+abbrev pub Begins : LineKind → List ℕ → Type 0
+Begins line.Blank ss = Unit {0}
+Begins line.TableOpen ss = begins (codes "{|") ss ≡ true
+Begins line.TableEnd ss = Unit {0}
+Begins line.Caption ss = begins (codes "|+") ss ≡ true
+Begins line.Row ss = begins (codes "|-") ss ≡ true
+Begins line.Cell ss = begins (codes "|") ss ≡ true
+Begins line.Header ss = begins (codes "!") ss ≡ true
+Begins line.Heading ss = Unit {0}
+Begins line.Rule ss = Unit {0}
+Begins line.List ss = 0 < prefix_len is_list_sign ss
+Begins line.Pre ss = begins (codes " ") ss ≡ true
+Begins line.Text ss = Unit {0}
+
+pub record IsReadyRow (ps : List Piece) (r : RowAt) : Type 0 where
+  pub lead : r.start ≤ r.from
+  pub items : r.from ≤ r.to
+  pub ending : r.to ≤ r.end
+  pub begins : Begins r.kind (signs (row_view ps r).items)
+
+abbrev pub BeginAt : ℕ → List RowAt → Type 0
+BeginAt place [] = Unit {0}
+BeginAt place (r ∷ rs) = place ≡ r.start
+
+-- each begins where the one before it ends
+abbrev pub AreInOrder : List Piece → List RowAt → Type 0
+AreInOrder ps [] = Unit {0}
+AreInOrder ps (r ∷ rs) = IsReadyRow ps r × BeginAt r.end rs × AreInOrder ps rs
+
+-- sound pieces that are parted at line breaks, and rows among them
+pub record AreReadyRows (ps : List Piece) (rs : List RowAt) : Type 0 where
+  pub sound : All IsSoundPiece ps
+  pub parted : AllParted ps
+  pub rows : AreInOrder ps rs
+
+-- what a line of cells, or a caption, begins with
+abbrev pub BeginsCell : Bool → List ℕ → Type 0
+BeginsCell true ss = begins (codes "|+") ss ≡ true
+BeginsCell false ss = (begins (codes "|") ss || begins (codes "!") ss) ≡ true

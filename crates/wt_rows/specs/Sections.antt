@@ -1,0 +1,34 @@
+-- Sections of a page: rows after which no table is open, before an empty line or at the end. The blocks of a page are those of its
+-- sections, with the empty lines between them as gaps.
+use Rattle.std.specs.Prelude.{◌≡◌, ◌≤◌, ◌⊎◌, ℕ, true, List, [], ◌∷◌, ◌++◌, All}
+use Rattle.wt_span.specs.Items.{Item, items}
+use Rattle.wt_span.specs.Origins.{IsSoundPiece}
+use Rattle.wt_tables.specs.Extents.{behind}
+use Rattle.wt_body.specs.Rows.{Row, rows}
+use Rattle.wt_body.specs.Body.{body_parts}
+use Rattle.wt_rows.specs.declared.section.Section.{Section}
+use Rattle.wt_rows.specs.Building.{ArePageRows, made_rows, IsRowsSoFar}
+use Rattle.wt_rows.specs.Unread.{left, begins_break}
+
+-- how many tables are open behind rows, before which so many are
+abbrev pub open_behind : ℕ → List Row → ℕ
+open_behind n [] = n
+open_behind n (r ∷ rs) = open_behind (behind n r.kind) rs
+
+pub record IsSection (s : Section) : Type 0 where
+  pub few : s.tables ≤ 16
+  pub rows_ready : ArePageRows s.made
+  pub count : open_behind 0 (made_rows s.made) ≡ s.tables
+  pub sound : All IsSoundPiece (left s.rest)
+
+-- its rows and those of what is left are all
+abbrev pub IsSectionOf : List Row → Section → Type 0
+IsSectionOf all s = IsRowsSoFar (made_rows s.made) s.tables (left s.rest) all
+
+-- all is read, or an empty line comes that stands in no table
+abbrev pub IsEnd : Section → Type 0
+IsEnd s = (left s.rest ≡ []) ⊎ ((s.tables ≡ 0) × (begins_break (items (left s.rest)) ≡ true))
+
+-- the parts of a body are those of these rows, and then those of the items behind them
+abbrev pub AreFirst : List Row → List Item → List Item → Type 0
+AreFirst rs xs ys = body_parts (rows xs) ≡ body_parts rs ++ body_parts (rows ys)

@@ -1,0 +1,339 @@
+//! The rows of a page, made from its pieces.
+
+ghost use Rattle.std.specs.Prelude.{◌≡◌, ◌≤◌, ◌<◌, ℕ, ◌∷◌, [], ◌++◌, List, All, length, drop, replicate, slice_index, IfOk};
+ghost use Rattle.wt_span.specs.Items.{items, items_of};
+ghost use Rattle.wt_span.specs.Origins.{IsSoundPiece};
+ghost use Rattle.wt_lines.specs.Kinds.{past, is_idle, is_mark_sign};
+ghost use Rattle.wt_lines.specs.Lines.{IsUnbroken, content};
+ghost use Rattle.wt_lines.specs.Pieces.{AreLeadingMarks};
+ghost use Rattle.wt_headings.specs.Lines.{kind_at};
+ghost use Rattle.wt_tiles.specs.Cutting.{IsEdgeIn};
+ghost use Rattle.wt_body.specs.Rows.{signs, marks_len, idle_len, dashes, line_rows, unwritten_end, rows};
+ghost use Rattle.wt_rows.specs.Ready.{Begins};
+ghost use Rattle.wt_rows.specs.Building.{AreWhole, IsRowOf, row_of, ArePageRows, made_rows, cut_row, signed_rows, table_end_rows, rule_rows, IsKindAt, IsIdleCut, IsSeenFirst};
+
+use crate::cuts::cut;
+use crate::row::RowAt;
+use std::alloc::Global;
+use wt_headings::content_len;
+use wt_lines::{LineKind, Signs, is_chars, kind_of_pieces, marks_len};
+use wt_span::{List, NoMemory, Piece, front_of, rest_of};
+
+/// The rows of a page, and its pieces, which are cut where rows and their leads end.
+#[derive(Drop)]
+pub struct PageRows<'a> {
+    pub pieces: List<Piece<'a>>,
+    pub rows: List<RowAt>,
+}
+
+/// How many blanks and marks stand at the front, in items. More than a machine word counts are
+/// answered as want of memory.
+fn idle_len(line: &[Piece<'_>]) -> Result<usize, NoMemory>
+    ensures { IfOk result (λ n. n ≡ idle_len (items line.now)) }
+{
+    let mut rest = Signs::of(line);
+    let mut len: usize = 0;
+    while let Some((sign, after)) = rest.split_first() {
+        if !sign.is_idle() {
+            return Ok(len);
+        }
+        len = len.checked_add(1).ok_or(NoMemory)?;
+        rest = after;
+    }
+    Ok(len)
+}
+
+/// How many `-` stand at the front. More than a machine word counts are answered as want of memory.
+fn dashes(line: &[Piece<'_>]) -> Result<usize, NoMemory>
+    ensures { IfOk result (λ n. n ≡ dashes (items line.now)) }
+{
+    let mut rest = Signs::of(line);
+    let mut len: usize = 0;
+    while let Some((sign, after)) = rest.split_first() {
+        if !sign.is_byte(b'-') {
+            return Ok(len);
+        }
+        len = len.checked_add(1).ok_or(NoMemory)?;
+        rest = after;
+    }
+    Ok(len)
+}
+
+/// The first byte of a text.
+fn first_byte(text: &str) -> u8
+    requires { 0 < length text.now }
+    ensures value { result ≡ slice_index text.now 0 }
+    ensures byte { result < 256 }
+{
+    text.as_bytes()[0]
+}
+
+/// The sign at the front of a piece is a mark's only where the piece is a mark, since no byte is as
+/// great as the number of marks.
+fn see_first(piece: Piece<'_>)
+    requires { IsSoundPiece piece }
+    ensures { IsSeenFirst (items_of piece.entry) }
+{
+    if is_chars(piece.form) {
+        let _first = first_byte(piece.text.as_str());
+    }
+}
+
+/// How many pieces of marks stand at the front. What is behind them begins with no mark.
+fn lead_len(content: &[Piece<'_>]) -> usize
+    requires { All IsSoundPiece content.now }
+    ensures cut { AreLeadingMarks content.now result }
+    ensures within { result ≤ length content.now }
+    ensures seen { past is_mark_sign (signs (items content.now)) ≡ signs (items (drop result content.now)) }
+{
+    let n = marks_len(content);
+    if n < content.len() {
+        see_first(content[n]);
+    }
+    n
+}
+
+/// What a line is, where so many tables are open.
+pub fn line_kind(line: &[Piece<'_>], tables: u32) -> LineKind
+    requires { AreWhole line.now }
+    ensures { result ≡ kind_at tables (items line.now) }
+{
+    kind_of_pieces(front_of(line, content_len(line)), tables)
+}
+
+impl<'a> PageRows<'a> {
+    /// No rows yet.
+    pub fn new(alloc: Global) -> PageRows<'a>
+        ensures rows { made_rows result ≡ [] }
+        ensures made { ArePageRows result }
+    {
+        PageRows {
+            pieces: List::new(alloc),
+            rows: List::new(alloc),
+        }
+    }
+
+    /// One more row, of these pieces.
+    fn with_row(
+        self,
+        kind: LineKind,
+        lead: &[Piece<'a>],
+        inside: &[Piece<'a>],
+        ending: &[Piece<'a>],
+    ) -> Result<PageRows<'a>, NoMemory>
+        requires made { ArePageRows self }
+        requires row { IsRowOf kind lead.now inside.now ending.now }
+        ensures rows { IfOk result (λ r. made_rows r ≡ made_rows self.entry ++ row_of kind lead.now inside.now ending.now ∷ []) }
+        ensures made_after { IfOk result (λ r. ArePageRows r) }
+    {
+        let PageRows {
+            mut pieces,
+            mut rows,
+        } = self;
+        let start = pieces.len();
+        pieces.extend_from_slice(lead)?;
+        let from = pieces.len();
+        pieces.extend_from_slice(inside)?;
+        let to = pieces.len();
+        pieces.extend_from_slice(ending)?;
+        let end = pieces.len();
+        rows.push(RowAt {
+            kind,
+            start,
+            from,
+            to,
+            end,
+        })?;
+        Ok(PageRows { pieces, rows })
+    }
+
+    /// A line whose lead are the marks at its front.
+    fn with_marked(
+        self,
+        kind: LineKind,
+        content: &[Piece<'a>],
+        ending: &[Piece<'a>],
+    ) -> Result<PageRows<'a>, NoMemory>
+        requires made { ArePageRows self }
+        requires content { AreWhole content.now }
+        requires ending { AreWhole ending.now }
+        requires begins { Begins kind (past is_mark_sign (signs (items content.now))) }
+        ensures rows { IfOk result (λ r. made_rows r
+            ≡ made_rows self.entry ++ cut_row kind (marks_len (items content.now)) (items content.now) (items ending.now) ∷ []) }
+        ensures made_after { IfOk result (λ r. ArePageRows r) }
+    {
+        let n = lead_len(content);
+        self.with_row(kind, front_of(content, n), rest_of(content, n), ending)
+    }
+
+    /// A line of a table, whose lead are the blanks and marks at its front.
+    fn with_idle(
+        self,
+        alloc: Global,
+        kind: LineKind,
+        content: &[Piece<'a>],
+        ending: &[Piece<'a>],
+    ) -> Result<PageRows<'a>, NoMemory>
+        requires made { ArePageRows self }
+        requires content { AreWhole content.now }
+        requires ending { AreWhole ending.now }
+        requires unbroken { IsUnbroken (items content.now) }
+        requires edge { IsIdleCut (items content.now) }
+        requires begins { Begins kind (past is_idle (signs (items content.now))) }
+        ensures rows { IfOk result (λ r. made_rows r
+            ≡ made_rows self.entry ++ cut_row kind (idle_len (items content.now)) (items content.now) (items ending.now) ∷ []) }
+        ensures made_after { IfOk result (λ r. ArePageRows r) }
+    {
+        let n = idle_len(content)?;
+        let (lead, rest) = cut(alloc, content, n)?;
+        self.with_row(kind, lead.as_slice(), rest.as_slice(), ending)
+    }
+
+    /// A sign of n items behind its lead, and what stands behind it on the line: the end of its row,
+    /// or a row of text where something is seen.
+    fn with_sign(
+        self,
+        alloc: Global,
+        kind: LineKind,
+        lead: &[Piece<'a>],
+        n: usize,
+        content: &[Piece<'a>],
+        ending: &[Piece<'a>],
+    ) -> Result<PageRows<'a>, NoMemory>
+        requires made { ArePageRows self }
+        requires lead { AreWhole lead.now }
+        requires sound { All IsSoundPiece content.now }
+        requires ending { AreWhole ending.now }
+        requires unbroken { IsUnbroken (items content.now) }
+        requires within { n ≤ length (items content.now) }
+        requires edge { 0 < n → IsEdgeIn (items content.now) n }
+        requires free { (ss : List ℕ) → Begins kind ss }
+        ensures rows { IfOk result (λ r. made_rows r ≡ made_rows self.entry ++ signed_rows kind (items lead.now) n (items content.now) (items ending.now)) }
+        ensures made_after { IfOk result (λ r. ArePageRows r) }
+    {
+        let (sign, rest) = cut(alloc, content, n)?;
+        if Signs::of(rest.as_slice()).is_idle() {
+            let mut end = rest;
+            end.extend_from_slice(ending)?;
+            return self.with_row(kind, lead, sign.as_slice(), end.as_slice());
+        }
+        let none = front_of(ending, 0);
+        let made = self.with_row(kind, lead, sign.as_slice(), none)?;
+        made.with_marked(LineKind::Text, rest.as_slice(), ending)
+    }
+
+    /// The end of a table.
+    fn with_table_end(
+        self,
+        alloc: Global,
+        content: &[Piece<'a>],
+        ending: &[Piece<'a>],
+    ) -> Result<PageRows<'a>, NoMemory>
+        requires made { ArePageRows self }
+        requires content { AreWhole content.now }
+        requires ending { AreWhole ending.now }
+        requires unbroken { IsUnbroken (items content.now) }
+        requires edge { IsIdleCut (items content.now) }
+        requires within { 2 ≤ length (drop (idle_len (items content.now)) (items content.now)) }
+        requires sign_edge { IsEdgeIn (drop (idle_len (items content.now)) (items content.now)) 2 }
+        ensures rows { IfOk result (λ r. made_rows r ≡ made_rows self.entry ++ table_end_rows (items content.now) (items ending.now)) }
+        ensures made_after { IfOk result (λ r. ArePageRows r) }
+    {
+        let n = idle_len(content)?;
+        let (lead, rest) = cut(alloc, content, n)?;
+        self.with_sign(
+            alloc,
+            LineKind::TableEnd,
+            lead.as_slice(),
+            2,
+            rest.as_slice(),
+            ending,
+        )
+    }
+
+    /// A rule.
+    fn with_rule(
+        self,
+        alloc: Global,
+        content: &[Piece<'a>],
+        ending: &[Piece<'a>],
+    ) -> Result<PageRows<'a>, NoMemory>
+        requires made { ArePageRows self }
+        requires content { AreWhole content.now }
+        requires ending { AreWhole ending.now }
+        requires unbroken { IsUnbroken (items content.now) }
+        ensures rows { IfOk result (λ r. made_rows r ≡ made_rows self.entry ++ rule_rows (items content.now) (items ending.now)) }
+        ensures made_after { IfOk result (λ r. ArePageRows r) }
+    {
+        let n = marks_len(content);
+        let rest = rest_of(content, n);
+        let len = dashes(rest)?;
+        self.with_sign(
+            alloc,
+            LineKind::Rule,
+            front_of(content, n),
+            len,
+            rest,
+            ending,
+        )
+    }
+
+    /// The rows of a line of this kind.
+    pub fn with_line(
+        self,
+        alloc: Global,
+        kind: LineKind,
+        line: &[Piece<'a>],
+    ) -> Result<PageRows<'a>, NoMemory>
+        requires made { ArePageRows self }
+        requires line { AreWhole line.now }
+        requires unbroken { IsUnbroken (content (items line.now)) }
+        requires kind { IsKindAt kind (items line.now) }
+        ensures rows { IfOk result (λ r. made_rows r ≡ made_rows self.entry ++ line_rows kind (items line.now)) }
+        ensures made_after { IfOk result (λ r. ArePageRows r) }
+    {
+        let n = content_len(line);
+        let content = front_of(line, n);
+        let ending = rest_of(line, n);
+        match kind {
+            LineKind::Blank => {
+                let none = front_of(line, 0);
+                self.with_row(LineKind::Blank, none, line, none)
+            }
+            LineKind::TableOpen
+            | LineKind::Caption
+            | LineKind::Row
+            | LineKind::Cell
+            | LineKind::Header => self.with_idle(alloc, kind, content, ending),
+            LineKind::TableEnd => self.with_table_end(alloc, content, ending),
+            LineKind::Rule => self.with_rule(alloc, content, ending),
+            LineKind::Heading | LineKind::List | LineKind::Pre | LineKind::Text => {
+                self.with_marked(kind, content, ending)
+            }
+        }
+    }
+
+    /// The ends of so many tables that no line ends.
+    pub fn with_ends(self, tables: u32) -> Result<PageRows<'a>, NoMemory>
+        requires made { ArePageRows self }
+        ensures rows { IfOk result (λ r. made_rows r ≡ made_rows self.entry ++ replicate tables unwritten_end) }
+        ensures made_after { IfOk result (λ r. ArePageRows r) }
+    {
+        let mut made = self;
+        let mut left = tables;
+        while left > 0 {
+            made = made.with_end()?;
+            left -= 1;
+        }
+        Ok(made)
+    }
+
+    /// The end of a table that no line ends.
+    fn with_end(self) -> Result<PageRows<'a>, NoMemory>
+        requires made { ArePageRows self }
+        ensures rows { IfOk result (λ r. made_rows r ≡ made_rows self.entry ++ unwritten_end ∷ []) }
+        ensures made_after { IfOk result (λ r. ArePageRows r) }
+    {
+        self.with_row(LineKind::TableEnd, &[], &[], &[])
+    }
+}

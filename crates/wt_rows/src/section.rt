@@ -1,0 +1,94 @@
+//! Sections of a page: lines up to an empty one that stands in no table. No block reaches over such
+//! a line, so each section is made to blocks by itself.
+
+ghost use Rattle.std.specs.Prelude.{◌≡◌, ◌<◌, All, List, true, false, length, IfOk};
+ghost use Rattle.wt_span.specs.Items.{items};
+ghost use Rattle.wt_span.specs.Origins.{IsSoundPiece};
+ghost use Rattle.wt_body.specs.Rows.{Row, rows};
+ghost use Rattle.wt_rows.specs.Building.{ArePageRows, made_rows};
+ghost use Rattle.wt_rows.specs.Unread.{left};
+ghost use Rattle.wt_rows.specs.Sections.{IsSection, IsSectionOf, IsEnd, AreFirst};
+
+use crate::rows::{PageRows, line_kind};
+use crate::unread::Unread;
+use std::alloc::Global;
+use wt_span::NoMemory;
+use wt_tables::behind;
+
+/// The rows of lines that are read, how many tables are open behind them, and what is not yet read.
+#[derive(Drop)]
+pub struct Section<'p, 'a> {
+    made: PageRows<'a>,
+    tables: u32,
+    rest: Unread<'p, 'a>,
+}
+
+impl<'p, 'a> Section<'p, 'a> {
+    /// A section that begins here.
+    fn begun(alloc: Global, rest: Unread<'p, 'a>) -> Section<'p, 'a>
+        requires { All IsSoundPiece (left rest) }
+        ensures section { IsSection result }
+        ensures all { IsSectionOf (rows (items (left rest.entry))) result }
+        ensures rest { result.rest ≡ rest.entry }
+    {
+        Section {
+            made: PageRows::new(alloc),
+            tables: 0,
+            rest,
+        }
+    }
+
+    /// One line more.
+    fn with_line(self, alloc: Global) -> Result<Section<'p, 'a>, NoMemory>
+        requires section { IsSection self }
+        requires some { 0 < length (left self.rest) }
+        ensures section_after { IfOk result (λ s. IsSection s) }
+        ensures all { IfOk result (λ s. (all : List Row) → IsSectionOf all self.entry → IsSectionOf all s) }
+        ensures fewer { IfOk result (λ s. length (items (left s.rest)) < length (items (left self.entry.rest))) }
+    {
+        let Section { made, tables, rest } = self;
+        let (line, after) = rest.split_line(alloc)?;
+        let kind = line_kind(line.as_slice(), tables);
+        let made = made.with_line(alloc, kind, line.as_slice())?;
+        Ok(Section {
+            made,
+            tables: behind(tables, kind),
+            rest: after,
+        })
+    }
+
+    /// Whether the next line belongs to it.
+    fn goes_on(&self) -> bool
+        ensures some { result ≡ true → 0 < length (left self.now.rest) }
+        ensures end { result ≡ false → IsEnd self.now }
+    {
+        if self.rest.is_empty() {
+            return false;
+        }
+        if self.tables > 0 {
+            return true;
+        }
+        !self.rest.begins_break()
+    }
+}
+
+/// The rows of the first section, and what is left behind it.
+pub fn next_section<'p, 'a>(
+    alloc: Global,
+    rest: Unread<'p, 'a>,
+) -> Result<(PageRows<'a>, Unread<'p, 'a>), NoMemory>
+    requires sound { All IsSoundPiece (left rest) }
+    requires some { 0 < length (left rest) }
+    ensures first { IfOk result (λ r. AreFirst (made_rows r.0) (items (left rest.entry)) (items (left r.1))) }
+    ensures made { IfOk result (λ r. ArePageRows r.0) }
+    ensures sound_after { IfOk result (λ r. All IsSoundPiece (left r.1)) }
+    ensures fewer { IfOk result (λ r. length (items (left r.1)) < length (items (left rest.entry))) }
+{
+    let mut section = Section::begun(alloc, rest).with_line(alloc)?;
+    while section.goes_on() {
+        section = section.with_line(alloc)?;
+    }
+    let Section { made, tables, rest } = section;
+    let rows = made.with_ends(tables)?;
+    Ok((rows, rest))
+}

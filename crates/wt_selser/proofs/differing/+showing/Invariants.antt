@@ -1,5 +1,0 @@
-use Rattle.wt_selser.proofs.ShownChildren.{Left}
-use Rattle.wt_selser.proofs.differing.+showing.Given as goal
-
-abbrev pub invariant-push_all_shown-loop-node : goal.invariant-push_all_shown-loop-node
-invariant-push_all_shown-loop-node l = Left l.initial.shown l.shown l.nodes l.node-index

@@ -1,6 +1,0 @@
-use Rattle.std.proofs.Common.{◌≡◌, false, drop}
-use Rattle.wt_selser.proofs.Urls.{go_on}
-use Rattle.wt_selser.proofs.url.are_url_bytes.Given as goal
-
-abbrev pub invariant-loop-byte : goal.invariant-loop-byte
-invariant-loop-byte l = go_on l.apostrophe (drop l.byte-index l.bytes) ≡ go_on false l.bytes

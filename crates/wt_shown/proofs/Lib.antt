@@ -1,0 +1,5 @@
+mod Cases
+pub mod SameTells
+pub mod DifferingLaws
+pub mod ShownChildren
+pub mod RestoredShown

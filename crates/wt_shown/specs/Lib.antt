@@ -1,0 +1,4 @@
+pub mod SameNodes
+pub mod Children
+pub mod Restored
+pub mod Views

@@ -1,0 +1,19 @@
+//! Laws of what bodies show, which do nothing when they are called.
+
+ghost use Rattle.std.specs.Prelude.{◌≡◌, ℕ, List, Option, None};
+ghost use Rattle.wt_tree.specs.Plain.{Plain};
+ghost use Rattle.wt_kept.specs.Page.{TellsSame};
+ghost use Rattle.wt_shown.specs.Children.{IsFirstDiffering, differing};
+ghost use Rattle.wt_shown.specs.SameNodes.{same_node};
+
+/// There is a test that tells nodes of one kind with one plain view, and it can be computed.
+#[tactic(auto, using(crate::proofs::SameTells::tells_same))]
+pub fn nodes_are_told()
+    ensures { TellsSame same_node }
+{}
+
+/// The first child in which two bodies differ can be computed, and where none is told they show the same.
+pub fn differing_is_first()
+    ensures told { (xs ys : List Plain) → (r : Option ℕ) → IsFirstDiffering xs ys r → r ≡ differing 1 xs ys }
+    ensures same { (xs ys : List Plain) → differing 1 xs ys ≡ None → xs ≡ ys }
+{}

@@ -1,0 +1,13 @@
+//! What bodies show, child by child, and the first child in which two of them differ. In an edited tree a
+//! group shows what the page's group of its number does.
+#![tactic(auto)]
+
+mod children;
+mod compare;
+mod laws;
+mod shown_node;
+
+pub use children::{Child, held_nodes, is_group, shown_nodes};
+pub use compare::{first_of_children, shows_same};
+pub use laws::{differing_is_first, nodes_are_told};
+pub use shown_node::ShownNode;
