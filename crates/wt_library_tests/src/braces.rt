@@ -4,7 +4,7 @@ use std::process::Abort;
 use std::test::Fail;
 use wt_braces::{BraceRefusal, Call, match_braces};
 use wt_lex::{Mode, lex};
-use wt_span::List;
+use wt_span::{List, NoMemory};
 
 /// A case a line: how a text is read, the text with `↵` for each line break, and its calls: `c`, or
 /// `a` for an argument, its bytes, the number of the call round it, and its parts, each with the
@@ -50,43 +50,40 @@ page ⇒ }} {{ ⇒
 template ⇒ {{a|<noinclude>}}</noinclude>}} ⇒ c 0-31 - 2-3,4-29
 "#;
 
-fn shown_parts(alloc: Global, call: &Call) -> Result<String, AllocError> {
-    let mut text = String::new(alloc);
+/// A call's parts, as a case has them.
+fn write_parts(text: &mut String, call: &Call) -> Result<(), AllocError> {
+    let mut comma = "";
     for part in call.parts.as_slice() {
-        let comma = if text.is_empty() { "" } else { "," };
-        let one = format!(in alloc; "{comma}{}-{}", part.at.start, part.at.end)?;
-        text.push_str(one.as_str())?;
+        write!(text, "{comma}{}-{}", part.at.start, part.at.end)?;
         if let Some(place) = part.equals {
-            let name = format!(in alloc; "={place}")?;
-            text.push_str(name.as_str())?;
+            write!(text, "={place}")?;
         }
+        comma = ",";
     }
-    Ok(text)
+    Ok(())
 }
 
-fn shown_one(alloc: Global, call: &Call) -> Result<String, AllocError> {
+fn write_call(text: &mut String, call: &Call) -> Result<(), AllocError> {
     let kind = if call.argument { "a" } else { "c" };
-    let parts = shown_parts(alloc, call)?;
-    let parts = parts.as_str();
+    write!(text, "{kind} {}-{} ", call.at.start, call.at.end)?;
     match call.parent {
-        Some(n) => format!(in alloc; "{kind} {}-{} {n} {parts}", call.at.start, call.at.end),
-        None => format!(in alloc; "{kind} {}-{} - {parts}", call.at.start, call.at.end),
+        Some(n) => write!(text, "{n} ")?,
+        None => text.push_str("- ")?,
     }
+    write_parts(text, call)
 }
 
-fn shown(alloc: Global, calls: &[Call]) -> Result<String, AllocError> {
-    let mut text = String::new(alloc);
+fn write_calls(text: &mut String, calls: &[Call]) -> Result<(), AllocError> {
+    let mut semicolon = "";
     for call in calls {
-        if !text.is_empty() {
-            text.push(';')?;
-        }
-        let one = shown_one(alloc, call)?;
-        text.push_str(one.as_str())?;
+        text.push_str(semicolon)?;
+        write_call(text, call)?;
+        semicolon = ";";
     }
-    Ok(text)
+    Ok(())
 }
 
-fn with_breaks(alloc: Global, text: &str) -> Result<String, AllocError> {
+fn with_breaks(alloc: Global, text: &str) -> Result<String, NoMemory> {
     let mut out = String::new(alloc);
     for c in text.chars() {
         out.push(if c == '↵' { '\n' } else { c })?;
@@ -104,19 +101,45 @@ fn calls_in(alloc: Global, text: &str, mode: Mode) -> Result<List<Call>, BraceRe
     match_braces(alloc, &lexemes)
 }
 
-fn check_case(rt: &(impl Abort + AllocGlobal), line: &str) -> Result<(), Fail> {
-    let alloc = rt.alloc();
-    let (mode, rest) = line.split_once(" ⇒ ").ok_or("no text")?;
-    let (text, want) = rest.split_once(" ⇒ ").ok_or("no calls")?;
+/// The calls of a case's text.
+fn calls_of(alloc: Global, text: &str, mode: Mode) -> Result<List<Call>, BraceRefusal> {
+    let text = with_breaks(alloc, text)?;
+    calls_in(alloc, text.as_str(), mode)
+}
+
+/// The same, as a case has them.
+fn shown(alloc: Global, calls: &List<Call>) -> Result<String, AllocError> {
+    let mut text = String::new(alloc);
+    write_calls(&mut text, calls.as_slice())?;
+    Ok(text)
+}
+
+/// How the text of a case is read, the text, and its calls.
+fn case_of(line: &str) -> Option<(Mode, &str, &str)> {
+    let (mode, rest) = line.split_once(" ⇒ ")?;
+    let (text, calls) = rest.split_once(" ⇒ ")?;
     let mode = if mode == "page" {
         Mode::Page
     } else {
         Mode::Template
     };
-    let text = with_breaks(alloc, text)?;
-    let calls = calls_in(alloc, text.as_str(), mode).map_err(|_| "refused")?;
-    let shown = shown(alloc, calls.as_slice())?;
-    assert_eq!(rt; shown.as_str(), want, "{line:?}");
+    Some((mode, text, calls))
+}
+
+fn check_calls(
+    rt: &(impl Abort + AllocGlobal),
+    calls: &List<Call>,
+    want: &str,
+) -> Result<(), AllocError> {
+    let shown = shown(rt.alloc(), calls)?;
+    assert_eq!(rt; shown.as_str(), want);
+    Ok(())
+}
+
+fn check_case(rt: &(impl Abort + AllocGlobal), line: &str) -> Result<(), Fail> {
+    let (mode, text, want) = case_of(line).ok_or("no case")?;
+    let calls = calls_of(rt.alloc(), text, mode)?;
+    check_calls(rt, &calls, want)?;
     Ok(())
 }
 
@@ -132,7 +155,7 @@ fn finds_calls(rt: HostRuntime) -> Result<(), Fail> {
 }
 
 /// So many times the first text, and so many times the second.
-fn nested(alloc: Global, count: usize) -> Result<String, AllocError> {
+fn nested(alloc: Global, count: usize) -> Result<String, NoMemory> {
     let mut text = String::new(alloc);
     for _ in 0..count {
         text.push_str("{{a")?;
@@ -143,14 +166,17 @@ fn nested(alloc: Global, count: usize) -> Result<String, AllocError> {
     Ok(text)
 }
 
+/// How many calls are found, where so many lie in each other.
+fn calls_of_nested(alloc: Global, count: usize) -> Result<usize, BraceRefusal> {
+    let text = nested(alloc, count)?;
+    let calls = calls_in(alloc, text.as_str(), Mode::Page)?;
+    Ok(calls.len())
+}
+
 #[test]
-fn refuses_what_lies_too_deep(rt: HostRuntime) -> Result<(), Fail> {
-    let alloc = rt.alloc();
-    let deep = nested(alloc, 101)?;
-    let refusal = calls_in(alloc, deep.as_str(), Mode::Page);
-    assert!(rt; matches!(&refusal, Err(BraceRefusal::BracesTooDeep { place: 300 })));
-    let less = nested(alloc, 100)?;
-    let calls = calls_in(alloc, less.as_str(), Mode::Page).map_err(|_| "refused")?;
-    assert_eq!(rt; calls.len(), 100);
-    Ok(())
+fn refuses_what_lies_too_deep(rt: HostRuntime) {
+    let deep = calls_of_nested(rt.alloc(), 101);
+    assert!(rt; matches!(deep, Err(BraceRefusal::BracesTooDeep { place: 300 })));
+    let less = calls_of_nested(rt.alloc(), 100);
+    assert!(rt; matches!(less, Ok(100)));
 }

@@ -4,11 +4,11 @@ use std::alloc::Global;
 use std::test::Fail;
 use wt_checks::{Check, check};
 use wt_html_in::read_html;
-use wt_span::{List, Str};
+use wt_span::{List, NoMemory, Str};
 use wt_tree::{Kind, Mark, Node};
 
-/// The first refusal of an edited page.
-fn refusal(alloc: Global, html: &str) -> Result<Option<Check>, Fail> {
+/// The first refusal of an edited page, against the page without bytes.
+fn refusal_of(alloc: Global, edited: &Node<'_>) -> Result<Option<Check>, NoMemory> {
     let page = Node {
         kind: Kind::Body,
         id: 0,
@@ -23,14 +23,21 @@ fn refusal(alloc: Global, html: &str) -> Result<Option<Check>, Fail> {
         mw: None,
         children: List::new(alloc),
     };
-    let arena = Bump::new(alloc);
+    check(alloc, &page, edited, false)
+}
+
+/// The first refusal of a short edited page, whose texts lie in the arena; none where it is no page.
+fn refusal_in(alloc: Global, html: &str, arena: &Bump<Global>) -> Option<Option<Check>> {
     if 1000 < html.len() {
-        return Err("long input".into());
+        return None;
     }
-    match read_html(alloc, html.as_bytes(), &arena) {
-        Ok(edited) => Ok(check(alloc, &page, edited.body(), false)?),
-        Err(_) => Err("refused input".into()),
-    }
+    let edited = read_html(alloc, html.as_bytes(), arena).ok()?;
+    refusal_of(alloc, edited.body()).ok()
+}
+
+fn refusal(alloc: Global, html: &str) -> Result<Option<Check>, &'static str> {
+    let arena = Bump::new(alloc);
+    refusal_in(alloc, html, &arena).ok_or("no answer")
 }
 
 #[test]

@@ -1,6 +1,6 @@
 //! Texts of both attributes against cases whose answers two independent programs gave.
 use std::alloc::Global;
-use std::test::Fail;
+use std::process::Abort;
 use wt_datamw::{DataRefusal, DataWhy, read, read_sync, sync_to_text, to_text};
 use wt_span::{NoMemory, Str};
 
@@ -94,16 +94,32 @@ fn sync_answer(alloc: Global, text: &str) -> Result<Str, NoMemory> {
     }
 }
 
+/// The text of a line, and what is wanted.
+fn case_of(line: &str) -> (&str, &str) {
+    line.split_once(" => ").unwrap_or((line, ""))
+}
+
+fn check_mw(rt: &(impl Abort + AllocGlobal), line: &str) -> Result<(), NoMemory> {
+    let (text, wanted) = case_of(line);
+    let answer = mw_answer(rt.alloc(), text)?;
+    assert_eq!(rt; answer.as_str(), wanted, "{text}");
+    Ok(())
+}
+
+fn check_sync(rt: &(impl Abort + AllocGlobal), line: &str) -> Result<(), NoMemory> {
+    let (text, wanted) = case_of(line);
+    let answer = sync_answer(rt.alloc(), text)?;
+    assert_eq!(rt; answer.as_str(), wanted, "{text}");
+    Ok(())
+}
+
 #[test]
-fn texts_are_read_and_written_again(rt: HostRuntime) -> Result<(), Fail> {
-    let alloc = rt.alloc();
+fn texts_are_read_and_written_again(rt: HostRuntime) -> Result<(), NoMemory> {
     for line in MW_CASES.lines() {
-        let (text, wanted) = line.split_once(" => ").ok_or("no arrow")?;
-        assert_eq!(rt; mw_answer(alloc, text)?.as_str(), wanted, "{text}");
+        check_mw(&rt, line)?;
     }
     for line in SYNC_CASES.lines() {
-        let (text, wanted) = line.split_once(" => ").ok_or("no arrow")?;
-        assert_eq!(rt; sync_answer(alloc, text)?.as_str(), wanted, "{text}");
+        check_sync(&rt, line)?;
     }
     Ok(())
 }

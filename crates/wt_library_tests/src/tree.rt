@@ -1,16 +1,22 @@
 use std::alloc::Global;
-use std::test::Fail;
+use std::process::Abort;
 use wt_span::{List, NoMemory, Str, Text};
 use wt_tree::{Attr, AttrName, DataMw, Kind, Mark, Node, Part, Ranges, find, flat, plain_eq, walk};
 
-/// A node of this kind and number without ranges, delimiters and children.
-fn node<'a>(alloc: Global, kind: Kind, id: u32) -> Node<'a> {
+/// A node of this kind and number with these delimiters, without ranges and children.
+fn between<'a>(
+    alloc: Global,
+    kind: Kind,
+    id: u32,
+    opening: List<Text<'a>>,
+    closing: List<Text<'a>>,
+) -> Node<'a> {
     Node {
         kind,
         id,
         ranges: None,
-        opening: List::new(alloc),
-        closing: List::new(alloc),
+        opening,
+        closing,
         own: List::new(alloc),
         shown: Str::new(alloc),
         attrs: List::new(alloc),
@@ -19,6 +25,17 @@ fn node<'a>(alloc: Global, kind: Kind, id: u32) -> Node<'a> {
         mw: None,
         children: List::new(alloc),
     }
+}
+
+/// The same without delimiters.
+fn node<'a>(alloc: Global, kind: Kind, id: u32) -> Node<'a> {
+    between(alloc, kind, id, List::new(alloc), List::new(alloc))
+}
+
+fn list_of<'a>(alloc: Global, text: Text<'a>) -> Result<List<Text<'a>>, NoMemory> {
+    let mut texts = List::new(alloc);
+    texts.push(text)?;
+    Ok(texts)
 }
 
 fn leaf<'a>(alloc: Global, kind: Kind, text: &'a str) -> Result<Node<'a>, NoMemory> {
@@ -30,49 +47,81 @@ fn leaf<'a>(alloc: Global, kind: Kind, text: &'a str) -> Result<Node<'a>, NoMemo
     Ok(leaf)
 }
 
-/// A heading `== A ==` with the given text, after a separator, in a body.
-fn page<'a>(alloc: Global, text: &'a str) -> Result<Node<'a>, NoMemory> {
-    let mut heading = node(alloc, Kind::Heading(2), 1);
-    heading.opening.push(Text::new("== ", 1))?;
-    heading.closing.push(Text::new(" ==", 5))?;
+/// A node with a further child.
+fn with_child<'a>(mut outer: Node<'a>, child: Node<'a>) -> Result<Node<'a>, NoMemory> {
+    outer.children.push(child)?;
+    Ok(outer)
+}
+
+/// A node with a leaf as a further child.
+fn with_leaf<'a>(
+    alloc: Global,
+    outer: Node<'a>,
+    kind: Kind,
+    text: &'a str,
+) -> Result<Node<'a>, NoMemory> {
+    let leaf = leaf(alloc, kind, text)?;
+    with_child(outer, leaf)
+}
+
+/// A heading `==  ==` without its text.
+fn empty_heading<'a>(alloc: Global) -> Result<Node<'a>, NoMemory> {
+    let opening = list_of(alloc, Text::new("== ", 1))?;
+    let closing = list_of(alloc, Text::new(" ==", 5))?;
+    let mut heading = between(alloc, Kind::Heading(2), 1, opening, closing);
     heading.ranges = Some(Ranges {
         start: 1,
         end: 8,
         open_w: 3,
         close_w: 3,
     });
-    let inside = leaf(alloc, Kind::Text, text)?;
-    heading.children.push(inside)?;
-    let mut body = node(alloc, Kind::Body, 0);
-    let separator = leaf(alloc, Kind::Sep, "\n")?;
-    body.children.push(separator)?;
-    body.children.push(heading)?;
-    Ok(body)
+    Ok(heading)
+}
+
+/// A heading `== A ==` with the given text.
+fn heading<'a>(alloc: Global, text: &'a str) -> Result<Node<'a>, NoMemory> {
+    let heading = empty_heading(alloc)?;
+    with_leaf(alloc, heading, Kind::Text, text)
+}
+
+/// Such a heading after a separator, in a body.
+fn page<'a>(alloc: Global, text: &'a str) -> Result<Node<'a>, NoMemory> {
+    let heading = heading(alloc, text)?;
+    let body = with_leaf(alloc, node(alloc, Kind::Body, 0), Kind::Sep, "\n")?;
+    with_child(body, heading)
+}
+
+fn is_flat(alloc: Global, body: &Node<'_>, text: &str) -> Result<bool, NoMemory> {
+    Ok(flat(alloc, body)?.as_str() == text)
+}
+
+/// How many nodes are walked, and the kind of the third.
+fn walked(alloc: Global, body: &Node<'_>) -> Result<(usize, Option<Kind>), NoMemory> {
+    let rows = walk(alloc, body)?;
+    Ok((rows.len(), rows.as_slice().get(2).map(|row| row.1)))
+}
+
+fn check_page(rt: &(impl Abort + AllocGlobal), body: &Node<'_>) -> Result<(), NoMemory> {
+    assert!(rt; is_flat(rt.alloc(), body, "\n== A ==")?);
+    let (count, third) = walked(rt.alloc(), body)?;
+    assert!(rt; count == 4);
+    assert!(rt; matches!(third, Some(Kind::Heading(2))));
+    assert!(rt; find(body, 1).is_some());
+    assert!(rt; find(body, 2).is_none());
+    Ok(())
 }
 
 #[test]
-fn reads_a_tree_off(rt: HostRuntime) -> Result<(), Fail> {
-    let alloc = rt.alloc();
-    let body = page(alloc, "A")?;
-    assert_eq!(rt; flat(alloc, &body)?.as_str(), "\n== A ==");
-    let rows = walk(alloc, &body)?;
-    assert_eq!(rt; rows.len(), 4);
-    assert_eq!(rt; rows.as_slice()[2].1, Kind::Heading(2));
-    assert_eq!(rt; find(&body, 1).is_some(), true);
-    assert_eq!(rt; find(&body, 2).is_none(), true);
-    Ok(())
+fn reads_a_tree_off(rt: HostRuntime) -> Result<(), NoMemory> {
+    let body = page(rt.alloc(), "A")?;
+    check_page(&rt, &body)
 }
 
 /// The same heading in two texts, with another number and without the separator.
 fn plain_page<'a>(alloc: Global) -> Result<Node<'a>, NoMemory> {
-    let mut heading = node(alloc, Kind::Heading(2), 7);
-    let left = leaf(alloc, Kind::Text, "A")?;
-    heading.children.push(left)?;
-    let right = leaf(alloc, Kind::Text, "")?;
-    heading.children.push(right)?;
-    let mut body = node(alloc, Kind::Body, 0);
-    body.children.push(heading)?;
-    Ok(body)
+    let heading = with_leaf(alloc, node(alloc, Kind::Heading(2), 7), Kind::Text, "A")?;
+    let heading = with_leaf(alloc, heading, Kind::Text, "")?;
+    with_child(node(alloc, Kind::Body, 0), heading)
 }
 
 fn link<'a>(alloc: Global, href: &str) -> Result<Node<'a>, NoMemory> {
@@ -118,10 +167,10 @@ fn shows_no_separator(alloc: Global) -> Result<bool, NoMemory> {
 }
 
 #[test]
-fn compares_what_is_shown(rt: HostRuntime) -> Result<(), Fail> {
-    assert_eq!(rt; show_the_same(rt.alloc(), "A", "A")?, true);
-    assert_eq!(rt; show_the_same(rt.alloc(), "A", "B")?, false);
-    assert_eq!(rt; shows_no_separator(rt.alloc())?, true);
+fn compares_what_is_shown(rt: HostRuntime) -> Result<(), NoMemory> {
+    assert!(rt; show_the_same(rt.alloc(), "A", "A")?);
+    assert!(rt; !show_the_same(rt.alloc(), "A", "B")?);
+    assert!(rt; shows_no_separator(rt.alloc())?);
     Ok(())
 }
 
@@ -131,16 +180,20 @@ fn lead_to_the_same(alloc: Global, one: &str, other: &str) -> Result<bool, NoMem
     plain_eq(alloc, &one, &other)
 }
 
-fn have_the_same_data(alloc: Global, name: &str, text: &str) -> Result<bool, NoMemory> {
-    let one = extension(alloc, name)?;
+fn is_literal(alloc: Global, island: &Node<'_>, text: &str) -> Result<bool, NoMemory> {
     let other = literal(alloc, text)?;
-    plain_eq(alloc, &one, &other)
+    plain_eq(alloc, island, &other)
+}
+
+fn have_the_same_data(alloc: Global, name: &str, text: &str) -> Result<bool, NoMemory> {
+    let island = extension(alloc, name)?;
+    is_literal(alloc, &island, text)
 }
 
 #[test]
-fn compares_attributes_and_extensions(rt: HostRuntime) -> Result<(), Fail> {
-    assert_eq!(rt; lead_to_the_same(rt.alloc(), "./A", "./A")?, true);
-    assert_eq!(rt; lead_to_the_same(rt.alloc(), "./A", "./B")?, false);
-    assert_eq!(rt; have_the_same_data(rt.alloc(), "ref", "x")?, false);
+fn compares_attributes_and_extensions(rt: HostRuntime) -> Result<(), NoMemory> {
+    assert!(rt; lead_to_the_same(rt.alloc(), "./A", "./A")?);
+    assert!(rt; !lead_to_the_same(rt.alloc(), "./A", "./B")?);
+    assert!(rt; !have_the_same_data(rt.alloc(), "ref", "x")?);
     Ok(())
 }
