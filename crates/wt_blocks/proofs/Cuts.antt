@@ -1,5 +1,5 @@
 -- The delimiters of a heading, counted from both ends of its line.
-use Rattle.std.proofs.Common.{◌≡◌, ℕ, zero, suc, ◌+◌, ◌-◌, ◌/◌, ◌<◌, ◌≤◌, Bool, true, false, List, [], ◌∷◌, length, get_or, take, drop, map, refl, sym, ap, ◌∙◌, cond, arith, length-drop}
+use Rattle.std.proofs.Common.{◌≡◌, ℕ, zero, suc, ◌+◌, ◌-◌, ◌/◌, ◌<◌, ◌≤◌, Bool, true, false, List, [], ◌∷◌, length, get_or, take, drop, refl, sym, ap, ◌∙◌, cond, arith, length-drop}
 use Rattle.std.specs.Prelude.{◌==◌, min, reverse, if◌then◌else◌}
 use Rattle.std.specs.List.{prefix_len}
 use Rattle.std.proofs.Math.Numerals.{one-add}
@@ -7,9 +7,7 @@ use Rattle.std.proofs.lemmas.List.{get_or-take, get_or-drop, get_or-reverse, len
 use Rattle.std.proofs.lemmas.List.Sums.{prefix_len-le-length}
 use Rattle.wt_span.specs.Bytes.{is_blank, blank_len}
 use Rattle.wt_lines.specs.Kinds.{is_idle, past}
-use Rattle.wt_span.specs.Items.{Item, sign, sources}
-use Rattle.wt_blocks.specs.Headings.{equals, core, level_of, open_len, trimmed_len, inside_len, opening, closing, delimiters}
-use Rattle.wt_blocks.proofs.Measures.{rest_bytes}
+use Rattle.wt_blocks.specs.Headings.{equals, core, level_of, open_len, trimmed_len, inside_len}
 
 -- ---- fronts and ends of lists
 
@@ -150,17 +148,3 @@ cuts_within ss =
 -- one sign further
 pub one_further : (whole s t : List ℕ) (i b : ℕ) → s ≡ b ∷ t → s ≡ drop i whole → t ≡ drop (i + 1) whole
 one_further whole s t i b e h = sym (ap (drop 1) e) ∙ ap (drop 1) h ∙ drop-drop 1 i whole
-
-pub delimiters_are : (xs : List Item) (level opened inner count : ℕ) → level ≡ level_of (core (map sign xs))
-    → opened ≡ open_len (core (map sign xs)) → inner ≡ inside_len (core (map sign xs)) → count ≡ length xs
-    → (level, length (sources (take opened xs)), length (sources (take count xs)) - length (sources (take (opened + inner) xs))) ≡ delimiters xs
-unfolding Rattle.wt_blocks.specs.Headings.level opening closing
-delimiters_are xs level opened inner count el eo ei ec =
-    ap (λ n. (n, length (sources (take opened xs)), length (sources (take count xs)) - length (sources (take (opened + inner) xs)))) el
-    ∙ ap (λ n. (level_of (core (map sign xs)), length (sources (take opened xs)), n)) (rest_bytes xs count (opened + inner) ec)
-    ∙ ap (λ n. (level_of (core (map sign xs)), length (sources (take n xs)), length (sources (drop (n + inner) xs)))) eo
-    ∙ ap (λ n. (
-      level_of (core (map sign xs)),
-      length (sources (take (open_len (core (map sign xs))) xs)),
-      length (sources (drop (open_len (core (map sign xs)) + n) xs)),
-    )) ei

@@ -4,6 +4,5 @@ pub mod Begun
 pub mod SameRows
 pub mod Measures
 pub mod Cuts
-pub mod TextRuns
 pub mod HeadingLaws
 pub mod Rows

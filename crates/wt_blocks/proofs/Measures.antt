@@ -1,15 +1,12 @@
--- How many items pieces hold, and how many bytes.
-use Rattle.std.proofs.lemmas.List.{append-nil}
-use Rattle.std.proofs.Common.{◌≡◌, ℕ, ◌+◌, ◌-◌, ◌^◌, ◌<◌, ◌≤◌, Bool, true, false, Option, List, [], ◌∷◌, ◌++◌, length, get_or, take, drop, map, refl, sym, ap, ◌∙◌, arith, length-append}
-use Rattle.std.specs.Prelude.{min}
-use Rattle.std.proofs.lemmas.List.{length-map, length-take, take-map, drop_more, take_all, take-append-drop}
+-- How many items pieces hold.
+use Rattle.std.proofs.Common.{◌≡◌, ℕ, ◌+◌, ◌^◌, ◌<◌, ◌≤◌, Bool, true, false, Option, List, [], ◌∷◌, ◌++◌, length, get_or, take, drop, map, refl, sym, ap, ◌∙◌, arith, length-append}
+use Rattle.std.proofs.lemmas.List.{length-map, drop_more, take-append-drop}
 use Rattle.std.proofs.lemmas.Grind.{flat_map-append}
 use Rattle.wt_span.specs.declared.form.Form.{Form}
 use Rattle.wt_span.specs.declared.form.Form.TheVariants as form
 use Rattle.wt_span.specs.declared.form.Piece.{Piece}
 use Rattle.wt_span.specs.Slice.{bytes_of}
 use Rattle.wt_span.specs.Items.{Item, char, whole, source, sources, items, items_of, items_by, call_of_origin}
-use Rattle.wt_span.proofs.Lists.{take_append}
 use Rattle.wt_lines.specs.Pieces.{is_chars, count_by, item_count}
 
 -- ---- one piece
@@ -55,14 +52,6 @@ some_bytes f o bs true e =
     omega (arith, a, b)
 some_bytes f o bs false e = let a : length (items_by f o bs) ≡ 1 = ap length (whole_is f o bs e) in omega (arith, a)
 
-pub chars_len : (p : Piece) (n : ℕ) → is_chars p.form ≡ true → min (length (bytes_of p.text)) n ≡ length (sources (take n (items_of p)))
-chars_len p n e =
-    let o = call_of_origin p.origin in
-    let bs = bytes_of p.text in
-    let m : min (length bs) n ≡ min n (length bs) = omega arith in
-    m ∙ sym (length-take n bs) ∙ ap length (sym (char_sources o (take n bs)))
-    ∙ ap (λ ys. length (sources ys)) (sym (take-map (char o) n bs) ∙ ap (take n) (sym (chars_are p.form o bs e)))
-
 -- ---- all pieces
 
 pub sources_append : (xs ys : List Item) → length (sources (xs ++ ys)) ≡ length (sources xs) + length (sources ys)
@@ -95,64 +84,3 @@ count_fits ps i count n p l e c m few bytes =
     let d = count_is p in
     let f = items_below ps in
     omega (arith, a, b, c, d, f, m, few, bytes)
-
-pub bytes_step : (ps : List Piece) (i left n less bytes b all : ℕ) (p : Piece) → i < length ps → p ≡ get_or ps i p
-    → b ≡ length (sources (take left (items_of p))) → n ≡ item_count p → less ≡ left - n
-    → bytes + length (sources (take left (items (drop i ps)))) ≡ all → bytes + b + length (sources (take less (items (drop (i + 1) ps)))) ≡ all
-bytes_step ps i left n less bytes b all p l e eb en el h =
-    let rest = items (drop (i + 1) ps) in
-    let k : less ≡ left - length (items_of p) = el ∙ ap (λ m. left - m) (en ∙ count_is p) in
-    let a : length (sources (take left (items (drop i ps)))) ≡ length (sources (take left (items_of p))) + length (sources (take less rest)) =
-    ap (λ xs. length (sources (take left xs))) (items_first ps i p l e) ∙ ap (λ xs. length (sources xs)) (take_append left (items_of p) rest)
-    ∙ sources_append (take left (items_of p)) (take (left - length (items_of p)) rest)
-    ∙ ap (λ m. length (sources (take left (items_of p))) + length (sources (take m rest))) (sym k) in
-    omega (arith, a, eb, h)
-
-pub front_within : (n : ℕ) (xs : List Item) → length (sources (take n xs)) ≤ length (sources xs)
-front_within n xs = let a = ap (λ ys. length (sources ys)) (sym (take-append-drop n xs)) ∙ sources_append (take n xs) (drop n xs) in omega (arith, a)
-
-pub bytes_fit : (ps : List Piece) (i left bytes b count : ℕ) (p : Piece) → i < length ps → p ≡ get_or ps i p → b ≡ length (sources (take left (items_of p)))
-    → bytes + length (sources (take left (items (drop i ps)))) ≡ length (sources (take count (items ps)))
-    → length (sources (items ps)) < 2 ^ 32 → bytes + b < 2 ^ 32
-bytes_fit ps i left bytes b count p l e eb h w =
-    let s = bytes_step ps i left (item_count p) (left - item_count p) bytes b (length (sources (take count (items ps)))) p l e eb refl refl h in
-    let f = front_within count (items ps) in
-    omega (arith, s, f, w)
-
--- ---- the rest of the items
-
-pub rest_bytes : (xs : List Item) (n k : ℕ) → n ≡ length xs → length (sources (take n xs)) - length (sources (take k xs)) ≡ length (sources (drop k xs))
-rest_bytes xs n k e =
-    let a : take n xs ≡ xs = take_all n xs (omega arith) in
-    let b = ap (λ ys. length (sources ys)) (sym (take-append-drop k xs)) ∙ sources_append (take k xs) (drop k xs) in
-    let c = ap (λ ys. length (sources ys)) a in
-    omega (arith, b, c)
-
-pub front_below : (xs : List Item) (n k : ℕ) → n ≡ length xs → length (sources (take k xs)) ≤ length (sources (take n xs))
-front_below xs n k e =
-    let a : take n xs ≡ xs = take_all n xs (omega arith) in
-    let b = front_within k xs in
-    let c = ap (λ ys. length (sources ys)) a in
-    omega (arith, b, c)
-
-pub few_items : (ps : List Piece) → length ps < 2 ^ 63 → length (sources (items ps)) < 2 ^ 32 → length (items ps) < 2 ^ 64
-few_items ps few bytes = let a = items_below ps in omega (arith, a, few, bytes)
-
--- what stands behind the marks at the front
-pub behind_marks : (all ps rest : List Piece) (n : ℕ) → ps ≡ all → rest ≡ drop n ps → length (sources (items all)) < 2 ^ 32
-    → length (sources (items rest)) < 2 ^ 32
-behind_marks all ps rest n e r h =
-    let a = ap (λ qs. length (sources (items qs))) (sym (take-append-drop n ps))
-    ∙ ap (λ xs. length (sources xs)) (items_append (take n ps) (drop n ps)) ∙ sources_append (items (take n ps)) (items (drop n ps)) in
-    let b = ap (λ qs. length (sources (items qs))) e in
-    let c = ap (λ qs. length (sources (items qs))) r in
-    omega (arith, a, b, c, h)
-
--- characters alone have their bytes
-pub lone_chars : (ps all : List Piece) (p : Piece) → ps ≡ [] → all ≡ ps ++ p ∷ [] → is_chars p.form ≡ true
-    → length (sources (items all)) ≡ length (bytes_of p.text)
-lone_chars ps all p z e f =
-    let o = call_of_origin p.origin in
-    ap (λ qs. length (sources (items qs))) (e ∙ ap (λ qs. qs ++ p ∷ []) z)
-    ∙ ap (λ xs. length (sources xs)) (append-nil (items_of p) ∙ chars_are p.form o (bytes_of p.text) f)
-    ∙ ap length (char_sources o (bytes_of p.text))

@@ -2,13 +2,11 @@
 use Rattle.std.proofs.Common.{◌≡◌, ℕ, None, List, [], ◌∷◌, ◌++◌, length, map, refl}
 use Rattle.std.specs.Prelude.{codes, replicate}
 use Rattle.wt_span.specs.declared.form.Form.TheVariants as form
-use Rattle.wt_span.specs.Items.{Item, char, whole}
-use Rattle.wt_lines.specs.declared.kind.LineKind.TheVariants as kind
+use Rattle.wt_span.specs.Items.{Item, char, whole, sources}
 use Rattle.wt_blocks.specs.ListTree.{forest}
 use Rattle.wt_blocks.specs.Nesting.{nested}
 use Rattle.wt_blocks.specs.Starts.{Row, rows_of_all}
-use Rattle.wt_blocks.specs.Headings.{heading_parts, level, opening, closing}
-use Rattle.wt_blocks.specs.Paragraphs.{paragraph_ranges}
+use Rattle.wt_blocks.specs.Headings.{level, opening, closing}
 
 -- ---- lists: the depth, the sign and the line of each node; lists stand at even depths, items at odd ones
 
@@ -40,24 +38,13 @@ no_lines : nested [] ≡ []
 unfolding nested
 no_lines = refl
 
--- ---- paragraphs
-
-text_runs : paragraph_ranges (kind.Text ∷ kind.Text ∷ kind.Blank ∷ kind.Text ∷ kind.Heading ∷ kind.Blank ∷ kind.Pre ∷ kind.Text
-    ∷ []) ≡ (0, 2) ∷ (3, 4) ∷ (7, 8) ∷ []
-unfolding paragraph_ranges
-text_runs = refl
-
-no_text : paragraph_ranges [] ∷ paragraph_ranges (kind.List ∷ kind.Blank ∷ []) ∷ [] ≡ [] ∷ [] ∷ []
-unfolding paragraph_ranges
-no_text = refl
-
 -- ---- headings: the level, and the bytes of the delimiters
 
-abbrev parts : List ℕ → ℕ × ℕ × ℕ
-parts bs = heading_parts (map (char None) bs)
+abbrev parts : List Item → ℕ × ℕ × ℕ
+parts xs = (level xs, length (sources (opening xs)), length (sources (closing xs)))
 
 -- of `=` alone the level is half of all but one; the smaller run counts, and at most six
-levels : map parts (codes "===" ∷ codes "====" ∷ codes "=====" ∷ codes "=== x ==" ∷ codes "==============" ∷ codes "= =" ∷ codes "======= x =======" ∷ [])
+levels : map (λ bs. parts (map (char None) bs)) (codes "===" ∷ codes "====" ∷ codes "=====" ∷ codes "=== x ==" ∷ codes "==============" ∷ codes "= =" ∷ codes "======= x =======" ∷ [])
     ≡ (1, 1, 1) ∷ (1, 1, 1) ∷ (2, 2, 2) ∷ (2, 2, 3) ∷ (6, 6, 6) ∷ (1, 2, 1) ∷ (6, 6, 6) ∷ []
 unfolding level opening closing
 levels = refl
@@ -69,10 +56,10 @@ remark = whole form.Comment None (codes "<!-- c -->")
 abbrev atom : Item
 atom = whole form.Nowiki None (codes "<nowiki/>")
 
--- a mark before the heading is no part of it; one behind it counts by its source, and one within parts a run
-marks : heading_parts (remark ∷ (map (char None) (codes "==a ==") ++ remark ∷ map (char None) (codes " ")))
-    ∷ heading_parts (char None 61 ∷ remark ∷ map (char None) (codes "="))
-    ∷ heading_parts (char None 61 ∷ atom ∷ map (char None) (codes "=")) ∷ []
+-- a mark behind the heading counts by its source, and one within parts a run
+marks : parts (map (char None) (codes "==a ==") ++ remark ∷ map (char None) (codes " "))
+    ∷ parts (char None 61 ∷ remark ∷ map (char None) (codes "="))
+    ∷ parts (char None 61 ∷ atom ∷ map (char None) (codes "=")) ∷ []
     ≡ (2, 2, 14) ∷ (1, 1, 1) ∷ (1, 1, 1) ∷ []
 unfolding level opening closing
 marks = refl

@@ -2,7 +2,7 @@
 use Rattle.std.specs.Prelude.{ℕ, ◌+◌, ◌-◌, ◌/◌, min, List, length, take, drop, reverse, map, ◌==◌, if◌then◌else◌}
 use Rattle.std.specs.List.{prefix_len}
 use Rattle.wt_span.specs.Bytes.{blank_len}
-use Rattle.wt_span.specs.Items.{Item, sign, sources, is_mark}
+use Rattle.wt_span.specs.Items.{Item, sign}
 use Rattle.wt_lines.specs.Kinds.{is_idle}
 
 -- how many `=` the signs begin with
@@ -45,16 +45,3 @@ inside line = let c = core (map sign line) in take (inside_len c) (drop (open_le
 
 unfoldable pub closing : List Item → List Item
 closing line = let c = core (map sign line) in drop (open_len c + inside_len c) line
-
--- the level, and how many bytes the two delimiters have
-abbrev pub delimiters : List Item → ℕ × ℕ × ℕ
-delimiters line = (level line, length (sources (opening line)), length (sources (closing line)))
-
--- ---- of any line
-
--- the marks at its front are no part of the heading
-abbrev pub heading_of : List Item → List Item
-heading_of line = drop (prefix_len is_mark line) line
-
-abbrev pub heading_parts : List Item → ℕ × ℕ × ℕ
-heading_parts line = delimiters (heading_of line)

@@ -2,6 +2,7 @@
 use Rattle.std.specs.Prelude.{◌≡◌, ◌<◌, ◌≤◌, ℕ, zero, suc, ◌==◌, ◌&&◌, ◌||◌, Bool, true, false, List, [], ◌∷◌, length, drop, map, filter, slice_index, nat_lt}
 use Rattle.std.specs.List.{list_all}
 use Rattle.wt_span.specs.Runs.{runs}
+use Rattle.wt_blocks.specs.declared.limits.TheConstants.{MOST_SIGNS}
 use Rattle.wt_blocks.specs.ListTree.{ListTree, node, forest}
 
 -- a line of a list: its number, and its prefix from some sign on
@@ -30,7 +31,7 @@ is_list_sign c = c == 42 || (c == 35 || is_definition c)
 
 -- one sign at least, of which so many count
 abbrev pub IsPrefix : List ℕ → Type 0
-IsPrefix p = (0 < length p) × (length p ≤ 32) × (list_all is_list_sign p ≡ true)
+IsPrefix p = (0 < length p) × (length p ≤ MOST_SIGNS) × (list_all is_list_sign p ≡ true)
 
 -- ---- lines
 
@@ -82,4 +83,4 @@ lists (suc n) ls = map (list_by (lists n)) (runs one_list ls)
 
 -- the lists of lines with these prefixes
 unfoldable pub nested : List (List ℕ) → List ListTree
-nested ps = lists 32 (numbered 0 ps)
+nested ps = lists MOST_SIGNS (numbered 0 ps)

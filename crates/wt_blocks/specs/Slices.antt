@@ -1,6 +1,7 @@
 -- Lines as the code has them: prefixes, of which the first signs are read.
 use Rattle.std.specs.Prelude.{ℕ, ◌<◌, ◌≤◌, ◌+◌, Bool, List, length, take, drop, map, All, slice_index, nat_lt}
 use Rattle.wt_span.specs.Runs.{IsRun}
+use Rattle.wt_blocks.specs.declared.limits.TheConstants.{MOST_SIGNS}
 use Rattle.wt_blocks.specs.Nesting.{ListLine, numbered, same_list}
 
 -- the lines from a number on, by their prefixes from a sign on
@@ -9,7 +10,7 @@ lines_from first depth ps = numbered first (map (drop depth) ps)
 
 -- signs are left to be read, and count
 abbrev pub AreLeft : ℕ → List (List ℕ) → Type 0
-AreLeft depth ps = All (λ p. (depth < length p) × (length p ≤ 32)) ps
+AreLeft depth ps = All (λ p. (depth < length p) × (length p ≤ MOST_SIGNS)) ps
 
 -- two prefixes have signs of one list at this place
 abbrev pub one_list_at : ℕ → List ℕ → List ℕ → Bool

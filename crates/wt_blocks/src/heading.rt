@@ -1,13 +1,11 @@
-ghost use Rattle.std.specs.Prelude.{◌≡◌, ◌+◌, ◌-◌, ◌/◌, ◌^◌, ◌<◌, ◌≤◌, ◌==◌, All, min, length, map, if◌then◌else◌};
+ghost use Rattle.std.specs.Prelude.{◌≡◌, ◌+◌, ◌-◌, ◌/◌, ◌^◌, ◌<◌, ◌≤◌, ◌==◌, min, length, map, if◌then◌else◌};
 ghost use Rattle.wt_span.specs.Items.{sign, items, sources};
-ghost use Rattle.wt_span.specs.Origins.{IsSoundPiece};
-ghost use Rattle.wt_lines.specs.Pieces.{line_items};
-ghost use Rattle.wt_blocks.specs.Headings.{core, level_of, open_len, inside_len, delimiters, heading_parts};
+ghost use Rattle.wt_blocks.specs.Headings.{core, level_of, open_len, inside_len};
 
 use crate::ends::{Class, back_len, before_back, front_len, past_front};
-use crate::measure::{byte_len, item_count};
-use wt_lines::{BackSigns, Line, Signs, marks_len};
-use wt_span::{Piece, rest_of};
+use crate::measure::item_count;
+use wt_lines::{BackSigns, Signs};
+use wt_span::Piece;
 
 /// `h1` to `h6`.
 const MOST_LEVEL: usize = 6;
@@ -34,8 +32,10 @@ pub struct HeadingCuts {
     pub inside_len: usize,
 }
 
-/// Where the delimiters end, of a heading from its first visible item on: `heading_parts` for a layer
-/// that keeps the pieces of many lines in one list, and cuts them by items.
+/// Where the delimiters end, of a heading from its first visible item on, by MediaWiki's rule in the
+/// profile's form: the open delimiter is as many `=` as the level with the blanks after them, the
+/// close delimiter the blanks before as many `=` with all after them. The call is meant for a line
+/// that `kind_of_pieces` calls a heading; of another line the numbers are what the definition gives.
 pub fn heading_cuts(pieces: &[Piece<'_>]) -> HeadingCuts
     requires { length (sources (items pieces.now)) < 2 ^ 32 }
     ensures level { result.level ≡ level_of (core (map sign (items pieces.now))) }
@@ -60,30 +60,4 @@ pub fn heading_cuts(pieces: &[Piece<'_>]) -> HeadingCuts
         open_len,
         inside_len: between - blanks,
     }
-}
-
-/// The parts of a heading, from its first visible item on.
-fn parts_of(heading: &[Piece<'_>]) -> (u8, u32, u32)
-    requires { length (sources (items heading.now)) < 2 ^ 32 }
-    ensures { result ≡ delimiters (items heading.now) }
-{
-    let cuts = heading_cuts(heading);
-    let close_at = byte_len(heading, cuts.open_len + cuts.inside_len);
-    let end = byte_len(heading, item_count(heading));
-    (cuts.level, byte_len(heading, cuts.open_len), end - close_at)
-}
-
-/// The level of a heading (1 to 6), and how many bytes its open and its close delimiter have, by
-/// MediaWiki's rule in the profile's form: the open delimiter is as many `=` as the level with the
-/// blanks after them, the close delimiter the blanks before as many `=` with all after them. An atom
-/// or a mark counts by its source. Marks before the first `=` belong to neither. The call is meant
-/// for a line that `classify` calls a heading; of another line the numbers are what the definition
-/// gives.
-pub fn heading_parts(line: &Line<'_>) -> (u8, u32, u32)
-    requires sound { All IsSoundPiece line.now.pieces }
-    requires bytes { length (sources (line_items line.now)) < 2 ^ 32 }
-    ensures { result ≡ heading_parts (line_items line.now) }
-{
-    let pieces = line.pieces.as_slice();
-    parts_of(rest_of(pieces, marks_len(pieces)))
 }

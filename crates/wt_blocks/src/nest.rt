@@ -2,6 +2,7 @@ ghost use Rattle.std.specs.Prelude.{ℕ, ◌≡◌, ◌+◌, ◌-◌, ◌<◌, �
 ghost use Rattle.wt_blocks.specs.Nesting.{is_definition, same_list, IsPrefix, node_of, inner, items_by, lists, nested};
 ghost use Rattle.wt_blocks.specs.Slices.{lines_from, AreLeft, one_list_at, one_item_at, IsFront, IsItem};
 ghost use Rattle.wt_blocks.specs.View.{list_tree, list_trees};
+ghost use Rattle.wt_blocks.specs.declared.limits.TheConstants.{MOST_SIGNS};
 
 use std::alloc::Global;
 use wt_span::{List, NoMemory, Str, front_of, rest_of};
@@ -48,7 +49,7 @@ fn is_one_list(prefix: &Str, next: &Str, depth: usize) -> bool
 }
 
 fn goes_on(prefix: &Str, depth: usize) -> bool
-    requires { depth < 32 }
+    requires { depth < MOST_SIGNS }
     ensures { result ≡ nat_lt (depth + 1) (length prefix.now) }
 {
     depth + 1 < prefix.as_str().len()
@@ -73,7 +74,7 @@ fn list_len(prefixes: &[Str], depth: usize) -> usize
 /// How many lines the first item has.
 fn item_len(prefixes: &[Str], depth: usize) -> usize
     requires some { 0 < length prefixes.now }
-    requires limit { depth < 32 }
+    requires limit { depth < MOST_SIGNS }
     ensures some_lines { 0 < result }
     ensures within { result ≤ length prefixes.now }
     ensures front { IsFront (one_item_at depth) prefixes.now result }
@@ -101,7 +102,7 @@ fn list_count(prefixes: &[Str], depth: usize) -> usize
 
 /// How many items the lines of a list make.
 fn item_count(prefixes: &[Str], depth: usize) -> usize
-    requires { depth < 32 }
+    requires { depth < MOST_SIGNS }
 {
     let mut count = 0;
     for i in 0..prefixes.len() {
@@ -169,7 +170,7 @@ fn lists_at(
 ) -> Result<List<ListNode>, NoMemory>
     requires left { AreLeft depth prefixes.now }
     requires numbers { first + length prefixes.now < 2 ^ 32 }
-    ensures { IfOk result (λ l. list_trees l ≡ lists (32 - depth) (lines_from first depth prefixes.now)) }
+    ensures { IfOk result (λ l. list_trees l ≡ lists (MOST_SIGNS - depth) (lines_from first depth prefixes.now)) }
 {
     let mut found = with_room(alloc, list_count(prefixes, depth))?;
     let mut at = 0;
@@ -192,10 +193,10 @@ fn items_at(
     first: u32,
     depth: usize,
 ) -> Result<List<ListNode>, NoMemory>
-    requires limit { depth < 32 }
+    requires limit { depth < MOST_SIGNS }
     requires left { AreLeft depth prefixes.now }
     requires numbers { first + length prefixes.now < 2 ^ 32 }
-    ensures { IfOk result (λ l. list_trees l ≡ items_by (lists (32 - (depth + 1))) (lines_from first depth prefixes.now)) }
+    ensures { IfOk result (λ l. list_trees l ≡ items_by (lists (MOST_SIGNS - (depth + 1))) (lines_from first depth prefixes.now)) }
 {
     let mut found = with_room(alloc, item_count(prefixes, depth))?;
     let mut at = 0;

@@ -8,6 +8,7 @@ use Rattle.wt_span.specs.Runs.{runs}
 use Rattle.wt_span.proofs.RunLaws.{runs_are, runs_only, runs_joined}
 use Rattle.wt_lines.specs.declared.kind.LineKind.{LineKind}
 use Rattle.wt_lines.specs.declared.kind.LineKind.TheVariants as line
+use Rattle.wt_lines.specs.declared.kind.TheConstants.{MOST_TABLES}
 use Rattle.wt_lines.specs.Lines.{full_lines, goes_on}
 use Rattle.wt_tables.specs.Extents.{inner_len}
 use Rattle.wt_tables.specs.Parts.{joined, taken_len, put_first, units_from, units, unit_kind}
@@ -20,7 +21,7 @@ use Rattle.wt_body.specs.Rows.{Row, row_items, all_items, kind_of, rows_from, ro
 use Rattle.wt_body.specs.Stretches.{stretches_parts}
 use Rattle.wt_body.specs.Texts.{rule}
 use Rattle.wt_body.specs.Tables.{Reading, gaps}
-use Rattle.wt_body.specs.Body.{same_block, rule_row, heading_row, block_stretches, run_stretches, blocks_by, within, most_tables, blocks, meaning, IsMeaning}
+use Rattle.wt_body.specs.Body.{same_block, rule_row, heading_row, block_stretches, run_stretches, blocks_by, within, blocks, meaning, IsMeaning}
 use Rattle.wt_body.proofs.Held.{kept, kept_append, of_node}
 use Rattle.wt_body.proofs.HeldTexts.{of_para, of_pre, of_row, of_heading, of_rule}
 use Rattle.wt_body.proofs.HeldLists.{of_lists}
@@ -93,7 +94,7 @@ of_within (suc n) = of_blocks_by (within n) (of_within n)
 
 pub of_blocks : Reads blocks
 unfolding blocks
-of_blocks rs = of_within most_tables rs
+of_blocks rs = of_within MOST_TABLES rs
 
 pub held_meaning : (xs : List Item) → opened_all (tree_items (meaning xs)) ≡ opened_all xs
 unfolding meaning

@@ -6,6 +6,7 @@ use Rattle.wt_span.specs.Items.{Item}
 use Rattle.wt_span.specs.Runs.{runs, AreRuns}
 use Rattle.wt_lines.specs.declared.kind.LineKind.{LineKind}
 use Rattle.wt_lines.specs.declared.kind.LineKind.TheVariants as line
+use Rattle.wt_lines.specs.declared.kind.TheConstants.{MOST_TABLES}
 use Rattle.wt_lines.specs.Lines.{goes_on}
 use Rattle.wt_blocks.specs.Paragraphs.{is_text}
 use Rattle.wt_tables.specs.Parts.{joined, units, unit_kind}
@@ -89,12 +90,9 @@ abbrev pub within : ℕ → Reading
 within zero = blocks_by gaps
 within (suc n) = blocks_by (within n)
 
-abbrev pub most_tables : ℕ
-most_tables = 16
-
 -- the blocks of rows, with the separators between them
 unfoldable pub blocks : Reading
-blocks rs = within most_tables rs
+blocks rs = within MOST_TABLES rs
 
 -- what stands in a body
 abbrev pub body_parts : List Row → List Part

@@ -9,6 +9,7 @@ use Rattle.wt_blocks.specs.ListTree.{ListTree, node as list_node, ListTrees, non
 use Rattle.wt_blocks.specs.Nesting.{is_list_sign, nested}
 use Rattle.wt_inline.specs.ItemTree.{plain, ItemTree, inner, forest}
 use Rattle.wt_inline.specs.Parts.{children}
+use Rattle.wt_blocks.specs.declared.limits.TheConstants.{MOST_SIGNS}
 use Rattle.wt_tiles.specs.declared.shape.Shape.{Shape}
 use Rattle.wt_tiles.specs.declared.shape.TileKind.{TileKind}
 use Rattle.wt_tiles.specs.declared.shape.TileKind.TheVariants as tile
@@ -20,9 +21,9 @@ use Rattle.wt_body.specs.Stretches.{Stretch, gap, block, tree_block, opened_by, 
 
 -- ---- prefixes
 
--- 32 signs at most count; what stands behind them is text
+-- `MOST_SIGNS` signs at most count; what stands behind them is text
 abbrev pub prefix_of : List Item → List ℕ
-prefix_of xs = take (min 32 (prefix_len is_list_sign (signs xs))) (signs xs)
+prefix_of xs = take (min MOST_SIGNS (prefix_len is_list_sign (signs xs))) (signs xs)
 
 -- so many items, and the blanks behind them
 abbrev pub with_blanks : ℕ → List Item → ℕ

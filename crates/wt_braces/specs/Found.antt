@@ -6,6 +6,7 @@ use Rattle.wt_lex.specs.declared.lexeme.Lexeme.{Lexeme}
 use Rattle.wt_braces.specs.declared.call.Call.{Call}
 use Rattle.wt_braces.specs.declared.call.BraceRefusal.{BraceRefusal}
 use Rattle.wt_braces.specs.declared.call.BraceRefusal.TheVariants as refusal
+use Rattle.wt_braces.specs.declared.nesting.TheConstants.{NESTED_BRACES}
 use Rattle.wt_braces.specs.Views.{call_of}
 
 -- where the first of the lexemes begins
@@ -25,7 +26,7 @@ AreAdjacent xs = FollowFrom (first_place xs) xs
 -- the first byte of the first of these calls that has a hundred of all calls round it
 abbrev pub deep_among : List CallAt → List CallAt → Option ℕ
 deep_among all [] = None
-deep_among all (c ∷ cs) = if nat_le 100 (nesting all c) then Some c.from else deep_among all cs
+deep_among all (c ∷ cs) = if nat_le NESTED_BRACES (nesting all c) then Some c.from else deep_among all cs
 
 unfoldable pub too_deep : List CallAt → Option ℕ
 too_deep cs = deep_among cs cs

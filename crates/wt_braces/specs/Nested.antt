@@ -6,6 +6,7 @@ use Rattle.wt_braces.specs.declared.call.Call.{Call}
 use Rattle.wt_braces.specs.declared.matching.Closed.{Closed}
 use Rattle.wt_braces.specs.declared.call.BraceRefusal.{BraceRefusal}
 use Rattle.wt_braces.specs.declared.call.BraceRefusal.TheVariants as refusal
+use Rattle.wt_braces.specs.declared.nesting.TheConstants.{NESTED_BRACES}
 use Rattle.wt_braces.specs.Views.{ClosedAt, closed_at, call_of}
 
 -- The calls that are begun, the innermost first; those that are written, in the order of their first bytes; and the first
@@ -36,7 +37,7 @@ call_in c cs = record { argument = c.argument; from = c.from; to = c.to; parts =
 
 -- a hundred calls are begun round it
 abbrev pub deep_in : ClosedAt → List ClosedAt → Option ℕ → Option ℕ
-deep_in c cs deep = if nat_le 100 (length cs) then Some c.from else deep
+deep_in c cs deep = if nat_le NESTED_BRACES (length cs) then Some c.from else deep
 
 abbrev pub with_call : ClosedAt → Nested → Nested
 with_call c s = record { begun = s.begun; written = call_in c s.begun ∷ s.written; deep = deep_in c s.begun s.deep }

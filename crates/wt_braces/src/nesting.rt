@@ -11,8 +11,8 @@ use std::alloc::Global;
 use std::marker::Model;
 use wt_span::{List, NoMemory};
 
-/// How many calls and arguments may stand round one.
-const MOST_ROUND: usize = 99;
+/// Calls and arguments that have so many others round them lie too deep.
+pub const NESTED_BRACES: usize = 100;
 
 /// Calls of which the last one comes first, as contracts see them.
 #[derive(Drop)]
@@ -117,7 +117,7 @@ impl Nesting {
         requires number { length self.old.begun ≤ 2 ^ 30 }
         ensures { OnOk result (self.new ≡ with_call (closed_at call) self.old) }
     {
-        if self.begun.len() > MOST_ROUND {
+        if self.begun.len() >= NESTED_BRACES {
             self.deep = Some(call.at.start);
         }
         let parent = self.begun.innermost();

@@ -13,12 +13,10 @@ use crate::block::blocks;
 use crate::text::plain_node;
 use std::alloc::Global;
 use wt_inline::{Children, Loose, PieceTree};
+use wt_lines::MOST_TABLES;
 use wt_rows::{Unread, next_section, with_stretches};
 use wt_span::{Items, List, NoMemory, Piece};
 use wt_tree::Kind;
-
-/// How many tables may stand one inside the other.
-const MOST_TABLES: usize = 16;
 
 /// The meaning of a page as a tree of its pieces, before places, numbers and groups are given.
 #[derive(Drop)]
@@ -56,7 +54,7 @@ fn with_section<'p, 'a>(
 {
     let (page, after) = next_section(alloc, rest)?;
     let pieces = page.pieces.as_slice();
-    let stretches = blocks(alloc, pieces, page.rows.as_slice(), MOST_TABLES)?;
+    let stretches = blocks(alloc, pieces, page.rows.as_slice(), MOST_TABLES as usize)?;
     let grown = with_stretches(alloc, children, pieces, stretches)?;
     Ok((grown, after))
 }

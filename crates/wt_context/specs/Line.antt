@@ -1,7 +1,8 @@
 -- The inside of a line, and of every other context: its segments, with styles round them.
-use Rattle.std.specs.Prelude.{ℕ, zero, suc, List}
+use Rattle.std.specs.Prelude.{ℕ, zero, suc, ◌+◌, List}
 use Rattle.wt_span.specs.Items.{Item}
 use Rattle.wt_tiles.specs.declared.context.Context.{Context}
+use Rattle.wt_tiles.specs.declared.read.TheConstants.{MOST_PAIRS}
 use Rattle.wt_tiles.specs.Contexts.{in_line}
 use Rattle.wt_inline.specs.declared.loose.Loose.TheVariants.{Text}
 use Rattle.wt_inline.specs.ItemTree.{ItemTree}
@@ -18,10 +19,10 @@ abbrev pub within : ℕ → Reading
 within zero = λ cx xs. parts Text xs
 within (suc n) = read_by (within n)
 
--- A text of a link and sixteen pairs of tags may stand one inside the other in a line: the law `contexts_nest` says that no
+-- A text of a link and `MOST_PAIRS` pairs of tags may stand one inside the other in a line: the law `contexts_nest` says that no
 -- context is ever read without its inside.
 abbrev pub most_contexts : ℕ
-most_contexts = 18
+most_contexts = MOST_PAIRS + 2
 
 -- the parts of a context
 unfoldable pub context_parts : Context → List Item → List Part

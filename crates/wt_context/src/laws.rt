@@ -16,6 +16,7 @@ ghost use Rattle.wt_context.specs.RunCuts.{IsRunBetween, has_run, IsTold};
 ghost use Rattle.wt_context.specs.Targets.{HaveTargets};
 ghost use Rattle.wt_context.specs.Unstyled.{all_unstyled, plain_parts};
 ghost use Rattle.wt_context.specs.StyledPlaces.{all_places, toggled, places_from};
+ghost use Rattle.wt_tiles.specs.declared.read.TheConstants.{MOST_PAIRS};
 
 /// What the parts of a line hold are its items in their order, but that a `nowiki` may be opened in
 /// them; joined, their sources are those of the items. The trees that the parts make hold the same.
@@ -30,13 +31,13 @@ pub fn line_keeps_its_items()
 /// inside its tiles is read so again, and no other reading is so: none is left without its inside.
 pub fn contexts_nest()
     ensures are { IsReading context_parts }
-    ensures only { (read : Reading) → IsReading read → (cx : Where) (xs : List Item) → cx.pairs ≤ 16 → read cx xs ≡ context_parts cx xs }
+    ensures only { (read : Reading) → IsReading read → (cx : Where) (xs : List Item) → cx.pairs ≤ MOST_PAIRS → read cx xs ≡ context_parts cx xs }
 {}
 
 /// A context, its styles taken away, is its tiles as nodes and the characters between them, the
 /// delimiters of styles among these: no style begins or ends in a tile, and none changes one.
 pub fn styles_lie_between_tiles()
-    ensures { (cx : Where) (xs : List Item) → cx.pairs ≤ 16 → all_unstyled (forest (children (context_parts cx xs))) ≡ plain_parts context_parts cx xs }
+    ensures { (cx : Where) (xs : List Item) → cx.pairs ≤ MOST_PAIRS → all_unstyled (forest (children (context_parts cx xs))) ≡ plain_parts context_parts cx xs }
 {}
 
 /// The chunks of a context are cut at each run of apostrophes, and the last chunk before a run tells
@@ -50,7 +51,7 @@ pub fn chunks_tell_items_before_runs()
 /// elsewhere in none; likewise italic. The apostrophes that switch stand in delimiters, and nothing
 /// else does.
 pub fn parts_stand_in_styles()
-    ensures { (kind : Bool) (cx : Where) (xs : List Item) → cx.pairs ≤ 16
+    ensures { (kind : Bool) (cx : Where) (xs : List Item) → cx.pairs ≤ MOST_PAIRS
         → all_places kind false (forest (children (context_parts cx xs)))
         ≡ places_from (toggled kind (chunks (segments context_parts cx xs))) 0 (segments context_parts cx xs) }
 {}

@@ -11,11 +11,10 @@ use crate::reading::with_context;
 use std::alloc::Global;
 use wt_inline::{Children, PieceTree};
 use wt_span::{List, NoMemory, Piece};
-use wt_tiles::Context;
+use wt_tiles::{Context, MOST_PAIRS};
 
-/// How many contexts may stand one inside the other: a line, the text of a link, and sixteen pairs
-/// of tags.
-const MOST_CONTEXTS: u32 = 18;
+/// How many contexts may stand one inside the other: a line, the text of a link, and pairs of tags.
+const MOST_CONTEXTS: u32 = MOST_PAIRS + 2;
 
 /// The children of a node with what stands on a line, or in a cell.
 #[tactic(auto, unfolding(crate::specs::Line::context_parts))]

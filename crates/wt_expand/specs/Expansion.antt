@@ -20,6 +20,7 @@ use Rattle.wt_expand.specs.Texts.{trimmed_items, name_text}
 use Rattle.wt_expand.specs.Targets.{is_template, Called, argument, function, page, text, called}
 use Rattle.wt_expand.specs.Templates.{template_text}
 use Rattle.wt_expand.specs.Work.{Pages, Entry, entered, begun, fetched, ended, is_among}
+use Rattle.wt_expand.specs.declared.limits.TheConstants.{MOST_TEMPLATES}
 
 -- ---- what is given
 
@@ -253,7 +254,7 @@ template_output pages (suc n) open_titles t frame =
 
 -- how many templates may be expanded one inside another
 unfoldable pub most_templates : ℕ
-most_templates = 40
+most_templates = MOST_TEMPLATES
 
 -- the page is read with no values, and isn't counted among the templates
 abbrev pub page_reading : Pages → Reading

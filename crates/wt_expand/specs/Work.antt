@@ -4,10 +4,12 @@ use Rattle.std.specs.Option.{option_map, option_or}
 use Rattle.std.specs.Str.{bytes_eq}
 use Rattle.wt_span.specs.declared.form.Mode.{Mode}
 use Rattle.wt_span.specs.declared.form.Mode.TheVariants as mode
+use Rattle.wt_span.specs.declared.limits.TheConstants.{PAGE_BYTES}
 use Rattle.wt_span.specs.Lexemes.{words}
 use Rattle.wt_span.specs.Braces.{calls}
 use Rattle.wt_braces.specs.Found.{too_deep}
 use Rattle.wt_utf8.specs.Places.{not_utf8_place}
+use Rattle.wt_expand.specs.declared.limits.TheConstants.{MOST_COST}
 use Rattle.wt_expand.specs.Templates.{template_text}
 
 -- the pages of a folder, by their full names
@@ -32,11 +34,11 @@ pub data Refused : Type 0 where
 
 -- the most bytes of a template
 unfoldable pub most_bytes : ℕ
-most_bytes = 2097152
+most_bytes = PAGE_BYTES
 
 -- the most that an expansion may cost
 unfoldable pub most_cost : ℕ
-most_cost = 8388608
+most_cost = MOST_COST
 
 -- the first byte of the leftmost call of a text that has a hundred others round it
 unfoldable pub deep_place : Mode → List ℕ → Option ℕ

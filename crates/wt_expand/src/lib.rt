@@ -3,6 +3,7 @@
 #![tactic(auto)]
 
 mod laws;
+mod limits;
 mod page;
 mod piece;
 mod shown;
@@ -12,6 +13,7 @@ pub use laws::{
     last_value_counts, names_are_asked_once, origins_join, pieces_have_places, shows_what_is_given,
     trimmed_ends, whole_page, without_calls,
 };
+pub use limits::{MOST_COST, MOST_TEMPLATES};
 pub use page::page_items;
 pub use piece::form_of;
 pub use shown::{expanded, text_shown};

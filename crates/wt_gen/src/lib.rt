@@ -3,4 +3,4 @@
 
 mod page;
 
-pub use page::{page_of, template};
+pub use page::{MOST_SECTIONS, page_of, template};

@@ -40,7 +40,7 @@ fn push_section(page: &mut Str, number: u32) -> Result<(), NoMemory>
 /// The page that `gen` makes: sections from 1 to `count`, each with a heading, a paragraph, a list and
 /// a call of the template `T`. It grows by 62 to 78 bytes a section.
 pub fn page_of(alloc: Global, count: u32) -> Result<Str, NoMemory>
-    requires { count ≤ 10000 }
+    requires { count ≤ MOST_SECTIONS }
     ensures { IfOk result (λ page. page ≡ sections count) }
 {
     let mut page = Str::new(alloc);

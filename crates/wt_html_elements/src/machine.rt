@@ -18,7 +18,7 @@ use crate::signs::{
     is_attribute_byte, is_lower, is_name_byte, is_plain_text, is_plain_value, is_quote, is_space,
     is_void,
 };
-use wt_html_grammar::{Event, Following, HtmlWhy, follow};
+use wt_html_grammar::{Event, Following, HtmlWhy, NESTED_ELEMENTS, follow};
 
 /// Where a reader is, outside escapes and characters of several bytes.
 #[derive(Clone, Copy)]
@@ -244,7 +244,7 @@ impl Machine {
         ensures { Takes (step (less (names (building builder.now).opened)) byte) (out (less (names (building builder.now).opened)) byte) result (view_after self.new (building builder.now)) }
     {
         if is_lower(byte) {
-            if builder.depth() < 200 {
+            if builder.depth() < NESTED_ELEMENTS {
                 self.begin_name(builder, byte)
             } else {
                 Err(HtmlWhy::TooDeep)

@@ -6,6 +6,7 @@ use lib.Utf8.{scalar}
 use Rattle.wt_html_grammar.specs.declared.names.EscapeName.{EscapeName}
 use Rattle.wt_html_grammar.specs.declared.names.Radix.{Radix}
 use Rattle.wt_html_grammar.specs.Signs.{in_text, in_value, is_quote, is_among, is_void, letters_of, sign_of, most_digits, is_digit_of, number_from, Each, IsName, IsAttributeName, IsGap, IsWideGap}
+use Rattle.wt_html_grammar.specs.declared.limits.TheConstants.{NESTED_ELEMENTS}
 
 -- what stands for one character: the character itself, an escape with a name, or one with a number
 pub data Piece : Type 0 where
@@ -88,12 +89,12 @@ abbrev mutual
   spell_items (sign p items) = spell_piece p ++ spell_items items
   spell_items (child e items) = spell e ++ spell_items items
 
--- an element that stands within k others: at most 200 are nested
+-- an element that stands within k others: at most `NESTED_ELEMENTS` are nested
 abbrev mutual
   pub IsElement : ℕ → Element → Type 0
   IsElement k (element name attributes gap items end) =
-      (k < 200) × IsName name × AreAttributes [] attributes × IsGap gap × AreItems (suc k) items × IsGap end × (is_void name ≡ false)
-  IsElement k (void name attributes gap end) = (k < 200) × IsName name × AreAttributes [] attributes × IsGap gap × (is_void name ≡ true)
+      (k < NESTED_ELEMENTS) × IsName name × AreAttributes [] attributes × IsGap gap × AreItems (suc k) items × IsGap end × (is_void name ≡ false)
+  IsElement k (void name attributes gap end) = (k < NESTED_ELEMENTS) × IsName name × AreAttributes [] attributes × IsGap gap × (is_void name ≡ true)
 
   pub AreItems : ℕ → Items → Type 0
   AreItems k none = Unit {0}

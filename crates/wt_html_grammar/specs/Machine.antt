@@ -9,6 +9,7 @@ use Rattle.wt_html_grammar.specs.declared.names.EscapeName.TheVariants.{Amp, Lt,
 use Rattle.wt_html_grammar.specs.declared.names.Radix.{Radix}
 use Rattle.wt_html_grammar.specs.declared.names.Radix.TheVariants.{Decimal, Hexadecimal}
 use Rattle.wt_html_grammar.specs.Signs.{is_lower, is_name_byte, is_attribute_byte, is_space, is_quote, in_text, in_value, is_among, is_void, Follow, follow, between, begins_character, base_of, most_digits, is_digit_of, digit_value}
+use Rattle.wt_html_grammar.specs.declared.limits.TheConstants.{NESTED_ELEMENTS}
 
 -- Inside a character or an escape: behind `&`; behind `&a`; in a name, with the letters that are
 -- left; behind `&#`; in a number, with the digits so far, their count and their number; in a
@@ -144,7 +145,7 @@ step (doctype cs) b = in_doctype cs b
 step (inside []) b = if is_space b then Ok (inside []) else Err why.Syntax
 step (inside (n ∷ ns)) b = in_contents (n ∷ ns) b
 step (less ns) b =
-    if is_lower b then (if nat_lt (length ns) 200 then Ok (naming ns (b ∷ [])) else Err why.TooDeep)
+    if is_lower b then (if nat_lt (length ns) NESTED_ELEMENTS then Ok (naming ns (b ∷ [])) else Err why.TooDeep)
     else if b == 47 then end_tag ns else Err why.Syntax
 step (naming ns n) b =
     if is_name_byte b then Ok (naming ns (n ++ b ∷ [])) else at_open (record { outer = ns; name = n; seen = [] }) b

@@ -5,6 +5,7 @@
 
 mod event;
 mod laws;
+mod limits;
 mod names;
 mod utf8;
 mod why;
@@ -14,6 +15,7 @@ pub use laws::{
     built_from_spelling, characters_in_table, exact_reading, fronts_of_fronts, one_place,
     white_space,
 };
+pub use limits::NESTED_ELEMENTS;
 pub use names::{EscapeName, Radix};
 pub use utf8::{Following, follow};
 pub use why::HtmlWhy;

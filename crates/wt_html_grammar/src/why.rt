@@ -3,7 +3,7 @@
 ///
 /// - `NotUtf8`: the byte continues no UTF-8.
 /// - `End`: the input ends.
-/// - `TooDeep`: the name of an element begins that stands within 200 others.
+/// - `TooDeep`: the name of an element begins that stands within as many others as may nest (`NESTED_ELEMENTS`).
 /// - `EndTag`: in the name of an end tag, which isn't that of the element that is open.
 /// - `Escape`: inside an escape.
 /// - `Repeated`: behind the name of an attribute that came before in the element.

@@ -1,5 +1,6 @@
 ghost use Rattle.std.specs.Prelude.{◌≤◌, length};
 ghost use Rattle.wt_html_in.specs.Answers.{Answers};
+ghost use Rattle.wt_span.specs.declared.limits.TheConstants.{HTML_BYTES};
 
 use crate::edited::Edited;
 use crate::reader::Reader;
@@ -14,7 +15,7 @@ pub fn read_html<'a>(
     input: &'a [u8],
     arena: &'a Bump<Global>,
 ) -> Result<Edited<'a>, HtmlRefusal>
-    requires { length input.now ≤ 67108864 }
+    requires { length input.now ≤ HTML_BYTES }
     ensures { Answers result input.now }
 {
     let mut reader = Reader::new(alloc, arena)?;

@@ -1,4 +1,2 @@
-pub mod Counts
-pub mod Refusals
 pub mod Shown
 pub mod Runs

@@ -147,13 +147,3 @@ pub fn html_bytes_within(
     stop_past(most, out.as_slice())?;
     Ok(List::from_vec(out))
 }
-
-/// The HTML of a page by its bytes, in memory.
-pub fn html_bytes(alloc: Global, t: &Annotated<'_>) -> Result<List<u8>, NoMemory>
-    ensures { IfOk result (λ bytes. bytes ≡ html_text (view t.now.body)) }
-{
-    match html_bytes_within(alloc, t, usize::MAX) {
-        Ok(bytes) => Ok(bytes),
-        Err(_) => Err(NoMemory),
-    }
-}

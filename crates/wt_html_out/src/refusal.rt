@@ -2,14 +2,6 @@ ghost use Rattle.std.specs.Prelude.{◌≡◌};
 
 use wt_span::NoMemory;
 
-/// Why the HTML was not written whole: the sink failed after this many of its bytes, or there was
-/// no memory for it.
-#[derive(Clone, Copy, Debug, PartialEq, Eq)]
-pub enum WriteRefusal {
-    WriteFault(usize),
-    NoMemory,
-}
-
 /// Why the HTML of a page is not given: it has more bytes than were allowed, or there was no memory
 /// for it.
 #[derive(Clone, Copy, Debug, PartialEq, Eq)]

@@ -6,6 +6,7 @@ use Rattle.wt_html_grammar.specs.declared.why.HtmlWhy.TheVariants as why
 use Rattle.wt_html_grammar.specs.Signs.{is_lower, is_name_byte, is_attribute_byte, is_among, Each, IsAttributeName, IsWideGap}
 use Rattle.wt_html_grammar.specs.Grammar.{Attribute}
 use Rattle.wt_html_reasons.specs.Written.{Level, Within, InContents, names_of, InStartTag, InValue}
+use Rattle.wt_html_grammar.specs.declared.limits.TheConstants.{NESTED_ELEMENTS}
 
 -- the byte at the place passes the test
 abbrev pub Next : (ℕ → Bool) → List ℕ → Type 0
@@ -17,10 +18,10 @@ abbrev pub BeginsNoText : List ℕ → List ℕ → Type 0
 BeginsNoText before [] = ⊥
 BeginsNoText before (b ∷ behind) = (more : List ℕ) → IsUtf8 (before ++ b ∷ more) → ⊥
 
--- 200 elements are open, and behind `<` the name of one more begins
+-- as many elements are open as may be, and behind `<` the name of one more begins
 abbrev pub IsTooDeep : List ℕ → List ℕ → Type 0
 IsTooDeep before behind =
-    (levels : List Level) × (outside : List ℕ) × Within levels outside × (length levels ≡ 200) × (before ≡ outside ++ 60 ∷ []) × Next is_lower behind
+    (levels : List Level) × (outside : List ℕ) × Within levels outside × (length levels ≡ NESTED_ELEMENTS) × (before ≡ outside ++ 60 ∷ []) × Next is_lower behind
 
 -- Behind `</`, in the name of the element that is open; or behind the whole name, where a byte
 -- stands with which a name goes on.

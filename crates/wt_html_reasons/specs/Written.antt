@@ -2,6 +2,7 @@
 use Rattle.std.specs.Prelude.{◌≡◌, ℕ, suc, ◌<◌, false, List, [], ◌∷◌, ◌++◌, length, map}
 use Rattle.wt_html_grammar.specs.Signs.{is_void, is_among, IsName, IsGap}
 use Rattle.wt_html_grammar.specs.Grammar.{spell_pieces, Attribute, IsAttribute, spell_attributes, AreAttributes, Items, spell_items, AreItems, Head, spell_head, IsHead}
+use Rattle.wt_html_grammar.specs.declared.limits.TheConstants.{NESTED_ELEMENTS}
 
 -- an open element: its start tag, and its contents so far
 pub record Level : Type 0 where
@@ -15,7 +16,7 @@ spell_level l = 60 ∷ (l.name ++ (spell_attributes l.attributes ++ (l.gap ++ (6
 
 -- it stands within k others
 abbrev pub IsLevel : ℕ → Level → Type 0
-IsLevel k l = (k < 200) × IsName l.name × AreAttributes [] l.attributes × IsGap l.gap × AreItems (suc k) l.contents × (is_void l.name ≡ false)
+IsLevel k l = (k < NESTED_ELEMENTS) × IsName l.name × AreAttributes [] l.attributes × IsGap l.gap × AreItems (suc k) l.contents × (is_void l.name ≡ false)
 
 -- open elements, the innermost first
 abbrev pub spell_levels : List Level → List ℕ
@@ -42,7 +43,7 @@ names_of attributes = map (λ a. a.name) attributes
 -- in a start tag, directly behind its name and these attributes
 abbrev pub InStartTag : List Attribute → List ℕ → Type 0
 InStartTag attributes bytes =
-    (levels : List Level) × (outside name : List ℕ) × Within levels outside × (length levels < 200) × IsName name × AreAttributes [] attributes
+    (levels : List Level) × (outside name : List ℕ) × Within levels outside × (length levels < NESTED_ELEMENTS) × IsName name × AreAttributes [] attributes
     × (bytes ≡ outside ++ (60 ∷ (name ++ spell_attributes attributes)))
 
 -- an attribute up to the quote that ends its value

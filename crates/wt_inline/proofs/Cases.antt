@@ -12,24 +12,24 @@ use Rattle.wt_span.specs.Items.{Item, char, whole}
 use Rattle.wt_inline.specs.ItemTree.{plain, inner, forest}
 use Rattle.wt_inline.specs.Parts.{loose_leaf, form_leaf, children, nowiki}
 use Rattle.wt_inline.specs.declared.loose.Loose.TheVariants.{Text}
-use Rattle.wt_inline.specs.Inline.{inline_trees}
+use Rattle.wt_inline.specs.Inline.{inline_parts}
 use Rattle.wt_inline.specs.Carried.{attrs_whole, data_whole, shown_item, extension_typeof, noinclude_typeof, onlyinclude_typeof, includeonly_typeof, extension_data}
 
 abbrev text : List ℕ → List Item
 text bs = map (char None) bs
 
 -- the inside of `nowiki` has texts and entities alone
-inside : inline_trees (whole form.Nowiki None (codes "<nowiki>a&lt;b</nowiki >") ∷ [])
+inside : children (inline_parts (whole form.Nowiki None (codes "<nowiki>a&lt;b</nowiki >") ∷ []))
     ≡ inner (plain kind.Nowiki) (text (codes "<nowiki>"))
     (forest (loose_leaf Text (text (codes "a")) ∷ form_leaf (form.Entity 60) None (codes "&lt;") ∷ loose_leaf Text (text (codes "b")) ∷ []))
     (text (codes "</nowiki >")) ∷ []
-unfolding inline_trees children nowiki opening_tag closing_tag tag_after entity_at named_entity entity_names decimal_entity hex_entity
+unfolding children nowiki opening_tag closing_tag tag_after entity_at named_entity entity_names decimal_entity hex_entity
 inside = refl
 
 -- characters of the page and of a call are two texts
-two_origins : inline_trees (char None 97 ∷ char (Some 0) 98 ∷ char (Some 0) 99 ∷ char (Some 1) 100 ∷ [])
+two_origins : children (inline_parts (char None 97 ∷ char (Some 0) 98 ∷ char (Some 0) 99 ∷ char (Some 1) 100 ∷ []))
     ≡ loose_leaf Text (char None 97 ∷ []) ∷ loose_leaf Text (char (Some 0) 98 ∷ char (Some 0) 99 ∷ []) ∷ loose_leaf Text (char (Some 1) 100 ∷ []) ∷ []
-unfolding inline_trees children
+unfolding children
 two_origins = refl
 
 opening_tag_alone : attrs_whole form.Include (codes "<NoInclude x/>") ≡ (attr.Typeof, codes "mw:Includes/NoInclude") ∷ []

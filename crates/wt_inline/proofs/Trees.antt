@@ -7,7 +7,7 @@ use Rattle.std.proofs.lemmas.Grind.{flat_map-append}
 use Rattle.wt_span.specs.declared.form.Piece.{Piece}
 use Rattle.wt_span.specs.declared.form.Form.{Form}
 use Rattle.wt_span.specs.declared.form.Form.TheVariants as form
-use Rattle.wt_span.specs.Items.{Item, char, items, items_of, items_by, sources}
+use Rattle.wt_span.specs.Items.{Item, char, items, items_of, items_by}
 use Rattle.wt_lines.specs.Pieces.{is_chars}
 use Rattle.wt_inline.specs.declared.loose.Loose.{Loose}
 use Rattle.wt_inline.specs.declared.loose.Loose.TheVariants.{Text}
@@ -16,9 +16,7 @@ use Rattle.wt_inline.specs.Parts.{Part, loose, node, children, inside_part, form
 use Rattle.wt_inline.specs.Grown.{Grown, Grows, made}
 use Rattle.wt_inline.proofs.Growing.{grows_both}
 use Rattle.wt_inline.specs.declared.tree.PieceTree.{PieceTree}
-use Rattle.wt_inline.specs.ItemTree.{ItemTree, leaf, forest, held_by_all}
-use Rattle.wt_inline.specs.Inline.{inline_trees}
-use Rattle.wt_inline.proofs.HeldLaws.{held_children, held_of_parts, sources_opened}
+use Rattle.wt_inline.specs.ItemTree.{ItemTree, leaf}
 use Rattle.wt_inline.specs.View.{item_tree, item_trees}
 
 pub pushed : (ns ms : List PieceTree) (n : PieceTree) → ms ≡ ns ++ n ∷ [] → item_trees ms ≡ item_trees ns ++ item_tree n ∷ []
@@ -95,7 +93,3 @@ pub no_bytes : (bs text : List ℕ) (v : Bool) → text ≡ bs → v ≡ (length
 no_bytes bs text v i e t =
     let z : length text ≡ 0 = grind (arith, nat_tests) in
     sym i ∙ nil_from_length text z
-
-pub inline_source : (xs : List Item) → sources (held_by_all (forest (inline_trees xs))) ≡ sources xs
-unfolding inline_trees
-inline_source xs = ap sources (held_children (parts Text xs) ∙ held_of_parts Text xs) ∙ sources_opened xs

@@ -2,7 +2,6 @@ pub mod Backs
 pub mod Chunks
 pub mod KindRows
 pub mod LineLaws
-pub mod LineLengths
 pub mod FullLines
 pub mod PieceRuns
 pub mod PieceSigns

@@ -1,16 +1,14 @@
 -- Lines: the function, and the relation that it meets alone.
 use Rattle.std.proofs.Common.{◌≡◌, ℕ, Bool, true, false, Option, List, [], ◌∷◌, ◌++◌, map, refl, sym, ap, ◌∙◌, subst, cond, append_assoc, append-nil, inl, inr}
 use Rattle.std.specs.Prelude.{not, ◌&&◌}
-use Rattle.std.proofs.lemmas.List.{map-append}
 use Rattle.wt_span.specs.Bytes.{is_break}
 use Rattle.wt_span.specs.declared.form.Form.{Form}
 use Rattle.wt_span.specs.declared.form.Form.TheVariants as form
 use Rattle.wt_span.specs.declared.form.Piece.{Piece}
 use Rattle.wt_span.specs.Slice.{bytes_of}
 use Rattle.wt_span.specs.Items.{Item, char, items, items_of, items_by, call_of_origin}
-use Rattle.wt_lines.specs.declared.line.Line.{Line}
 use Rattle.wt_lines.specs.Lines.{is_break_item, onto, lines, IsUnbroken, AreLines}
-use Rattle.wt_lines.specs.Pieces.{line_items, is_chars, no_break, starts_break, is_break_piece, IsPartedBy, IsParted, so_far, IsFurther}
+use Rattle.wt_lines.specs.Pieces.{is_chars, no_break, starts_break, is_break_piece, IsPartedBy, IsParted}
 use Rattle.wt_lines.proofs.PieceSigns.{false_true, true_false}
 
 onto_onto : (xs ys : List Item) (ls : List (List Item)) → onto xs (onto ys ls) ≡ onto (xs ++ ys) ls
@@ -113,33 +111,8 @@ unbroken_piece p h n = unbroken_by p.form (call_of_origin p.origin) (bytes_of p.
 pub break_piece : (p : Piece) → IsParted p → is_break_piece p ≡ true → items_of p ≡ char (call_of_origin p.origin) 10 ∷ []
 break_piece p h n = break_by p.form (call_of_origin p.origin) (bytes_of p.text) h n
 
--- ---- lines that are being made
+-- ---- one more piece
 
 pub items_push : (ps : List Piece) (p : Piece) → items (ps ++ p ∷ []) ≡ items ps ++ items_of p
 items_push [] p = append-nil (items_of p)
 items_push (q ∷ ps) p = ap (λ xs. items_of q ++ xs) (items_push ps p) ∙ sym (append_assoc (items_of q) (items ps) (items_of p))
-
-pub further_line : (ls : List Line) (line : List Piece) (p : Piece) (next : List Piece) → IsParted p → is_break_piece p ≡ false
-    → next ≡ line ++ p ∷ [] → IsFurther ls line (items_of p) ls next
-further_line ls line p next h n e = λ rest.
-    ap (λ xs. map line_items ls ++ xs)
-    (ap (λ ps. onto (items ps) (lines rest)) e ∙ ap (λ xs. onto xs (lines rest)) (items_push line p)
-    ∙ sym (onto_onto (items line) (items_of p) (lines rest)) ∙ ap (onto (items line)) (sym (line_goes_on (items_of p) rest (unbroken_piece p h n))))
-
-pub further_break : (ls : List Line) (line : List Piece) (p : Piece) (ms : List Line) (next : List Piece) (l : Line) → IsParted p
-    → is_break_piece p ≡ true → ms ≡ ls ++ l ∷ [] → l.pieces ≡ line → next ≡ []
-    → IsFurther ls line (items_of p) ms next
-further_break ls line p ms next l h n e f z = λ rest.
-    let is : items_of p ≡ char (call_of_origin p.origin) 10 ∷ [] = break_piece p h n in
-    let ended : lines (items_of p ++ rest) ≡ [] ∷ lines rest = ap (λ xs. lines (xs ++ rest)) is ∙ line_ends (char (call_of_origin p.origin) 10) rest refl in
-    ap (λ ns. map line_items ns ++ onto (items next) (lines rest)) e
-    ∙ ap (λ ps. map line_items (ls ++ l ∷ []) ++ onto (items ps) (lines rest)) z
-    ∙ ap (λ xs. map line_items (ls ++ l ∷ []) ++ xs) (onto_none rest)
-    ∙ ap (λ xs. xs ++ lines rest) (map-append line_items ls (l ∷ []))
-    ∙ append_assoc (map line_items ls) (line_items l ∷ []) (lines rest)
-    ∙ ap (λ ps. map line_items ls ++ (items ps ∷ lines rest)) f
-    ∙ ap (λ xs. map line_items ls ++ (xs ∷ lines rest)) (sym (append-nil (items line)))
-    ∙ ap (λ xs. map line_items ls ++ onto (items line) xs) (sym ended)
-
-pub so_far_begins : (ls : List Line) (line : List Piece) (xs : List Item) → ls ≡ [] → line ≡ [] → so_far ls line xs ≡ lines xs
-so_far_begins ls line xs e f = ap (λ ms. so_far ms line xs) e ∙ ap (λ ps. onto (items ps) (lines xs)) f ∙ onto_none xs

@@ -1,24 +1,17 @@
 -- Runs of pieces, and the items that they hold.
-use Rattle.std.proofs.Common.{◌≡◌, ℕ, ◌<◌, ◌+◌, Bool, true, false, Option, List, [], ◌∷◌, ◌++◌, length, take, drop, map, refl, sym, ap, ◌∙◌, subst, cond, arith, append-nil, inl, inr}
-use Rattle.std.specs.Prelude.{not}
+use Rattle.std.proofs.Common.{◌≡◌, ℕ, ◌<◌, ◌+◌, Bool, true, false, Option, List, [], ◌∷◌, ◌++◌, length, take, drop, map, refl, sym, ap, subst, cond, arith, inl, inr}
 use Rattle.std.specs.List.{All, prefix_len}
 use Rattle.std.proofs.Math.Numerals.{one-add}
-use Rattle.std.proofs.lemmas.List.{take-append-drop}
 use Rattle.std.proofs.lemmas.List.Elements.{All-head, All-tail}
-use Rattle.std.proofs.lemmas.Grind.{flat_map-append}
 use Rattle.wt_span.specs.declared.form.Form.{Form}
 use Rattle.wt_span.specs.declared.form.Form.TheVariants as form
 use Rattle.wt_span.specs.declared.form.Piece.{Piece}
 use Rattle.wt_span.specs.Slice.{bytes_of}
 use Rattle.wt_span.specs.Items.{Item, char, items, items_of, items_by, is_mark, is_mark_form, call_of_origin}
 use Rattle.wt_span.specs.Origins.{IsSoundPiece}
-use Rattle.wt_span.specs.Runs.{IsRun}
 use Rattle.wt_span.specs.Whole.{IsWhole}
-use Rattle.wt_span.proofs.RunLaws.{runs_cut}
-use Rattle.wt_lines.specs.Lines.{IsUnbroken, goes_on}
-use Rattle.wt_lines.specs.Pieces.{is_chars, is_break_piece, is_mark_piece, IsPartedBy, IsParted, AllParted, line_len, IsLineCut, AreLeadingMarks}
+use Rattle.wt_lines.specs.Pieces.{is_chars, is_mark_piece, IsPartedBy, IsParted, AreLeadingMarks}
 use Rattle.wt_lines.proofs.PieceSigns.{false_true, true_false}
-use Rattle.wt_lines.proofs.LineLaws.{unbroken_piece, break_piece}
 
 -- some items
 abbrev pub Some_ : List Item → Type 0
@@ -43,60 +36,6 @@ some_by form.EmptyCall o bs h = tt
 
 pub some_items : (p : Piece) → IsParted p → Some_ (items_of p)
 some_items p h = some_by p.form (call_of_origin p.origin) (bytes_of p.text) h
-
--- ---- a line, with its line break
-
-line_end : (xs : List Item) → IsUnbroken xs → Some_ xs → IsRun goes_on xs []
-line_end [] u s = absurd s
-line_end (x ∷ []) u s = tt
-line_end (x ∷ y ∷ ys) u s = (ap not u.0, line_end (y ∷ ys) u.1 tt)
-
-line_onto : (xs ys rest : List Item) → IsUnbroken xs → IsRun goes_on ys rest → IsRun goes_on (xs ++ ys) rest
-line_onto [] ys rest u r = r
-line_onto (x ∷ []) [] rest u r = absurd r
-line_onto (x ∷ []) (y ∷ ys) rest u r = (ap not u.0, r)
-line_onto (x ∷ z ∷ zs) ys rest u r = (ap not u.0, line_onto (z ∷ zs) ys rest u.1 r)
-
-line_break : (o : Option ℕ) (rest : List Item) → IsRun goes_on (char o 10 ∷ []) rest
-line_break o [] = tt
-line_break o (y ∷ ys) = refl
-
-pub items_append : (ps qs : List Piece) → items (ps ++ qs) ≡ items ps ++ items qs
-items_append ps qs = flat_map-append items_of ps qs
-
-pub items_cut : (n : ℕ) (ps : List Piece) → items ps ≡ items (take n ps) ++ items (drop n ps)
-items_cut n ps = ap items (sym (take-append-drop n ps)) ∙ items_append (take n ps) (drop n ps)
-
-abbrev LineAt : List Piece → ℕ → Type 0
-LineAt ps n = IsRun goes_on (items (take n ps)) (items (drop n ps))
-
-line_by : (p : Piece) (ps : List Piece) (v : Bool) → is_break_piece p ≡ v → AllParted (p ∷ ps)
-    → (0 < length ps → LineAt ps (line_len ps)) → LineAt (p ∷ ps) (cond v 1 (1 + line_len ps))
-line_by p ps true e h rest = rw (break_piece p h.0 e) (line_break (call_of_origin p.origin) (items ps))
-line_by p [] false e h rest = rw append-nil (line_end (items_of p) (unbroken_piece p h.0 e) (some_items p h.0))
-line_by p (q ∷ qs) false e h rest =
-    rw one-add (line_onto (items_of p) (items (take (line_len (q ∷ qs)) (q ∷ qs))) (items (drop (line_len (q ∷ qs)) (q ∷ qs)))
-    (unbroken_piece p h.0 e) (rest (omega arith)))
-
-line_at : (ps : List Piece) → AllParted ps → 0 < length ps → LineAt ps (line_len ps)
-line_at [] h s = absurd (omega arith)
-line_at (p ∷ ps) h s = line_by p ps (is_break_piece p) refl h (line_at ps h.1)
-
-pub line_cut : (ps : List Piece) (n : ℕ) → AllParted ps → 0 < length ps → n ≡ line_len ps → IsLineCut ps n
-line_cut ps n h s e =
-    let at : LineAt ps n = subst (LineAt ps) (sym e) (line_at ps h s) in
-    ap (λ xs. Rattle.wt_lines.specs.Lines.full_lines xs) (items_cut n ps) ∙ runs_cut goes_on (items (take n ps)) (items (drop n ps)) at
-
-some_len_by : (v : Bool) (n : ℕ) → 0 < cond v 1 (1 + n)
-some_len_by true n = omega arith
-some_len_by false n = omega arith
-
-some_len : (ps : List Piece) → 0 < length ps → 0 < line_len ps
-some_len [] s = absurd (omega arith)
-some_len (p ∷ ps) s = some_len_by (is_break_piece p) (line_len ps)
-
-pub some_line : (ps : List Piece) (n : ℕ) → 0 < length ps → n ≡ line_len ps → 0 < n
-some_line ps n s e = subst (λ (k : ℕ). 0 < k) (sym e) (some_len ps s)
 
 -- ---- marks at the front
 

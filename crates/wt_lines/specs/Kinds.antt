@@ -6,6 +6,7 @@ use Rattle.wt_span.specs.Bytes.{is_blank, begins}
 use Rattle.wt_span.specs.Items.{Item, sign}
 use Rattle.wt_lines.specs.declared.kind.LineKind.{LineKind}
 use Rattle.wt_lines.specs.declared.kind.LineKind.TheVariants as kind
+use Rattle.wt_lines.specs.declared.kind.TheConstants.{MOST_TABLES}
 
 -- the sign of any mark
 abbrev pub is_mark_sign : ℕ → Bool
@@ -43,9 +44,9 @@ abbrev pub first_of : List (Bool × LineKind) → Option LineKind
 first_of [] = None
 first_of ((holds, k) ∷ rows) = if holds then Some k else first_of rows
 
--- a line that begins with `{|` opens a table, or is text where 16 are open
+-- a line that begins with `{|` opens a table, or is text where `MOST_TABLES` are open
 abbrev pub open_kind : ℕ → LineKind
-open_kind tables = if nat_lt tables 16 then kind.TableOpen else kind.Text
+open_kind tables = if nat_lt tables MOST_TABLES then kind.TableOpen else kind.Text
 
 -- the rows that count in a table alone, by the line from its first visible item on that is no blank
 abbrev pub table_rows : List ℕ → List (Bool × LineKind)

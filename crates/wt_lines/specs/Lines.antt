@@ -1,8 +1,8 @@
 -- Lines: the items between line breaks.
-use Rattle.std.specs.Prelude.{◌≡◌, ◌≤◌, ℕ, Bool, true, false, not, All, length, List, [], ◌∷◌, ◌++◌, if◌then◌else◌}
+use Rattle.std.specs.Prelude.{◌≡◌, Bool, true, false, not, List, [], ◌∷◌, ◌++◌, if◌then◌else◌}
 use Rattle.std.specs.List.{AllByRecursion}
 use Rattle.wt_span.specs.Bytes.{is_break}
-use Rattle.wt_span.specs.Items.{Item, is_char_in, sources}
+use Rattle.wt_span.specs.Items.{Item, is_char_in}
 use Rattle.wt_span.specs.Runs.{runs}
 
 -- a line break character; a line break in an atom or a mark is none
@@ -30,10 +30,6 @@ abbrev pub AreLines : List (List Item) → List Item → Type 0
 AreLines [] xs = ⊥
 AreLines (l ∷ []) xs = IsUnbroken l × (xs ≡ l)
 AreLines (l ∷ m ∷ ls) xs = IsUnbroken l × (b : Item) × (others : List Item) × (is_break_item b ≡ true) × (xs ≡ l ++ b ∷ others) × AreLines (m ∷ ls) others
-
--- no line takes more bytes than this
-abbrev pub AreWithin : ℕ → List (List Item) → Type 0
-AreWithin n ls = All (λ l. length (sources l) ≤ n) ls
 
 -- ---- lines that keep their line breaks
 

@@ -3,11 +3,9 @@ ghost use Rattle.std.specs.Option.{unwrap_or};
 ghost use Rattle.wt_span.specs.Items.{items};
 ghost use Rattle.wt_lines.specs.declared.kind.LineKind.TheVariants as kind;
 ghost use Rattle.wt_lines.specs.Kinds.{is_heading, is_list, is_idle, past, first_of, open_kind, table_rows, text_rows, line_kind};
-ghost use Rattle.wt_lines.specs.Pieces.{line_items};
 ghost use Rattle.wt_lines.specs.Signs.{left, right};
 
 use crate::back::BackSigns;
-use crate::line::Line;
 use crate::sign::Signs;
 use wt_span::Piece;
 
@@ -41,7 +39,7 @@ pub enum LineKind {
 }
 
 /// How many tables may be open, one inside another.
-const MOST_TABLES: u32 = 16;
+pub const MOST_TABLES: u32 = 16;
 
 fn is_list(first: Signs<'_, '_>) -> bool
     ensures { result ≡ is_list (left first.entry) }
@@ -107,8 +105,11 @@ fn text_kind(first: Signs<'_, '_>, line: BackSigns<'_, '_>) -> LineKind
     }
 }
 
-/// The kind of the line that these pieces are, at which `tables` tables are open. It is `classify`
-/// for a layer that keeps the pieces of many lines in one list.
+/// The kind of the line that these pieces are, at which `tables` tables are open, by MediaWiki's rules
+/// in the profile's form. In a table means that `tables` isn't 0; where `MOST_TABLES` are open, a line
+/// that begins with `{|`, behind blanks or not, is text.
+/// The call takes no memory, and reads the line's ends: it stops at the first and the last visible
+/// item that tell the kind.
 pub fn kind_of_pieces(pieces: &[Piece<'_>], tables: u32) -> LineKind
     ensures { result ≡ line_kind tables (items pieces.now) }
 {
@@ -124,15 +125,4 @@ pub fn kind_of_pieces(pieces: &[Piece<'_>], tables: u32) -> LineKind
         Some(kind) => kind,
         None => text_kind(all.past_marks(), BackSigns::of(pieces)),
     }
-}
-
-/// The kind of a line at which `tables` tables are open, by MediaWiki's rules in the profile's
-/// form. In a table means that `tables` isn't 0; where 16 are open, a line that begins with `{|`,
-/// behind blanks or not, is text.
-/// The call takes no memory, and reads the line's ends: it stops at the first and the last visible
-/// item that tell the kind.
-pub fn classify(line: &Line<'_>, tables: u32) -> LineKind
-    ensures { result ≡ line_kind tables (line_items line.now) }
-{
-    kind_of_pieces(line.pieces.as_slice(), tables)
 }

@@ -1,4 +1,4 @@
-//! What holds of the lines of any items, and of the table of kinds.
+//! What holds of the lines of any items.
 
 ghost use Rattle.std.specs.Prelude.{◌≡◌, ◌++◌, List, map};
 ghost use Rattle.wt_span.specs.Items.{Item};

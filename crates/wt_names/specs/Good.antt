@@ -4,6 +4,7 @@ use Rattle.std.specs.List.{list_any, starts_with, ends_with}
 use Rattle.std.specs.Char.{is_ascii_hexdigit}
 use Rattle.std.specs.Str.{bytes_eq}
 use Rattle.wt_names.specs.declared.title.Title.{Title}
+use Rattle.wt_names.specs.declared.good.TheConstants.{FULL_NAME_BYTES}
 use Rattle.wt_names.specs.Namespace.{full_name_of}
 use Rattle.wt_names.specs.Reading.{title_in}
 
@@ -73,9 +74,9 @@ is_some_text (Some text) = nat_lt 0 (length text)
 abbrev pub is_named : Title → Bool
 is_named t = nat_lt 0 (length t.name) || (length (full_name_of t) == 0 && is_some_text t.fragment)
 
--- at most 255 bytes of full name
+-- at most `FULL_NAME_BYTES` bytes of full name
 abbrev pub is_short : Title → Bool
-is_short t = nat_le (length (full_name_of t)) 255
+is_short t = nat_le (length (full_name_of t)) FULL_NAME_BYTES
 
 -- the name doesn't begin with a colon
 abbrev pub has_no_colon_first : Title → Bool

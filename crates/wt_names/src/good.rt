@@ -143,6 +143,9 @@ fn is_named(title: &Title, full: &str) -> bool
     !title.name.as_str().is_empty() || full.is_empty() && is_some_text(&title.fragment)
 }
 
+/// The most bytes of a full name.
+pub const FULL_NAME_BYTES: usize = 255;
+
 /// Whether a title with this full name is good.
 #[tactic(auto, unfolding(crate::specs::Good::is_good))]
 fn is_good(title: &Title, full: &str) -> bool
@@ -151,7 +154,7 @@ fn is_good(title: &Title, full: &str) -> bool
 {
     let name = title.name.as_str();
     is_named(title, full)
-        && full.len() <= 255
+        && full.len() <= FULL_NAME_BYTES
         && !name.starts_with(':')
         && !has_escape(name.as_bytes())
         && !has_signature(name)

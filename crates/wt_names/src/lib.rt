@@ -13,4 +13,4 @@ mod title;
 pub use good::read_title;
 pub use link::{file_name, href_of, title_of_href};
 pub use namespace::Ns;
-pub use title::{Title, full_name, is_category};
+pub use title::{Title, full_name};

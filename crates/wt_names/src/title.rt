@@ -1,5 +1,5 @@
 //! A title and its full name.
-ghost use Rattle.std.specs.Prelude.{◌≡◌, ◌↔◌, IsTrue, IfOk};
+ghost use Rattle.std.specs.Prelude.{◌≡◌, IfOk};
 ghost use Rattle.wt_names.specs.Namespace.{prefix_of, full_name_of};
 
 use crate::namespace::Ns;
@@ -27,11 +27,4 @@ pub fn full_name(alloc: Global, t: &Title) -> Result<Str, NoMemory>
     }
     full.push_str(t.name.as_str())?;
     Ok(full)
-}
-
-/// Whether the page is a category.
-pub fn is_category(t: &Title) -> bool
-    ensures { IsTrue result ↔ (t.now.ns ≡ Ns.Category) }
-{
-    t.ns == Ns::Category
 }

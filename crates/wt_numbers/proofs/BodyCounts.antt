@@ -7,13 +7,14 @@ use Rattle.wt_span.specs.Runs.{runs, IsRun, AreRuns}
 use Rattle.wt_span.proofs.RunLaws.{runs_are}
 use Rattle.wt_lines.specs.declared.kind.LineKind.{LineKind}
 use Rattle.wt_lines.specs.declared.kind.LineKind.TheVariants as line
+use Rattle.wt_lines.specs.declared.kind.TheConstants.{MOST_TABLES}
 use Rattle.wt_lines.specs.Lines.{full_lines, goes_on}
 use Rattle.wt_tables.specs.Extents.{is_open, inner_len}
 use Rattle.wt_tables.specs.Parts.{joined, taken_len, put_first, units_from, units, unit_kind}
 use Rattle.wt_body.specs.Rows.{Row, kind_of, rows}
 use Rattle.wt_body.specs.Stretches.{stretches_parts}
 use Rattle.wt_body.specs.Tables.{Reading, gaps}
-use Rattle.wt_body.specs.Body.{is_list_line, one_block, same_block, block_stretches, run_stretches, blocks_by, within, most_tables, blocks, meaning}
+use Rattle.wt_body.specs.Body.{is_list_line, one_block, same_block, block_stretches, run_stretches, blocks_by, within, blocks, meaning}
 use Rattle.wt_body.proofs.HeldBody.{units_joined}
 use Rattle.wt_annotated.specs.Counted.{numbered}
 use Rattle.wt_numbers.specs.Numbers.{makes_all}
@@ -207,7 +208,7 @@ within_few (suc n) = blocks_by_few (within n) (within_few n)
 
 blocks_few : IsFew blocks
 unfolding blocks
-blocks_few rs f = within_few most_tables rs f
+blocks_few rs f = within_few MOST_TABLES rs f
 
 -- ---- the body
 

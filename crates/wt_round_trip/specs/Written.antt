@@ -26,6 +26,7 @@ use Rattle.wt_fitting.specs.Groups.{transclusion, param}
 use Rattle.wt_round_trip.specs.GroupNodes.{elements_for, group_nodes, is_ended, is_empty_span, in_order, all_follow}
 use Rattle.wt_tree.specs.Cutting.{begins_with_text}
 use Rattle.wt_fitting.specs.Rows.{holds_text, shows_text, read_as}
+use Rattle.wt_html_grammar.specs.declared.limits.TheConstants.{NESTED_ELEMENTS}
 
 -- ---- what is read again
 
@@ -191,7 +192,7 @@ pub record IsFace (f : Face) : Type 0 where
 
 -- within k elements; no leaf has anything in it
 abbrev pub FaceIsWritten : ℕ → Face → Bool → Type 0 → Type 0
-FaceIsWritten k f childless inside = (k < 200) × IsFace f × ((not (is_leaf f.kind) || childless) ≡ true) × inside
+FaceIsWritten k f childless inside = (k < NESTED_ELEMENTS) × IsFace f × ((not (is_leaf f.kind) || childless) ≡ true) × inside
 
 abbrev pub is_characters : Plain → Bool
 is_characters (text bs) = true
@@ -259,11 +260,11 @@ is_childless none = true
 is_childless (more t ts) = false
 
 -- A node by how it is written, within k elements, the innermost of which has the kind `parent`. HTML
--- nests at most 200 elements. No leaf has children. A group is written as its elements.
+-- nests at most `NESTED_ELEMENTS` elements. No leaf has children. A group is written as its elements.
 abbrev pub NodeIsWritten : Writing → ℕ → Kind → Label → Bool → Type 0 → Type 0 → Type 0
 NodeIsWritten AsText k parent l childless inside group = IsTextIn parent l × (childless ≡ true)
 NodeIsWritten Unwritten k parent l childless inside group = group
-NodeIsWritten w k parent l childless inside group = (k < 200) × (may_hold parent l.kind ≡ true) × IsElementLabel l ×
+NodeIsWritten w k parent l childless inside group = (k < NESTED_ELEMENTS) × (may_hold parent l.kind ≡ true) × IsElementLabel l ×
     ((not (is_leaf l.kind) || childless) ≡ true) × inside
 
 -- Two texts that stand next to each other would be read as one: that is well where they are cut again.

@@ -3,6 +3,7 @@
 use Rattle.std.specs.Prelude.{◌≡◌, ◌≤◌, ◌⊎◌, ℕ, true, List, [], ◌∷◌, ◌++◌, All}
 use Rattle.wt_span.specs.Items.{Item, items}
 use Rattle.wt_span.specs.Origins.{IsSoundPiece}
+use Rattle.wt_lines.specs.declared.kind.TheConstants.{MOST_TABLES}
 use Rattle.wt_tables.specs.Extents.{behind}
 use Rattle.wt_body.specs.Rows.{Row, rows}
 use Rattle.wt_body.specs.Body.{body_parts}
@@ -16,7 +17,7 @@ open_behind n [] = n
 open_behind n (r ∷ rs) = open_behind (behind n r.kind) rs
 
 pub record IsSection (s : Section) : Type 0 where
-  pub few : s.tables ≤ 16
+  pub few : s.tables ≤ MOST_TABLES
   pub rows_ready : ArePageRows s.made
   pub count : open_behind 0 (made_rows s.made) ≡ s.tables
   pub sound : All IsSoundPiece (left s.rest)

@@ -10,11 +10,9 @@ ghost use Rattle.wt_body.specs.Lists.{prefix_of, with_blanks};
 ghost use Rattle.wt_rows.specs.Prefixes.{list_signs};
 
 use std::alloc::Global;
+use wt_blocks::MOST_SIGNS;
 use wt_lines::{Sign, Signs};
 use wt_span::{NoMemory, Piece, Str};
-
-/// How many signs of a prefix count.
-const MOST_SIGNS: usize = 32;
 
 /// The text of a sign of lists.
 fn list_sign(sign: Sign) -> Option<&'static str>

@@ -1,6 +1,7 @@
 -- The answer to an edit of a page: the new page, or the first refusal by its kind, then in preorder.
 use Rattle.std.specs.Prelude.{◌≡◌, ℕ, Bool, false, Option, Some, None, option_map, Result, Ok, Err, List, [], ◌∷◌, length, nat_lt, ◌||◌, if◌then◌else◌}
 use Rattle.wt_span.specs.Origins.{Expanded}
+use Rattle.wt_span.specs.declared.limits.TheConstants.{PAGE_BYTES}
 use Rattle.wt_tree.specs.Tree.{Tree, tree, label}
 use Rattle.wt_checks.specs.Checked.{checked}
 use Rattle.wt_selser.specs.declared.refusal.EditRefusal.{EditRefusal}
@@ -39,7 +40,7 @@ refused_pairs same items page ps = first_with (first_of (bad_pair same) ps) (fir
 
 -- the most bytes of a page
 unfoldable pub most_bytes : ℕ
-most_bytes = 2097152
+most_bytes = PAGE_BYTES
 
 abbrev pub if_short : List ℕ → Result (List ℕ) EditRefusal
 if_short new = if nat_lt most_bytes (length new) then Err refusal.NewPageTooLong else Ok new

@@ -18,12 +18,9 @@ use crate::refusal::EditRefusal;
 use std::alloc::Global;
 use wt_checks::check;
 use wt_content::bad_content;
-use wt_span::{Items, NoMemory, Str};
+use wt_span::{Items, NoMemory, PAGE_BYTES, Str};
 use wt_tangled::Passes;
 use wt_tree::Node;
-
-/// The most bytes of a page.
-pub const PAGE_BYTES: usize = 2_097_152;
 
 fn bad_pair(alloc: Global, pair: Pair<'_, '_>) -> Result<Option<EditRefusal>, NoMemory>
     ensures { (same : Tree → Tree → Bool) → TellsSame same → IfOk result (λ r. r ≡ bad_pair same (pair_of pair.entry)) }

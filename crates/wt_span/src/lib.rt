@@ -6,6 +6,7 @@
 mod form;
 mod items;
 mod laws;
+mod limits;
 mod list;
 mod memory;
 mod origin;
@@ -18,6 +19,7 @@ mod text;
 pub use form::{Form, LexKind, Mode, Outer, Piece};
 pub use items::Items;
 pub use laws::one_cut;
+pub use limits::{HTML_BYTES, PAGE_BYTES};
 pub use list::List;
 pub use memory::NoMemory;
 pub use origin::Origin;

@@ -1,14 +1,12 @@
--- How far tables go, by depth and from the back.
-use Rattle.std.proofs.Common.{◌≡◌, ◌≤◌, ℕ, zero, suc, ◌+◌, ◌-◌, ◌==◌, Bool, true, false, Option, Some, List, [], ◌∷◌, length, take, drop, map, refl, sym, ap, ◌∙◌, cond, arith}
-use Rattle.std.specs.Prelude.{not, min, slice_get}
+-- How far tables go, by depth.
+use Rattle.std.proofs.Common.{◌≡◌, ◌≤◌, ℕ, zero, suc, ◌+◌, ◌-◌, ◌==◌, Bool, true, false, List, [], ◌∷◌, length, take, refl, ap, ◌∙◌, cond, arith}
+use Rattle.std.specs.Prelude.{not, min}
 use Rattle.std.specs.List.{count_by, position_or_len, range_with_len}
 use Rattle.std.proofs.lemmas.Bool.Decides.{nat_tests}
-use Rattle.std.proofs.lemmas.List.{drop-drop}
 use Rattle.std.proofs.lemmas.List.Sums.{sum_by-cons}
 use Rattle.wt_lines.specs.declared.kind.LineKind.{LineKind}
 use Rattle.wt_lines.specs.declared.kind.LineKind.TheVariants as kind
-use Rattle.wt_tables.specs.Extents.{is_open, is_end, closes, inner_len, table_end, end_by, ends}
-use Rattle.wt_tables.specs.Views.{end_at, end_of, closers, ends_from}
+use Rattle.wt_tables.specs.Extents.{is_open, is_end, closes, inner_len}
 
 -- ---- by depth
 
@@ -146,98 +144,3 @@ pub inner_is : (ks : List LineKind) → inner_len ks ≡ depth_len ks 0
 unfolding inner_len
 inner_is ks = ap (λ (m : ℕ). min (suc m) (length ks))
     (same_test (closes ks) (closes_from 0 0 ks) (range_with_len 0 (length ks)) (plain_test ks)) ∙ counted 0 0 ks (omega arith)
-
--- ---- from the back
-
-abbrev reached : ℕ → List LineKind → ℕ → Type 0
-reached at ks d = at + depth_len ks d ≡ end_at (drop d (closers at ks)) (at + length ks)
-
-other_reached : (at : ℕ) (ks : List LineKind) (d : ℕ) → reached (at + 1) ks d
-    → at + suc (depth_len ks d) ≡ end_at (drop d (closers (at + 1) ks)) (at + suc (length ks))
-other_reached at ks d h =
-    let len : at + 1 + length ks ≡ at + suc (length ks) = omega arith in
-    let more : at + suc (depth_len ks d) ≡ at + 1 + depth_len ks d = omega arith in
-    more ∙ h ∙ ap (end_at (drop d (closers (at + 1) ks))) len
-
-open_reached : (at : ℕ) (ks : List LineKind) (d : ℕ) → reached (at + 1) ks (suc d)
-    → at + suc (depth_len ks (suc d)) ≡ end_at (drop d (drop 1 (closers (at + 1) ks))) (at + suc (length ks))
-open_reached at ks d h =
-    let n : 1 + d ≡ suc d = omega arith in
-    let there : drop (suc d) (closers (at + 1) ks) ≡ drop d (drop 1 (closers (at + 1) ks)) =
-    sym (drop-drop d 1 (closers (at + 1) ks) ∙ ap (λ (k : ℕ). drop k (closers (at + 1) ks)) n) in
-    other_reached at ks (suc d) h ∙ ap (λ (ps : List ℕ). end_at ps (at + suc (length ks))) there
-
-pub depth_end : (at : ℕ) (ks : List LineKind) (d : ℕ) → reached at ks d
-depth_end at [] zero = refl
-depth_end at [] (suc d) = refl
-depth_end at (kind.TableOpen ∷ ks) d = open_reached at ks d (depth_end (at + 1) ks (suc d))
-depth_end at (kind.TableEnd ∷ ks) zero = refl
-depth_end at (kind.TableEnd ∷ ks) (suc d) = other_reached at ks d (depth_end (at + 1) ks d)
-depth_end at (kind.Blank ∷ ks) d = other_reached at ks d (depth_end (at + 1) ks d)
-depth_end at (kind.Caption ∷ ks) d = other_reached at ks d (depth_end (at + 1) ks d)
-depth_end at (kind.Row ∷ ks) d = other_reached at ks d (depth_end (at + 1) ks d)
-depth_end at (kind.Cell ∷ ks) d = other_reached at ks d (depth_end (at + 1) ks d)
-depth_end at (kind.Header ∷ ks) d = other_reached at ks d (depth_end (at + 1) ks d)
-depth_end at (kind.Heading ∷ ks) d = other_reached at ks d (depth_end (at + 1) ks d)
-depth_end at (kind.Rule ∷ ks) d = other_reached at ks d (depth_end (at + 1) ks d)
-depth_end at (kind.List ∷ ks) d = other_reached at ks d (depth_end (at + 1) ks d)
-depth_end at (kind.Pre ∷ ks) d = other_reached at ks d (depth_end (at + 1) ks d)
-depth_end at (kind.Text ∷ ks) d = other_reached at ks d (depth_end (at + 1) ks d)
-
-map_shift : {B : Type 0} (f : ℕ → B) (a n : ℕ) → map f (range_with_len (suc a) n) ≡ map (λ i. f (suc i)) (range_with_len a n)
-map_shift f a zero = refl
-map_shift f a (suc n) =
-    let e : suc a + 1 ≡ suc (a + 1) = omega arith in
-    ap (λ (xs : List ℕ). f (suc a) ∷ map f xs) (ap (λ (b : ℕ). range_with_len b n) e) ∙ ap (λ xs. f (suc a) ∷ xs) (map_shift f (a + 1) n)
-
-map_same : {B : Type 0} (f g : ℕ → B) (xs : List ℕ) → ((i : ℕ) → f i ≡ g i) → map f xs ≡ map g xs
-map_same f g [] h = refl
-map_same f g (x ∷ xs) h = ap (λ y. y ∷ map f xs) (h x) ∙ ap (λ ys. g x ∷ ys) (map_same f g xs h)
-
--- the end of the table that line `i` opens, of lines from `a` on
-abbrev row : ℕ → List LineKind → ℕ → Option ℕ
-row a ks i = end_by (slice_get ks i) (a + table_end ks i)
-
-open_row : (a : ℕ) (ks : List LineKind) → a + (1 + inner_len ks) ≡ end_at (closers (a + 1) ks) (a + suc (length ks))
-open_row a ks =
-    let more : a + (1 + inner_len ks) ≡ a + 1 + inner_len ks = omega arith in
-    let len : a + 1 + length ks ≡ a + suc (length ks) = omega arith in
-    more ∙ ap (λ (n : ℕ). a + 1 + n) (inner_is ks) ∙ depth_end (a + 1) ks 0 ∙ ap (end_at (closers (a + 1) ks)) len
-
-first_row : (a : ℕ) (k : LineKind) (ks : List LineKind) → end_by (Some k) (a + (1 + inner_len ks)) ≡ end_of k (closers (a + 1) ks) (a + suc (length ks))
-first_row a kind.TableOpen ks = ap Some (open_row a ks)
-first_row a kind.TableEnd ks = refl
-first_row a kind.Blank ks = refl
-first_row a kind.Caption ks = refl
-first_row a kind.Row ks = refl
-first_row a kind.Cell ks = refl
-first_row a kind.Header ks = refl
-first_row a kind.Heading ks = refl
-first_row a kind.Rule ks = refl
-first_row a kind.List ks = refl
-first_row a kind.Pre ks = refl
-first_row a kind.Text ks = refl
-
-next_row : (a : ℕ) (k : LineKind) (ks : List LineKind) (i : ℕ) → row a (k ∷ ks) (suc i) ≡ row (a + 1) ks i
-next_row a k ks i =
-    let e : a + (suc (suc i) + inner_len (drop (suc i) ks)) ≡ a + 1 + (suc i + inner_len (drop (suc i) ks)) = omega arith in
-    ap (end_by (slice_get ks i)) e
-
-rows_are : (a : ℕ) (ks : List LineKind) → map (row a ks) (range_with_len 0 (length ks)) ≡ ends_from a (a + length ks) ks
-rows_are a [] = refl
-rows_are a (k ∷ ks) =
-    let len : a + 1 + length ks ≡ a + suc (length ks) = omega arith in
-    let more = map_shift (row a (k ∷ ks)) 0 (length ks) ∙ map_same _ (row (a + 1) ks) (range_with_len 0 (length ks)) (next_row a k ks) ∙ rows_are (a + 1) ks
-    ∙ ap (λ (n : ℕ). ends_from (a + 1) n ks) len in
-    ap (λ (o : Option ℕ). o ∷ map (row a (k ∷ ks)) (range_with_len 1 (length ks))) (first_row a k ks)
-    ∙ ap (λ os. end_of k (closers (a + 1) ks) (a + suc (length ks)) ∷ os) more
-
-zero_row : (ks : List LineKind) (i : ℕ) → end_by (slice_get ks i) (table_end ks i) ≡ row 0 ks i
-zero_row ks i =
-    let e : table_end ks i ≡ 0 + table_end ks i = omega arith in
-    ap (end_by (slice_get ks i)) e
-
-pub ends_are : (ks : List LineKind) → ends ks ≡ ends_from 0 (length ks) ks
-ends_are ks =
-    let e : 0 + length ks ≡ length ks = omega arith in
-    map_same _ (row 0 ks) (range_with_len 0 (length ks)) (zero_row ks) ∙ rows_are 0 ks ∙ ap (λ (n : ℕ). ends_from 0 n ks) e

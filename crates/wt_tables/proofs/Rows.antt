@@ -1,5 +1,5 @@
 -- Worked cases of the definitions, each by computing.
-use Rattle.std.proofs.Common.{◌≡◌, ℕ, Bool, true, false, None, Some, List, [], ◌∷◌, ◌++◌, map, refl}
+use Rattle.std.proofs.Common.{◌≡◌, ℕ, Bool, true, false, None, List, [], ◌∷◌, ◌++◌, map, refl}
 use Rattle.std.specs.Prelude.{codes, replicate}
 use Rattle.wt_span.specs.declared.form.Form.TheVariants as form
 use Rattle.wt_span.specs.Items.{Item, char, whole}
@@ -8,7 +8,7 @@ use Rattle.wt_lines.specs.declared.kind.LineKind.{LineKind}
 use Rattle.wt_lines.specs.declared.kind.LineKind.TheVariants as kind
 use Rattle.wt_lines.specs.Kinds.{kind_of_signs}
 use Rattle.wt_attributes.specs.Attributes.{Named, begins_any_case, name_at, quoted, bare, value_at, past_blanks, assigned, attribute_at, attributes}
-use Rattle.wt_tables.specs.Extents.{kinds, inner_len, ends}
+use Rattle.wt_tables.specs.Extents.{kinds, inner_len}
 use Rattle.wt_tables.specs.Cells.{Cell, single_at, bar_at, cell_of, cells, table_attributes, row_attributes}
 use Rattle.wt_tables.specs.Parts.{RowOf, table_of}
 
@@ -25,17 +25,18 @@ five_kinds : kinds 0 five ≡ kind.TableOpen ∷ kind.Header ∷ kind.Row ∷ ki
 unfolding kind_of_signs
 five_kinds = refl
 
-five_ends : ends (kind.TableOpen ∷ kind.Header ∷ kind.Row ∷ kind.Cell ∷ kind.TableEnd ∷ []) ≡ Some 5 ∷ None ∷ None ∷ None ∷ None ∷ []
+-- how far a table goes, of the lines behind the one that opens it
+five_lines : inner_len (kind.Header ∷ kind.Row ∷ kind.Cell ∷ kind.TableEnd ∷ []) ≡ 4
 unfolding inner_len
-five_ends = refl
+five_lines = refl
 
 -- a line that ends a table ends the inner one; a table that none ends goes on to the last line, blank ones too
-unclosed : ends (kind.TableOpen ∷ kind.Cell ∷ kind.TableOpen ∷ kind.Cell ∷ kind.TableEnd ∷ kind.Blank ∷ []) ≡ Some 6 ∷ None ∷ Some 5 ∷ None ∷ None ∷ None ∷ []
+unclosed : map inner_len ((kind.Cell ∷ kind.TableOpen ∷ kind.Cell ∷ kind.TableEnd ∷ kind.Blank ∷ []) ∷ (kind.Cell ∷ kind.TableEnd ∷ kind.Blank ∷ []) ∷ [])
+    ≡ 5 ∷ 2 ∷ []
 unfolding inner_len
 unclosed = refl
 
-nested : ends (kind.TableOpen ∷ kind.TableOpen ∷ kind.TableEnd ∷ kind.TableOpen ∷ kind.TableEnd ∷ kind.TableEnd ∷ kind.Text ∷ [])
-    ≡ Some 6 ∷ Some 3 ∷ None ∷ Some 5 ∷ None ∷ None ∷ None ∷ []
+nested : inner_len (kind.TableOpen ∷ kind.TableEnd ∷ kind.TableOpen ∷ kind.TableEnd ∷ kind.TableEnd ∷ kind.Text ∷ []) ≡ 5
 unfolding inner_len
 nested = refl
 

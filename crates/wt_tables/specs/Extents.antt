@@ -1,5 +1,5 @@
 -- How far tables go, by counts over the kinds of lines.
-use Rattle.std.specs.Prelude.{◌≡◌, ℕ, suc, ◌+◌, ◌-◌, ◌==◌, Bool, true, false, Option, Some, None, List, [], ◌∷◌, length, take, drop, min, slice_get, if◌then◌else◌}
+use Rattle.std.specs.Prelude.{◌≡◌, ℕ, suc, ◌+◌, ◌-◌, ◌==◌, Bool, true, false, Some, List, [], ◌∷◌, length, take, drop, min, slice_get}
 use Rattle.std.specs.List.{count_by, position_or_len, range_with_len}
 use Rattle.wt_span.specs.Items.{Item}
 use Rattle.wt_lines.specs.declared.kind.LineKind.{LineKind}
@@ -71,14 +71,6 @@ inner_len ks = min (suc (position_or_len (closes ks) (range_with_len 0 (length k
 -- the place behind the last line of the table that line `at` opens
 abbrev pub table_end : List LineKind → ℕ → ℕ
 table_end ks at = suc at + inner_len (drop (suc at) ks)
-
-abbrev pub end_by : Option LineKind → ℕ → Option ℕ
-end_by None end = None
-end_by (Some k) end = if is_open k then Some end else None
-
--- for each line the place behind its table's last line, if it opens one
-abbrev pub ends : List LineKind → List (Option ℕ)
-ends ks = Rattle.std.specs.Prelude.map (λ at. end_by (slice_get ks at) (table_end ks at)) (range_with_len 0 (length ks))
 
 -- ---- laws
 

@@ -1,8 +1,8 @@
-//! Tables by themselves: how far they go, and the cells of a line.
+//! Tables by themselves: how many are open, and the cells of a line.
 //!
-//! `line_kinds` gives the kinds of lines with the tables that are open at each, `extents` all tables
-//! of a page in one pass, `extent` one, and `cells` the cells of a line. The parts of a table
-//! (captions, rows, cells) are definitions over its lines, for the layer that joins the blocks.
+//! `behind` counts the tables that are open, and `cells` gives the cells of a line. How far tables go
+//! and their parts (captions, rows, cells) are definitions over their lines, for the layer that joins
+//! the blocks.
 #![tactic(auto)]
 
 mod cell;
@@ -15,4 +15,4 @@ pub use cell::{CellAt, cells};
 pub use laws::{
     cells_join, kinds_by_counts, lines_of_cells, one_cut_of_cells, parts_join, tables_nest,
 };
-pub use table::{behind, extent, extents, line_kinds};
+pub use table::behind;

@@ -6,6 +6,7 @@ use Rattle.wt_tree.specs.declared.kind.TagName.{TagName}
 use Rattle.wt_tiles.specs.declared.context.Context.{Context}
 use Rattle.wt_tiles.specs.declared.glyph.Glyph.{Glyph}
 use Rattle.wt_tiles.specs.declared.glyph.Glyph.TheVariants as glyph
+use Rattle.wt_tiles.specs.declared.read.TheConstants.{MOST_PAIRS}
 use Rattle.wt_tiles.specs.declared.tag.Name.{Name}
 use Rattle.wt_tiles.specs.declared.tag.Name.TheVariants.{Paired, Break, Island}
 use Rattle.wt_tiles.specs.declared.tag.TagShape.{TagShape}
@@ -30,9 +31,9 @@ abbrev pub pair_or_island : ℕ → Option (List Glyph) → List Glyph → Shape
 pair_or_island n None gs = leaf kind.TagIsland n
 pair_or_island n (Some rest) gs = record { kind = kind.Pair; opening = n; inside = length (drop n gs) - length rest; closing = len_of (tag_at rest); trail = 0 }
 
--- the closing tag that balances a tag of n items, where fewer than 16 pairs are open
+-- the closing tag that balances a tag of n items, where fewer than `MOST_PAIRS` pairs are open
 abbrev pub closing_for : ℕ → TagName → ℕ → List Glyph → Option (List Glyph)
-closing_for pairs m n gs = if nat_lt pairs 16 then partner (number m) 0 (drop n gs) else None
+closing_for pairs m n gs = if nat_lt pairs MOST_PAIRS then partner (number m) 0 (drop n gs) else None
 
 abbrev pub shape_of_tag : ℕ → Name → TagShape → ℕ → List Glyph → Shape
 shape_of_tag pairs (Paired m) Opening n gs = pair_or_island n (closing_for pairs m n gs) gs

@@ -2,6 +2,7 @@
 
 ghost use Rattle.std.specs.Prelude.{◌≡◌, ◌<◌};
 ghost use Rattle.wt_tiles.specs.Contexts.{in_line, in_text, in_pair};
+ghost use Rattle.wt_tiles.specs.declared.read.TheConstants.{MOST_PAIRS};
 
 /// What is known of the items that are cut. A line and a cell are contexts, and so is the text of a
 /// link and the inside of a pair of tags: each is cut by itself.
@@ -9,7 +10,7 @@ ghost use Rattle.wt_tiles.specs.Contexts.{in_line, in_text, in_pair};
 pub struct Context {
     /// The items stand in the text of a link, where only tags, switches, atoms and marks count.
     pub in_link: bool,
-    /// How many pairs of tags are open round the items. Where 16 are, a further one is an island.
+    /// How many pairs of tags are open round the items. Where `MOST_PAIRS` are, a further one is an island.
     pub pairs: u32,
 }
 
@@ -36,7 +37,7 @@ impl Context {
 
     /// The inside of a pair of tags that stands here.
     pub fn inside_pair(self) -> Context
-        requires { self.pairs < 16 }
+        requires { self.pairs < MOST_PAIRS }
         ensures { result ≡ in_pair self }
     {
         Context {

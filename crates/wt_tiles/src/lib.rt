@@ -21,7 +21,7 @@ mod url;
 pub use context::Context;
 pub use glyph::{Class, Glyph, run_len};
 pub use link::{close_len, target_len};
-pub use read::shapes;
+pub use read::{MOST_PAIRS, shapes};
 pub use shape::{Shape, TileKind};
 pub use tag::{Name, Tag, TagShape, tag_at};
 pub use target::{LinkKind, Target, target_of};

@@ -23,7 +23,7 @@ use wt_span::{List, NoMemory, rest_of};
 use wt_tree::TagName;
 
 /// How many pairs of tags may be open round each other.
-const MOST_PAIRS: u32 = 16;
+pub const MOST_PAIRS: u32 = 16;
 
 /// How many items the tag takes that begins the items.
 fn tag_len(glyphs: &[Glyph]) -> usize
