@@ -14,15 +14,17 @@ use Rattle.std.specs.HashMap.{get_by_text}
 use Rattle.wt_transclusion.specs.declared.read.ReadText.{ReadText}
 use Rattle.wt_transclusion.specs.declared.store.Store.{Store}
 use Rattle.wt_transclusion.specs.Answers.{IsFetched, IsRefused}
+use Rattle.wt_transclusion.specs.Asked.{AreFirst}
 use Rattle.wt_transclusion.specs.Steps.{given_from}
 use Rattle.wt_transclusion.specs.Stores.{Agrees, IsKept, IsKnown, IsStore}
+use Rattle.wt_transclusion.proofs.AskedLaws.{first_some}
 use Rattle.wt_transclusion.proofs.GrowthLaws.{agrees_before}
 use Rattle.wt_levels.specs.declared.expansion.Expansion.{Expansion}
-use Rattle.wt_levels.specs.Ledgers.{Comes, ledger}
+use Rattle.wt_levels.specs.Ledgers.{Comes, Refuses, ledger}
 use Rattle.wt_levels.proofs.PageLaws.{entered_first, page_refused, reading_is}
 use Rattle.wt_expansion.specs.declared.found.Found.{Found}
 use Rattle.wt_expansion.specs.Known.{HoldsPages, KnowsMore}
-use Rattle.wt_expansion.specs.Walks.{IsFree, RefusesWork, Walked, at_page}
+use Rattle.wt_expansion.specs.Walks.{IsFree, Walked, at_page}
 use Rattle.wt_expansion.proofs.PageWalk.{ArePage, page_found, page_members, work_is}
 
 page_work_is : (pages : Pages) (page : List ℕ) → page_work pages page ≡ entered None ∷ (text_given (page_reading pages) page).work
@@ -65,16 +67,45 @@ page_is_found pages page met spent answered told to old new x ps cs ts utf8 fits
       };
     }
 
+-- what a walk over the whole page refuses
+abbrev pub RefusesFrom : Pages → List ℕ → List (List ℕ) → ℕ → Option (List (List ℕ)) → Option (List (List ℕ))
+    → ExpandRefusal → Type 0
+RefusesFrom pages page met spent answered told e =
+    Refuses pages page (ledger spent met answered)
+    (given_from (at_page pages) true page 0 (page_members page)).work told e
+
 -- a refusal of the walk is the first one of the page
-pub found_refused : (pages : Pages) (page : List ℕ) (met : List (List ℕ)) (spent : ℕ) (answered : Option (List (List ℕ))) (e : ExpandRefusal)
-    → deep_place mode.Page page ≡ None → spent ≡ 0
-    → RefusesWork pages page (ledger spent met answered) (given_from (at_page pages) true page 0 (page_members page)).work e
+pub found_refused : (pages : Pages) (page : List ℕ) (met : List (List ℕ)) (spent : ℕ)
+    (answered told : Option (List (List ℕ))) (e : ExpandRefusal)
+    → deep_place mode.Page page ≡ None → spent ≡ 0 → RefusesFrom pages page met spent answered told e
     → IsRefused (first_refusal pages page (page_work pages page)) e
-found_refused pages page met spent answered e fits free h =
+found_refused pages page met spent answered told e fits free h =
     let work = (given_from (at_page pages) true page 0 (page_members page)).work in
-    page_refused pages page e fits
-    (subst (λ (es : List Entry). RefusesWork pages page (ledger 0 met answered) es e) (work_is pages page)
-    (subst (λ (n : ℕ). RefusesWork pages page (ledger n met answered) work e) free h))
+    let own = subst (λ (es : List Entry). Refuses pages page (ledger 0 met answered) es told e) (work_is pages page)
+    (subst (λ (n : ℕ). Refuses pages page (ledger n met answered) work told e) free h) in
+    page_refused pages page e fits (λ rest. (own rest).0)
+
+-- the names that all of this work asks for, and what follows it, where some were known and some were answered
+abbrev pub told_with : List (List ℕ) → Option (List (List ℕ)) → List Entry → List Entry
+    → Option (List (List ℕ))
+told_with met answered es rest = option_map (λ ns. ns ++ firsts_after met (fetches (es ++ rest))) answered
+
+-- the names that are answered where the walk is refused are the first of those that the page's work asks for
+pub found_stops : (pages : Pages) (page : List ℕ) (met : List (List ℕ)) (spent : ℕ)
+    (answered told : Option (List (List ℕ))) (e : ExpandRefusal) (rest : List Entry)
+    → RefusesFrom pages page met spent answered told e
+    → AreFirst told (told_with met answered (page_work pages page) rest)
+found_stops pages page met spent answered told e rest h =
+    let first : List Entry → Type 0 = λ es. AreFirst told (told_with met answered es rest) in
+    subst first (sym (page_work_is pages page))
+    (subst (λ (y : Reading). first (text_given y page).work) (reading_is pages)
+    (subst first (work_is pages page) (h rest).1))
+
+-- nothing is asked for where the page isn't read
+pub unread_stops : (pages : Pages) (page : List ℕ) (met : List (List ℕ)) (answered : Option (List (List ℕ)))
+    (rest : List Entry) → AreFirst answered (told_with met answered (page_work pages page) rest)
+unread_stops pages page met answered rest =
+    first_some answered (firsts_after met (fetches (page_work pages page ++ rest)))
 
 -- an expansion whose costs are counted anew
 pub free_still : (pages : Pages) (met : List (List ℕ)) (old x : Expansion) → x.store ≡ old.store → x.names ≡ old.names → IsFree pages met old
@@ -113,6 +144,14 @@ names_end (Some ns) = ap Some (append-nil ns)
 asked_are : (es : List Entry) → names_asked es ≡ firsts_after [] (fetches es)
 unfolding names_asked
 asked_are es = refl
+
+-- where nothing was known before, and no work follows
+pub stops_at_first : (work : List Entry) (answered told : Option (List (List ℕ)))
+    → AreFirst told (told_with [] answered work []) → AreFirst told (option_map (λ ns. ns ++ names_asked work) answered)
+stops_at_first work answered told h =
+    subst (λ ns. AreFirst told (option_map (λ xs. xs ++ ns) answered)) (sym (asked_are work))
+    (subst (λ (es : List Entry). AreFirst told (option_map (λ xs. xs ++ firsts_after [] (fetches es)) answered))
+    (append-nil work) h)
 
 -- where nothing was known before, the folder answered the names that the work asks for
 pub asked_at_first : (pages : Pages) (work : List Entry) (x : Expansion) (answered told : Option (List (List ℕ)))

@@ -3,6 +3,7 @@ pub mod KnownLaws
 pub mod MarkBytes
 pub mod PageWalk
 pub mod PieceLaws
+pub mod Refusals
 pub mod SignBytes
 pub mod SoundCalls
 pub mod SoundItems

@@ -12,7 +12,7 @@ use Rattle.wt_span.specs.Braces.{call, width_of_all, parts_of, PartAt}
 use Rattle.wt_names.specs.declared.title.Title.{Title}
 use Rattle.wt_braces.specs.PartMembers.{PartMembers, part_members}
 use Rattle.wt_braces.specs.Views.{part_of}
-use Rattle.wt_expand.specs.Targets.{Called, argument, function, page, text, called, called_by, is_function, title_of_target}
+use Rattle.wt_expand.specs.Targets.{Called, argument, function, page, called, called_by, is_function, title_of_target}
 use Rattle.wt_expand.specs.Work.{Pages, Entry}
 use Rattle.wt_expand.specs.Expansion.{Output, PartOutput, target_part, part_outputs, called_output, output_of, outputs_of}
 use Rattle.wt_expand.specs.PageCalls.{Stretch, own, outer, link_of, outer_at, call_stretches, all_stretches}
@@ -24,11 +24,11 @@ use Rattle.wt_transclusion.specs.Stores.{IsStore}
 use Rattle.wt_transclusion.proofs.PartLaws.{call_places}
 use Rattle.wt_levels.specs.declared.reader.Reader.{Reader}
 use Rattle.wt_levels.specs.Calls.{IsCallOf, source_of, first_end}
-use Rattle.wt_levels.specs.Ledgers.{Ledger, AnswersOutput, ledger}
+use Rattle.wt_levels.specs.Ledgers.{Ledger, AnswersOutput, Refuses, ledger}
 use Rattle.wt_levels.specs.Runs.{page_called}
 use Rattle.wt_expansion.specs.declared.found.Found.{Found}
 use Rattle.wt_expansion.specs.Calls.{outer_of}
-use Rattle.wt_expansion.specs.Walks.{at_page, Adds, Works, Walked, RefusesWork, IsCallNext, call_stretches_at, call_work, page_stretch, page_work_at}
+use Rattle.wt_expansion.specs.Walks.{at_page, Adds, Works, Walked, IsCallNext, call_stretches_at, call_work, page_stretch, page_work_at}
 use Rattle.wt_expansion.proofs.WalkLaws.{alike_same}
 
 -- ---- what a call is
@@ -183,9 +183,12 @@ argument_walked pages t l b reader s n source old new store spent answered ps is
     (given_from (at_page pages) s t c.at (call c.braces c.inside ∷ [])).work c.at b.at.end old new store spent answered
     (sym (stretches_is pages t b c s argument e)) (append-nil o.work) found (works_of pages t l _ store spent answered ps h)
 
-pub refused_one : (pages : Pages) (t : List ℕ) (l : Ledger) (b : Braces) (c : IsCallOf mode.Page t b) (s : Bool) (e : ExpandRefusal)
-    → RefusesWork pages t l (given_from (at_page pages) s t c.at (call c.braces c.inside ∷ [])).work e → RefusesWork pages t l (call_work pages t b c s) e
-refused_one pages t l b c s e h = subst (λ es. RefusesWork pages t l es e)
+pub refused_one : (pages : Pages) (t : List ℕ) (l : Ledger) (b : Braces) (c : IsCallOf mode.Page t b)
+    (s : Bool)
+    (told : Option (List (List ℕ))) (e : ExpandRefusal)
+    → Refuses pages t l (given_from (at_page pages) s t c.at (call c.braces c.inside ∷ [])).work told e
+    → Refuses pages t l (call_work pages t b c s) told e
+refused_one pages t l b c s told e h = subst (λ es. Refuses pages t l es told e)
     (append-nil (output_of (at_page pages) s (drop c.at t) (call c.braces c.inside)).work) h
 
 -- ---- a function

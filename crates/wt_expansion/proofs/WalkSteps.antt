@@ -6,27 +6,28 @@ use Rattle.wt_span.specs.declared.form.Mode.TheVariants as mode
 use Rattle.wt_span.specs.declared.form.LexKind.{LexKind}
 use Rattle.wt_span.specs.Bytes.{is_break}
 use Rattle.wt_span.specs.Braces.{Member, lexeme, call, members, width, width_of_all}
-use Rattle.wt_expand.specs.Work.{Pages, Entry, refusal_from}
+use Rattle.wt_expand.specs.Work.{Pages, Entry}
 use Rattle.wt_expand.specs.Expansion.{Output, Reading, then_output, joined, lexeme_items, output_of, outputs_of}
 use Rattle.wt_expand.specs.PageCalls.{Stretch, own, stretches_of}
 use Rattle.wt_transclusion.specs.declared.cursor.Next.TheVariants as next
 use Rattle.wt_transclusion.specs.declared.read.Braces.{Braces}
 use Rattle.wt_transclusion.specs.declared.refusal.ExpandRefusal.{ExpandRefusal}
+use Rattle.wt_transclusion.specs.declared.refusal.ExpandRefusal.TheVariants as answer
 use Rattle.wt_transclusion.specs.declared.store.Store.{Store}
-use Rattle.wt_transclusion.specs.Answers.{IsRefused}
 use Rattle.wt_transclusion.specs.Cursors.{starts}
 use Rattle.wt_transclusion.specs.Steps.{IsStretchOf, AnswersNext, given_from}
 use Rattle.wt_transclusion.specs.Stores.{IsStore}
 use Rattle.wt_transclusion.proofs.StretchCuts.{stretch_front, stretch_back}
 use Rattle.wt_levels.specs.declared.reader.Reader.{Reader}
-use Rattle.wt_levels.specs.Ledgers.{Ledger, Comes, ledger}
+use Rattle.wt_levels.specs.Ledgers.{Ledger, Comes, Refuses, ledger}
 use Rattle.wt_levels.specs.Readers.{IsReading}
 use Rattle.wt_levels.proofs.CallLaws.{call_is}
-use Rattle.wt_levels.proofs.LedgerLaws.{comes_none, comes_then, comes_before}
+use Rattle.wt_levels.proofs.LedgerLaws.{comes_none, comes_then, comes_before, comes_refused, refused_before}
 use Rattle.wt_expansion.specs.declared.found.Found.{Found}
 use Rattle.wt_expansion.specs.Made.{AreAlike}
-use Rattle.wt_expansion.specs.Walks.{at_page, Adds, Works, Walked, RefusesWork, Going, AnswersStep, IsCallNext, call_stretches_at, call_work}
+use Rattle.wt_expansion.specs.Walks.{at_page, Adds, Works, Walked, Going, AnswersStep, IsCallNext, call_stretches_at, call_work}
 use Rattle.wt_expansion.proofs.FoundLaws.{adds_none, adds_then}
+use Rattle.wt_expansion.proofs.Refusals.{some_left}
 use Rattle.wt_expansion.proofs.WalkLaws.{alike_same, alike_then, alike_append, strs, strs_cons, leads_alike}
 
 pub works_none : (pages : Pages) (t : List ℕ) (met : List (List ℕ)) (spent : ℕ) (answered : Option (List (List ℕ))) (store : Store) (w v : List Entry)
@@ -160,16 +161,14 @@ call_step pages t l p end s xs b reader h old new store spent answered w =
       },
     )
 
-pub refused_more : (pages : Pages) (t : List ℕ) (l : Ledger) (w v : List Entry) (x : ExpandRefusal) → RefusesWork pages t l w x
-    → RefusesWork pages t l (w ++ v) x
-refused_more pages t l w v x h = λ rest. subst (λ es. IsRefused (refusal_from pages t l.spent es) x) (sym (append_assoc w v rest)) (h (v ++ rest))
-
 pub call_step_refused : (pages : Pages) (t : List ℕ) (l : Ledger) (p end : ℕ) (s : Bool) (xs : List Member) (b : Braces) (reader : Reader)
-    (h : CallThere t p end xs b reader s)
-    (x : ExpandRefusal) → RefusesWork pages t l (call_work pages t b h.here.is s) x → RefusesWork pages t l (given_from (at_page pages) s t p xs).work x
-call_step_refused pages t l p end s xs b reader h x f =
-    subst (λ es. RefusesWork pages t l es x) (sym (behind_call pages t p end s xs b reader h).work)
-    (refused_more pages t l (call_work pages t b h.here.is s) (given_from (at_page pages) (starts t b.at.end) t b.at.end h.after).work x f)
+    (h : CallThere t p end xs b reader s) (told : Option (List (List ℕ))) (x : ExpandRefusal)
+    → Refuses pages t l (call_work pages t b h.here.is s) told x
+    → Refuses pages t l (given_from (at_page pages) s t p xs).work told x
+call_step_refused pages t l p end s xs b reader h told x f =
+    subst (λ es. Refuses pages t l es told x) (sym (behind_call pages t p end s xs b reader h).work)
+    (refused_before pages t l (call_work pages t b h.here.is s)
+    (given_from (at_page pages) (starts t b.at.end) t b.at.end h.after).work told x f)
 
 -- ---- step after step
 
@@ -227,12 +226,34 @@ going_on pages t l ss work p end old mid new reader later store after spent now 
     }
 
 pub going_refused : (pages : Pages) (t : List ℕ) (l : Ledger) (ss : List Stretch) (work : List Entry) (p end : ℕ) (old mid : Found) (reader : Reader)
-    (store : Store) (spent : ℕ) (answered : Option (List (List ℕ))) (x : ExpandRefusal)
+    (store : Store) (spent : ℕ) (answered told : Option (List (List ℕ))) (x : ExpandRefusal)
     → (g : Going pages t l ss work p end old mid reader store spent answered)
-    → RefusesWork pages t (ledger spent g.rest.works.met answered) (given_from (at_page pages) g.at_start t g.place g.rest.left).work x
-    → RefusesWork pages t l work x
-going_refused pages t l ss work p end old mid reader store spent answered x g h =
-    λ rest. subst (λ o. IsRefused o x) (sym (g.rest.works.comes.refusal rest)) (h rest)
+    → Refuses pages t (ledger spent g.rest.works.met answered)
+    (given_from (at_page pages) g.at_start t g.place g.rest.left).work told x
+    → Refuses pages t l work told x
+going_refused pages t l ss work p end old mid reader store spent answered told x g h =
+    let left = (given_from (at_page pages) g.at_start t g.place g.rest.left).work in
+    comes_refused pages t l (ledger spent g.rest.works.met answered) work left told x g.rest.works.comes h
+
+-- memory runs out where a walk goes on
+pub going_stops : (pages : Pages) (t : List ℕ) (l : Ledger) (ss : List Stretch) (work : List Entry)
+    (p end : ℕ) (old mid : Found) (reader : Reader)
+    (store : Store) (spent : ℕ) (answered : Option (List (List ℕ)))
+    → Going pages t l ss work p end old mid reader store spent answered
+    → Refuses pages t l work answered answer.NoMemory
+going_stops pages t l ss work p end old mid reader store spent answered g =
+    some_left pages t l (ledger spent g.rest.works.met answered) work
+    (given_from (at_page pages) g.at_start t g.place g.rest.left).work g.rest.works.comes
+
+-- memory runs out behind a step
+pub step_stops : (pages : Pages) (t : List ℕ) (l : Ledger) (ss : List Stretch) (work : List Entry)
+    (at end to : ℕ) (old new : Found)
+    (store : Store) (spent : ℕ) (answered : Option (List (List ℕ)))
+    → AnswersStep pages t l ss work at end old new store spent answered (Ok to)
+    → Refuses pages t l work answered answer.NoMemory
+step_stops pages t l ss work at end to old new store spent answered (low, f) =
+    some_left pages t l (ledger spent f.works.met answered) work
+    (given_from (at_page pages) (starts t to) t to f.left).work f.works.comes
 
 -- nothing is left where a stretch ends
 none_left : (t : List ℕ) (p end : ℕ) (xs : List Member) → IsStretchOf mode.Page t p end xs → end ≤ p → xs ≡ []

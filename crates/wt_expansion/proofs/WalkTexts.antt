@@ -5,7 +5,6 @@ use Rattle.std.proofs.lemmas.List.{drop-drop, take-take, drop-take, length-take-
 use Rattle.wt_span.specs.declared.form.Mode.TheVariants as mode
 use Rattle.wt_span.specs.declared.form.Form.TheVariants as form
 use Rattle.wt_span.specs.declared.form.Piece.{Piece}
-use Rattle.wt_span.specs.declared.form.LexKind.TheVariants as lex
 use Rattle.wt_span.specs.Items.{items_by, items}
 use Rattle.wt_span.specs.Origins.{Span, span_of}
 use Rattle.wt_span.specs.Braces.{listed, members, width_of_all}
@@ -21,7 +20,6 @@ use Rattle.wt_expand.specs.PageCalls.{own, text_call, all_stretches}
 use Rattle.wt_transclusion.specs.declared.read.Braces.{Braces}
 use Rattle.wt_transclusion.specs.declared.refusal.ExpandRefusal.{ExpandRefusal}
 use Rattle.wt_transclusion.specs.declared.store.Store.{Store}
-use Rattle.wt_transclusion.specs.Answers.{IsRefused}
 use Rattle.wt_transclusion.specs.Cursors.{starts}
 use Rattle.wt_transclusion.specs.Parts.{start_after}
 use Rattle.wt_transclusion.specs.Steps.{IsStretchOf, given_from}
@@ -29,17 +27,16 @@ use Rattle.wt_transclusion.specs.Stretch.{AllFull}
 use Rattle.wt_transclusion.proofs.PartLaws.{outs, outs_append}
 use Rattle.wt_transclusion.proofs.StretchLaws.{full_front, members_listed}
 use Rattle.wt_levels.specs.Calls.{IsCallOf, source_of, first_end, members_behind}
-use Rattle.wt_levels.specs.Ledgers.{Ledger, ledger}
+use Rattle.wt_levels.specs.Ledgers.{Ledger, Refuses, ledger}
 use Rattle.wt_levels.proofs.CallLaws.{behind_same, behind_stands}
-use Rattle.wt_levels.proofs.LedgerLaws.{comes_then, comes_before}
+use Rattle.wt_levels.proofs.LedgerLaws.{comes_then, comes_before, comes_refused, refused_before}
 use Rattle.wt_levels.proofs.StepLaws.{joined_append}
 use Rattle.wt_expansion.specs.declared.found.Found.{Found}
-use Rattle.wt_expansion.specs.Walks.{at_page, Adds, Works, Walked, AnswersWalk, RefusesWork, TargetRead, call_stretches_at, call_work, page_stretch, page_work_at, target_members, target_output, front_stretches, behind_stretches, behind_work}
+use Rattle.wt_expansion.specs.Walks.{at_page, Adds, Works, Walked, AnswersWalk, TargetRead, call_stretches_at, call_work, page_stretch, page_work_at, target_members, target_output, front_stretches, behind_stretches, behind_work}
 use Rattle.wt_expansion.proofs.FoundLaws.{adds_then, adds_marked}
 use Rattle.wt_expansion.proofs.PieceLaws.{give_items}
 use Rattle.wt_expansion.proofs.WalkCalls.{what, stretches_is, output_is}
 use Rattle.wt_expansion.proofs.WalkLaws.{strs, strs_append, alike_same, alike_then, alike_append}
-use Rattle.wt_expansion.proofs.WalkSteps.{refused_more}
 use Rattle.wt_expansion.proofs.WalkTargets.{TargetStands, title_read, page_found, page_work_is}
 
 -- ---- the members of a call are those of its target and those behind it
@@ -176,10 +173,14 @@ works_then pages t l w v before store now spent told answered f g = record {
       (comes_before pages t l (ledger now f.met told) w v f.comes) g.comes;
 }
 
-refused_then : (pages : Pages) (t : List ℕ) (l : Ledger) (w v : List Entry) (before : Store) (now : ℕ) (told : Option (List (List ℕ))) (x : ExpandRefusal)
-    → (f : Works pages t l w before now told []) → RefusesWork pages t (ledger now f.met told) v x → RefusesWork pages t l (w ++ v) x
-refused_then pages t l w v before now told x f h =
-    λ rest. subst (λ o. IsRefused o x) (sym ((comes_before pages t l (ledger now f.met told) w v f.comes).refusal rest)) (h rest)
+refused_then : (pages : Pages) (t : List ℕ) (l : Ledger) (w v : List Entry) (before : Store) (now : ℕ)
+    (told answered : Option (List (List ℕ)))
+    (x : ExpandRefusal) → (f : Works pages t l w before now told [])
+    → Refuses pages t (ledger now f.met told) v answered x
+    → Refuses pages t l (w ++ v) answered x
+refused_then pages t l w v before now told answered x f h =
+    let mid = ledger now f.met told in
+    comes_refused pages t l mid (w ++ v) v answered x (comes_before pages t l mid w v f.comes) h
 
 -- ---- the target is read
 
@@ -266,12 +267,15 @@ behind_walked pages t l b c part end h e fits old mid new store spent answered w
       works = w.works;
     }
 
-pub behind_refused : (pages : Pages) (t : List ℕ) (l : Ledger) (b : Braces) (c : IsCallOf mode.Page t b) (part : PartOf) (x : ExpandRefusal)
-    → TargetStands t b c part
-    → RefusesWork pages t l (given_from (at_page pages) (starts t part.at.end) t part.at.end (members_behind (part_members 0 c.inside))).work x
-    → RefusesWork pages t l (behind_work pages t b c) x
-behind_refused pages t l b c part x h f =
-    subst (λ n. RefusesWork pages t l (given_from (at_page pages) (starts t n) t n (members_behind (part_members 0 c.inside))).work x) h.to_is f
+pub behind_refused : (pages : Pages) (t : List ℕ) (l : Ledger) (b : Braces) (c : IsCallOf mode.Page t b)
+    (part : PartOf)
+    (told : Option (List (List ℕ))) (x : ExpandRefusal) → TargetStands t b c part
+    → Refuses pages t l (given_from (at_page pages) (starts t part.at.end) t part.at.end
+    (members_behind (part_members 0 c.inside))).work told x
+    → Refuses pages t l (behind_work pages t b c) told x
+behind_refused pages t l b c part told x h f =
+    subst (λ n. Refuses pages t l (given_from (at_page pages) (starts t n) t n
+    (members_behind (part_members 0 c.inside))).work told x) h.to_is f
 
 -- ---- by the title that the target says
 
@@ -297,8 +301,9 @@ text_walked pages t l b c s old mid new before store now spent told answered (Ok
           (works_then pages t l (target_output pages t b c).work (behind_work pages t b c) before store now spent told answered f.works g.works);
     }
 text_walked pages t l b c s old mid new before store now spent told answered (Err x) e f g =
-    subst (λ es. RefusesWork pages t l es x) (sym (text_work pages t b c s e))
-    (refused_then pages t l (target_output pages t b c).work (behind_work pages t b c) before now told x f.works g)
+    subst (λ es. Refuses pages t l es answered x) (sym (text_work pages t b c s e))
+    (refused_then pages t l (target_output pages t b c).work
+    (behind_work pages t b c) before now told answered x f.works g)
 
 -- it is that of a page
 pub page_walked_on : (pages : Pages) (t : List ℕ) (l : Ledger) (b : Braces) (c : IsCallOf mode.Page t b) (s : Bool) (title : Title)
@@ -321,15 +326,19 @@ page_walked_on pages t l b c s title old mid back new before store now spent tol
           (works_then pages t l (target_output pages t b c).work (page_work_at pages t b c s title) before store now spent told answered f.works g.works);
     }
 page_walked_on pages t l b c s title old mid back new before store now spent told answered p o u (Err x) e f pn on un pb ob ub g =
-    subst (λ es. RefusesWork pages t l es x) (sym (page_work_is pages t b c s title e))
-    (refused_then pages t l (target_output pages t b c).work (page_work_at pages t b c s title) before now told x f.works g)
+    subst (λ es. Refuses pages t l es answered x) (sym (page_work_is pages t b c s title e))
+    (refused_then pages t l (target_output pages t b c).work
+    (page_work_at pages t b c s title) before now told answered x f.works g)
 
 -- whatever it is, the work of the target is its first
-pub target_refused : (pages : Pages) (t : List ℕ) (l : Ledger) (b : Braces) (c : IsCallOf mode.Page t b) (s : Bool) (x : ExpandRefusal) (o : Option Title)
-    → what pages t b c ≡ called_by o → RefusesWork pages t l (target_output pages t b c).work x → RefusesWork pages t l (call_work pages t b c s) x
-target_refused pages t l b c s x None e h =
-    subst (λ es. RefusesWork pages t l es x) (sym (text_work pages t b c s e))
-    (refused_more pages t l (target_output pages t b c).work (behind_work pages t b c) x h)
-target_refused pages t l b c s x (Some title) e h =
-    subst (λ es. RefusesWork pages t l es x) (sym (page_work_is pages t b c s title e))
-    (refused_more pages t l (target_output pages t b c).work (page_work_at pages t b c s title) x h)
+pub target_refused : (pages : Pages) (t : List ℕ) (l : Ledger) (b : Braces) (c : IsCallOf mode.Page t b)
+    (s : Bool)
+    (told : Option (List (List ℕ))) (x : ExpandRefusal) (o : Option Title) → what pages t b c ≡ called_by o
+    → Refuses pages t l (target_output pages t b c).work told x
+    → Refuses pages t l (call_work pages t b c s) told x
+target_refused pages t l b c s told x None e h =
+    subst (λ es. Refuses pages t l es told x) (sym (text_work pages t b c s e))
+    (refused_before pages t l (target_output pages t b c).work (behind_work pages t b c) told x h)
+target_refused pages t l b c s told x (Some title) e h =
+    subst (λ es. Refuses pages t l es told x) (sym (page_work_is pages t b c s title e))
+    (refused_before pages t l (target_output pages t b c).work (page_work_at pages t b c s title) told x h)

@@ -4,9 +4,10 @@ use Rattle.wt_span.specs.declared.form.Mode.TheVariants as mode
 use Rattle.wt_span.specs.declared.form.Piece.{Piece}
 use Rattle.wt_span.specs.Origins.{outer_call, span_of}
 use Rattle.wt_span.specs.Braces.{Member, call, members, width_of_all}
-use Rattle.wt_expand.specs.Work.{Pages, Entry, refusal_from}
+use Rattle.wt_expand.specs.Work.{Pages, Entry}
 use Rattle.wt_names.specs.declared.title.Title.{Title}
 use Rattle.wt_braces.specs.PartMembers.{PartMembers, joined, part_members}
+use Rattle.wt_expand.specs.declared.limits.TheConstants.{MOST_TEMPLATES}
 use Rattle.wt_expand.specs.Expansion.{Output, Reading, output_of, chars, front_braces, back_braces}
 use Rattle.wt_expand.specs.Targets as targets
 use Rattle.wt_expand.specs.Targets.{title_of_target}
@@ -14,14 +15,13 @@ use Rattle.wt_expand.specs.PageCalls.{Stretch, own, outer, text_call, outer_at, 
 use Rattle.wt_transclusion.specs.declared.read.Braces.{Braces}
 use Rattle.wt_transclusion.specs.declared.refusal.ExpandRefusal.{ExpandRefusal}
 use Rattle.wt_transclusion.specs.declared.store.Store.{Store}
-use Rattle.wt_transclusion.specs.Answers.{IsRefused}
 use Rattle.wt_transclusion.specs.Cursors.{starts}
 use Rattle.wt_transclusion.specs.Steps.{IsStretchOf, given_from}
 use Rattle.wt_transclusion.specs.Stores.{IsStore}
 use Rattle.wt_levels.specs.declared.expansion.Expansion.{Expansion}
 use Rattle.wt_levels.specs.declared.reader.Reader.{Reader}
 use Rattle.wt_levels.specs.Calls.{IsCallOf, source_of, first_end, members_behind, behind_given}
-use Rattle.wt_levels.specs.Ledgers.{Ledger, Comes, ledger, reading_of}
+use Rattle.wt_levels.specs.Ledgers.{Ledger, Comes, Refuses, ledger, reading_of}
 use Rattle.wt_levels.specs.Readers.{IsReading}
 use Rattle.wt_levels.specs.Runs.{page_called}
 use Rattle.wt_expansion.specs.declared.found.Found.{Found}
@@ -29,7 +29,7 @@ use Rattle.wt_expansion.specs.Made.{AreAlike, Give}
 
 -- the page is read with no values, and none of its templates is being expanded
 abbrev pub at_page : Pages → Reading
-at_page pages = reading_of pages mode.Page [] 40 []
+at_page pages = reading_of pages mode.Page [] MOST_TEMPLATES []
 
 -- what was found between two places is these stretches
 pub record Adds (old new : Found) (at : ℕ) (ss : List Stretch) (to : ℕ) : Type 0 where
@@ -52,10 +52,6 @@ pub record Works (pages : Pages) (page : List ℕ) (before : Ledger) (work : Lis
   pub stored : IsStore pages met store
   pub comes : Comes pages page before work (ledger spent met answered) left
 
--- the first refusal is that of this work
-abbrev pub RefusesWork : Pages → List ℕ → Ledger → List Entry → ExpandRefusal → Type 0
-RefusesWork pages page before work e = (rest : List Entry) → IsRefused (refusal_from pages page before.spent (work ++ rest)) e
-
 -- stretches between two places are found and their work is done
 pub record Walked (pages : Pages) (page : List ℕ) (before : Ledger) (ss : List Stretch) (work : List Entry) (at to : ℕ) (old new : Found)
     (store : Store) (spent : ℕ) (answered : Option (List (List ℕ))) : Type 0 where
@@ -66,7 +62,7 @@ pub record Walked (pages : Pages) (page : List ℕ) (before : Ledger) (ss : List
 abbrev pub AnswersWalk : Pages → List ℕ → Ledger → List Stretch → List Entry → ℕ → ℕ → Found → Found → Store → ℕ → Option (List (List ℕ))
     → Result Unit ExpandRefusal → Type 0
 AnswersWalk pages page before ss work at to old new store spent answered (Ok u) = Walked pages page before ss work at to old new store spent answered
-AnswersWalk pages page before ss work at to old new store spent answered (Err e) = RefusesWork pages page before work e
+AnswersWalk pages page before ss work at to old new store spent answered (Err e) = Refuses pages page before work answered e
 
 -- ---- step by step
 
@@ -85,7 +81,7 @@ abbrev pub AnswersStep : Pages → List ℕ → Ledger → List Stretch → List
     → Result ℕ ExpandRefusal → Type 0
 AnswersStep pages page before ss work at end old new store spent answered (Ok to) =
     (at ≤ to) × Left pages page before ss work at to end (starts page to) old new store spent answered
-AnswersStep pages page before ss work at end old new store spent answered (Err e) = RefusesWork pages page before work e
+AnswersStep pages page before ss work at end old new store spent answered (Err e) = Refuses pages page before work answered e
 
 -- where the reader of a walk stands
 pub record Going (pages : Pages) (page : List ℕ) (before : Ledger) (ss : List Stretch) (work : List Entry) (at end : ℕ) (old new : Found)
@@ -144,7 +140,7 @@ pub record TargetRead (pages : Pages) (page : List ℕ) (before : Ledger) (b : B
 abbrev pub AnswersTarget : (pages : Pages) (page : List ℕ) → Ledger → (b : Braces) → IsCallOf mode.Page page b → Found → Found → Store → ℕ
     → Option (List (List ℕ)) → Result (Option Title) ExpandRefusal → Type 0
 AnswersTarget pages page before b c old new store spent answered (Ok title) = TargetRead pages page before b c title old new store spent answered
-AnswersTarget pages page before b c old new store spent answered (Err e) = RefusesWork pages page before (target_output pages page b c).work e
+AnswersTarget pages page before b c old new store spent answered (Err e) = Refuses pages page before (target_output pages page b c).work answered e
 
 -- what stands behind the target of a call that is text
 abbrev pub behind_stretches : (pages : Pages) (page : List ℕ) (b : Braces) → IsCallOf mode.Page page b → List Stretch

@@ -1,9 +1,10 @@
 //! A page with its templates expanded.
-ghost use Rattle.std.specs.Prelude.{◌≡◌, ◌<◌, ◌^◌, ◌++◌, ℕ, List, Some, None, IfErr, IfOk, OnOk, length, option_map};
+ghost use Rattle.std.specs.Prelude.{◌≡◌, ◌<◌, ◌^◌, ◌++◌, ℕ, List, Some, None, IfErr, IfOk, OnErr, OnOk, length, option_map};
 ghost use Rattle.wt_expand.specs.Expansion.{page_work};
 ghost use Rattle.wt_expand.specs.PageCalls.{expanded_page};
-ghost use Rattle.wt_expand.specs.Work.{Pages, first_refusal, names_asked};
+ghost use Rattle.wt_expand.specs.Work.{Pages, Entry, fetches, first_refusal, firsts_after, names_asked};
 ghost use Rattle.wt_transclusion.specs.Answers.{IsCounted, IsRefused};
+ghost use Rattle.wt_transclusion.specs.Asked.{Asks, AreFirst};
 ghost use Rattle.wt_expansion.specs.Known.{HoldsPages, KnowsMore};
 ghost use Rattle.wt_expansion.specs.Walks.{IsFree};
 
@@ -55,7 +56,12 @@ pub fn expand_knowing<'a, F: Folder>(
     ensures known { IfOk result (λ found. HoldsPages found.expansion) }
     ensures refused { (pages : Pages) (met : List (List ℕ)) → F.pages folder.old ≡ Some pages → IsFree pages met expansion.entry
         → IfErr result (IsRefused (first_refusal pages page.entry.now (page_work pages page.entry.now))) }
+    ensures stops { (pages : Pages) (met : List (List ℕ)) (rest : List Entry) → F.pages folder.old ≡ Some pages
+        → IsFree pages met expansion.entry
+        → OnErr result (AreFirst (F.answered folder.new)
+        (option_map (λ names. names ++ firsts_after met (fetches (page_work pages page.entry.now ++ rest))) (F.answered folder.old))) }
     ensures kept { F.pages folder.new ≡ F.pages folder.old }
+    ensures asks { Asks (F.answered folder.old) (F.answered folder.new) (F.most_asked folder.old) (F.most_asked folder.new) }
     ensures count { IsCounted (F.fault_count folder.old) (F.fault_count folder.new) result }
 {
     let text = read_page(alloc, page, arena)?;
@@ -101,7 +107,11 @@ pub fn expand<'a, F: Folder>(
         ≡ option_map (λ names. names ++ names_asked (page_work pages page.entry.now)) (F.answered folder.old)) }
     ensures refused { (pages : Pages) → F.pages folder.old ≡ Some pages
         → IfErr result (IsRefused (first_refusal pages page.entry.now (page_work pages page.entry.now))) }
+    ensures stops { (pages : Pages) → F.pages folder.old ≡ Some pages
+        → OnErr result (AreFirst (F.answered folder.new)
+        (option_map (λ names. names ++ names_asked (page_work pages page.entry.now)) (F.answered folder.old))) }
     ensures kept { F.pages folder.new ≡ F.pages folder.old }
+    ensures asks { Asks (F.answered folder.old) (F.answered folder.new) (F.most_asked folder.old) (F.most_asked folder.new) }
     ensures count { IsCounted (F.fault_count folder.old) (F.fault_count folder.new) result }
 {
     let expansion = Expansion::new(alloc, arena);

@@ -9,6 +9,7 @@ ghost use Rattle.wt_expand.specs.PageCalls.{all_stretches, own};
 ghost use Rattle.wt_expand.specs.Targets.{is_function};
 ghost use Rattle.wt_expand.specs.Work.{Pages};
 ghost use Rattle.wt_transclusion.specs.Answers.{IsCounted};
+ghost use Rattle.wt_transclusion.specs.Asked.{Asks};
 ghost use Rattle.wt_transclusion.specs.Steps.{IsStretchOf, given_from};
 ghost use Rattle.wt_transclusion.specs.Stores.{Concerns, Grows};
 ghost use Rattle.wt_levels.specs.Calls.{first_end};
@@ -19,14 +20,14 @@ ghost use Rattle.wt_expansion.specs.Walks.{Adds, AnswersStep, AnswersTarget, Ans
 use crate::found::Found;
 use std::alloc::Global;
 use wt_braces::PartAt;
-use wt_expand::form_of;
-use wt_levels::{Expansion, MOST_TEMPLATES, Reader};
+use wt_expand::{MOST_TEMPLATES, form_of};
+use wt_levels::{Expansion, Reader};
 use wt_names::{Title, href_of};
 use wt_outer::Folder;
 use wt_span::{Form, LexKind, Mode, NoMemory};
 use wt_transclusion::{Braces, ExpandRefusal, Next, Values, is_function, title_of_target};
 
-/// More calls than may lie one inside another on a page.
+/// More calls than may lie one inside another on a page, whose limit is `NESTED_BRACES` of `wt_braces`.
 pub const MOST_NESTED: u32 = 101;
 
 /// A page that is walked over.
@@ -127,6 +128,7 @@ impl<'a> Walk<'a> {
             self.old.found self.new.found self.new.expansion.store self.new.expansion.spent (F.answered folder.new) result }
         ensures grown { OnOk result (Grows (F.pages folder.old) self.old.expansion.store self.new.expansion.store) }
         ensures kept { F.pages folder.new ≡ F.pages folder.old }
+        ensures asks { Asks (F.answered folder.old) (F.answered folder.new) (F.most_asked folder.old) (F.most_asked folder.new) }
         ensures count { IsCounted (F.fault_count folder.old) (F.fault_count folder.new) result }
         ensures names { OnOk result (self.new.expansion.names ≡ self.old.expansion.names) }
     {
@@ -159,6 +161,7 @@ impl<'a> Walk<'a> {
             self.old.found self.new.found self.new.expansion.store self.new.expansion.spent (F.answered folder.new) result }
         ensures grown { OnOk result (Grows (F.pages folder.old) self.old.expansion.store self.new.expansion.store) }
         ensures kept { F.pages folder.new ≡ F.pages folder.old }
+        ensures asks { Asks (F.answered folder.old) (F.answered folder.new) (F.most_asked folder.old) (F.most_asked folder.new) }
         ensures count { IsCounted (F.fault_count folder.old) (F.fault_count folder.new) result }
         ensures names { OnOk result (self.new.expansion.names ≡ self.old.expansion.names) }
     {
@@ -191,6 +194,7 @@ impl<'a> Walk<'a> {
             self.old.found self.new.found self.new.expansion.store self.new.expansion.spent (F.answered folder.new) result }
         ensures grown { OnOk result (Grows (F.pages folder.old) self.old.expansion.store self.new.expansion.store) }
         ensures kept { F.pages folder.new ≡ F.pages folder.old }
+        ensures asks { Asks (F.answered folder.old) (F.answered folder.new) (F.most_asked folder.old) (F.most_asked folder.new) }
         ensures count { IsCounted (F.fault_count folder.old) (F.fault_count folder.new) result }
         ensures names { OnOk result (self.new.expansion.names ≡ self.old.expansion.names) }
     {
@@ -226,9 +230,11 @@ impl<'a> Walk<'a> {
             self.old.found self.new.found self.new.expansion.store self.new.expansion.spent (F.answered folder.new) result }
         ensures grown { OnOk result (Grows (F.pages folder.old) self.old.expansion.store self.new.expansion.store) }
         ensures kept { F.pages folder.new ≡ F.pages folder.old }
+        ensures asks { Asks (F.answered folder.old) (F.answered folder.new) (F.most_asked folder.old) (F.most_asked folder.new) }
         ensures count { IsCounted (F.fault_count folder.old) (F.fault_count folder.new) result }
         ensures names { OnOk result (self.new.expansion.names ≡ self.old.expansion.names) }
     {
+        let source = reader.slice(call.at.start, call.at.end)?;
         let values = Values::new(self.alloc);
         let given = self.expansion.stretch(
             folder,
@@ -238,7 +244,6 @@ impl<'a> Walk<'a> {
             &values,
             MOST_TEMPLATES,
         )?;
-        let source = reader.slice(call.at.start, call.at.end)?;
         self.found
             .push_outer(self.alloc, source, call, None, given.as_slice())?;
         Ok(())
@@ -262,6 +267,7 @@ impl<'a> Walk<'a> {
             self.old.found self.new.found self.new.expansion.store self.new.expansion.spent (F.answered folder.new) result }
         ensures grown { OnOk result (Grows (F.pages folder.old) self.old.expansion.store self.new.expansion.store) }
         ensures kept { F.pages folder.new ≡ F.pages folder.old }
+        ensures asks { Asks (F.answered folder.old) (F.answered folder.new) (F.most_asked folder.old) (F.most_asked folder.new) }
         ensures count { IsCounted (F.fault_count folder.old) (F.fault_count folder.new) result }
         ensures names { OnOk result (self.new.expansion.names ≡ self.old.expansion.names) }
     {
@@ -299,6 +305,7 @@ impl<'a> Walk<'a> {
             self.old.found self.new.found self.new.expansion.store self.new.expansion.spent (F.answered folder.new) result }
         ensures grown { OnOk result (Grows (F.pages folder.old) self.old.expansion.store self.new.expansion.store) }
         ensures kept { F.pages folder.new ≡ F.pages folder.old }
+        ensures asks { Asks (F.answered folder.old) (F.answered folder.new) (F.most_asked folder.old) (F.most_asked folder.new) }
         ensures count { IsCounted (F.fault_count folder.old) (F.fault_count folder.new) result }
         ensures names { OnOk result (self.new.expansion.names ≡ self.old.expansion.names) }
     {
@@ -335,6 +342,7 @@ impl<'a> Walk<'a> {
             self.old.found self.new.found self.new.expansion.store self.new.expansion.spent (F.answered folder.new) result }
         ensures grown { OnOk result (Grows (F.pages folder.old) self.old.expansion.store self.new.expansion.store) }
         ensures kept { F.pages folder.new ≡ F.pages folder.old }
+        ensures asks { Asks (F.answered folder.old) (F.answered folder.new) (F.most_asked folder.old) (F.most_asked folder.new) }
         ensures count { IsCounted (F.fault_count folder.old) (F.fault_count folder.new) result }
         ensures names { OnOk result (self.new.expansion.names ≡ self.old.expansion.names) }
     {
@@ -361,9 +369,11 @@ impl<'a> Walk<'a> {
             self.old.found self.new.found self.new.expansion.store self.new.expansion.spent (F.answered folder.new) result }
         ensures grown { OnOk result (Grows (F.pages folder.old) self.old.expansion.store self.new.expansion.store) }
         ensures kept { F.pages folder.new ≡ F.pages folder.old }
+        ensures asks { Asks (F.answered folder.old) (F.answered folder.new) (F.most_asked folder.old) (F.most_asked folder.new) }
         ensures count { IsCounted (F.fault_count folder.old) (F.fault_count folder.new) result }
         ensures names { OnOk result (self.new.expansion.names ≡ self.old.expansion.names) }
     {
+        let source = reader.slice(call.at.start, call.at.end)?;
         let href = href_of(self.alloc, &title)?;
         let values = Values::new(self.alloc);
         let given = self.expansion.call_page(
@@ -376,7 +386,6 @@ impl<'a> Walk<'a> {
             &values,
             MOST_TEMPLATES,
         )?;
-        let source = reader.slice(call.at.start, call.at.end)?;
         self.found
             .push_outer(self.alloc, source, call, Some(href), given.as_slice())?;
         Ok(())

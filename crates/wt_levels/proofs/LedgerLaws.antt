@@ -1,5 +1,5 @@
 -- Work that is done one after another, with what is spent and the names that are known.
-use Rattle.std.proofs.Common.{◌≡◌, ℕ, zero, suc, ◌+◌, ◌-◌, ◌≤◌, Bool, true, false, cond, Option, Some, None, option_map, List, [], ◌∷◌, ◌++◌, Ok, Err, refl, sym, ap, ◌∙◌, subst, arith, append_assoc}
+use Rattle.std.proofs.Common.{◌≡◌, ℕ, zero, suc, ◌+◌, ◌-◌, ◌<◌, ◌≤◌, Bool, true, false, cond, Option, Some, None, option_map, List, [], ◌∷◌, ◌++◌, Ok, Err, refl, sym, ap, ◌∙◌, subst, arith, append_assoc}
 use Rattle.std.specs.Prelude.{Result, if◌then◌else◌}
 use Rattle.std.specs.Option.{option_or}
 use Rattle.wt_span.specs.declared.form.Mode.{Mode}
@@ -19,11 +19,13 @@ use Rattle.wt_transclusion.specs.declared.store.Store.{Store}
 use Rattle.wt_transclusion.specs.declared.templates.Taken.{Taken}
 use Rattle.wt_transclusion.specs.declared.templates.Taken.TheVariants as taken
 use Rattle.wt_transclusion.specs.Answers.{IsFetched, IsRefused, IsNoFault, IsCountedErr}
+use Rattle.wt_transclusion.specs.Asked.{AreFirst}
 use Rattle.wt_transclusion.specs.Reads.{IsRead}
 use Rattle.wt_transclusion.specs.Cursors.{starts}
 use Rattle.wt_transclusion.specs.Stores.{IsStore, met_with, named_with}
-use Rattle.wt_transclusion.specs.Takings.{AnswersTaking, IsNamed, taking_refusal}
-use Rattle.wt_levels.specs.Ledgers.{Ledger, ledger, Comes, answered_with, reading_of, AnswersOutput, Progress, Calling, TakesStep}
+use Rattle.wt_transclusion.specs.Takings.{AnswersTaking, IsNamed, names_taking, taking_refusal}
+use Rattle.wt_transclusion.proofs.AskedLaws.{first_some, first_then}
+use Rattle.wt_levels.specs.Ledgers.{Ledger, ledger, Comes, Refuses, answered_with, reading_of, AnswersOutput, Progress, Calling, TakesStep}
 use Rattle.wt_levels.specs.Rests.{with_work, after_page}
 use Rattle.wt_levels.specs.Runs.{Spends, Holds, Calls, Returns, RefusesCost, Goes, TakesPart, TakesTurn}
 use Rattle.wt_levels.specs.Stacks.{stack}
@@ -54,6 +56,42 @@ comes_before pages page a b w v f = record {
   refusal = λ rest. ap (refusal_from pages page a.spent) (append_assoc w v rest) ∙ f.refusal (v ++ rest);
   names = λ rest. ap (answered_with a) (append_assoc w v rest) ∙ f.names (v ++ rest);
 }
+
+-- ---- work that is refused
+
+-- the names of before are the first of those that work asks for
+before_first : (l : Ledger) (es : List Entry) → AreFirst l.answered (answered_with l es)
+before_first l es = first_some l.answered (firsts_after l.met (fetches es))
+
+-- nothing is asked for where memory is missing
+pub memory_refused : (pages : Pages) (page : List ℕ) (l : Ledger) (w : List Entry)
+    → Refuses pages page l w l.answered answer.NoMemory
+memory_refused pages page l w = λ rest. (tt, before_first l (w ++ rest))
+
+pub memory_answered : (pages : Pages) (page : List ℕ) (l : Ledger) (o : Output) (store : Store) (now : ℕ)
+    (x : Result (Listed Piece) ExpandRefusal)
+    → x ≡ Err answer.NoMemory → AnswersOutput pages page l o store now l.answered x
+memory_answered pages page l o store now x e =
+    subst (AnswersOutput pages page l o store now l.answered) (sym e) (memory_refused pages page l o.work)
+
+-- work that comes to other work is refused as that is
+pub comes_refused : (pages : Pages) (page : List ℕ) (a b : Ledger) (w v : List Entry)
+    (told : Option (List (List ℕ))) (e : ExpandRefusal)
+    → Comes pages page a w b v → Refuses pages page b v told e → Refuses pages page a w told e
+comes_refused pages page a b w v told e f h = λ rest. (
+  subst (λ (o : Option Refused). IsRefused o e) (sym (f.refusal rest)) (h rest).0,
+  subst (AreFirst told) (sym (f.names rest)) (h rest).1,
+)
+
+-- work is refused as what is done first of it
+pub refused_before : (pages : Pages) (page : List ℕ) (l : Ledger) (w v : List Entry)
+    (told : Option (List (List ℕ))) (e : ExpandRefusal)
+    → Refuses pages page l w told e → Refuses pages page l (w ++ v) told e
+refused_before pages page l w v told e h = λ rest.
+    subst
+    (λ (es : List Entry). IsRefused (refusal_from pages page l.spent es) e × AreFirst told (answered_with l es))
+    (sym (append_assoc w v rest))
+    (h (v ++ rest))
 
 -- ---- a page is fetched
 
@@ -134,12 +172,22 @@ cost_refused o spent total (answer.TemplateNotUtf8 title place) pages page rest 
 cost_refused o spent total (answer.TemplateTooLong title) pages page rest h e = absurd h
 cost_refused o spent total answer.NoMemory pages page rest h e = tt
 
--- the page of a title is refused
-pub taking_refused : (pages : Pages) (page : List ℕ) (spent left : ℕ) (names : List (List ℕ)) (t : Title) (frame : Frame) (e : ExpandRefusal)
+-- nothing is asked for where the cost refuses
+pub cost_refuses : (pages : Pages) (page : List ℕ) (l : Ledger) (total : Output) (e : ExpandRefusal)
+    → RefusesCost l.spent total e
+    → Refuses pages page l total.work l.answered e
+cost_refuses pages page l total e h = λ rest. (
+  cost_refused (refusal_from pages page l.spent (total.work ++ rest)) l.spent total e pages page rest h refl,
+  before_first l (total.work ++ rest),
+)
+
+page_unfound : (pages : Pages) (page : List ℕ) (spent left : ℕ) (names : List (List ℕ)) (t : Title)
+    (frame : Frame) (e : ExpandRefusal)
     → IsRefused (taking_refusal left (is_among (full_name_of t) names) (found_refusal (full_name_of t) (pages (full_name_of t)))) e
     → (rest : List Entry) → IsRefused (refusal_from pages page spent ((template_output pages left names t frame).work ++ rest)) e
-taking_refused pages page spent zero names t frame e h rest = refused_any _ e h
-taking_refused pages page spent (suc left) names t frame e h rest = by_open (is_among (full_name_of t) names) refl h
+page_unfound pages page spent zero names t frame e h rest = refused_any _ e h
+page_unfound pages page spent (suc left) names t frame e h rest =
+    by_open (is_among (full_name_of t) names) refl h
   where
     by_page : (found : Option (List ℕ)) → is_among (full_name_of t) names ≡ false → pages (full_name_of t) ≡ found
         → IsRefused (found_refusal (full_name_of t) found) e
@@ -158,6 +206,104 @@ taking_refused pages page spent (suc left) names t frame e h rest = by_open (is_
         → IsRefused (refusal_from pages page spent ((template_output pages (suc left) names t frame).work ++ rest)) e
     by_open true is g = refused_any _ e g
     by_open false is g = by_page (pages (full_name_of t)) is refl g
+
+output_fetched : (full : List ℕ) (read : List ℕ → Output) (found : Option (List ℕ))
+    → (w : List Entry) × ((fetched_output full read found).work ≡ fetched full ∷ w)
+output_fetched full read None = ([], refl)
+output_fetched full read (Some bytes) = (entered (Some full) ∷ (read (template_text bytes)).work, refl)
+
+-- the page of a title that isn't among those that are being expanded is fetched first
+title_fetched : (pages : Pages) (left : ℕ) (names : List (List ℕ)) (t : Title) (frame : Frame)
+    → is_among (full_name_of t) names ≡ false
+    → (w : List Entry)
+    × ((template_output pages (suc left) names t frame).work ≡ fetched (full_name_of t) ∷ w)
+title_fetched pages left names t frame shut =
+    let full = full_name_of t in
+    let read : List ℕ → Output = λ bs. text_given (reading_of pages mode.Template frame left (full ∷ names))
+    bs in
+    let x = output_fetched full read (pages full) in (
+      x.0,
+      ap (λ (o : Output). o.work)
+          (by_false (is_among full names) _ (fetched_output full read (pages full)) shut) ∙ x.1,
+    )
+
+-- with its name the names are the first of those that its work asks for
+fetched_first : (l : Ledger) (full : List ℕ) (w rest : List Entry)
+    → AreFirst (named_with full l.met l.answered) (answered_with l ((fetched full ∷ w) ++ rest))
+fetched_first l full w rest =
+    let names = fetches (w ++ rest) in
+    (firsts_after (met_with full l.met) names, names_fetched l.met full l.answered names)
+
+-- the names answered where a title is taken are the first of those that its work asks for
+taking_first : (pages : Pages) (l : Ledger) (left : ℕ) (names : List (List ℕ)) (t : Title) (frame : Frame)
+    (rest : List Entry)
+    → AreFirst (names_taking left (is_among (full_name_of t) names) (full_name_of t) l.met l.answered)
+    (answered_with l ((template_output pages left names t frame).work ++ rest))
+taking_first pages l zero names t frame rest =
+    before_first l ((template_output pages zero names t frame).work ++ rest)
+taking_first pages l (suc left) names t frame rest = by_open (is_among (full_name_of t) names) refl
+  where
+    by_open : (b : Bool) → is_among (full_name_of t) names ≡ b
+        → AreFirst (names_taking (suc left) b (full_name_of t) l.met l.answered)
+        (answered_with l ((template_output pages (suc left) names t frame).work ++ rest))
+    by_open true is = before_first l ((template_output pages (suc left) names t frame).work ++ rest)
+    by_open false is =
+        let full = full_name_of t in
+        let x = title_fetched pages left names t frame is in
+        subst (λ (es : List Entry). AreFirst (named_with full l.met l.answered)
+        (answered_with l (es ++ rest))) (sym x.1) (fetched_first l full x.0 rest)
+
+-- the page of a title is refused
+pub taking_refused : (pages : Pages) (page : List ℕ) (spent : ℕ) (met : List (List ℕ))
+    (answered told : Option (List (List ℕ))) (left : ℕ)
+    (open_titles names : List (List ℕ)) (t : Title) (frame : Frame) (e : ExpandRefusal) (store : Store)
+    → open_titles ≡ names
+    → AnswersTaking pages met open_titles left t store (Err e)
+    → IsNamed left open_titles (full_name_of t) met answered told (Err e)
+    → Refuses pages page (ledger spent met answered) (template_output pages left names t frame).work told e
+taking_refused pages page spent met answered told left open_titles names t frame e store same h n =
+    let l = ledger spent met answered in
+    subst (λ (ns : List (List ℕ)). Refuses pages page l (template_output pages left ns t frame).work told e)
+    same
+    (λ rest. (
+      page_unfound pages page spent left open_titles t frame e h rest,
+      first_then told
+          (names_taking left (is_among (full_name_of t) open_titles) (full_name_of t) met answered)
+          (answered_with l ((template_output pages left open_titles t frame).work ++ rest)) n
+          (taking_first pages l left open_titles t frame rest),
+    ))
+
+taken_names : (left : ℕ) (b : Bool) (full : List ℕ) (met : List (List ℕ)) (answered : Option (List (List ℕ)))
+    → 0 < left → b ≡ false
+    → named_with full met answered ≡ names_taking left b full met answered
+taken_names zero b full met answered l e = absurd (omega (arith, l))
+taken_names (suc left) true full met answered l e = cc
+taken_names (suc left) false full met answered l e = refl
+
+-- memory is missing behind the fetch of a page
+pub page_unread : (pages : Pages) (page : List ℕ) (spent : ℕ) (met : List (List ℕ))
+    (answered told : Option (List (List ℕ))) (left : ℕ)
+    (open_titles names : List (List ℕ)) (t : Title) (frame : Frame) (k : Taken) (read : ReadText)
+    (store : Store) → open_titles ≡ names
+    → k ≡ taken.Page read
+    → AnswersTaking pages met open_titles left t store (Ok k)
+    → IsNamed left open_titles (full_name_of t) met answered told (Ok k)
+    → Refuses pages page (ledger spent met answered) (template_output pages left names t frame).work told
+    answer.NoMemory
+page_unread pages page spent met answered told left open_titles names t frame k read store same is h n =
+    let full = full_name_of t in
+    let l = ledger spent met answered in
+    let g = subst (λ (x : Taken). AnswersTaking pages met open_titles left t store (Ok x)) is h in
+    let told_is = subst (λ (x : Taken). IsNamed left open_titles full met answered told (Ok x)) is n in
+    let all_is = told_is ∙ taken_names left (is_among full open_titles) full met answered g.0 g.1 in
+    subst (λ (ns : List (List ℕ)). Refuses pages page l (template_output pages left ns t frame).work told
+    answer.NoMemory) same
+    (λ rest. (
+      tt,
+      subst (λ (a : Option (List (List ℕ))). AreFirst a
+          (answered_with l ((template_output pages left open_titles t frame).work ++ rest))) (sym all_is)
+          (taking_first pages l left open_titles t frame rest),
+    ))
 
 -- ---- the page of a title is expanded
 
@@ -243,16 +389,23 @@ page_given pages page spent met answered left names t frame read store now told 
           (record { spent = now; met = h.1; answered = told }) (fetched full ∷ (entered (Some full) ∷ o.work)) o.work [] (n.comes o.work) h.3,
     )
 
-pub page_refused : (pages : Pages) (page : List ℕ) (spent : ℕ) (met : List (List ℕ)) (answered : Option (List (List ℕ))) (left : ℕ) (names : List (List ℕ))
-    (t : Title)
-    (frame : Frame) (read : ReadText) (e : ExpandRefusal) → (n : Enters pages page spent met answered left names t frame read)
-    → ((rest : List Entry) → IsRefused (refusal_from pages page spent
-    ((text_given (reading_of pages mode.Template frame left (full_name_of t ∷ names)) (template_text n.bytes)).work ++ rest)) e)
-    → (rest : List Entry) → IsRefused (refusal_from pages page spent ((template_output pages (suc left) names t frame).work ++ rest)) e
-page_refused pages page spent met answered left names t frame read e n h rest =
-    let o = text_given (reading_of pages mode.Template frame left (full_name_of t ∷ names)) (template_text n.bytes) in
-    subst (λ (x : Output). IsRefused (refusal_from pages page spent (x.work ++ rest)) e) (sym n.gives)
-    (subst (λ (x : Option Refused). IsRefused x e) (sym ((n.comes o.work).refusal rest)) (h rest))
+pub page_refused : (pages : Pages) (page : List ℕ) (spent : ℕ) (met : List (List ℕ))
+    (answered told : Option (List (List ℕ))) (left : ℕ)
+    (names : List (List ℕ)) (t : Title) (frame : Frame) (read : ReadText) (e : ExpandRefusal)
+    → (n : Enters pages page spent met answered left names t frame read)
+    → Refuses pages page
+    (ledger spent (met_with (full_name_of t) met) (named_with (full_name_of t) met answered))
+    (text_given (reading_of pages mode.Template frame left (full_name_of t ∷ names))
+    (template_text n.bytes)).work told e
+    → Refuses pages page (ledger spent met answered) (template_output pages (suc left) names t frame).work
+    told e
+page_refused pages page spent met answered told left names t frame read e n h =
+    let full = full_name_of t in
+    let o = text_given (reading_of pages mode.Template frame left (full ∷ names)) (template_text n.bytes) in
+    subst (λ (x : Output). Refuses pages page (ledger spent met answered) x.work told e) (sym n.gives)
+    (comes_refused pages page (ledger spent met answered)
+    (ledger spent (met_with full met) (named_with full met answered))
+    (fetched full ∷ (entered (Some full) ∷ o.work)) o.work told e (n.comes o.work) h)
 
 -- ---- a text is expanded, step by step
 
@@ -282,9 +435,21 @@ goes_on pages page t r l all run next store spent now answered p g = record {
 
 pub step_refused : (pages : Pages) (page t : List ℕ) (r : Reading) (l : Ledger) (all : Output) (run : TextRun) (store : Store) (spent : ℕ)
     (answered : Option (List (List ℕ))) (e : ExpandRefusal) → (p : Progress pages page r t l all run store spent answered) → RefusesCost spent p.total e
-    → (rest : List Entry) → IsRefused (refusal_from pages page l.spent (all.work ++ rest)) e
-step_refused pages page t r l all run store spent answered e p h rest =
-    cost_refused (refusal_from pages page l.spent (all.work ++ rest)) spent p.total e pages page rest h (p.comes.refusal rest)
+    → Refuses pages page l all.work answered e
+step_refused pages page t r l all run store spent answered e p h =
+    let now = ledger spent p.met answered in
+    comes_refused pages page l now all.work p.total.work answered e p.comes
+    (cost_refuses pages page now p.total e h)
+
+-- memory is missing on the way
+pub going_refused : (pages : Pages) (page t : List ℕ) (r : Reading) (l : Ledger) (all : Output)
+    (run : TextRun) (store : Store) (spent : ℕ)
+    (answered : Option (List (List ℕ))) → (p : Progress pages page r t l all run store spent answered)
+    → Refuses pages page l all.work answered answer.NoMemory
+going_refused pages page t r l all run store spent answered p =
+    let now = ledger spent p.met answered in
+    comes_refused pages page l now all.work p.total.work answered answer.NoMemory p.comes
+    (memory_refused pages page now p.total.work)
 
 pub done : (pages : Pages) (page t : List ℕ) (r : Reading) (l : Ledger) (all : Output) (run : TextRun) (store : Store) (spent now : ℕ)
     (answered : Option (List (List ℕ)))
@@ -325,7 +490,7 @@ finished pages page t r l all run store next spent now answered told (Ok ps) p h
   comes_then pages page l (ledger spent p.met answered) (ledger now h.1 told) all.work p.total.work [] p.comes h.3,
 )
 finished pages page t r l all run store next spent now answered told (Err e) p h =
-    λ rest. subst (λ (o : Option Refused). IsRefused o e) (sym (p.comes.refusal rest)) (h rest)
+    comes_refused pages page l (ledger spent p.met answered) all.work p.total.work told e p.comes h
 
 -- a call whose target is read already, behind its beginning
 pub part_step : (pages : Pages) (page t : List ℕ) (r : Reading) (spent now : ℕ) (met : List (List ℕ)) (answered : Option (List (List ℕ))) (total left : Output)
@@ -398,15 +563,17 @@ page_taken pages page t r l all run store next spent now answered told h ps c g 
     }
 
 pub page_untaken : (pages : Pages) (page t : List ℕ) (r : Reading) (l : Ledger) (all : Output) (run : TextRun) (store : Store) (spent : ℕ)
-    (answered : Option (List (List ℕ))) (h : Handing) (e : ExpandRefusal) → (c : Calling pages page r t l all run store spent answered h)
-    → ((rest : List Entry) → IsRefused (refusal_from pages page spent ((r.template h.title c.calls.frame).work ++ rest)) e)
-    → (rest : List Entry) → IsRefused (refusal_from pages page l.spent (all.work ++ rest)) e
-page_untaken pages page t r l all run store spent answered h e c g rest =
+    (answered told : Option (List (List ℕ))) (h : Handing) (e : ExpandRefusal)
+    → (c : Calling pages page r t l all run store spent answered h)
+    → Refuses pages page (ledger spent c.met answered) (r.template h.title c.calls.frame).work told e
+    → Refuses pages page l all.work told e
+page_untaken pages page t r l all run store spent answered told h e c g =
     let o = r.template h.title c.calls.frame in
     let s = stripped r t run h c.total c.calls in
-    let same = c.comes.refusal rest ∙ ap (λ (x : Output). refusal_from pages page spent (x.work ++ rest)) s.total_is
-    ∙ ap (refusal_from pages page spent) (append_assoc o.work s.left.work rest) in
-    subst (λ (x : Option Refused). IsRefused x e) (sym same) (g (s.left.work ++ rest))
+    let now = ledger spent c.met answered in
+    comes_refused pages page l now all.work c.total.work told e c.comes
+    (subst (λ (x : Output). Refuses pages page now x.work told e) (sym s.total_is)
+    (refused_before pages page now o.work s.left.work told e g))
 
 pub paged_goes : (pages : Pages) (page t : List ℕ) (r : Reading) (l : Ledger) (all : Output) (run next : TextRun) (store : Store) (spent now : ℕ)
     (answered : Option (List (List ℕ))) (h : Handing) (ps : List Piece) → (p : Paged pages page r t l all run store spent answered h ps)
@@ -423,9 +590,11 @@ paged_goes pages page t r l all run next store spent now answered h ps p g = rec
 
 pub paged_refused : (pages : Pages) (page t : List ℕ) (r : Reading) (l : Ledger) (all : Output) (run : TextRun) (store : Store) (spent : ℕ)
     (answered : Option (List (List ℕ))) (h : Handing) (ps : List Piece) (e : ExpandRefusal) → (p : Paged pages page r t l all run store spent answered h ps)
-    → RefusesCost spent p.left e → (rest : List Entry) → IsRefused (refusal_from pages page l.spent (all.work ++ rest)) e
-paged_refused pages page t r l all run store spent answered h ps e p g rest =
-    cost_refused (refusal_from pages page l.spent (all.work ++ rest)) spent p.left e pages page rest g (p.comes.refusal rest)
+    → RefusesCost spent p.left e → Refuses pages page l all.work answered e
+paged_refused pages page t r l all run store spent answered h ps e p g =
+    let now = ledger spent p.met answered in
+    comes_refused pages page l now all.work p.left.work answered e p.comes
+    (cost_refuses pages page now p.left e g)
 
 -- ---- what the code hands on
 
@@ -453,21 +622,25 @@ one_less left less l e = omega (arith, l, e)
 pub message_done : (pages : Pages) (page : List ℕ) (spent : ℕ) (met : List (List ℕ)) (answered now : Option (List (List ℕ))) (left : ℕ)
     (open_titles names : List (List ℕ)) (title : Title) (frame : Frame) (k : Taken) (ps : List Piece) (store : Store) → open_titles ≡ names
     → k ≡ taken.Message ps
-    → AnswersTaking pages met open_titles left title store (Ok k) → IsNamed (full_name_of title) met answered now (Ok k)
+    → AnswersTaking pages met open_titles left title store (Ok k)
+    → IsNamed left open_titles (full_name_of title) met answered now (Ok k)
     → AnswersOutput pages page (ledger spent met answered) (template_output pages left names title frame) store spent now (Ok ps)
 message_done pages page spent met answered now left open_titles names title frame k ps store e is h n =
     let g = subst (λ (x : Taken). AnswersTaking pages met open_titles left title store (Ok x)) is h in
-    let same = subst (λ (x : Taken). IsNamed (full_name_of title) met answered now (Ok x)) is n in
+    let same = subst (λ (x : Taken). IsNamed left open_titles (full_name_of title) met answered now (Ok x))
+    is n in
     subst (λ (ns : List (List ℕ)). AnswersOutput pages page (ledger spent met answered) (template_output pages left ns title frame) store spent now (Ok ps)) e
     (message_given pages page spent met answered now (template_output pages left open_titles title frame) store ps (g.0 frame) g.1 same)
 
 pub link_done : (pages : Pages) (page : List ℕ) (spent : ℕ) (met : List (List ℕ)) (answered now : Option (List (List ℕ))) (left : ℕ)
     (open_titles names : List (List ℕ)) (title : Title) (frame : Frame) (k : Taken) (ps : List Piece) (store : Store) → open_titles ≡ names → k ≡ taken.Link ps
-    → AnswersTaking pages met open_titles left title store (Ok k) → IsNamed (full_name_of title) met answered now (Ok k)
+    → AnswersTaking pages met open_titles left title store (Ok k)
+    → IsNamed left open_titles (full_name_of title) met answered now (Ok k)
     → AnswersOutput pages page (ledger spent met answered) (template_output pages left names title frame) store spent now (Ok ps)
 link_done pages page spent met answered now left open_titles names title frame k ps store e is h n =
     let g = subst (λ (x : Taken). AnswersTaking pages met open_titles left title store (Ok x)) is h in
-    let same = subst (λ (x : Taken). IsNamed (full_name_of title) met answered now (Ok x)) is n in
+    let same = subst (λ (x : Taken). IsNamed left open_titles (full_name_of title) met answered now (Ok x))
+    is n in
     subst (λ (ns : List (List ℕ)). AnswersOutput pages page (ledger spent met answered) (template_output pages left ns title frame) store spent now (Ok ps)) e
     (link_given pages page spent met answered now (full_name_of title) (template_output pages left open_titles title frame) store ps (g.0 frame) g.1 same)
 
@@ -481,12 +654,13 @@ pub entered_done : (pages : Pages) (page : List ℕ) (spent now : ℕ) (met : Li
 entered_done pages page spent now met answered told left names t frame read next (Ok ps) n h =
     page_given pages page spent met answered left names t frame read next now told ps n h
 entered_done pages page spent now met answered told left names t frame read next (Err e) n h =
-    page_refused pages page spent met answered left names t frame read e n h
+    page_refused pages page spent met answered told left names t frame read e n h
 
 pub page_done : (pages : Pages) (page : List ℕ) (spent now : ℕ) (met : List (List ℕ)) (answered named told : Option (List (List ℕ))) (left less : ℕ)
     (open_titles names names_in : List (List ℕ)) (t : Title) (frame : Frame) (k : Taken) (read : ReadText) (run : TextRun) (store next : Store)
     (x : Result (Listed Piece) ExpandRefusal) → open_titles ≡ names → k ≡ taken.Page read → left ≡ suc less → names_in ≡ full_name_of t ∷ names
-    → AnswersTaking pages met open_titles left t store (Ok k) → IsNamed (full_name_of t) met answered named (Ok k)
+    → AnswersTaking pages met open_titles left t store (Ok k)
+    → IsNamed left open_titles (full_name_of t) met answered named (Ok k)
     → ((r : Reading) (bs : List ℕ) → mode.Template ≡ r.mode → IsRead r.mode bs read → Holds r bs run (stack run.levels) (text_given r bs))
     → ((bs : List ℕ) (now_met : List (List ℕ)) (all : Output) → IsStore pages now_met store
     → Holds (reading_of pages mode.Template frame less names_in) bs run (stack run.levels) all
@@ -495,7 +669,7 @@ pub page_done : (pages : Pages) (page : List ℕ) (spent now : ℕ) (met : List 
 page_done pages page spent now met answered named told left less open_titles names names_in t frame k read run store next x e is some inside h n holds on =
     let full = full_name_of t in
     let g = subst (λ (y : Taken). AnswersTaking pages met open_titles left t store (Ok y)) is h in
-    let same = subst (λ (y : Taken). IsNamed full met answered named (Ok y)) is n in
+    let same = subst (λ (y : Taken). IsNamed left open_titles full met answered named (Ok y)) is n in
     let shut = subst (λ (ns : List (List ℕ)). is_among full ns ≡ false) e g.1 in
     let enter = enters pages page spent met answered less names t frame read shut g.2 in
     let given = on (template_text enter.bytes) (met_with full met)

@@ -1,15 +1,18 @@
 -- The page's own text is entered first; then its work is that of what it gives.
-use Rattle.std.proofs.Common.{◌≡◌, ℕ, ◌+◌, Option, Some, None, option_map, List, [], ◌∷◌, ◌++◌, Ok, refl, sym, ap, ◌∙◌, subst, append-nil}
+use Rattle.std.proofs.Common.{◌≡◌, ℕ, ◌+◌, Option, Some, None, option_map, List, [], ◌∷◌, ◌++◌, Ok, Err, refl, sym, ap, ◌∙◌, subst, append-nil}
+use Rattle.std.specs.Prelude.{Result, OnErr}
 use Rattle.std.specs.Option.{option_or}
 use Rattle.wt_span.specs.declared.form.Mode.TheVariants as mode
 use Rattle.wt_span.specs.declared.form.Piece.{Piece}
+use Rattle.wt_span.specs.declared.list.List.{List as Listed}
 use Rattle.wt_span.specs.Items.{items}
 use Rattle.wt_expand.specs.Expansion.{Reading, most_templates, page_reading, page_work, text_given}
 use Rattle.wt_expand.specs.Work.{Pages, Entry, Refused, braces_too_deep, deep_place, entered, fetches, first_refusal, firsts_after, names_asked, refusal_from}
 use Rattle.wt_transclusion.specs.declared.refusal.ExpandRefusal.{ExpandRefusal}
 use Rattle.wt_transclusion.specs.declared.store.Store.{Store}
 use Rattle.wt_transclusion.specs.Answers.{IsRefused}
-use Rattle.wt_levels.specs.Ledgers.{AnswersOutput, Comes, Ledger, ledger, reading_of}
+use Rattle.wt_transclusion.specs.Asked.{AreFirst}
+use Rattle.wt_levels.specs.Ledgers.{AnswersOutput, Comes, Ledger, answered_with, ledger, reading_of}
 
 pub reading_is : (pages : Pages) → reading_of pages mode.Page [] 40 [] ≡ page_reading pages
 unfolding most_templates
@@ -56,6 +59,44 @@ page_refused pages page x e h =
     let own = subst (λ (r : Reading). IsRefused (refusal_from pages page 0 ((text_given r page).work ++ [])) x) (reading_is pages) (h []) in
     subst (λ (o : Option Refused). IsRefused o x) (sym (entered_first pages page e ∙ ap (refusal_from pages page 0) (sym (append-nil w)))) own
 
+-- the page's text is expanded, with nothing spent, known or being expanded before
+pub begun_at_first : (pages : Pages) (page : List ℕ) (answered told : Option (List (List ℕ))) (spent now : ℕ)
+    (names : List (List ℕ)) (store : Store)
+    (x : Result (Listed Piece) ExpandRefusal) → spent ≡ 0 → names ≡ []
+    → AnswersOutput pages page (ledger spent [] answered)
+    (text_given (reading_of pages mode.Page [] 40 names) page) store now told x
+    → AnswersOutput pages page (at_first answered) (text_given (reading_of pages mode.Page [] 40 []) page)
+    store now told x
+begun_at_first pages page answered told spent now names store x s n h =
+    subst (λ (k : ℕ). AnswersOutput pages page (ledger k [] answered)
+    (text_given (reading_of pages mode.Page [] 40 []) page) store now told x) s
+    (subst (λ (ns : List (List ℕ)). AnswersOutput pages page (ledger spent [] answered)
+    (text_given (reading_of pages mode.Page [] 40 ns) page) store now told x)
+    n h)
+
+-- the names of before with those that the page's work asks for are those of its text's work
+asked_in_all : (pages : Pages) (page : List ℕ) (answered : Option (List (List ℕ)))
+    → option_map (λ names. names ++ names_asked (page_work pages page)) answered
+    ≡ answered_with (at_first answered) ((text_given (page_reading pages) page).work ++ [])
+asked_in_all pages page answered =
+    ap (λ es. option_map (λ ns. ns ++ es) answered)
+    (asked_is (page_work pages page) ∙ ap (λ es. firsts_after [] (fetches es)) (work_is pages page))
+    ∙ ap (λ es. option_map (λ ns. ns ++ firsts_after [] (fetches es)) answered)
+    (sym (append-nil (text_given (page_reading pages) page).work))
+
+-- the names that are answered where the page is refused are the first of those that its work asks for
+pub page_stops : (pages : Pages) (page : List ℕ) (answered told : Option (List (List ℕ)))
+    → ((rest : List Entry)
+    → AreFirst told
+    (answered_with (at_first answered)
+    ((text_given (reading_of pages mode.Page [] 40 []) page).work ++ rest)))
+    → AreFirst told (option_map (λ names. names ++ names_asked (page_work pages page)) answered)
+page_stops pages page answered told h =
+    let own = subst
+    (λ (r : Reading). AreFirst told (answered_with (at_first answered) ((text_given r page).work ++ [])))
+    (reading_is pages) (h []) in
+    subst (AreFirst told) (sym (asked_in_all pages page answered)) own
+
 names_end : (a : Option (List (List ℕ))) → option_map (λ ns. ns ++ []) a ≡ a
 names_end None = refl
 names_end (Some ns) = ap Some (append-nil ns)
@@ -73,9 +114,7 @@ page_worked pages page answered told met now e given =
     let w = (text_given (page_reading pages) page).work in
     record {
       allowed = entered_first pages page e ∙ ap (refusal_from pages page 0) (sym (append-nil w)) ∙ h.refusal [];
-      named = sym (ap (λ es. option_map (λ ns. ns ++ es) answered) (asked_is (page_work pages page)
-          ∙ ap (λ es. firsts_after [] (fetches es)) (work_is pages page))
-          ∙ ap (λ es. option_map (λ ns. ns ++ firsts_after [] (fetches es)) answered) (sym (append-nil w)) ∙ h.names [] ∙ names_end told);
+      named = sym (asked_in_all pages page answered ∙ h.names [] ∙ names_end told);
     }
 
 pub record Shows (pages : Pages) (page : List ℕ) (answered told : Option (List (List ℕ))) (ps : List Piece) : Type 0 where
@@ -90,3 +129,8 @@ page_shown pages page answered told store now ps e given = record {
   items_are = given.0 ∙ ap (λ (r : Reading). (text_given r page).items) (reading_is pages);
   worked = page_worked pages page answered told given.1 now e given.3;
 }
+
+-- where a fact holds, it holds of a refusal
+pub on_refusal : {A : Type 0} → (x : Result A ExpandRefusal) (P : Type 0) → P → OnErr x P
+on_refusal (Ok a) P p = tt
+on_refusal (Err e) P p = p

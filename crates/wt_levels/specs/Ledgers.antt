@@ -9,6 +9,7 @@ use Rattle.wt_expand.specs.Work.{Pages, Entry, fetches, firsts_after, refusal_fr
 use Rattle.wt_transclusion.specs.declared.refusal.ExpandRefusal.{ExpandRefusal}
 use Rattle.wt_transclusion.specs.declared.store.Store.{Store}
 use Rattle.wt_transclusion.specs.Answers.{IsRefused}
+use Rattle.wt_transclusion.specs.Asked.{AreFirst}
 use Rattle.wt_transclusion.specs.Stores.{IsStore}
 use Rattle.wt_levels.specs.declared.level.Handing.{Handing}
 use Rattle.wt_levels.specs.declared.run.TextRun.{TextRun}
@@ -36,12 +37,17 @@ pub record Comes (pages : Pages) (page : List ℕ) (before : Ledger) (work : Lis
   pub refusal : (rest : List Entry) → refusal_from pages page before.spent (work ++ rest) ≡ refusal_from pages page now.spent (left ++ rest)
   pub names : (rest : List Entry) → answered_with before (work ++ rest) ≡ answered_with now (left ++ rest)
 
+-- whatever work follows this, its first refusal is this one, and the names that are answered are the first of those that it asks for
+abbrev pub Refuses : Pages → List ℕ → Ledger → List Entry → Option (List (List ℕ)) → ExpandRefusal → Type 0
+Refuses pages page before work answered e = (rest : List Entry)
+    → IsRefused (refusal_from pages page before.spent (work ++ rest)) e × AreFirst answered (answered_with before (work ++ rest))
+
 -- what was to be given is given, and its work is done; or the first refusal is that of its work
 abbrev pub AnswersOutput : Pages → List ℕ → Ledger → Output → Store → ℕ → Option (List (List ℕ)) → Result (Listed Piece) ExpandRefusal → Type 0
 AnswersOutput pages page before o store spent answered (Ok ps) =
     (items ps ≡ o.items) × (met : List (List ℕ)) × IsStore pages met store × Comes pages page before o.work
     (record { spent = spent; met = met; answered = answered }) []
-AnswersOutput pages page before o store spent answered (Err e) = (rest : List Entry) → IsRefused (refusal_from pages page before.spent (o.work ++ rest)) e
+AnswersOutput pages page before o store spent answered (Err e) = Refuses pages page before o.work answered e
 
 abbrev pub ledger : ℕ → List (List ℕ) → Option (List (List ℕ)) → Ledger
 ledger spent met answered = record { spent = spent; met = met; answered = answered }

@@ -1,11 +1,14 @@
 //! Texts within texts: the templates that are being expanded.
-ghost use Rattle.std.specs.Prelude.{◌≡◌, ◌≤◌, ◌+◌, ◌∷◌, [], List, ℕ, Bool, Some, OnOk, reverse};
+ghost use Rattle.std.specs.Prelude.{◌≡◌, ◌≤◌, ◌+◌, ◌∷◌, [], List, ℕ, Bool, Some, IfOk, OnOk, reverse};
 ghost use Rattle.wt_span.specs.declared.form.Mode.{Mode as TextMode};
+ghost use Rattle.wt_span.specs.declared.form.Mode.TheVariants as text_mode;
 ghost use Rattle.wt_span.specs.Braces.{Member as TextMember};
+ghost use Rattle.wt_names.specs.Namespace.{full_name_of};
 ghost use Rattle.wt_braces.specs.PartMembers.{part_members};
-ghost use Rattle.wt_expand.specs.Expansion.{Frame, Output as Gives, template_output, text_given};
+ghost use Rattle.wt_expand.specs.Expansion.{Frame, Output as Gives, Reading, template_output, text_given};
 ghost use Rattle.wt_expand.specs.Work.{Pages};
 ghost use Rattle.wt_transclusion.specs.Answers.{IsCounted};
+ghost use Rattle.wt_transclusion.specs.Asked.{Asks};
 ghost use Rattle.wt_transclusion.specs.Frames.{AreValues};
 ghost use Rattle.wt_transclusion.specs.Reads.{IsRead};
 ghost use Rattle.wt_transclusion.specs.Steps.{IsStretchOf, given_from};
@@ -73,6 +76,22 @@ impl Names {
     }
 }
 
+/// The text of a page that is entered, of which nothing is read. The page is the innermost of those that
+/// are being expanded.
+fn entered<'a>(
+    alloc: Global,
+    names: &mut Names,
+    title: &Title,
+    text: ReadText<'a>,
+) -> Result<TextRun<'a>, NoMemory>
+    ensures names { OnOk result (names.new ≡ full_name_of title.now ∷ names.old) }
+    ensures run { IfOk result (λ run. (r : Reading) (t : List ℕ) → text_mode.Template ≡ r.mode
+        → IsRead r.mode t text.entry → Holds r t run (stack run.levels) (text_given r t)) }
+{
+    names.push(full_name(alloc, title)?)?;
+    TextRun::of_text(alloc, text, Mode::Template)
+}
+
 /// An expansion: the pages that were fetched, what was spent, and the pages that are being expanded.
 #[derive(Drop)]
 pub struct Expansion<'a> {
@@ -85,9 +104,6 @@ pub struct Expansion<'a> {
     /// The pages that are being expanded.
     pub names: Names,
 }
-
-/// The most pages that may be expanded one inside another, the page itself not counted.
-pub const MOST_TEMPLATES: u32 = 40;
 
 impl<'a> Expansion<'a> {
     /// Nothing is fetched, and nothing spent.
@@ -121,6 +137,7 @@ impl<'a> Expansion<'a> {
             → AnswersOutput pages page (ledger self.old.spent met (F.answered folder.old)) all self.new.store self.new.spent (F.answered folder.new) result }
         ensures grown { OnOk result (Grows (F.pages folder.old) self.old.store self.new.store) }
         ensures kept { F.pages folder.new ≡ F.pages folder.old }
+        ensures asks { Asks (F.answered folder.old) (F.answered folder.new) (F.most_asked folder.old) (F.most_asked folder.new) }
         ensures count { IsCounted (F.fault_count folder.old) (F.fault_count folder.new) result }
         ensures names { OnOk result (self.new.names ≡ self.old.names) }
     {
@@ -151,6 +168,7 @@ impl<'a> Expansion<'a> {
             (reading_of pages mode frame left self.old.names) t before all run.new self.new.store self.new.spent (F.answered folder.new) result }
         ensures grown { OnOk result (Grows (F.pages folder.old) self.old.store self.new.store) }
         ensures kept { F.pages folder.new ≡ F.pages folder.old }
+        ensures asks { Asks (F.answered folder.old) (F.answered folder.new) (F.most_asked folder.old) (F.most_asked folder.new) }
         ensures count { IsCounted (F.fault_count folder.old) (F.fault_count folder.new) result }
         ensures names { OnOk result (self.new.names ≡ self.old.names) }
     {
@@ -179,6 +197,7 @@ impl<'a> Expansion<'a> {
             (template_output pages left self.old.names handing.now.title frame) self.new.store self.new.spent (F.answered folder.new) result }
         ensures grown { OnOk result (Grows (F.pages folder.old) self.old.store self.new.store) }
         ensures kept { F.pages folder.new ≡ F.pages folder.old }
+        ensures asks { Asks (F.answered folder.old) (F.answered folder.new) (F.most_asked folder.old) (F.most_asked folder.new) }
         ensures count { IsCounted (F.fault_count folder.old) (F.fault_count folder.new) result }
         ensures names { OnOk result (self.new.names ≡ self.old.names) }
     {
@@ -198,8 +217,7 @@ impl<'a> Expansion<'a> {
                 let Some(less) = left.checked_sub(1) else {
                     return Err(ExpandRefusal::NoMemory);
                 };
-                self.names.push(full_name(self.alloc, &handing.title)?)?;
-                let run = TextRun::of_text(self.alloc, read, Mode::Template)?;
+                let run = entered(self.alloc, &mut self.names, &handing.title, read)?;
                 let given = self.finish(folder, run, &handing.handed.values, less)?;
                 self.names.pop();
                 Ok(given)
@@ -229,6 +247,7 @@ impl<'a> Expansion<'a> {
             (given_from (reading_of pages mode frame left self.old.names) s t p xs) self.new.store self.new.spent (F.answered folder.new) result }
         ensures grown { OnOk result (Grows (F.pages folder.old) self.old.store self.new.store) }
         ensures kept { F.pages folder.new ≡ F.pages folder.old }
+        ensures asks { Asks (F.answered folder.old) (F.answered folder.new) (F.most_asked folder.old) (F.most_asked folder.new) }
         ensures count { IsCounted (F.fault_count folder.old) (F.fault_count folder.new) result }
         ensures names { OnOk result (self.new.names ≡ self.old.names) }
     {
@@ -256,6 +275,7 @@ impl<'a> Expansion<'a> {
             (text_given (reading_of pages mode frame left self.old.names) t) self.new.store self.new.spent (F.answered folder.new) result }
         ensures grown { OnOk result (Grows (F.pages folder.old) self.old.store self.new.store) }
         ensures kept { F.pages folder.new ≡ F.pages folder.old }
+        ensures asks { Asks (F.answered folder.old) (F.answered folder.new) (F.most_asked folder.old) (F.most_asked folder.new) }
         ensures count { IsCounted (F.fault_count folder.old) (F.fault_count folder.new) result }
         ensures names { OnOk result (self.new.names ≡ self.old.names) }
     {
@@ -289,6 +309,7 @@ impl<'a> Expansion<'a> {
             (F.answered folder.new) result }
         ensures grown { OnOk result (Grows (F.pages folder.old) self.old.store self.new.store) }
         ensures kept { F.pages folder.new ≡ F.pages folder.old }
+        ensures asks { Asks (F.answered folder.old) (F.answered folder.new) (F.most_asked folder.old) (F.most_asked folder.new) }
         ensures count { IsCounted (F.fault_count folder.old) (F.fault_count folder.new) result }
         ensures names { OnOk result (self.new.names ≡ self.old.names) }
     {

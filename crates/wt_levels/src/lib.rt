@@ -8,7 +8,7 @@ mod page;
 mod reader;
 mod run;
 
-pub use expansion::{Expansion, MOST_TEMPLATES, Names};
+pub use expansion::{Expansion, Names};
 pub use level::Handing;
 pub use page::{expanded_text, read_page};
 pub use reader::{MOST_BYTES, Reader};

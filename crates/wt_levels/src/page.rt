@@ -1,5 +1,5 @@
 //! The text that a page shows with its templates expanded.
-ghost use Rattle.std.specs.Prelude.{◌≡◌, ◌<◌, ◌^◌, ◌++◌, Some, None, IfErr, IfOk, OnOk, length, option_map};
+ghost use Rattle.std.specs.Prelude.{◌≡◌, ◌<◌, ◌^◌, ◌++◌, Some, None, IfErr, IfOk, OnErr, OnOk, length, option_map};
 ghost use Rattle.wt_span.specs.Items.{items};
 ghost use Rattle.wt_span.specs.declared.form.Mode.TheVariants as text_mode;
 ghost use Rattle.wt_expand.specs.Expansion.{page_work};
@@ -7,13 +7,14 @@ ghost use Rattle.wt_expand.specs.PageCalls.{expanded_page};
 ghost use Rattle.wt_expand.specs.Texts.{shown_text};
 ghost use Rattle.wt_expand.specs.Work.{Pages, deep_place, first_refusal, names_asked};
 ghost use Rattle.wt_transclusion.specs.Answers.{IsCounted, IsNoFault, IsRefused};
+ghost use Rattle.wt_transclusion.specs.Asked.{Asks, AreFirst};
 ghost use Rattle.wt_transclusion.specs.Reads.{IsRead};
 
-use crate::expansion::{Expansion, MOST_TEMPLATES};
+use crate::expansion::Expansion;
 use bumpalo::Bump;
 use std::alloc::Global;
 use wt_braces::BraceRefusal;
-use wt_expand::text_shown;
+use wt_expand::{MOST_TEMPLATES, text_shown};
 use wt_outer::Folder;
 use wt_span::{Mode, Piece, Str};
 use wt_transclusion::{ExpandRefusal, ReadText, Values, read_in};
@@ -66,7 +67,11 @@ pub fn expanded_text<'a, F: Folder>(
         ≡ option_map (λ names. names ++ names_asked (page_work pages page.entry.now)) (F.answered folder.old)) }
     ensures refused { (pages : Pages) → F.pages folder.old ≡ Some pages
         → IfErr result (IsRefused (first_refusal pages page.entry.now (page_work pages page.entry.now))) }
+    ensures stops { (pages : Pages) → F.pages folder.old ≡ Some pages
+        → OnErr result (AreFirst (F.answered folder.new)
+        (option_map (λ names. names ++ names_asked (page_work pages page.entry.now)) (F.answered folder.old))) }
     ensures kept { F.pages folder.new ≡ F.pages folder.old }
+    ensures asks { Asks (F.answered folder.old) (F.answered folder.new) (F.most_asked folder.old) (F.most_asked folder.new) }
     ensures count { IsCounted (F.fault_count folder.old) (F.fault_count folder.new) result }
 {
     let read = read_page(alloc, page, arena)?;

@@ -1,18 +1,15 @@
 -- `edit`: from what was read, compared and spelled to the answer of the program.
-use Rattle.std.proofs.Common.{◌≡◌, ℕ, [], ◌∷◌, ◌++◌, List, Bool, true, false, cond, refl, sym, ap, ◌∙◌, subst, append-nil}
-use Rattle.std.specs.Prelude.{nat_lt, length, Option, Some, None, option_map, IfSome, IfOk, IsErrAnd, Result, Ok, Err}
+use Rattle.std.proofs.Common.{◌≡◌, ℕ, List, Bool, true, false, cond, refl, sym, ap, ◌∙◌, subst}
+use Rattle.std.specs.Prelude.{nat_lt, length, Option, Some, None, option_map, IfSome, IsErrAnd, Result, Ok, Err}
 use Rattle.std.specs.Io.KnownBytes.{Appends, IsAtEnd}
 use Rattle.wt_outer.specs.Device.{Pages}
 use Rattle.wt_span.specs.Origins.{Expanded}
 use Rattle.wt_tree.specs.Tree.{Tree, tree}
-use Rattle.wt_expand.specs.Expansion.{page_work}
 use Rattle.wt_expand.specs.PageCalls.{expanded_page}
-use Rattle.wt_expand.specs.Work.{Entry, Refused, fetches, firsts_after, names_asked}
+use Rattle.wt_expand.specs.Work.{Refused}
 use Rattle.wt_transclusion.specs.declared.refusal.ExpandRefusal.{ExpandRefusal}
 use Rattle.wt_transclusion.specs.declared.refusal.ExpandRefusal.TheVariants as of_expansion
 use Rattle.wt_transclusion.specs.Answers.{IsRefused}
-use Rattle.wt_levels.specs.declared.expansion.Expansion.{Expansion}
-use Rattle.wt_expansion.specs.Known.{KnowsMore}
 use Rattle.wt_fitting.specs.Read.{Read, page as as_page, ill, misfit, read}
 use Rattle.wt_html_in.specs.Answers.{body_of, Answers}
 use Rattle.wt_html_in.specs.declared.edited.Edited.{Edited}
@@ -38,13 +35,11 @@ use Rattle.wt_pagetool.specs.declared.refusal.Refusal.{Refusal}
 use Rattle.wt_pagetool.specs.declared.command.Command.TheVariants.{Edit}
 use Rattle.wt_pagetool.specs.Refusals.{refusal_of_edit}
 use Rattle.wt_pagetool.specs.Words.{command_of}
-use Rattle.wt_pagetool.specs.Answers.{Answer, done, refusal_of_page, expanded_by, title_answer, IsText, IsAnswered, input_answer, unspelled_by, unspelled_answer, new_by, new_expanded, new_answer, edit_by, edit_from, edit_to, edited_answer, edit_of, edit_told, answer_told}
+use Rattle.wt_pagetool.specs.Answers.{Answer, done, answer_of_edit, refusal_of_page, expanded_by, title_answer, IsText, IsUnrefused, input_answer, unspelled_by, unspelled_answer, new_by, new_expanded, new_answer, edit_by, edit_from, edit_to, edited_answer, edit_of, edit_told, answer_told}
 use Rattle.wt_pagetool.specs.Causes.{Answered, Refuses, IsFetched, refusal_of, refusal_of_new}
-use Rattle.wt_pagetool.specs.Devices.{FolderUse, AnswersEdit, AsksForBoth}
-use Rattle.wt_pagetool.specs.Outputs.{output_bytes}
-use Rattle.wt_pagetool.specs.Reports.{answer_of_edit, new_page, WroteEdit}
+use Rattle.wt_pagetool.specs.Reports.{new_page, WroteEdit}
 use Rattle.wt_pagetool.proofs.AnswerLaws.{input_done}
-use Rattle.wt_pagetool.proofs.ExpandLaws.{fetched_as, names_joined, stands_is}
+use Rattle.wt_pagetool.proofs.ExpandLaws.{fetched_as}
 use Rattle.wt_pagetool.proofs.LeavesLaws.{page_leaves}
 use Rattle.wt_pagetool.proofs.PageLaws.{text_of, page_text, title_made, title_stands, expanded_done}
 use Rattle.wt_pagetool.proofs.ShownLaws.{IsBare, same_shown, page_body, page_face, read_face}
@@ -148,76 +143,6 @@ unread_from pages page refusal bytes (Ok output) reads is = absurd is
 unread_from pages page refusal bytes (Err r) reads is =
     subst (λ x. Refuses x (edited_answer pages page (read bytes))) (sym is) (unread pages page refusal bytes reads)
 
--- ---- what is asked of the folder
-
-names_end : (a : Option (List (List ℕ))) → option_map (λ ns. ns ++ []) a ≡ a
-names_end None = refl
-names_end (Some ns) = ap Some (append-nil ns)
-
--- for a new page the names that aren't known
-pub asked_new : (pages : Pages) (met : List (List ℕ)) (new text : List ℕ) (x : Expansion) (before after : Option (List (List ℕ))) → text ≡ new
-    → KnowsMore pages met (page_work pages text) x before after
-    → after ≡ option_map (λ ns. ns ++ firsts_after met (fetches (page_work pages new))) before
-asked_new pages met new text x before after same k =
-    let h = subst (λ bs. KnowsMore pages met (page_work pages bs) x before after) same k in
-    sym (ap (λ es. option_map (λ ns. ns ++ firsts_after met (fetches es)) before) (sym (append-nil (page_work pages new))) ∙ h.names []
-    ∙ names_end after)
-
-asked_are : (es : List Entry) → names_asked es ≡ firsts_after [] (fetches es)
-unfolding names_asked
-asked_are es = refl
-
--- for the page, and then for the new page
-pub asked_both : (pages : Pages) (page : List ℕ) (x : Expansion) (before middle after : Option (List (List ℕ))) (result : Result Output Refusal)
-    (k : KnowsMore pages [] (page_work pages page) x before middle)
-    → IfOk result (λ output. after ≡ option_map (λ ns. ns ++ firsts_after k.known (fetches (page_work pages (output_bytes output)))) middle)
-    → IfOk result (λ output. AsksForBoth pages page (output_bytes output) before after)
-asked_both pages page x before middle after (Err r) k second = tt
-asked_both pages page x before middle after (Ok output) k second =
-    let works = page_work pages page ++ page_work pages (output_bytes output) in
-    second ∙ sym (k.names (page_work pages (output_bytes output))) ∙ ap (λ es. option_map (λ ns. ns ++ es) before) (sym (asked_are works))
-
-named_ok : (f : FolderUse) (middle : Option (List (List ℕ))) (pages : Pages) (title page text : List ℕ) (result : Result Output Refusal)
-    → text ≡ page → middle ≡ option_map (λ ns. ns ++ title ∷ []) f.names_before → f.pages_after ≡ f.pages_before
-    → IfOk result (λ output. AsksForBoth pages text (output_bytes output) middle f.names_after)
-    → IfOk result (λ output. AnswersEdit f pages title page (output_bytes output))
-named_ok f middle pages title page text (Err reason) same first kept second = tt
-named_ok f middle pages title page text (Ok output) same first kept second =
-    let new = output_bytes output in
-    record {
-      answered = names_joined f.names_before middle f.names_after title (names_asked (page_work pages page ++ page_work pages new)) first
-          (second ∙ ap (λ bs. option_map (λ names. names ++ names_asked (page_work pages bs ++ page_work pages new)) middle) same);
-      pages_kept = kept;
-    }
-
-named_stands : (f : FolderUse) (middle : Option (List (List ℕ))) (pages : Pages) (title page text : List ℕ) (result : Result Output Refusal)
-    (stands : Option (List ℕ)) → IsFetched stands (fetched_as page) → IsText page → text ≡ page
-    → middle ≡ option_map (λ ns. ns ++ title ∷ []) f.names_before → f.pages_after ≡ f.pages_before
-    → IfOk result (λ output. AsksForBoth pages text (output_bytes output) middle f.names_after)
-    → IfSome stands (λ bytes. IfOk result (λ output. AnswersEdit f pages title bytes (output_bytes output)))
-named_stands f middle pages title page text result None fetched whole same first kept second = tt
-named_stands f middle pages title page text result (Some bytes) fetched whole same first kept second =
-    named_ok f middle pages title bytes text result (same ∙ sym (stands_is bytes page fetched whole)) first kept second
-
-named_told : (told : Option Pages) (f : FolderUse) (middle : Option (List (List ℕ))) (title page text : List ℕ) (result : Result Output Refusal)
-    → IfSome told (λ pages. IsFetched (pages title) (fetched_as page)) → IsText page → text ≡ page
-    → middle ≡ option_map (λ ns. ns ++ title ∷ []) f.names_before → f.pages_after ≡ f.pages_before
-    → ((pages : Pages) → told ≡ Some pages → IfOk result (λ output. AsksForBoth pages text (output_bytes output) middle f.names_after))
-    → IfSome told (λ pages. IfSome (pages title) (λ bytes. IfOk result (λ output. AnswersEdit f pages title bytes (output_bytes output))))
-named_told None f middle title page text result fetched whole same first kept second = tt
-named_told (Some pages) f middle title page text result fetched whole same first kept second =
-    named_stands f middle pages title page text result (pages title) fetched whole same first kept (second pages refl)
-
--- the folder's pages as they were before, after the first fetch and at the end
-pub edit_named : (f : FolderUse) (middle_pages : Option Pages) (middle : Option (List (List ℕ))) (title page text : List ℕ)
-    (result : Result Output Refusal) → IfSome f.pages_before (λ pages. IsFetched (pages title) (fetched_as page)) → IsText page → text ≡ page
-    → middle ≡ option_map (λ ns. ns ++ title ∷ []) f.names_before → middle_pages ≡ f.pages_before → f.pages_after ≡ middle_pages
-    → ((pages : Pages) → middle_pages ≡ Some pages
-    → IfOk result (λ output. AsksForBoth pages text (output_bytes output) middle f.names_after))
-    → IfSome f.pages_before (λ pages. IfSome (pages title) (λ bytes. IfOk result (λ output. AnswersEdit f pages title bytes (output_bytes output))))
-edit_named f middle_pages middle title page text result fetched whole same first once kept second =
-    named_told f.pages_before f middle title page text result fetched whole same first (kept ∙ once) (λ pages e. second pages (once ∙ e))
-
 -- ---- what stands under the title
 
 edited_stands : (pages : Pages) (stands : Option (List ℕ)) (page text bytes : List ℕ) (result : Result Output Refusal)
@@ -240,7 +165,7 @@ edited_title (Some pages) (Some bytes) title page text result fetched whole same
 -- ---- an answer that is done is the new page
 
 record IsNewPage (pages : Pages) (page : List ℕ) (edited : Tree) (bytes : List ℕ) : Type 0 where
-  pub answered : IsAnswered pages (new_page pages page edited)
+  pub answered : IsUnrefused pages (new_page pages page edited)
   pub allowed : checked false (page_tree pages page) edited ≡ None
   pub answer : answer_of_edit pages page edited ≡ Ok (new_page pages page edited)
   pub is : bytes ≡ new_page pages page edited
@@ -286,9 +211,9 @@ new_page_done pages page edited bytes (Ok new) is d =
     let shown = shown_children (restored_from t edited) in
     let u = unspelled_done new bytes (differing 1 (shown_children (page_tree pages new)) shown) n.1 in
     let same = none_same 1 (shown_children (page_tree pages new)) shown u.1 in
-    let answered : IsAnswered pages new = record { text = page_text new m.within m.text; unrefused = n.0 } in
+    let answered : IsUnrefused pages new = record { text = page_text new m.within m.text; unrefused = n.0 } in
     record {
-      answered = subst (IsAnswered pages) a.1 answered;
+      answered = subst (IsUnrefused pages) a.1 answered;
       allowed = a.0;
       answer = is ∙ ap Ok a.1;
       is = u.0 ∙ a.1;
@@ -319,10 +244,9 @@ edited_done pages page (misfit n why) bytes e = cc
 restored_bare : (page t : Tree) → IsBare t → IsBare (restored_from page t)
 restored_bare page (tree l ts) h = h
 
-pub wrote_edit : (pages : Pages) (title input bytes : List ℕ) (folder : FolderUse) (left old new : Option (List ℕ))
-    → edit_of pages (pages title) input ≡ done bytes → IsAtEnd left → Appends old new bytes
-    → IfSome (pages title) (λ page. AnswersEdit folder pages title page bytes) → WroteEdit pages title input folder left old new
-wrote_edit pages title input bytes folder left old new e ended wrote names =
+pub wrote_edit : (pages : Pages) (title input bytes : List ℕ) (left old new : Option (List ℕ))
+    → edit_of pages (pages title) input ≡ done bytes → IsAtEnd left → Appends old new bytes → WroteEdit pages title input left old new
+wrote_edit pages title input bytes left old new e ended wrote =
     let made : List ℕ → Answer = λ page. input_answer (edited_answer pages page) input in
     let h = title_stands (pages title) made bytes e in
     let page = h.0 in
@@ -350,8 +274,6 @@ wrote_edit pages title input bytes folder left old new e ended wrote names =
       answered = d.new.answered;
       shows = same_shown (page_tree pages (new_page pages page d.edited)) (restored_from t d.edited)
           (page_face pages (new_page pages page d.edited)) (restored_bare t d.edited (read_face input d.edited d.unsourced d.reads)) d.new.shows;
-      names = subst (λ bs. AnswersEdit folder pages title page bs) d.new.is
-          (subst (λ o. IfSome o (λ p. AnswersEdit folder pages title p bytes)) h.1 names);
     }
 
 pub told_edit : (pages : Option Pages) (input : Option (List ℕ)) (words : List (List ℕ)) (title : List ℕ)

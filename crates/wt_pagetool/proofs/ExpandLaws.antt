@@ -1,6 +1,6 @@
 -- `expand`: from what the expansion of a page answers to the answer of the program.
-use Rattle.std.proofs.Common.{◌≡◌, ◌<◌, ◌≤◌, ◌^◌, ℕ, List, ◌∷◌, [], ◌++◌, true, length, IsUtf8, refl, sym, ap, ◌∙◌, subst, arith, append_assoc}
-use Rattle.std.specs.Prelude.{Option, Some, None, option_map, IfSome, OnOk, Result, Ok, Err}
+use Rattle.std.proofs.Common.{◌≡◌, ◌<◌, ◌≤◌, ◌^◌, ℕ, List, true, length, IsUtf8, refl, sym, ap, ◌∙◌, subst, arith}
+use Rattle.std.specs.Prelude.{Option, Some, None, option_map, Result, Ok, Err}
 use Rattle.std.specs.Io.KnownBytes.{Appends}
 use Rattle.wt_outer.specs.Device.{Pages}
 use Rattle.wt_span.specs.Cuts.{page_of}
@@ -17,8 +17,7 @@ use Rattle.wt_page_round_trip.proofs.HeldPages.{its_page}
 use Rattle.wt_page_round_trip.proofs.PageTrees.{clean_meaning}
 use Rattle.wt_expand.specs.Texts.{shown_text}
 use Rattle.wt_expand.specs.PageCalls.{expanded_page}
-use Rattle.wt_expand.specs.Expansion.{page_work}
-use Rattle.wt_expand.specs.Work.{Refused, names_asked}
+use Rattle.wt_expand.specs.Work.{Refused}
 use Rattle.wt_transclusion.specs.declared.refusal.ExpandRefusal.{ExpandRefusal}
 use Rattle.wt_transclusion.specs.declared.refusal.ExpandRefusal.TheVariants as of_expansion
 use Rattle.wt_transclusion.specs.Answers.{IsRefused, IsCountedErr}
@@ -26,11 +25,10 @@ use Rattle.wt_pagetool.specs.declared.output.Output.{Output}
 use Rattle.wt_pagetool.specs.declared.refusal.Refusal.{Refusal}
 use Rattle.wt_pagetool.specs.declared.command.Command.TheVariants.{Expand}
 use Rattle.wt_pagetool.specs.Words.{command_of}
-use Rattle.wt_pagetool.specs.Answers.{Answer, done, title_answer, expanded_by, expansion_of, refusal_of_page, answer_told, IsText}
-use Rattle.wt_pagetool.specs.Causes.{IsFetched, Refuses, RefusesExpansion, IsOfTitle, IsKept, refusal_of_expansion}
-use Rattle.wt_pagetool.specs.Devices.{FolderUse, AnswersExpansion}
+use Rattle.wt_pagetool.specs.Answers.{Answer, done, title_answer, expanded_by, expansion_of, refusal_of_page, answer_told}
+use Rattle.wt_pagetool.specs.Causes.{Refuses, RefusesExpansion, IsOfTitle, IsKept, refusal_of_expansion}
 use Rattle.wt_pagetool.specs.Reports.{WroteExpansion}
-use Rattle.wt_pagetool.proofs.PageLaws.{title_stands, expanded_made}
+use Rattle.wt_pagetool.proofs.PageLaws.{expanded_made}
 
 -- ---- refusals
 
@@ -73,68 +71,11 @@ shown_is shown text o none same = ap (expanded_by (done shown)) none ∙ ap done
 abbrev pub fetched_as : List ℕ → Result (List ℕ) Refusal
 fetched_as page = Ok page
 
--- the title, and then the names of the pages
-pub names_joined : (before middle after : Option (List (List ℕ))) (title : List ℕ) (names : List (List ℕ))
-    → middle ≡ option_map (λ ns. ns ++ title ∷ []) before → after ≡ option_map (λ ns. ns ++ names) middle
-    → after ≡ option_map (λ ns. ns ++ title ∷ names) before
-names_joined None middle after title names first second = second ∙ ap (option_map (λ ns. ns ++ names)) first
-names_joined (Some ns) middle after title names first second =
-    second ∙ ap (option_map (λ xs. xs ++ names)) first ∙ ap Some (append_assoc ns (title ∷ []) names)
-
--- a page that is text is the one that stands under the title
-pub stands_is : (stands page : List ℕ) → IsFetched (Some stands) (fetched_as page) → IsText page → stands ≡ page
-stands_is stands page fetched text =
-    let h = title_stands (Some stands) (λ bs. done bs) page (fetched (λ bs. done bs) ∙ text (λ bs. done bs)) in
-    let e : stands ≡ h.0 = let f = h.1 in cc in
-    let d : h.0 ≡ page = let f = h.2 in cc in
-    e ∙ d
-
-named_ok : (f : FolderUse) (middle : Option (List (List ℕ))) (pages : Pages) (title page text : List ℕ) (result : Result Output Refusal)
-    → text ≡ page → middle ≡ option_map (λ ns. ns ++ title ∷ []) f.names_before → f.pages_after ≡ f.pages_before
-    → OnOk result (f.names_after ≡ option_map (λ names. names ++ names_asked (page_work pages text)) middle)
-    → OnOk result (AnswersExpansion f pages title page)
-named_ok f middle pages title page text (Ok output) same first kept second =
-    record {
-      answered = names_joined f.names_before middle f.names_after title (names_asked (page_work pages page)) first
-          (second ∙ ap (λ bs. option_map (λ names. names ++ names_asked (page_work pages bs)) middle) same);
-      pages_kept = kept;
-    }
-named_ok f middle pages title page text (Err reason) same first kept second = tt
-
-named_stands : (f : FolderUse) (middle : Option (List (List ℕ))) (pages : Pages) (title page text : List ℕ) (result : Result Output Refusal)
-    (stands : Option (List ℕ)) → IsFetched stands (fetched_as page) → IsText page → text ≡ page
-    → middle ≡ option_map (λ ns. ns ++ title ∷ []) f.names_before → f.pages_after ≡ f.pages_before
-    → OnOk result (f.names_after ≡ option_map (λ names. names ++ names_asked (page_work pages text)) middle)
-    → IfSome stands (λ bytes. OnOk result (AnswersExpansion f pages title bytes))
-named_stands f middle pages title page text result None fetched whole same first kept second = tt
-named_stands f middle pages title page text result (Some bytes) fetched whole same first kept second =
-    named_ok f middle pages title bytes text result (same ∙ sym (stands_is bytes page fetched whole)) first kept second
-
-named_told : (told : Option Pages) (f : FolderUse) (middle : Option (List (List ℕ))) (title page text : List ℕ) (result : Result Output Refusal)
-    → IfSome told (λ pages. IsFetched (pages title) (fetched_as page)) → IsText page → text ≡ page
-    → middle ≡ option_map (λ ns. ns ++ title ∷ []) f.names_before → f.pages_after ≡ f.pages_before
-    → ((pages : Pages) → told ≡ Some pages → OnOk result (f.names_after ≡ option_map (λ names. names ++ names_asked (page_work pages text)) middle))
-    → IfSome told (λ pages. IfSome (pages title) (λ bytes. OnOk result (AnswersExpansion f pages title bytes)))
-named_told None f middle title page text result fetched whole same first kept second = tt
-named_told (Some pages) f middle title page text result fetched whole same first kept second =
-    named_stands f middle pages title page text result (pages title) fetched whole same first kept (second pages refl)
-
--- the folder's pages as they were before, after the first fetch and at the end
-pub expansion_named : (f : FolderUse) (middle_pages : Option Pages) (middle : Option (List (List ℕ))) (title page text : List ℕ)
-    (result : Result Output Refusal) → IfSome f.pages_before (λ pages. IsFetched (pages title) (fetched_as page)) → IsText page → text ≡ page
-    → middle ≡ option_map (λ ns. ns ++ title ∷ []) f.names_before → middle_pages ≡ f.pages_before → f.pages_after ≡ middle_pages
-    → ((pages : Pages) → middle_pages ≡ Some pages
-    → OnOk result (f.names_after ≡ option_map (λ names. names ++ names_asked (page_work pages text)) middle))
-    → IfSome f.pages_before (λ pages. IfSome (pages title) (λ bytes. OnOk result (AnswersExpansion f pages title bytes)))
-expansion_named f middle_pages middle title page text result fetched whole same first once kept second =
-    named_told f.pages_before f middle title page text result fetched whole same first (kept ∙ once) (λ pages e. second pages (once ∙ e))
-
 -- ---- the clause
 
-pub wrote_expansion : (pages : Pages) (title : List ℕ) (folder : FolderUse) (bytes : List ℕ) (old new : Option (List ℕ))
-    → title_answer (pages title) (expansion_of pages) ≡ done bytes → Appends old new bytes
-    → IfSome (pages title) (λ page. AnswersExpansion folder pages title page) → WroteExpansion pages title folder old new
-wrote_expansion pages title folder bytes old new e wrote names =
+pub wrote_expansion : (pages : Pages) (title bytes : List ℕ) (old new : Option (List ℕ))
+    → title_answer (pages title) (expansion_of pages) ≡ done bytes → Appends old new bytes → WroteExpansion pages title old new
+wrote_expansion pages title bytes old new e wrote =
     let h = expanded_made pages (pages title) (λ page. done (shown_text (expanded_page pages page).items)) bytes e in
     let same : bytes ≡ shown_text (expanded_page pages h.page).items = let f = h.is in cc in
     record {
@@ -142,7 +83,6 @@ wrote_expansion pages title folder bytes old new e wrote names =
       found = h.found;
       unrefused = h.unrefused;
       wrote = subst (Appends old new) same wrote;
-      names = subst (λ o. IfSome o (λ page. AnswersExpansion folder pages title page)) h.found names;
     }
 
 pub told_expansion : (pages : Option Pages) (input : Option (List ℕ)) (words : List (List ℕ)) (title : List ℕ)
@@ -177,8 +117,3 @@ meaning_clean xs t is = ap (λ u. is_clean (tree_items u) 0 u) is ∙ clean_mean
 
 pub meaning_tree : (t : Tree) (e : Expanded) (m : ItemTree) → m ≡ meaning e.items → t ≡ annotated e.outer (group_data e.outer) m → t ≡ expanded_tree e
 meaning_tree t e m is made = made ∙ ap (λ u. annotated e.outer (group_data e.outer) u) is
-
--- what holds however it ended holds where it is done
-pub on_any : {T X : Type 0} (r : Result T Refusal) → X → OnOk r X
-on_any (Ok value) x = x
-on_any (Err reason) x = tt

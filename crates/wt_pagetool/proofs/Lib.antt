@@ -1,4 +1,5 @@
 pub mod AnswerLaws
+pub mod AskedLaws
 pub mod Cases
 pub mod EditLaws
 pub mod EditedLaws

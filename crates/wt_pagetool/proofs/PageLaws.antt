@@ -13,7 +13,7 @@ use Rattle.wt_utf8.specs.Places.{IsPlace, not_utf8_place}
 use Rattle.wt_utf8.proofs.PlaceLaws.{exact as exact_text, at_place}
 use Rattle.wt_page_round_trip.proofs.HeldPages.{its_page}
 use Rattle.wt_page_round_trip.proofs.PageTrees.{IsItsPage}
-use Rattle.wt_pagetool.specs.Answers.{Answer, done, refused, text_answer, title_answer, expanded_by, refusal_of_page, IsText, IsAnswered, made_of_tree}
+use Rattle.wt_pagetool.specs.Answers.{Answer, done, refused, text_answer, title_answer, expanded_by, refusal_of_page, IsText, IsUnrefused, made_of_tree}
 use Rattle.wt_pagetool.specs.declared.output.Output.{Output}
 use Rattle.wt_pagetool.specs.declared.command.PageCommand.{PageCommand}
 use Rattle.wt_pagetool.specs.declared.refusal.Refusal.{Refusal}
@@ -107,7 +107,7 @@ expanded_made pages (Some page) made bytes e =
     record { page = page; found = refl; within = t.within; text = text_of page t.text; unrefused = x.0; is = x.1 }
 
 -- a page that nothing refuses is what stands on the page for its expanded items
-pub answered_page : (pages : Pages) (page : List ℕ) → IsAnswered pages page → IsItsPage pages page
+pub answered_page : (pages : Pages) (page : List ℕ) → IsUnrefused pages page → IsItsPage pages page
 answered_page pages page h =
     let t = title_made page page (λ bs. done bs) (h.text (λ bs. done bs)) in
     its_page pages page (text_of page t.text) h.unrefused

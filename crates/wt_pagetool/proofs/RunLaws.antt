@@ -1,14 +1,15 @@
 -- What `run` ends with: from what was found and what was reported.
 use Rattle.std.proofs.Common.{◌≡◌, ℕ, List, length, true, false, Bool, cond, refl, sym, ap, ◌∙◌, subst, inl, inr}
-use Rattle.std.specs.Prelude.{◌⊎◌, ◌≢◌, nat_lt, Option, Some, None, option_map, IfSome, IfOk, IfErr, OnOk, Result, Ok, Err}
+use Rattle.std.specs.Prelude.{◌⊎◌, ◌≢◌, nat_lt, Option, Some, None, option_map, IfSome, IfErr, OnOk, Result, Ok, Err}
 use Rattle.std.specs.Io.KnownBytes.{Appends, IsAtEnd}
 use Rattle.wt_outer.specs.Device.{Pages}
+use Rattle.wt_transclusion.specs.Asked.{AreFirst}
 use Rattle.wt_tree.specs.Tree.{Tree}
 use Rattle.wt_tree.specs.Source.{flat}
 use Rattle.wt_markup.specs.Html.{html_text}
 use Rattle.wt_fitting.specs.Read.{Read, page as as_page, ill, misfit, read}
 use Rattle.wt_page_round_trip.specs.PageTree.{page_tree}
-use Rattle.wt_pagetool.specs.declared.limits.TheConstants.{HTML_BYTES}
+use Rattle.wt_span.specs.declared.limits.TheConstants.{HTML_BYTES}
 use Rattle.wt_pagetool.specs.declared.status.Status.{Status}
 use Rattle.wt_pagetool.specs.declared.status.Status.TheVariants as status
 use Rattle.wt_pagetool.specs.declared.refusal.Refusal.{Refusal}
@@ -18,16 +19,18 @@ use Rattle.wt_pagetool.specs.declared.command.PageCommand.{PageCommand}
 use Rattle.wt_pagetool.specs.declared.command.PageCommand.TheVariants.{Html, Ranges}
 use Rattle.wt_pagetool.specs.declared.command.Command.TheVariants.{Page, Expand, Edit, Gen, Wikitext}
 use Rattle.wt_pagetool.specs.Outputs.{output_bytes}
-use Rattle.wt_pagetool.specs.Statuses.{code, IsAnswer, IsAnswered, IsUnanswered}
-use Rattle.wt_pagetool.specs.Devices.{AnswersExpansion, AnswersEdit, SourceUse, FolderUse, SinkUse, SourceFailed, FolderFailed, Untouched, Took}
+use Rattle.wt_pagetool.specs.Statuses.{code, IsAnswer, IsDoneOrRefused, IsFaultOrNoMemory}
+use Rattle.wt_pagetool.specs.Devices.{SourceUse, FolderUse, SinkUse, SourceFailed, FolderFailed, Untouched, Took}
 use Rattle.wt_pagetool.specs.Refusals.{status_of}
 use Rattle.wt_pagetool.specs.Words.{command_of, Reads}
-use Rattle.wt_pagetool.specs.Answers.{Answer, done, refused, page_output, made_of_tree, made, title_answer, expansion_of, gen_answer, edit_of, source_answer, wikitext_answer, edit_told, answer_told, status_of_answer, IsDone}
+use Rattle.wt_pagetool.specs.Answers.{Answer, done, refused, page_output, made_of_tree, made, title_answer, expansion_of, gen_answer, edit_of, source_answer, wikitext_answer, edit_told, answer_told, status_of_answer}
+use Rattle.wt_pagetool.specs.Asked.{followed_by, AnswersFirst, AsksNames}
 use Rattle.wt_pagetool.specs.Causes.{Answered, RefusesAs, IsKept, found_status}
 use Rattle.wt_pagetool.specs.Calls.{call, IsDueAs, IsDue, KeptCounts, NothingFailed}
 use Rattle.wt_pagetool.specs.Reports.{Reported, WasDone, WasRefused, OutFailed, ErrFailed, WrotePage, WroteExpansion, WroteEdit, WroteCounts, WroteSource}
 use Rattle.wt_pagetool.proofs.StatusLaws.{is_done, is_write_fault, is_answer, IsUnansweredBy, unanswered}
 use Rattle.wt_pagetool.proofs.AnswerLaws.{input_done}
+use Rattle.wt_pagetool.proofs.AskedLaws.{first_named}
 use Rattle.wt_pagetool.proofs.EditLaws.{wrote_edit, told_edit}
 use Rattle.wt_pagetool.proofs.GenLaws.{wrote_counts, told_counts}
 use Rattle.wt_pagetool.proofs.PageLaws.{expanded_made}
@@ -46,10 +49,9 @@ made_is : (command : PageCommand) (t : Tree) (bytes : List ℕ) → made_of_tree
 made_is Html t bytes e = within_done (html_text t) bytes (nat_lt HTML_BYTES (length (html_text t))) e
 made_is Ranges t bytes e = cc
 
-wrote_page : (command : PageCommand) (pages : Pages) (title : List ℕ) (folder : FolderUse) (bytes : List ℕ) (old new : Option (List ℕ))
-    → title_answer (pages title) (made command pages) ≡ done bytes → Appends old new bytes
-    → IfSome (pages title) (λ page. AnswersExpansion folder pages title page) → WrotePage command pages title folder old new
-wrote_page command pages title folder bytes old new e wrote names =
+wrote_page : (command : PageCommand) (pages : Pages) (title bytes : List ℕ) (old new : Option (List ℕ))
+    → title_answer (pages title) (made command pages) ≡ done bytes → Appends old new bytes → WrotePage command pages title old new
+wrote_page command pages title bytes old new e wrote =
     let h = expanded_made pages (pages title) (λ page. made_of_tree command (page_tree pages page)) bytes e in
     let its : IsItsPage pages h.page = its_page pages h.page h.text h.unrefused in
     record {
@@ -61,7 +63,6 @@ wrote_page command pages title folder bytes old new e wrote names =
       covers = page_covered pages h.page its;
       slices = page_reached pages h.page its;
       numbered = page_numbered pages h.page;
-      names = subst (λ o. IfSome o (λ page. AnswersExpansion folder pages title page)) h.found names;
     }
 
 -- ---- an answer that is wikitext is the source of what was read
@@ -204,55 +205,61 @@ exact_step a (Err refusal) s out err h (u, inr (inl t)) = inr (subst IsUnanswere
 exact_step a (Err refusal) s out err h (u, inr (inr t)) = inr (subst IsUnansweredBy (sym t.0) tt)
 
 exact_number : (a : Answer) (s : Status) (ended : ℕ) → ended ≡ code s → (s ≡ status_of_answer a) ⊎ IsUnansweredBy s
-    → (ended ≡ code (status_of_answer a)) ⊎ IsUnanswered ended
+    → (ended ≡ code (status_of_answer a)) ⊎ IsFaultOrNoMemory ended
 exact_number a s ended is (inl e) = inl (is ∙ ap code e)
 exact_number a s ended is (inr h) = inr (unanswered s ended is h)
 
 pub run_exact : (told : Option Answer) (found : Result Output Refusal) (s : Status) (ended : ℕ) (out err : SinkUse)
     → ended ≡ code s → IfSome told (λ a. Answered a found) → Reported found s out err
-    → IfSome told (λ a. (ended ≡ code (status_of_answer a)) ⊎ IsUnanswered ended)
+    → IfSome told (λ a. (ended ≡ code (status_of_answer a)) ⊎ IsFaultOrNoMemory ended)
 run_exact None found s ended out err is h r = tt
 run_exact (Some a) found s ended out err is h r = exact_number a s ended is (exact_step a found s out err h r)
 
 -- ---- completeness
 
--- where nothing refuses and neither the input nor the folder failed, no refusal but want of memory is due
-due_is_memory : (s : Status) (words : List (List ℕ)) (input : SourceUse) (folder : FolderUse) (r : Refusal) (a : Answer)
-    → IsDone a → (SourceFailed input → ⊥) → (FolderFailed folder → ⊥)
-    → RefusesAs s r a → IsDueAs s words input folder r → s ≡ status.NoMemory
-due_is_memory status.Done words input folder r a d i f h due = absurd due
-due_is_memory status.Usage words input folder r a d i f h due = absurd (subst IsDone h d)
-due_is_memory status.PageRefused words input folder r a d i f h due = absurd (subst IsDone h d)
-due_is_memory status.HtmlRefused words input folder r a d i f h due = absurd (subst IsDone h d)
-due_is_memory status.EditRefused words input folder r a d i f h due = absurd (subst IsDone h d)
-due_is_memory status.ReadFault words input folder r a d i f h due = absurd (i due.1)
-due_is_memory status.FolderFault words input folder r a d i f h due = absurd (f due.1)
-due_is_memory status.WriteFault words input folder r a d i f h due = absurd due
-due_is_memory status.NoMemory words input folder r a d i f h due = refl
+-- where neither the input nor the folder failed, a refusal that is due is the answer, or memory ran out
+due_by_answer : (s : Status) (words : List (List ℕ)) (input : SourceUse) (folder : FolderUse) (r : Refusal) (a : Answer)
+    → s ≡ status_of r → (SourceFailed input → ⊥) → (FolderFailed folder → ⊥) → RefusesAs s r a → IsDueAs s words input folder r
+    → (s ≡ status_of_answer a) ⊎ (s ≡ status.NoMemory)
+due_by_answer status.Done words input folder r a is i f h due = absurd due
+due_by_answer status.Usage words input folder r a is i f h due = inl (is ∙ ap status_of_answer (sym h))
+due_by_answer status.PageRefused words input folder r a is i f h due = inl (is ∙ ap status_of_answer (sym h))
+due_by_answer status.HtmlRefused words input folder r a is i f h due = inl (is ∙ ap status_of_answer (sym h))
+due_by_answer status.EditRefused words input folder r a is i f h due = inl (is ∙ ap status_of_answer (sym h))
+due_by_answer status.ReadFault words input folder r a is i f h due = absurd (i due.1)
+due_by_answer status.FolderFault words input folder r a is i f h due = absurd (f due.1)
+due_by_answer status.WriteFault words input folder r a is i f h due = absurd due
+due_by_answer status.NoMemory words input folder r a is i f h due = inr refl
+
+told_by_answer : (s : Status) (r : Refusal) (a : Answer) → s ≡ status_of r → (status_of r ≡ status_of_answer a) ⊎ (status_of r ≡ status.NoMemory)
+    → (s ≡ status_of_answer a) ⊎ (s ≡ status.NoMemory)
+told_by_answer s r a is (inl e) = inl (is ∙ e)
+told_by_answer s r a is (inr e) = inr (is ∙ e)
 
 complete_step : (words : List (List ℕ)) (input : SourceUse) (folder : FolderUse) (out err : SinkUse) (found : Result Output Refusal) (s : Status) (a : Answer)
-    → Answered a found → IfErr found (IsDue words input folder) → Reported found s out err → IsDone a
-    → NothingFailed (call words input folder out err) → (s ≡ status.Done) ⊎ (s ≡ status.NoMemory)
-complete_step words input folder out err (Ok output) s a h due (inl r) d n = inl r.0
-complete_step words input folder out err (Ok output) s a h due (inr r) d n = absurd (n.out r.1.count)
-complete_step words input folder out err (Err refusal) s a h due (u, inl (inl t)) d n =
-    inr (t.0 ∙ due_is_memory (status_of refusal) words input folder refusal a d n.input n.folder h due)
-complete_step words input folder out err (Err refusal) s a h due (u, inl (inr t)) d n = absurd (n.err t.1.count)
-complete_step words input folder out err (Err refusal) s a h due (u, inr (inl t)) d n = inr t.0
-complete_step words input folder out err (Err refusal) s a h due (u, inr (inr t)) d n = absurd (n.err t.1.count)
+    → Answered a found → IfErr found (IsDue words input folder) → Reported found s out err
+    → NothingFailed (call words input folder out err) → (s ≡ status_of_answer a) ⊎ (s ≡ status.NoMemory)
+complete_step words input folder out err (Ok output) s a h due (inl r) n = inl (r.0 ∙ ap status_of_answer (sym h))
+complete_step words input folder out err (Ok output) s a h due (inr r) n = absurd (n.out r.1.count)
+complete_step words input folder out err (Err refusal) s a h due (u, inl (inl t)) n =
+    told_by_answer s refusal a t.0 (due_by_answer (status_of refusal) words input folder refusal a refl n.input n.folder h due)
+complete_step words input folder out err (Err refusal) s a h due (u, inl (inr t)) n = absurd (n.err t.1.count)
+complete_step words input folder out err (Err refusal) s a h due (u, inr (inl t)) n = inr t.0
+complete_step words input folder out err (Err refusal) s a h due (u, inr (inr t)) n = absurd (n.err t.1.count)
 
-complete_number : (s : Status) (ended : ℕ) → ended ≡ code s → (s ≡ status.Done) ⊎ (s ≡ status.NoMemory)
-    → (ended ≡ code status.Done) ⊎ (ended ≡ code status.NoMemory)
-complete_number s ended is (inl e) = inl (is ∙ ap code e)
-complete_number s ended is (inr e) = inr (is ∙ ap code e)
+complete_number : (s : Status) (ended : ℕ) (a : Answer) → ended ≡ code s → (s ≡ status_of_answer a) ⊎ (s ≡ status.NoMemory)
+    → (ended ≡ code (status_of_answer a)) ⊎ (ended ≡ code status.NoMemory)
+complete_number s ended a is (inl e) = inl (is ∙ ap code e)
+complete_number s ended a is (inr e) = inr (is ∙ ap code e)
 
 pub run_complete : (words : List (List ℕ)) (input : SourceUse) (folder : FolderUse) (out err : SinkUse)
     (found : Result Output Refusal) (s : Status) (ended : ℕ) (t : Option Answer) → ended ≡ code s
     → IfSome t (λ a. Answered a found) → IfErr found (IsDue words input folder) → Reported found s out err
-    → IfSome t (λ a. IsDone a → NothingFailed (call words input folder out err) → (ended ≡ code status.Done) ⊎ (ended ≡ code status.NoMemory))
-run_complete words input folder out err found s ended None is h due r = tt
-run_complete words input folder out err found s ended (Some a) is h due r =
-    λ d n. complete_number s ended is (complete_step words input folder out err found s a h due r d n)
+    → NothingFailed (call words input folder out err)
+    → IfSome t (λ a. (ended ≡ code (status_of_answer a)) ⊎ (ended ≡ code status.NoMemory))
+run_complete words input folder out err found s ended None is h due r n = tt
+run_complete words input folder out err found s ended (Some a) is h due r n =
+    complete_number s ended a is (complete_step words input folder out err found s a h due r n)
 
 -- ---- counts
 
@@ -271,16 +278,37 @@ found_answer (Err refusal) s o e (u, inr (inl t)) h = absurd (subst IsAnswer t.0
 found_answer (Err refusal) s o e (u, inr (inr t)) h = absurd (subst IsAnswer t.0 h)
 
 pub run_found : (found : Result Output Refusal) (s : Status) (ended : ℕ) (o e : SinkUse) → ended ≡ code s → Reported found s o e
-    → IsAnswered ended → FoundAnswer found o e
-run_found found s ended o e is r h = found_answer found s o e r (is_answer s (subst IsAnswered is h))
+    → IsDoneOrRefused ended → FoundAnswer found o e
+run_found found s ended o e is r h = found_answer found s o e r (is_answer s (subst IsDoneOrRefused is h))
 
 pub run_kept : (words : List (List ℕ)) (input : SourceUse) (folder : FolderUse) (out err : SinkUse)
     (found : Result Output Refusal) (s : Status) (ended : ℕ) → ended ≡ code s
-    → IsKept found input.faults_before input.faults_after → IsKept found folder.faults_before folder.faults_after → Reported found s out err → IsAnswered ended
+    → IsKept found input.faults_before input.faults_after → IsKept found folder.faults_before folder.faults_after → Reported found s out err → IsDoneOrRefused ended
     → KeptCounts (call words input folder out err)
 run_kept words input folder out err found s ended is i f r h =
     let a = run_found found s ended out err is r h in
     record { input = i a.is; folder = f a.is; out = a.out_kept; err = a.err_kept }
+
+-- ---- names
+
+pub run_asks : (told before after : Option (List (List ℕ))) (found : Result Output Refusal) → AreFirst before after
+    → IfSome told (λ names. AsksNames names before after found) → IfSome told (λ names. AnswersFirst names before after)
+run_asks None before after found grown named = tt
+run_asks (Some names) before after found grown named = first_named names before after found grown named
+
+named_done : (told before after : Option (List (List ℕ))) (found : Result Output Refusal) (out err : SinkUse)
+    → FoundDone found out err
+    → IfSome told (λ names. AsksNames names before after found) → IfSome told (λ names. after ≡ followed_by before names)
+named_done None before after found out err f named = tt
+named_done (Some names) before after found out err f named = subst (λ r. AsksNames names before after r) f.is named
+
+pub run_asked : (words : List (List ℕ)) (input : SourceUse) (folder : FolderUse) (out err : SinkUse)
+    (found : Result Output Refusal) (s : Status) (ended : ℕ) (told before after : Option (List (List ℕ))) → ended ≡ code s
+    → IfErr found (IsDue words input folder) → Reported found s out err
+    → IfSome told (λ names. AsksNames names before after found) → ended ≡ code status.Done
+    → IfSome told (λ names. after ≡ followed_by before names)
+run_asked words input folder out err found s ended told before after is due r named e =
+    named_done told before after found out err (found_done words input folder out err found s due r (is_done s (sym is ∙ e))) named
 
 -- ---- the clauses of the commands
 
@@ -290,16 +318,13 @@ told_page : (pages : Option Pages) (input : Option (List ℕ)) (words : List (Li
 unfolding answer_told
 told_page pages input words command title e = rw e refl
 
-page_found : (told : Option Pages) (command : PageCommand) (title : List ℕ) (folder : FolderUse) (found : Result Output Refusal) (out err : SinkUse)
-    → IfSome (option_map (λ ps. title_answer (ps title) (made command ps)) told) (λ a. Answered a found)
-    → IfSome told (λ pages. IfSome (pages title) (λ page. OnOk found (AnswersExpansion folder pages title page)))
-    → FoundDone found out err
-    → IfSome told (λ pages. WrotePage command pages title folder out.taken_before out.taken_after)
-page_found None command title folder found out err a n f = tt
-page_found (Some pages) command title folder found out err a n f =
-    wrote_page command pages title folder (output_bytes f.output) out.taken_before out.taken_after
+page_found : (told : Option Pages) (command : PageCommand) (title : List ℕ) (found : Result Output Refusal) (out err : SinkUse)
+    → IfSome (option_map (λ ps. title_answer (ps title) (made command ps)) told) (λ a. Answered a found) → FoundDone found out err
+    → IfSome told (λ pages. WrotePage command pages title out.taken_before out.taken_after)
+page_found None command title found out err a f = tt
+page_found (Some pages) command title found out err a f =
+    wrote_page command pages title (output_bytes f.output) out.taken_before out.taken_after
     (subst (Answered (title_answer (pages title) (made command pages))) f.is a) f.wrote.taken
-    (subst (λ x. IfSome (pages title) (λ page. OnOk x (AnswersExpansion folder pages title page))) f.is n)
 
 wikitext_found : (left new : Option (List ℕ)) (found : Result Output Refusal) (out err : SinkUse)
     → IfSome (option_map wikitext_answer left) (λ a. Answered a found) → IsAtEnd new → FoundDone found out err
@@ -312,13 +337,11 @@ pub run_page : (words : List (List ℕ)) (input : SourceUse) (folder : FolderUse
     (found : Result Output Refusal) (s : Status) (ended : ℕ) → ended ≡ code s
     → IfSome (answer_told folder.pages_before input.left_before words) (λ a. Answered a found)
     → IfErr found (IsDue words input folder) → Reported found s out err
-    → (command : PageCommand) (title : List ℕ) → command_of words ≡ Some (Page command title)
-    → IfSome folder.pages_before (λ pages. IfSome (pages title) (λ page. OnOk found (AnswersExpansion folder pages title page)))
-    → ended ≡ code status.Done
-    → IfSome folder.pages_before (λ pages. WrotePage command pages title folder out.taken_before out.taken_after)
-run_page words input folder out err found s ended is a due r command title w n e =
-    page_found folder.pages_before command title folder found out err
-    (subst (λ x. IfSome x (λ y. Answered y found)) (told_page folder.pages_before input.left_before words command title w) a) n
+    → (command : PageCommand) (title : List ℕ) → command_of words ≡ Some (Page command title) → ended ≡ code status.Done
+    → IfSome folder.pages_before (λ pages. WrotePage command pages title out.taken_before out.taken_after)
+run_page words input folder out err found s ended is a due r command title w e =
+    page_found folder.pages_before command title found out err
+    (subst (λ x. IfSome x (λ y. Answered y found)) (told_page folder.pages_before input.left_before words command title w) a)
     (found_done words input folder out err found s due r (is_done s (sym is ∙ e)))
 
 ended_of : (found : Result Output Refusal) (left : Option (List ℕ)) (out err : SinkUse) → OnOk found (IsAtEnd left) → FoundDone found out err → IsAtEnd left
@@ -337,28 +360,23 @@ run_wikitext words input folder out err found s ended is a due ends r w e =
     (subst (λ x. IfSome x (λ y. Answered y found)) (told_wikitext folder.pages_before input.left_before words w) a)
     (ended_of found input.left_after out err (ends (subst Reads (sym w) tt)) f) f
 
-expansion_found : (told : Option Pages) (title : List ℕ) (folder : FolderUse) (found : Result Output Refusal) (out err : SinkUse)
-    → IfSome (option_map (λ ps. title_answer (ps title) (expansion_of ps)) told) (λ a. Answered a found)
-    → IfSome told (λ pages. IfSome (pages title) (λ page. OnOk found (AnswersExpansion folder pages title page)))
-    → FoundDone found out err
-    → IfSome told (λ pages. WroteExpansion pages title folder out.taken_before out.taken_after)
-expansion_found None title folder found out err a n f = tt
-expansion_found (Some pages) title folder found out err a n f =
-    wrote_expansion pages title folder (output_bytes f.output) out.taken_before out.taken_after
+expansion_found : (told : Option Pages) (title : List ℕ) (found : Result Output Refusal) (out err : SinkUse)
+    → IfSome (option_map (λ ps. title_answer (ps title) (expansion_of ps)) told) (λ a. Answered a found) → FoundDone found out err
+    → IfSome told (λ pages. WroteExpansion pages title out.taken_before out.taken_after)
+expansion_found None title found out err a f = tt
+expansion_found (Some pages) title found out err a f =
+    wrote_expansion pages title (output_bytes f.output) out.taken_before out.taken_after
     (subst (Answered (title_answer (pages title) (expansion_of pages))) f.is a) f.wrote.taken
-    (subst (λ x. IfSome (pages title) (λ page. OnOk x (AnswersExpansion folder pages title page))) f.is n)
 
 pub run_expansion : (words : List (List ℕ)) (input : SourceUse) (folder : FolderUse) (out err : SinkUse)
     (found : Result Output Refusal) (s : Status) (ended : ℕ) → ended ≡ code s
     → IfSome (answer_told folder.pages_before input.left_before words) (λ a. Answered a found)
     → IfErr found (IsDue words input folder) → Reported found s out err
-    → (title : List ℕ) → command_of words ≡ Some (Expand title)
-    → IfSome folder.pages_before (λ pages. IfSome (pages title) (λ page. OnOk found (AnswersExpansion folder pages title page)))
-    → ended ≡ code status.Done
-    → IfSome folder.pages_before (λ pages. WroteExpansion pages title folder out.taken_before out.taken_after)
-run_expansion words input folder out err found s ended is a due r title w n e =
-    expansion_found folder.pages_before title folder found out err
-    (subst (λ x. IfSome x (λ y. Answered y found)) (told_expansion folder.pages_before input.left_before words title w) a) n
+    → (title : List ℕ) → command_of words ≡ Some (Expand title) → ended ≡ code status.Done
+    → IfSome folder.pages_before (λ pages. WroteExpansion pages title out.taken_before out.taken_after)
+run_expansion words input folder out err found s ended is a due r title w e =
+    expansion_found folder.pages_before title found out err
+    (subst (λ x. IfSome x (λ y. Answered y found)) (told_expansion folder.pages_before input.left_before words title w) a)
     (found_done words input folder out err found s due r (is_done s (sym is ∙ e)))
 
 counts_found : (n : ℕ) (found : Result Output Refusal) (out err : SinkUse) → Answered (gen_answer n) found → FoundDone found out err
@@ -376,31 +394,25 @@ run_counts words input folder out err found s ended is a due r n w e =
     (subst (λ x. IfSome x (λ y. Answered y found)) (told_counts folder.pages_before input.left_before words n w) a)
     (found_done words input folder out err found s due r (is_done s (sym is ∙ e)))
 
-edit_found : (told : Option Pages) (left new : Option (List ℕ)) (title : List ℕ) (folder : FolderUse) (found : Result Output Refusal)
-    (out err : SinkUse) → IfSome (edit_told told left title) (λ a. Answered a found) → IsAtEnd new
-    → IfSome told (λ pages. IfSome (pages title) (λ page. IfOk found (λ output. AnswersEdit folder pages title page (output_bytes output))))
-    → FoundDone found out err
-    → IfSome told (λ pages. IfSome left (λ bytes. WroteEdit pages title bytes folder new out.taken_before out.taken_after))
-edit_found None left new title folder found out err a ended n f = tt
-edit_found (Some pages) None new title folder found out err a ended n f = tt
-edit_found (Some pages) (Some bytes) new title folder found out err a ended n f =
-    wrote_edit pages title bytes (output_bytes f.output) folder new out.taken_before out.taken_after
+edit_found : (told : Option Pages) (left new : Option (List ℕ)) (title : List ℕ) (found : Result Output Refusal) (out err : SinkUse)
+    → IfSome (edit_told told left title) (λ a. Answered a found) → IsAtEnd new → FoundDone found out err
+    → IfSome told (λ pages. IfSome left (λ bytes. WroteEdit pages title bytes new out.taken_before out.taken_after))
+edit_found None left new title found out err a ended f = tt
+edit_found (Some pages) None new title found out err a ended f = tt
+edit_found (Some pages) (Some bytes) new title found out err a ended f =
+    wrote_edit pages title bytes (output_bytes f.output) new out.taken_before out.taken_after
     (subst (Answered (edit_of pages (pages title) bytes)) f.is a) ended f.wrote.taken
-    (subst (λ x. IfSome (pages title) (λ page. IfOk x (λ output. AnswersEdit folder pages title page (output_bytes output)))) f.is n)
 
 pub run_edit : (words : List (List ℕ)) (input : SourceUse) (folder : FolderUse) (out err : SinkUse)
     (found : Result Output Refusal) (s : Status) (ended : ℕ) → ended ≡ code s
     → IfSome (answer_told folder.pages_before input.left_before words) (λ a. Answered a found)
     → IfErr found (IsDue words input folder) → (Reads (command_of words) → OnOk found (IsAtEnd input.left_after))
     → Reported found s out err
-    → (title : List ℕ) → command_of words ≡ Some (Edit title)
-    → IfSome folder.pages_before (λ pages. IfSome (pages title)
-    (λ page. IfOk found (λ output. AnswersEdit folder pages title page (output_bytes output))))
-    → ended ≡ code status.Done
+    → (title : List ℕ) → command_of words ≡ Some (Edit title) → ended ≡ code status.Done
     → IfSome folder.pages_before (λ pages. IfSome input.left_before
-    (λ bytes. WroteEdit pages title bytes folder input.left_after out.taken_before out.taken_after))
-run_edit words input folder out err found s ended is a due ends r title w n e =
+    (λ bytes. WroteEdit pages title bytes input.left_after out.taken_before out.taken_after))
+run_edit words input folder out err found s ended is a due ends r title w e =
     let f = found_done words input folder out err found s due r (is_done s (sym is ∙ e)) in
-    edit_found folder.pages_before input.left_before input.left_after title folder found out err
+    edit_found folder.pages_before input.left_before input.left_after title found out err
     (subst (λ x. IfSome x (λ y. Answered y found)) (told_edit folder.pages_before input.left_before words title w) a)
-    (ended_of found input.left_after out err (ends (subst Reads (sym w) tt)) f) n f
+    (ended_of found input.left_after out err (ends (subst Reads (sym w) tt)) f) f

@@ -4,7 +4,7 @@ use Rattle.std.specs.Prelude.{⊤}
 use Rattle.wt_pagetool.specs.declared.status.Status.{Status}
 use Rattle.wt_pagetool.specs.declared.status.Status.TheVariants.{Done, Usage, PageRefused, HtmlRefused, EditRefused, ReadFault, FolderFault, WriteFault, NoMemory}
 use Rattle.wt_pagetool.specs.declared.refusal.Refusal.{Refusal}
-use Rattle.wt_pagetool.specs.Statuses.{code, IsAnswer, IsAnswered, IsUnanswered}
+use Rattle.wt_pagetool.specs.Statuses.{code, IsAnswer, IsDoneOrRefused, IsFaultOrNoMemory}
 use Rattle.wt_pagetool.specs.Answers.{done}
 use Rattle.wt_pagetool.specs.Causes.{RefusesAs, IsPageStatus, IsTitleStatus, IsHtmlStatus, IsInputStatus}
 
@@ -32,7 +32,7 @@ is_write_fault FolderFault e = absurd (omega (arith, e))
 is_write_fault WriteFault e = refl
 is_write_fault NoMemory e = absurd (omega (arith, e))
 
-pub is_answer : (s : Status) → IsAnswered (code s) → IsAnswer s
+pub is_answer : (s : Status) → IsDoneOrRefused (code s) → IsAnswer s
 is_answer Done h = tt
 is_answer Usage h = tt
 is_answer PageRefused h = tt
@@ -56,7 +56,7 @@ IsUnansweredBy FolderFault = ⊤
 IsUnansweredBy WriteFault = ⊤
 IsUnansweredBy NoMemory = ⊤
 
-past : (s : Status) → IsUnansweredBy s → IsUnanswered (code s)
+past : (s : Status) → IsUnansweredBy s → IsFaultOrNoMemory (code s)
 past Done h = absurd h
 past Usage h = absurd h
 past PageRefused h = absurd h
@@ -67,8 +67,8 @@ past FolderFault h = omega arith
 past WriteFault h = omega arith
 past NoMemory h = omega arith
 
-pub unanswered : (s : Status) (ended : ℕ) → ended ≡ code s → IsUnansweredBy s → IsUnanswered ended
-unanswered s ended is h = subst IsUnanswered (sym is) (past s h)
+pub unanswered : (s : Status) (ended : ℕ) → ended ≡ code s → IsUnansweredBy s → IsFaultOrNoMemory ended
+unanswered s ended is h = subst IsFaultOrNoMemory (sym is) (past s h)
 
 -- where the answer is done, no refusal but a fault or want of memory is found
 pub no_refusal : (bytes : List ℕ) (r : Refusal) (s : Status) → RefusesAs s r (done bytes) → IsUnansweredBy s

@@ -14,7 +14,7 @@ use Rattle.wt_html_in.specs.declared.reader.Reader.{Reader}
 use Rattle.wt_html_in.specs.declared.refusal.HtmlRefusal.{HtmlRefusal}
 use Rattle.wt_html_in.specs.declared.refusal.HtmlRefusal.TheVariants as refusals
 use Rattle.wt_pagetool.specs.declared.output.Output.{Output}
-use Rattle.wt_pagetool.specs.declared.limits.TheConstants.{HTML_BYTES}
+use Rattle.wt_span.specs.declared.limits.TheConstants.{HTML_BYTES}
 use Rattle.wt_pagetool.specs.declared.refusal.Refusal.{Refusal}
 use Rattle.wt_pagetool.specs.declared.refusal.Refusal.TheVariants.{Unsourced, InputTooLong, NoMemory}
 use Rattle.wt_pagetool.specs.Answers.{Answer, done, refused, source_answer, input_answer, wikitext_answer, answer_told}

@@ -1,5 +1,5 @@
 -- What the program answers: the bytes that go to standard output, or a refusal.
-use Rattle.std.specs.Prelude.{◌≡◌, ℕ, List, length, nat_lt, ⊤, Option, Some, None, option_map, option_and_then, Result, Ok, Err, if◌then◌else◌}
+use Rattle.std.specs.Prelude.{◌≡◌, ℕ, List, length, nat_lt, Option, Some, None, false, option_map, option_and_then, Result, Ok, Err, if◌then◌else◌}
 use Rattle.wt_outer.specs.Device.{Pages}
 use Rattle.wt_tree.specs.Tree.{Tree}
 use Rattle.wt_tree.specs.Source.{flat}
@@ -12,12 +12,14 @@ use Rattle.wt_expand.specs.Expansion.{page_work}
 use Rattle.wt_expand.specs.PageCalls.{expanded_page}
 use Rattle.wt_fitting.specs.Read.{Read, page as as_page, ill, misfit, read}
 use Rattle.wt_page_round_trip.specs.PageTree.{page_tree}
+use Rattle.wt_checks.specs.declared.refusal.Check.{Check}
+use Rattle.wt_checks.specs.Checked.{checked}
 use Rattle.wt_selser.specs.declared.refusal.EditRefusal.{EditRefusal}
 use Rattle.wt_shown.specs.Children.{shown_children, differing}
 use Rattle.wt_selser.specs.Edits.{edit_answer}
 use Rattle.wt_shown.specs.Restored.{restored_from}
 use Rattle.wt_shown.specs.SameNodes.{same_node}
-use Rattle.wt_pagetool.specs.declared.limits.TheConstants.{PAGE_BYTES, HTML_BYTES}
+use Rattle.wt_span.specs.declared.limits.TheConstants.{HTML_BYTES, PAGE_BYTES}
 use Rattle.wt_pagetool.specs.declared.status.Status.{Status}
 use Rattle.wt_pagetool.specs.declared.status.Status.TheVariants.{Done}
 use Rattle.wt_pagetool.specs.declared.refusal.Refusal.{Refusal}
@@ -53,6 +55,10 @@ title_answer (Some page) made =
 abbrev pub IsText : List ℕ → Type 0
 IsText page = (made : List ℕ → Answer) → title_answer (Some page) made ≡ made page
 
+-- no text stands under a title: no page, one that is too long, or one that isn't UTF-8
+abbrev pub IsNoText : Option (List ℕ) → Type 0
+IsNoText stands = (r : Refusal) × ((made : List ℕ → Answer) → title_answer stands made ≡ refused r)
+
 -- ---- a page with its templates
 
 -- why an expansion is refused
@@ -72,7 +78,7 @@ expanded_by answer (Some r) = refused (expansion_refusal r)
 expanded_by answer None = answer
 
 -- nothing refuses the page or its expansion
-pub record IsAnswered (pages : Pages) (page : List ℕ) : Type 0 where
+pub record IsUnrefused (pages : Pages) (page : List ℕ) : Type 0 where
   pub text : IsText page
   pub unrefused : refusal_of_page pages page ≡ None
 
@@ -166,11 +172,17 @@ abbrev pub edit_by : Pages → Tree → Tree → Result (List ℕ) EditRefusal �
 edit_by pages t edited (Ok new) = new_answer pages t edited new
 edit_by pages t edited (Err e) = refused (refusal_of_edit e)
 
+-- the first check that refuses an edited tree of a page; marks of values are not taken
+abbrev pub checked_edit : Tree → Tree → Option Check
+checked_edit page edited = checked false page edited
+
+-- the new page of an expanded page and this edited tree, or why the edit is refused
+abbrev pub answer_of_edit : Pages → List ℕ → Tree → Result (List ℕ) EditRefusal
+answer_of_edit pages page edited = edit_answer same_node (expanded_page pages page) page (page_tree pages page) edited
+
 -- the edit of an expanded page to this tree
 abbrev pub edit_from : Pages → List ℕ → Tree → Answer
-edit_from pages page edited =
-    let t = page_tree pages page in
-    edit_by pages t edited (edit_answer same_node (expanded_page pages page) page t edited)
+edit_from pages page edited = edit_by pages (page_tree pages page) edited (answer_of_edit pages page edited)
 
 abbrev pub edit_to : Pages → List ℕ → Tree → Answer
 edit_to pages page edited = expanded_by (edit_from pages page edited) (refusal_of_page pages page)
@@ -209,8 +221,3 @@ answer_told pages input words = answer_to pages input (command_of words)
 abbrev pub status_of_answer : Answer → Status
 status_of_answer (done bytes) = Done
 status_of_answer (refused r) = status_of r
-
--- nothing refuses
-abbrev pub IsDone : Answer → Type 0
-IsDone (done bytes) = ⊤
-IsDone (refused r) = ⊥

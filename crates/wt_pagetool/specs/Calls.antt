@@ -19,14 +19,14 @@ abbrev pub call : List (List ℕ) → SourceUse → FolderUse → SinkUse → Si
 call words input folder out err = record { words = words; input = input; folder = folder; out = out; err = err }
 
 -- the answer to its words, where the devices tell what they ask for
-abbrev pub told : Call → Option Answer
-told c = answer_told c.folder.pages_before c.input.left_before c.words
+abbrev pub known_answer : Call → Option Answer
+known_answer c = answer_told c.folder.pages_before c.input.left_before c.words
 
 -- ---- refusals that are due
 
 -- where an answer is told, it is this refusal
-abbrev pub IsTold : List (List ℕ) → SourceUse → FolderUse → Refusal → Type 0
-IsTold words input folder r = IfSome (answer_told folder.pages_before input.left_before words) (λ a. a ≡ refused r)
+abbrev pub IsKnownAnswer : List (List ℕ) → SourceUse → FolderUse → Refusal → Type 0
+IsKnownAnswer words input folder r = IfSome (answer_told folder.pages_before input.left_before words) (λ a. a ≡ refused r)
 
 -- When a refusal is due, by how it ends the call:
 -- * usage: the words are none of a command;
@@ -38,10 +38,10 @@ IsTold words input folder r = IfSome (answer_told folder.pages_before input.left
 abbrev pub IsDueAs : Status → List (List ℕ) → SourceUse → FolderUse → Refusal → Type 0
 IsDueAs status.Done words input folder r = ⊥
 IsDueAs status.Usage words input folder r = command_of words ≡ None
-IsDueAs status.PageRefused words input folder r = HasPage (command_of words) × IsTold words input folder r
-IsDueAs status.HtmlRefused words input folder r = Reads (command_of words) × IsTold words input folder r
+IsDueAs status.PageRefused words input folder r = HasPage (command_of words) × IsKnownAnswer words input folder r
+IsDueAs status.HtmlRefused words input folder r = Reads (command_of words) × IsKnownAnswer words input folder r
 IsDueAs status.EditRefused words input folder r =
-    Fetches (command_of words) × Reads (command_of words) × IsTold words input folder r
+    Fetches (command_of words) × Reads (command_of words) × IsKnownAnswer words input folder r
 IsDueAs status.ReadFault words input folder r = Reads (command_of words) × SourceFailed input
 IsDueAs status.FolderFault words input folder r = Fetches (command_of words) × FolderFailed folder
 IsDueAs status.WriteFault words input folder r = ⊥

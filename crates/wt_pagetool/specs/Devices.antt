@@ -1,13 +1,10 @@
 -- What a call did to a device: what the device held before and after, where it tells that, and how often it had failed.
-use Rattle.std.specs.Prelude.{◌≡◌, ℕ, ◌+◌, ◌≤◌, max, List, ◌∷◌, ◌++◌, take, Option, Some, None, option_map, ⊤, ◌⊎◌}
+use Rattle.std.specs.Prelude.{◌≡◌, ℕ, List, take, Option, ◌⊎◌}
 use Rattle.std.specs.Io.KnownBytes.{Appends, Keeps}
 use Rattle.wt_outer.specs.Device.{Pages, Rose}
 use Rattle.wt_outer.specs.declared.device.Source.{Ghosts as OfSource}
 use Rattle.wt_outer.specs.declared.device.Folder.{Ghosts as OfFolder}
 use Rattle.wt_outer.specs.declared.device.Sink.{Ghosts as OfSink}
-use Rattle.wt_expand.specs.Work.{names_asked}
-use Rattle.wt_expand.specs.Expansion.{page_work}
-use Rattle.wt_pagetool.specs.declared.limits.TheConstants.{PAGE_BYTES}
 
 -- a source: what it had left
 pub record SourceUse : Type 0 where
@@ -16,14 +13,9 @@ pub record SourceUse : Type 0 where
   pub faults_before : ℕ
   pub faults_after : ℕ
 
--- a folder: its pages, the names that it had answered, and the most bytes that such a call had asked for
+-- a folder: its pages, which stay as they are
 pub record FolderUse : Type 0 where
   pub pages_before : Option Pages
-  pub pages_after : Option Pages
-  pub names_before : Option (List (List ℕ))
-  pub names_after : Option (List (List ℕ))
-  pub most_before : Option ℕ
-  pub most_after : Option ℕ
   pub faults_before : ℕ
   pub faults_after : ℕ
 
@@ -47,11 +39,6 @@ read_from source old new = record {
 abbrev pub fetched_from : {F : Type 0} → OfFolder F → F → F → FolderUse
 fetched_from folder old new = record {
   pages_before = folder.pages old;
-  pages_after = folder.pages new;
-  names_before = folder.answered old;
-  names_after = folder.answered new;
-  most_before = folder.most_asked old;
-  most_after = folder.most_asked new;
   faults_before = folder.fault_count old;
   faults_after = folder.fault_count new;
 }
@@ -74,40 +61,6 @@ SourceFailed s = Rose s.faults_before s.faults_after
 
 abbrev pub FolderFailed : FolderUse → Type 0
 FolderFailed f = Rose f.faults_before f.faults_after
-
--- where a folder tells the most bytes that it was asked for, they are those of before or at most these
-abbrev pub AsksAtMost : ℕ → Option ℕ → Option ℕ → Type 0
-AsksAtMost most None after = ⊤
-AsksAtMost most (Some before) None = ⊥
-AsksAtMost most (Some before) (Some after) = after ≤ max before most
-
--- The folder answered these names in this order, and no others, for at most one byte more than a page may have. It
--- kept its pages.
-pub record AnswersNames (f : FolderUse) (names : List (List ℕ)) : Type 0 where
-  pub answered : f.names_after ≡ option_map (λ before. before ++ names) f.names_before
-  pub most : AsksAtMost (PAGE_BYTES + 1) f.most_before f.most_after
-  pub pages : f.pages_after ≡ f.pages_before
-
--- it answered the first of these names, in this order and no others: all or none or some
-abbrev pub AnswersFirst : FolderUse → List (List ℕ) → Type 0
-AnswersFirst f names = (n : ℕ) × AnswersNames f (take n names)
-
--- the folder answered the page's title, and then the names of the pages that are fetched for its expansion, each once,
--- in the order of their first fetch; it kept its pages
-pub record AnswersExpansion (f : FolderUse) (pages : Pages) (title page : List ℕ) : Type 0 where
-  pub answered : f.names_after ≡ option_map (λ before. before ++ title ∷ names_asked (page_work pages page)) f.names_before
-  pub pages_kept : f.pages_after ≡ f.pages_before
-
--- after these names were answered, those were that are asked for by the work of a page, and then by that of a new page, each once
-abbrev pub AsksForBoth : Pages → List ℕ → List ℕ → Option (List (List ℕ)) → Option (List (List ℕ)) → Type 0
-AsksForBoth pages page new before after = after ≡ option_map (λ ns. ns ++ names_asked (page_work pages page ++ page_work pages new)) before
-
--- The folder answered the page's title, and then the names of the pages that are fetched for the expansion of the page and of the
--- new page, each once, in the order of their first fetch: what was fetched for the page isn't fetched again for the new page. It
--- kept its pages.
-pub record AnswersEdit (f : FolderUse) (pages : Pages) (title page new : List ℕ) : Type 0 where
-  pub answered : f.names_after ≡ option_map (λ before. before ++ title ∷ names_asked (page_work pages page ++ page_work pages new)) f.names_before
-  pub pages_kept : f.pages_after ≡ f.pages_before
 
 -- ---- a sink
 

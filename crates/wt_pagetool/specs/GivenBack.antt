@@ -8,7 +8,7 @@ use Rattle.wt_markup.specs.Html.{html_text}
 use Rattle.wt_fitting.specs.Read.{page as as_page, read}
 use Rattle.wt_page_round_trip.specs.PageTree.{page_tree}
 use Rattle.wt_pagetool.specs.declared.status.Status.TheVariants.{Done}
-use Rattle.wt_pagetool.specs.Statuses.{code, IsUnanswered}
+use Rattle.wt_pagetool.specs.Statuses.{code, IsFaultOrNoMemory}
 use Rattle.wt_pagetool.specs.Answers.{done, html_answer, wikitext_answer}
 
 -- the HTML of a page stands for a tree whose every element tells its source, and whose source is the page
@@ -23,4 +23,4 @@ IsGivenBack pages page = (bytes : List ℕ) → html_answer pages (Some page) �
 
 -- the call is done, and `out` took the page; or a device failed, or memory ran out
 abbrev pub GaveBack : List ℕ → ℕ → Option (List ℕ) → Option (List ℕ) → Type 0
-GaveBack page ended old new = ((ended ≡ code Done) × Appends old new page) ⊎ IsUnanswered ended
+GaveBack page ended old new = ((ended ≡ code Done) × Appends old new page) ⊎ IsFaultOrNoMemory ended

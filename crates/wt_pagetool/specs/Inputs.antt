@@ -3,7 +3,11 @@ use Rattle.std.specs.Prelude.{◌≡◌, ◌≤◌, ℕ, List, length, Option, I
 use Rattle.std.specs.Io.KnownBytes.{Consumes, IsAtEnd}
 use Rattle.wt_html_in.specs.declared.reader.Reader.{Reader}
 use Rattle.wt_html_in.specs.Feeding.{IsFed}
-use Rattle.wt_pagetool.specs.declared.limits.TheConstants.{HTML_BYTES}
+use Rattle.wt_span.specs.declared.limits.TheConstants.{HTML_BYTES}
+
+-- an input gave at most so many bytes
+abbrev pub GivesAtMost : ℕ → Option (List ℕ) → Option (List ℕ) → Type 0
+GivesAtMost most old new = (bytes : List ℕ) × Consumes old new bytes × (length bytes ≤ most)
 
 -- the input gave these many bytes, which were fed
 pub record FedSoFar (reader : Reader) (old new : Option (List ℕ)) (taken : ℕ) : Type 0 where

@@ -1,5 +1,5 @@
 -- What a call wrote to its two sinks.
-use Rattle.std.specs.Prelude.{◌≡◌, ◌≤◌, ℕ, ◌⊎◌, false, List, length, Option, Some, None, IfSome, Result, Ok, Err}
+use Rattle.std.specs.Prelude.{◌≡◌, ◌≤◌, ℕ, ◌⊎◌, List, length, Option, Some, None, IfSome, Result, Ok, Err}
 use Rattle.std.specs.Io.KnownBytes.{Appends, IsAtEnd}
 use Rattle.wt_outer.specs.Device.{Pages}
 use Rattle.wt_expand.specs.Texts.{shown_text}
@@ -12,14 +12,11 @@ use Rattle.wt_annotated.specs.Reached.{AreReachedSlices}
 use Rattle.wt_fitting.specs.Read.{page as as_page, read}
 use Rattle.wt_markup.specs.Html.{html_text}
 use Rattle.wt_page_round_trip.specs.PageTree.{page_tree}
-use Rattle.wt_checks.specs.Checked.{checked}
 use Rattle.wt_selser.specs.Changes.{marked, changes}
-use Rattle.wt_selser.specs.declared.refusal.EditRefusal.{EditRefusal}
-use Rattle.wt_selser.specs.Edits.{edit_answer}
 use Rattle.wt_shown.specs.Restored.{restored_from}
 use Rattle.wt_shown.specs.SameNodes.{same_node}
 use Rattle.wt_selser.specs.Splice.{spliced, OutsideStands}
-use Rattle.wt_pagetool.specs.declared.limits.TheConstants.{HTML_BYTES}
+use Rattle.wt_span.specs.declared.limits.TheConstants.{HTML_BYTES}
 use Rattle.wt_pagetool.specs.declared.status.Status.{Status}
 use Rattle.wt_pagetool.specs.declared.status.Status.TheVariants as status
 use Rattle.wt_pagetool.specs.declared.refusal.Refusal.{Refusal}
@@ -27,12 +24,12 @@ use Rattle.wt_pagetool.specs.declared.refusal.Refusal.TheVariants.{WriteFault, N
 use Rattle.wt_pagetool.specs.declared.output.Output.{Output}
 use Rattle.wt_pagetool.specs.declared.command.PageCommand.{PageCommand}
 use Rattle.wt_pagetool.specs.Outputs.{output_bytes}
-use Rattle.wt_pagetool.specs.Devices.{FolderUse, AnswersExpansion, AnswersEdit, SinkUse, Untouched, Took, FailedAfter, TookOrFailed}
+use Rattle.wt_pagetool.specs.Devices.{SinkUse, Untouched, Took, FailedAfter, TookOrFailed}
 use Rattle.wt_pagetool.specs.Gen.{back, gen_line, gen_page, gen_pages}
 use Rattle.wt_pagetool.specs.Statuses.{code}
 use Rattle.wt_pagetool.specs.Refusals.{status_of, line_of}
-use Rattle.wt_pagetool.specs.Answers.{done, page_output, refusal_of_page, IsAnswered}
-use Rattle.wt_pagetool.specs.Calls.{Call, told, IsDue}
+use Rattle.wt_pagetool.specs.Answers.{done, answer_of_edit, checked_edit, page_output, refusal_of_page, IsUnrefused}
+use Rattle.wt_pagetool.specs.Calls.{Call, known_answer, IsDue}
 
 -- ---- what was found goes to the sinks
 
@@ -43,14 +40,14 @@ Gave bytes s out err =
     ⊎ ((s ≡ status.WriteFault) × FailedAfter out bytes × TookOrFailed err (line_of WriteFault))
 
 -- A refusal was written, or it could not be.
-abbrev pub Told : Refusal → Status → SinkUse → Type 0
-Told r s err =
+abbrev pub WroteLine : Refusal → Status → SinkUse → Type 0
+WroteLine r s err =
     ((s ≡ status_of r) × Took err (line_of r))
     ⊎ ((s ≡ status.WriteFault) × FailedAfter err (line_of r))
 
 -- the refusal, or want of memory for its line
 abbrev pub Refused : Refusal → Status → SinkUse → SinkUse → Type 0
-Refused r s out err = Untouched out × (Told r s err ⊎ Told NoMemory s err)
+Refused r s out err = Untouched out × (WroteLine r s err ⊎ WroteLine NoMemory s err)
 
 -- an answer, or a refusal
 abbrev pub Reported : Result Output Refusal → Status → SinkUse → SinkUse → Type 0
@@ -62,7 +59,7 @@ Reported (Err r) s out err = Refused r s out err
 -- `out` took the whole answer, and `err` nothing
 pub record WasDone (c : Call) : Type 0 where
   pub bytes : List ℕ
-  pub answer : IfSome (told c) (λ a. a ≡ done bytes)
+  pub answer : IfSome (known_answer c) (λ a. a ≡ done bytes)
   pub wrote : Took c.out bytes
   pub silent : Untouched c.err
 
@@ -77,7 +74,7 @@ pub record WasRefused (c : Call) (ended : ℕ) : Type 0 where
 -- `out` failed and took a front of the answer, and `err` the line of a write fault, or a front of it and failed too
 pub record OutFailed (c : Call) : Type 0 where
   pub bytes : List ℕ
-  pub answer : IfSome (told c) (λ a. a ≡ done bytes)
+  pub answer : IfSome (known_answer c) (λ a. a ≡ done bytes)
   pub front : FailedAfter c.out bytes
   pub line : TookOrFailed c.err (line_of WriteFault)
 
@@ -90,10 +87,10 @@ pub record ErrFailed (c : Call) : Type 0 where
 
 -- ---- what is written
 
--- a page stands under the title whose expansion nothing refuses, and `out` took what the command writes of the tree of the
--- expanded page, whose ranges tile the page and are slices of it, but for what stands in groups, and whose numbers are in
--- preorder; the folder was asked for the pages that this takes
-pub record WrotePage (command : PageCommand) (pages : Pages) (title : List ℕ) (folder : FolderUse) (old new : Option (List ℕ)) : Type 0 where
+-- A page stands under the title whose expansion nothing refuses, and `out` took what the command writes of the tree of the
+-- expanded page. The ranges of this tree tile the page from its first byte to its last; at the range of each node that stands in
+-- no group stands its source, with delimiters as wide as it says; and its numbers are in preorder.
+pub record WrotePage (command : PageCommand) (pages : Pages) (title : List ℕ) (old new : Option (List ℕ)) : Type 0 where
   pub page : List ℕ
   pub found : pages title ≡ Some page
   pub unrefused : refusal_of_page pages page ≡ None
@@ -102,18 +99,16 @@ pub record WrotePage (command : PageCommand) (pages : Pages) (title : List ℕ) 
   pub covers : Covers (length page) (page_tree pages page)
   pub slices : AreReachedSlices page (page_tree pages page)
   pub numbered : InPreorder (page_tree pages page)
-  pub names : AnswersExpansion folder pages title page
 
--- a page stands under the title whose expansion nothing refuses, and `out` took what the items of the expanded page show;
--- the folder was asked for the pages that this takes
-pub record WroteExpansion (pages : Pages) (title : List ℕ) (folder : FolderUse) (old new : Option (List ℕ)) : Type 0 where
+-- a page stands under the title whose expansion nothing refuses, and `out` took the items of the expanded page: a character by
+-- its bytes, an atom by its source, and nothing for a mark
+pub record WroteExpansion (pages : Pages) (title : List ℕ) (old new : Option (List ℕ)) : Type 0 where
   pub page : List ℕ
   pub found : pages title ≡ Some page
   pub unrefused : refusal_of_page pages page ≡ None
   pub wrote : Appends old new (shown_text (expanded_page pages page).items)
-  pub names : AnswersExpansion folder pages title page
 
--- `out` took the line of the page that is made with so many sections, and as many bytes come back from its HTML as it has
+-- `out` took the line of the page that is made with so many sections; as many bytes come back from its HTML as it has
 pub record WroteCounts (count : ℕ) (old new : Option (List ℕ)) : Type 0 where
   pub wrote : Appends old new (gen_line (length (gen_page count)) (page_tree gen_pages (gen_page count)))
   pub comes_back : back (read (html_text (page_tree gen_pages (gen_page count)))) ≡ length (gen_page count)
@@ -130,16 +125,11 @@ pub record WroteSource (input : List ℕ) (left old new : Option (List ℕ)) : T
 abbrev pub new_page : Pages → List ℕ → Tree → List ℕ
 new_page pages page edited = spliced page (changes same_node (marked (page_tree pages page) edited))
 
--- the answer to the edit of an expanded page
-abbrev pub answer_of_edit : Pages → List ℕ → Tree → Result (List ℕ) EditRefusal
-answer_of_edit pages page edited = edit_answer same_node (expanded_page pages page) page (page_tree pages page) edited
-
 -- A page stands under the title whose expansion nothing refuses, and the whole input for an edited tree that differs from the
 -- page's only where it may; nothing refuses the edit, and `out` took the new page, in which all that stands outside the insides
 -- of the marked nodes stands as in the page, byte for byte and in its order. Nothing refuses the new page or its expansion, and
--- the plain view of its tree is that of the edited tree, in which a kept group is what the page's group of its number holds. The
--- folder was asked for the pages that the page and the new page take, for each once.
-pub record WroteEdit (pages : Pages) (title input : List ℕ) (folder : FolderUse) (left old new : Option (List ℕ)) : Type 0 where
+-- the plain view of its tree is that of the edited tree, in which a kept group is what the page's group of its number holds.
+pub record WroteEdit (pages : Pages) (title input : List ℕ) (left old new : Option (List ℕ)) : Type 0 where
   pub page : List ℕ
   pub edited : Tree
   pub unsourced : Option ℕ
@@ -148,10 +138,9 @@ pub record WroteEdit (pages : Pages) (title input : List ℕ) (folder : FolderUs
   pub reads : read input ≡ as_page edited unsourced
   pub ended : IsAtEnd left
   pub expanded : refusal_of_page pages page ≡ None
-  pub allowed : checked false (page_tree pages page) edited ≡ None
+  pub allowed : checked_edit (page_tree pages page) edited ≡ None
   pub unrefused : answer_of_edit pages page edited ≡ Ok (new_page pages page edited)
   pub wrote : Appends old new (new_page pages page edited)
   pub outside : OutsideStands page (new_page pages page edited) (changes same_node (marked (page_tree pages page) edited))
-  pub answered : IsAnswered pages (new_page pages page edited)
+  pub answered : IsUnrefused pages (new_page pages page edited)
   pub shows : plain (page_tree pages (new_page pages page edited)) ≡ plain (restored_from (page_tree pages page) edited)
-  pub names : AnswersEdit folder pages title page (new_page pages page edited)

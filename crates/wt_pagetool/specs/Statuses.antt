@@ -28,9 +28,9 @@ IsAnswer WriteFault = ⊥
 IsAnswer NoMemory = ⊥
 
 -- the number of an answer
-abbrev pub IsAnswered : ℕ → Type 0
-IsAnswered status = status ≤ code EditRefused
+abbrev pub IsDoneOrRefused : ℕ → Type 0
+IsDoneOrRefused status = status ≤ code EditRefused
 
 -- the number of a device's fault or of want of memory
-abbrev pub IsUnanswered : ℕ → Type 0
-IsUnanswered status = code ReadFault ≤ status
+abbrev pub IsFaultOrNoMemory : ℕ → Type 0
+IsFaultOrNoMemory status = code ReadFault ≤ status

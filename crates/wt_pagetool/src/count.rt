@@ -4,6 +4,8 @@ ghost use Rattle.std.specs.Prelude.{◌≡◌, Some};
 ghost use Rattle.wt_fitting.specs.Attributes.{decimal_from, decimal_of};
 ghost use Rattle.wt_pagetool.specs.Words.{section_count};
 
+use wt_gen::MOST_SECTIONS;
+
 /// The number that the digits stand for, where each is one and it is below 2^32.
 fn decimal(digits: &[u8]) -> Option<u32>
     ensures { result ≡ decimal_from 0 digits.now }
@@ -37,7 +39,13 @@ pub fn section_count(word: &str) -> Option<u32>
     ensures { result ≡ section_count word.now }
 {
     match decimal_of(word.as_bytes()) {
-        Some(count) => { if count <= 10_000 { Some(count) } else { None } }
+        Some(count) => {
+            if count <= MOST_SECTIONS {
+                Some(count)
+            } else {
+                None
+            }
+        }
         None => None,
     }
 }

@@ -1,6 +1,6 @@
 //! The command that changes a page as its HTML was changed.
 
-ghost use Rattle.std.specs.Prelude.{◌≡◌, ◌≤◌, ◌++◌, ◌∷◌, ℕ, List, None, Some, IfSome, IfOk, IfErr, OnOk, length, option_map};
+ghost use Rattle.std.specs.Prelude.{◌≡◌, ◌≤◌, ◌+◌, ◌++◌, ℕ, List, None, Some, IfSome, IfOk, IfErr, OnOk, length};
 ghost use Rattle.std.specs.Io.KnownBytes.{IsAtEnd};
 ghost use Rattle.wt_expand.specs.Expansion.{page_work};
 ghost use Rattle.wt_expand.specs.PageCalls.{expanded_page};
@@ -15,22 +15,22 @@ ghost use Rattle.wt_selser.specs.Edits.{edit_answer};
 ghost use Rattle.wt_shown.specs.Children.{IsFirstDiffering, shown_children};
 ghost use Rattle.wt_shown.specs.Restored.{restored_from};
 ghost use Rattle.wt_shown.specs.SameNodes.{same_node};
+ghost use Rattle.wt_transclusion.specs.Asked.{Asks};
 ghost use Rattle.wt_tree.specs.Tiling.{InPreorder};
 ghost use Rattle.wt_tree.specs.Tree.{label};
 ghost use Rattle.wt_tree.specs.View.{view};
 ghost use Rattle.wt_tree.specs.declared.kind.Kind.TheVariants as kind;
-ghost use Rattle.wt_pagetool.specs.Answers.{done, input_answer, new_answer, edit_by, edit_to, edited_answer, edit_told};
+ghost use Rattle.wt_pagetool.specs.Answers.{done, answer_of_edit, input_answer, new_answer, edit_by, edit_to, edited_answer, edit_told, IsNoText};
+ghost use Rattle.wt_pagetool.specs.Asked.{AsksNames, edit_names, edited_work, input_work, new_work};
 ghost use Rattle.wt_pagetool.specs.Causes.{Answered, Refuses, IsOfEdit, IsKept, refusal_of_new};
-ghost use Rattle.wt_pagetool.specs.Devices.{fetched_from, AnswersEdit, AsksForBoth};
-ghost use Rattle.wt_pagetool.specs.Outputs.{output_bytes};
+ghost use Rattle.wt_pagetool.specs.Inputs.{GivesAtMost};
 
 use crate::fetch::fetched_page;
 use crate::known_page::{KnownPage, known_page};
-use crate::limits::PAGE_BYTES;
 use crate::output::Output;
 use crate::page::text_of_page;
 use crate::refusal::Refusal;
-use crate::wikitext_command::read_all;
+use crate::wikitext_command::{PIECE, read_all};
 use bumpalo::Bump;
 use std::alloc::Global;
 use wt_html_in::Reader;
@@ -38,7 +38,7 @@ use wt_levels::Expansion;
 use wt_outer::{Folder, Source};
 use wt_ranges::Annotated;
 use wt_selser::{edit, first_differing};
-use wt_span::NoMemory;
+use wt_span::{HTML_BYTES, NoMemory, PAGE_BYTES};
 use wt_transclusion::ExpandRefusal;
 use wt_tree::Node;
 
@@ -94,11 +94,12 @@ fn check_meaning<'a, F: Folder>(
         → IsFree pages met expansion.entry
         → IfErr result (λ r. Refuses r
         (new_answer pages (view tree.now) (view edited.now) new_page.entry.now)) }
-    ensures named { (pages : Pages) (met : List (List ℕ)) → F.pages folder.old ≡ Some pages
+    ensures asks { Asks (F.answered folder.old) (F.answered folder.new) (F.most_asked folder.old)
+        (F.most_asked folder.new) }
+    ensures asked { (pages : Pages) (met : List (List ℕ)) → F.pages folder.old ≡ Some pages
         → IsFree pages met expansion.entry
-        → OnOk result (F.answered folder.new
-        ≡ option_map (λ ns. ns ++ firsts_after met (fetches (page_work pages new_page.entry.now)))
-        (F.answered folder.old)) }
+        → AsksNames (firsts_after met (fetches (page_work pages new_page.entry.now)))
+        (F.answered folder.old) (F.answered folder.new) result }
     ensures of_edit { IfErr result (IsOfEdit ⊥ (Rose (F.fault_count folder.old) (F.fault_count folder.new))) }
     ensures count { IsKept result (F.fault_count folder.old) (F.fault_count folder.new) }
     ensures kept { F.pages folder.new ≡ F.pages folder.old }
@@ -130,11 +131,13 @@ fn new_page<'a, F: Folder>(
         → Answered (edit_by pages (view annotated.now.tree.body) (view edited.now)
         (edit_answer same_node annotated.now.items page.now (view annotated.now.tree.body)
         (view edited.now))) result }
-    ensures named { (pages : Pages) (met : List (List ℕ)) → F.pages folder.old ≡ Some pages
+    ensures asks { Asks (F.answered folder.old) (F.answered folder.new) (F.most_asked folder.old)
+        (F.most_asked folder.new) }
+    ensures asked { (pages : Pages) (met : List (List ℕ)) → F.pages folder.old ≡ Some pages
         → IsFree pages met expansion.entry
-        → IfOk result (λ output. F.answered folder.new
-        ≡ option_map (λ ns. ns ++ firsts_after met (fetches (page_work pages (output_bytes output))))
-        (F.answered folder.old)) }
+        → AsksNames (firsts_after met (fetches (new_work pages (edit_answer same_node annotated.now.items
+        page.now (view annotated.now.tree.body) (view edited.now)))))
+        (F.answered folder.old) (F.answered folder.new) result }
     ensures of_edit { IfErr result (IsOfEdit ⊥ (Rose (F.fault_count folder.old) (F.fault_count folder.new))) }
     ensures count { IsKept result (F.fault_count folder.old) (F.fault_count folder.new) }
     ensures kept { F.pages folder.new ≡ F.pages folder.old }
@@ -165,9 +168,12 @@ fn edit_to<'a, F: Folder>(
     requires room { length page.now ≤ PAGE_BYTES }
     ensures answered { (pages : Pages) → F.pages folder.old ≡ Some pages
         → Answered (edit_to pages page.now (view edited.now)) result }
-    ensures named { (pages : Pages) → F.pages folder.old ≡ Some pages
-        → IfOk result (λ output. AsksForBoth pages page.now (output_bytes output) (F.answered folder.old)
-        (F.answered folder.new)) }
+    ensures asks { Asks (F.answered folder.old) (F.answered folder.new) (F.most_asked folder.old)
+        (F.most_asked folder.new) }
+    ensures asked { (pages : Pages) → F.pages folder.old ≡ Some pages
+        → AsksNames (names_asked (page_work pages page.now
+        ++ new_work pages (answer_of_edit pages page.now (view edited.now))))
+        (F.answered folder.old) (F.answered folder.new) result }
     ensures of_edit { IfErr result (IsOfEdit ⊥ (Rose (F.fault_count folder.old) (F.fault_count folder.new))) }
     ensures count { IsKept result (F.fault_count folder.old) (F.fault_count folder.new) }
     ensures kept { F.pages folder.new ≡ F.pages folder.old }
@@ -193,9 +199,12 @@ fn edit_of_read<'a, F: Folder>(
     ensures answered { (pages : Pages) (bytes : List ℕ) → F.pages folder.old ≡ Some pages
         → IsFed reader.entry bytes
         → Answered (edited_answer pages page.now (read bytes)) result }
-    ensures named { (pages : Pages) → F.pages folder.old ≡ Some pages
-        → IfOk result (λ output. AsksForBoth pages page.now (output_bytes output) (F.answered folder.old)
-        (F.answered folder.new)) }
+    ensures asks { Asks (F.answered folder.old) (F.answered folder.new) (F.most_asked folder.old)
+        (F.most_asked folder.new) }
+    ensures asked { (pages : Pages) (bytes : List ℕ) → F.pages folder.old ≡ Some pages
+        → IsFed reader.entry bytes
+        → AsksNames (names_asked (edited_work pages page.now (read bytes)))
+        (F.answered folder.old) (F.answered folder.new) result }
     ensures of_edit { IfErr result (IsOfEdit ⊥ (Rose (F.fault_count folder.old) (F.fault_count folder.new))) }
     ensures count { IsKept result (F.fault_count folder.old) (F.fault_count folder.new) }
     ensures kept { F.pages folder.new ≡ F.pages folder.old }
@@ -214,13 +223,16 @@ fn edit_of_text<S: Source, F: Folder>(
     requires room { length page.now ≤ PAGE_BYTES }
     ensures answered { (pages : Pages) → F.pages folder.old ≡ Some pages → IfSome (S.left input.old)
         (λ bytes. Answered (input_answer (edited_answer pages page.now) bytes) result) }
-    ensures named { (pages : Pages) → F.pages folder.old ≡ Some pages
-        → IfOk result (λ output. AsksForBoth pages page.now (output_bytes output) (F.answered folder.old)
-        (F.answered folder.new)) }
+    ensures asks { Asks (F.answered folder.old) (F.answered folder.new) (F.most_asked folder.old)
+        (F.most_asked folder.new) }
+    ensures asked { (pages : Pages) → F.pages folder.old ≡ Some pages → IfSome (S.left input.old)
+        (λ bytes. AsksNames (names_asked (input_work (edited_work pages page.now) bytes))
+        (F.answered folder.old) (F.answered folder.new) result) }
     ensures of_edit { IfErr result (IsOfEdit (Rose (S.fault_count input.old) (S.fault_count input.new))
         (Rose (F.fault_count folder.old) (F.fault_count folder.new))) }
     ensures ended { OnOk result (IsAtEnd (S.left input.new)) }
     ensures input_kept { IsKept result (S.fault_count input.old) (S.fault_count input.new) }
+    ensures takes { GivesAtMost (HTML_BYTES + PIECE) (S.left input.old) (S.left input.new) }
     ensures folder_kept { IsKept result (F.fault_count folder.old) (F.fault_count folder.new) }
     ensures kept { F.pages folder.new ≡ F.pages folder.old }
 {
@@ -238,13 +250,16 @@ pub fn edited_page<S: Source, F: Folder>(
 ) -> Result<Output, Refusal>
     ensures answered { IfSome (edit_told (F.pages folder.old) (S.left input.old) title.now)
         (λ a. Answered a result) }
-    ensures named { IfSome (F.pages folder.old) (λ pages. IfSome (pages title.now) (λ page. IfOk result
-        (λ output. AnswersEdit (fetched_from F.Folder folder.old folder.new) pages title.now page
-        (output_bytes output)))) }
+    ensures asks { Asks (F.answered folder.old) (F.answered folder.new) (F.most_asked folder.old)
+        (F.most_asked folder.new) }
+    ensures asked { IfSome (edit_names (F.pages folder.old) (S.left input.old) title.now)
+        (λ names. AsksNames names (F.answered folder.old) (F.answered folder.new) result) }
+    ensures waits { IfSome (F.pages folder.old) (λ pages. IsNoText (pages title.now) → input.new ≡ input.old) }
     ensures of_edit { IfErr result (IsOfEdit (Rose (S.fault_count input.old) (S.fault_count input.new))
         (Rose (F.fault_count folder.old) (F.fault_count folder.new))) }
     ensures ended { OnOk result (IsAtEnd (S.left input.new)) }
     ensures input_kept { IsKept result (S.fault_count input.old) (S.fault_count input.new) }
+    ensures takes { GivesAtMost (HTML_BYTES + PIECE) (S.left input.old) (S.left input.new) }
     ensures folder_kept { IsKept result (F.fault_count folder.old) (F.fault_count folder.new) }
     ensures kept { F.pages folder.new ≡ F.pages folder.old }
 {

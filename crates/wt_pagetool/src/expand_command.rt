@@ -1,12 +1,12 @@
-ghost use Rattle.std.specs.Prelude.{◌≡◌, ◌≤◌, ◌++◌, length, Some, option_map, IfSome, IfErr, OnOk};
+ghost use Rattle.std.specs.Prelude.{◌≡◌, ◌≤◌, length, Some, IfSome, IfErr};
 ghost use Rattle.wt_expand.specs.Expansion.{page_work};
 ghost use Rattle.wt_expand.specs.Work.{Pages, names_asked};
+ghost use Rattle.wt_transclusion.specs.Asked.{Asks};
 ghost use Rattle.wt_pagetool.specs.Answers.{title_answer, expansion_of};
+ghost use Rattle.wt_pagetool.specs.Asked.{AsksNames, names_of, title_work};
 ghost use Rattle.wt_pagetool.specs.Causes.{Answered, IsOfTitle, IsKept};
-ghost use Rattle.wt_pagetool.specs.Devices.{fetched_from, AnswersExpansion};
 
 use crate::fetch::fetched_page;
-use crate::limits::PAGE_BYTES;
 use crate::output::Output;
 use crate::page::text_of_page;
 use crate::refusal::Refusal;
@@ -14,6 +14,7 @@ use bumpalo::Bump;
 use std::alloc::Global;
 use wt_levels::expanded_text;
 use wt_outer::Folder;
+use wt_span::PAGE_BYTES;
 
 /// What a page that is text shows with its templates expanded.
 fn output_of_text<F: Folder>(alloc: Global, page: &str, folder: &mut F) -> Result<Output, Refusal>
@@ -23,9 +24,11 @@ fn output_of_text<F: Folder>(alloc: Global, page: &str, folder: &mut F) -> Resul
     ensures of_title { IfErr result (IsOfTitle (F.fault_count folder.old) (F.fault_count folder.new)) }
     ensures count { IsKept result (F.fault_count folder.old) (F.fault_count folder.new) }
     ensures kept { F.pages folder.new ≡ F.pages folder.old }
-    ensures named { (pages : Pages) → F.pages folder.old ≡ Some pages
-        → OnOk result (F.answered folder.new
-        ≡ option_map (λ names. names ++ names_asked (page_work pages page.now)) (F.answered folder.old)) }
+    ensures asks { Asks (F.answered folder.old) (F.answered folder.new) (F.most_asked folder.old)
+        (F.most_asked folder.new) }
+    ensures asked { (pages : Pages) → F.pages folder.old ≡ Some pages
+        → AsksNames (names_asked (page_work pages page.now)) (F.answered folder.old)
+        (F.answered folder.new) result }
 {
     let arena = Bump::new(alloc);
     let text = expanded_text(alloc, page, &arena, folder)?;
@@ -43,9 +46,11 @@ pub fn expansion_of_title<F: Folder>(
     ensures of_title { IfErr result (IsOfTitle (F.fault_count folder.old) (F.fault_count folder.new)) }
     ensures count { IsKept result (F.fault_count folder.old) (F.fault_count folder.new) }
     ensures kept { F.pages folder.new ≡ F.pages folder.old }
-    ensures named { IfSome (F.pages folder.old) (λ pages. IfSome (pages title.now)
-        (λ page. OnOk result (AnswersExpansion
-        (fetched_from F.Folder folder.old folder.new) pages title.now page))) }
+    ensures asks { Asks (F.answered folder.old) (F.answered folder.new) (F.most_asked folder.old)
+        (F.most_asked folder.new) }
+    ensures asked { IfSome (F.pages folder.old)
+        (λ pages. AsksNames (names_of title.now (title_work (pages title.now) (page_work pages)))
+        (F.answered folder.old) (F.answered folder.new) result) }
 {
     let page = fetched_page(alloc, title, folder)?;
     let text = text_of_page(page.as_slice())?;

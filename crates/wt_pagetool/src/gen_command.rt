@@ -8,8 +8,8 @@ ghost use Rattle.wt_tree.specs.View.{view};
 ghost use Rattle.wt_pagetool.specs.Answers.{told_of_tree, gen_of, gen_answer};
 ghost use Rattle.wt_pagetool.specs.Causes.{Answered, IsOfPage};
 ghost use Rattle.wt_pagetool.specs.Gen.{back, line, gen_line, gen_pages, group_count, number_count, template_page};
+ghost use Rattle.wt_gen.specs.declared.page.TheConstants.{MOST_SECTIONS};
 
-use crate::limits::{HTML_BYTES, PAGE_BYTES};
 use crate::output::Output;
 use crate::page::{text_of_page, tree_of_text};
 use crate::refusal::Refusal;
@@ -19,7 +19,7 @@ use wt_gen::{page_of, template};
 use wt_html_in::{HtmlRefusal, read_html};
 use wt_html_out::{LengthRefusal, html_bytes_within};
 use wt_outer::{Folder, NeverFailsFolder};
-use wt_span::{List, NoMemory, Str};
+use wt_span::{HTML_BYTES, List, NoMemory, PAGE_BYTES, Str};
 use wt_tree::{Annotated, Kind, Node, Ranges, flat, walk};
 
 /// The page of the template that each section calls, with its full name.
@@ -157,7 +157,7 @@ fn output_of_made(alloc: Global, page: &str) -> Result<Output, Refusal>
 /// What `gen` tells of the page that it makes with so many sections: how many bytes it has, how many of
 /// its nodes have numbers, how many groups it has, and how many bytes came back from its HTML.
 pub fn counts_of_made(alloc: Global, count: u32) -> Result<Output, Refusal>
-    requires { count ≤ 10000 }
+    requires { count ≤ MOST_SECTIONS }
     ensures answered { Answered (gen_answer count) result }
     ensures of_page { IfErr result IsOfPage }
 {

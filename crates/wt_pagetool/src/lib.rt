@@ -9,7 +9,6 @@ mod fetch;
 mod gen_command;
 mod known_page;
 mod laws;
-mod limits;
 mod output;
 mod page;
 mod page_command;
@@ -21,6 +20,6 @@ mod wikitext_command;
 mod write;
 
 pub use laws::{pages_come_back, unchanged_page_stays, whole_tree};
-pub use limits::{HTML_BYTES, PAGE_BYTES};
+pub use report::tell_no_memory;
 pub use status::Status;
 pub use top::run;

@@ -1,6 +1,6 @@
 //! The tree of a page with its templates expanded.
 
-ghost use Rattle.std.specs.Prelude.{◌≡◌, ◌≤◌, ◌<◌, ◌^◌, ◌++◌, length, OnOk, IfOk, IfErr, Some, None, option_map};
+ghost use Rattle.std.specs.Prelude.{◌≡◌, ◌≤◌, ◌<◌, ◌^◌, length, OnOk, IfOk, IfErr, Some, None};
 ghost use Rattle.wt_expand.specs.Expansion.{page_work};
 ghost use Rattle.wt_expand.specs.PageCalls.{expanded_page};
 ghost use Rattle.wt_expand.specs.Work.{Pages, names_asked};
@@ -8,11 +8,12 @@ ghost use Rattle.wt_inline.specs.ItemTree.{tree_items};
 ghost use Rattle.wt_body.specs.Body.{meaning};
 ghost use Rattle.wt_page_round_trip.specs.PageTree.{expanded_tree, page_tree};
 ghost use Rattle.wt_span.specs.Cuts.{page_of};
+ghost use Rattle.wt_transclusion.specs.Asked.{Asks};
 ghost use Rattle.wt_tree.specs.View.{view};
 ghost use Rattle.wt_pagetool.specs.Answers.{refusal_of_page, IsText};
+ghost use Rattle.wt_pagetool.specs.Asked.{AsksNames};
 ghost use Rattle.wt_pagetool.specs.Causes.{RefusesTitle, RefusesExpansion, IsOfPage, IsOfTitle, IsKept};
 
-use crate::limits::PAGE_BYTES;
 use crate::refusal::Refusal;
 use bumpalo::Bump;
 use std::alloc::Global;
@@ -20,7 +21,7 @@ use wt_build::build;
 use wt_expansion::expand;
 use wt_outer::Folder;
 use wt_ranges::{Annotated, group};
-use wt_span::{Items, NoMemory};
+use wt_span::{Items, NoMemory, PAGE_BYTES};
 use wt_tree::Annotated as Tree;
 use wt_utf8::read_text;
 
@@ -54,10 +55,11 @@ pub fn annotated_of_text<'a, F: Folder>(
     ensures kept { F.pages folder.new ≡ F.pages folder.old }
     ensures whole { (pages : Pages) → F.pages folder.old ≡ Some pages
         → OnOk result (refusal_of_page pages page.entry.now ≡ None) }
-    ensures named { (pages : Pages) → F.pages folder.old ≡ Some pages
-        → OnOk result (F.answered folder.new
-        ≡ option_map (λ names. names ++ names_asked (page_work pages page.entry.now))
-        (F.answered folder.old)) }
+    ensures asks { Asks (F.answered folder.old) (F.answered folder.new) (F.most_asked folder.old)
+        (F.most_asked folder.new) }
+    ensures asked { (pages : Pages) → F.pages folder.old ≡ Some pages
+        → AsksNames (names_asked (page_work pages page.entry.now)) (F.answered folder.old)
+        (F.answered folder.new) result }
 {
     let items = expand(alloc, page, arena, folder)?;
     let tree = annotated_of_items(alloc, items)?;
@@ -82,10 +84,11 @@ pub fn tree_of_text<'a, F: Folder>(
     ensures kept { F.pages folder.new ≡ F.pages folder.old }
     ensures whole { (pages : Pages) → F.pages folder.old ≡ Some pages
         → OnOk result (refusal_of_page pages page.entry.now ≡ None) }
-    ensures named { (pages : Pages) → F.pages folder.old ≡ Some pages
-        → OnOk result (F.answered folder.new
-        ≡ option_map (λ names. names ++ names_asked (page_work pages page.entry.now))
-        (F.answered folder.old)) }
+    ensures asks { Asks (F.answered folder.old) (F.answered folder.new) (F.most_asked folder.old)
+        (F.most_asked folder.new) }
+    ensures asked { (pages : Pages) → F.pages folder.old ≡ Some pages
+        → AsksNames (names_asked (page_work pages page.entry.now)) (F.answered folder.old)
+        (F.answered folder.new) result }
 {
     let annotated = annotated_of_text(alloc, page, arena, folder)?;
     Ok(annotated.into_tree())

@@ -1,15 +1,15 @@
-ghost use Rattle.std.specs.Prelude.{◌≡◌, ◌≤◌, ◌++◌, length, IfSome, IfErr, OnOk, Some, option_map};
+ghost use Rattle.std.specs.Prelude.{◌≡◌, ◌≤◌, length, IfSome, IfErr, Some};
 ghost use Rattle.wt_expand.specs.Expansion.{page_work};
 ghost use Rattle.wt_expand.specs.Work.{Pages, names_asked};
 ghost use Rattle.wt_markup.specs.Html.{html_text};
 ghost use Rattle.wt_tree.specs.View.{view};
+ghost use Rattle.wt_transclusion.specs.Asked.{Asks};
 ghost use Rattle.wt_pagetool.specs.Answers.{html_within, made_of_tree, made, title_answer};
+ghost use Rattle.wt_pagetool.specs.Asked.{AsksNames, names_of, title_work};
 ghost use Rattle.wt_pagetool.specs.Causes.{Answered, IsOfPage, IsOfTitle, IsKept};
-ghost use Rattle.wt_pagetool.specs.Devices.{fetched_from, AnswersExpansion};
 
 use crate::command::PageCommand;
 use crate::fetch::fetched_page;
-use crate::limits::{HTML_BYTES, PAGE_BYTES};
 use crate::output::Output;
 use crate::page::{text_of_page, tree_of_text};
 use crate::refusal::Refusal;
@@ -18,6 +18,7 @@ use std::alloc::Global;
 use wt_html_out::{LengthRefusal, html_bytes_within};
 use wt_listing::listing;
 use wt_outer::Folder;
+use wt_span::{HTML_BYTES, PAGE_BYTES};
 use wt_tree::Annotated;
 
 /// The HTML of a page, if it is no longer than it may be. The writer stops at the longest HTML, so no
@@ -61,9 +62,11 @@ fn output_of_text<F: Folder>(
     ensures of_title { IfErr result (IsOfTitle (F.fault_count folder.old) (F.fault_count folder.new)) }
     ensures count { IsKept result (F.fault_count folder.old) (F.fault_count folder.new) }
     ensures kept { F.pages folder.new ≡ F.pages folder.old }
-    ensures named { (pages : Pages) → F.pages folder.old ≡ Some pages
-        → OnOk result (F.answered folder.new
-        ≡ option_map (λ names. names ++ names_asked (page_work pages page.now)) (F.answered folder.old)) }
+    ensures asks { Asks (F.answered folder.old) (F.answered folder.new) (F.most_asked folder.old)
+        (F.most_asked folder.new) }
+    ensures asked { (pages : Pages) → F.pages folder.old ≡ Some pages
+        → AsksNames (names_asked (page_work pages page.now)) (F.answered folder.old)
+        (F.answered folder.new) result }
 {
     let arena = Bump::new(alloc);
     let tree = tree_of_text(alloc, page, &arena, folder)?;
@@ -82,9 +85,11 @@ pub fn output_of_title<F: Folder>(
     ensures of_title { IfErr result (IsOfTitle (F.fault_count folder.old) (F.fault_count folder.new)) }
     ensures count { IsKept result (F.fault_count folder.old) (F.fault_count folder.new) }
     ensures kept { F.pages folder.new ≡ F.pages folder.old }
-    ensures named { IfSome (F.pages folder.old) (λ pages. IfSome (pages title.now)
-        (λ page. OnOk result (AnswersExpansion
-        (fetched_from F.Folder folder.old folder.new) pages title.now page))) }
+    ensures asks { Asks (F.answered folder.old) (F.answered folder.new) (F.most_asked folder.old)
+        (F.most_asked folder.new) }
+    ensures asked { IfSome (F.pages folder.old)
+        (λ pages. AsksNames (names_of title.now (title_work (pages title.now) (page_work pages)))
+        (F.answered folder.old) (F.answered folder.new) result) }
 {
     let page = fetched_page(alloc, title, folder)?;
     let text = text_of_page(page.as_slice())?;

@@ -1,6 +1,6 @@
 ghost use Rattle.std.specs.Prelude.{◌⊎◌};
 ghost use Rattle.wt_pagetool.specs.Devices.{written_to};
-ghost use Rattle.wt_pagetool.specs.Reports.{Gave, Told, Reported};
+ghost use Rattle.wt_pagetool.specs.Reports.{Gave, WroteLine, Reported};
 
 use crate::output::Output;
 use crate::refusal::{Refusal, line_of, no_memory_line, write_fault_line};
@@ -20,8 +20,10 @@ fn give<W: Sink, E: Sink>(bytes: &[u8], out: &mut W, err: &mut E) -> Status
     Status::WriteFault
 }
 
-fn tell_no_memory<E: Sink>(err: &mut E) -> Status
-    ensures { Told Refusal.NoMemory result (written_to E.Sink err.old err.new) }
+/// Writes the line of want of memory to `err`, also for a program that has no memory for its words. Tells
+/// how the call ends.
+pub fn tell_no_memory<E: Sink>(err: &mut E) -> Status
+    ensures { WroteLine Refusal.NoMemory result (written_to E.Sink err.old err.new) }
 {
     match write_all(err, no_memory_line()) {
         Ok(()) => Status::NoMemory,
@@ -31,8 +33,8 @@ fn tell_no_memory<E: Sink>(err: &mut E) -> Status
 
 /// Writes the line of a refusal to `err`, or that of want of memory where there is none for the line.
 fn refuse<E: Sink>(alloc: Global, refusal: Refusal, err: &mut E) -> Status
-    ensures { Told refusal result (written_to E.Sink err.old err.new)
-        ⊎ Told Refusal.NoMemory result (written_to E.Sink err.old err.new) }
+    ensures { WroteLine refusal result (written_to E.Sink err.old err.new)
+        ⊎ WroteLine Refusal.NoMemory result (written_to E.Sink err.old err.new) }
 {
     match line_of(alloc, &refusal) {
         Ok(line) => match write_all(err, line.as_bytes()) {

@@ -1,16 +1,18 @@
-ghost use Rattle.std.specs.Prelude.{◌≡◌, ◌≢◌, ◌⊎◌, ℕ, List, Some, IfSome, IfOk, IfErr, OnOk};
+ghost use Rattle.std.specs.Prelude.{◌≡◌, ◌≢◌, ◌⊎◌, ◌+◌, ℕ, List, Some, IfSome, IfErr, OnOk};
 ghost use Rattle.std.specs.Io.KnownBytes.{IsAtEnd};
 ghost use Rattle.wt_expand.specs.Work.{Pages};
-ghost use Rattle.wt_pagetool.specs.Answers.{done, html_answer, answer_told, status_of_answer, IsDone};
+ghost use Rattle.wt_transclusion.specs.Asked.{Asks, AsksAtMost};
+ghost use Rattle.wt_pagetool.specs.Answers.{done, html_answer, answer_told, status_of_answer, IsNoText};
+ghost use Rattle.wt_pagetool.specs.Asked.{followed_by, names_told, AnswersFirst, AsksNames};
 ghost use Rattle.wt_pagetool.specs.Calls.{call, IsDue, KeptCounts, NothingFailed};
-ghost use Rattle.wt_pagetool.specs.Causes.{Answered, IsKept, found_status};
-ghost use Rattle.wt_pagetool.specs.Devices.{read_from, fetched_from, written_to, AnswersFirst, AnswersNames, AnswersExpansion, AnswersEdit};
+ghost use Rattle.wt_pagetool.specs.Causes.{Answered, IsKept};
+ghost use Rattle.wt_pagetool.specs.Devices.{read_from, fetched_from, written_to};
 ghost use Rattle.wt_pagetool.specs.GivenBack.{GaveBack};
-ghost use Rattle.wt_pagetool.specs.Outputs.{output_bytes};
+ghost use Rattle.wt_pagetool.specs.Inputs.{GivesAtMost};
 ghost use Rattle.wt_pagetool.specs.Reports.{WasDone, WasRefused, OutFailed, ErrFailed};
 ghost use Rattle.wt_pagetool.specs.Reports.{WrotePage, WroteExpansion, WroteEdit, WroteCounts, WroteSource};
-ghost use Rattle.wt_pagetool.specs.Statuses.{code, IsAnswer, IsAnswered, IsUnanswered};
-ghost use Rattle.wt_pagetool.specs.Words.{command_of, titles_of, Fetches, Reads, Edits, Expands, Shows};
+ghost use Rattle.wt_pagetool.specs.Statuses.{code, IsDoneOrRefused, IsFaultOrNoMemory};
+ghost use Rattle.wt_pagetool.specs.Words.{command_of, Fetches, Reads};
 
 use crate::command::{Command, PageCommand, command_of};
 use crate::edit_command::edited_page;
@@ -21,13 +23,13 @@ use crate::page_command::output_of_title;
 use crate::refusal::Refusal;
 use crate::report::report;
 use crate::status::Status;
-use crate::wikitext_command::wikitext_of_input;
+use crate::wikitext_command::{PIECE, wikitext_of_input};
 use std::alloc::Global;
 use wt_outer::{Folder, Sink, Source};
-use wt_span::{List, Str};
+use wt_span::{HTML_BYTES, List, PAGE_BYTES, Str};
 
 /// What the words ask for, or why it isn't to be had.
-#[tactic(auto, using(crate::proofs::GenLaws::few_sections), unfolding(crate::specs::Answers::answer_told))]
+#[tactic(auto, using(crate::proofs::GenLaws::few_sections), unfolding(crate::specs::Answers::answer_told, crate::specs::Asked::names_told))]
 fn find_answer<S: Source, F: Folder>(
     alloc: Global,
     words: &List<Str>,
@@ -41,18 +43,13 @@ fn find_answer<S: Source, F: Folder>(
     ensures ended { Reads (command_of words.now) → OnOk result (IsAtEnd (S.left input.new)) }
     ensures input_kept { IsKept result (S.fault_count input.old) (S.fault_count input.new) }
     ensures folder_kept { IsKept result (F.fault_count folder.old) (F.fault_count folder.new) }
-    ensures asks { ¬ Expands (command_of words.now)
-        → AnswersFirst (fetched_from F.Folder folder.old folder.new) (titles_of (command_of words.now)) }
-    ensures asked { ¬ Expands (command_of words.now) → IsAnswer (found_status result)
-        → AnswersNames (fetched_from F.Folder folder.old folder.new) (titles_of (command_of words.now)) }
-    ensures named { (title : List ℕ) → Shows title (command_of words.now)
-        → IfSome (F.pages folder.old) (λ pages. IfSome (pages title)
-        (λ page. OnOk result (AnswersExpansion
-        (fetched_from F.Folder folder.old folder.new) pages title page))) }
-    ensures edited { (title : List ℕ) → Edits title (command_of words.now)
-        → IfSome (F.pages folder.old) (λ pages. IfSome (pages title) (λ page. IfOk result
-        (λ output. AnswersEdit (fetched_from F.Folder folder.old folder.new) pages title page
-        (output_bytes output)))) }
+    ensures asks { Asks (F.answered folder.old) (F.answered folder.new) (F.most_asked folder.old)
+        (F.most_asked folder.new) }
+    ensures asked { IfSome (names_told (F.pages folder.old) (S.left input.old) words.now)
+        (λ names. AsksNames names (F.answered folder.old) (F.answered folder.new) result) }
+    ensures takes { GivesAtMost (HTML_BYTES + PIECE) (S.left input.old) (S.left input.new) }
+    ensures waits { (title : List ℕ) → command_of words.now ≡ Some (Command.Edit title)
+        → IfSome (F.pages folder.old) (λ pages. IsNoText (pages title) → input.new ≡ input.old) }
     ensures kept { F.pages folder.new ≡ F.pages folder.old }
     ensures unread { ¬ Reads (command_of words.now) → input.new ≡ input.old }
     ensures unasked { ¬ Fetches (command_of words.now) → folder.new ≡ folder.old }
@@ -74,7 +71,7 @@ fn find_answer<S: Source, F: Folder>(
 ///
 /// `html TITLE` writes to `out` the HTML of the page that stands in `folder` under the title, with its
 /// templates expanded, whose pages stand in `folder`, too, and `ranges TITLE` a line for each of its nodes
-/// that has a number: `mwN KIND START END OPEN CLOSE`, in bytes. `expand TITLE` writes the text of the
+/// that has a number: `mwN KIND START END OPEN CLOSE`, in bytes. `expand TITLE` writes the items of the
 /// expanded page. `gen N` makes a page of N sections and its HTML, reads this back and writes what it
 /// counted. `wikitext` reads the HTML of `input` to its end and writes to `out` the source of the page
 /// for which it stands. `edit TITLE` reads the HTML of `input`, in which some elements of the page's HTML are
@@ -82,8 +79,10 @@ fn find_answer<S: Source, F: Folder>(
 /// written anew. Nothing goes to `out` before the whole answer is known, and each refusal has its one line
 /// on `err`.
 ///
-/// What is said of a device's pages or bytes holds where the device tells them (`IfSome`), as those in
-/// memory do; of its count of faults it always holds.
+/// A title stands here for its full name. What is said of a device's pages or bytes holds where the device
+/// tells them (`IfSome`), as those in memory do; the directory and the standard streams of the program tell
+/// nothing, and `run` is the same code over them. What is said of a device's count of faults always holds.
+/// How often a device is called is said by no clause.
 pub fn run<S: Source, F: Folder, W: Sink, E: Sink>(
     alloc: Global,
     words: &List<Str>,
@@ -92,21 +91,21 @@ pub fn run<S: Source, F: Folder, W: Sink, E: Sink>(
     out: &mut W,
     err: &mut E,
 ) -> u8
-    // A command over a page, when it is done, wrote the HTML of the tree of the expanded page, or the
-    // listing of this tree, whose ranges tile the page and are slices of it, but for what stands in groups;
-    // nothing refuses the expansion, and the folder answered the page's title and then the names of the
-    // pages that are fetched for it, each once, in the order of their first fetch.
+    // `html` or `ranges`, when it is done, wrote the HTML or the listing of the tree of the expanded page.
+    // The ranges tile the page from its first byte to its last; of each node, but for what stands in groups,
+    // the source stands at its range, with delimiters as wide as it says; the numbers are in preorder; and
+    // nothing refuses the expansion.
     ensures page { (command : PageCommand) → (title : List ℕ)
         → command_of words.now ≡ Some (Command.Page command title) → result ≡ code Status.Done
-        → IfSome (F.pages folder.old) (λ pages. WrotePage command pages title
-        (fetched_from F.Folder folder.old folder.new) (W.taken out.old) (W.taken out.new)) }
+        → IfSome (F.pages folder.old)
+        (λ pages. WrotePage command pages title (W.taken out.old) (W.taken out.new)) }
 
-    // `expand`, when it is done, wrote what the items of the expanded page show; nothing refuses the
-    // expansion, and the folder answered the names as before.
+    // `expand`, when it is done, wrote the items of the expanded page: a character by its bytes, an atom by
+    // its source, and nothing for a mark; and nothing refuses the expansion.
     ensures expansion { (title : List ℕ)
         → command_of words.now ≡ Some (Command.Expand title) → result ≡ code Status.Done
-        → IfSome (F.pages folder.old) (λ pages. WroteExpansion pages title
-        (fetched_from F.Folder folder.old folder.new) (W.taken out.old) (W.taken out.new)) }
+        → IfSome (F.pages folder.old)
+        (λ pages. WroteExpansion pages title (W.taken out.old) (W.taken out.new)) }
 
     // `wikitext`, when it is done, read the input to its end and wrote the source of the tree for which
     // all of it stands.
@@ -115,20 +114,18 @@ pub fn run<S: Source, F: Folder, W: Sink, E: Sink>(
         (λ bytes. WroteSource bytes (S.left input.new) (W.taken out.old) (W.taken out.new)) }
 
     // `edit`, when it is done, read the input to its end and wrote the new page: the page with the inside of
-    // each marked node, and nothing else, written anew; every byte outside these insides stands in the new
-    // page, in its order. The plain view of the new page's tree is that of the edited tree, in which a kept
-    // group is what the page's group of its number holds. The folder answered the page's title and then the
-    // names of the pages that are fetched for the page and for the new page, each once, in the order of their
-    // first fetch.
+    // each marked node, and nothing else, replaced by its spelling; every byte outside these insides stands
+    // in the new page, in its order. No check refuses the edited tree: nothing was changed that isn't
+    // marked. The plain view of the new page's tree is that of the edited tree, in which a kept group is
+    // what the page's group of its number holds.
     ensures edit { (title : List ℕ) → command_of words.now ≡ Some (Command.Edit title)
         → result ≡ code Status.Done
         → IfSome (F.pages folder.old) (λ pages. IfSome (S.left input.old)
-        (λ bytes. WroteEdit pages title bytes (fetched_from F.Folder folder.old folder.new)
-        (S.left input.new) (W.taken out.old) (W.taken out.new))) }
+        (λ bytes. WroteEdit pages title bytes (S.left input.new) (W.taken out.old) (W.taken out.new))) }
 
     // `gen`, when it is done, wrote the line of the page that is made with so many sections: how many bytes
     // it has, how many of its nodes have numbers, how many groups it has, and how many bytes come back from
-    // its HTML, which are all of its own.
+    // its HTML, which are as many as it has.
     ensures counted { (count : ℕ) → command_of words.now ≡ Some (Command.Gen count)
         → result ≡ code Status.Done
         → WroteCounts count (W.taken out.old) (W.taken out.new) }
@@ -140,17 +137,17 @@ pub fn run<S: Source, F: Folder, W: Sink, E: Sink>(
         (λ bytes. (pages : Pages) → (page : List ℕ) → html_answer pages (Some page) ≡ done bytes
         → GaveBack page result (W.taken out.old) (W.taken out.new)) }
 
-    // Where the input is the HTML that `html` answers for the page under the title, unchanged, `edit` wrote
+    // Where the input is, unchanged, the HTML that `html` answers for the page under the title, `edit` wrote
     // this very page; or a device failed, or memory ran out.
     ensures changes_nothing { (title : List ℕ) → command_of words.now ≡ Some (Command.Edit title)
         → IfSome (F.pages folder.old) (λ pages. IfSome (S.left input.old)
         (λ bytes. (page : List ℕ) → pages title ≡ Some page → html_answer pages (Some page) ≡ done bytes
         → GaveBack page result (W.taken out.old) (W.taken out.new))) }
 
-    // The call ends as the answer to the words over the folder's pages and the input does; or a device
-    // failed, or memory ran out.
+    // The call ends with the status of the answer to the words over the folder's pages and the input; or
+    // with that of a device's fault or of want of memory.
     ensures exact { IfSome (answer_told (F.pages folder.old) (S.left input.old) words.now)
-        (λ a. (result ≡ code (status_of_answer a)) ⊎ IsUnanswered result) }
+        (λ a. (result ≡ code (status_of_answer a)) ⊎ IsFaultOrNoMemory result) }
 
     // Done: `out` took the whole answer, and `err` nothing.
     ensures done { result ≡ code Status.Done → WasDone (call words.now
@@ -163,33 +160,47 @@ pub fn run<S: Source, F: Folder, W: Sink, E: Sink>(
         (read_from S.Source input.old input.new) (fetched_from F.Folder folder.old folder.new)
         (written_to W.Sink out.old out.new) (written_to E.Sink err.old err.new)) result }
 
-    // A write fault: `out` failed and took a front of the answer; or `err` failed in the line of a refusal
-    // that is due, and `out` took nothing.
+    // A write fault: `out` failed and took a prefix of the answer, and `err` the line of a write fault or a
+    // prefix of it; or `err` failed in the line of a refusal that is due, and `out` took nothing.
     ensures write_fault { result ≡ code Status.WriteFault → let c = call words.now
         (read_from S.Source input.old input.new) (fetched_from F.Folder folder.old folder.new)
         (written_to W.Sink out.old out.new) (written_to E.Sink err.old err.new) in OutFailed c ⊎ ErrFailed c }
 
-    // Where nothing refuses and no device failed, the call is done, but for want of memory.
-    ensures complete { IfSome (answer_told (F.pages folder.old) (S.left input.old) words.now)
-        (λ a. IsDone a → NothingFailed (call words.now
+    // Where no device failed, the call ends with the status of its answer, but for want of memory.
+    ensures complete { NothingFailed (call words.now
         (read_from S.Source input.old input.new) (fetched_from F.Folder folder.old folder.new)
         (written_to W.Sink out.old out.new) (written_to E.Sink err.old err.new))
-        → (result ≡ code Status.Done) ⊎ (result ≡ code Status.NoMemory)) }
+        → IfSome (answer_told (F.pages folder.old) (S.left input.old) words.now)
+        (λ a. (result ≡ code (status_of_answer a)) ⊎ (result ≡ code Status.NoMemory)) }
 
-    // A call that is answered changed no count of faults.
-    ensures kept { IsAnswered result → KeptCounts (call words.now
+    // A call that is done, or refused for its words, page, HTML or edit, changed no device's count of
+    // faults.
+    ensures kept { IsDoneOrRefused result → KeptCounts (call words.now
         (read_from S.Source input.old input.new) (fetched_from F.Folder folder.old folder.new)
         (written_to W.Sink out.old out.new) (written_to E.Sink err.old err.new)) }
 
-    // Of a command that expands nothing the folder answered the first of the titles that it needs, each
-    // once, and no other name; all of them in a call that is answered. It keeps its pages in any call.
-    ensures asks { ¬ Expands (command_of words.now)
-        → AnswersFirst (fetched_from F.Folder folder.old folder.new) (titles_of (command_of words.now)) }
-    ensures asked { ¬ Expands (command_of words.now) → IsAnswered result
-        → AnswersNames (fetched_from F.Folder folder.old folder.new) (titles_of (command_of words.now)) }
+    // The folder answered the first of the names that the command asks for, in their order and no others;
+    // all of them where the call is done. The first is that of the page, and then comes each that its
+    // expansion fetches (the page's own again, where a call names it), and with `edit` that of the new page,
+    // once, in the order of their first fetch.
+    ensures asks { IfSome (names_told (F.pages folder.old) (S.left input.old) words.now)
+        (λ names. AnswersFirst names (F.answered folder.old) (F.answered folder.new)) }
+    ensures asked { result ≡ code Status.Done
+        → IfSome (names_told (F.pages folder.old) (S.left input.old) words.now)
+        (λ names. F.answered folder.new ≡ followed_by (F.answered folder.old) names) }
+
+    // No page was asked for with more than one byte more than it may have, and no more of the input was read
+    // than the longest HTML and one piece. The folder keeps its pages in any call.
+    ensures most { AsksAtMost (PAGE_BYTES + 1) (F.most_asked folder.old) (F.most_asked folder.new) }
+    ensures takes { GivesAtMost (HTML_BYTES + PIECE) (S.left input.old) (S.left input.new) }
     ensures pages_kept { F.pages folder.new ≡ F.pages folder.old }
 
-    // A command that doesn't read leaves the input alone, and one that doesn't fetch the folder.
+    // `edit` leaves the input alone where no text stands under the title.
+    ensures waits { (title : List ℕ) → command_of words.now ≡ Some (Command.Edit title)
+        → IfSome (F.pages folder.old) (λ pages. IsNoText (pages title) → input.new ≡ input.old) }
+
+    // A command that doesn't read (`html`, `ranges`, `expand`, `gen`) leaves the input as it was, and one
+    // that doesn't fetch (`wikitext`, `gen`) the folder.
     ensures unread { ¬ Reads (command_of words.now) → input.new ≡ input.old }
     ensures unasked { ¬ Fetches (command_of words.now) → folder.new ≡ folder.old }
 {

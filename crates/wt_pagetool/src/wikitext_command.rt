@@ -1,24 +1,23 @@
-ghost use Rattle.std.specs.Prelude.{◌≡◌, ◌<◌, ◌≤◌, ℕ, List, [], length, IfSome, IfOk, IfErr, OnOk};
+ghost use Rattle.std.specs.Prelude.{◌≡◌, ◌<◌, ◌≤◌, ◌+◌, ℕ, List, [], length, IfSome, IfOk, IfErr, OnOk};
 ghost use Rattle.std.specs.Io.KnownBytes.{IsAtEnd};
 ghost use Rattle.wt_fitting.specs.Read.{page, read};
 ghost use Rattle.wt_html_in.specs.Answers.{body_of, unsourced_of};
 ghost use Rattle.wt_html_in.specs.Feeding.{IsFed, taken_of};
 ghost use Rattle.wt_pagetool.specs.Answers.{source_answer, wikitext_answer};
-ghost use Rattle.wt_pagetool.specs.Inputs.{FedWhole};
+ghost use Rattle.wt_pagetool.specs.Inputs.{FedWhole, GivesAtMost};
 ghost use Rattle.wt_pagetool.specs.Causes.{Answered, RefusesInput, IsOfHtml, IsOfInput, IsKept};
 
-use crate::limits::HTML_BYTES;
 use crate::output::Output;
 use crate::refusal::Refusal;
 use bumpalo::Bump;
 use std::alloc::Global;
 use wt_html_in::{Edited, Reader, unsourced};
 use wt_outer::Source;
-use wt_span::front_of;
+use wt_span::{HTML_BYTES, front_of};
 use wt_tree::flat;
 
-/// How many bytes are asked for at a time.
-const PIECE: usize = 65_536;
+/// How many bytes of an input are asked for at a time.
+pub const PIECE: usize = 65_536;
 
 /// Feeds the whole input, a piece that fits into `buffer` at a time. That the reader refuses a piece ends
 /// nothing: an input that is too long and a fault of the source come before.
@@ -28,7 +27,7 @@ fn feed_all<S: Source>(
     reader: &mut Reader<'_>,
 ) -> Result<(), Refusal>
     requires some { 0 < length buffer.old }
-    requires few { length buffer.old ≤ 65536 }
+    requires few { length buffer.old ≤ PIECE }
     requires fed { IsFed reader.old [] }
     requires count { taken_of reader.old ≡ 0 }
     ensures fed { OnOk result (FedWhole reader.new (S.left input.old) (S.left input.new)) }
@@ -36,6 +35,7 @@ fn feed_all<S: Source>(
         (λ r. IfSome (S.left input.old) (λ bytes. RefusesInput bytes r)) }
     ensures of_input { IfErr result (IsOfInput (S.fault_count input.old) (S.fault_count input.new)) }
     ensures kept { IsKept result (S.fault_count input.old) (S.fault_count input.new) }
+    ensures takes { GivesAtMost (HTML_BYTES + PIECE) (S.left input.old) (S.left input.new) }
 {
     let mut taken = 0;
     'pieces: loop {
@@ -64,6 +64,7 @@ pub fn read_all<'a, S: Source>(
         (λ r. IfSome (S.left input.old) (λ bytes. RefusesInput bytes r)) }
     ensures of_input { IfErr result (IsOfInput (S.fault_count input.old) (S.fault_count input.new)) }
     ensures kept { IsKept result (S.fault_count input.old) (S.fault_count input.new) }
+    ensures takes { GivesAtMost (HTML_BYTES + PIECE) (S.left input.old) (S.left input.new) }
 {
     let mut buffer = vec![in alloc; 0u8; PIECE]?;
     let mut reader = Reader::new(alloc, arena)?;
@@ -98,6 +99,7 @@ pub fn wikitext_of_input<S: Source>(alloc: Global, input: &mut S) -> Result<Outp
     ensures of_input { IfErr result (IsOfInput (S.fault_count input.old) (S.fault_count input.new)) }
     ensures ended { OnOk result (IsAtEnd (S.left input.new)) }
     ensures kept { IsKept result (S.fault_count input.old) (S.fault_count input.new) }
+    ensures takes { GivesAtMost (HTML_BYTES + PIECE) (S.left input.old) (S.left input.new) }
 {
     let arena = Bump::new(alloc);
     let reader = read_all(alloc, &arena, input)?;

@@ -1,3 +1,4 @@
+pub mod AskedLaws
 pub mod ChunkLaws
 pub mod Chunks
 pub mod Counts

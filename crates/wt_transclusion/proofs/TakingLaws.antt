@@ -1,6 +1,6 @@
 -- What titles give that aren't taken from a page.
-use Rattle.std.proofs.Common.{◌≡◌, ℕ, zero, suc, ◌+◌, ◌<◌, Bool, true, false, cond, Option, Some, None, List, [], ◌∷◌, ◌++◌, Ok, length, get_or, drop, refl, sym, ap, ◌∙◌, subst, arith}
-use Rattle.std.specs.Prelude.{reverse}
+use Rattle.std.proofs.Common.{◌≡◌, ℕ, zero, suc, ◌+◌, ◌<◌, Bool, true, false, cond, Option, Some, None, option_map, List, [], ◌∷◌, ◌++◌, Ok, Err, length, get_or, drop, refl, sym, ap, ◌∙◌, subst, arith}
+use Rattle.std.specs.Prelude.{Result, IsErr, reverse, if◌then◌else◌}
 use Rattle.std.specs.Str.{bytes_eq}
 use Rattle.std.proofs.lemmas.List.{drop_more, reverse-append}
 use Rattle.wt_span.specs.declared.form.Piece.{Piece}
@@ -13,9 +13,12 @@ use Rattle.wt_expand.proofs.Absent.{absent_page}
 use Rattle.wt_transclusion.specs.declared.read.ReadText.{ReadText}
 use Rattle.wt_transclusion.specs.declared.refusal.ExpandRefusal.{ExpandRefusal}
 use Rattle.wt_transclusion.specs.declared.store.Store.{Store}
+use Rattle.wt_transclusion.specs.declared.templates.Taken.{Taken}
 use Rattle.wt_transclusion.specs.Answers.{IsFetched, IsRefused}
-use Rattle.wt_transclusion.specs.Stores.{IsStore, AnswersTitle, met_with}
-use Rattle.wt_transclusion.specs.Takings.{taking_refusal}
+use Rattle.wt_transclusion.specs.Asked.{AreFirst}
+use Rattle.wt_transclusion.specs.Stores.{IsStore, AnswersTitle, met_with, named_with}
+use Rattle.wt_transclusion.specs.Takings.{IsNamed, names_taking, taking_refusal}
+use Rattle.wt_transclusion.proofs.AskedLaws.{first_all, first_some}
 
 -- ---- among names
 
@@ -76,39 +79,43 @@ depth_given pages (suc left) open_titles t frame e z = absurd (omega (arith, z))
 
 -- ---- what the code takes
 
-said : (ps : List Piece) (text is : List ℕ) → items ps ≡ chars text → text ≡ is → just (chars is) ≡ just (items ps)
-said ps text is e f = ap just (ap chars (sym f) ∙ sym e)
-
 among_open : (names : List (List ℕ)) (t : Title) (full : List ℕ) (b : Bool) → full ≡ full_name_of t → is_among full names ≡ b
     → is_among (full_name_of t) (reverse names) ≡ b
 among_open names t full b f e = among_reverse (full_name_of t) names ∙ ap (λ n. is_among n names) (sym f) ∙ e
 
-pub loop_taken : (pages : Pages) (left : ℕ) (names : List (List ℕ)) (t : Title) (full text : List ℕ) (ps : List Piece) → full ≡ full_name_of t
-    → is_among full names ≡ true
-    → items ps ≡ chars text → text ≡ loop_text t → (frame : Frame) → template_output pages left (reverse names) t frame ≡ just (items ps)
-loop_taken pages left names t full text ps f e i x = λ frame. loop_given pages left (reverse names) t frame (among_open names t full true f e)
-    ∙ said ps text (loop_text t) i x
+pub loop_taken : (pages : Pages) (left : ℕ) (names : List (List ℕ)) (t : Title) (full : List ℕ)
+    (ps : List Piece) → full ≡ full_name_of t
+    → is_among full names ≡ true → items ps ≡ chars (loop_text t) → (frame : Frame)
+    → template_output pages left (reverse names) t frame ≡ just (items ps)
+loop_taken pages left names t full ps f e i =
+    λ frame. loop_given pages left (reverse names) t frame (among_open names t full true f e)
+    ∙ ap just (sym i)
 
-pub depth_taken : (pages : Pages) (left : ℕ) (names : List (List ℕ)) (t : Title) (full text : List ℕ) (ps : List Piece) → full ≡ full_name_of t
+pub depth_taken : (pages : Pages) (left : ℕ) (names : List (List ℕ)) (t : Title) (full : List ℕ)
+    (ps : List Piece) → full ≡ full_name_of t
     → is_among full names ≡ false → left ≡ 0
-    → items ps ≡ chars text → text ≡ depth_text t → (frame : Frame) → template_output pages left (reverse names) t frame ≡ just (items ps)
-depth_taken pages left names t full text ps f e z i x = λ frame. depth_given pages left (reverse names) t frame (among_open names t full false f e) z
-    ∙ said ps text (depth_text t) i x
+    → items ps ≡ chars (depth_text t) → (frame : Frame)
+    → template_output pages left (reverse names) t frame ≡ just (items ps)
+depth_taken pages left names t full ps f e z i =
+    λ frame. depth_given pages left (reverse names) t frame (among_open names t full false f e) z
+    ∙ ap just (sym i)
 
 fetched_none : (full : List ℕ) (page : Option (List ℕ)) → IsFetched full page None → page ≡ None
 fetched_none full None h = refl
 fetched_none full (Some bytes) h = absurd h
 
-pub link_taken : (pages : Pages) (met names : List (List ℕ)) (left : ℕ) (t : Title) (full text : List ℕ) (ps : List Piece) (o : Option ReadText)
+pub link_taken : (pages : Pages) (met names : List (List ℕ)) (left : ℕ) (t : Title) (full : List ℕ)
+    (ps : List Piece) (o : Option ReadText)
     (new : Store) → full ≡ full_name_of t → is_among full names ≡ false
-    → (left ≡ 0 → ⊥) → o ≡ None → AnswersTitle pages met full new (Ok o) → items ps ≡ chars text → text ≡ absent_text full
+    → (left ≡ 0 → ⊥) → o ≡ None → AnswersTitle pages met full new (Ok o) → items ps ≡ chars (absent_text full)
     → ((frame : Frame) → template_output pages left (reverse names) t frame ≡ record { items = items ps; work = fetched (full_name_of t) ∷ [] }) × IsStore
     pages (met_with (full_name_of t) met) new
-link_taken pages met names zero t full text ps o new f e z n h i x = absurd (z refl)
-link_taken pages met names (suc left) t full text ps o new f e z n h i x =
+link_taken pages met names zero t full ps o new f e z n h i = absurd (z refl)
+link_taken pages met names (suc left) t full ps o new f e z n h i =
     let none = fetched_none full (pages full) (subst (λ r. IsFetched full (pages full) r) n h.0) in
     let gone : pages (full_name_of t) ≡ None = ap pages (sym f) ∙ none in
-    let same : chars (absent_text (full_name_of t)) ≡ items ps = ap (λ k. chars (absent_text k)) (sym f) ∙ ap chars (sym x) ∙ sym i in (
+    let same : chars (absent_text (full_name_of t)) ≡ items ps = ap (λ k. chars (absent_text k)) (sym f)
+    ∙ sym i in (
       λ frame. absent_page pages left (reverse names) t frame (among_open names t full false f e) gone
           ∙ ap (λ xs. let r : Output = record { items = xs; work = fetched (full_name_of t) ∷ [] } in r) same,
       subst (λ k. IsStore pages (met_with k met) new) f h.1,
@@ -135,3 +142,36 @@ refused_taken pages names zero t full x f e z h = absurd (z refl)
 refused_taken pages names (suc left) t full x f e z h =
     subst (λ (b : Bool). IsRefused (taking_refusal (suc left) b (found_refusal (full_name_of t) (pages (full_name_of t)))) x)
     (sym (among_open names t full false f e)) (subst (λ (k : List ℕ). IsRefused (found_refusal k (pages k)) x) f h)
+
+-- ---- names answered
+
+-- a title whose page is asked for
+pub taking_named : (left : ℕ) (names : List (List ℕ)) (t : Title) (full : List ℕ) (met : List (List ℕ))
+    (old : Option (List (List ℕ)))
+    → full ≡ full_name_of t → is_among full names ≡ false → (left ≡ 0 → ⊥)
+    → named_with full met old
+    ≡ names_taking left (is_among (full_name_of t) (reverse names)) (full_name_of t) met old
+taking_named zero names t full met old f e z = absurd (z refl)
+taking_named (suc left) names t full met old f e z =
+    ap (λ n. named_with n met old) f
+    ∙ ap (λ b. names_taking (suc left) b (full_name_of t) met old) (sym (among_open names t full false f e))
+
+-- a folder that wasn't asked
+pub taking_unnamed : (left : ℕ) (b : Bool) (full : List ℕ) (met : List (List ℕ))
+    (old : Option (List (List ℕ)))
+    → AreFirst old (names_taking left b full met old)
+taking_unnamed zero b full met old = first_all old
+taking_unnamed (suc left) true full met old = first_all old
+taking_unnamed (suc left) false full met old = with_name (is_among full met)
+  where
+    with_name : (t : Bool) → AreFirst old (if t then old else option_map (λ names. names ++ full ∷ []) old)
+    with_name true = first_all old
+    with_name false = first_some old (full ∷ [])
+
+pub refused_named : (left : ℕ) (open_titles : List (List ℕ)) (full : List ℕ) (met : List (List ℕ))
+    (old new : Option (List (List ℕ)))
+    (x : Result Taken ExpandRefusal) → IsErr x
+    → AreFirst new (names_taking left (is_among full open_titles) full met old)
+    → IsNamed left open_titles full met old new x
+refused_named left open_titles full met old new (Ok k) e h = absurd (let z : false ≡ true = e in cc)
+refused_named left open_titles full met old new (Err x) e h = h

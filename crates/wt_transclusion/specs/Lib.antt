@@ -1,4 +1,5 @@
 pub mod Answers
+pub mod Asked
 pub mod Cursors
 pub mod Ends
 pub mod Frames

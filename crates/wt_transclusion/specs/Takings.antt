@@ -10,6 +10,7 @@ use Rattle.wt_transclusion.specs.declared.store.Store.{Store}
 use Rattle.wt_transclusion.specs.declared.templates.Taken.{Taken}
 use Rattle.wt_transclusion.specs.declared.templates.Taken.TheVariants as taken
 use Rattle.wt_transclusion.specs.Answers.{IsFetched, IsRefused}
+use Rattle.wt_transclusion.specs.Asked.{AreFirst}
 use Rattle.wt_transclusion.specs.Stores.{IsStore, met_with, named_with}
 
 -- what refuses the page of a title, where so many more may be expanded and it is among those that are: nothing where it isn't asked for
@@ -32,9 +33,19 @@ AnswersTaking pages met open_titles left t new (Ok (taken.Page read)) =
 AnswersTaking pages met open_titles left t new (Err e) =
     IsRefused (taking_refusal left (is_among (full_name_of t) open_titles) (found_refusal (full_name_of t) (pages (full_name_of t)))) e
 
--- what the folder has answered since: nothing for a message, else this name, if it wasn't known
-abbrev pub IsNamed : List ℕ → List (List ℕ) → Option (List (List ℕ)) → Option (List (List ℕ)) → Result Taken ExpandRefusal → Type 0
-IsNamed full met old new (Ok (taken.Message ps)) = new ≡ old
-IsNamed full met old new (Ok (taken.Link ps)) = new ≡ named_with full met old
-IsNamed full met old new (Ok (taken.Page read)) = new ≡ named_with full met old
-IsNamed full met old new (Err e) = Unit {0}
+-- the names answered where a title is taken, where so many more may be expanded and it is among those that
+-- are, or isn't: with its name, if its page is asked for and wasn't known
+abbrev pub names_taking : ℕ → Bool → List ℕ → List (List ℕ) → Option (List (List ℕ)) → Option (List (List ℕ))
+names_taking zero open_already name met answered = answered
+names_taking (suc left) true name met answered = answered
+names_taking (suc left) false name met answered = named_with name met answered
+
+-- What the folder has answered since: nothing for a message, else this name, if it wasn't known. Where the
+-- title's page is refused, the same or, from a folder that gave no answer, nothing.
+abbrev pub IsNamed : ℕ → List (List ℕ) → List ℕ → List (List ℕ) → Option (List (List ℕ))
+    → Option (List (List ℕ)) → Result Taken ExpandRefusal → Type 0
+IsNamed left open_titles full met old new (Ok (taken.Message ps)) = new ≡ old
+IsNamed left open_titles full met old new (Ok (taken.Link ps)) = new ≡ named_with full met old
+IsNamed left open_titles full met old new (Ok (taken.Page read)) = new ≡ named_with full met old
+IsNamed left open_titles full met old new (Err e) =
+    AreFirst new (names_taking left (is_among full open_titles) full met old)

@@ -5,10 +5,8 @@ ghost use Rattle.wt_transclusion.specs.declared.refusal.ExpandRefusal.TheVariant
 ghost use Rattle.wt_expand.specs.Work.{most_cost};
 
 use crate::refusal::ExpandRefusal;
+use wt_expand::MOST_COST;
 use wt_span::Piece;
-
-/// The most that an expansion may cost.
-const MOST_COST: u64 = 8_388_608;
 
 /// How many bytes pieces have.
 pub fn byte_count(pieces: &[Piece<'_>]) -> u64

@@ -3,6 +3,7 @@ ghost use Rattle.std.specs.Prelude.{◌≡◌, ◌∷◌, ◌++◌, [], ℕ, Lis
 ghost use Rattle.std.specs.HashMap.{get_by_text};
 ghost use Rattle.wt_expand.specs.Work.{Pages};
 ghost use Rattle.wt_transclusion.specs.Answers.{AnswersTemplate, AnswersFetch, IsCounted, IsFetched};
+ghost use Rattle.wt_transclusion.specs.Asked.{AnswersNames, Asks};
 ghost use Rattle.wt_transclusion.specs.Stores.{IsStore, AnswersTitle, Concerns, Grows, Keeps, named_with};
 
 use crate::only::template_text;
@@ -13,11 +14,8 @@ use std::alloc::Global;
 use std::collections::HashMap;
 use wt_braces::BraceRefusal;
 use wt_outer::{FetchRefusal, Fetched, Folder};
-use wt_span::{Mode, NoMemory, Str};
+use wt_span::{Mode, NoMemory, PAGE_BYTES, Str};
 use wt_utf8::read_text;
-
-/// The most bytes of a page.
-const MOST_BYTES: usize = 2_097_152;
 
 /// The page of a title as a template's: what is taken of it, read.
 fn read_template<'a>(
@@ -28,7 +26,7 @@ fn read_template<'a>(
 ) -> Result<ReadText<'a>, ExpandRefusal>
     ensures { AnswersTemplate title.now bytes.now result }
 {
-    if bytes.len() > MOST_BYTES {
+    if bytes.len() > PAGE_BYTES {
         return Err(ExpandRefusal::TemplateTooLong {
             title: Str::copy_of(alloc, title)?,
         });
@@ -70,10 +68,12 @@ fn fetch_template<'a, F: Folder>(
     ensures page { (pages : Pages) → F.pages folder.old ≡ Some pages → AnswersFetch title.now (pages title.now) result }
     ensures read { IfOk result (λ found. (page : Option (List ℕ)) × IsFetched title.now page found) }
     ensures kept { F.pages folder.new ≡ F.pages folder.old }
-    ensures named { OnOk result (F.answered folder.new ≡ option_map (λ names. names ++ title.now ∷ []) (F.answered folder.old)) }
+    ensures asks { Asks (F.answered folder.old) (F.answered folder.new) (F.most_asked folder.old) (F.most_asked folder.new) }
+    ensures named { AnswersNames (option_map (λ names. names ++ title.now ∷ []) (F.answered folder.old))
+        (F.answered folder.new) result }
     ensures count { IsCounted (F.fault_count folder.old) (F.fault_count folder.new) result }
 {
-    match folder.fetch(alloc, title, MOST_BYTES as u32 + 1) {
+    match folder.fetch(alloc, title, PAGE_BYTES as u32 + 1) {
         Ok(Fetched::Found(bytes)) => match read_template(alloc, arena, title, bytes.as_slice()) {
             Ok(read) => Ok(Some(read)),
             Err(refusal) => Err(refusal),
@@ -133,8 +133,9 @@ impl<'a> Store<'a> {
             → IsStore pages met self.old → AnswersTitle pages met full.now self.new result }
         ensures grown { OnOk result (Grows (F.pages folder.old) self.old self.new) }
         ensures kept { F.pages folder.new ≡ F.pages folder.old }
+        ensures asks { Asks (F.answered folder.old) (F.answered folder.new) (F.most_asked folder.old) (F.most_asked folder.new) }
         ensures named { (pages : Pages) (met : List (List ℕ)) → IsStore pages met self.old
-            → OnOk result (F.answered folder.new ≡ named_with full.now met (F.answered folder.old)) }
+            → AnswersNames (named_with full.now met (F.answered folder.old)) (F.answered folder.new) result }
         ensures count { IsCounted (F.fault_count folder.old) (F.fault_count folder.new) result }
     {
         if let Some(found) = self.known(full) {

@@ -3,8 +3,9 @@ ghost use Rattle.std.specs.Prelude.{◌≡◌, List, ℕ, Some, IfOk, OnOk, reve
 ghost use Rattle.wt_names.specs.Namespace.{full_name_of};
 ghost use Rattle.wt_span.specs.Items.{items};
 ghost use Rattle.wt_expand.specs.Work.{Pages, is_among};
-ghost use Rattle.wt_expand.specs.Expansion.{chars};
+ghost use Rattle.wt_expand.specs.Expansion.{absent_text, chars, depth_text, loop_text};
 ghost use Rattle.wt_transclusion.specs.Answers.{IsCounted};
+ghost use Rattle.wt_transclusion.specs.Asked.{Asks};
 ghost use Rattle.wt_transclusion.specs.Stores.{IsStore, Concerns, Grows};
 ghost use Rattle.wt_transclusion.specs.Takings.{AnswersTaking, IsNamed};
 
@@ -47,6 +48,42 @@ fn message<'a>(
     Ok(pieces)
 }
 
+/// The message that stands for a page that is being expanded already.
+fn loop_message<'a>(
+    alloc: Global,
+    arena: &'a Bump<Global>,
+    title: &Title,
+) -> Result<List<Piece<'a>>, NoMemory>
+    ensures { IfOk result (λ ps. items ps ≡ chars (loop_text title.now)) }
+{
+    let text = loop_text(alloc, title)?;
+    message(alloc, arena, text.as_str())
+}
+
+/// The message that stands for a page where no more may be expanded one inside another.
+fn depth_message<'a>(
+    alloc: Global,
+    arena: &'a Bump<Global>,
+    title: &Title,
+) -> Result<List<Piece<'a>>, NoMemory>
+    ensures { IfOk result (λ ps. items ps ≡ chars (depth_text title.now)) }
+{
+    let text = depth_text(alloc, title)?;
+    message(alloc, arena, text.as_str())
+}
+
+/// The link that stands for an absent page of this full name.
+fn absent_link<'a>(
+    alloc: Global,
+    arena: &'a Bump<Global>,
+    full: &str,
+) -> Result<List<Piece<'a>>, NoMemory>
+    ensures { IfOk result (λ ps. items ps ≡ chars (absent_text full.now)) }
+{
+    let text = absent_text(alloc, full)?;
+    message(alloc, arena, text.as_str())
+}
+
 /// Whether a full name is among those of the pages that are being expanded.
 fn is_open(names: &[Str], full: &str) -> bool
     ensures { result ≡ is_among full.now names.now }
@@ -74,25 +111,22 @@ pub fn take<'a, F: Folder>(
         → IsStore pages met store.old → AnswersTaking pages met (reverse names.now) left title.now store.new result }
     ensures grown { OnOk result (Grows (F.pages folder.old) store.old store.new) }
     ensures kept { F.pages folder.new ≡ F.pages folder.old }
+    ensures asks { Asks (F.answered folder.old) (F.answered folder.new) (F.most_asked folder.old) (F.most_asked folder.new) }
     ensures named { (pages : Pages) (met : List (List ℕ)) → IsStore pages met store.old
-        → IsNamed (full_name_of title.now) met (F.answered folder.old) (F.answered folder.new) result }
+        → IsNamed left (reverse names.now) (full_name_of title.now) met (F.answered folder.old)
+        (F.answered folder.new) result }
     ensures count { IsCounted (F.fault_count folder.old) (F.fault_count folder.new) result }
 {
     let full = full_name(alloc, title)?;
     if is_open(names, full.as_str()) {
-        let text = loop_text(alloc, title)?;
-        return Ok(Taken::Message(message(alloc, arena, text.as_str())?));
+        return Ok(Taken::Message(loop_message(alloc, arena, title)?));
     }
     if left == 0 {
-        let text = depth_text(alloc, title)?;
-        return Ok(Taken::Message(message(alloc, arena, text.as_str())?));
+        return Ok(Taken::Message(depth_message(alloc, arena, title)?));
     }
     match store.template(alloc, arena, folder, full.as_str()) {
         Ok(Some(read)) => Ok(Taken::Page(read)),
-        Ok(None) => {
-            let text = absent_text(alloc, full.as_str())?;
-            Ok(Taken::Link(message(alloc, arena, text.as_str())?))
-        }
+        Ok(None) => Ok(Taken::Link(absent_link(alloc, arena, full.as_str())?)),
         Err(refusal) => Err(refusal),
     }
 }

@@ -9,7 +9,7 @@ use std::io::ErrorKind;
 use std::process::ExitCode;
 use std::rt::Env;
 use wt_outer::{DirFolder, StdSink, StdSource};
-use wt_pagetool::{Status, run};
+use wt_pagetool::{run, tell_no_memory};
 use wt_span::{List, NoMemory, Str};
 
 /// The words after the program's name, or no words where one of them isn't UTF-8.
@@ -32,13 +32,13 @@ fn words_of(rt: &(impl Env + AllocGlobal)) -> Result<List<Str>, NoMemory> {
 }
 
 fn main(rt: HostRuntime) -> ExitCode {
+    let mut err = StdSink::new(rt.stderr());
     let Ok(words) = words_of(&rt) else {
-        return ExitCode::from(Status::NoMemory.code());
+        return ExitCode::from(tell_no_memory(&mut err).code());
     };
     let mut input = StdSource::new(rt.stdin());
     let mut folder = DirFolder::new(&rt, "pages");
     let mut out = StdSink::new(rt.stdout());
-    let mut err = StdSink::new(rt.stderr());
     ExitCode::from(run(
         rt.alloc(),
         &words,

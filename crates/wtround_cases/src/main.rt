@@ -21,6 +21,7 @@ use std::alloc::Global;
 use std::io;
 use std::io::{BufRead, BufReader, BufWriter, Write};
 use std::process::ExitCode;
+use wt_pagetool::Status;
 
 /// The answer to a line, which may end with its line break.
 fn answer_to(alloc: Global, line: &[u8]) -> Result<String, CaseRefusal> {
@@ -56,6 +57,6 @@ fn answer_all(rt: &HostRuntime) -> io::Result<()> {
 fn main(rt: HostRuntime) -> ExitCode {
     match answer_all(&rt) {
         Ok(()) => ExitCode::SUCCESS,
-        Err(_) => ExitCode::from(7),
+        Err(_) => ExitCode::from(Status::WriteFault.code()),
     }
 }

@@ -9,7 +9,8 @@ use Rattle.wt_transclusion.specs.Answers.{IsRefused}
 use Rattle.wt_transclusion.proofs.GrowthLaws.{agrees_known, has_known}
 use Rattle.wt_levels.specs.declared.expansion.Expansion.{Expansion}
 use Rattle.wt_expansion.proofs.PageWalk.{page_members, page_stands}
-use Rattle.wt_expansion.proofs.KnownLaws.{found_refused, free_by_agreeing, free_still, page_is_found}
+use Rattle.wt_expansion.proofs.KnownLaws.{found_refused, found_stops, free_by_agreeing, free_still, page_is_found, unread_stops}
+use Rattle.wt_expansion.proofs.Refusals.{on_err}
 use Rattle.wt_expansion.proofs.page.expand_knowing.Goals as goal
 
 pub returns-in_err-text-clause-refused : goal.returns-in_err-text-clause-refused
@@ -31,7 +32,28 @@ returns-in_err-stretch-clause-refused g c = λ pages met told h.
     let refused = c.in_err-stretch.ensures.given pages bytes met 0 true (page_members bytes) told free
     (c.start.ensures mode.Page bytes c.in_ok-text.ensures.read) (page_stands bytes) in
     subst (λ y. IfErr y (IsRefused (first_refusal pages bytes (page_work pages bytes)))) (sym e)
-    (found_refused pages bytes met walk.expansion.spent answered c.in_err-stretch.field-0.0 c.in_ok-text.ensures.fits spent refused)
+    (found_refused pages bytes met walk.expansion.spent answered
+    (g.F.Folder.answered c.stretch.new.folder) c.in_err-stretch.field-0.0
+    c.in_ok-text.ensures.fits spent refused)
+
+pub returns-in_err-text-clause-stops : goal.returns-in_err-text-clause-stops
+returns-in_err-text-clause-stops g c = λ pages met rest told h.
+    let answered = g.F.Folder.answered c.args.folder.now in
+    on_err c.from_residual.result (unread_stops pages c.args.page.now met answered rest)
+
+pub returns-in_err-stretch-clause-stops : goal.returns-in_err-stretch-clause-stops
+returns-in_err-stretch-clause-stops g c = λ pages met rest told h.
+    let bytes = c.args.page.now in
+    let walk = c.new-walk.result in
+    let answered = g.F.Folder.answered c.args.folder.now in
+    let store = ap (λ (y : Expansion). y.store) c.new-walk.ensures.expansion in
+    let names = ap (λ (y : Expansion). y.names) c.new-walk.ensures.expansion in
+    let free = free_still pages met c.args.expansion walk.expansion store names h in
+    let refused = c.in_err-stretch.ensures.given pages bytes met 0 true (page_members bytes) told free
+    (c.start.ensures mode.Page bytes c.in_ok-text.ensures.read) (page_stands bytes) in
+    on_err c.from_residual-in_err-stretch.result
+    (found_stops pages bytes met walk.expansion.spent answered
+    (g.F.Folder.answered c.stretch.new.folder) c.in_err-stretch.field-0.0 rest refused)
 
 pub new-items-requires : goal.new-items-requires
 new-items-requires g c =

@@ -1,15 +1,15 @@
-use Rattle.std.proofs.Common.{◌≡◌, Err, List, Ok, [], ap, rules, subst, sym, ◌∙◌, ℕ}
+use Rattle.std.proofs.Common.{◌≡◌, ◌++◌, Err, Ok, [], ap, option_map, rules, subst, sym, ◌∙◌}
 use Rattle.std.specs.Prelude.{IfErr}
-use Rattle.wt_span.specs.declared.form.Mode.TheVariants as text_mode
 use Rattle.wt_span.specs.Items.{items}
-use Rattle.wt_expand.specs.Expansion.{page_work, text_given}
+use Rattle.wt_expand.specs.Expansion.{page_work}
 use Rattle.wt_expand.specs.Texts.{shown_text}
-use Rattle.wt_expand.specs.Work.{first_refusal}
+use Rattle.wt_expand.specs.Work.{first_refusal, names_asked}
 use Rattle.wt_expand.proofs.Given.{shows_what_is_given}
 use Rattle.wt_transclusion.specs.Answers.{IsRefused}
+use Rattle.wt_transclusion.specs.Asked.{AreFirst}
+use Rattle.wt_transclusion.proofs.AskedLaws.{asks_none, first_is, first_some}
 use Rattle.wt_transclusion.proofs.GrowthLaws.{agrees_known}
-use Rattle.wt_levels.specs.Ledgers.{AnswersOutput, ledger, reading_of}
-use Rattle.wt_levels.proofs.PageLaws.{page_refused, page_shown}
+use Rattle.wt_levels.proofs.PageLaws.{begun_at_first, on_refusal, page_refused, page_shown, page_stops}
 use Rattle.wt_levels.proofs.page.expanded_text.Goals as goal
 
 pub returns-in_err-read-clause-refused : goal.returns-in_err-read-clause-refused
@@ -18,21 +18,61 @@ returns-in_err-read-clause-refused g c = λ pages told.
     let e : c.from_residual.result ≡ Err c.in_err-read.field-0.0 = search rules in
     subst (λ x. IfErr x (IsRefused (first_refusal pages bytes (page_work pages bytes)))) (sym e) (c.in_err-read.ensures.refused pages)
 
+pub returns-in_err-read-clause-stops : goal.returns-in_err-read-clause-stops
+returns-in_err-read-clause-stops g c = λ pages told.
+    let answered = g.F.Folder.answered c.args.folder.now in
+    let asked = names_asked (page_work pages c.args.page.now) in
+    on_refusal c.from_residual.result (AreFirst answered (option_map (λ names. names ++ asked) answered))
+    (first_some answered asked)
+
 pub returns-in_err-pieces-clause-refused : goal.returns-in_err-pieces-clause-refused
 returns-in_err-pieces-clause-refused g c = λ pages told.
     let bytes = c.args.page.now in
     let new = c.new-expansion.result in
+    let e : c.from_residual-in_err-pieces.result ≡ Err c.in_err-pieces.field-0.0 = search rules in
+    let given = begun_at_first pages bytes (g.F.Folder.answered c.args.folder.now)
+    (g.F.Folder.answered c.text.new.folder) new.spent c.text.new.self.spent
+    new.names c.text.new.self.store (Err c.in_err-pieces.field-0.0) c.new-expansion.ensures.spent
+    c.new-expansion.ensures.names
+    (c.in_err-pieces.ensures.given pages bytes bytes [] [] told (c.new-expansion.ensures.store pages)
+    c.new-values.ensures c.in_ok-read.ensures.read) in
+    subst (λ x. IfErr x (IsRefused (first_refusal pages bytes (page_work pages bytes)))) (sym e)
+    (page_refused pages bytes c.in_err-pieces.field-0.0 c.in_ok-read.ensures.fits (λ rest. (given rest).0))
+
+pub returns-in_err-pieces-clause-stops : goal.returns-in_err-pieces-clause-stops
+returns-in_err-pieces-clause-stops g c = λ pages told.
+    let bytes = c.args.page.now in
+    let new = c.new-expansion.result in
     let answered = g.F.Folder.answered c.args.folder.now in
     let told_now = g.F.Folder.answered c.text.new.folder in
-    let e : c.from_residual-in_err-pieces.result ≡ Err c.in_err-pieces.field-0.0 = search rules in
-    let given = c.in_err-pieces.ensures.given pages bytes bytes [] [] told
-    (c.new-expansion.ensures.store pages) c.new-values.ensures c.in_ok-read.ensures.read in
-    let spent = subst (λ (n : ℕ). AnswersOutput pages bytes (ledger n [] answered) (text_given (reading_of pages text_mode.Page [] 40 new.names) bytes)
-    c.text.new.self.store c.text.new.self.spent told_now (Err c.in_err-pieces.field-0.0)) c.new-expansion.ensures.spent given in
-    let free = subst (λ (ns : List (List ℕ)). AnswersOutput pages bytes (ledger 0 [] answered) (text_given (reading_of pages text_mode.Page [] 40 ns) bytes)
-    c.text.new.self.store c.text.new.self.spent told_now (Err c.in_err-pieces.field-0.0)) c.new-expansion.ensures.names spent in
-    subst (λ x. IfErr x (IsRefused (first_refusal pages bytes (page_work pages bytes)))) (sym e)
-    (page_refused pages bytes c.in_err-pieces.field-0.0 c.in_ok-read.ensures.fits free)
+    let given = begun_at_first pages bytes answered told_now new.spent c.text.new.self.spent
+    new.names c.text.new.self.store (Err c.in_err-pieces.field-0.0) c.new-expansion.ensures.spent
+    c.new-expansion.ensures.names
+    (c.in_err-pieces.ensures.given pages bytes bytes [] [] told (c.new-expansion.ensures.store pages)
+    c.new-values.ensures c.in_ok-read.ensures.read) in
+    on_refusal c.from_residual-in_err-pieces.result
+    (AreFirst told_now (option_map (λ names. names ++ names_asked (page_work pages bytes)) answered))
+    (page_stops pages bytes answered told_now (λ rest. (given rest).1))
+
+pub returns-in_err-text-clause-stops : goal.returns-in_err-text-clause-stops
+returns-in_err-text-clause-stops g c = λ pages told.
+    let bytes = c.args.page.now in
+    let new = c.new-expansion.result in
+    let answered = g.F.Folder.answered c.args.folder.now in
+    let told_now = g.F.Folder.answered c.text.new.folder in
+    let ps = c.in_ok-pieces.pieces in
+    let agrees = c.in_ok-pieces.ensures.grown.agrees pages told
+    (agrees_known pages [] new.store (c.new-expansion.ensures.store pages)) in
+    let given = begun_at_first pages bytes answered told_now new.spent c.text.new.self.spent new.names
+    c.text.new.self.store (Ok ps)
+    c.new-expansion.ensures.spent c.new-expansion.ensures.names
+    (c.in_ok-pieces.ensures.given pages bytes bytes [] [] agrees (c.new-expansion.ensures.store pages)
+    c.new-values.ensures c.in_ok-read.ensures.read) in
+    let shows = page_shown pages bytes answered told_now c.text.new.self.store c.text.new.self.spent ps
+    c.in_ok-read.ensures.fits given in
+    let all = option_map (λ names. names ++ names_asked (page_work pages bytes)) answered in
+    on_refusal c.from_residual-in_err-text.result (AreFirst told_now all)
+    (first_is told_now all shows.worked.named)
 
 pub returns-clause-text : goal.returns-clause-text
 returns-clause-text g c = λ pages told.
@@ -42,13 +82,13 @@ returns-clause-text g c = λ pages told.
     let told_now = g.F.Folder.answered c.text.new.folder in
     let ps = c.in_ok-pieces.pieces in
     let agrees = c.in_ok-pieces.ensures.grown.agrees pages told (agrees_known pages [] new.store (c.new-expansion.ensures.store pages)) in
-    let given = c.in_ok-pieces.ensures.given pages bytes bytes [] [] agrees
-    (c.new-expansion.ensures.store pages) c.new-values.ensures c.in_ok-read.ensures.read in
-    let spent = subst (λ (n : ℕ). AnswersOutput pages bytes (ledger n [] answered) (text_given (reading_of pages text_mode.Page [] 40 new.names) bytes)
-    c.text.new.self.store c.text.new.self.spent told_now (Ok ps)) c.new-expansion.ensures.spent given in
-    let free = subst (λ (ns : List (List ℕ)). AnswersOutput pages bytes (ledger 0 [] answered) (text_given (reading_of pages text_mode.Page [] 40 ns) bytes)
-    c.text.new.self.store c.text.new.self.spent told_now (Ok ps)) c.new-expansion.ensures.names spent in
-    let shows = page_shown pages bytes answered told_now c.text.new.self.store c.text.new.self.spent ps c.in_ok-read.ensures.fits free in
+    let given = begun_at_first pages bytes answered told_now new.spent c.text.new.self.spent new.names
+    c.text.new.self.store (Ok ps)
+    c.new-expansion.ensures.spent c.new-expansion.ensures.names
+    (c.in_ok-pieces.ensures.given pages bytes bytes [] [] agrees (c.new-expansion.ensures.store pages)
+    c.new-values.ensures c.in_ok-read.ensures.read) in
+    let shows = page_shown pages bytes answered told_now c.text.new.self.store c.text.new.self.spent ps
+    c.in_ok-read.ensures.fits given in
     c.in_ok-text.ensures ∙ ap (λ qs. shown_text (items qs)) c.as_slice.ensures ∙ ap shown_text shows.items_are ∙ sym (shows_what_is_given pages bytes)
 
 pub returns-clause-whole : goal.returns-clause-whole
@@ -59,13 +99,13 @@ returns-clause-whole g c = λ pages told.
     let told_now = g.F.Folder.answered c.text.new.folder in
     let ps = c.in_ok-pieces.pieces in
     let agrees = c.in_ok-pieces.ensures.grown.agrees pages told (agrees_known pages [] new.store (c.new-expansion.ensures.store pages)) in
-    let given = c.in_ok-pieces.ensures.given pages bytes bytes [] [] agrees
-    (c.new-expansion.ensures.store pages) c.new-values.ensures c.in_ok-read.ensures.read in
-    let spent = subst (λ (n : ℕ). AnswersOutput pages bytes (ledger n [] answered) (text_given (reading_of pages text_mode.Page [] 40 new.names) bytes)
-    c.text.new.self.store c.text.new.self.spent told_now (Ok ps)) c.new-expansion.ensures.spent given in
-    let free = subst (λ (ns : List (List ℕ)). AnswersOutput pages bytes (ledger 0 [] answered) (text_given (reading_of pages text_mode.Page [] 40 ns) bytes)
-    c.text.new.self.store c.text.new.self.spent told_now (Ok ps)) c.new-expansion.ensures.names spent in
-    let shows = page_shown pages bytes answered told_now c.text.new.self.store c.text.new.self.spent ps c.in_ok-read.ensures.fits free in
+    let given = begun_at_first pages bytes answered told_now new.spent c.text.new.self.spent new.names
+    c.text.new.self.store (Ok ps)
+    c.new-expansion.ensures.spent c.new-expansion.ensures.names
+    (c.in_ok-pieces.ensures.given pages bytes bytes [] [] agrees (c.new-expansion.ensures.store pages)
+    c.new-values.ensures c.in_ok-read.ensures.read) in
+    let shows = page_shown pages bytes answered told_now c.text.new.self.store c.text.new.self.spent ps
+    c.in_ok-read.ensures.fits given in
     shows.worked.allowed
 
 pub returns-clause-named : goal.returns-clause-named
@@ -76,11 +116,15 @@ returns-clause-named g c = λ pages told.
     let told_now = g.F.Folder.answered c.text.new.folder in
     let ps = c.in_ok-pieces.pieces in
     let agrees = c.in_ok-pieces.ensures.grown.agrees pages told (agrees_known pages [] new.store (c.new-expansion.ensures.store pages)) in
-    let given = c.in_ok-pieces.ensures.given pages bytes bytes [] [] agrees
-    (c.new-expansion.ensures.store pages) c.new-values.ensures c.in_ok-read.ensures.read in
-    let spent = subst (λ (n : ℕ). AnswersOutput pages bytes (ledger n [] answered) (text_given (reading_of pages text_mode.Page [] 40 new.names) bytes)
-    c.text.new.self.store c.text.new.self.spent told_now (Ok ps)) c.new-expansion.ensures.spent given in
-    let free = subst (λ (ns : List (List ℕ)). AnswersOutput pages bytes (ledger 0 [] answered) (text_given (reading_of pages text_mode.Page [] 40 ns) bytes)
-    c.text.new.self.store c.text.new.self.spent told_now (Ok ps)) c.new-expansion.ensures.names spent in
-    let shows = page_shown pages bytes answered told_now c.text.new.self.store c.text.new.self.spent ps c.in_ok-read.ensures.fits free in
+    let given = begun_at_first pages bytes answered told_now new.spent c.text.new.self.spent new.names
+    c.text.new.self.store (Ok ps)
+    c.new-expansion.ensures.spent c.new-expansion.ensures.names
+    (c.in_ok-pieces.ensures.given pages bytes bytes [] [] agrees (c.new-expansion.ensures.store pages)
+    c.new-values.ensures c.in_ok-read.ensures.read) in
+    let shows = page_shown pages bytes answered told_now c.text.new.self.store c.text.new.self.spent ps
+    c.in_ok-read.ensures.fits given in
     shows.worked.named
+
+pub returns-in_err-read-clause-asks : goal.returns-in_err-read-clause-asks
+returns-in_err-read-clause-asks g c =
+    asks_none (g.F.Folder.answered c.args.folder.now) (g.F.Folder.most_asked c.args.folder.now)

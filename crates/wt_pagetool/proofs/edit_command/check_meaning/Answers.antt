@@ -1,7 +1,10 @@
-use Rattle.std.proofs.Common.{ap, ◌∙◌}
+use Rattle.std.proofs.Common.{[], ap, ◌∙◌, refl}
 use Rattle.wt_tree.specs.View.{view}
 use Rattle.wt_pagetool.specs.Answers.{unspelled_by}
-use Rattle.wt_pagetool.proofs.EditLaws.{asked_new, meant, new_refused}
+use Rattle.wt_expand.specs.Expansion.{page_work}
+use Rattle.wt_expand.specs.Work.{fetches, firsts_after}
+use Rattle.wt_pagetool.proofs.AskedLaws.{all_first, named_all, named_none, new_asked, new_stopped}
+use Rattle.wt_pagetool.proofs.EditLaws.{meant, new_refused}
 use Rattle.wt_pagetool.proofs.edit_command.check_meaning.Goals as goal
 
 pub returns-in-Some-clause-refused : goal.returns-in-Some-clause-refused
@@ -18,10 +21,39 @@ returns-in-None-clause-meant g c = λ pages met told free.
     (c.in-Ok.ensures.tree pages met told free) c.in_ok-child-in-Ok.ensures
     ∙ ap (unspelled_by c.args.new_page.now) c.in-None.is
 
-pub returns-in-None-clause-named : goal.returns-in-None-clause-named
-returns-in-None-clause-named g c = λ pages met told free.
-    asked_new pages met c.args.new_page.now c.in_ok-text.text.now c.in-Ok.found.expansion (g.F.Folder.answered c.args.folder.now)
-    (g.F.Folder.answered c.known_page.new.folder) c.in_ok-text.ensures.text (c.in-Ok.ensures.named pages met told free)
+pub returns-in_err-text-clause-asked : goal.returns-in_err-text-clause-asked
+returns-in_err-text-clause-asked g c = λ pages met told free.
+    let before = g.F.Folder.answered c.args.folder.now in
+    named_none (firsts_after met (fetches (page_work pages c.args.new_page.now))) before before c.from_residual.result _
+    c.from_residual.ensures.1 refl
+
+pub returns-in_err-child-in-Ok-clause-asked : goal.returns-in_err-child-in-Ok-clause-asked
+returns-in_err-child-in-Ok-clause-asked g c = λ pages met told free.
+    let d = g.F.Folder in
+    named_all (firsts_after met (fetches (page_work pages c.args.new_page.now))) (d.answered c.args.folder.now)
+    (d.answered c.known_page.new.folder) c.from_residual-in_err-child-in-Ok.result
+    (new_asked met pages c.in_ok-text.text.now c.args.new_page.now c.in-Ok.found.expansion (d.answered c.args.folder.now)
+    (d.answered c.known_page.new.folder) c.in_ok-text.ensures.text (c.in-Ok.ensures.named pages met told free))
+
+pub returns-in-Some-clause-asked : goal.returns-in-Some-clause-asked
+returns-in-Some-clause-asked g c = λ pages met told free.
+    let d = g.F.Folder in
+    all_first (firsts_after met (fetches (page_work pages c.args.new_page.now))) (d.answered c.args.folder.now)
+    (d.answered c.known_page.new.folder)
+    (new_asked met pages c.in_ok-text.text.now c.args.new_page.now c.in-Ok.found.expansion (d.answered c.args.folder.now)
+    (d.answered c.known_page.new.folder) c.in_ok-text.ensures.text (c.in-Ok.ensures.named pages met told free))
+
+pub returns-in-None-clause-asked : goal.returns-in-None-clause-asked
+returns-in-None-clause-asked g c = λ pages met told free.
+    let d = g.F.Folder in
+    new_asked met pages c.in_ok-text.text.now c.args.new_page.now c.in-Ok.found.expansion (d.answered c.args.folder.now)
+    (d.answered c.known_page.new.folder) c.in_ok-text.ensures.text (c.in-Ok.ensures.named pages met told free)
+
+pub returns-in-Err-clause-asked : goal.returns-in-Err-clause-asked
+returns-in-Err-clause-asked g c = λ pages met told free.
+    let d = g.F.Folder in
+    new_stopped met pages c.in_ok-text.text.now c.args.new_page.now (d.answered c.args.folder.now) (d.answered c.known_page.new.folder)
+    c.in_ok-text.ensures.text (c.in-Err.ensures.stops pages met [] told free)
 
 pub returns-in-Err-clause-refused : goal.returns-in-Err-clause-refused
 returns-in-Err-clause-refused g c = λ pages met told free.

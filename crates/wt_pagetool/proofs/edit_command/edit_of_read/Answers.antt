@@ -1,5 +1,10 @@
+use Rattle.std.proofs.Common.{refl}
 use Rattle.wt_tree.specs.View.{view}
 use Rattle.wt_pagetool.proofs.EditLaws.{edited_read, unread_from}
+use Rattle.wt_fitting.specs.Read.{read}
+use Rattle.wt_expand.specs.Work.{names_asked}
+use Rattle.wt_pagetool.specs.Asked.{edited_work}
+use Rattle.wt_pagetool.proofs.AskedLaws.{named_none, read_names}
 use Rattle.wt_pagetool.proofs.edit_command.edit_of_read.Goals as goal
 
 pub returns-in_err-edited-clause-answered : goal.returns-in_err-edited-clause-answered
@@ -11,3 +16,16 @@ pub returns-clause-answered : goal.returns-clause-answered
 returns-clause-answered g c = λ pages bytes told fed.
     edited_read pages c.args.page.now c.in_ok-edited.edited (view c.body.result.now) bytes c.edit_to.result
     (c.in_ok-edited.ensures.answers bytes fed) c.body.ensures (c.edit_to.ensures.answered pages told)
+
+pub returns-in_err-edited-clause-asked : goal.returns-in_err-edited-clause-asked
+returns-in_err-edited-clause-asked g c = λ pages bytes told fed.
+    let before = g.F.Folder.answered c.args.folder.now in
+    named_none (names_asked (edited_work pages c.args.page.now (read bytes))) before before c.from_residual.result _
+    c.from_residual.ensures.1 refl
+
+pub returns-clause-asked : goal.returns-clause-asked
+returns-clause-asked g c = λ pages bytes told fed.
+    let d = g.F.Folder in
+    read_names pages c.args.page.now c.in_ok-edited.edited (view c.body.result.now) bytes (d.answered c.args.folder.now)
+    (d.answered c.edit_to.new.folder) c.edit_to.result (c.in_ok-edited.ensures.answers bytes fed) c.body.ensures
+    (c.edit_to.ensures.asked pages told)

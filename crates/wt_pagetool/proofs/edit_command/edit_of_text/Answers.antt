@@ -1,5 +1,8 @@
+use Rattle.std.proofs.Common.{refl}
 use Rattle.wt_pagetool.specs.Answers.{edited_answer}
 use Rattle.wt_pagetool.proofs.WikitextLaws.{answered_whole}
+use Rattle.wt_pagetool.specs.Asked.{edited_work}
+use Rattle.wt_pagetool.proofs.AskedLaws.{input_names, input_none}
 use Rattle.wt_pagetool.proofs.edit_command.edit_of_text.Goals as goal
 
 pub returns-clause-answered : goal.returns-clause-answered
@@ -7,3 +10,16 @@ returns-clause-answered g c = λ pages told.
     answered_whole (edited_answer pages c.args.page.now) c.in_ok-reader.reader (g.S.Source.left c.args.input.now)
     (g.S.Source.left c.read_all.new.input) c.edit_of_read.result c.in_ok-reader.ensures.fed
     (λ bytes fed. c.edit_of_read.ensures.answered pages bytes told fed)
+
+pub returns-in_err-reader-clause-asked : goal.returns-in_err-reader-clause-asked
+returns-in_err-reader-clause-asked g c = λ pages told.
+    let before = g.F.Folder.answered c.args.folder.now in
+    input_none (edited_work pages c.args.page.now) (g.S.Source.left c.args.input.now) before before c.from_residual.result _
+    c.from_residual.ensures.1 refl
+
+pub returns-clause-asked : goal.returns-clause-asked
+returns-clause-asked g c = λ pages told.
+    let d = g.F.Folder in
+    input_names (edited_work pages c.args.page.now) c.in_ok-reader.reader (g.S.Source.left c.args.input.now)
+    (g.S.Source.left c.read_all.new.input) (d.answered c.args.folder.now) (d.answered c.edit_of_read.new.folder) c.edit_of_read.result
+    c.in_ok-reader.ensures.fed (λ bytes fed. c.edit_of_read.ensures.asked pages bytes told fed)

@@ -1,10 +1,16 @@
-use Rattle.std.proofs.Common.{ap, ◌∙◌, []}
+use Rattle.std.proofs.Common.{ap, ◌∙◌, [], ◌++◌, subst}
 use Rattle.wt_tree.specs.Tree.{label}
 use Rattle.wt_tree.specs.View.{view}
 use Rattle.wt_expansion.proofs.KnownLaws.{free_at_first, holds_at_first}
-use Rattle.wt_pagetool.proofs.EditLaws.{asked_both, edit_expanded}
+use Rattle.wt_pagetool.proofs.EditLaws.{edit_expanded}
 use Rattle.wt_pagetool.proofs.EditedLaws.{edit_unexpanded}
 use Rattle.wt_pagetool.proofs.ShownLaws.{page_body}
+use Rattle.wt_expand.specs.Expansion.{page_work}
+use Rattle.wt_expand.specs.Work.{fetches, firsts_after}
+use Rattle.wt_pagetool.specs.Answers.{answer_of_edit}
+use Rattle.wt_pagetool.specs.Asked.{new_work, AsksNames}
+use Rattle.wt_transclusion.proofs.AskedLaws.{asks_then}
+use Rattle.wt_pagetool.proofs.AskedLaws.{edit_is, new_names, stopped_names}
 use Rattle.wt_pagetool.proofs.edit_command.edit_to.Goals as goal
 
 pub known_page-requires-clause-known : goal.known_page-requires-clause-known
@@ -31,11 +37,33 @@ returns-clause-answered g c = λ pages told.
     (c.in_ok-found.ensures.tree pages [] told free)
     (c.new_page.ensures.answered pages more.known (c.in_ok-found.ensures.kept ∙ told) more.free)
 
-pub returns-clause-named : goal.returns-clause-named
-returns-clause-named g c = λ pages told.
+pub returns-in_err-found-clause-asked : goal.returns-in_err-found-clause-asked
+returns-in_err-found-clause-asked g c = λ pages told.
     let d = g.F.Folder in
     let free = free_at_first pages c.new-expansion.result c.new-expansion.ensures.store c.new-expansion.ensures.names in
+    let rest = new_work pages (answer_of_edit pages c.args.page.now (view c.args.edited.now)) in
+    stopped_names (page_work pages c.args.page.now ++ rest) (d.answered c.args.folder.now) (d.answered c.known_page.new.folder)
+    c.from_residual.result _ c.from_residual.ensures.1 (c.in_err-found.ensures.stops pages [] rest told free)
+
+pub returns-clause-asked : goal.returns-clause-asked
+returns-clause-asked g c = λ pages told.
+    let d = g.F.Folder in
+    let free = free_at_first pages c.new-expansion.result c.new-expansion.ensures.store c.new-expansion.ensures.names in
+    let found = c.in_ok-found.found in
     let more = c.in_ok-found.ensures.named pages [] told free in
-    asked_both pages c.args.page.now c.in_ok-found.found.expansion (d.answered c.args.folder.now) (d.answered c.known_page.new.folder)
-    (d.answered c.new_page.new.folder) c.new_page.result more
-    (c.new_page.ensures.named pages more.known (c.in_ok-found.ensures.kept ∙ told) more.free)
+    let page = c.args.page.now in
+    let edited = view c.args.edited.now in
+    let after = d.answered c.new_page.new.folder in
+    new_names pages (page_work pages page) (new_work pages (answer_of_edit pages page edited)) found.expansion (d.answered c.args.folder.now)
+    (d.answered c.known_page.new.folder) after c.new_page.result more
+    (subst (λ es. AsksNames (firsts_after more.known (fetches es)) (d.answered c.known_page.new.folder) after c.new_page.result)
+    (edit_is pages page found.annotated.items (view found.annotated.tree.body) edited (c.in_ok-found.ensures.items pages [] told free)
+    (c.in_ok-found.ensures.tree pages [] told free))
+    (c.new_page.ensures.asked pages more.known (c.in_ok-found.ensures.kept ∙ told) more.free))
+
+pub returns-clause-asks : goal.returns-clause-asks
+returns-clause-asks g c =
+    let d = g.F.Folder in
+    asks_then (d.answered c.args.folder.now) (d.answered c.known_page.new.folder) (d.answered c.new_page.new.folder)
+    (d.most_asked c.args.folder.now) (d.most_asked c.known_page.new.folder) (d.most_asked c.new_page.new.folder)
+    c.in_ok-found.ensures.asks c.new_page.ensures.asks

@@ -1,7 +1,8 @@
-use Rattle.std.proofs.Common.{◌∙◌, subst}
+use Rattle.std.proofs.Common.{◌∙◌, refl, subst}
 use Rattle.wt_pagetool.specs.Answers.{IsText}
-use Rattle.wt_pagetool.specs.Devices.{fetched_from}
-use Rattle.wt_pagetool.proofs.EditLaws.{edit_named, edited_title}
+use Rattle.wt_transclusion.proofs.AskedLaws.{asks_then}
+use Rattle.wt_pagetool.proofs.AskedLaws.{edit_names_under, edit_title_alone, edit_title_first, reads_text, waits}
+use Rattle.wt_pagetool.proofs.EditLaws.{edited_title}
 use Rattle.wt_pagetool.proofs.edit_command.edited_page.Goals as goal
 
 pub returns-clause-answered : goal.returns-clause-answered
@@ -10,13 +11,43 @@ returns-clause-answered g c =
     edited_title (d.pages c.args.folder.now) (g.S.Source.left c.args.input.now) c.args.title.now c.in_ok-page.page c.in_ok-text.text.now
     c.edit_of_text.result c.in_ok-page.ensures.page (subst IsText c.as_slice.ensures c.in_ok-text.ensures.answered)
     (c.in_ok-text.ensures.text ∙ c.as_slice.ensures)
-    (λ pages told. c.edit_of_text.ensures.answered pages ((c.in_ok-page.ensures.asked tt).pages ∙ told))
+    (λ pages told. c.edit_of_text.ensures.answered pages (c.in_ok-page.ensures.pages_kept ∙ told))
 
-pub returns-clause-named : goal.returns-clause-named
-returns-clause-named g c =
+pub returns-in_err-page-clause-asked : goal.returns-in_err-page-clause-asked
+returns-in_err-page-clause-asked g c =
     let d = g.F.Folder in
-    edit_named (fetched_from d c.args.folder.now c.edit_of_text.new.folder) (d.pages c.fetched_page.new.folder)
-    (d.answered c.fetched_page.new.folder) c.args.title.now c.in_ok-page.page c.in_ok-text.text.now c.edit_of_text.result
+    edit_title_first (d.pages c.args.folder.now) (g.S.Source.left c.args.input.now) c.args.title.now (d.answered c.args.folder.now)
+    (d.answered c.fetched_page.new.folder) c.from_residual.result _ c.from_residual.ensures.1 c.in_err-page.ensures.asked
+
+pub returns-in_err-text-clause-asked : goal.returns-in_err-text-clause-asked
+returns-in_err-text-clause-asked g c =
+    let d = g.F.Folder in
+    edit_title_alone (d.pages c.args.folder.now) (g.S.Source.left c.args.input.now) c.args.title.now (d.answered c.args.folder.now)
+    (d.answered c.fetched_page.new.folder) c.from_residual-in_err-text.result _ c.from_residual-in_err-text.ensures.1
+    c.in_ok-page.ensures.asked
+
+pub returns-clause-asked : goal.returns-clause-asked
+returns-clause-asked g c =
+    let d = g.F.Folder in
+    edit_names_under (d.pages c.args.folder.now) (g.S.Source.left c.args.input.now) c.args.title.now c.in_ok-page.page c.in_ok-text.text.now
+    (d.answered c.args.folder.now) (d.answered c.fetched_page.new.folder) (d.answered c.edit_of_text.new.folder) c.edit_of_text.result
     c.in_ok-page.ensures.page (subst IsText c.as_slice.ensures c.in_ok-text.ensures.answered) (c.in_ok-text.ensures.text ∙ c.as_slice.ensures)
-    (c.in_ok-page.ensures.asked tt).answered
-    (c.in_ok-page.ensures.asked tt).pages c.edit_of_text.ensures.kept c.edit_of_text.ensures.named
+    c.in_ok-page.ensures.asked (λ pages told. c.edit_of_text.ensures.asked pages (c.in_ok-page.ensures.pages_kept ∙ told))
+
+pub returns-in_err-page-clause-waits : goal.returns-in_err-page-clause-waits
+returns-in_err-page-clause-waits g c = waits (g.F.Folder.pages c.args.folder.now) c.args.title.now refl
+
+pub returns-in_err-text-clause-waits : goal.returns-in_err-text-clause-waits
+returns-in_err-text-clause-waits g c = waits (g.F.Folder.pages c.args.folder.now) c.args.title.now refl
+
+pub returns-clause-waits : goal.returns-clause-waits
+returns-clause-waits g c =
+    reads_text _ (g.F.Folder.pages c.args.folder.now) c.args.title.now c.in_ok-page.page c.in_ok-page.ensures.page
+    (subst IsText c.as_slice.ensures c.in_ok-text.ensures.answered)
+
+pub returns-clause-asks : goal.returns-clause-asks
+returns-clause-asks g c =
+    let d = g.F.Folder in
+    asks_then (d.answered c.args.folder.now) (d.answered c.fetched_page.new.folder) (d.answered c.edit_of_text.new.folder)
+    (d.most_asked c.args.folder.now) (d.most_asked c.fetched_page.new.folder) (d.most_asked c.edit_of_text.new.folder)
+    c.in_ok-page.ensures.asks c.edit_of_text.ensures.asks

@@ -1,15 +1,16 @@
-use Rattle.std.proofs.Common.{◌≡◌, ◌++◌, option_map, ap, ◌∙◌, refl, rules, subst, sym}
+use Rattle.std.proofs.Common.{◌≡◌, ap, ◌∙◌, refl, rules, subst, sym}
 use Rattle.std.specs.Prelude.{IsErrAnd, Ok, Err}
 use Rattle.wt_span.specs.Origins.{Expanded}
 use Rattle.wt_tree.specs.Tree.{Tree, label}
 use Rattle.wt_tree.specs.View.{view}
-use Rattle.wt_expand.specs.Expansion.{page_work}
 use Rattle.wt_expand.specs.Work.{fetches, firsts_after}
 use Rattle.wt_selser.specs.Edits.{edit_answer, AnswersEdit}
 use Rattle.wt_shown.specs.SameNodes.{same_node}
 use Rattle.wt_shown.proofs.SameTells.{tells_same}
 use Rattle.wt_pagetool.specs.Answers.{done, new_answer}
+use Rattle.wt_pagetool.specs.Asked.{new_work}
 use Rattle.wt_pagetool.specs.Causes.{Refuses}
+use Rattle.wt_pagetool.proofs.AskedLaws.{made_all, made_first, named_none}
 use Rattle.wt_pagetool.proofs.EditLaws.{edit_refused_from, new_page_is, new_page_refused}
 use Rattle.wt_pagetool.proofs.edit_command.new_page.Goals as goal
 
@@ -66,9 +67,49 @@ returns-clause-answered g c = λ pages met told free.
     (c.in_ok-changed.ensures same_node tells_same))) (c.as_bytes.ensures.value ∙ c.in_ok-text.ensures ∙ c.as_str.ensures)
     (subst (λ (x : Tree). new_answer pages x edited bytes ≡ done bytes) is_tree (c.in_ok-check_meaning.ensures.meant pages met told free))
 
-pub returns-clause-named : goal.returns-clause-named
-returns-clause-named g c = λ pages met told free.
+pub returns-in_err-changed-clause-asked : goal.returns-in_err-changed-clause-asked
+returns-in_err-changed-clause-asked g c = λ pages met told free.
     let before = g.F.Folder.answered c.args.folder.now in
-    c.in_ok-check_meaning.ensures.named pages met told free
-    ∙ ap (λ bs. option_map (λ ns. ns ++ firsts_after met (fetches (page_work pages bs))) before)
-    (c.as_bytes.ensures.value ∙ c.in_ok-text.ensures ∙ c.as_str.ensures)
+    named_none (firsts_after met (fetches (new_work pages (edit_answer same_node c.args.annotated.now.items c.args.page.now
+    (view c.args.annotated.now.tree.body) (view c.args.edited.now))))) before before c.from_residual.result _ c.from_residual.ensures.1 refl
+
+pub returns-in_err-text-clause-asked : goal.returns-in_err-text-clause-asked
+returns-in_err-text-clause-asked g c = λ pages met told free.
+    let before = g.F.Folder.answered c.args.folder.now in
+    named_none (firsts_after met (fetches (new_work pages (edit_answer same_node c.args.annotated.now.items c.args.page.now
+    (view c.args.annotated.now.tree.body) (view c.args.edited.now))))) before before c.from_residual-in_err-text.result _ c.from_residual-in_err-text.ensures.1 refl
+
+pub returns-in_err-check_meaning-clause-asked : goal.returns-in_err-check_meaning-clause-asked
+returns-in_err-check_meaning-clause-asked g c = λ pages met told free.
+    let d = g.F.Folder in
+    let page = c.args.page.now in
+    let edited = view c.args.edited.now in
+    let items = c.args.annotated.now.items in
+    let t = view c.args.annotated.now.tree.body in
+    let is_tree : view c.body-tree.result.now ≡ t = ap view c.body-tree.ensures.body in
+    let new = c.in_ok-changed.changed in
+    let answer : edit_answer same_node items page t edited ≡ Ok new =
+    subst (λ (x : Tree). AnswersEdit (edit_answer same_node items page x edited) (Ok new)) is_tree
+    (subst (λ (x : Expanded). AnswersEdit (edit_answer same_node x page (view c.body-tree.result.now) edited) (Ok new)) c.items.ensures
+    (c.in_ok-changed.ensures same_node tells_same)) in
+    made_first met pages (edit_answer same_node items page t edited) new c.as_bytes.result.now (d.answered c.args.folder.now)
+    (d.answered c.check_meaning.new.folder) c.from_residual-in_err-check_meaning.result _ answer
+    (c.as_bytes.ensures.value ∙ c.in_ok-text.ensures ∙ c.as_str.ensures) c.from_residual-in_err-check_meaning.ensures.1
+    (c.in_err-check_meaning.ensures.asked pages met told free)
+
+pub returns-clause-asked : goal.returns-clause-asked
+returns-clause-asked g c = λ pages met told free.
+    let d = g.F.Folder in
+    let page = c.args.page.now in
+    let edited = view c.args.edited.now in
+    let items = c.args.annotated.now.items in
+    let t = view c.args.annotated.now.tree.body in
+    let is_tree : view c.body-tree.result.now ≡ t = ap view c.body-tree.ensures.body in
+    let new = c.in_ok-changed.changed in
+    let answer : edit_answer same_node items page t edited ≡ Ok new =
+    subst (λ (x : Tree). AnswersEdit (edit_answer same_node items page x edited) (Ok new)) is_tree
+    (subst (λ (x : Expanded). AnswersEdit (edit_answer same_node x page (view c.body-tree.result.now) edited) (Ok new)) c.items.ensures
+    (c.in_ok-changed.ensures same_node tells_same)) in
+    made_all met pages (edit_answer same_node items page t edited) new c.as_bytes.result.now (d.answered c.args.folder.now)
+    (d.answered c.check_meaning.new.folder) answer
+    (c.as_bytes.ensures.value ∙ c.in_ok-text.ensures ∙ c.as_str.ensures) (c.in_ok-check_meaning.ensures.asked pages met told free)

@@ -1,4 +1,7 @@
 use Rattle.wt_tree.specs.View.{view}
+use Rattle.wt_expand.specs.Expansion.{page_work}
+use Rattle.wt_expand.specs.Work.{names_asked}
+use Rattle.wt_pagetool.proofs.AskedLaws.{named_all, named_first}
 use Rattle.wt_pagetool.proofs.ExpandLaws.{page_small, tree_expanded}
 use Rattle.wt_pagetool.proofs.page.annotated_of_text.Goals as goal
 
@@ -7,9 +10,21 @@ annotated_of_items-requires g c =
     let s = c.in_ok-items.ensures.some in
     page_small s.0 c.args.page.now c.in_ok-items.items c.utf8.page c.requires.room s.2 s.1
 
+pub returns-in_err-items-clause-asked : goal.returns-in_err-items-clause-asked
+returns-in_err-items-clause-asked g c = λ pages told.
+    let d = g.F.Folder in
+    named_first (names_asked (page_work pages c.args.page.now)) (d.answered c.args.folder.now) (d.answered c.expand.new.folder)
+    c.from_residual.result _ c.from_residual.ensures.1 (c.in_err-items.ensures.stops pages told)
+
+pub returns-in_err-tree-clause-asked : goal.returns-in_err-tree-clause-asked
+returns-in_err-tree-clause-asked g c = λ pages told.
+    let d = g.F.Folder in
+    named_all (names_asked (page_work pages c.args.page.now)) (d.answered c.args.folder.now) (d.answered c.expand.new.folder)
+    c.from_residual-in_err-tree.result (c.in_ok-items.ensures.named pages told)
+
 pub returns-clause-tree : goal.returns-clause-tree
 returns-clause-tree g c = λ pages told.
     tree_expanded pages c.args.page.now (view c.in_ok-tree.tree.tree.body) c.in_ok-items.items c.in_ok-tree.ensures.tree (c.in_ok-items.ensures.items pages told)
 
-pub returns-clause-named : goal.returns-clause-named
-returns-clause-named g c = λ pages told. c.in_ok-items.ensures.named pages told
+pub returns-clause-asked : goal.returns-clause-asked
+returns-clause-asked g c = λ pages told. c.in_ok-items.ensures.named pages told

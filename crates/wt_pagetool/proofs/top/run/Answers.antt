@@ -1,9 +1,8 @@
-use Rattle.std.proofs.Common.{refl, sym, subst}
-use Rattle.wt_pagetool.proofs.RunLaws.{run_page, run_wikitext, run_exact, run_done, run_refused, run_fault, run_complete, run_kept, run_found, run_expansion, run_counts, run_edit}
+use Rattle.wt_pagetool.proofs.RunLaws.{run_page, run_wikitext, run_exact, run_done, run_refused, run_fault, run_complete, run_kept, run_asks, run_asked, run_expansion, run_counts, run_edit}
 use Rattle.wt_pagetool.proofs.GivenBackLaws.{run_gives_back}
 use Rattle.wt_pagetool.proofs.UnchangedLaws.{run_changes_nothing}
 use Rattle.wt_pagetool.specs.Answers.{answer_told}
-use Rattle.wt_pagetool.specs.Words.{Edits, Shows}
+use Rattle.wt_pagetool.specs.Asked.{names_told}
 use Rattle.wt_pagetool.specs.Devices.{read_from, fetched_from, written_to}
 use Rattle.wt_pagetool.proofs.top.run.Goals as goal
 
@@ -13,8 +12,7 @@ returns-clause-page g c command title is e =
     (fetched_from g.F.Folder c.args.folder.now c.find_answer-found.new.folder)
     (written_to g.W.Sink c.args.out.now c.report.new.out) (written_to g.E.Sink c.args.err.now c.report.new.err)
     c.find_answer-found.result c.report.result c.code.result c.code.ensures c.find_answer-found.ensures.answered
-    c.find_answer-found.ensures.due c.report.ensures command title is
-    (c.find_answer-found.ensures.named title (subst (Shows title) (sym is) refl)) e
+    c.find_answer-found.ensures.due c.report.ensures command title is e
 
 pub returns-clause-expansion : goal.returns-clause-expansion
 returns-clause-expansion g c title is e =
@@ -22,7 +20,7 @@ returns-clause-expansion g c title is e =
     (fetched_from g.F.Folder c.args.folder.now c.find_answer-found.new.folder)
     (written_to g.W.Sink c.args.out.now c.report.new.out) (written_to g.E.Sink c.args.err.now c.report.new.err)
     c.find_answer-found.result c.report.result c.code.result c.code.ensures c.find_answer-found.ensures.answered
-    c.find_answer-found.ensures.due c.report.ensures title is (c.find_answer-found.ensures.named title (subst (Shows title) (sym is) refl)) e
+    c.find_answer-found.ensures.due c.report.ensures title is e
 
 pub returns-clause-wikitext : goal.returns-clause-wikitext
 returns-clause-wikitext g c is e =
@@ -38,8 +36,7 @@ returns-clause-edit g c title is e =
     (fetched_from g.F.Folder c.args.folder.now c.find_answer-found.new.folder)
     (written_to g.W.Sink c.args.out.now c.report.new.out) (written_to g.E.Sink c.args.err.now c.report.new.err)
     c.find_answer-found.result c.report.result c.code.result c.code.ensures c.find_answer-found.ensures.answered
-    c.find_answer-found.ensures.due c.find_answer-found.ensures.ended c.report.ensures title is
-    (c.find_answer-found.ensures.edited title (subst (Edits title) (sym is) refl)) e
+    c.find_answer-found.ensures.due c.find_answer-found.ensures.ended c.report.ensures title is e
 
 pub returns-clause-counted : goal.returns-clause-counted
 returns-clause-counted g c count is e =
@@ -91,13 +88,13 @@ returns-clause-write_fault g c e =
     c.find_answer-found.ensures.due c.report.ensures e
 
 pub returns-clause-complete : goal.returns-clause-complete
-returns-clause-complete g c =
+returns-clause-complete g c n =
     run_complete c.args.words.now (read_from g.S.Source c.args.input.now c.find_answer-found.new.input)
     (fetched_from g.F.Folder c.args.folder.now c.find_answer-found.new.folder)
     (written_to g.W.Sink c.args.out.now c.report.new.out) (written_to g.E.Sink c.args.err.now c.report.new.err)
     c.find_answer-found.result c.report.result c.code.result
     (answer_told (g.F.Folder.pages c.args.folder.now) (g.S.Source.left c.args.input.now) c.args.words.now) c.code.ensures
-    c.find_answer-found.ensures.answered c.find_answer-found.ensures.due c.report.ensures
+    c.find_answer-found.ensures.answered c.find_answer-found.ensures.due c.report.ensures n
 
 pub returns-clause-kept : goal.returns-clause-kept
 returns-clause-kept g c h =
@@ -107,8 +104,22 @@ returns-clause-kept g c h =
     c.find_answer-found.result c.report.result c.code.result c.code.ensures c.find_answer-found.ensures.input_kept
     c.find_answer-found.ensures.folder_kept c.report.ensures h
 
+pub returns-clause-asks : goal.returns-clause-asks
+returns-clause-asks g c =
+    let d = g.F.Folder in
+    run_asks (names_told (d.pages c.args.folder.now) (g.S.Source.left c.args.input.now) c.args.words.now) (d.answered c.args.folder.now)
+    (d.answered c.find_answer-found.new.folder) c.find_answer-found.result c.find_answer-found.ensures.asks.names c.find_answer-found.ensures.asked
+
 pub returns-clause-asked : goal.returns-clause-asked
-returns-clause-asked g c expands h =
-    c.find_answer-found.ensures.asked expands (run_found c.find_answer-found.result c.report.result c.code.result
-    (written_to g.W.Sink c.args.out.now c.report.new.out) (written_to g.E.Sink c.args.err.now c.report.new.err) c.code.ensures
-    c.report.ensures h).is
+returns-clause-asked g c e =
+    let d = g.F.Folder in
+    run_asked c.args.words.now (read_from g.S.Source c.args.input.now c.find_answer-found.new.input)
+    (fetched_from g.F.Folder c.args.folder.now c.find_answer-found.new.folder)
+    (written_to g.W.Sink c.args.out.now c.report.new.out) (written_to g.E.Sink c.args.err.now c.report.new.err)
+    c.find_answer-found.result c.report.result c.code.result
+    (names_told (d.pages c.args.folder.now) (g.S.Source.left c.args.input.now) c.args.words.now) (d.answered c.args.folder.now)
+    (d.answered c.find_answer-found.new.folder) c.code.ensures c.find_answer-found.ensures.due c.report.ensures
+    c.find_answer-found.ensures.asked e
+
+pub returns-clause-most : goal.returns-clause-most
+returns-clause-most g c = c.find_answer-found.ensures.asks.most

@@ -1,5 +1,6 @@
-use Rattle.std.proofs.Common.{Some}
+use Rattle.std.proofs.Common.{◌∷◌, Some, []}
 use Rattle.wt_outer.specs.declared.device.Fetched.TheVariants.{Found, Absent}
+use Rattle.wt_transclusion.proofs.AskedLaws.{asks_one, first_same}
 use Rattle.wt_transclusion.proofs.StoreLaws.{given_page, found_read, found_refused, absent_read}
 use Rattle.wt_transclusion.proofs.store.fetch_template.Goals as goal
 
@@ -28,3 +29,31 @@ returns-in-Ok-Absent-clause-page g c =
 
 pub returns-in-Ok-clause-read : goal.returns-in-Ok-clause-read
 returns-in-Ok-clause-read g c = (Some c.as_slice.result.now, c.in-Ok.ensures)
+
+pub returns-in-Ok-clause-asks : goal.returns-in-Ok-clause-asks
+returns-in-Ok-clause-asks g c =
+    asks_one c.args.title.now (g.F.Folder.answered c.args.folder.now) (g.F.Folder.answered c.fetch.new.self)
+    (g.F.Folder.most_asked c.args.folder.now)
+    (g.F.Folder.most_asked c.fetch.new.self) c.in-Ok-Found.ensures.named c.in-Ok-Found.ensures.asked
+
+pub returns-in-Ok-Found-clause-asks : goal.returns-in-Ok-Found-clause-asks
+returns-in-Ok-Found-clause-asks g c =
+    asks_one c.args.title.now (g.F.Folder.answered c.args.folder.now) (g.F.Folder.answered c.fetch.new.self)
+    (g.F.Folder.most_asked c.args.folder.now)
+    (g.F.Folder.most_asked c.fetch.new.self) c.in-Ok-Found.ensures.named c.in-Ok-Found.ensures.asked
+
+pub returns-in-Ok-Absent-clause-asks : goal.returns-in-Ok-Absent-clause-asks
+returns-in-Ok-Absent-clause-asks g c =
+    asks_one c.args.title.now (g.F.Folder.answered c.args.folder.now) (g.F.Folder.answered c.fetch.new.self)
+    (g.F.Folder.most_asked c.args.folder.now)
+    (g.F.Folder.most_asked c.fetch.new.self) c.in-Ok-Absent.ensures.named c.in-Ok-Absent.ensures.asked
+
+pub returns-in-Err-Failed-clause-named : goal.returns-in-Err-Failed-clause-named
+returns-in-Err-Failed-clause-named g c =
+    first_same (g.F.Folder.answered c.args.folder.now) (g.F.Folder.answered c.fetch.new.self)
+    (c.args.title.now ∷ []) c.in-Err-Failed.ensures.unnamed
+
+pub returns-clause-named : goal.returns-clause-named
+returns-clause-named g c =
+    first_same (g.F.Folder.answered c.args.folder.now) (g.F.Folder.answered c.fetch.new.self)
+    (c.args.title.now ∷ []) c.in-Err-NoMemory.ensures.unnamed

@@ -1,16 +1,21 @@
-use Rattle.std.proofs.Common.{ap, sym, ◌∙◌}
-use Rattle.wt_expand.specs.Expansion.{absent_text}
+use Rattle.std.proofs.Common.{ap, subst, sym, ◌∙◌}
+use Rattle.std.specs.Prelude.{reverse}
+use Rattle.wt_names.specs.Namespace.{full_name_of}
+use Rattle.wt_expand.specs.Expansion.{absent_text, chars}
 use Rattle.wt_expand.specs.Work.{is_among}
+use Rattle.wt_transclusion.specs.Asked.{AreFirst}
 use Rattle.wt_transclusion.specs.Stores.{named_with}
+use Rattle.wt_transclusion.proofs.AskedLaws.{asks_none, first_is}
 use Rattle.wt_transclusion.proofs.GrowthLaws.{grows_none}
-use Rattle.wt_transclusion.proofs.TakingLaws.{loop_taken, depth_taken, link_taken, page_taken, refused_taken}
+use Rattle.wt_transclusion.proofs.TakingLaws.{loop_taken, depth_taken, link_taken, page_taken, refused_named, refused_taken, taking_named, taking_unnamed}
 use Rattle.wt_transclusion.proofs.templates.take.Goals as goal
 
 pub returns-then-is_open-clause-taken : goal.returns-then-is_open-clause-taken
 returns-then-is_open-clause-taken g c = λ pages met told s. (
-  loop_taken pages c.args.left c.args.names.now c.args.title.now c.as_str.result.now c.as_str-then-is_open.result.now c.in_ok-message.field-0
+  loop_taken pages c.args.left c.args.names.now c.args.title.now c.as_str.result.now
+      c.in_ok-loop_message.field-0
       (c.as_str.ensures ∙ c.in_ok-full.ensures)
-      (sym c.is_open.ensures ∙ c.if-is_open.true) c.in_ok-message.ensures (c.as_str-then-is_open.ensures ∙ c.in_ok-text.ensures),
+      (sym c.is_open.ensures ∙ c.if-is_open.true) c.in_ok-loop_message.ensures,
   s,
 )
 
@@ -22,9 +27,10 @@ returns-then-left-eq0-clause-grown g c = grows_none (g.F.Folder.pages c.args.fol
 
 pub returns-then-left-eq0-clause-taken : goal.returns-then-left-eq0-clause-taken
 returns-then-left-eq0-clause-taken g c = λ pages met told s. (
-  depth_taken pages c.args.left c.args.names.now c.args.title.now c.as_str.result.now c.as_str-then-left-eq0.result.now c.in_ok-message-2.field-0
+  depth_taken pages c.args.left c.args.names.now c.args.title.now c.as_str.result.now
+      c.in_ok-depth_message.field-0
       (c.as_str.ensures ∙ c.in_ok-full.ensures)
-      (sym c.is_open.ensures ∙ c.if-is_open.false) c.if-left-eq0.true c.in_ok-message-2.ensures (c.as_str-then-left-eq0.ensures ∙ c.in_ok-text-2.ensures),
+      (sym c.is_open.ensures ∙ c.if-is_open.false) c.if-left-eq0.true c.in_ok-depth_message.ensures,
   s,
 )
 
@@ -41,12 +47,14 @@ returns-in-Ok-Some-clause-named g c = λ pages met s.
 
 pub returns-in-Ok-None-clause-taken : goal.returns-in-Ok-None-clause-taken
 returns-in-Ok-None-clause-taken g c = λ pages met told s.
-    link_taken pages met c.args.names.now c.args.left c.args.title.now c.as_str-2.result.now c.as_str-in-Ok-None-2.result.now
-    c.in_ok-message-in-Ok-None.field-0 c.in-Ok-None.field-0 c.template.new.self
+    link_taken pages met c.args.names.now c.args.left c.args.title.now c.as_str-2.result.now
+    c.in_ok-absent_link-in-Ok-None.field-0
+    c.in-Ok-None.field-0 c.template.new.self
     (c.as_str-2.ensures ∙ c.in_ok-full.ensures) (ap (λ n. is_among n c.args.names.now) (c.as_str-2.ensures ∙ sym c.as_str.ensures) ∙ sym c.is_open.ensures
     ∙ c.if-is_open.false)
-    c.if-left-eq0.false c.in-Ok-None.field-0-is (c.in-Ok-None.ensures.page pages met told s) c.in_ok-message-in-Ok-None.ensures
-    (c.as_str-in-Ok-None-2.ensures ∙ c.in_ok-text-in-Ok-None.ensures ∙ ap absent_text (c.as_str-in-Ok-None.ensures ∙ sym c.as_str-2.ensures))
+    c.if-left-eq0.false c.in-Ok-None.field-0-is (c.in-Ok-None.ensures.page pages met told s)
+    (c.in_ok-absent_link-in-Ok-None.ensures ∙ ap (λ n. chars (absent_text n))
+    (c.as_str-in-Ok-None.ensures ∙ sym c.as_str-2.ensures))
 
 pub returns-in-Ok-None-clause-named : goal.returns-in-Ok-None-clause-named
 returns-in-Ok-None-clause-named g c = λ pages met s.
@@ -57,3 +65,72 @@ returns-clause-taken g c = λ pages met told s.
     refused_taken pages c.args.names.now c.args.left c.args.title.now c.as_str-2.result.now c.in-Err.refusal (c.as_str-2.ensures ∙ c.in_ok-full.ensures)
     (ap (λ n. is_among n c.args.names.now) (c.as_str-2.ensures ∙ sym c.as_str.ensures) ∙ sym c.is_open.ensures ∙ c.if-is_open.false) c.if-left-eq0.false
     (c.in-Err.ensures.page pages met told s)
+
+pub returns-in_err-full-clause-named : goal.returns-in_err-full-clause-named
+returns-in_err-full-clause-named g c = λ pages met s.
+    let full = full_name_of c.args.title.now in
+    let old = g.F.Folder.answered c.args.folder.now in
+    let open_titles = reverse c.args.names.now in
+    refused_named c.args.left open_titles full met old old c.from_residual.result c.from_residual.ensures.0
+    (taking_unnamed c.args.left (is_among full open_titles) full met old)
+
+pub returns-in_err-loop_message-clause-named : goal.returns-in_err-loop_message-clause-named
+returns-in_err-loop_message-clause-named g c = λ pages met s.
+    let full = full_name_of c.args.title.now in
+    let old = g.F.Folder.answered c.args.folder.now in
+    let open_titles = reverse c.args.names.now in
+    refused_named c.args.left open_titles full met old old c.from_residual-in_err-loop_message.result
+    c.from_residual-in_err-loop_message.ensures.0
+    (taking_unnamed c.args.left (is_among full open_titles) full met old)
+
+pub returns-in_err-absent_link-in-Ok-None-clause-named : goal.returns-in_err-absent_link-in-Ok-None-clause-named
+returns-in_err-absent_link-in-Ok-None-clause-named g c = λ pages met s.
+    let old = g.F.Folder.answered c.args.folder.now in
+    refused_named c.args.left (reverse c.args.names.now) (full_name_of c.args.title.now) met old
+    (g.F.Folder.answered c.template.new.folder)
+    c.from_residual-in_err-absent_link-in-Ok-None.result
+    c.from_residual-in_err-absent_link-in-Ok-None.ensures.0
+    (first_is (g.F.Folder.answered c.template.new.folder) _ (c.in-Ok-None.ensures.named pages met s
+    ∙ taking_named c.args.left c.args.names.now c.args.title.now c.as_str-2.result.now met old
+    (c.as_str-2.ensures ∙ c.in_ok-full.ensures)
+    (ap (λ n. is_among n c.args.names.now) (c.as_str-2.ensures ∙ sym c.as_str.ensures) ∙ sym c.is_open.ensures
+    ∙ c.if-is_open.false) c.if-left-eq0.false))
+
+pub returns-clause-named : goal.returns-clause-named
+returns-clause-named g c = λ pages met s.
+    subst (AreFirst (g.F.Folder.answered c.template.new.folder))
+    (taking_named c.args.left c.args.names.now c.args.title.now c.as_str-2.result.now met
+    (g.F.Folder.answered c.args.folder.now)
+    (c.as_str-2.ensures ∙ c.in_ok-full.ensures)
+    (ap (λ n. is_among n c.args.names.now) (c.as_str-2.ensures ∙ sym c.as_str.ensures) ∙ sym c.is_open.ensures
+    ∙ c.if-is_open.false) c.if-left-eq0.false)
+    (c.in-Err.ensures.named pages met s)
+
+pub returns-in_err-full-clause-asks : goal.returns-in_err-full-clause-asks
+returns-in_err-full-clause-asks g c =
+    asks_none (g.F.Folder.answered c.args.folder.now) (g.F.Folder.most_asked c.args.folder.now)
+
+pub returns-in_err-loop_message-clause-asks : goal.returns-in_err-loop_message-clause-asks
+returns-in_err-loop_message-clause-asks g c =
+    asks_none (g.F.Folder.answered c.args.folder.now) (g.F.Folder.most_asked c.args.folder.now)
+
+pub returns-then-is_open-clause-asks : goal.returns-then-is_open-clause-asks
+returns-then-is_open-clause-asks g c =
+    asks_none (g.F.Folder.answered c.args.folder.now) (g.F.Folder.most_asked c.args.folder.now)
+
+pub returns-in_err-depth_message-clause-asks : goal.returns-in_err-depth_message-clause-asks
+returns-in_err-depth_message-clause-asks g c =
+    asks_none (g.F.Folder.answered c.args.folder.now) (g.F.Folder.most_asked c.args.folder.now)
+
+pub returns-then-left-eq0-clause-asks : goal.returns-then-left-eq0-clause-asks
+returns-then-left-eq0-clause-asks g c =
+    asks_none (g.F.Folder.answered c.args.folder.now) (g.F.Folder.most_asked c.args.folder.now)
+
+pub returns-in_err-depth_message-clause-named : goal.returns-in_err-depth_message-clause-named
+returns-in_err-depth_message-clause-named g c = λ pages met s.
+    let full = full_name_of c.args.title.now in
+    let old = g.F.Folder.answered c.args.folder.now in
+    let open_titles = reverse c.args.names.now in
+    refused_named c.args.left open_titles full met old old c.from_residual-in_err-depth_message.result
+    c.from_residual-in_err-depth_message.ensures.0
+    (taking_unnamed c.args.left (is_among full open_titles) full met old)

@@ -2,6 +2,7 @@ use Rattle.std.proofs.Common.{◌≡◌, ◌*◌, ◌+◌, Bool, List, ℕ}
 use Rattle.wt_span.specs.declared.form.Mode.TheVariants as mode
 use Rattle.wt_span.specs.Braces.{Member}
 use Rattle.wt_expand.specs.Work.{Pages}
+use Rattle.wt_transclusion.specs.Asked.{Asks}
 use Rattle.wt_transclusion.specs.Steps.{IsStretchOf, given_from}
 use Rattle.wt_transclusion.specs.Stores.{Agrees, Grows}
 use Rattle.wt_levels.specs.Ledgers.{ledger}
@@ -34,6 +35,9 @@ invariant-stretch-steps g l = record {
   count : g.F.Folder.fault_count l.folder ≡ g.F.Folder.fault_count l.initial.folder;
   names : l.self.expansion.names ≡ l.initial.self.expansion.names;
   grown : Grows (g.F.Folder.pages l.initial.folder) l.initial.self.expansion.store l.self.expansion.store;
+  asks : Asks (g.F.Folder.answered l.initial.folder) (g.F.Folder.answered l.folder)
+      (g.F.Folder.most_asked l.initial.folder)
+      (g.F.Folder.most_asked l.folder);
   given : (pages : Pages) (page : List ℕ) (met : List (List ℕ)) (p : ℕ) (s : Bool) (xs : List Member)
       → Agrees pages l.self.expansion.store → IsFree pages met l.initial.self.expansion
       → IsReading mode.Page page l.initial.reader p s → IsStretchOf mode.Page page p l.end xs

@@ -1,15 +1,16 @@
-use Rattle.std.proofs.Common.{◌≡◌, ◌∷◌, Err, List, Ok, Option, ap, refl, rules, subst, sym, ◌∙◌, ℕ}
+use Rattle.std.proofs.Common.{◌≡◌, Err, List, Ok, Option, refl, rules, subst, sym, ◌∙◌, ℕ}
 use Rattle.std.specs.Prelude.{Result, reverse}
-use Rattle.wt_names.specs.Namespace.{full_name_of}
 use Rattle.wt_span.specs.declared.list.List.{List as Listed}
 use Rattle.wt_span.specs.declared.form.Piece.{Piece}
 use Rattle.wt_expand.specs.Expansion.{template_output}
+use Rattle.wt_transclusion.specs.declared.refusal.ExpandRefusal.TheVariants as answer
 use Rattle.wt_transclusion.specs.Answers.{IsCounted}
 use Rattle.wt_transclusion.specs.Stores.{Concerns, Grows}
+use Rattle.wt_transclusion.proofs.AskedLaws.{asks_none, asks_then}
 use Rattle.wt_transclusion.proofs.GrowthLaws.{agrees_before, agrees_known, grows_none, grows_then}
 use Rattle.wt_levels.specs.Ledgers.{AnswersAdvance, AnswersOutput, Progress, TakesStep, ledger, reading_of}
 use Rattle.wt_levels.specs.declared.run.Turn.{Turn}
-use Rattle.wt_levels.proofs.LedgerLaws.{begins, link_done, message_done, no_fault_counted, one_less, page_done, page_taken, page_untaken, paged_goes, paged_refused, step_handed, step_refused}
+use Rattle.wt_levels.proofs.LedgerLaws.{begins, going_refused, link_done, message_done, no_fault_counted, one_less, page_done, page_taken, page_unread, page_untaken, paged_goes, paged_refused, step_handed, step_refused, taking_refused}
 use Rattle.wt_levels.proofs.expansion.Expansion.+expanding.Goals as goal
 
 pub advance-returns-in-Went-clause-grown : goal.advance-returns-in-Went-clause-grown
@@ -28,7 +29,9 @@ advance-returns-in_err-given-in-Called-clause-given g t c = λ pages page text m
     let named = subst (λ x. Concerns (g.F.Folder.pages c.args.folder.now) pages c.page.new.self.store x) e told in
     subst (λ x. AnswersAdvance pages page r text before all c.args.run.now c.page.new.self.store c.page.new.self.spent
     (g.F.Folder.answered c.page.new.folder) x) (sym e)
-    (page_untaken pages page text r before all c.args.run.now self.store self.spent answered c.in-Called.handing c.in_err-given-in-Called.field-0.0 w
+    (page_untaken pages page text r before all c.args.run.now self.store self.spent answered
+    (g.F.Folder.answered c.page.new.folder) c.in-Called.handing
+    c.in_err-given-in-Called.field-0.0 w
     (c.in_err-given-in-Called.ensures.given pages page w.calls.frame w.met named w.stored w.calls.values))
 
 pub advance-returns-in_err-give_page-in-Called-clause-given : goal.advance-returns-in_err-give_page-in-Called-clause-given
@@ -74,6 +77,7 @@ advance-returns-in_ok-give_page-in-Called-clause-given g t c = λ pages page tex
 pub finish-steps-init : goal.finish-steps-init
 finish-steps-init g t c = record {
   kept = refl;
+  asks = asks_none (g.F.Folder.answered c.args.folder.now) (g.F.Folder.most_asked c.args.folder.now);
   count = refl;
   names = refl;
   grown = grows_none (g.F.Folder.pages c.args.folder.now) c.args.self.now.store;
@@ -143,6 +147,7 @@ finish-returns-in-Some-clause-grown g t c =
 pub finish-steps-preserved : goal.finish-steps-preserved
 finish-steps-preserved g t c = record {
   kept = c.in_ok-pieces.ensures.kept ∙ c.steps.invariant.kept;
+  asks = asks_then _ _ _ _ _ _ c.steps.invariant.asks c.in_ok-pieces.ensures.asks;
   count = c.in_ok-pieces.ensures.count ∙ c.steps.invariant.count;
   names = c.in_ok-pieces.ensures.names ∙ c.steps.invariant.names;
   grown = grows_then (g.F.Folder.pages c.args.folder.now) c.args.self.now.store c.steps.self.store c.advance.new.self.store c.steps.invariant.grown
@@ -173,18 +178,18 @@ page-returns-in_err-given-in-Page-clause-given g t c = λ pages page frame met t
     let named_pages = subst (λ y. Concerns (g.F.Folder.pages c.args.folder.now) pages c.finish.new.self.store y) e told in
     let agrees = c.in_ok-pieces.ensures.grown.agrees pages named_pages (agrees_known pages met self.store s) in
     let x : Result (Listed Piece) _ = Err c.in_err-given-in-Page.field-0.0 in
-    let inside : c.push.new.self ≡ full_name_of c.args.handing.now.title ∷ self.names = c.in_ok-push-in-Page.ensures
-    ∙ ap (λ n. n ∷ self.names) c.in_ok-full_name-in-Page.ensures in
     let some = one_less c.args.left c.in-Some.less c.in-Some.ensures.0 c.in-Some.ensures.1 in
     let before = ledger self.spent met answered in
     let o = template_output pages c.args.left self.names c.args.handing.now.title frame in
     subst (λ y. AnswersOutput pages page before o c.finish.new.self.store c.finish.new.self.spent (g.F.Folder.answered c.finish.new.folder) y) (sym e)
     (page_done pages page self.spent c.finish.new.self.spent met answered named (g.F.Folder.answered c.finish.new.folder) c.args.left c.in-Some.less
-    (reverse c.as_slice-names.result.now) self.names c.push.new.self c.args.handing.now.title frame c.in_ok-pieces.field-0 c.in-Page.read
+    (reverse c.as_slice-names.result.now) self.names c.entered.new.names c.args.handing.now.title frame
+    c.in_ok-pieces.field-0 c.in-Page.read
     c.in_ok-run-in-Page.run'
-    c.take.new.store c.finish.new.self.store x c.as_slice-names.ensures c.in-Page.is some inside (c.in_ok-pieces.ensures.taken pages met agrees s)
+    c.take.new.store c.finish.new.self.store x c.as_slice-names.ensures c.in-Page.is some
+    c.in_ok-run-in-Page.ensures.names (c.in_ok-pieces.ensures.taken pages met agrees s)
     (c.in_ok-pieces.ensures.named pages met s)
-    c.in_ok-run-in-Page.ensures
+    c.in_ok-run-in-Page.ensures.run
     (λ bs now_met all stored holds. c.in_err-given-in-Page.ensures.given pages page bs _ frame now_met all (c.in_ok-pieces.ensures.kept ∙ named_pages) stored v
     holds))
 
@@ -195,15 +200,15 @@ page-returns-in_ok-given-in-Page-clause-given g t c = λ pages page frame met to
     let named = g.F.Folder.answered c.take.new.folder in
     let agrees = agrees_before pages c.take.new.store c.finish.new.self.store c.in_ok-given-in-Page.ensures.grown.kept told in
     let x : Result (Listed Piece) _ = Ok c.in_ok-given-in-Page.given in
-    let inside : c.push.new.self ≡ full_name_of c.args.handing.now.title ∷ self.names = c.in_ok-push-in-Page.ensures
-    ∙ ap (λ n. n ∷ self.names) c.in_ok-full_name-in-Page.ensures in
     let some = one_less c.args.left c.in-Some.less c.in-Some.ensures.0 c.in-Some.ensures.1 in
     page_done pages page self.spent c.finish.new.self.spent met answered named (g.F.Folder.answered c.finish.new.folder) c.args.left c.in-Some.less
-    (reverse c.as_slice-names.result.now) self.names c.push.new.self c.args.handing.now.title frame c.in_ok-pieces.field-0 c.in-Page.read
+    (reverse c.as_slice-names.result.now) self.names c.entered.new.names c.args.handing.now.title frame
+    c.in_ok-pieces.field-0 c.in-Page.read
     c.in_ok-run-in-Page.run'
-    c.take.new.store c.finish.new.self.store x c.as_slice-names.ensures c.in-Page.is some inside (c.in_ok-pieces.ensures.taken pages met agrees s)
+    c.take.new.store c.finish.new.self.store x c.as_slice-names.ensures c.in-Page.is some
+    c.in_ok-run-in-Page.ensures.names (c.in_ok-pieces.ensures.taken pages met agrees s)
     (c.in_ok-pieces.ensures.named pages met s)
-    c.in_ok-run-in-Page.ensures
+    c.in_ok-run-in-Page.ensures.run
     (λ bs now_met all stored holds. c.in_ok-given-in-Page.ensures.given pages page bs _ frame now_met all told stored v holds)
 
 pub page-returns-in_ok-given-in-Page-clause-grown : goal.page-returns-in_ok-given-in-Page-clause-grown
@@ -226,3 +231,83 @@ page-returns-in-Link-clause-given g t c = λ pages page frame met told s v.
     (reverse c.as_slice-names.result.now) self.names
     c.args.handing.now.title frame c.in_ok-pieces.field-0 c.in-Link.pieces c.take.new.store c.as_slice-names.ensures c.in-Link.is
     (c.in_ok-pieces.ensures.taken pages met told s) (c.in_ok-pieces.ensures.named pages met s)
+
+pub advance-returns-in-Went-clause-asks : goal.advance-returns-in-Went-clause-asks
+advance-returns-in-Went-clause-asks g t c =
+    asks_none (g.F.Folder.answered c.args.folder.now) (g.F.Folder.most_asked c.args.folder.now)
+
+pub advance-returns-in-Done-clause-asks : goal.advance-returns-in-Done-clause-asks
+advance-returns-in-Done-clause-asks g t c =
+    asks_none (g.F.Folder.answered c.args.folder.now) (g.F.Folder.most_asked c.args.folder.now)
+
+pub finish-returns-in_err-pieces-clause-asks : goal.finish-returns-in_err-pieces-clause-asks
+finish-returns-in_err-pieces-clause-asks g t c =
+    asks_then _ _ _ _ _ _ c.steps.invariant.asks c.in_err-pieces.ensures.asks
+
+pub finish-returns-in-Some-clause-asks : goal.finish-returns-in-Some-clause-asks
+finish-returns-in-Some-clause-asks g t c =
+    asks_then _ _ _ _ _ _ c.steps.invariant.asks c.in_ok-pieces.ensures.asks
+
+pub page-returns-in_err-given-in-Page-clause-asks : goal.page-returns-in_err-given-in-Page-clause-asks
+page-returns-in_err-given-in-Page-clause-asks g t c =
+    asks_then _ _ _ _ _ _ c.in_ok-pieces.ensures.asks c.in_err-given-in-Page.ensures.asks
+
+pub page-returns-in_ok-given-in-Page-clause-asks : goal.page-returns-in_ok-given-in-Page-clause-asks
+page-returns-in_ok-given-in-Page-clause-asks g t c =
+    asks_then _ _ _ _ _ _ c.in_ok-pieces.ensures.asks c.in_ok-given-in-Page.ensures.asks
+
+pub finish-returns-clause-given : goal.finish-returns-clause-given
+finish-returns-clause-given g t c = λ pages page text mode frame met all told s v h.
+    let self = c.args.self.now in
+    let before = ledger self.spent met (g.F.Folder.answered c.args.folder.now) in
+    let agrees = c.steps.invariant.grown.agrees pages told (agrees_known pages met self.store s) in
+    going_refused pages page text (reading_of pages mode frame c.args.left self.names) before all c.steps.run
+    c.steps.self.store c.steps.self.spent
+    (g.F.Folder.answered c.steps.folder)
+    (c.steps.invariant.given pages page text mode frame met all agrees s v h)
+
+pub page-returns-in_err-pieces-clause-given : goal.page-returns-in_err-pieces-clause-given
+page-returns-in_err-pieces-clause-given g t c = λ pages page frame met told s v.
+    let self = c.args.self.now in
+    let title = c.args.handing.now.title in
+    let answered = g.F.Folder.answered c.args.folder.now in
+    let before = ledger self.spent met answered in
+    let x = c.in_err-pieces.field-0.0 in
+    let e : c.from_residual.result ≡ Err x = search rules in
+    let named = subst (λ y. Concerns (g.F.Folder.pages c.args.folder.now) pages c.take.new.store y) e told in
+    subst (λ y. AnswersOutput pages page before (template_output pages c.args.left self.names title frame)
+    c.take.new.store self.spent
+    (g.F.Folder.answered c.take.new.folder) y) (sym e)
+    (taking_refused pages page self.spent met answered (g.F.Folder.answered c.take.new.folder) c.args.left
+    (reverse c.as_slice-names.result.now) self.names
+    title frame x c.take.new.store c.as_slice-names.ensures (c.in_err-pieces.ensures.taken pages met named s)
+    (c.in_err-pieces.ensures.named pages met s))
+
+pub page-returns-in_default-clause-given : goal.page-returns-in_default-clause-given
+page-returns-in_default-clause-given g t c = λ pages page frame met told s v.
+    let self = c.args.self.now in
+    let agrees = c.in_ok-pieces.ensures.grown.agrees pages told (agrees_known pages met self.store s) in
+    page_unread pages page self.spent met (g.F.Folder.answered c.args.folder.now)
+    (g.F.Folder.answered c.take.new.folder) c.args.left
+    (reverse c.as_slice-names.result.now) self.names c.args.handing.now.title frame c.in_ok-pieces.field-0
+    c.in-Page.read c.take.new.store
+    c.as_slice-names.ensures c.in-Page.is (c.in_ok-pieces.ensures.taken pages met agrees s)
+    (c.in_ok-pieces.ensures.named pages met s)
+
+pub page-returns-in_err-run-in-Page-clause-given : goal.page-returns-in_err-run-in-Page-clause-given
+page-returns-in_err-run-in-Page-clause-given g t c = λ pages page frame met told s v.
+    let self = c.args.self.now in
+    let title = c.args.handing.now.title in
+    let answered = g.F.Folder.answered c.args.folder.now in
+    let before = ledger self.spent met answered in
+    let told_now = g.F.Folder.answered c.take.new.folder in
+    let e : c.from_residual-in_err-run-in-Page.result ≡ Err answer.NoMemory = search rules in
+    let named = subst (λ y. Concerns (g.F.Folder.pages c.args.folder.now) pages c.take.new.store y) e told in
+    let agrees = c.in_ok-pieces.ensures.grown.agrees pages named (agrees_known pages met self.store s) in
+    subst (λ y. AnswersOutput pages page before (template_output pages c.args.left self.names title frame)
+    c.take.new.store self.spent told_now y) (sym e)
+    (page_unread pages page self.spent met answered told_now c.args.left (reverse c.as_slice-names.result.now)
+    self.names title frame
+    c.in_ok-pieces.field-0 c.in-Page.read c.take.new.store c.as_slice-names.ensures c.in-Page.is
+    (c.in_ok-pieces.ensures.taken pages met agrees s)
+    (c.in_ok-pieces.ensures.named pages met s))

@@ -2,6 +2,7 @@ use Rattle.std.proofs.Common.{◌≡◌, ◌*◌, ◌+◌, List, ℕ}
 use Rattle.wt_span.specs.declared.form.Mode.{Mode}
 use Rattle.wt_expand.specs.Expansion.{Frame, Output}
 use Rattle.wt_expand.specs.Work.{Pages}
+use Rattle.wt_transclusion.specs.Asked.{Asks}
 use Rattle.wt_transclusion.specs.Frames.{AreValues}
 use Rattle.wt_transclusion.specs.Stores.{Agrees, Grows, IsStore}
 use Rattle.wt_levels.specs.Ledgers.{Progress, ledger, reading_of}
@@ -21,6 +22,8 @@ decreases-page g l = l.left * 3
 abbrev pub invariant-finish-steps : goal.invariant-finish-steps
 invariant-finish-steps g l = record {
   kept : g.F.Folder.pages l.folder ≡ g.F.Folder.pages l.initial.folder;
+  asks : Asks (g.F.Folder.answered l.initial.folder) (g.F.Folder.answered l.folder)
+      (g.F.Folder.most_asked l.initial.folder) (g.F.Folder.most_asked l.folder);
   count : g.F.Folder.fault_count l.folder ≡ g.F.Folder.fault_count l.initial.folder;
   names : l.self.names ≡ l.initial.self.names;
   grown : Grows (g.F.Folder.pages l.initial.folder) l.initial.self.store l.self.store;

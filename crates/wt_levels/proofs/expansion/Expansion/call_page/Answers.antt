@@ -3,7 +3,9 @@ use Rattle.std.specs.Prelude.{OnOk}
 use Rattle.wt_span.specs.declared.list.List.{List as Listed}
 use Rattle.wt_span.specs.declared.form.Piece.{Piece}
 use Rattle.wt_expand.specs.Expansion.{later_parts}
+use Rattle.wt_transclusion.specs.declared.refusal.ExpandRefusal.TheVariants as answer
 use Rattle.wt_transclusion.specs.Stores.{Concerns, Grows}
+use Rattle.wt_transclusion.proofs.AskedLaws.{asks_none, asks_then}
 use Rattle.wt_transclusion.proofs.GrowthLaws.{agrees_between, agrees_known, grows_through}
 use Rattle.wt_levels.specs.Calls.{parts_of_call}
 use Rattle.wt_levels.specs.Ledgers.{AnswersAdvance, AnswersOutput, Progress, ledger, reading_of}
@@ -12,8 +14,8 @@ use Rattle.wt_levels.specs.Rests.{after_values}
 use Rattle.wt_levels.specs.Runs.{page_called}
 use Rattle.wt_levels.specs.declared.reader.Reader.{Reader}
 use Rattle.wt_levels.proofs.CallSteps.{page_alone}
-use Rattle.wt_levels.proofs.LedgerLaws.{finished, part_step}
-use Rattle.wt_levels.proofs.RestLaws.{begun_spent}
+use Rattle.wt_levels.proofs.LedgerLaws.{cost_refuses, finished, memory_answered, part_step}
+use Rattle.wt_levels.proofs.RestLaws.{begun_refused, begun_spent}
 use Rattle.wt_levels.proofs.expansion.Expansion.call_page.Goals as goal
 
 pub returns-in_err-pieces-clause-given : goal.returns-in_err-pieces-clause-given
@@ -105,3 +107,53 @@ returns-clause-grown g c =
     let now = c.advance.new.self.store in
     grows_through (g.F.Folder.pages c.args.folder.now) c.args.self.now.store now c.finish.new.self.store c.finish.result c.in_ok-pieces.ensures.grown
     (subst (λ o. OnOk c.finish.result (Grows o now c.finish.new.self.store)) c.in_ok-pieces.ensures.kept c.finish.ensures.grown)
+
+pub returns-in_err-charge-clause-given : goal.returns-in_err-charge-clause-given
+returns-in_err-charge-clause-given g c = λ pages page t frame met p s b told st v reading low.
+    let self = c.args.self.now in
+    let r = reading_of pages c.args.mode frame c.args.left self.names in
+    let answered = g.F.Folder.answered c.args.folder.now in
+    let o = after_values r c.args.at_start c.args.title [] 1
+    (later_parts (parts_of_call r t c.args.call b)) in
+    let all = page_called r t c.args.call b c.args.at_start c.args.title in
+    let before = ledger self.spent met answered in
+    let e : c.from_residual.result ≡ Err c.in_err-charge.field-0.0 = search rules in
+    subst (λ x. AnswersOutput pages page before all self.store c.charge.new.spent answered x) (sym e)
+    (cost_refuses pages page before all c.in_err-charge.field-0.0
+    (begun_refused self.spent all o c.in_err-charge.field-0.0 refl c.in_err-charge.ensures.large
+    c.in_err-charge.ensures.refusal))
+
+pub returns-in_err-run-clause-given : goal.returns-in_err-run-clause-given
+returns-in_err-run-clause-given g c = λ pages page t frame met p s b told st v reading low.
+    let self = c.args.self.now in
+    let r = reading_of pages c.args.mode frame c.args.left self.names in
+    let before = ledger self.spent met (g.F.Folder.answered c.args.folder.now) in
+    let e : c.from_residual-in_err-run.result ≡ Err answer.NoMemory = search rules in
+    memory_answered pages page before (page_called r t c.args.call b c.args.at_start c.args.title) self.store
+    c.charge.new.spent
+    c.from_residual-in_err-run.result e
+
+pub returns-in_err-turn-clause-given : goal.returns-in_err-turn-clause-given
+returns-in_err-turn-clause-given g c = λ pages page t frame met p s b told st v reading low.
+    let self = c.args.self.now in
+    let r = reading_of pages c.args.mode frame c.args.left self.names in
+    let before = ledger self.spent met (g.F.Folder.answered c.args.folder.now) in
+    let e : c.from_residual-in_err-turn.result ≡ Err answer.NoMemory = search rules in
+    memory_answered pages page before (page_called r t c.args.call b c.args.at_start c.args.title) self.store
+    c.charge.new.spent
+    c.from_residual-in_err-turn.result e
+
+pub returns-clause-asks : goal.returns-clause-asks
+returns-clause-asks g c = asks_then _ _ _ _ _ _ c.in_ok-pieces.ensures.asks c.finish.ensures.asks
+
+pub returns-in_err-charge-clause-asks : goal.returns-in_err-charge-clause-asks
+returns-in_err-charge-clause-asks g c =
+    asks_none (g.F.Folder.answered c.args.folder.now) (g.F.Folder.most_asked c.args.folder.now)
+
+pub returns-in_err-run-clause-asks : goal.returns-in_err-run-clause-asks
+returns-in_err-run-clause-asks g c =
+    asks_none (g.F.Folder.answered c.args.folder.now) (g.F.Folder.most_asked c.args.folder.now)
+
+pub returns-in_err-turn-clause-asks : goal.returns-in_err-turn-clause-asks
+returns-in_err-turn-clause-asks g c =
+    asks_none (g.F.Folder.answered c.args.folder.now) (g.F.Folder.most_asked c.args.folder.now)

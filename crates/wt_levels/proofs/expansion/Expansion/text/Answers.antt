@@ -1,9 +1,25 @@
-use Rattle.std.proofs.Common.{refl}
+use Rattle.std.proofs.Common.{◌≡◌, Err, refl, rules}
 use Rattle.wt_expand.specs.Expansion.{text_given}
-use Rattle.wt_levels.specs.Ledgers.{reading_of}
+use Rattle.wt_transclusion.specs.declared.refusal.ExpandRefusal.TheVariants as answer
+use Rattle.wt_transclusion.proofs.AskedLaws.{asks_none}
+use Rattle.wt_levels.specs.Ledgers.{ledger, reading_of}
+use Rattle.wt_levels.proofs.LedgerLaws.{memory_answered}
 use Rattle.wt_levels.proofs.expansion.Expansion.text.Goals as goal
 
 pub returns-clause-given : goal.returns-clause-given
 returns-clause-given g c = λ pages page t frame met told st v read.
     let r = reading_of pages c.args.mode frame c.args.left c.args.self.now.names in
     c.finish.ensures.given pages page t c.args.mode frame met (text_given r t) told st v (c.in_ok-run.ensures r t refl read)
+
+pub returns-in_err-run-clause-given : goal.returns-in_err-run-clause-given
+returns-in_err-run-clause-given g c = λ pages page t frame met told st v read.
+    let self = c.args.self.now in
+    let before = ledger self.spent met (g.F.Folder.answered c.args.folder.now) in
+    let e : c.from_residual.result ≡ Err answer.NoMemory = search rules in
+    memory_answered pages page before
+    (text_given (reading_of pages c.args.mode frame c.args.left self.names) t) self.store self.spent
+    c.from_residual.result e
+
+pub returns-in_err-run-clause-asks : goal.returns-in_err-run-clause-asks
+returns-in_err-run-clause-asks g c =
+    asks_none (g.F.Folder.answered c.args.folder.now) (g.F.Folder.most_asked c.args.folder.now)

@@ -1,7 +1,0 @@
-//! The limits of the commands.
-
-/// The most bytes of a page.
-pub const PAGE_BYTES: usize = 2_097_152;
-
-/// The most bytes of HTML, written or read.
-pub const HTML_BYTES: usize = 67_108_864;
