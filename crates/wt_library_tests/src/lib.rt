@@ -1,4 +1,4 @@
-//! Tests of public calls that no command makes so far, each once with ample memory: what no contract says of them.
+//! Tests of public calls, each once with ample memory: what no contract says of them.
 #![tactic(auto)]
 
 #[cfg(test)]
@@ -17,3 +17,5 @@ mod reader;
 mod titles;
 #[cfg(test)]
 mod tree;
+#[cfg(test)]
+mod written;

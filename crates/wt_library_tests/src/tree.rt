@@ -85,7 +85,7 @@ fn heading<'a>(alloc: Global, text: &'a str) -> Result<Node<'a>, NoMemory> {
 }
 
 /// Such a heading after a separator, in a body.
-fn page<'a>(alloc: Global, text: &'a str) -> Result<Node<'a>, NoMemory> {
+pub fn page<'a>(alloc: Global, text: &'a str) -> Result<Node<'a>, NoMemory> {
     let heading = heading(alloc, text)?;
     let body = with_leaf(alloc, node(alloc, Kind::Body, 0), Kind::Sep, "\n")?;
     with_child(body, heading)
