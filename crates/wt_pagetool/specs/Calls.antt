@@ -59,7 +59,7 @@ pub record KeptCounts (c : Call) : Type 0 where
   pub out : c.out.faults_after ≡ c.out.faults_before
   pub err : c.err.faults_after ≡ c.err.faults_before
 
--- no device failed
+-- no device failed: no count rose, or stood at its last value
 pub record NothingFailed (c : Call) : Type 0 where
   pub input : SourceFailed c.input → ⊥
   pub folder : FolderFailed c.folder → ⊥

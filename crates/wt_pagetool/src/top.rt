@@ -115,9 +115,10 @@ pub fn run<S: Source, F: Folder, W: Sink, E: Sink>(
 
     // `edit`, when it is done, read the input to its end and wrote the new page: the page with the inside of
     // each marked node, and nothing else, replaced by its spelling; every byte outside these insides stands
-    // in the new page, in its order. No check refuses the edited tree: nothing was changed that isn't
-    // marked. The plain view of the new page's tree is that of the edited tree, in which a kept group is
-    // what the page's group of its number holds.
+    // in the new page, in its order. No check refuses the edited tree: nothing that is compared was changed
+    // without a mark (of comments, include tags, skips and separators not all are compared; the new page has
+    // the page's). The plain view of the new page's tree is that of the edited tree, in which a kept group
+    // is what the page's group of its number holds.
     ensures edit { (title : List ℕ) → command_of words.now ≡ Some (Command.Edit title)
         → result ≡ code Status.Done
         → IfSome (F.pages folder.old) (λ pages. IfSome (S.left input.old)
@@ -180,17 +181,18 @@ pub fn run<S: Source, F: Folder, W: Sink, E: Sink>(
         (written_to W.Sink out.old out.new) (written_to E.Sink err.old err.new)) }
 
     // The folder answered the first of the names that the command asks for, in their order and no others;
-    // all of them where the call is done. The first is that of the page, and then comes each that its
-    // expansion fetches (the page's own again, where a call names it), and with `edit` that of the new page,
-    // once, in the order of their first fetch.
+    // all of them where the call is done. The first is that of the page; then come those that its expansion
+    // fetches (the page's own again, where a call names it), and with `edit` those that the expansion of the
+    // new page fetches, each once, in the order of their first fetch.
     ensures asks { IfSome (names_told (F.pages folder.old) (S.left input.old) words.now)
         (λ names. AnswersFirst names (F.answered folder.old) (F.answered folder.new)) }
     ensures asked { result ≡ code Status.Done
         → IfSome (names_told (F.pages folder.old) (S.left input.old) words.now)
         (λ names. F.answered folder.new ≡ followed_by (F.answered folder.old) names) }
 
-    // No page was asked for with more than one byte more than it may have, and no more of the input was read
-    // than the longest HTML and one piece. The folder keeps its pages in any call.
+    // No page that the folder answered was asked for with more than one byte more than it may have, and no
+    // more of the input was read than the longest HTML and one piece. The folder keeps its pages in any
+    // call.
     ensures most { AsksAtMost (PAGE_BYTES + 1) (F.most_asked folder.old) (F.most_asked folder.new) }
     ensures takes { GivesAtMost (HTML_BYTES + PIECE) (S.left input.old) (S.left input.new) }
     ensures pages_kept { F.pages folder.new ≡ F.pages folder.old }
@@ -200,7 +202,7 @@ pub fn run<S: Source, F: Folder, W: Sink, E: Sink>(
         → IfSome (F.pages folder.old) (λ pages. IsNoText (pages title) → input.new ≡ input.old) }
 
     // A command that doesn't read (`html`, `ranges`, `expand`, `gen`) leaves the input as it was, and one
-    // that doesn't fetch (`wikitext`, `gen`) the folder.
+    // that doesn't fetch (`wikitext`, `gen`) the folder; words that are no command leave both.
     ensures unread { ¬ Reads (command_of words.now) → input.new ≡ input.old }
     ensures unasked { ¬ Fetches (command_of words.now) → folder.new ≡ folder.old }
 {
