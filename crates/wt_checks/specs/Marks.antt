@@ -14,14 +14,15 @@ use Rattle.wt_checks.specs.Places.{Place, number, kind_at, is_kept, is_body, is_
 use Rattle.wt_checks.specs.Groups.{is_marked}
 
 -- Which mark a node of each kind may have: `content` always, or where the page's node has inline
--- children only. (`children`, by which blocks come and go, none may have so far.)
+-- children only; `children`, by which blocks and items come and go, on the body, and on lists with
+-- bullets or numbers that are children of the body.
 abbrev pub editing : Kind → Editing
-editing kind.Body = Never
+editing kind.Body = Children
 editing kind.Para = Content
 editing (kind.Heading n) = Content
 editing kind.Rule = Never
-editing kind.Ul = Never
-editing kind.Ol = Never
+editing kind.Ul = TopChildren
+editing kind.Ol = TopChildren
 editing kind.Dl = Never
 editing kind.Li = InlineContent
 editing kind.Dt = InlineContent

@@ -12,9 +12,9 @@ pub enum Editing {
     Content,
     /// `content`, where the page's node has inline children only.
     InlineContent,
-    /// `children`. No kind has it so far: new and removed blocks come later.
+    /// `children`.
     Children,
-    /// `children`, where the page's node is a child of the body. No kind has it so far.
+    /// `children`, where the page's node is a child of the body.
     TopChildren,
 }
 
@@ -24,9 +24,9 @@ impl Editing {
         ensures { result ≡ editing kind }
     {
         match kind {
-            Kind::Body => Editing::Never,
+            Kind::Body => Editing::Children,
             Kind::Para | Kind::Heading(_) => Editing::Content,
-            Kind::Ul | Kind::Ol => Editing::Never,
+            Kind::Ul | Kind::Ol => Editing::TopChildren,
             Kind::Li | Kind::Dt | Kind::Dd | Kind::Caption | Kind::Td | Kind::Th => {
                 Editing::InlineContent
             }
