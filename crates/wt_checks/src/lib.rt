@@ -22,5 +22,6 @@ pub use index::original;
 pub use laws::{
     comparisons, edited_is_the_page, first_refusal, only_the_page_is_taken, what_is_kept,
 };
+pub use marks::is_children;
 pub use refusal::Check;
 pub use visit::{Visit, is_content, preorder};
