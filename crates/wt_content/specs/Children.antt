@@ -58,13 +58,16 @@ abbrev pub if_any_held : Trees → List ContentWhy
 if_any_held none = []
 if_any_held (more t ts) = why.Element ∷ []
 
+abbrev pub is_rule : BlockForm → Bool
+is_rule form.Paragraph = false
+is_rule (form.Heading n) = false
+is_rule form.Rule = true
+is_rule form.Item = false
+is_rule form.NoBlock = false
+
 -- A new block holds what a content may that has no node of the page; a rule holds nothing.
 abbrev pub inside_faults : (Tree → Tree → Bool) → BlockForm → Tree → List ContentWhy
-inside_faults same form.Paragraph u = all_faults (no_page same) (outermost u) (held u)
-inside_faults same (form.Heading n) u = all_faults (no_page same) (outermost u) (held u)
-inside_faults same form.Rule u = if_any_held (held u)
-inside_faults same form.Item u = all_faults (no_page same) (outermost u) (held u)
-inside_faults same form.NoBlock u = all_faults (no_page same) (outermost u) (held u)
+inside_faults same f u = if is_rule f then if_any_held (held u) else all_faults (no_page same) (outermost u) (held u)
 
 abbrev pub new_faults : (Tree → Tree → Bool) → Holder → BlockForm → Tree → List ContentWhy
 new_faults same h f u = if may_come h f then inside_faults same f u else why.Element ∷ []

@@ -7,7 +7,7 @@ ghost use Rattle.wt_tree.specs.View.{view, views};
 ghost use Rattle.wt_kept.specs.Kinds.{shape};
 ghost use Rattle.wt_kept.specs.Page.{TellsSame};
 ghost use Rattle.wt_kept.specs.PageViews.{IsPageOf};
-ghost use Rattle.wt_content.specs.Children.{all_child_faults, any_kept_child, bad_children, child_faults, empty_fault, holder_of, if_any_held, inside_faults, is_child, is_kept_child, is_mark, is_separator, is_space, may_come, new_faults};
+ghost use Rattle.wt_content.specs.Children.{all_child_faults, any_kept_child, bad_children, child_faults, empty_fault, holder_of, if_any_held, inside_faults, is_child, is_rule, is_kept_child, is_mark, is_separator, is_space, may_come, new_faults};
 ghost use Rattle.wt_content.specs.Content.{if_any};
 ghost use Rattle.wt_content.specs.Views.{HasFaults};
 
@@ -95,10 +95,18 @@ fn may_come(holder: Holder, form: BlockForm) -> bool
 fn if_any_held(nodes: &[Node<'_>]) -> Option<ContentWhy>
     ensures { if_any result ≡ if_any_held (views nodes.now) }
 {
-    if nodes.is_empty() {
-        None
-    } else {
-        Some(ContentWhy::Element)
+    match nodes.first() {
+        None => None,
+        Some(_) => Some(ContentWhy::Element),
+    }
+}
+
+fn is_rule(form: BlockForm) -> bool
+    ensures { result ≡ is_rule form }
+{
+    match form {
+        BlockForm::Rule => true,
+        BlockForm::Paragraph | BlockForm::Heading(_) | BlockForm::Item | BlockForm::NoBlock => false,
     }
 }
 
@@ -114,22 +122,13 @@ fn visit_inside(
     ensures { (same : Tree → Tree → Bool) → TellsSame same → OnOk result ((ws : List ContentWhy) → HasFaults found.old ws
         → HasFaults found.new (ws ++ inside_faults same form (view node.now))) }
 {
-    match form {
-        BlockForm::Rule => {
-            found.add_any(if_any_held(node.children.as_slice()));
-            Ok(())
-        }
-        BlockForm::Paragraph | BlockForm::Heading(_) | BlockForm::Item | BlockForm::NoBlock => {
-            visit_all(
-                alloc,
-                page,
-                outermost(node),
-                node.children.as_slice(),
-                found,
-            )?;
-            Ok(())
-        }
+    let children = node.children.as_slice();
+    if is_rule(form) {
+        found.add_any(if_any_held(children));
+        return Ok(());
     }
+    visit_all(alloc, page, outermost(node), children, found)?;
+    Ok(())
 }
 
 /// Adds what is wrong with a new child.
