@@ -2,6 +2,7 @@ pub mod Alikes
 pub mod AsItWas
 pub mod Cases
 pub mod Children
+pub mod ChildrenCases
 pub mod Compares
 pub mod EditedIsPage
 pub mod Elements
