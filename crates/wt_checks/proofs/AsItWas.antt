@@ -11,7 +11,7 @@ use Rattle.wt_tree.specs.Tree.{Tree, tree, label}
 use Rattle.wt_checks.specs.Alike.{same_kind, same_attrs, same_data}
 use Rattle.wt_checks.specs.Elements.{written_for, all_read, signs_in}
 use Rattle.wt_checks.specs.Groups.{is_marked, has_mark, same_signs, shows_same, carries_same, is_changed_group, is_in_template}
-use Rattle.wt_checks.specs.Kept.{GroupAsItWas, HoldsTheSame, NodeAsItWas, is_of_page, WellMarked, GroupKept, NodeKept, MarkKept}
+use Rattle.wt_checks.specs.Kept.{GroupAsItWas, HoldsTheSame, NodeAsItWas, is_of_page, GroupKept, NodeKept, MarkKept}
 use Rattle.wt_checks.specs.Marks.{editing, allows, is_wrongly_marked}
 use Rattle.wt_checks.specs.Places.{Place, number, kind_at, is_kept, Condition, Page}
 use Rattle.wt_checks.specs.Unmarked.{own_character, entries, same_entries, holds_same, keeps_data, keeps_face, keeps_children, is_other, is_unmarked_change}

@@ -1,6 +1,6 @@
 -- Each kept node of a page is a child of its kept parent, and so the page's node for a kept node of the
 -- edited tree is a child of the page's node for its kept parent.
-use Rattle.std.proofs.Common.{◌≡◌, ◌≢◌, ℕ, Bool, true, false, List, [], ◌∷◌, ◌++◌, map, refl, sym, ap, ◌∙◌, subst, inl, inr, ◌⊎◌}
+use Rattle.std.proofs.Common.{◌≡◌, ◌≢◌, ℕ, Bool, true, false, List, [], ◌∷◌, map, refl, sym, ap, ◌∙◌, subst, inl, inr, ◌⊎◌}
 use Rattle.std.specs.Prelude.{◌==◌, ◌||◌, not, if◌then◌else◌, filter, Option, Some, None}
 use Rattle.std.specs.List.{AllByRecursion}
 use Rattle.wt_tree.specs.declared.kind.Kind.{Kind}
@@ -10,7 +10,7 @@ use Rattle.wt_tree.specs.Tiling.{is_group, ids, ids_of_all, numbers, numbers_of_
 use Rattle.wt_tree.specs.Tree.{Tree, tree, Trees, none, more, label, listed}
 use Rattle.wt_checks.specs.Ids.{has_parent}
 use Rattle.wt_checks.specs.Kept.{children, InOrder}
-use Rattle.wt_checks.specs.Places.{Place, placed, all_placed, places, number, kind_at, is_kept, is_body, is_content, Page, page_of, parent_below}
+use Rattle.wt_checks.specs.Places.{Place, placed, all_placed, places, number, is_kept, is_body, is_content, Page, page_of, parent_below}
 use Rattle.wt_checks.specs.PutBack.{has_body, have_body, IsOneBody, IsAsRead, AreAsRead}
 use Rattle.wt_checks.specs.Tokens.{is_text}
 use Rattle.wt_checks.proofs.Found.{Itself, each_itself, found_has, Inner, inner_by, own_by, PageNodes, body_no_group}

@@ -1,13 +1,13 @@
 -- What is given of a place of the edited tree, and what it gives of the children of a node that is marked
 -- `children`.
 use Rattle.std.proofs.Common.{◌≡◌, ◌≢◌, ℕ, Bool, true, false, List, [], ◌∷◌, refl, sym, ap, ◌∙◌, subst}
-use Rattle.std.specs.Prelude.{◌==◌, ◌||◌, not, Option, Some}
+use Rattle.std.specs.Prelude.{◌||◌, Some}
 use Rattle.std.specs.List.{AllByRecursion}
 use Rattle.wt_tree.specs.declared.kind.Kind.{Kind}
 use Rattle.wt_tree.specs.declared.kind.Kind.TheVariants as kind
 use Rattle.wt_tree.specs.Kinds.{showing}
 use Rattle.wt_tree.specs.Tiling.{is_group}
-use Rattle.wt_tree.specs.Tree.{Label, Tree, tree, Trees, none, more, label, listed}
+use Rattle.wt_tree.specs.Tree.{Tree, tree, Trees, none, more, label, listed}
 use Rattle.wt_checks.specs.Gist.{gist, gists}
 use Rattle.wt_checks.specs.Kept.{children, GroupAsItWas, NodeAsItWas, GroupKept, NodeKept}
 use Rattle.wt_checks.specs.Places.{Place, placed, all_placed, number, kind_at, is_body, Page}

@@ -1,8 +1,8 @@
 -- What stands inside new elements is among all nodes.
-use Rattle.std.proofs.Common.{◌≡◌, ℕ, Bool, true, false, List, refl}
+use Rattle.std.proofs.Common.{ℕ, Bool, true, false, List}
 use Rattle.std.specs.Prelude.{◌==◌, ◌||◌, not, if◌then◌else◌}
 use Rattle.std.specs.List.{AllByRecursion}
-use Rattle.wt_tree.specs.Tree.{Tree, tree, Trees, none, more, label}
+use Rattle.wt_tree.specs.Tree.{Tree, tree, Trees, none, more}
 use Rattle.wt_checks.specs.Places.{Place, placed, all_placed, is_body, is_content, parent_below}
 use Rattle.wt_checks.specs.PutBack.{in_new, all_in_new}
 use Rattle.wt_checks.proofs.Lookups.{each_split, each_join}

@@ -13,9 +13,9 @@ use Rattle.wt_tree.specs.Tiling.{is_group}
 use Rattle.wt_tree.specs.Tree.{Label, Tree, tree, Trees, none, more, label, listed}
 use Rattle.wt_checks.specs.Gist.{Features, features, Gist, text, node, Gists, ended, along, gist_by, gist, gists}
 use Rattle.wt_checks.specs.Groups.{is_marked}
-use Rattle.wt_checks.specs.Kept.{children, is_of_page, HoldsTheSame, NodeAsItWas, NodeKept}
+use Rattle.wt_checks.specs.Kept.{children, HoldsTheSame, NodeAsItWas, NodeKept}
 use Rattle.wt_checks.specs.Marks.{is_children}
-use Rattle.wt_checks.specs.Places.{Place, placed, all_placed, number, kind_at, is_body, is_content, Page, parent_below}
+use Rattle.wt_checks.specs.Places.{Place, placed, all_placed, kind_at, is_body, is_content, Page, parent_below}
 use Rattle.wt_checks.specs.PutBack.{original, inside, page_data, data_back, label_back, as_they_stand, inside_back, put_back, all_put_back, in_new, all_in_new, has_body, have_body}
 use Rattle.wt_checks.specs.Tokens.{is_text}
 use Rattle.wt_checks.specs.Unmarked.{Entry, is_compared, entry, entries}

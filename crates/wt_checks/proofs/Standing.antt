@@ -1,19 +1,18 @@
 -- What stands for the page's children of a node that is marked `children`: where with it the list is the
 -- page's, each child with a number is the page's.
-use Rattle.std.proofs.Common.{◌≡◌, ◌≢◌, ◌≤◌, ◌+◌, ℕ, suc, Bool, true, false, List, [], ◌∷◌, ◌++◌, refl, sym, ap, ◌∙◌, subst, arith}
-use Rattle.std.specs.Prelude.{◌==◌, ◌&&◌, ◌||◌, not, if◌then◌else◌, Option, Some, None}
+use Rattle.std.proofs.Common.{◌≡◌, ◌≢◌, ◌≤◌, ℕ, suc, Bool, true, false, List, [], ◌∷◌, ◌++◌, refl, sym, ap, ◌∙◌, arith}
+use Rattle.std.specs.Prelude.{◌==◌, ◌||◌, not, if◌then◌else◌, Some}
 use Rattle.std.specs.List.{AllByRecursion}
-use Rattle.std.proofs.lemmas.Bool.Decides.{nat_tests}
 use Rattle.wt_tree.specs.Kinds.{showing}
-use Rattle.wt_tree.specs.Tree.{Label, Tree, tree, Trees, none, more, label, listed}
+use Rattle.wt_tree.specs.Tree.{Tree, tree, Trees, none, more, label, listed}
 use Rattle.wt_checks.specs.Gist.{Gist, Gists, ended, along, gist, gists}
 use Rattle.wt_checks.specs.Ids.{stands, is_repeated}
 use Rattle.wt_checks.specs.Kept.{children}
 use Rattle.wt_checks.specs.Places.{Place, placed, all_placed, places, number, is_kept, is_content, Page, parent_below}
-use Rattle.wt_checks.specs.PutBack.{numbered_or, as_they_stand, put_back, all_put_back}
+use Rattle.wt_checks.specs.PutBack.{numbered_or, as_they_stand, all_put_back}
 use Rattle.wt_checks.specs.Unmarked.{is_compared}
 use Rattle.wt_checks.proofs.Found.{Found}
-use Rattle.wt_checks.proofs.InOrder.{Nowhere, kept_not_zero, not_zero_kept, zero_of, same_by, test_equal, test_other}
+use Rattle.wt_checks.proofs.InOrder.{Nowhere, kept_not_zero, not_zero_kept, same_by, test_equal, test_other}
 use Rattle.wt_checks.proofs.Lookups.{each_split, each_join}
 use Rattle.wt_checks.proofs.Repeated.{or_false, and_not}
 
