@@ -106,8 +106,8 @@ abbrev pub AreAsRead : Tree → Type 0
 AreAsRead t = AllByRecursion IsAsRead (places t)
 
 -- The edited tree is the page's but for what may differ: with that put back, all that is compared is
--- the page's. Of what that doesn't see, kept nodes stand in their order, groups are as they were, so are
--- marks, skips and the nodes inside new elements that are kept outside marked content, and marks stand
+-- the page's. Of what that doesn't see, kept nodes stand in their order, groups are as they were, and so
+-- are, outside marked content, kept marks and skips and the kept nodes inside new elements; marks stand
 -- where they may.
 pub record IsThePage (values : Bool) (page edited : Tree) : Type 0 where
   pub compared : gist (put_back values (page_of page) edited) ≡ gist page

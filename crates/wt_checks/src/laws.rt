@@ -48,8 +48,8 @@ pub fn edited_is_the_page()
 
 /// And nothing else is taken. Of a tree whose only body is the root, and in which texts and what shows
 /// nothing hold nothing, as in the page, nothing is refused exactly where with all put back that may
-/// differ it is the page's, kept nodes stand in their order, groups are as they were, so are hidden
-/// nodes and kept nodes inside new elements outside marked content, and marks stand where they may.
+/// differ it is the page's, kept nodes stand in their order, groups are as they were, and so are, outside
+/// marked content, hidden nodes and the kept nodes inside new elements; marks stand where they may.
 pub fn only_the_page_is_taken()
     ensures { (values : Bool) (page edited : Tree) → IsOneBody page → InPreorder page → AreAsRead page
         → IsOneBody edited → AreAsRead edited
