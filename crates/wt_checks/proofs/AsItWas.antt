@@ -11,7 +11,7 @@ use Rattle.wt_tree.specs.Tree.{Tree, tree, label}
 use Rattle.wt_checks.specs.Alike.{same_kind, same_attrs, same_data}
 use Rattle.wt_checks.specs.Elements.{written_for, all_read, signs_in}
 use Rattle.wt_checks.specs.Groups.{is_marked, has_mark, same_signs, shows_same, carries_same, is_changed_group, is_in_template}
-use Rattle.wt_checks.specs.Kept.{GroupAsItWas, HoldsTheSame, NodeAsItWas, is_of_page, WellMarked}
+use Rattle.wt_checks.specs.Kept.{GroupAsItWas, HoldsTheSame, NodeAsItWas, is_of_page, GroupKept, NodeKept, MarkKept}
 use Rattle.wt_checks.specs.Marks.{editing, allows, is_wrongly_marked}
 use Rattle.wt_checks.specs.Places.{Place, number, kind_at, is_kept, Condition, Page}
 use Rattle.wt_checks.specs.Unmarked.{own_character, entries, same_entries, holds_same, keeps_data, keeps_face, keeps_children, is_other, is_unmarked_change}
@@ -113,9 +113,6 @@ is_group_test values (tree l ts) (tree m us) g =
     ((attrs_decide l.attrs m.attrs).1 g.attrs) ((signs_decide (signs_in (written_for ts)) (signs_in (all_read us))).1 g.elements)))
     (of_either values (same_data l.mw m.mw) (elim g.mw [ inl v ↦ inl v | inr s ↦ inr ((data_decide l.mw m.mw).1 s) ]))))
 
-abbrev pub GroupKept : Bool → Page → Place → Type 0
-GroupKept values page p = is_kept p ≡ true → MatchOption (page (number p)) (Unit {0}) (λ q. is_group (kind_at q) ≡ true → GroupAsItWas values q.node p.node)
-
 group_of : (values : Bool) (o : Option Place) (u : Tree) → is_changed_group values o u ≡ false
     → MatchOption o (Unit {0}) (λ q. is_group (kind_at q) ≡ true → GroupAsItWas values q.node u)
 group_of values None u e = tt
@@ -186,10 +183,6 @@ is_node t u h =
     (of_both (same_attrs l.attrs m.attrs) (keeps_data l.mw m.mw) ((attrs_decide l.attrs m.attrs).1 h.attrs) (is_data l.mw m.mw h.mw)))
     (of_either (is_marked m.mark) (holds_same t u) (elim h.holds [ inl v ↦ inl v | inr s ↦ inr (is_holding t u s) ])))
 
-abbrev pub NodeKept : Page → Place → Type 0
-NodeKept page p = is_of_page p ≡ true → p.in_content ≡ false
-    → MatchOption (page (number p)) (Unit {0}) (λ q. is_group (kind_at q) ≡ false → NodeAsItWas q.node p.node)
-
 node_of : (o : Option Place) (u : Tree) → is_other o u ≡ false → MatchOption o (Unit {0}) (λ q. is_group (kind_at q) ≡ false → NodeAsItWas q.node u)
 node_of None u e = tt
 node_of (Some q) u e = λ g. node_is q.node u (test_and (not (is_group (kind_at q)))
@@ -211,9 +204,6 @@ kept_node page before p after h =
     (λ k. and_test (not p.in_content) (is_other (page (number p)) p.node) (λ c. of_node (page (number p)) p.node (h k (is_false p.in_content c))))
 
 -- ---- marks
-
-abbrev pub MarkKept : Page → Place → Type 0
-MarkKept page p = is_marked (label p.node).mark ≡ true → WellMarked page p
 
 abbrev allowed : Page → Place → Bool
 allowed page p = allows (editing (kind_at p)) (label p.node).mark (page (number p))

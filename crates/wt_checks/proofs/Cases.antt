@@ -78,12 +78,6 @@ content_changed : checked false two_lines (body
 unfolding checked same_kind same_data
 content_changed = refl
 
--- no mark `children` may stand so far: not even on the body
-children_changed : checked false two_lines (marked children kind.Body 0
-    (node kind.Para 0 (words (codes "x") ∷ []) ∷ node kind.Para 2 (words (codes "b") ∷ []) ∷ [])) ≡ Some (NotEditable 0)
-unfolding checked same_kind same_data
-children_changed = refl
-
 -- ---- numbers
 
 unknown_number : checked false one_letter (body (node kind.Para 9 (words (codes "a") ∷ []) ∷ [])) ≡ Some (UnknownId 9)
@@ -144,12 +138,6 @@ last_comment_missing : checked false (body (node kind.Para 1 (words (codes "a") 
     (body (node kind.Para 1 (words (codes "a") ∷ []) ∷ [])) ≡ None
 unfolding checked same_kind same_data
 last_comment_missing = refl
-
--- a comment of a body marked `children` is missing: the mark is refused
-child_comment_missing : checked false (body (node kind.Para 1 [] ∷ node kind.Comment 2 [] ∷ node kind.Para 3 [] ∷ []))
-    (marked children kind.Body 0 (node kind.Para 1 [] ∷ node kind.Para 3 [] ∷ [])) ≡ Some (NotEditable 0)
-unfolding checked same_kind same_data
-child_comment_missing = refl
 
 -- ---- changes without a mark
 
@@ -241,12 +229,6 @@ item_with_shown_list : checked false (body (node kind.Ul 1 (node kind.Li 2 (grou
     (body (node kind.Ul 1 (marked content kind.Li 2 [] ∷ []) ∷ [])) ≡ Some (NotEditable 2)
 unfolding checked same_kind same_data
 item_with_shown_list = refl
-
--- of two lists with marks that may not stand the first in preorder is named
-inner_list : checked false (body (node kind.Ul 1 (node kind.Li 2 (node kind.Ul 3 [] ∷ []) ∷ []) ∷ []))
-    (body (marked children kind.Ul 1 (node kind.Li 2 (marked children kind.Ul 3 [] ∷ []) ∷ []) ∷ [])) ≡ Some (NotEditable 1)
-unfolding checked same_kind same_data
-inner_list = refl
 
 -- ---- groups: the paragraph 1 holds the group 2, which shows a text, a comment and bold
 

@@ -1,5 +1,5 @@
--- Where nothing is refused and no node may hold other children, the edited tree is the page's but for
--- what may differ.
+-- Where nothing is refused, the edited tree is the page's but for what may differ, and where it is, nothing
+-- is refused.
 use Rattle.std.proofs.Common.{◌≡◌, Bool, true, false, List, [], ◌∷◌, refl, sym, ap, ◌∙◌}
 use Rattle.std.specs.Prelude.{◌==◌, ◌||◌, not, Option, Some, None}
 use Rattle.std.specs.List.{AllByRecursion}
@@ -12,19 +12,22 @@ use Rattle.wt_tree.specs.Tree.{Tree, tree, label}
 use Rattle.wt_checks.specs.Checked.{checked}
 use Rattle.wt_checks.specs.Gist.{gist}
 use Rattle.wt_checks.specs.Ids.{is_there, is_unknown}
-use Rattle.wt_checks.specs.Kept.{Kept, GroupAsItWas, NodeAsItWas}
-use Rattle.wt_checks.specs.Places.{Place, places, kind_at, is_kept, is_body, Page, page_of}
-use Rattle.wt_checks.specs.PutBack.{original, inside_back, put_back, all_put_back, NoNewChildren, IsOneBody, AreAsRead, IsThePage}
+use Rattle.wt_checks.specs.Kept.{Kept, GroupAsItWas, NodeAsItWas, NodeKept}
+use Rattle.wt_checks.specs.Places.{Place, places, kind_at, is_kept, is_body, parent_below, Page, page_of}
+use Rattle.wt_checks.specs.PutBack.{original, inside_back, put_back, all_put_back, IsOneBody, AreAsRead, IsThePage}
 use Rattle.wt_checks.specs.Unmarked.{is_compared}
+use Rattle.wt_checks.proofs.Children.{all_stand_in}
+use Rattle.wt_checks.proofs.Given.{HiddenKept, all_given}
 use Rattle.wt_checks.proofs.Found.{PageNodes, page_nodes, body_no_group}
 use Rattle.wt_checks.proofs.InOrder.{Nowhere, none_of_them, not_false, zero_of}
 use Rattle.wt_checks.proofs.Lookups.{all_page_numbers}
-use Rattle.wt_checks.proofs.AsItWas.{NodeKept}
-use Rattle.wt_checks.proofs.OnlyThePage.{HiddenKept, all_given, gist_number, node_kept}
+use Rattle.wt_checks.proofs.InNew.{held_in_new}
+use Rattle.wt_checks.proofs.OnlyThePage.{gist_number, node_kept}
 use Rattle.wt_checks.proofs.Parents.{edited_free}
 use Rattle.wt_checks.proofs.PlainGist.{same_plain}
 use Rattle.wt_checks.proofs.PutBack.{Stays, all_stay, at_some, not_both, IsFor, body_element, for_body, same_node}
 use Rattle.wt_checks.proofs.Repeated.{and_not}
+use Rattle.wt_checks.proofs.Standing.{all_distinct}
 use Rattle.wt_checks.proofs.WhatIsKept.{kept, unrefused, increasing}
 
 body_is : (k : Kind) → is_body k ≡ true → k ≡ kind.Body
@@ -119,7 +122,7 @@ root_number values page (tree m us) t b e =
 
 hidden_kept : (page : Page) (ps : List Place) → AllByRecursion (NodeKept page) ps → AllByRecursion (HiddenKept page) ps
 hidden_kept page [] h = tt
-hidden_kept page (p ∷ ps) h = ((λ o c s. h.0 o c), hidden_kept page ps h.1)
+hidden_kept page (p ∷ ps) h = ((λ s. h.0), hidden_kept page ps h.1)
 
 pub is_page : (values : Bool) (page edited : Tree) → IsOneBody page → InPreorder page → is_body (label edited).kind ≡ true
     → checked values page edited ≡ None → IsThePage values page edited
@@ -130,22 +133,25 @@ is_page values page edited b h r e =
       order = a.order;
       groups = a.groups;
       hidden = hidden_kept (page_of page) (places edited) a.nodes;
+      inside_new = held_in_new (NodeKept (page_of page)) 0 false edited a.nodes;
       marks = a.marks;
     }
 
-pub page_is : (values : Bool) (page edited : Tree) → IsOneBody page → InPreorder page → IsOneBody edited → AreAsRead edited
-    → NoNewChildren edited → IsThePage values page edited → checked values page edited ≡ None
-page_is values page edited b h r d c a =
+pub page_is : (values : Bool) (page edited : Tree) → IsOneBody page → InPreorder page → AreAsRead page → IsOneBody edited → AreAsRead edited
+    → IsThePage values page edited → checked values page edited ≡ None
+page_is values page edited b h t r d a =
     let k : (label page).kind ≡ kind.Body = body_is (label page).kind b.root in
     let i = all_page_numbers page k h in
     let n : PageNodes page = nodes_of page b h in
+    let inc = increasing page k h in
     let z : (label edited).id ≡ 0 = root_number values (page_of page) edited page r.root a.compared ∙ i.root in
-    let g = all_given (page_of page) (places edited) a.hidden d (edited_free page edited b n i.unnumbered (increasing page k h) a.order) c in
+    let g = all_given values (page_of page) (places edited) a.groups a.hidden d (edited_free page edited b n i.unnumbered inc a.order)
+    (all_stand_in page edited b n i inc t a.order) (all_distinct edited (none_of_them (places page) (places edited) inc a.order).repeated) in
     unrefused values page edited k h (record {
       order = a.order;
       groups = a.groups;
       nodes =
           node_kept values (page_of page) 0 edited (record { node = page; parent = 0; in_content = false }) n.each
-          (root_for page edited b n r.root z i.root) r.alone g a.compared;
+          (root_for page edited b n r.root z i.root) (ap (parent_below 0) z ∙ sym z) r.alone g a.inside_new a.compared;
       marks = a.marks;
     })

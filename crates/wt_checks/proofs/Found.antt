@@ -130,18 +130,18 @@ mutual
       each_join KnownChildren (placed parent within t) (all_placed parent within ts) (unkept parent within t y.0) (all_unkept parent within ts y.1)
 
 -- the numbers of what a node holds
-record Inner (g : Bool) (ts : Trees) : Type 0 where
-  in_group : g ≡ true → AllZero (ids_of_all ts)
-  outside : g ≡ false → AllZero (others_of_all ts) × NoZero (numbers_of_all ts)
+pub record Inner (g : Bool) (ts : Trees) : Type 0 where
+  pub in_group : g ≡ true → AllZero (ids_of_all ts)
+  pub outside : g ≡ false → AllZero (others_of_all ts) × NoZero (numbers_of_all ts)
 
-inner_by : (n g : Bool) (id : ℕ) (ts : Trees) → AllZero ((if n then [] else id ∷ []) ++ (if g then ids_of_all ts else others_of_all ts))
+pub inner_by : (n g : Bool) (id : ℕ) (ts : Trees) → AllZero ((if n then [] else id ∷ []) ++ (if g then ids_of_all ts else others_of_all ts))
     → NoZero ((if n then id ∷ [] else []) ++ (if g then [] else numbers_of_all ts)) → Inner g ts
 inner_by true true id ts z o = record { in_group = λ e. z; outside = λ e. absurd (cc) }
 inner_by true false id ts z o = record { in_group = λ e. absurd (cc); outside = λ e. (z, o.1) }
 inner_by false true id ts z o = record { in_group = λ e. z.1; outside = λ e. absurd (cc) }
 inner_by false false id ts z o = record { in_group = λ e. absurd (cc); outside = λ e. (z.1, o) }
 
-own_by : (n : Bool) (id : ℕ) (ms : List ℕ) → NoZero ((if n then id ∷ [] else []) ++ ms) → n ≡ true → id ≢ 0
+pub own_by : (n : Bool) (id : ℕ) (ms : List ℕ) → NoZero ((if n then id ∷ [] else []) ++ ms) → n ≡ true → id ≢ 0
 own_by true id ms o e = o.0
 own_by false id ms o e = absurd (cc)
 

@@ -1,6 +1,8 @@
 pub mod Alikes
 pub mod AsItWas
 pub mod Cases
+pub mod Children
+pub mod ChildrenCases
 pub mod Compares
 pub mod EditedIsPage
 pub mod Elements
@@ -8,6 +10,8 @@ pub mod Entries
 pub mod FirstPlace
 pub mod Firsts
 pub mod Found
+pub mod Given
+pub mod InNew
 pub mod InOrder
 pub mod Known
 pub mod Lookups
@@ -22,5 +26,6 @@ pub mod Repeated
 pub mod Shows
 pub mod Signs
 pub mod Spans
+pub mod Standing
 pub mod Visits
 pub mod WhatIsKept

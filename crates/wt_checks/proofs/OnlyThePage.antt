@@ -13,37 +13,19 @@ use Rattle.wt_tree.specs.Tiling.{is_group}
 use Rattle.wt_tree.specs.Tree.{Label, Tree, tree, Trees, none, more, label, listed}
 use Rattle.wt_checks.specs.Gist.{Features, features, Gist, text, node, Gists, ended, along, gist_by, gist, gists}
 use Rattle.wt_checks.specs.Groups.{is_marked}
-use Rattle.wt_checks.specs.Kept.{children, is_of_page, HoldsTheSame, NodeAsItWas}
+use Rattle.wt_checks.specs.Kept.{children, HoldsTheSame, NodeAsItWas, NodeKept}
 use Rattle.wt_checks.specs.Marks.{is_children}
-use Rattle.wt_checks.specs.Places.{Place, placed, all_placed, number, kind_at, is_body, is_content, Page, parent_below}
-use Rattle.wt_checks.specs.PutBack.{original, page_data, data_back, label_back, inside_back, put_back, all_put_back, IsAsRead, has_body, have_body}
+use Rattle.wt_checks.specs.Places.{Place, placed, all_placed, kind_at, is_body, is_content, Page, parent_below}
+use Rattle.wt_checks.specs.PutBack.{original, inside, page_data, data_back, label_back, as_they_stand, inside_back, put_back, all_put_back, in_new, all_in_new, has_body, have_body}
 use Rattle.wt_checks.specs.Tokens.{is_text}
 use Rattle.wt_checks.specs.Unmarked.{Entry, is_compared, entry, entries}
 use Rattle.wt_checks.specs.Unmarked as unmarked
-use Rattle.wt_checks.proofs.AsItWas.{NodeKept}
 use Rattle.wt_checks.proofs.Found.{Found, IsKnown}
-use Rattle.wt_checks.proofs.InOrder.{kept_not_zero, zero_of}
+use Rattle.wt_checks.proofs.InOrder.{kept_not_zero, not_zero_kept, zero_of}
 use Rattle.wt_checks.proofs.Lookups.{each_split, each_join}
-use Rattle.wt_checks.proofs.Parents.{ParentFree}
+use Rattle.wt_checks.proofs.Given.{Given, IsPages, pages_children}
 use Rattle.wt_checks.proofs.PutBack.{not_both, and_false, content_marked, gist_node, gist_text, gist_list, shown_children, gists_shown, each_shown, numbered_kind, PageOf, IsFor, kept_for}
 use Rattle.wt_checks.proofs.Repeated.{or_false}
-
--- ---- what is given of a place of the edited tree
-
-abbrev pub HiddenKept : Page → Place → Type 0
-HiddenKept page p = is_of_page p ≡ true → p.in_content ≡ false → is_compared (showing (kind_at p)) ≡ false
-    → MatchOption (page (number p)) (Unit {0}) (λ q. is_group (kind_at q) ≡ false → NodeAsItWas q.node p.node)
-
-pub record Given (page : Page) (p : Place) : Type 0 where
-  pub hidden : HiddenKept page p
-  pub read : IsAsRead p
-  pub free : ParentFree page p
-  pub no_children : is_children (label p.node).mark ≡ false
-
-pub all_given : (page : Page) (ps : List Place) → AllByRecursion (HiddenKept page) ps → AllByRecursion IsAsRead ps → AllByRecursion (ParentFree page) ps
-    → AllByRecursion (λ p. is_children (label p.node).mark ≡ false) ps → AllByRecursion (Given page) ps
-all_given page [] h r f c = tt
-all_given page (p ∷ ps) h r f c = (record { hidden = h.0; read = r.0; free = f.0; no_children = c.0 }, all_given page ps h.1 r.1 f.1 c.1)
 
 -- ---- nodes that aren't compared with the page's
 
@@ -76,27 +58,27 @@ parent_same id parent e = by_test (id == 0) (zero_test id e)
 
 -- in a group of the page nothing is kept
 mutual
-  in_group : (page : Page) (n : ℕ) (q : Place) (within : Bool) (t : Tree) → page n ≡ Some q → is_group (kind_at q) ≡ true
-      → has_body t ≡ false → AllByRecursion (Given page) (placed n within t) → AllByRecursion (NodeKept page) (placed n within t)
-  in_group page n q within (tree l ts) e g b h =
+  in_group : (values : Bool) (page : Page) (n : ℕ) (q : Place) (within : Bool) (t : Tree) → page n ≡ Some q → is_group (kind_at q) ≡ true
+      → has_body t ≡ false → AllByRecursion (Given values page) (placed n within t) → AllByRecursion (NodeKept page) (placed n within t)
+  in_group values page n q within (tree l ts) e g b h =
       let c = or_false (is_body l.kind) (have_body ts) b in
       let new = λ (k : not (l.id == 0) ≡ true). not_both (is_group (kind_at q)) g (h.0.free k q e) in
       let z : l.id ≡ 0 = zero_of l.id (no_true (not (l.id == 0)) new) in
       let s : n ≡ parent_below n l.id = parent_same l.id n z in (
         λ o i. absurd (new_by (not (l.id == 0)) (is_body l.kind) o new c.0),
         subst (λ (m : ℕ). AllByRecursion (NodeKept page) (all_placed m (within || is_content l.mark) ts)) s
-            (all_in_group page n q (within || is_content l.mark) ts e g c.1
-            (subst (λ (m : ℕ). AllByRecursion (Given page) (all_placed m (within || is_content l.mark) ts)) (sym s) h.1)),
+            (all_in_group values page n q (within || is_content l.mark) ts e g c.1
+            (subst (λ (m : ℕ). AllByRecursion (Given values page) (all_placed m (within || is_content l.mark) ts)) (sym s) h.1)),
       )
 
-  all_in_group : (page : Page) (n : ℕ) (q : Place) (within : Bool) (ts : Trees) → page n ≡ Some q → is_group (kind_at q) ≡ true
-      → have_body ts ≡ false → AllByRecursion (Given page) (all_placed n within ts) → AllByRecursion (NodeKept page) (all_placed n within ts)
-  all_in_group page n q within none e g b h = tt
-  all_in_group page n q within (more t ts) e g b h =
+  all_in_group : (values : Bool) (page : Page) (n : ℕ) (q : Place) (within : Bool) (ts : Trees) → page n ≡ Some q → is_group (kind_at q) ≡ true
+      → have_body ts ≡ false → AllByRecursion (Given values page) (all_placed n within ts) → AllByRecursion (NodeKept page) (all_placed n within ts)
+  all_in_group values page n q within none e g b h = tt
+  all_in_group values page n q within (more t ts) e g b h =
       let c = or_false (has_body t) (have_body ts) b in
-      let s = each_split (Given page) (placed n within t) (all_placed n within ts) h in
-      each_join (NodeKept page) (placed n within t) (all_placed n within ts) (in_group page n q within t e g c.0 s.0)
-      (all_in_group page n q within ts e g c.1 s.1)
+      let s = each_split (Given values page) (placed n within t) (all_placed n within ts) h in
+      each_join (NodeKept page) (placed n within t) (all_placed n within ts) (in_group values page n q within t e g c.0 s.0)
+      (all_in_group values page n q within ts e g c.1 s.1)
 
 -- ---- what the gist tells
 
@@ -176,12 +158,29 @@ unmarked_content : (b : Bool) (m : Mark) → is_content m ≡ b → is_marked m 
 unmarked_content true m e f = absurd (not_both (is_marked m) (content_marked m e) f)
 unmarked_content false m e f = e
 
+children_marked : (m : Mark) → is_children m ≡ true → is_marked m ≡ true
+children_marked marks.Nothing e = e
+children_marked marks.Content e = absurd (cc)
+children_marked marks.Children e = refl
+children_marked marks.Other e = refl
+
+unmarked_children : (b : Bool) (m : Mark) → is_children m ≡ b → is_marked m ≡ false → is_children m ≡ false
+unmarked_children true m e f = absurd (not_both (is_marked m) (children_marked m e) f)
+unmarked_children false m e f = e
+
+-- with a mark `children` the page's children, as they stand
+stand_parts : (m : Mark) (g : Bool) (o : Option Place) (q : Place) (ys : Trees) (gs : Gists) → is_children m ≡ true → o ≡ Some q
+    → gists (inside_back m g o ys) ≡ gs → gists (as_they_stand (children q.node) ys) ≡ gs
+stand_parts marks.Nothing g o q ys gs c e h = absurd (cc)
+stand_parts marks.Content g o q ys gs c e h = absurd (cc)
+stand_parts marks.Children g o q ys gs c e h = sym (ap (λ x. gists (as_they_stand (inside x) ys)) e) ∙ h
+stand_parts marks.Other g o q ys gs c e h = absurd (cc)
+
 -- a node with the page's features and entries is as it was
 node_as : (values : Bool) (page : Page) (o : Option Place) (q : Place) (m : Label) (us : Trees) → o ≡ Some q → is_group (kind_at q) ≡ false
-    → is_children m.mark ≡ false
     → Parts values o m (inside_back m.mark (is_group m.kind) o (all_put_back values page us)) q.node
     → NodeAsItWas q.node (tree m us)
-node_as values page o q m us oe g d p =
+node_as values page o q m us oe g p =
     let k : m.kind ≡ kind_at q = ap (λ (f : Features). f.kind) p.features in
     let n : is_group m.kind ≡ false = ap is_group k ∙ g in
     record {
@@ -201,7 +200,7 @@ node_as values page o q m us oe g d p =
       held =
           gists_entries (children q.node)
           ∙ ap entries_of (sym (inside_parts m.mark (is_group m.kind) o (all_put_back values page us) (gists (children q.node))
-          (unmarked_content (is_content m.mark) m.mark refl e) d n p.held))
+          (unmarked_content (is_content m.mark) m.mark refl e) (unmarked_children (is_children m.mark) m.mark refl e) n p.held))
           ∙ sym (back_entries values page us);
     })
 
@@ -211,17 +210,18 @@ of_some P (Some r) q e h = let d : q ≡ r = cc in subst P d h
 
 -- ---- places below a node
 
-below_by : (c g : Bool) (page : Page) (m : Label) (parent : ℕ) (q : Place) (us : Trees) → is_group m.kind ≡ g → page m.id ≡ Some q
-    → (is_group m.kind ≡ true → is_group (kind_at q) ≡ true) → (is_group (kind_at q) ≡ true → parent_below parent m.id ≡ m.id)
-    → have_body us ≡ false → AllByRecursion (Given page) (all_placed (parent_below parent m.id) c us)
-    → (c ≡ false → g ≡ false → AllByRecursion (NodeKept page) (all_placed (parent_below parent m.id) false us))
+below_by : (c g d : Bool) (values : Bool) (page : Page) (m : Label) (parent : ℕ) (q : Place) (us : Trees) → is_group m.kind ≡ g → is_children m.mark ≡ d
+    → page m.id ≡ Some q → (is_group m.kind ≡ true → is_group (kind_at q) ≡ true) → parent_below parent m.id ≡ m.id
+    → have_body us ≡ false → AllByRecursion (Given values page) (all_placed (parent_below parent m.id) c us)
+    → (c ≡ false → g ≡ false → d ≡ false → AllByRecursion (NodeKept page) (all_placed (parent_below parent m.id) false us))
+    → (c ≡ false → g ≡ false → d ≡ true → AllByRecursion (NodeKept page) (all_placed (parent_below parent m.id) false us))
     → AllByRecursion (NodeKept page) (all_placed (parent_below parent m.id) c us)
-below_by true g page m parent q us i e k s b h f = all_in_content page (parent_below parent m.id) us
-below_by false true page m parent q us i e k s b h f =
-    let d = s (k i) in
-    subst (λ (n : ℕ). AllByRecursion (NodeKept page) (all_placed n false us)) (sym d)
-    (all_in_group page m.id q false us e (k i) b (subst (λ (n : ℕ). AllByRecursion (Given page) (all_placed n false us)) d h))
-below_by false false page m parent q us i e k s b h f = f refl refl
+below_by true g d values page m parent q us i j e k s b h f x = all_in_content page (parent_below parent m.id) us
+below_by false true d values page m parent q us i j e k s b h f x =
+    subst (λ (n : ℕ). AllByRecursion (NodeKept page) (all_placed n false us)) (sym s)
+    (all_in_group values page m.id q false us e (k i) b (subst (λ (n : ℕ). AllByRecursion (Given values page) (all_placed n false us)) s h))
+below_by false false false values page m parent q us i j e k s b h f x = f refl refl refl
+below_by false false true values page m parent q us i j e k s b h f x = x refl refl refl
 
 kept_below : (parent id : ℕ) → not (id == 0) ≡ true → parent_below parent id ≡ id
 kept_below parent id e = by_test (id == 0) e
@@ -234,19 +234,19 @@ nothing_below : (page : Page) (parent : ℕ) (within : Bool) (us : Trees) → us
 nothing_below page parent within us e = subst (λ (ts : Trees). AllByRecursion (NodeKept page) (all_placed parent within ts)) (sym e) tt
 
 -- one child: it isn't compared, or a text, or an element that is the page's
-child_kept : (c b : Bool) (page : Page) (parent : ℕ) (m : Label) (us : Trees) → is_compared (showing m.kind) ≡ c → is_text (writing m.kind) ≡ b
-    → is_body m.kind ≡ false → Given page (record { node = tree m us; parent = parent; in_content = false })
+child_kept : (c b : Bool) (values : Bool) (page : Page) (parent : ℕ) (m : Label) (us : Trees) → is_compared (showing m.kind) ≡ c → is_text (writing m.kind) ≡ b
+    → is_body m.kind ≡ false → Given values page (record { node = tree m us; parent = parent; in_content = false })
     → (c ≡ true → b ≡ false → AllByRecursion (NodeKept page) (placed parent false (tree m us)))
     → AllByRecursion (NodeKept page) (placed parent false (tree m us))
-child_kept false b page parent m us c w n h f = (
-  λ o i. h.hidden o i c,
+child_kept false b values page parent m us c w n h f = (
+  h.hidden c,
   nothing_below page (parent_below parent m.id) (false || is_content m.mark) us (h.read.hidden c),
 )
-child_kept true true page parent m us c w n h f = (
+child_kept true true values page parent m us c w n h f = (
   λ o i. absurd (new_by (not (m.id == 0)) (is_body m.kind) o (λ k. kept_not_zero m.id k (h.read.unnumbered w)) n),
   nothing_below page (parent_below parent m.id) (false || is_content m.mark) us (h.read.text w),
 )
-child_kept true false page parent m us c w n h f = f refl refl
+child_kept true false values page parent m us c w n h f = f refl refl
 
 -- the children that are compared, beside the page's
 children_by : (c : Bool) (g : Gist) (rest : Gists) (page : Page) (ts : List Tree) (P Q : Type 0) → (if c then along g rest else rest) ≡ gist_list ts
@@ -275,43 +275,87 @@ element_found values page o m xs t w e f k =
     let r = f z in
     (r.0, ap page d ∙ r.1, r.2, (λ i. z (sym d ∙ i)))
 
+-- a child of a node that is marked `children`: a new one, whose inside is kept, or the page's
+marked_child_by : (k : Bool) (values : Bool) (page : Page) (parent : ℕ) (m : Label) (us : Trees) → not (m.id == 0) ≡ k
+    → is_body m.kind ≡ false → AllByRecursion (Given values page) (placed parent false (tree m us)) → AllByRecursion (NodeKept page) (in_new parent false (tree m us))
+    → (m.id ≢ 0 → is_text (writing m.kind) ≡ false → is_compared (showing m.kind) ≡ true → AllByRecursion (NodeKept page) (placed parent false (tree m us)))
+    → AllByRecursion (NodeKept page) (placed parent false (tree m us))
+marked_child_by true values page parent m us k n h i f =
+    child_kept (is_compared (showing m.kind)) (is_text (writing m.kind)) values page parent m us refl refl n h.0
+    (λ c w. f (kept_not_zero m.id k) w c)
+marked_child_by false values page parent m us k n h i f =
+    let new : (not (m.id == 0) || is_body m.kind) ≡ false = ap (λ b. b || is_body m.kind) k ∙ n in (
+      λ o c. absurd (not_both (not (m.id == 0) || is_body m.kind) o new),
+      subst (λ (b : Bool). AllByRecursion (NodeKept page) (if b then all_in_new (parent_below parent m.id) (false || is_content m.mark) us
+          else all_placed (parent_below parent m.id) (false || is_content m.mark) us)) new i,
+    )
+
+old_in_new : (page : Page) (parent : ℕ) (m : Label) (us : Trees) → (not (m.id == 0) || is_body m.kind) ≡ true
+    → AllByRecursion (NodeKept page) (in_new parent false (tree m us)) → AllByRecursion (NodeKept page) (all_in_new (parent_below parent m.id) (false || is_content m.mark) us)
+old_in_new page parent m us o i =
+    subst (λ (b : Bool). AllByRecursion (NodeKept page) (if b then all_in_new (parent_below parent m.id) (false || is_content m.mark) us
+    else all_placed (parent_below parent m.id) (false || is_content m.mark) us)) o i
+
 mutual
-  pub node_kept : (values : Bool) (page : Page) (parent : ℕ) (u : Tree) (q : Place) → PageOf page → IsFor page (label u) q → have_body (children u) ≡ false
-      → AllByRecursion (Given page) (placed parent false u) → gist (put_back values page u) ≡ gist q.node
-      → AllByRecursion (NodeKept page) (placed parent false u)
-  node_kept values page parent (tree m us) q H f b s e =
+  pub node_kept : (values : Bool) (page : Page) (parent : ℕ) (u : Tree) (q : Place) → PageOf page → IsFor page (label u) q
+      → parent_below parent (label u).id ≡ (label u).id → have_body (children u) ≡ false
+      → AllByRecursion (Given values page) (placed parent false u) → AllByRecursion (NodeKept page) (in_new parent false u)
+      → gist (put_back values page u) ≡ gist q.node → AllByRecursion (NodeKept page) (placed parent false u)
+  node_kept values page parent (tree m us) q H f d b s i e =
       let o : Option Place = original page m in
       let oe : o ≡ Some q = ap (λ z. if z then page m.id else None) f.old ∙ f.there in
-      let xs : Trees = inside_back m.mark (is_group m.kind) o (all_put_back values page us) in
-      let p = parts_by (is_text (writing (kind_at q))) values o m xs q.node refl f.element e in
-      let k : m.kind ≡ kind_at q = ap (λ (x : Features). x.kind) p.features in (
+      let vs : Trees = all_put_back values page us in
+      let p = parts_by (is_text (writing (kind_at q))) values o m (inside_back m.mark (is_group m.kind) o vs) q.node refl f.element e in
+      let k : m.kind ≡ kind_at q = ap (λ (x : Features). x.kind) p.features in
+      let n : ℕ = parent_below parent m.id in
+      let new = old_in_new page parent m us f.old i in
+      let out = λ (c : is_content m.mark ≡ false). subst (λ (w : Bool). AllByRecursion (Given values page) (all_placed n w us)) c s.1 in
+      let inner = λ (c : is_content m.mark ≡ false). subst (λ (w : Bool). AllByRecursion (NodeKept page) (all_in_new n w us)) c new in (
         λ old out. of_some (λ r. is_group (kind_at r) ≡ false → NodeAsItWas r.node (tree m us)) (page m.id) q f.there
-            (λ g. node_as values page o q m us oe g s.0.no_children p),
-        below_by (is_content m.mark) (is_group m.kind) page m parent q us refl f.there (λ g. ap is_group (sym k) ∙ g)
-            (λ g. kept_below parent m.id (f.kept g)) b s.1
-            (λ c g. nodes_kept values page (parent_below parent m.id) us (shown_children (children q.node)) H
-            (inside_parts m.mark (is_group m.kind) o (all_put_back values page us) (gists (children q.node)) c s.0.no_children g p.held
-            ∙ gists_shown (children q.node))
+            (λ g. node_as values page o q m us oe g p),
+        below_by (is_content m.mark) (is_group m.kind) (is_children m.mark) values page m parent q us refl refl f.there (λ g. ap is_group (sym k) ∙ g) d b s.1
+            (λ c g x. nodes_kept values page n us (shown_children (children q.node)) H
+            (inside_parts m.mark (is_group m.kind) o vs (gists (children q.node)) c x g p.held ∙ gists_shown (children q.node))
             (each_shown (Found page) (λ t. is_compared (showing (label t).kind)) (listed (children q.node)) f.found)
-            (each_shown IsKnown (λ t. is_compared (showing (label t).kind)) (listed (children q.node)) (f.known (ap is_group (sym k) ∙ g))) b
-            (subst (λ (w : Bool). AllByRecursion (Given page) (all_placed (parent_below parent m.id) w us)) c s.1)),
+            (each_shown IsKnown (λ t. is_compared (showing (label t).kind)) (listed (children q.node)) (f.known (ap is_group (sym k) ∙ g))) b (out c) (inner c))
+            (λ c g x. children_kept values page n us H b (out c) (inner c)
+            (pages_children values page n q us H (ap page d ∙ f.there) (stand_parts m.mark (is_group m.kind) o q vs (gists (children q.node)) x oe p.held)
+            f.found s.0.distinct (out c))),
       )
 
   nodes_kept : (values : Bool) (page : Page) (parent : ℕ) (us : Trees) (ts : List Tree) → PageOf page
       → gists (all_put_back values page us) ≡ gist_list ts → AllByRecursion (Found page) ts → AllByRecursion IsKnown ts → have_body us ≡ false
-      → AllByRecursion (Given page) (all_placed parent false us) → AllByRecursion (NodeKept page) (all_placed parent false us)
-  nodes_kept values page parent none ts H e f k b s = tt
-  nodes_kept values page parent (more (tree m vs) us) ts H e f k b s =
-      let w = each_split (Given page) (placed parent false (tree m vs)) (all_placed parent false us) s in
+      → AllByRecursion (Given values page) (all_placed parent false us) → AllByRecursion (NodeKept page) (all_in_new parent false us)
+      → AllByRecursion (NodeKept page) (all_placed parent false us)
+  nodes_kept values page parent none ts H e f k b s i = tt
+  nodes_kept values page parent (more (tree m vs) us) ts H e f k b s i =
+      let w = each_split (Given values page) (placed parent false (tree m vs)) (all_placed parent false us) s in
+      let j = each_split (NodeKept page) (in_new parent false (tree m vs)) (all_in_new parent false us) i in
       let n = or_false (is_body m.kind || have_body vs) (have_body us) b in
       let d = or_false (is_body m.kind) (have_body vs) n.0 in
       let g : Gist = gist (put_back values page (tree m vs)) in
       let r = children_by (is_compared (showing m.kind)) g (gists (all_put_back values page us)) page ts
       (AllByRecursion (NodeKept page) (placed parent false (tree m vs))) (AllByRecursion (NodeKept page) (all_placed parent false us)) e f k
-      (λ h. child_kept (is_compared (showing m.kind)) (is_text (writing m.kind)) page parent m vs refl refl d.0 w.0.0
+      (λ h. child_kept (is_compared (showing m.kind)) (is_text (writing m.kind)) values page parent m vs refl refl d.0 w.0.0
       (λ c i. let t = h c in
       let a = element_found values page (original page m) m
       (inside_back m.mark (is_group m.kind) (original page m) (all_put_back values page vs)) t.0 i t.1 t.2 t.3 in
-      node_kept values page parent (tree m vs) a.0 H (kept_for page m a.0 H i a.3 a.1) d.1 w.0 (t.1 ∙ ap gist (sym a.2))))
-      (λ rs x y z. nodes_kept values page parent us rs H x y z n.1 w.1) in
+      node_kept values page parent (tree m vs) a.0 H (kept_for page m a.0 H i a.3 a.1) (kept_below parent m.id (not_zero_kept m.id a.3)) d.1 w.0 j.0
+      (t.1 ∙ ap gist (sym a.2))))
+      (λ rs x y z. nodes_kept values page parent us rs H x y z n.1 w.1 j.1) in
       each_join (NodeKept page) (placed parent false (tree m vs)) (all_placed parent false us) r.0 r.1
+
+  children_kept : (values : Bool) (page : Page) (parent : ℕ) (us : Trees) → PageOf page → have_body us ≡ false
+      → AllByRecursion (Given values page) (all_placed parent false us) → AllByRecursion (NodeKept page) (all_in_new parent false us)
+      → AllByRecursion (IsPages values page) (listed us) → AllByRecursion (NodeKept page) (all_placed parent false us)
+  children_kept values page parent none H b s i a = tt
+  children_kept values page parent (more (tree m vs) us) H b s i a =
+      let w = each_split (Given values page) (placed parent false (tree m vs)) (all_placed parent false us) s in
+      let j = each_split (NodeKept page) (in_new parent false (tree m vs)) (all_in_new parent false us) i in
+      let n = or_false (is_body m.kind || have_body vs) (have_body us) b in
+      let d = or_false (is_body m.kind) (have_body vs) n.0 in
+      each_join (NodeKept page) (placed parent false (tree m vs)) (all_placed parent false us)
+      (marked_child_by (not (m.id == 0)) values page parent m vs refl d.0 w.0 j.0
+      (λ z x c. let r = a.0 z c in
+      node_kept values page parent (tree m vs) r.0 H (kept_for page m r.0 H x z r.1) (kept_below parent m.id (not_zero_kept m.id z)) d.1 w.0 j.0 r.2))
+      (children_kept values page parent us H n.1 w.1 j.1 a.1)

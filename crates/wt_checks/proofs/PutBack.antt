@@ -17,14 +17,14 @@ use Rattle.wt_checks.specs.declared.editing.Editing.{Editing}
 use Rattle.wt_checks.specs.declared.editing.Editing.TheVariants.{Never, Content, InlineContent, Children, TopChildren}
 use Rattle.wt_checks.specs.Gist.{features, Gist, text, node, Gists, ended, along, gist_by, gist, gists}
 use Rattle.wt_checks.specs.Groups.{is_marked}
-use Rattle.wt_checks.specs.Kept.{children, is_of_page, GroupAsItWas, HoldsTheSame, NodeAsItWas}
+use Rattle.wt_checks.specs.Kept.{children, is_of_page, GroupAsItWas, HoldsTheSame, NodeAsItWas, GroupKept, NodeKept, MarkKept}
 use Rattle.wt_checks.specs.Marks.{editing, allows, is_children}
 use Rattle.wt_checks.specs.Places.{Place, placed, all_placed, number, kind_at, is_kept, is_body, is_content, Page, parent_below}
 use Rattle.wt_checks.specs.PutBack.{original, inside, page_data, data_back, label_back, numbered_or, as_they_stand, inside_back, put_back, all_put_back}
 use Rattle.wt_checks.specs.Tokens.{is_text}
 use Rattle.wt_checks.specs.Unmarked.{Entry, is_compared, entry, entries, own_character}
 use Rattle.wt_checks.specs.Unmarked as unmarked
-use Rattle.wt_checks.proofs.AsItWas.{GroupKept, NodeKept, MarkKept, both}
+use Rattle.wt_checks.proofs.AsItWas.{both}
 use Rattle.wt_checks.proofs.Found.{Found, IsKnown, PageNode}
 use Rattle.wt_checks.proofs.InOrder.{not_zero_kept}
 use Rattle.wt_checks.proofs.Lookups.{each_split}

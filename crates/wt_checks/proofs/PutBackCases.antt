@@ -1,10 +1,12 @@
 -- Worked cases of what is put back and what is compared, each by computing.
-use Rattle.std.proofs.Common.{◌≡◌, ◌≢◌, ℕ, true, false, None, [], ◌∷◌, refl, ap, arith, codes}
+use Rattle.std.proofs.Common.{◌≡◌, ◌≢◌, ℕ, true, false, None, [], ◌∷◌, map, refl, ap, arith, codes}
+use Rattle.std.specs.Prelude.{filter}
 use Rattle.wt_tree.specs.declared.kind.Kind.TheVariants as kind
 use Rattle.wt_checks.specs.Gist.{Gist, Gists, ended, along, gist}
 use Rattle.wt_checks.specs.Gist as gist_words
-use Rattle.wt_checks.specs.Places.{page_of}
-use Rattle.wt_checks.specs.PutBack.{put_back}
+use Rattle.wt_tree.specs.Tree.{Tree}
+use Rattle.wt_checks.specs.Places.{number, is_kept, page_of}
+use Rattle.wt_checks.specs.PutBack.{put_back, places_in_new}
 use Rattle.wt_checks.proofs.Cases.{node, marked, words, gap, entity, body, content, children, one_letter, two_lines, extension, group, text_span, bold, shows, read_as}
 
 -- ---- put back
@@ -19,6 +21,30 @@ children_back : put_back false (page_of two_lines)
     (marked children kind.Body 0 (node kind.Para 0 (words (codes "x") ∷ []) ∷ node kind.Para 2 (words (codes "c") ∷ []) ∷ []))
     ≡ marked children kind.Body 0 (node kind.Para 1 (words (codes "a") ∷ []) ∷ gap (codes "\n\n") ∷ node kind.Para 2 (words (codes "c") ∷ []) ∷ [])
 children_back = refl
+
+-- in a list and in the body at once
+abbrev list : Tree
+list = body (node kind.Ul 1 (node kind.Li 2 (words (codes "x") ∷ []) ∷ node kind.Li 3 (words (codes "y") ∷ []) ∷ []) ∷ [])
+
+items_back : put_back false (page_of list)
+    (marked children kind.Body 0 (node kind.Para 0 [] ∷ marked children kind.Ul 1 (node kind.Li 3 (words (codes "y") ∷ []) ∷ node kind.Li 0 [] ∷ []) ∷ []))
+    ≡ marked children kind.Body 0 (marked children kind.Ul 1 (node kind.Li 2 (words (codes "x") ∷ []) ∷ node kind.Li 3 (words (codes "y") ∷ []) ∷ []) ∷ [])
+items_back = refl
+
+-- what stands inside a new child is gone with it, so what is kept there is asked for beside this: the page's
+-- paragraph 1, changed, is nowhere in the tree that is put back, and it is the one kept node inside a new one
+abbrev hidden_change : Tree
+hidden_change = marked children kind.Body 0 (node kind.Table 0 (node kind.Para 1 (words (codes "x") ∷ []) ∷ []) ∷ node kind.Para 2 (words (codes "b") ∷ []) ∷ [])
+
+change_gone : gist (put_back false (page_of two_lines) hidden_change) ≡ gist two_lines
+change_gone = refl
+
+change_in_new : map number (filter is_kept (places_in_new hidden_change)) ≡ 1 ∷ []
+change_in_new = refl
+
+-- the inside of a kept node isn't inside a new one
+kept_not_new : places_in_new (body (node kind.Ul 1 (node kind.Li 2 [] ∷ []) ∷ [])) ≡ []
+kept_not_new = refl
 
 -- what is outside of marked content stays as it is
 text_stays : put_back false (page_of one_letter) (body (node kind.Para 1 (words (codes "b") ∷ []) ∷ [])) ≡ body (node kind.Para 1 (words (codes "b") ∷ []) ∷ [])

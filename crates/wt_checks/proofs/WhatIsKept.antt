@@ -9,11 +9,11 @@ use Rattle.wt_checks.specs.declared.refusal.Check.TheVariants.{UnknownId, Repeat
 use Rattle.wt_checks.specs.Checked.{or_else, checked}
 use Rattle.wt_checks.specs.Groups.{is_in_template}
 use Rattle.wt_checks.specs.Ids.{is_unknown, is_repeated, is_moved}
-use Rattle.wt_checks.specs.Kept.{Kept}
+use Rattle.wt_checks.specs.Kept.{Kept, GroupKept, NodeKept, MarkKept}
 use Rattle.wt_checks.specs.Marks.{is_wrongly_marked}
 use Rattle.wt_checks.specs.Places.{Place, places, number, is_kept, Page, page_of, first}
 use Rattle.wt_checks.specs.Unmarked.{is_unmarked_change}
-use Rattle.wt_checks.proofs.AsItWas.{each_place, no_place, GroupKept, group_kept, kept_group, NodeKept, node_kept, kept_node, MarkKept, mark_kept, kept_mark}
+use Rattle.wt_checks.proofs.AsItWas.{each_place, no_place, group_kept, kept_group, node_kept, kept_node, mark_kept, kept_mark}
 use Rattle.wt_checks.proofs.InOrder.{nowhere, none_first, Increasing, range_increasing, in_order, none_of_them}
 use Rattle.wt_checks.proofs.Lookups.{page_numbers}
 

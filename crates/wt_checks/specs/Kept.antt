@@ -56,21 +56,28 @@ pub record NodeAsItWas (t u : Tree) : Type 0 where
 abbrev pub is_of_page : Place → Bool
 is_of_page p = is_kept p || is_body (kind_at p)
 
+-- where the page has a group for the number of a kept node, the node is that group as it was
+abbrev pub GroupKept : Bool → Page → Place → Type 0
+GroupKept values page p = is_kept p ≡ true → MatchOption (page (number p)) (Unit {0}) (λ q. is_group (kind_at q) ≡ true → GroupAsItWas values q.node p.node)
+
+-- where the page has another node for a node outside marked content, the node is as it was
+abbrev pub NodeKept : Page → Place → Type 0
+NodeKept page p = is_of_page p ≡ true → p.in_content ≡ false
+    → MatchOption (page (number p)) (Unit {0}) (λ q. is_group (kind_at q) ≡ false → NodeAsItWas q.node p.node)
+
 -- a mark that may stand there
 pub record WellMarked (page : Page) (p : Place) : Type 0 where
   pub outside : p.in_content ≡ false
   pub old : is_of_page p ≡ true
   pub allowed : allows (editing (kind_at p)) (label p.node).mark (page (number p)) ≡ true
 
+abbrev pub MarkKept : Page → Place → Type 0
+MarkKept page p = is_marked (label p.node).mark ≡ true → WellMarked page p
+
 -- Everything that isn't marked is kept: kept nodes in their order, groups as they were, each other node
 -- of the page outside marked content as it was, and marks where they may stand.
 pub record Kept (values : Bool) (page edited : Tree) : Type 0 where
   pub order : InOrder (places page) (places edited)
-  pub groups :
-      AllByRecursion (λ p. is_kept p ≡ true → MatchOption (page_of page (number p)) (Unit {0})
-      (λ q. is_group (kind_at q) ≡ true → GroupAsItWas values q.node p.node)) (places edited)
-  pub nodes :
-      AllByRecursion (λ p. is_of_page p ≡ true → p.in_content ≡ false
-      → MatchOption (page_of page (number p)) (Unit {0}) (λ q. is_group (kind_at q) ≡ false
-      → NodeAsItWas q.node p.node)) (places edited)
-  pub marks : AllByRecursion (λ p. is_marked (label p.node).mark ≡ true → WellMarked (page_of page) p) (places edited)
+  pub groups : AllByRecursion (GroupKept values (page_of page)) (places edited)
+  pub nodes : AllByRecursion (NodeKept (page_of page)) (places edited)
+  pub marks : AllByRecursion (MarkKept (page_of page)) (places edited)

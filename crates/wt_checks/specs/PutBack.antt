@@ -1,5 +1,5 @@
 -- An edited tree in which everything that may differ is the page's again.
-use Rattle.std.specs.Prelude.{ℕ, ◌≡◌, ◌==◌, ◌&&◌, ◌||◌, not, Bool, true, false, MatchOption, Option, Some, None, if◌then◌else◌}
+use Rattle.std.specs.Prelude.{ℕ, ◌≡◌, ◌==◌, ◌&&◌, ◌||◌, not, Bool, true, false, Option, Some, None, List, [], ◌++◌, if◌then◌else◌}
 use Rattle.std.specs.List.{AllByRecursion}
 use Rattle.wt_tree.specs.declared.kind.Mark.{Mark}
 use Rattle.wt_tree.specs.declared.kind.Mark.TheVariants as marks
@@ -8,10 +8,8 @@ use Rattle.wt_tree.specs.Kinds.{showing, writing}
 use Rattle.wt_tree.specs.Tiling.{is_group}
 use Rattle.wt_tree.specs.Tree.{Label, Tree, tree, Trees, none, more, label}
 use Rattle.wt_checks.specs.Gist.{gist}
-use Rattle.wt_checks.specs.Groups.{is_marked}
-use Rattle.wt_checks.specs.Kept.{children, InOrder, is_of_page, GroupAsItWas, NodeAsItWas, WellMarked}
-use Rattle.wt_checks.specs.Marks.{is_children}
-use Rattle.wt_checks.specs.Places.{Place, number, kind_at, is_kept, is_body, places, Page, page_of}
+use Rattle.wt_checks.specs.Kept.{children, InOrder, GroupKept, NodeKept, MarkKept}
+use Rattle.wt_checks.specs.Places.{Place, number, kind_at, is_body, is_content, parent_below, all_placed, places, Page, page_of}
 use Rattle.wt_checks.specs.Tokens.{is_text}
 use Rattle.wt_checks.specs.Unmarked.{is_compared}
 
@@ -67,9 +65,21 @@ abbrev mutual
   all_put_back values page none = none
   all_put_back values page (more u us) = more (put_back values page u) (all_put_back values page us)
 
--- no node is marked `children`, so none may hold another list of children than in the page
-abbrev pub NoNewChildren : Tree → Type 0
-NoNewChildren edited = AllByRecursion (λ p. is_children (label p.node).mark ≡ false) (places edited)
+-- The nodes inside new elements, in preorder. What has a number, and the body, isn't new.
+abbrev mutual
+  pub in_new : ℕ → Bool → Tree → List Place
+  in_new parent within (tree l ts) =
+      if not (l.id == 0) || is_body l.kind
+      then all_in_new (parent_below parent l.id) (within || is_content l.mark) ts
+      else all_placed (parent_below parent l.id) (within || is_content l.mark) ts
+
+  pub all_in_new : ℕ → Bool → Trees → List Place
+  all_in_new parent within none = []
+  all_in_new parent within (more t ts) = in_new parent within t ++ all_in_new parent within ts
+
+-- those of a tree whose root is a body
+abbrev pub places_in_new : Tree → List Place
+places_in_new t = in_new 0 false t
 
 -- a body among these nodes or inside them
 abbrev mutual
@@ -85,26 +95,24 @@ pub record IsOneBody (t : Tree) : Type 0 where
   pub root : is_body (label t).kind ≡ true
   pub alone : have_body (children t) ≡ false
 
--- A text, and what shows nothing, holds nothing, and a text has no number, as it is where a tree is read from HTML.
+-- A text, and what shows nothing, holds nothing, and a text has no number, as it is in a page's tree and in
+-- one that is read from HTML.
 pub record IsAsRead (p : Place) : Type 0 where
   pub hidden : is_compared (showing (kind_at p)) ≡ false → children p.node ≡ none
   pub text : is_text (writing (kind_at p)) ≡ true → children p.node ≡ none
   pub unnumbered : is_text (writing (kind_at p)) ≡ true → number p ≡ 0
 
 abbrev pub AreAsRead : Tree → Type 0
-AreAsRead edited = AllByRecursion IsAsRead (places edited)
+AreAsRead t = AllByRecursion IsAsRead (places t)
 
 -- The edited tree is the page's but for what may differ: with that put back, all that is compared is
--- the page's. Of what that doesn't see, kept nodes stand in their order, groups are as they were, so are
--- kept marks and skips outside marked content, and marks stand where they may.
+-- the page's. Of what that doesn't see, kept nodes stand in their order, groups are as they were, and so
+-- are, outside marked content, kept marks and skips and the kept nodes inside new elements; marks stand
+-- where they may.
 pub record IsThePage (values : Bool) (page edited : Tree) : Type 0 where
   pub compared : gist (put_back values (page_of page) edited) ≡ gist page
   pub order : InOrder (places page) (places edited)
-  pub groups :
-      AllByRecursion (λ p. is_kept p ≡ true → MatchOption (page_of page (number p)) (Unit {0})
-      (λ q. is_group (kind_at q) ≡ true → GroupAsItWas values q.node p.node)) (places edited)
-  pub hidden :
-      AllByRecursion (λ p. is_of_page p ≡ true → p.in_content ≡ false → is_compared (showing (kind_at p)) ≡ false
-      → MatchOption (page_of page (number p)) (Unit {0}) (λ q. is_group (kind_at q) ≡ false
-      → NodeAsItWas q.node p.node)) (places edited)
-  pub marks : AllByRecursion (λ p. is_marked (label p.node).mark ≡ true → WellMarked (page_of page) p) (places edited)
+  pub groups : AllByRecursion (GroupKept values (page_of page)) (places edited)
+  pub hidden : AllByRecursion (λ p. is_compared (showing (kind_at p)) ≡ false → NodeKept (page_of page) p) (places edited)
+  pub inside_new : AllByRecursion (NodeKept (page_of page)) (places_in_new edited)
+  pub marks : AllByRecursion (MarkKept (page_of page)) (places edited)

@@ -16,7 +16,7 @@ ghost use Rattle.wt_checks.specs.FirstRefusal.{IsFirstRefusal};
 ghost use Rattle.wt_checks.specs.Kept.{Kept};
 ghost use Rattle.wt_checks.specs.Gist.{gist};
 ghost use Rattle.wt_checks.specs.Places.{is_body, page_of};
-ghost use Rattle.wt_checks.specs.PutBack.{put_back, NoNewChildren, IsOneBody, AreAsRead, IsThePage};
+ghost use Rattle.wt_checks.specs.PutBack.{put_back, IsOneBody, AreAsRead, IsThePage};
 ghost use Rattle.wt_tree.specs.Plain.{plain};
 
 /// Nothing is refused exactly where all that isn't marked is kept: under each kept parent the kept
@@ -46,13 +46,13 @@ pub fn edited_is_the_page()
         → plain (put_back values (page_of page) edited) ≡ plain page }
 {}
 
-/// And nothing else is taken, where no node is marked `children`. Of a tree whose only body is the root,
-/// and in which texts and what shows nothing hold nothing, nothing is refused exactly where with all put back that may differ it is the
-/// page's, kept nodes stand in their order, groups and hidden nodes are as they were, and marks stand
-/// where they may.
+/// And nothing else is taken. Of a tree whose only body is the root, and in which texts and what shows
+/// nothing hold nothing, as in the page, nothing is refused exactly where with all put back that may
+/// differ it is the page's, kept nodes stand in their order, groups are as they were, and so are, outside
+/// marked content, hidden nodes and the kept nodes inside new elements; marks stand where they may.
 pub fn only_the_page_is_taken()
-    ensures { (values : Bool) (page edited : Tree) → IsOneBody page → InPreorder page → IsOneBody edited
-        → AreAsRead edited → NoNewChildren edited
+    ensures { (values : Bool) (page edited : Tree) → IsOneBody page → InPreorder page → AreAsRead page
+        → IsOneBody edited → AreAsRead edited
         → (checked values page edited ≡ None) ↔ IsThePage values page edited }
 {}
 
