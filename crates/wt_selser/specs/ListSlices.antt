@@ -39,19 +39,23 @@ abbrev pub from_kept : Trees → Trees
 from_kept none = none
 from_kept (more u us) = if is_kept_item u then more u us else from_kept us
 
--- New items before it stand at its start, each with a line break behind it.
+-- A new item before it stands at its start, with a line break behind it.
+abbrev pub new_one_before : (Tree → Tree → Bool) → ℕ → ℕ → Tree → List Change
+new_one_before same sign place u = if is_item u then at_place place (block_spelling same u sign ++ (10 ∷ [])) ∷ [] else []
+
 abbrev pub new_before : (Tree → Tree → Bool) → ℕ → ℕ → Trees → List Change
 new_before same sign place none = []
-new_before same sign place (more u us) =
-    if is_kept_item u then [] else
-    (if is_item u then at_place place (block_spelling same u sign ++ (10 ∷ [])) ∷ new_before same sign place us else new_before same sign place us)
+new_before same sign place (more u us) = if is_kept_item u then [] else new_one_before same sign place u ++ new_before same sign place us
+
+-- where the first item of the page begins that stands before the one with this number
+abbrev pub first_removed : ℕ → Trees → Option ℕ
+first_removed n none = None
+first_removed n (more t ts) = if (label t).id == n then None else (if is_item t then Some (start_of (label t).ranges) else first_removed n ts)
 
 -- Items of the page before it go with the separators behind them: from the first of them up to the kept one.
-abbrev pub removed_before : ℕ → ℕ → Trees → List Change
-removed_before n end none = []
-removed_before n end (more t ts) =
-    if (label t).id == n then [] else
-    (if is_item t then record { start = start_of (label t).ranges; end = end; by = [] } ∷ [] else removed_before n end ts)
+abbrev pub removed_before : Option ℕ → ℕ → List Change
+removed_before None end = []
+removed_before (Some start) end = record { start = start; end = end; by = [] } ∷ []
 
 -- ---- from the first kept item on
 
@@ -77,7 +81,7 @@ list_from same page sign ts us none = []
 list_from same page sign ts us (more v vs) =
     let behind = from_number (label v).id ts in
     let place = first_start behind in
-    removed_before (label v).id place ts ++ (new_before same sign place us ++ item_slices same page sign place (steps holder.List behind (more v vs)))
+    removed_before (first_removed (label v).id ts) place ++ (new_before same sign place us ++ item_slices same page sign place (steps holder.List behind (more v vs)))
 
 abbrev pub list_slices : (Tree → Tree → Bool) → Page → ℕ → Trees → Trees → List Change
 list_slices same page sign ts us = list_from same page sign ts us (from_kept us)

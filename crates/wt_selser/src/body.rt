@@ -283,12 +283,12 @@ fn push_new(
 // ---- the walk
 
 /// Appends the slices of a list that stands in the page, edited to these nodes.
-fn push_list_at(
+fn push_list_at<'t, 'a>(
     alloc: Global,
     found: &mut Vec<Change>,
-    index: &[Visit<'_, '_>],
-    old: Option<Visit<'_, '_>>,
-    new: &[Node<'_>],
+    index: &[Visit<'t, 'a>],
+    old: Option<Visit<'t, 'a>>,
+    new: &'t [Node<'a>],
 ) -> Result<(), NoMemory>
 {
     match old {
@@ -309,11 +309,11 @@ fn push_list_at(
 }
 
 /// Appends the slices of a kept child.
-pub fn push_child(
+pub fn push_child<'t, 'a>(
     alloc: Global,
     found: &mut Vec<Change>,
-    index: &[Visit<'_, '_>],
-    node: &Node<'_>,
+    index: &[Visit<'t, 'a>],
+    node: &'t Node<'a>,
 ) -> Result<(), NoMemory>
     ensures { (same : Tree → Tree → Bool) → TellsSame same → OnOk result (changes_view found.new.items
         ≡ changes_view found.old.items ++ child_slices same (indexed index.now) (view node.now)) }
@@ -333,11 +333,11 @@ pub fn push_child(
 }
 
 /// Appends the slices of the step at a place.
-fn push_step(
+fn push_step<'t, 'a>(
     alloc: Global,
     found: &mut Vec<Change>,
-    index: &[Visit<'_, '_>],
-    walk: Walk<'_, '_, '_>,
+    index: &[Visit<'t, 'a>],
+    walk: Walk<'_, 't, 'a>,
     at: usize,
     front: Front,
 ) -> Result<(), NoMemory>
@@ -361,11 +361,11 @@ fn push_step(
 }
 
 /// Appends the slices of a body whose children come and go, by the steps along them.
-pub fn push_body(
+pub fn push_body<'t, 'a>(
     alloc: Global,
     found: &mut Vec<Change>,
-    index: &[Visit<'_, '_>],
-    steps: &[Step<'_, '_>],
+    index: &[Visit<'t, 'a>],
+    steps: &[Step<'t, 'a>],
 ) -> Result<(), NoMemory>
     ensures { (same : Tree → Tree → Bool) → TellsSame same → OnOk result (changes_view found.new.items
         ≡ changes_view found.old.items ++ body_slices same (indexed index.now) start (steps_view steps.now)) }

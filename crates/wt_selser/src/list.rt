@@ -1,13 +1,14 @@
 //! The slices of a list whose items come and go.
 
-ghost use Rattle.std.specs.Prelude.{◌≡◌, ◌++◌, ◌∷◌, [], Bool, OnOk};
+ghost use Rattle.std.specs.Prelude.{◌≡◌, ◌≤◌, ◌++◌, ◌∷◌, [], Bool, List, drop, length, IfOk, OnOk};
 ghost use Rattle.wt_tree.specs.Tiling.{end_of};
 ghost use Rattle.wt_tree.specs.Tree.{Tree};
 ghost use Rattle.wt_tree.specs.View.{view, views};
 ghost use Rattle.wt_kept.specs.Page.{TellsSame};
 ghost use Rattle.wt_escape.specs.Spelling.{block_spelling};
 ghost use Rattle.wt_checks.specs.View.{indexed};
-ghost use Rattle.wt_selser.specs.ListSlices.{at_place, first_start, item_slices, list_slices, new_before, removed_before, sign_of, start_of};
+ghost use Rattle.wt_selser.specs.ListSlices.{at_place, first_removed, first_start, from_kept, item_slices, list_slices, new_before, new_one_before, removed_before, sign_of, start_of};
+ghost use Rattle.wt_selser.specs.Steps.{Step as Taken};
 ghost use Rattle.wt_selser.specs.Views.{changes_view, step_view, steps_view};
 
 use crate::change::{Change, push_insides};
@@ -74,7 +75,10 @@ fn push_removed(found: &mut Vec<Change>, alloc: Global, start: u32, end: u32) ->
 // ---- up to the first kept item
 
 /// The place of the first kept item of an edited list, or its end.
-fn first_kept(nodes: &[Node<'_>]) -> usize {
+fn first_kept(nodes: &[Node<'_>]) -> usize
+    ensures fits { result ≤ length nodes.now }
+    ensures behind { from_kept (views nodes.now) ≡ views (drop result nodes.now) }
+{
     for at in 0..nodes.len() {
         if is_kept_child(Holder::List, &nodes[at]) {
             return at;
@@ -92,8 +96,11 @@ fn push_new_before(
     node: &Node<'_>,
 ) -> Result<(), NoMemory>
     ensures { (same : Tree → Tree → Bool) → TellsSame same → OnOk result (changes_view found.new.items
-        ≡ changes_view found.old.items ++ at_place place (block_spelling same (view node.now) sign ++ (10 ∷ [])) ∷ []) }
+        ≡ changes_view found.old.items ++ new_one_before same sign place (view node.now)) }
 {
+    if !is_child(Holder::List, node.kind) {
+        return Ok(());
+    }
     let mut by = spell_block(alloc, node, sign)?;
     by.push_str("\n")?;
     push_at(found, place, by)?;
@@ -115,31 +122,37 @@ fn push_all_new_before(
         if is_kept_child(Holder::List, node) {
             return Ok(());
         }
-        if is_child(Holder::List, node.kind) {
-            push_new_before(alloc, found, sign, place, node)?;
-        }
+        push_new_before(alloc, found, sign, place, node)?;
     }
     Ok(())
 }
 
-/// Appends the slice of the items that are missing before the one with this number, which begins at `end`.
-fn push_removed_before(
-    alloc: Global,
-    found: &mut Vec<Change>,
-    number: u32,
-    end: u32,
-    nodes: &[Node<'_>],
-) -> Result<(), NoMemory>
-    ensures { OnOk result (changes_view found.new.items ≡ changes_view found.old.items ++ removed_before number end (views nodes.now)) }
+/// Where the first item of the page begins that stands before the one with this number.
+fn first_removed(number: u32, nodes: &[Node<'_>]) -> Option<u32>
+    ensures { result ≡ first_removed number (views nodes.now) }
 {
     for node in nodes {
         if node.id == number {
-            return Ok(());
+            return None;
         }
         if is_child(Holder::List, node.kind) {
-            push_removed(found, alloc, start_of(node.ranges), end)?;
-            return Ok(());
+            return Some(start_of(node.ranges));
         }
+    }
+    None
+}
+
+/// Appends the slice of the items that are missing before the first kept one, which begins at `end`.
+fn push_removed_before(
+    alloc: Global,
+    found: &mut Vec<Change>,
+    start: Option<u32>,
+    end: u32,
+) -> Result<(), NoMemory>
+    ensures { OnOk result (changes_view found.new.items ≡ changes_view found.old.items ++ removed_before start end) }
+{
+    if let Some(start) = start {
+        push_removed(found, alloc, start, end)?;
     }
     Ok(())
 }
@@ -175,6 +188,9 @@ fn push_step(
     at: u32,
     step: Step<'_, '_>,
 ) -> Result<u32, NoMemory>
+    ensures { (same : Tree → Tree → Bool) → TellsSame same → IfOk result (λ end. (ss : List Taken)
+        → changes_view found.new.items ++ item_slices same (indexed index.now) sign end ss
+        ≡ changes_view found.old.items ++ item_slices same (indexed index.now) sign at (step_view step.entry ∷ ss)) }
 {
     match step {
         Step::Stays(_) => Ok(at),
@@ -225,27 +241,26 @@ fn first_start(nodes: &[Node<'_>]) -> u32
 }
 
 /// Appends the slices of a list of these nodes, edited to those.
-pub fn push_list(
+pub fn push_list<'t, 'a>(
     alloc: Global,
     found: &mut Vec<Change>,
-    index: &[Visit<'_, '_>],
+    index: &[Visit<'t, 'a>],
     sign: char,
-    old: &[Node<'_>],
-    new: &[Node<'_>],
+    old: &'t [Node<'a>],
+    new: &'t [Node<'a>],
 ) -> Result<(), NoMemory>
     ensures { (same : Tree → Tree → Bool) → TellsSame same → OnOk result (changes_view found.new.items
         ≡ changes_view found.old.items ++ list_slices same (indexed index.now) sign (views old.now) (views new.now)) }
 {
-    let kept = first_kept(new);
-    if kept == new.len() {
+    let kept = &new[first_kept(new)..];
+    let Some(first) = kept.first() else {
         return Ok(());
-    }
-    let number = new[kept].id;
-    let behind = &old[place_of(old, 0, number)..];
+    };
+    let behind = &old[place_of(old, first.id)..];
     let place = first_start(behind);
-    push_removed_before(alloc, found, number, place, old)?;
+    push_removed_before(alloc, found, first_removed(first.id, old), place)?;
     push_all_new_before(alloc, found, sign, place, new)?;
-    let steps = steps_along(alloc, Holder::List, behind, &new[kept..])?;
+    let steps = steps_along(alloc, Holder::List, behind, kept)?;
     push_items(alloc, found, index, sign, place, steps.as_slice())?;
     Ok(())
 }

@@ -20,11 +20,11 @@ use wt_span::NoMemory;
 use wt_tree::Node;
 
 /// Appends the slices of the children of a body that keeps all of them.
-fn push_children(
+fn push_children<'t, 'a>(
     alloc: Global,
     found: &mut Vec<Change>,
-    index: &[Visit<'_, '_>],
-    nodes: &[Node<'_>],
+    index: &[Visit<'t, 'a>],
+    nodes: &'t [Node<'a>],
 ) -> Result<(), NoMemory>
     ensures { (same : Tree → Tree → Bool) → TellsSame same → OnOk result (changes_view found.new.items
         ≡ changes_view found.old.items ++ all_child_slices same (indexed index.now) (views nodes.now)) }
@@ -36,11 +36,11 @@ fn push_children(
 }
 
 /// The slices of a page that an edit replaces, in the order of the page.
-pub fn slices(
+pub fn slices<'t, 'a>(
     alloc: Global,
-    index: &[Visit<'_, '_>],
-    page: &Node<'_>,
-    edited: &Node<'_>,
+    index: &[Visit<'t, 'a>],
+    page: &'t Node<'a>,
+    edited: &'t Node<'a>,
 ) -> Result<Vec<Change>, NoMemory>
 {
     let mut found = Vec::new(alloc);

@@ -1,9 +1,10 @@
 //! The children of a node whose children come and go, as they are in the page and as they were edited to,
 //! step by step in the order of the new page.
 
-ghost use Rattle.std.specs.Prelude.{◌≡◌, ◌≤◌, ◌++◌, ◌∷◌, [], length, drop, OnOk, IfOk};
+ghost use Rattle.std.specs.Prelude.{◌≡◌, ◌≤◌, ◌++◌, ◌∷◌, [], length, take, drop, OnOk, IfOk};
+ghost use Rattle.wt_tree.specs.Tree.{Trees, more, label};
 ghost use Rattle.wt_tree.specs.View.{view, views};
-ghost use Rattle.wt_selser.specs.Steps.{from_number, passed, passed_one, passed_up_to, steps};
+ghost use Rattle.wt_selser.specs.Steps.{behind_first, from_number, kept_first, passed, passed_one, passed_up_to, steps};
 ghost use Rattle.wt_selser.specs.Views.{steps_view};
 
 use std::alloc::Global;
@@ -24,11 +25,13 @@ pub enum Step<'t, 'a> {
     Comes(&'t Node<'a>),
 }
 
-/// The place of the first node with this number from a place on, or the end.
-pub fn place_of(nodes: &[Node<'_>], from: usize, number: u32) -> usize
-    requires { from ≤ length nodes.now }
+/// The place of the first node with this number, or the end.
+pub fn place_of(nodes: &[Node<'_>], number: u32) -> usize
+    ensures fits { result ≤ length nodes.now }
+    ensures behind { views (drop result nodes.now) ≡ from_number number (views nodes.now) }
+    ensures before { (h : Holder) → passed h (views (take result nodes.now)) ≡ passed_up_to h number (views nodes.now) }
 {
-    for at in from..nodes.len() {
+    for at in 0..nodes.len() {
         if nodes[at].id == number {
             return at;
         }
@@ -65,44 +68,51 @@ fn push_passed<'t, 'a>(
     Ok(())
 }
 
-/// Passes the nodes of the page up to the one that a kept child stands for, and that one; it gives the
-/// place behind it.
+/// Passes the nodes of the page up to the one that a kept child stands for, and that one; it gives how many
+/// nodes these are.
 fn push_kept<'t, 'a>(
     steps: &mut Vec<Step<'t, 'a>>,
     holder: Holder,
     old: &'t [Node<'a>],
-    from: usize,
     child: &'t Node<'a>,
 ) -> Result<usize, NoMemory>
+    ensures fits { IfOk result (λ n. n ≤ length old.now) }
+    ensures behind { IfOk result (λ n. views (drop n old.now) ≡ behind_first (from_number (label (view child.now)).id (views old.now))) }
+    ensures pushed { OnOk result (steps_view steps.new.items ≡ steps_view steps.old.items
+        ++ (passed_up_to holder (label (view child.now)).id (views old.now)
+        ++ kept_first (from_number (label (view child.now)).id (views old.now)) (view child.now))) }
 {
-    let at = place_of(old, from, child.id);
-    push_passed(steps, holder, &old[from..at])?;
-    if at < old.len() {
-        steps.push(Step::Kept(&old[at], child))?;
-        return Ok(at + 1);
+    let at = place_of(old, child.id);
+    push_passed(steps, holder, &old[..at])?;
+    match old.get(at) {
+        None => Ok(at),
+        Some(node) => {
+            steps.push(Step::Kept(node, child))?;
+            Ok(at + 1)
+        }
     }
-    Ok(at)
 }
 
-/// Takes the step to a child of the edited tree, with the nodes of the page from a place on still to come;
-/// it gives the place from which they are then.
+/// Takes the step to a child of the edited tree, with these nodes of the page still to come; it gives how
+/// many of them are passed then.
 fn push_child<'t, 'a>(
     steps: &mut Vec<Step<'t, 'a>>,
     holder: Holder,
     old: &'t [Node<'a>],
-    from: usize,
     child: &'t Node<'a>,
 ) -> Result<usize, NoMemory>
+    ensures fits { IfOk result (λ n. n ≤ length old.now) }
+    ensures goes_on { (us : Trees) → IfOk result (λ n. steps_view steps.new.items ++ steps holder (views (drop n old.now)) us
+        ≡ steps_view steps.old.items ++ steps holder (views old.now) (more (view child.now) us)) }
 {
     if !is_child(holder, child.kind) {
-        return Ok(from);
+        return Ok(0);
     }
     if child.id == 0 {
         steps.push(Step::Comes(child))?;
-        return Ok(from);
+        return Ok(0);
     }
-    let behind = push_kept(steps, holder, old, from, child)?;
-    Ok(behind)
+    push_kept(steps, holder, old, child)
 }
 
 /// The steps along these nodes of the page, which were edited to those.
@@ -117,7 +127,8 @@ pub fn steps_along<'t, 'a>(
     let mut steps = Vec::new(alloc);
     let mut from = 0;
     for child in new {
-        from = push_child(&mut steps, holder, old, from, child)?;
+        let passed = push_child(&mut steps, holder, &old[from..], child)?;
+        from += passed;
     }
     push_passed(&mut steps, holder, &old[from..])?;
     Ok(steps)
