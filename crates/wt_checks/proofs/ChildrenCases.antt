@@ -1,10 +1,11 @@
 -- Worked cases of marks `children`, each by computing.
 use Rattle.std.proofs.Common.{◌≡◌, ℕ, false, Some, None, List, [], ◌∷◌, refl, codes}
 use Rattle.wt_tree.specs.declared.kind.Kind.TheVariants as kind
-use Rattle.wt_tree.specs.Tree.{Tree}
+use Rattle.wt_tree.specs.Tree.{Tree, trees}
 use Rattle.wt_checks.specs.declared.refusal.Check.TheVariants.{Moved, InTemplate, NotEditable, UnmarkedChange}
 use Rattle.wt_checks.specs.Alike.{same_kind, same_data}
 use Rattle.wt_checks.specs.Checked.{checked}
+use Rattle.wt_checks.specs.Kept.{own_numbers}
 use Rattle.wt_checks.proofs.Cases.{node, marked, words, gap, body, content, children, two_lines, group, text_span}
 
 abbrev para : ℕ → List ℕ → Tree
@@ -64,6 +65,10 @@ marked_block_changed = refl
 blocks_exchanged : checked false two_lines (open_body (para 2 (codes "b") ∷ para 1 (codes "a") ∷ [])) ≡ Some (Moved 1)
 unfolding checked same_kind same_data
 blocks_exchanged = refl
+
+-- of a body's children the numbers are those of the blocks that stay
+numbers_that_stay : own_numbers (trees (para 1 (codes "a") ∷ gap (codes "\n\n") ∷ para 0 (codes "n") ∷ node kind.Ul 3 (item 4 (codes "x") ∷ []) ∷ [])) ≡ 1 ∷ 3 ∷ []
+numbers_that_stay = refl
 
 -- ---- lists that are children of the body: items come and go
 

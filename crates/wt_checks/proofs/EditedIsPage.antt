@@ -30,7 +30,7 @@ use Rattle.wt_checks.proofs.Repeated.{and_not}
 use Rattle.wt_checks.proofs.Standing.{all_distinct}
 use Rattle.wt_checks.proofs.WhatIsKept.{kept, unrefused, increasing}
 
-body_is : (k : Kind) → is_body k ≡ true → k ≡ kind.Body
+pub body_is : (k : Kind) → is_body k ≡ true → k ≡ kind.Body
 body_is kind.Body e = refl
 body_is k e = absurd (cc)
 

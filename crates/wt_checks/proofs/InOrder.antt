@@ -40,7 +40,7 @@ abbrev pub Increasing : List ℕ → Type 0
 Increasing [] = Unit {0}
 Increasing (n ∷ ns) = Above n ns × Increasing ns
 
-abbrev Member : ℕ → List ℕ → Type 0
+abbrev pub Member : ℕ → List ℕ → Type 0
 Member k [] = ⊥
 Member k (n ∷ ns) = (n ≡ k) ⊎ Member k ns
 
@@ -49,7 +49,7 @@ above_member m k [] h e = absurd e
 above_member m k (n ∷ ns) h (inl e) = subst (λ (i : ℕ). m < i) e h.0
 above_member m k (n ∷ ns) h (inr e) = above_member m k ns h.1 e
 
-abbrev Members : List ℕ → List ℕ → Type 0
+abbrev pub Members : List ℕ → List ℕ → Type 0
 Members xs ys = AllByRecursion (λ k. Member k ys) xs
 
 -- members above the first one stand behind it
@@ -65,7 +65,7 @@ above_less : (m n : ℕ) (ns : List ℕ) → m < n → Above n ns → Above m ns
 above_less m n [] lt h = tt
 above_less m n (k ∷ ks) lt h = (omega (arith, lt, h.0), above_less m n ks lt h.1)
 
-sublist_of_members : (xs ys : List ℕ) → Increasing xs → Increasing ys → Members xs ys → IsSublist xs ys
+pub sublist_of_members : (xs ys : List ℕ) → Increasing xs → Increasing ys → Members xs ys → IsSublist xs ys
 sublist_of_members [] ys i j h = tt
 sublist_of_members (x ∷ xs) [] i j h = absurd h.0
 sublist_of_members (x ∷ xs) (y ∷ ys) i j h =
@@ -89,7 +89,7 @@ sublist_above m (x ∷ xs) [] s a = absurd s
 sublist_above m (x ∷ xs) (y ∷ ys) (inl s) a = (subst (λ (k : ℕ). m < k) (sym s.0) a.0, sublist_above m xs ys s.1 a.1)
 sublist_above m (x ∷ xs) (y ∷ ys) (inr s) a = sublist_above m (x ∷ xs) ys s a.1
 
-sublist_increasing : (xs ys : List ℕ) → IsSublist xs ys → Increasing ys → Increasing xs
+pub sublist_increasing : (xs ys : List ℕ) → IsSublist xs ys → Increasing ys → Increasing xs
 sublist_increasing [] ys s j = tt
 sublist_increasing (x ∷ xs) [] s j = absurd s
 sublist_increasing (x ∷ xs) (y ∷ ys) (inl s) j = (subst (λ (k : ℕ). Above k xs) (sym s.0) (sublist_above y xs ys s.1 j.0), sublist_increasing xs ys s.1 j.1)
@@ -413,7 +413,7 @@ pub record NoneOfThem (page : Page) (before ps : List Place) : Type 0 where
   pub repeated : Nowhere is_repeated before ps
   pub moved : Nowhere (is_moved page) before ps
 
-increasing_tail : (n : ℕ) (p : Place) (ps : List Place) → Increasing (kept_under n (p ∷ ps)) → Increasing (kept_under n ps)
+pub increasing_tail : (n : ℕ) (p : Place) (ps : List Place) → Increasing (kept_under n (p ∷ ps)) → Increasing (kept_under n ps)
 increasing_tail n p ps h = tail_by (is_kept p && p.parent == n) (number p) (kept_under n ps) h
   where
     tail_by : (b : Bool) (i : ℕ) (ns : List ℕ) → Increasing (if b then i ∷ ns else ns) → Increasing ns

@@ -1,6 +1,7 @@
 pub mod Alikes
 pub mod AsItWas
 pub mod Cases
+pub mod ChildOrder
 pub mod Children
 pub mod ChildrenCases
 pub mod Compares

@@ -1,14 +1,17 @@
 -- What is kept, in other words than the tests of a place: as sublists of numbers, and as equations.
-use Rattle.std.specs.Prelude.{◌≡◌, ◌⊎◌, ℕ, ◌==◌, ◌&&◌, ◌||◌, Bool, true, false, None, MatchOption, List, [], ◌∷◌, if◌then◌else◌}
+use Rattle.std.specs.Prelude.{◌≡◌, ◌⊎◌, ℕ, ◌==◌, ◌&&◌, ◌||◌, not, Bool, true, false, None, MatchOption, List, [], ◌∷◌, if◌then◌else◌}
 use Rattle.std.specs.List.{AllByRecursion}
 use Rattle.wt_tree.specs.Kinds.{writing}
 use Rattle.wt_tree.specs.Tiling.{is_group}
-use Rattle.wt_tree.specs.Tree.{Tree, tree, Trees, label}
+use Rattle.wt_tree.specs.Tree.{Tree, tree, Trees, none, more, label}
 use Rattle.wt_checks.specs.Elements.{written_for, all_read, signs_in}
 use Rattle.wt_checks.specs.Groups.{is_marked, has_mark}
 use Rattle.wt_checks.specs.Marks.{editing, allows}
-use Rattle.wt_checks.specs.Places.{Place, number, kind_at, is_kept, is_body, places, Page, page_of}
+use Rattle.wt_checks.specs.Places.{Place, number, kind_at, is_kept, is_body, parent_below, places, Page, page_of}
 use Rattle.wt_checks.specs.Unmarked.{own_character, entries}
+
+abbrev pub children : Tree → Trees
+children (tree l ts) = ts
 
 -- ---- kept nodes in their order
 
@@ -27,10 +30,21 @@ kept_under n (p ∷ ps) = if is_kept p && p.parent == n then number p ∷ kept_u
 abbrev pub InOrder : List Place → List Place → Type 0
 InOrder page edited = (n : ℕ) → IsSublist (kept_under n edited) (kept_under n page)
 
--- ---- nodes as they were
+-- the numbers of those of these nodes that have one
+abbrev pub own_numbers : Trees → List ℕ
+own_numbers none = []
+own_numbers (more t ts) = if not ((label t).id == 0) then (label t).id ∷ own_numbers ts else own_numbers ts
 
-abbrev pub children : Tree → Trees
-children (tree l ts) = ts
+-- the kept parent of what a node holds
+abbrev pub parent_inside : Place → ℕ
+parent_inside p = parent_below p.parent (number p)
+
+-- The numbered nodes that a node holds itself are some of those that the page's node holds, in their
+-- order. (What a new element holds is asked of the nearest kept node round it, or the body.)
+abbrev pub ChildrenInOrder : Page → Place → Type 0
+ChildrenInOrder page p = MatchOption (page (parent_inside p)) (Unit {0}) (λ q. IsSublist (own_numbers (children p.node)) (own_numbers (children q.node)))
+
+-- ---- nodes as they were
 
 -- a group of the page and what stands for it
 pub record GroupAsItWas (values : Bool) (t u : Tree) : Type 0 where

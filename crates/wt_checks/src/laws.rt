@@ -1,5 +1,6 @@
 ghost use Rattle.std.specs.Prelude.{◌≡◌, ◌↔◌, ℕ, List, Option, Some, None, Bool, true};
 ghost use Rattle.std.specs.Bool.{Decides};
+ghost use Rattle.std.specs.List.{AllByRecursion};
 ghost use Rattle.wt_tree.specs.declared.kind.AttrName.{AttrName};
 ghost use Rattle.wt_tree.specs.declared.kind.Kind.{Kind};
 ghost use Rattle.wt_tree.specs.declared.node.DataMw.{DataMw};
@@ -13,9 +14,9 @@ ghost use Rattle.wt_tree.specs.declared.kind.Kind.TheVariants as kind;
 ghost use Rattle.wt_checks.specs.declared.refusal.Check.{Check};
 ghost use Rattle.wt_checks.specs.Checked.{checked};
 ghost use Rattle.wt_checks.specs.FirstRefusal.{IsFirstRefusal};
-ghost use Rattle.wt_checks.specs.Kept.{Kept};
+ghost use Rattle.wt_checks.specs.Kept.{Kept, ChildrenInOrder};
 ghost use Rattle.wt_checks.specs.Gist.{gist};
-ghost use Rattle.wt_checks.specs.Places.{is_body, page_of};
+ghost use Rattle.wt_checks.specs.Places.{is_body, places, page_of};
 ghost use Rattle.wt_checks.specs.PutBack.{put_back, IsOneBody, AreAsRead, IsThePage};
 ghost use Rattle.wt_tree.specs.Plain.{plain};
 
@@ -54,6 +55,13 @@ pub fn only_the_page_is_taken()
     ensures { (values : Bool) (page edited : Tree) → IsOneBody page → InPreorder page → AreAsRead page
         → IsOneBody edited → AreAsRead edited
         → (checked values page edited ≡ None) ↔ IsThePage values page edited }
+{}
+
+/// Where nothing is refused, the numbered nodes that a node holds itself are some of those that it holds
+/// in the page, in their order: under a mark `children` none is exchanged, and none comes from elsewhere.
+pub fn children_in_order()
+    ensures { (values : Bool) (page edited : Tree) → IsOneBody page → InPreorder page → AreAsRead page
+        → checked values page edited ≡ None → AllByRecursion (ChildrenInOrder (page_of page)) (places edited) }
 {}
 
 /// The tests of two kinds, lists of attributes, values of `data-mw`, lists of texts and children, and

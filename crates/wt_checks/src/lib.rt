@@ -20,7 +20,8 @@ pub use checking::{check, numbered_nodes};
 pub use editing::Editing;
 pub use index::original;
 pub use laws::{
-    comparisons, edited_is_the_page, first_refusal, only_the_page_is_taken, what_is_kept,
+    children_in_order, comparisons, edited_is_the_page, first_refusal, only_the_page_is_taken,
+    what_is_kept,
 };
 pub use marks::is_children;
 pub use refusal::Check;
