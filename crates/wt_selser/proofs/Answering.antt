@@ -22,14 +22,16 @@ use Rattle.wt_selser.specs.declared.change.Pair.{Pair as Found}
 use Rattle.wt_content.specs.declared.reason.ContentWhy.{ContentWhy}
 use Rattle.wt_selser.specs.declared.refusal.EditRefusal.{EditRefusal}
 use Rattle.wt_selser.specs.declared.refusal.EditRefusal.TheVariants as refusal
-use Rattle.wt_selser.specs.BodySlices.{all_child_slices, child_slices, list_at, slices, slices_by}
+use Rattle.wt_selser.specs.BodySlices.{all_child_slices, body_slices, child_slices, list_at, slices, start}
 use Rattle.wt_selser.specs.Changes.{Pair, all_insides, inside_of, insides, marked, pair_at, pair_with}
+use Rattle.wt_content.specs.declared.children.Holder.TheVariants as holder
 use Rattle.wt_content.specs.Children.{bad_children}
 use Rattle.wt_content.specs.Content.{bad_content}
 use Rattle.wt_selser.specs.Edits.{first_with, first_of, bad_pair, is_tangled, tangled_pair, most_bytes, if_short, unless_refused, pairs_answer, edit_answer, why_bad, AnswersEdit}
 use Rattle.wt_selser.specs.GroupFaults.{has_faulty_group}
 use Rattle.wt_tangled.specs.OpenTags.{before, touches_open_tag}
 use Rattle.wt_tangled.specs.TextCalls.{touches_text_call}
+use Rattle.wt_selser.specs.Steps.{steps}
 use Rattle.wt_selser.specs.Views.{pair_of, pairs_of}
 use Rattle.wt_selser.proofs.Outside.{nothing_changes}
 
@@ -260,7 +262,8 @@ no_children same page (more u us) e =
 no_slices : (same : Tree → Tree → Bool) (t u : Tree) → has_mark u ≡ false → slices same t u ≡ []
 no_slices same t (tree l us) e =
     let n = or_none (is_marked l.mark) (have_mark us) e in
-    ap (λ b. slices_by same (page_of t) (children t) b us) (no_mark l.mark n.0).1 ∙ no_children same (page_of t) us n.1
+    ap (λ b. if b then body_slices same (page_of t) start (steps holder.Body (children t) us) else all_child_slices same (page_of t) us) (no_mark l.mark n.0).1
+    ∙ no_children same (page_of t) us n.1
 
 pub unmarked_stands : (same : Tree → Tree → Bool) (items : Expanded) (page : List ℕ) (t u : Tree) → has_mark u ≡ false → checked false t u ≡ None
     → length page ≤ most_bytes → edit_answer same items page t u ≡ Ok page

@@ -4,6 +4,7 @@ pub mod Chains
 pub mod PageChains
 pub mod EditChains
 pub mod ListWalk
+pub mod BodyWalk
 pub mod Pushing
 pub mod Spliced
 pub mod StepWalk

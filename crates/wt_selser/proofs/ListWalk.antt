@@ -1,7 +1,7 @@
 -- How the code finds the slices of a list, item by item.
-use Rattle.std.proofs.Common.{arith, ◌≡◌, ◌<◌, ◌≤◌, ℕ, ◌+◌, Bool, true, false, None, Some, List, [], ◌∷◌, ◌++◌, length, drop, get_or, refl, sym, ap, ◌∙◌, append_assoc, append-nil}
+use Rattle.std.proofs.Common.{arith, ◌≡◌, ◌<◌, ◌≤◌, ℕ, ◌+◌, ◌-◌, Bool, true, false, None, Some, List, [], ◌∷◌, ◌++◌, length, take, drop, get_or, length-drop, refl, sym, ap, ◌∙◌, append_assoc, append-nil}
 use Rattle.std.specs.Prelude.{◌==◌, if◌then◌else◌}
-use Rattle.std.proofs.lemmas.List.{drop_more, drop_all}
+use Rattle.std.proofs.lemmas.List.{drop_more, drop_all, take_all}
 use Rattle.wt_tree.specs.declared.node.Node.{Node, out-Node}
 use Rattle.wt_tree.specs.Tiling.{end_of}
 use Rattle.wt_tree.specs.Tree.{Tree, Trees, none, more, label}
@@ -26,6 +26,10 @@ id_seen n = rw (view_out n)
 -- the nodes from a place on
 pub nodes_turn : (ns : List Node) (i : ℕ) (n : Node) → i < length ns → n ≡ get_or ns i n → views (drop i ns) ≡ more (view n) (views (drop (i + 1) ns))
 nodes_turn ns i n l is = ap views (drop_more ns i n l ∙ ap (λ (m : Node). m ∷ drop (i + 1) ns) (sym is))
+
+-- a slice from a place up to the end
+pub rest_is : (ns : List Node) (i : ℕ) → take (length ns - i) (drop i ns) ≡ drop i ns
+rest_is ns i = take_all (length ns - i) (drop i ns) (omega (arith, length-drop i ns))
 
 pub nodes_end : (ns : List Node) (i : ℕ) → length ns ≤ i → views (drop i ns) ≡ none
 nodes_end ns i l = ap views (drop_all i ns l)

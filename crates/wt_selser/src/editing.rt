@@ -30,12 +30,10 @@ use wt_tree::Node;
 fn why_bad(alloc: Global, pair: Pair<'_, '_>) -> Result<Option<ContentWhy>, NoMemory>
     ensures { (same : Tree → Tree → Bool) → TellsSame same → IfOk result (λ w. w ≡ why_bad same (pair_of pair.entry)) }
 {
-    let why = if is_children(pair.new.mark) {
-        bad_children(alloc, pair.new)?
-    } else {
-        bad_content(alloc, pair.old, pair.new)?
-    };
-    Ok(why)
+    if is_children(pair.new.mark) {
+        return bad_children(alloc, pair.new);
+    }
+    bad_content(alloc, pair.old, pair.new)
 }
 
 fn bad_pair(alloc: Global, pair: Pair<'_, '_>) -> Result<Option<EditRefusal>, NoMemory>

@@ -87,7 +87,24 @@ fn first_kept(nodes: &[Node<'_>]) -> usize
     nodes.len()
 }
 
-/// Appends a new item before the first kept one, with a line break behind it.
+/// Appends a new item at a place, with a line break behind it.
+fn push_broken(
+    alloc: Global,
+    found: &mut Vec<Change>,
+    sign: char,
+    place: u32,
+    node: &Node<'_>,
+) -> Result<(), NoMemory>
+    ensures { (same : Tree → Tree → Bool) → TellsSame same → OnOk result (changes_view found.new.items
+        ≡ changes_view found.old.items ++ at_place place (block_spelling same (view node.now) sign ++ (10 ∷ [])) ∷ []) }
+{
+    let mut by = spell_block(alloc, node, sign)?;
+    by.push_str("\n")?;
+    push_at(found, place, by)?;
+    Ok(())
+}
+
+/// Appends a node before the first kept item, if it is a new one.
 fn push_new_before(
     alloc: Global,
     found: &mut Vec<Change>,
@@ -101,9 +118,7 @@ fn push_new_before(
     if !is_child(Holder::List, node.kind) {
         return Ok(());
     }
-    let mut by = spell_block(alloc, node, sign)?;
-    by.push_str("\n")?;
-    push_at(found, place, by)?;
+    push_broken(alloc, found, sign, place, node)?;
     Ok(())
 }
 

@@ -40,30 +40,30 @@ pub fn place_of(nodes: &[Node<'_>], number: u32) -> usize
 }
 
 fn push_passed_one<'t, 'a>(
-    steps: &mut Vec<Step<'t, 'a>>,
+    out: &mut Vec<Step<'t, 'a>>,
     holder: Holder,
     node: &'t Node<'a>,
 ) -> Result<(), NoMemory>
-    ensures { OnOk result (steps_view steps.new.items ≡ steps_view steps.old.items ++ passed_one holder (view node.now) ∷ []) }
+    ensures { OnOk result (steps_view out.new.items ≡ steps_view out.old.items ++ passed_one holder (view node.now) ∷ []) }
 {
     if is_child(holder, node.kind) {
-        steps.push(Step::Goes(node))?;
+        out.push(Step::Goes(node))?;
     } else {
-        steps.push(Step::Stays(node))?;
+        out.push(Step::Stays(node))?;
     }
     Ok(())
 }
 
 /// Passes nodes of the page.
 fn push_passed<'t, 'a>(
-    steps: &mut Vec<Step<'t, 'a>>,
+    out: &mut Vec<Step<'t, 'a>>,
     holder: Holder,
     nodes: &'t [Node<'a>],
 ) -> Result<(), NoMemory>
-    ensures { OnOk result (steps_view steps.new.items ≡ steps_view steps.old.items ++ passed holder (views nodes.now)) }
+    ensures { OnOk result (steps_view out.new.items ≡ steps_view out.old.items ++ passed holder (views nodes.now)) }
 {
     for node in nodes {
-        push_passed_one(steps, holder, node)?;
+        push_passed_one(out, holder, node)?;
     }
     Ok(())
 }
@@ -71,23 +71,23 @@ fn push_passed<'t, 'a>(
 /// Passes the nodes of the page up to the one that a kept child stands for, and that one; it gives how many
 /// nodes these are.
 fn push_kept<'t, 'a>(
-    steps: &mut Vec<Step<'t, 'a>>,
+    out: &mut Vec<Step<'t, 'a>>,
     holder: Holder,
     old: &'t [Node<'a>],
     child: &'t Node<'a>,
 ) -> Result<usize, NoMemory>
     ensures fits { IfOk result (λ n. n ≤ length old.now) }
     ensures behind { IfOk result (λ n. views (drop n old.now) ≡ behind_first (from_number (label (view child.now)).id (views old.now))) }
-    ensures pushed { OnOk result (steps_view steps.new.items ≡ steps_view steps.old.items
+    ensures pushed { OnOk result (steps_view out.new.items ≡ steps_view out.old.items
         ++ (passed_up_to holder (label (view child.now)).id (views old.now)
         ++ kept_first (from_number (label (view child.now)).id (views old.now)) (view child.now))) }
 {
     let at = place_of(old, child.id);
-    push_passed(steps, holder, &old[..at])?;
+    push_passed(out, holder, &old[..at])?;
     match old.get(at) {
         None => Ok(at),
         Some(node) => {
-            steps.push(Step::Kept(node, child))?;
+            out.push(Step::Kept(node, child))?;
             Ok(at + 1)
         }
     }
@@ -96,23 +96,23 @@ fn push_kept<'t, 'a>(
 /// Takes the step to a child of the edited tree, with these nodes of the page still to come; it gives how
 /// many of them are passed then.
 fn push_child<'t, 'a>(
-    steps: &mut Vec<Step<'t, 'a>>,
+    out: &mut Vec<Step<'t, 'a>>,
     holder: Holder,
     old: &'t [Node<'a>],
     child: &'t Node<'a>,
 ) -> Result<usize, NoMemory>
     ensures fits { IfOk result (λ n. n ≤ length old.now) }
-    ensures goes_on { (us : Trees) → IfOk result (λ n. steps_view steps.new.items ++ steps holder (views (drop n old.now)) us
-        ≡ steps_view steps.old.items ++ steps holder (views old.now) (more (view child.now) us)) }
+    ensures goes_on { (us : Trees) → IfOk result (λ n. steps_view out.new.items ++ steps holder (views (drop n old.now)) us
+        ≡ steps_view out.old.items ++ steps holder (views old.now) (more (view child.now) us)) }
 {
     if !is_child(holder, child.kind) {
         return Ok(0);
     }
     if child.id == 0 {
-        steps.push(Step::Comes(child))?;
+        out.push(Step::Comes(child))?;
         return Ok(0);
     }
-    push_kept(steps, holder, old, child)
+    push_kept(out, holder, old, child)
 }
 
 /// The steps along these nodes of the page, which were edited to those.

@@ -7,4 +7,6 @@ returns-then-not-is_child c = λ same tells.
     none_made same c.args.sign c.args.place c.args.node.now c.is_child.result (changes_view c.args.found.now.items) c.is_child.ensures c.if-not-is_child.true
 
 pub returns : goal.returns
-returns c = ?
+returns c = λ same tells.
+    one_made same c.args.sign c.args.place c.args.node.now c.is_child.result (changes_view c.args.found.now.items) (changes_view c.push_broken.new.found.items)
+    c.is_child.ensures c.if-not-is_child.false (c.in_ok-push_broken.ensures same tells)
