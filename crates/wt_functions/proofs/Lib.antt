@@ -1,0 +1,3 @@
+pub mod EqualParts
+mod Cases
+mod FunctionCases
