@@ -1,11 +1,11 @@
 -- The first part that is equal to part 0, and what a further text changes.
-use Rattle.std.proofs.Common.{◌≡◌, refl, sym, ◌∙◌, ap, ℕ, suc, zero, ◌+◌, ◌-◌, ◌<◌, ◌≤◌, Bool, true, false, cond, Option, Some, None, List, [], ◌∷◌, ◌++◌, length, drop, get_or, nat_lt, arith, one-add, subst, min}
+use Rattle.std.proofs.Common.{◌≡◌, refl, sym, ◌∙◌, ap, ℕ, suc, zero, ◌+◌, ◌<◌, ◌≤◌, Bool, true, false, cond, Option, Some, None, List, [], ◌∷◌, ◌++◌, length, get_or, nat_lt, arith, one-add, subst, min}
 use Rattle.std.proofs.lemmas.List.Quantifiers.{position-Some}
 use Rattle.std.proofs.lemmas.Iterator.Adapters.{position_from-zero}
-use Rattle.std.specs.List.{position, position_from, position_or_len}
+use Rattle.std.specs.List.{position, position_from}
 use Rattle.std.specs.Option.{option_map, option_or, is_some, unwrap_or}
 use Rattle.std.specs.Str.{bytes_eq}
-use Rattle.wt_functions.specs.Choice.{Telling, text_at, equal_part, told_count, chosen, given, asked}
+use Rattle.wt_functions.specs.Choice.{Telling, text_at, equal_part, told_count, chosen, given, asked, is_tell}
 use Rattle.wt_functions.specs.declared.function.Function.{Function}
 use Rattle.wt_functions.specs.declared.function.Function.TheVariants.{If, IfEq, Switch}
 use Rattle.wt_functions.specs.declared.chooser.Ask.{Ask}
@@ -18,9 +18,9 @@ if_passes p x n = cond (p x) (Some n) None
 from_push : {A : Type 0} (p : A → Bool) (i : ℕ) (xs : List A) (x : A) → position_from p i (xs ++ x ∷ []) ≡ option_or (position_from p i xs) (if_passes p x (i + length xs))
 from_push p i [] x = elim (p x) as (λ b. cond b (Some i) None ≡ cond b (Some (i + 0)) None) [ true ↦ ap Some (omega arith) | false ↦ refl ]
 from_push p i (y ∷ ys) x = elim (p y) as (λ b. cond b (Some i) (position_from p (i + 1) (ys ++ x ∷ [])) ≡ option_or (cond b (Some i) (position_from p (i + 1) ys)) (if_passes p x (i + suc (length ys)))) [
-    true ↦ refl
+  | true ↦ refl
   | false ↦ from_push p (i + 1) ys x ∙ ap (λ n. option_or (position_from p (i + 1) ys) (if_passes p x n)) (let e : (i + 1) + length ys ≡ i + suc (length ys) = omega arith in e)
-  ]
+]
 
 from_zero : {A : Type 0} (p : A → Bool) (xs : List A) → position p xs ≡ position_from p 0 xs
 from_zero p xs = position_from-zero p xs
@@ -45,10 +45,10 @@ first_by p t ts k (Some j) e h =
     let s : (j < length ts) × (p (get_or ts j []) ≡ true) × ((i : ℕ) → i < j → p (get_or ts i []) ≡ false) = position-Some p ts j [] e in
     let m : suc j ≡ k = sym (one-add j) ∙ (let q : 1 + j ≡ k = cc in q) in
     subst (λ n. IsFirst p (t ∷ ts) n) m (record {
-        behind = omega arith;
-        told = let l : j < length ts = s.0 in omega arith;
-        passes = s.1;
-        others = λ i low high. others_by p t ts j s.2 i low high;
+      behind = omega arith;
+      told = let l : j < length ts = s.0 in omega arith;
+      passes = s.1;
+      others = λ i low high. others_by p t ts j s.2 i low high;
     })
 
 -- the first equal part
@@ -130,3 +130,36 @@ unfolding asked
 asked_part t k h =
     let b : (nat_lt (length t.texts) (told_count t.function t.equals t.texts) ≡ true) × (length t.texts ≡ k) = tell_by (nat_lt (length t.texts) (told_count t.function t.equals t.texts)) (length t.texts) k (chosen t.function t.equals t.texts) h in
     (b.1, told_within t.function t.equals t.texts (ltb-true _ _ b.0))
+
+-- where a text is to be told, its part is there
+told_by : (t : Telling) (a : Ask) → asked t ≡ a → is_tell a ≡ true → length t.texts ≤ length t.equals
+told_by t (Tell k) e h = (asked_part t k e).1
+told_by t (Give k) e h = cc
+told_by t Nothing e h = cc
+
+pub told_there : (t : Telling) → is_tell (asked t) ≡ true → length t.texts ≤ length t.equals
+told_there t h = told_by t (asked t) refl h
+
+-- ---- where no part is equal
+
+or_else_by : (b : Bool) (i : ℕ) (o : Option ℕ) → cond b (Some i) o ≡ None → (b ≡ false) × (o ≡ None)
+or_else_by true i o h = cc
+or_else_by false i o h = (refl, h)
+
+from_none : {A : Type 0} (p : A → Bool) (i : ℕ) (xs : List A) (k : ℕ) (d : A) → position_from p i xs ≡ None → k < length xs → p (get_or xs k d) ≡ false
+from_none p i [] k d h l = absurd (omega arith)
+from_none p i (x ∷ xs) zero d h l = (or_else_by (p x) i (position_from p (i + 1) xs) h).0
+from_none p i (x ∷ xs) (suc k) d h l = from_none p (i + 1) xs k d (or_else_by (p x) i (position_from p (i + 1) xs) h).1 (omega arith)
+
+pub none_passes : {A : Type 0} (p : A → Bool) (xs : List A) (k : ℕ) (d : A) → position p xs ≡ None → k < length xs → p (get_or xs k d) ≡ false
+none_passes p xs k d h l = from_none p 0 xs k d (sym (from_zero p xs) ∙ h) l
+
+map_none : (o : Option ℕ) → option_map (λ j. 1 + j) o ≡ None → o ≡ None
+map_none None h = refl
+map_none (Some k) h = cc
+
+pub equal_part_none : (ts : List (List ℕ)) (j : ℕ) → equal_part ts ≡ None → 0 < j → j < length ts → bytes_eq (get_or ts j []) (get_or ts 0 []) ≡ false
+unfolding equal_part
+equal_part_none [] j h some l = absurd (omega arith)
+equal_part_none (t ∷ ts) zero h some l = absurd (omega arith)
+equal_part_none (t ∷ ts) (suc j) h some l = none_passes (λ y. bytes_eq y t) ts j [] (map_none (position (λ y. bytes_eq y t) ts) h) (omega arith)

@@ -74,3 +74,9 @@ unfoldable pub asked : Telling → Ask
 asked t =
     if nat_lt (length t.texts) (told_count t.function t.equals t.texts) then Tell (length t.texts)
     else given (chosen t.function t.equals t.texts)
+
+-- a text is to be told
+abbrev pub is_tell : Ask → Bool
+is_tell (Tell part) = true
+is_tell (Give part) = false
+is_tell Nothing = false

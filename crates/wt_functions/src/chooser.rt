@@ -1,7 +1,7 @@
 //! Which parts of a function call are told, and which one is given, one question after the other.
 ghost use Rattle.std.specs.Prelude.{◌≡◌, ℕ, ◌+◌, ◌<◌, ◌≤◌, ◌^◌, ◌++◌, ◌∷◌, [], Bool, true, false, Some, IfOk, OnOk, OnErr, length, drop, position, slice_index_or};
 ghost use Rattle.std.specs.Option.{option_map};
-ghost use Rattle.wt_functions.specs.Choice.{Telling, text_at, if_there, first_from, equal_part, value_from, last_whole, is_default, last_default, chosen, told_count, asked};
+ghost use Rattle.wt_functions.specs.Choice.{Telling, text_at, if_there, first_from, equal_part, value_from, last_whole, is_default, last_default, chosen, told_count, asked, is_tell};
 
 use crate::function::Function;
 use std::alloc::Global;
@@ -153,7 +153,11 @@ fn equal_after(texts: &[Str], equal: Option<u32>, text: &str) -> Option<u32>
 impl Chooser {
     /// Begins a function call whose parts from 1 on have a `=` where `equals` says so.
     #[tactic(auto, unfolding(crate::specs::Choice::equal_part))]
-    pub fn start(alloc: Global, function: Function, equals: &List<bool>) -> Result<Chooser, NoMemory>
+    pub fn start(
+        alloc: Global,
+        function: Function,
+        equals: &List<bool>,
+    ) -> Result<Chooser, NoMemory>
         requires { length equals.now < 2 ^ 32 }
         ensures { IfOk result (λ c. c ≡ record { function = function; equals = equals.now; texts = [] }) }
     {
@@ -217,7 +221,7 @@ impl Chooser {
     /// Tells the text of the part that was asked for: what it expands to, trimmed of blanks and line
     /// breaks, its atoms by their source. After want of memory nothing was told.
     pub fn told(&mut self, text: &str) -> Result<(), NoMemory>
-        requires { asked self.old ≡ Ask.Tell (length self.old.texts) }
+        requires { is_tell (asked self.old) ≡ true }
         ensures ok { OnOk result (self.new ≡ record self.old { texts = self.old.texts ++ text.now ∷ [] }) }
         ensures err { OnErr result (self.new ≡ self.old) }
     {

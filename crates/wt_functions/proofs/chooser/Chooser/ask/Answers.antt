@@ -1,4 +1,4 @@
-use Rattle.std.proofs.Common.{◌≡◌, sym, ◌∙◌, ap, subst, rules, ◌<◌, ◌≤◌, length, arith}
+use Rattle.std.proofs.Common.{◌≡◌, ap, rules, ◌<◌, ◌≤◌, length, arith}
 use Rattle.wt_functions.specs.Choice.{Telling, told_count}
 use Rattle.wt_functions.proofs.EqualParts.{told_within}
 use Rattle.wt_functions.proofs.chooser.Chooser.ask.Goals as goal
