@@ -16,13 +16,14 @@ from urllib.parse import quote
 from . import bodies, documents
 from .differences import unified
 from .fingerprints import etag, names_tag
+from .mending import marked, mended
 from .other_tools import titles
 from .pages import PAGE_BYTES, PageFolder, full_name, remove_if_there, revision
 from .program import Program
 from .refusals import Refusal
 
 CLIENT = Path(__file__).resolve().parent.parent.parent / "client"
-STATIC = re.compile(r"(?:(?:editor|src)/)?[A-Za-z0-9_-][A-Za-z0-9_.-]*\.(?:js|css|svg)")
+STATIC = re.compile(r"(?!tests/)(?:[A-Za-z0-9_-]+/)*[A-Za-z0-9_-][A-Za-z0-9_.-]*\.(?:js|css|svg)")
 TYPES = {"js": "text/javascript", "css": "text/css", "svg": "image/svg+xml"}
 
 SPECIFICATION = "https://www.mediawiki.org/wiki/Specs"
@@ -117,7 +118,7 @@ class Site:
         """Of a page's title: the page as the HTML changes it. Without one: the page that the HTML is."""
         if not title:
             document = bodies.encoded(bodies.text_field(request.fields(), "html"))
-            return Answer(self.program.wikitext(self._mended(document, None)), WIKITEXT_TYPE)
+            return Answer(self._page_of(document), WIKITEXT_TYPE)
         name = full_name(title)
         fields = request.fields()
         document = bodies.encoded(bodies.text_field(fields, "html"))
@@ -126,6 +127,15 @@ class Site:
         original = self.program.html(name)
         self._check_tag(request, etag(self.folder, name, original))
         return Answer(self.program.edit(name, self._prepared(document, original)), WIKITEXT_TYPE)
+
+    def _page_of(self, document: bytes) -> bytes:
+        """The page that an HTML is, as it is written, or else as it is when it is mended."""
+        try:
+            return self.program.wikitext(document)
+        except Refusal as refusal:
+            if refusal.error not in ("HtmlRefused", "ElementDoesNotFit"):
+                raise
+        return self.program.wikitext(mended(document.decode()).encode())
 
     def to_html(self, request: Request, title: str = "", wanted: Optional[str] = None) -> Answer:
         check_accepted(request.headers.get("accept", ""))
@@ -179,10 +189,7 @@ class Site:
 
     def _prepared(self, document: bytes, original: bytes) -> bytes:
         """The HTML as `edit` takes it. What bears a mark was made for it, and is given on as it is."""
-        return document if MARK.search(document) else self._mended(document, original)
-
-    def _mended(self, document: bytes, original: Optional[bytes]) -> bytes:
-        return document
+        return document if MARK.search(document) else marked(document.decode(), original.decode()).encode()
 
     # ------------------------------------------------------------ the editor
 
@@ -190,6 +197,8 @@ class Site:
         return Answer(json.dumps({"titles": self.folder.titles()}).encode() + b"\n", JSON_TYPE)
 
     def list(self, _: Request) -> Answer:
+        if (CLIENT / "editor/pages.html").is_file():
+            return self._client_file("editor/pages.html", PAGE_TYPE)
         items = (
             f'<li><a href="/editor/{quote(title, safe="")}">{escape(title)}</a></li>' for title in self.folder.titles()
         )
@@ -339,6 +348,7 @@ ROUTES = [
         ("GET", "/titles", Site.titles),
         ("GET", "/client/{file}", Site.static),
         ("GET", "/client/{part}/{file}", Site.static),
+        ("GET", "/client/{part}/{part}/{file}", Site.static),
         ("POST", "/save/{title}", Site.save),
         ("GET", "/{domain}/v3/page/html/{title}/{revision?}", Site.page_html),
         ("GET", "/{domain}/v3/page/wikitext/{title}/{revision?}", Site.page_wikitext),
