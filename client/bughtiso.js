@@ -16,7 +16,8 @@ import { addMarks } from "./lib/marks.js";
 
 export { HtmlRefused } from "./lib/markup.js";
 export { Offsets, rangeOf } from "./lib/offsets.js";
-export { describe } from "./lib/names.js";
+export { describe, titleOf } from "./lib/names.js";
+export { hrefOf } from "./lib/links.js";
 
 /** What each opened root was, so that `save` can tell what was changed. @type {WeakMap<object, Original>} */
 const opened = new WeakMap();
