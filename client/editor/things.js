@@ -3,7 +3,7 @@
 
 import { describe } from "../bughtiso.js";
 
-const THINGS = '[about], span[typeof^="mw:Extension/"], span[typeof="mw:Placeholder"], meta, link, pre';
+const THINGS = '[about], span[typeof^="mw:Extension/"], span[typeof="mw:Placeholder"], meta:not([typeof="mw:Skip"]), link, pre';
 
 /** @type {Record<string, string>} */
 const EXTENSIONS = { ref: "Reference", references: "List of references", gallery: "Gallery", math: "Formula", pre: "Preformatted text" };
@@ -25,14 +25,18 @@ const NAMES = {
 
 /** Shows the things below the root as such. @param {HTMLElement} root */
 export function nameThings(root) {
+  let references = 0;
   for (const element of root.querySelectorAll(THINGS)) {
     if (element.parentElement?.closest("[data-thing]")) continue;
-    const thing = element.localName === "pre" && !element.hasAttribute("about") ? null : describe(element);
+    const thing = describe(element);
+    const isReference = thing?.kind === "extension" && thing.name === "ref";
     element.setAttribute("contenteditable", "false");
-    element.setAttribute("data-thing", thing?.kind ?? "other");
+    element.setAttribute("data-thing", isReference ? "reference" : thing?.kind ?? "other");
     if (element.hasAttribute("about") && !element.hasAttribute("data-mw")) continue;
-    const name = thing === null ? "Preformatted text" : NAMES[thing.kind](thing.name);
+    if (isReference) references += 1;
+    const name = thing === null ? "Preformatted text" : NAMES[thing.kind](thing.name) + (isReference ? ` ${references}` : "");
     element.setAttribute("data-name", name);
+    element.setAttribute("data-label", isReference ? `[${references}]` : name);
     element.setAttribute("title", name);
     if (!(element.textContent ?? "").trim()) element.setAttribute("data-hollow", "");
     if (!/^(?:table|ul|ol|dl|pre|meta|link)$/.test(element.localName)) {

@@ -147,6 +147,7 @@ export class Mender {
   /** A paragraph or heading of which nothing is left. @param {Part | string} piece */
   #hasVanished(piece) {
     if (typeof piece === "string" || !LINES.has(piece.name) || piece.attributes.has("about")) return false;
+    if (this.original === undefined && piece.number !== 0) return false;
     const kept = this.#kept(piece.number);
     return isEmpty(piece.children) && (kept === undefined || !isEmpty(kept.part.children));
   }
@@ -336,9 +337,10 @@ export class Mender {
     if (target === null) return content;
     const isBare = content.every((piece) => piece === "" || (typeof piece !== "string" && isLineBreak(piece)));
     if (isBare && !(kept !== undefined && isEmpty(kept.part.children)) && this.#mayVanish(element)) return content;
-    const link = this.#part(element, "a", content);
+    const isNew = this.#numberOf(element) === 0;
+    const link = isNew ? new Part("a", target, content) : this.#part(element, "a", content);
     for (const [name, value] of target) if (link.value(name) !== value) link.attributes.set(name, value);
-    if (kept?.part.text === link.text || (kept === undefined && link.number !== 0)) return [link];
+    if (kept?.part.text === link.text || (kept === undefined && !isNew)) return [link];
     return withEdgesOutside(link, kept?.part.text ?? "");
   }
 
@@ -433,8 +435,6 @@ function isHollow(element) {
 /** Whether a new element may have an attribute. @param {string} name @param {string} attribute */
 function mayHave(name, attribute) {
   switch (name) {
-    case "a":
-      return attribute === "rel" || attribute === "href";
     case "table":
     case "tr":
     case "td":

@@ -109,6 +109,7 @@ class Texts {
   mend(block, lead) {
     this.#pieces(lead, block.name === "p" || block.name === "pre", false);
     if (block.name !== "p") return;
+    lead.splice(0, lead.length, ...lead.flatMap(splitAtLines));
     const hasIndents = /\n[ \t]/.test(this.was);
     const hasTrails = /[ \t]\n/.test(this.was);
     lead.forEach((piece, at) => {
@@ -119,7 +120,7 @@ class Texts {
   }
 
   /** @param {(Part | string)[]} pieces @param {boolean} isParagraph  whether line breaks may stand among them
-   * @param {boolean} isNew  whether they stand in a new element */
+   * @param {boolean} isNew  whether they stand in a new element that holds no line breaks */
   #pieces(pieces, isParagraph, isNew) {
     pieces.forEach((piece, at) => {
       if (typeof piece === "string") {
@@ -128,7 +129,8 @@ class Texts {
       } else if (isHiddenName(piece.name) || isIsland((name) => piece.value(name)) || piece.value("typeof") !== "") {
         this.at += piece.text.length;
       } else {
-        this.#pieces(piece.children, false, isNew || piece.number === 0);
+        const isSplit = isParagraph && isNewStyle(piece);
+        this.#pieces(piece.children, isSplit, isNew || (piece.number === 0 && !isSplit));
       }
     });
   }
@@ -151,6 +153,33 @@ class Texts {
     if (!this.hasNoBreaks) mended = mended.replaceAll("\u00a0", " ");
     return isParagraph ? mended.replace(/\n(?:[ \t]*\n)+/g, "\n") : mended.replace(/\n+/g, " ");
   }
+}
+
+/** @param {Part | string} piece @returns {boolean} bold or italic that an editor made */
+function isNewStyle(piece) {
+  return typeof piece !== "string" && piece.number === 0 && (piece.name === "b" || piece.name === "i");
+}
+
+/** Bold and italic end with a line in wikitext: what an editor made over several lines of a paragraph begins anew on
+ * each. @param {Part | string} piece @returns {(Part | string)[]} */
+function splitAtLines(piece) {
+  if (typeof piece === "string" || !isNewStyle(piece)) return [piece];
+  const inner = piece.children.flatMap((child) =>
+    typeof child === "string" ? child.split(/[ \t]*(\n)[ \t]*/) : splitAtLines(child),
+  );
+  /** @type {(Part | string)[]} */
+  const out = [];
+  let line = new Part(piece.name, new Map(piece.attributes));
+  const close = () => {
+    if (line.children.length > 0) out.push(line);
+    line = new Part(piece.name, new Map(piece.attributes));
+  };
+  for (const child of inner) {
+    if (child === "\n") close(), append(out, child);
+    else append(line.children, child);
+  }
+  close();
+  return out;
 }
 
 /** Whether a character of the page is the same now, or is white space for which a browser put a blank.
