@@ -9,7 +9,7 @@
  * one writer knows its rules. What editors leave behind is mended on the way; README.md lists each mend.
  */
 
-import { Part, readPage, write } from "./lib/markup.js";
+import { Part, write } from "./lib/markup.js";
 import { Original } from "./lib/original.js";
 import { Mender } from "./lib/mender.js";
 import { addMarks } from "./lib/marks.js";
@@ -41,11 +41,12 @@ const TABLE_PARTS = new Set(["table", "tbody", "tr"]);
  * @throws {HtmlRefused} where `html` isn't a document as the program writes it
  */
 export function open(html, options = {}) {
-  const page = readPage(html);
-  const root = options.into ?? newBody(options.document ?? globalThis.document, page);
-  root.replaceChildren();
-  fill(root, page);
-  opened.set(root, new Original(page));
+  const original = new Original(html);
+  const root = options.into ?? newBody(options.document ?? globalThis.document, original.page);
+  const inside = root.ownerDocument.createDocumentFragment();
+  fill(inside, root.ownerDocument, original.page);
+  root.replaceChildren(inside);
+  opened.set(root, original);
   return root;
 }
 
@@ -64,7 +65,7 @@ export function open(html, options = {}) {
  */
 export function save(dom, options = {}) {
   const root = bodyOf(dom);
-  const original = options.original === undefined ? opened.get(root) : new Original(readPage(options.original));
+  const original = options.original === undefined ? opened.get(root) : new Original(options.original);
   const page = new Mender(original).page(root);
   if (options.marks) {
     if (original === undefined) throw new TypeError("marks need the page as it was: `open` it, or give `original`");
@@ -80,7 +81,7 @@ export function save(dom, options = {}) {
  */
 export function isChanged(root) {
   const original = opened.get(root);
-  return original === undefined || write(new Mender(original).page(root)) !== original.text();
+  return original === undefined || write(new Mender(original).page(root)) !== original.text;
 }
 
 /** @param {Document | undefined} document @param {Part} page @returns {HTMLElement} */
@@ -91,9 +92,9 @@ function newBody(document, page) {
   return body;
 }
 
-/** Makes the nodes of a part's inside in this element. @param {Element} parent @param {Part} part */
-function fill(parent, part) {
-  const document = parent.ownerDocument;
+/** Makes the nodes of a part's inside. @param {Node} parent  that holds them then @param {Document} document
+ * @param {Part} part */
+function fill(parent, document, part) {
   for (const child of part.children) {
     if (typeof child === "string") {
       parent.appendChild(document.createTextNode(child));
@@ -103,7 +104,7 @@ function fill(parent, part) {
     const element = document.createElement(carried ? "template" : child.name);
     if (carried) element.setAttribute("data-wt-name", child.name);
     for (const [name, value] of child.attributes) element.setAttribute(name, value);
-    if (child.children.length > 0) fill(element, child);
+    if (child.children.length > 0) fill(element, document, child);
     parent.appendChild(element);
   }
 }

@@ -38,14 +38,29 @@ export class Commands {
     });
   }
 
-  /** Puts the focus and the last selection back into the text. */
+  /** Puts the focus, and where the selection left the text the last one there, back into it. */
   focus() {
-    const range = this.range;
+    const { range } = this;
+    const selection = document.getSelection();
+    const isHere = document.activeElement === this.root && this.root.contains(selection?.anchorNode ?? null);
+    if (isHere) return;
     this.root.focus({ preventScroll: true });
     if (range === null || !this.root.contains(range.startContainer)) return;
-    const selection = document.getSelection();
     selection?.removeAllRanges();
     selection?.addRange(range);
+  }
+
+  /** Remembers the selection while a dialog is open. @returns {() => void} puts it back, and the focus */
+  bookmark() {
+    this.focus();
+    const selection = document.getSelection();
+    const range = selection?.rangeCount ? selection.getRangeAt(0).cloneRange() : null;
+    return () => {
+      this.root.focus({ preventScroll: true });
+      if (range === null || !this.root.contains(range.startContainer)) return;
+      selection?.removeAllRanges();
+      selection?.addRange(range);
+    };
   }
 
   /** @param {KeyboardEvent} event */
@@ -130,8 +145,9 @@ export class Commands {
     const text = selection.toString();
     const hasText = link !== null || text.trim() !== "";
     const href = link?.getAttribute("href") ?? (/^[a-z]+:\/\//i.test(text) || text.length > 100 ? text.trim() : text);
+    const restore = this.bookmark();
     const wish = await askForLink({ href, text: "", isLink: link !== null, hasText });
-    this.focus();
+    restore();
     if (wish === null) return;
     this.history.step(() => {
       if (wish === "remove") unwrap(/** @type {Element} */ (link));

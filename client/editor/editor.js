@@ -9,6 +9,9 @@ import { Saving } from "./saving.js";
 import { ServerRefused, page as readPage } from "./server.js";
 import { deleteRests, deleteThing, groupSizes, nameThings, selectThing, thingAt, thingBeside } from "./things.js";
 
+/** From so many on, blocks out of sight aren't laid out. */
+const MANY_BLOCKS = 500;
+
 /** @template {HTMLElement} T @param {string} id @returns {T} */
 const byId = (id) => /** @type {T} */ (/** @type {unknown} */ (document.getElementById(id)));
 
@@ -21,6 +24,8 @@ class Editor {
   constructor() {
     this.title = titleOfAddress();
     this.root = byId("page");
+    /** The page as it was opened, and the server's name for this state of it. */
+    this.html = "";
     this.etag = "";
     /** @type {Map<string, number>} */
     this.sizes = new Map();
@@ -31,10 +36,11 @@ class Editor {
     this.saving = new Saving({
       title: this.title,
       root: this.root,
+      html: () => this.html,
       etag: () => this.etag,
       say: (text) => this.say(text),
       saved: () => this.read(),
-      focus: () => this.commands.focus(),
+      bookmark: () => this.commands.bookmark(),
     });
     this.#listen();
     document.title = `${this.title} – editor`;
@@ -66,8 +72,10 @@ class Editor {
     try {
       const scrolled = window.scrollY;
       const { html, etag } = await readPage(this.title);
+      this.html = html;
       this.etag = etag;
       open(html, { into: this.root });
+      this.root.classList.toggle("long", this.root.childElementCount > MANY_BLOCKS);
       nameThings(this.root);
       this.sizes = groupSizes(this.root);
       this.history.forget();
@@ -167,10 +175,7 @@ class Editor {
   /** @param {InputEvent} event */
   #beforeInput(event) {
     if (/^format(?!Bold|Italic|Remove)/.test(event.inputType)) event.preventDefault();
-    if (event.inputType.startsWith("delete")) {
-      queueMicrotask(() => undefined);
-      setTimeout(() => deleteRests(this.root, this.sizes));
-    }
+    if (event.inputType.startsWith("delete")) setTimeout(() => deleteRests(this.root, this.sizes));
   }
 
   /** @param {ClipboardEvent} event */

@@ -4,12 +4,13 @@
  * own), and taken back in reverse order; so nodes stay the same ones, and nothing is read as HTML anew.
  */
 
-/** Typing within this time of the last letter is one step. */
+/** Letters typed or deleted one after the other, each within this time of the last one, are one step. */
 const SAME_STEP_MILLISECONDS = 1000;
 
 /** @typedef {{node: Node, offset: number, endNode: Node, endOffset: number} | null} Place */
 /** @typedef {{undo: () => void, redo: () => void}} Change */
-/** @typedef {{changes: Change[], before: Place, after: Place, isTyping: boolean, time: number}} Step */
+/** @typedef {{changes: Change[], before: Place, after: Place, typing: string, time: number}} Step
+ *   `typing`: "insert" or "delete" where letters were typed or deleted one after the other, else empty */
 
 export class History {
   /** @type {Step[]} */
@@ -18,7 +19,7 @@ export class History {
   #undone = [];
   /** Where the selection was before the next change. @type {Place} */
   #before = null;
-  #isTyping = false;
+  #typing = "";
 
   /** @param {HTMLElement} root @param {() => void} changed  called after each change, undo and redo */
   constructor(root, changed) {
@@ -54,7 +55,7 @@ export class History {
   /** Does something as one step of its own. @param {() => void} action */
   step(action) {
     this.#note(this.observer.takeRecords());
-    this.#isTyping = false;
+    this.#typing = "";
     this.#before = place(this.root);
     action();
     this.#note(this.observer.takeRecords());
@@ -79,7 +80,7 @@ export class History {
   /** @param {Step} step @param {Place} selection @param {Step[]} steps  where the step goes */
   #settle(step, selection, steps) {
     this.observer.takeRecords();
-    steps.push({ ...step, isTyping: false });
+    steps.push({ ...step, typing: "" });
     select(selection);
     this.changed();
   }
@@ -92,7 +93,7 @@ export class History {
       else this.redo();
       return;
     }
-    this.#isTyping = /^insert(?:Text|CompositionText)$|^deleteContent(?:Backward|Forward)$/.test(event.inputType);
+    this.#typing = /^(insert|delete)(?:Text|CompositionText|ContentBackward|ContentForward)$/.exec(event.inputType)?.[1] ?? "";
     this.#before = place(this.root);
   }
 
@@ -103,12 +104,13 @@ export class History {
     const changes = changesOf(records);
     const after = place(this.root);
     const last = this.#done[this.#done.length - 1];
-    if (last?.isTyping && this.#isTyping && time - last.time < SAME_STEP_MILLISECONDS) {
+    const goesOn = last !== undefined && this.#typing !== "" && last.typing === this.#typing && isSamePlace(last.after, this.#before);
+    if (goesOn && time - last.time < SAME_STEP_MILLISECONDS) {
       last.changes.push(...changes);
       last.after = after;
       last.time = time;
     } else {
-      this.#done.push({ changes, before: this.#before, after, isTyping: this.#isTyping, time });
+      this.#done.push({ changes, before: this.#before, after, typing: this.#typing, time });
     }
     this.#undone = [];
     this.#before = after;
@@ -123,6 +125,12 @@ function place(root) {
   return {
     node: selection.anchorNode, offset: selection.anchorOffset, endNode: selection.focusNode, endOffset: selection.focusOffset,
   };
+}
+
+/** Whether two carets stand at the same place. @param {Place} left @param {Place} right */
+function isSamePlace(left, right) {
+  if (left === null || right === null) return false;
+  return left.node === right.node && left.offset === right.offset && right.node === right.endNode && right.offset === right.endOffset;
 }
 
 /** @param {Place} selection */

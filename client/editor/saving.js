@@ -1,15 +1,16 @@
 // @ts-check
 /** Saving: what would change is shown before it is stored; a refusal shows its place and what to do. */
 
-import { isChanged, save } from "../bughtiso.js";
+import { save } from "../bughtiso.js";
 import { ServerRefused, give } from "./server.js";
 import { shownDiff } from "./diff.js";
+import { sentenceFor } from "./sentences.js";
 
 /** @template {HTMLElement} T @param {string} id @returns {T} */
 const byId = (id) => /** @type {T} */ (/** @type {unknown} */ (document.getElementById(id)));
 
-/** @typedef {{title: string, root: HTMLElement, etag: () => string, say: (text: string) => void, saved: () => Promise<void>,
- *   focus: () => void}} Page */
+/** @typedef {{title: string, root: HTMLElement, html: () => string, etag: () => string, say: (text: string) => void, saved: () => Promise<void>,
+ *   bookmark: () => () => void}} Page  `html`: the page as it was opened, `etag`: the name of this state of it */
 
 export class Saving {
   /** @param {Page} page */
@@ -22,22 +23,25 @@ export class Saving {
     this.document = "";
     /** The element that a refusal is about. @type {Element | null} */
     this.place = null;
+    /** Puts the caret back to where it was. */
+    this.restore = () => undefined;
     this.button.addEventListener("click", () => this.preview());
     byId("changes-save").addEventListener("click", () => this.#store());
-    byId("refusal-close").addEventListener("click", () => (this.clear(), page.focus()));
+    byId("refusal-close").addEventListener("click", () => (this.clear(), this.restore()));
     byId("refusal-show").addEventListener("click", () => this.#goToPlace());
-    this.dialog.addEventListener("close", () => page.focus());
+    this.dialog.addEventListener("close", () => this.restore());
   }
 
   /** Shows what would change. */
   async preview() {
     this.clear();
-    if (!isChanged(this.page.root)) {
+    this.restore = this.page.bookmark();
+    this.document = save(this.page.root, { marks: true });
+    if (this.document === this.page.html()) {
       this.page.say("Nothing was changed.");
       return;
     }
     await this.#busy(async () => {
-      this.document = save(this.page.root, { marks: true });
       const answer = await give(this.page.title, this.document, this.page.etag(), true);
       if (!answer.changed) {
         this.page.say("Nothing would change in the page's source.");
@@ -79,10 +83,11 @@ export class Saving {
   /** @param {ServerRefused} refused */
   #showRefusal(refused) {
     const isStale = refused.status === 412;
-    const isNewBlock = refused.error === "NotEditable" && /data-wt-edit="children"/.test(this.document);
-    this.place = isNewBlock ? firstNew(this.page.root) ?? this.#find(refused.node) : this.#find(refused.node);
+    const hasNewBlocks = /data-wt-edit="children"/.test(this.document);
+    const isNewBlock = hasNewBlocks && refused.error === "NotEditable";
+    this.place = (isNewBlock ? firstNew(this.page.root) : null) ?? this.#find(refused.node);
     this.place?.setAttribute("data-refused", "");
-    byId("refusal-sentence").textContent = isNewBlock ? NO_NEW_BLOCKS : isStale ? STALE : refused.sentence;
+    byId("refusal-sentence").textContent = sentenceFor(refused, hasNewBlocks);
     byId("refusal-detail").textContent = refused.line || refused.error;
     byId("refusal-show").hidden = this.place === null;
     const newer = /** @type {HTMLAnchorElement} */ (byId("refusal-newer"));
@@ -119,11 +124,6 @@ export class Saving {
     this.place = null;
   }
 }
-
-const NO_NEW_BLOCKS =
-  "Paragraphs, headings and items can't be added, joined or taken out here yet. Undo takes this back (Ctrl+Z); other changes can be saved then.";
-const STALE =
-  "This page was changed in the meantime. Your text is still here: open the newer page in a new tab, and make your change there.";
 
 /** The first block or item that the page hadn't. @param {HTMLElement} root @returns {Element | null} */
 function firstNew(root) {

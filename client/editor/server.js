@@ -3,7 +3,8 @@
 
 /** The server didn't do what was asked. */
 export class ServerRefused extends Error {
-  /** @param {{error: string, status: number, sentence: string, line?: string, node?: string | null, path?: string | null}} answer */
+  /** @param {{error: string, status: number, sentence: string, why?: string | null, line?: string | null,
+   *   node?: string | null, path?: string | null}} answer */
   constructor(answer) {
     super(`${answer.error}: ${answer.sentence}`);
     this.name = "ServerRefused";
@@ -11,6 +12,8 @@ export class ServerRefused extends Error {
     this.error = answer.error;
     /** The status of HTTP; 0 where no answer came. */
     this.status = answer.status;
+    /** Its reason, as `Href`; empty where it has none. */
+    this.why = answer.why ?? "";
     /** What to do. */
     this.sentence = answer.sentence;
     /** What the program wrote. */

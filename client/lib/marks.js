@@ -31,7 +31,7 @@ function markIn(part, original) {
     return;
   }
   const kept = original.nodes.get(part.number);
-  if (kept === undefined || part.attributes.has("about")) return;
+  if (kept === undefined || kept.part === part || part.attributes.has("about")) return;
   if (LINES.has(part.name) || ((ITEMS.has(part.name) || CELLS.has(part.name)) && kept.isInline)) {
     if (isSame(part, kept.part)) return;
     mark(part, "content");
@@ -86,12 +86,17 @@ function settle(parent, number, original) {
     const inOrder = heaviestRising(atHome);
     const moved = kept.filter((part) => !inOrder.has(part) && canBeAnew(part));
     if (moved.length === 0) {
-      for (const part of kept) if (!part.attributes.has("about")) settle(part, part.number, original);
+      for (const part of kept) if (!part.attributes.has("about") && !isUntouched(part, original)) settle(part, part.number, original);
       return;
     }
     const numbers = new Set(moved.map((part) => part.number));
     makeNew(parent, numbers);
   }
+}
+
+/** @param {Part} part @param {Original} original @returns {boolean} whether it is the page's own, not a mended one */
+function isUntouched(part, original) {
+  return original.nodes.get(part.number)?.part === part;
 }
 
 /** The kept elements in a part that stand in no other kept element of it. @param {Part} part @returns {Part[]} */
@@ -141,9 +146,10 @@ function makeNew(parent, numbers) {
     if (typeof child === "string") return [child];
     if (child.number === 0) makeNew(child, numbers);
     if (!numbers.has(child.number)) return [child];
-    for (const name of ["id", "data-parsoid", "data-mw"]) child.attributes.delete(name);
-    const type = child.value("typeof");
+    const anew = child.copy();
+    for (const name of ["id", "data-parsoid", "data-mw"]) anew.attributes.delete(name);
+    const type = anew.value("typeof");
     if (type === "mw:Skip") return [];
-    return type === "mw:Entity" || type === "mw:Nowiki" ? child.children : [child];
+    return type === "mw:Entity" || type === "mw:Nowiki" ? anew.children : [anew];
   });
 }

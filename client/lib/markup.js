@@ -15,6 +15,14 @@ export class Part {
     this.name = name;
     this.attributes = attributes;
     this.children = children;
+    /** How the program wrote it, of a block that was read and not changed; else empty. */
+    this.written = "";
+  }
+
+  /** A copy, also of what stands in it, to be changed. @returns {Part} */
+  copy() {
+    const children = this.children.map((child) => (typeof child === "string" ? child : child.copy()));
+    return new Part(this.name, new Map(this.attributes), children);
   }
 
   /** @param {string} name @returns {string} the attribute's value; empty where it isn't there */
@@ -78,15 +86,81 @@ function unescaped(text, place) {
   });
 }
 
-/** @param {string} html @param {string} written  the attributes, which end before `place` @param {number} place */
+/** @param {string} written  all attributes of a tag @param {number} place  the tag's */
 function readAttributes(written, place) {
   /** @type {Map<string, string>} */
   const attributes = new Map();
-  for (const [, name, double, single] of written.matchAll(ATTRIBUTE)) {
-    if (attributes.has(name)) throw new HtmlRefused(place, `${name} comes twice`);
-    attributes.set(name, unescaped(double ?? single, place));
+  ATTRIBUTE.lastIndex = 0;
+  for (let found = ATTRIBUTE.exec(written); found !== null; found = ATTRIBUTE.exec(written)) {
+    if (attributes.has(found[1])) throw new HtmlRefused(place, `${found[1]} comes twice`);
+    attributes.set(found[1], unescaped(found[2] ?? found[3], place));
   }
   return attributes;
+}
+
+/** Elements whose children are the page's blocks. */
+const HOLD_BLOCKS = new Set(["body", "section"]);
+
+/** Reads a document, piece after piece. */
+class Reader {
+  place = 0;
+  top = new Part("");
+  /** The open elements, the innermost last. */
+  stack = [this.top];
+  /** Where each of them begins. */
+  starts = [0];
+
+  /** @param {string} html */
+  constructor(html) {
+    this.html = html;
+    DOCTYPE.lastIndex = 0;
+    DOCTYPE.exec(html);
+    this.place = DOCTYPE.lastIndex;
+  }
+
+  get parent() {
+    return this.stack[this.stack.length - 1];
+  }
+
+  text() {
+    const end = this.html.indexOf("<", this.place);
+    const text = this.html.slice(this.place, end < 0 ? this.html.length : end);
+    if (this.parent !== this.top) this.parent.children.push(unescaped(text, this.place));
+    else if (/[^ \t\r\n]/.test(text)) throw new HtmlRefused(this.place, "text outside the document");
+    this.place += text.length;
+  }
+
+  end() {
+    END.lastIndex = this.place;
+    const end = END.exec(this.html);
+    if (end === null || this.parent === this.top) throw new HtmlRefused(this.place, "no end tag");
+    if (end[1] !== this.parent.name) throw new HtmlRefused(this.place, `the end of ${this.parent.name} is missing`);
+    this.place = END.lastIndex;
+    const part = /** @type {Part} */ (this.stack.pop());
+    this.#close(part, /** @type {number} */ (this.starts.pop()));
+  }
+
+  start() {
+    START.lastIndex = this.place;
+    const start = START.exec(this.html);
+    if (start === null) throw new HtmlRefused(this.place, "no tag");
+    const part = new Part(start[1], readAttributes(start[2], this.place));
+    const begin = this.place;
+    this.parent.children.push(part);
+    this.place = START.lastIndex;
+    if (VOID.has(part.name)) {
+      this.#close(part, begin);
+      return;
+    }
+    if (start[3]) throw new HtmlRefused(begin, `${part.name} can't close itself`);
+    this.stack.push(part);
+    this.starts.push(begin);
+  }
+
+  /** @param {Part} part  whose end was read @param {number} start */
+  #close(part, start) {
+    if (HOLD_BLOCKS.has(this.parent.name)) part.written = this.html.slice(start, this.place);
+  }
 }
 
 /**
@@ -95,41 +169,16 @@ function readAttributes(written, place) {
  * @returns {Part}
  */
 export function read(html) {
-  const top = new Part("");
-  const stack = [top];
-  DOCTYPE.lastIndex = 0;
-  DOCTYPE.exec(html);
-  let place = DOCTYPE.lastIndex;
-  while (place < html.length) {
-    const parent = stack[stack.length - 1];
-    if (html[place] !== "<") {
-      const end = html.indexOf("<", place);
-      const text = html.slice(place, end < 0 ? html.length : end);
-      if (parent !== top) parent.children.push(unescaped(text, place));
-      else if (/[^ \t\r\n]/.test(text)) throw new HtmlRefused(place, "text outside the document");
-      place += text.length;
-    } else if (html[place + 1] === "/") {
-      END.lastIndex = place;
-      const end = END.exec(html);
-      if (end === null || stack.length === 1) throw new HtmlRefused(place, "no end tag");
-      if (end[1] !== parent.name) throw new HtmlRefused(place, `the end of ${parent.name} is missing`);
-      stack.pop();
-      place = END.lastIndex;
-    } else {
-      START.lastIndex = place;
-      const start = START.exec(html);
-      if (start === null) throw new HtmlRefused(place, "no tag");
-      const part = new Part(start[1], readAttributes(start[2], place));
-      parent.children.push(part);
-      if (!VOID.has(part.name)) {
-        if (start[3]) throw new HtmlRefused(place, `${part.name} can't close itself`);
-        stack.push(part);
-      }
-      place = START.lastIndex;
-    }
+  const reader = new Reader(html);
+  while (reader.place < html.length) {
+    if (html[reader.place] !== "<") reader.text();
+    else if (html[reader.place + 1] === "/") reader.end();
+    else reader.start();
   }
-  const [root, ...others] = top.parts;
-  if (stack.length > 1 || root === undefined || others.length > 0) throw new HtmlRefused(html.length, "no whole document");
+  const [root, ...others] = reader.top.parts;
+  if (reader.parent !== reader.top || root === undefined || others.length > 0) {
+    throw new HtmlRefused(html.length, "no whole document");
+  }
   return root;
 }
 
@@ -175,6 +224,10 @@ function attributeText(name, value) {
 function writeChild(child, out) {
   if (typeof child === "string") {
     out.push(escaped(child));
+    return;
+  }
+  if (child.written !== "") {
+    out.push(child.written);
     return;
   }
   out.push("<", child.name);

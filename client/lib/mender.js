@@ -51,15 +51,21 @@ export class Mender {
 
   // ---- Numbers
 
-  /** Finds the owner of each number: the first element of the right kind that shows something, else the first.
-   * @param {Element} root */
+  /** Finds the owner of each number: of several elements of the right kind the first that shows something, else the
+   * first. @param {Element} root */
   #claim(root) {
     for (const element of root.querySelectorAll("[id]")) {
       const number = numberOf(element.getAttribute("id"));
-      if (number === 0 || !this.#isOfKind(element, number)) continue;
+      if (number === 0) continue;
       const owner = this.#owners.get(number);
-      if (owner === undefined || (isHollow(owner) && !isHollow(element))) this.#owners.set(number, element);
+      if (owner === undefined || this.#isBetter(element, owner, number)) this.#owners.set(number, element);
     }
+  }
+
+  /** @param {Element} element @param {Element} owner  one that came before it @param {number} number  of both */
+  #isBetter(element, owner, number) {
+    if (!this.#isOfKind(element, number)) return false;
+    return !this.#isOfKind(owner, number) || (isHollow(owner) && !isHollow(element));
   }
 
   /** Whether the element can be the page's node of this number. @param {Element} element @param {number} number */
@@ -74,7 +80,34 @@ export class Mender {
   /** @param {Element} element @returns {number} its number, where it is the one that has it; else 0 */
   #numberOf(element) {
     const number = numberOf(element.getAttribute("id"));
-    return number !== 0 && this.#owners.get(number) === element ? number : 0;
+    return number !== 0 && this.#owners.get(number) === element && this.#isOfKind(element, number) ? number : 0;
+  }
+
+  /** The page's own block, where the element is as it was opened. @param {Element} element @returns {Part | undefined} */
+  #untouched(element) {
+    const kept = this.#kept(numberOf(element.getAttribute("id")));
+    return kept !== undefined && this.#isUntouched(element, kept.part) ? kept.part : undefined;
+  }
+
+  /** @param {Element} element @param {Part} part @returns {boolean} */
+  #isUntouched(element, part) {
+    if (element.localName !== part.name && element.getAttribute("data-wt-name") !== part.name) return false;
+    for (const [name, value] of part.attributes) if (element.getAttribute(name) !== value) return false;
+    const number = part.number;
+    if (number === 0 ? element.hasAttribute("id") && !part.attributes.has("id") : this.#owners.get(number) !== element) return false;
+    const { childNodes } = element;
+    if (childNodes.length !== part.children.length) return false;
+    let at = 0;
+    for (const node of childNodes) {
+      const child = part.children[at];
+      at += 1;
+      const isSame =
+        typeof child === "string"
+          ? node.nodeType === TEXT && textOf(node) === child
+          : node.nodeType === ELEMENT && this.#isUntouched(/** @type {Element} */ (node), child);
+      if (!isSame) return false;
+    }
+    return true;
   }
 
   /** @param {number} number */
@@ -159,6 +192,8 @@ export class Mender {
 
   /** @param {Element} element @param {string} name  our name for it @returns {Pieces} */
   #block(element, name) {
+    const untouched = this.#untouched(element);
+    if (untouched !== undefined) return [untouched];
     if (element.hasAttribute("about")) return [this.#asItStands(element, name)];
     if (isHiddenName(name)) return this.#hidden(element, name);
     if (LINES.has(name)) {

@@ -1,7 +1,7 @@
 // @ts-check
 /** A page as it was opened: its nodes by their numbers, to compare with what an editor made of them. */
 
-import { Part, write } from "./markup.js";
+import { Part, readPage, write } from "./markup.js";
 import { isBlock } from "./kinds.js";
 
 /** A node of the page as it was. */
@@ -39,14 +39,11 @@ export class Original {
   /** @type {Map<number, Kept> | null} */
   #nodes = null;
 
-  /** @param {Part} page  its body */
-  constructor(page) {
-    this.page = page;
-  }
-
-  /** The document as the program wrote it. */
-  text() {
-    return write(this.page);
+  /** @param {string} html  as the program wrote it */
+  constructor(html) {
+    this.page = readPage(html);
+    /** The document as `save` would write it. */
+    this.text = write(this.page);
   }
 
   /** The nodes by number; read when they are first asked for. @returns {Map<number, Kept>} */

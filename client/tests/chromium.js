@@ -186,7 +186,7 @@ export class Tab {
         modifiers,
         key: last,
         code: named ? last : /[a-z]/i.test(last) ? `Key${last.toUpperCase()}` : "",
-        windowsVirtualKeyCode: named?.code ?? last.toUpperCase().charCodeAt(0),
+        windowsVirtualKeyCode: named?.code ?? (/[a-z0-9 ]/i.test(last) ? last.toUpperCase().charCodeAt(0) : 0),
       };
       await this.call("Input.dispatchKeyEvent", { type: text === undefined ? "rawKeyDown" : "keyDown", text, ...event });
       await this.call("Input.dispatchKeyEvent", { type: "keyUp", ...event });

@@ -73,7 +73,7 @@ class SmallElement extends SmallNode {
   }
 
   replaceChildren(...nodes) {
-    this.childNodes = nodes;
+    this.childNodes = nodes.flatMap((node) => (node.nodeType === 11 ? node.childNodes : [node]));
   }
 
   /** Knows selectors of attributes alone: `[name]` and `[name="value"]`. */
@@ -99,6 +99,12 @@ export class SmallDocument {
 
   createElement(name) {
     return new SmallElement(this, name);
+  }
+
+  createDocumentFragment() {
+    const fragment = new SmallElement(this, "");
+    fragment.nodeType = 11;
+    return fragment;
   }
 
   createTextNode(data) {
