@@ -7,10 +7,11 @@ import re
 import secrets
 import tempfile
 import threading
+from concurrent.futures import ThreadPoolExecutor
 from dataclasses import dataclass, field
 from html import escape
 from pathlib import Path
-from typing import Callable, Dict, List, Optional
+from typing import Callable, Dict, List, Optional, Tuple
 from urllib.parse import quote
 
 from . import bodies, documents
@@ -91,14 +92,18 @@ class Site:
     def page_html(self, request: Request, title: str, wanted: Optional[str] = None) -> Answer:
         check_accepted(request.headers.get("accept", ""))
         name = full_name(title)
-        self._check_revision(self.folder.read(name), wanted)
-        document = self.program.html(name)
-        page = self.folder.read(name)
-        tag = etag(self.folder, name, document)
+        page, document, tag = self._taken(name)
+        self._check_revision(page, wanted)
         headers = {"ETag": tag, "Vary": "Accept", "Cache-Control": "no-cache"}
         if names_tag(request.headers.get("if-none-match", ""), tag):
             return Answer(b"", HTML_TYPE, 304, headers)
         return Answer(shaped(document, page, request.query), HTML_TYPE, 200, headers)
+
+    def _taken(self, name: str) -> Tuple[bytes, bytes, str]:
+        """A page, its HTML, and the tag of both. Where the page changes meanwhile the tag is that of no page."""
+        page = self.folder.read(name)
+        document = self.program.html(name)
+        return page, document, etag(self.folder, name, page, document)
 
     def page_wikitext(self, request: Request, title: str, wanted: Optional[str] = None) -> Answer:
         page = self.folder.read(full_name(title))
@@ -122,11 +127,8 @@ class Site:
         name = full_name(title)
         fields = request.fields()
         document = bodies.encoded(bodies.text_field(fields, "html"))
-        page = self.folder.read(name)
-        self._check_revision(page, wanted)
-        original = self.program.html(name)
-        self._check_tag(request, etag(self.folder, name, original))
-        return Answer(self.program.edit(name, self._prepared(document, original)), WIKITEXT_TYPE)
+        self._check_revision(self.folder.read(name), wanted)
+        return Answer(self._edited(request, name, document)[1], WIKITEXT_TYPE)
 
     def _page_of(self, document: bytes) -> bytes:
         """The page that an HTML is, as it is written, or else as it is when it is mended."""
@@ -158,38 +160,48 @@ class Site:
             raise Refusal(428, "NoIfMatch", sentence)
         is_preview = bodies.flag(request.query.get("preview"))
         document = bodies.encoded(bodies.text_field(request.fields(json_alone=True), "html"))
-        page = self.folder.read(name)
-        original = self.program.html(name)
-        self._check_tag(request, etag(self.folder, name, original))
-        new = self.program.edit(name, self._prepared(document, original))
-        tag = self._stored(request, name, page, new, is_preview)
+        page, new = self._edited(request, name, document)
         found = {
-            "etag": tag,
             "changed": new != page,
             "diff": unified(page.decode(), new.decode(), titles.file_name(name)),
             "bytes_before": len(page),
             "bytes_after": len(new),
         }
-        return Answer(json.dumps(found).encode() + b"\n", JSON_TYPE, 200, {"ETag": tag})
+        found["etag"] = self._stored(request, name, new, is_preview or new == page)
+        return Answer(json.dumps(found).encode() + b"\n", JSON_TYPE, 200, {"ETag": found["etag"]})
 
-    def _stored(self, request: Request, name: str, page: bytes, new: bytes, is_preview: bool) -> str:
-        """Stores a new page, if nothing has changed since it was made. The answer is the tag of the page as it is now."""
-        with self.folder.locked():
-            tag = etag(self.folder, name, self.program.html(name))
+    def _edited(self, request: Request, name: str, document: bytes) -> Tuple[bytes, bytes]:
+        """The page, and the new page of an edit. HTML that bears a mark was made for `edit`, and is given on as it is
+        while the page's tag is looked at; other HTML is mended and marked first."""
+        with ThreadPoolExecutor(1) as pool:
+            early = pool.submit(self.program.edit, name, document) if MARK.search(document) else None
+            page, original, tag = self._taken(name)
             self._check_tag(request, tag)
-            if is_preview or new == page:
-                return tag
-            self.folder.replace(name, new)
-        return etag(self.folder, name, self.program.html(name))
+            if early is not None:
+                return page, early.result()
+        return page, self.program.edit(name, marked(document.decode(), original.decode()).encode())
+
+    def _stored(self, request: Request, name: str, new: bytes, is_preview: bool) -> str:
+        """Stores a new page, if nothing has changed since it was made. The answer is the tag of the page as it then is;
+        all work is done before, so that the answer can be sent as soon as the page stands there."""
+        with self.folder.locked(), ThreadPoolExecutor(1) as pool:
+            after = None if is_preview else pool.submit(self._tag_of_text, name, new)
+            _, _, tag = self._taken(name)
+            self._check_tag(request, tag)
+            if after is not None:
+                tag = after.result()
+                self.folder.replace(name, new)
+            return tag
+
+    def _tag_of_text(self, name: str, text: bytes) -> str:
+        """The tag that a page will have once this is its text."""
+        with self._texts.page(text) as (room, text_name):
+            return etag(self.folder, name, text, self.program.html(text_name, room))
 
     def _check_tag(self, request: Request, tag: str) -> None:
         wanted = request.headers.get("if-match")
         if wanted and not names_tag(wanted, tag):
             raise Refusal(412, "Stale", STALE, headers={"ETag": tag})
-
-    def _prepared(self, document: bytes, original: bytes) -> bytes:
-        """The HTML as `edit` takes it. What bears a mark was made for it, and is given on as it is."""
-        return document if MARK.search(document) else marked(document.decode(), original.decode()).encode()
 
     # ------------------------------------------------------------ the editor
 
