@@ -49,6 +49,8 @@ class Request:
     body: Callable[[], bytes]
 
     def fields(self, json_alone: bool = False) -> Dict[str, object]:
+        if self.headers.get("content-encoding", "identity").lower() != "identity":
+            raise Refusal(415, "BadContentEncoding", "Send the body uncompressed.")
         return bodies.fields_of(self.headers.get("content-type", ""), self.body(), json_alone)
 
 
