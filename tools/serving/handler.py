@@ -100,6 +100,7 @@ class Handler(BaseHTTPRequestHandler):
     def send_error(self, code: int, message: Optional[str] = None, explain: Optional[str] = None) -> None:
         """What BaseHTTPRequestHandler refuses: a malformed request line or head."""
         self.close_connection = True
+        self.request_version = "HTTP/1.0"  # with a status line, whatever was asked for
         refusal = Refusal(code, "BadRequest", f"The request is malformed or not understood: {message or code}.")
         self._send(Answer(refusal.body(), JSON_TYPE, code))
         self._drain()
@@ -127,6 +128,9 @@ class Handler(BaseHTTPRequestHandler):
         self._send(answer)
 
     def _answer(self) -> Answer:
+        if self.request_version == "HTTP/0.9":
+            self.request_version = "HTTP/1.0"
+            raise Refusal(400, "BadRequest", "The request has no version of HTTP.")
         length = self._length()
         self._left = length
         self._check_host()
