@@ -125,7 +125,11 @@ class Handler(BaseHTTPRequestHandler):
             answer = Answer(refusal.body(), JSON_TYPE, 500)
         if self._left:
             self.close_connection = True
-        self._send(answer)
+        try:
+            self._send(answer)
+        finally:
+            if answer.afterwards is not None:
+                answer.afterwards()
 
     def _answer(self) -> Answer:
         if self.request_version == "HTTP/0.9":

@@ -38,12 +38,12 @@ def find_program(given: Optional[str]) -> str:
 
 
 def started_once(path: str) -> str:
-    """Runs a program without words, so that a clone's launcher proves and builds it now, and no request waits for it.
+    """Runs a program once, so that a clone's launcher proves and builds it now, and no request waits for it.
 
     The answer is the program that requests run: what the launcher built, or `path` itself."""
-    done = subprocess.run([path], stdin=subprocess.DEVNULL, stdout=subprocess.DEVNULL, stderr=subprocess.PIPE)
-    if done.returncode != 1 or b"usage: wtround" not in done.stderr:
-        raise ProgramMissing(f"{path} doesn't run as wtround: {done.stderr.decode('utf-8', 'replace').strip()[-500:]}")
+    done = subprocess.run([path, "gen", "1"], stdin=subprocess.DEVNULL, stdout=subprocess.PIPE)
+    if done.returncode != 0 or not done.stdout.startswith(b"bytes "):
+        raise ProgramMissing(f"{path} doesn't run as wtround")
     built = Path(path).resolve().parent / "crates/wtround/out/wtround"
     return str(built) if os.access(built, os.X_OK) else path
 

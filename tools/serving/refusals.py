@@ -57,6 +57,9 @@ NAMES = [  # of each line that is no `edit refused: NAME`: a pattern, the error'
     (".* too long", "TemplateTooLong", 422),
 ]
 
+WITH_REASON = ("HtmlRefused", "ElementDoesNotFit", "BadContent")
+ABOUT_DOCUMENT = ("HtmlRefused", "ElementDoesNotFit", "ElementHasNoSource")
+
 
 def from_line(line: str, document: Optional[bytes] = None) -> Refusal:
     """The refusal for a line of wtround; `document` is the HTML that it was given, if it was."""
@@ -71,9 +74,9 @@ def from_line(line: str, document: Optional[bytes] = None) -> Refusal:
         error, status = edit[1], 422
     else:
         error, status = next((name, status) for pattern, name, status in NAMES if re.fullmatch(pattern, text))
-    why = re.search("(?::| [0-9]+) ([A-Z][A-Za-z0-9]+)$", text) if error not in ("TemplateTooLong",) else None
-    refusal = Refusal(status, error, told.advice, text, why[1] if why and why[1] != error else None)
-    is_about_document = edit or error in ("HtmlRefused", "ElementDoesNotFit", "ElementHasNoSource")
+    why = re.search(" ([A-Z][A-Za-z0-9]+)$", text) if error in WITH_REASON else None
+    refusal = Refusal(status, error, told.advice, text, why[1] if why else None)
+    is_about_document = edit or error in ABOUT_DOCUMENT
     if document is not None and is_about_document and told.locate is not None:
         locate(refusal, told, document)
     return refusal

@@ -60,6 +60,7 @@ class Answer:
     content_type: str
     status: int = 200
     headers: Dict[str, str] = field(default_factory=dict)
+    afterwards: Optional[Callable[[], None]] = None  # what is done when the answer has been sent
 
 
 class Site:
@@ -129,7 +130,8 @@ class Site:
         name = full_name(title)
         fields = request.fields()
         document = bodies.encoded(bodies.text_field(fields, "html"))
-        self._check_revision(self.folder.read(name), wanted)
+        if "if-match" not in request.headers:  # which says more than the number
+            self._check_revision(self.folder.read(name), wanted)
         return Answer(self._edited(request, name, document)[1], WIKITEXT_TYPE)
 
     def _page_of(self, document: bytes) -> bytes:
@@ -169,8 +171,14 @@ class Site:
             "bytes_before": len(page),
             "bytes_after": len(new),
         }
-        found["etag"] = self._stored(request, name, new, is_preview or new == page)
-        return Answer(json.dumps(found).encode() + b"\n", JSON_TYPE, 200, {"ETag": found["etag"]})
+        is_stored = new != page and not is_preview
+        with self.folder.locked():
+            found["etag"] = self._tag_then(request, name, new if is_stored else None)
+            answer = Answer(json.dumps(found).encode() + b"\n", JSON_TYPE, 200, {"ETag": found["etag"]})
+            if is_stored:
+                answer.afterwards = self.folder.sync
+                self.folder.replace(name, new)  # behind it nothing is left but to send the answer
+        return answer
 
     def _edited(self, request: Request, name: str, document: bytes) -> Tuple[bytes, bytes]:
         """The page, and the new page of an edit. HTML that bears a mark was made for `edit`, and is given on as it is
@@ -183,17 +191,14 @@ class Site:
                 return page, early.result()
         return page, self.program.edit(name, marked(document.decode(), original.decode()).encode())
 
-    def _stored(self, request: Request, name: str, new: bytes, is_preview: bool) -> str:
-        """Stores a new page, if nothing has changed since it was made. The answer is the tag of the page as it then is;
-        all work is done before, so that the answer can be sent as soon as the page stands there."""
-        with self.folder.locked(), ThreadPoolExecutor(1) as pool:
-            after = None if is_preview else pool.submit(self._tag_of_text, name, new)
+    def _tag_then(self, request: Request, name: str, new: Optional[bytes]) -> str:
+        """The tag that the page has once its text is the new one, if there is one. Refuses where anything has changed
+        since the edit."""
+        with ThreadPoolExecutor(1) as pool:
+            after = pool.submit(self._tag_of_text, name, new) if new is not None else None
             _, _, tag = self._taken(name)
             self._check_tag(request, tag)
-            if after is not None:
-                tag = after.result()
-                self.folder.replace(name, new)
-            return tag
+            return after.result() if after is not None else tag
 
     def _tag_of_text(self, name: str, text: bytes) -> str:
         """The tag that a page will have once this is its text."""
@@ -207,10 +212,10 @@ class Site:
 
     # ------------------------------------------------------------ the editor
 
-    def titles(self, _: Request) -> Answer:
+    def title_list(self, _: Request) -> Answer:
         return Answer(json.dumps({"titles": self.folder.titles()}).encode() + b"\n", JSON_TYPE)
 
-    def list(self, _: Request) -> Answer:
+    def page_list(self, _: Request) -> Answer:
         if (CLIENT / "editor/pages.html").is_file():
             return self._client_file("editor/pages.html", PAGE_TYPE)
         items = (
@@ -263,7 +268,7 @@ class TextRoom:
         self._folder = folder
         self._lock = threading.Lock()
         self._room: Optional[tempfile.TemporaryDirectory] = None
-        self._linked: tuple = (None, set())  # when the folder changed last, and the names of its files then
+        self._linked: tuple = (None, set())  # the folder's state, and the names of its files then
 
     def close(self) -> None:
         if self._room is not None:
@@ -280,8 +285,8 @@ class TextRoom:
 
     def _link(self) -> None:
         """Makes the links to the folder's files those that they are now."""
-        changed = os.stat(self._folder.path).st_mtime_ns
-        if self._linked[0] == changed:
+        state = self._folder.state()
+        if state is not None and self._linked[0] == state:
             return
         assert self._room is not None
         names = {name for name in os.listdir(self._folder.path) if name.endswith(".wiki")}
@@ -289,7 +294,7 @@ class TextRoom:
             os.symlink(os.path.join(self._folder.path, name), os.path.join(self._room.name, "pages", name))
         for name in self._linked[1] - names:
             remove_if_there(os.path.join(self._room.name, "pages", name))
-        self._linked = (changed, names)
+        self._linked = (state, names)
 
 
 class TextPage:
@@ -355,11 +360,11 @@ def match(pattern: List[str], segments: List[str]) -> Optional[List[str]]:
 ROUTES = [
     (method, path.split("/")[1:], view)
     for method, path, view in [
-        ("GET", "/", Site.list),
-        ("GET", "/editor/", Site.list),
-        ("GET", "/editor", Site.list),
+        ("GET", "/", Site.page_list),
+        ("GET", "/editor/", Site.page_list),
+        ("GET", "/editor", Site.page_list),
         ("GET", "/editor/{title}", Site.editor),
-        ("GET", "/titles", Site.titles),
+        ("GET", "/titles", Site.title_list),
         ("GET", "/client/{file}", Site.static),
         ("GET", "/client/{part}/{file}", Site.static),
         ("GET", "/client/{part}/{part}/{file}", Site.static),

@@ -87,7 +87,7 @@ class Pages(ServingCase):
             ("html", "Long", 422, "PageTooLong"), ("wikitext", "Long", 422, "PageTooLong"),
             ("html", "Deep", 422, "BracesTooDeep"), ("html", "Bad", 422, "TemplateNotUtf8"),
             ("html", "Nowhere", 404, "NoSuchPage"), ("wikitext", "Nowhere", 404, "NoSuchPage"),
-            ("html", "a%5Bb", 404, "BadTitle"), ("html", "Opava%23History", 404, "BadTitle"),
+            ("html", "%D0%B6" * 60, 404, "NoSuchPage"), ("html", "a%5Bb", 404, "BadTitle"), ("html", "Opava%23History", 404, "BadTitle"),
         ]:  # fmt: skip
             with self.subTest(kind=kind, title=title):
                 came, headers, body = self.ask("GET", f"/x/v3/page/{kind}/{title}")
