@@ -2,12 +2,12 @@
 from __future__ import annotations
 
 import re
-from typing import Callable, Dict
+from typing import Callable, Dict, Tuple
 
 from .refusals import Refusal
 
 # In what wtround writes data-parsoid is the last attribute, and no text or value has a bare `<` or `>`.
-DATA_PARSOID = re.compile(rb" data-parsoid='[^'<>]*'(?=/?>)")
+DATA_PARSOID = re.compile(rb" data-parsoid='([^'<>]*)'(?=/?>)")
 RANGES = re.compile(rb'"dsr":\[([0-9]+),([0-9]+),([0-9]+),([0-9]+)\]')
 BODY = re.compile(rb"<body[^<>]*>(.*)</body>", re.DOTALL)
 
@@ -37,19 +37,24 @@ def with_offsets(document: bytes, page: bytes, unit: str) -> bytes:
     if unit == "byte" or page.isascii():
         return document
     places = {0}
-    for found in RANGES.finditer(document):
-        start, end, opening, closing = map(int, found.groups())
+    for start, end, opening, closing in map(range_in, DATA_PARSOID.findall(document)):
         places.update((start, start + opening, end - closing, end))
     counts = counts_at(sorted(places), page, UNITS[unit])
 
     def in_unit(found: "re.Match[bytes]") -> bytes:
-        start, end, opening, closing = map(int, found.groups())
+        start, end, opening, closing = range_in(found[0])
         before, after = counts[start], counts[end]
         widths = counts[start + opening] - before, after - counts[end - closing]
         return b'"dsr":[%d,%d,%d,%d]' % (before, after, *widths)
 
-    in_attributes = re.compile(rb"(?<= data-parsoid=')[^'<>]*(?='/?>)")
-    return in_attributes.sub(lambda found: RANGES.sub(in_unit, found[0]), document)
+    return DATA_PARSOID.sub(lambda found: RANGES.sub(in_unit, found[0], count=1), document)
+
+
+def range_in(data: bytes) -> Tuple[int, ...]:
+    """The start, the end and the two widths in a data-parsoid, all in bytes."""
+    found = RANGES.search(data)
+    assert found is not None  # each that wtround writes has them
+    return tuple(map(int, found.groups()))
 
 
 def counts_at(places: list, page: bytes, count: Callable[[bytes], int]) -> Dict[int, int]:

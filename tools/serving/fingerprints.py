@@ -15,15 +15,14 @@ HIDDEN = re.compile(r"<!--.*?(?:-->|\Z)|</?(?:include|noinclude|onlyinclude)[a-z
 TAG = re.compile(r'\s*(?:W/)?"([\x21\x23-\x7e]*)"\s*(?:,|\Z)')
 
 
-def etag(folder: PageFolder, name: str, document: bytes) -> str:
-    """The tag of a page whose HTML this is.
+def etag(folder: PageFolder, name: str, page: bytes, document: bytes) -> str:
+    """The tag of a page and its HTML.
 
     It is a hash of the page, of its HTML, in which stands all that its templates give, and of every page that a call
     names in letters, in the page or in these in turn. So it changes with each of them, and also with a template whose
     name other calls or arguments make up, where that shows anything.
     """
-    page = folder.read(name)
-    digest = hashlib.sha256(hashlib.sha256(document).digest())
+    digest = hashlib.sha256(hashlib.sha256(page).digest() + hashlib.sha256(document).digest())
     seen, texts = {name}, [page]
     while texts:
         for called in names_in(texts.pop()):
@@ -35,7 +34,6 @@ def etag(folder: PageFolder, name: str, document: bytes) -> str:
             digest.update(hashlib.sha256(text).digest() if text is not None else b"absent")
             if text is not None:
                 texts.append(text)
-    digest.update(hashlib.sha256(page).digest())
     return f'W/"{revision(page)}/{digest.hexdigest()[:32]}"'
 
 

@@ -4,10 +4,11 @@ from __future__ import annotations
 import socket
 import sys
 import threading
+from contextlib import contextmanager
 from email.utils import formatdate
 from http.server import BaseHTTPRequestHandler, ThreadingHTTPServer
 from ipaddress import ip_address
-from typing import Dict, Optional, Set
+from typing import Dict, Iterator, Optional, Set
 from urllib.parse import parse_qsl, unquote
 
 from .refusals import Refusal
@@ -40,6 +41,8 @@ class Server(ThreadingHTTPServer):
         self.names = names  # that a Host field may have, besides addresses and localhost
         self.is_quiet = is_quiet
         self._room = threading.BoundedSemaphore(CONNECTIONS)
+        self._answering = threading.Condition()
+        self._answers = 0  # that are being made or sent
         super().__init__(address, Handler)
         self.is_loopback = ip_address(self.server_address[0]).is_loopback
 
@@ -56,6 +59,22 @@ class Server(ThreadingHTTPServer):
             super().process_request_thread(request, client_address)
         finally:
             self._room.release()
+
+    @contextmanager
+    def answering(self) -> Iterator[None]:
+        with self._answering:
+            self._answers += 1
+        try:
+            yield
+        finally:
+            with self._answering:
+                self._answers -= 1
+                self._answering.notify_all()
+
+    def finish_answers(self, seconds: float) -> None:
+        """Waits until the requests that came are answered, so that no page is stored without an answer."""
+        with self._answering:
+            self._answering.wait_for(lambda: self._answers == 0, seconds)
 
     def handle_error(self, request: object, client_address: object) -> None:
         if not isinstance(sys.exc_info()[1], OSError):  # a client that went away is no fault
@@ -81,11 +100,18 @@ class Handler(BaseHTTPRequestHandler):
     def send_error(self, code: int, message: Optional[str] = None, explain: Optional[str] = None) -> None:
         """What BaseHTTPRequestHandler refuses: a malformed request line or head."""
         self.close_connection = True
+        self.request_version = "HTTP/1.0"  # with a status line, whatever was asked for
         refusal = Refusal(code, "BadRequest", f"The request is malformed or not understood: {message or code}.")
         self._send(Answer(refusal.body(), JSON_TYPE, code))
         self._drain()
 
     def _handle(self) -> None:
+        with self.server.answering():
+            self._handle_one()
+        if self._left:
+            self._drain()
+
+    def _handle_one(self) -> None:
         self._left = 0  # bytes of the body that weren't read
         try:
             answer = self._answer()
@@ -99,11 +125,16 @@ class Handler(BaseHTTPRequestHandler):
             answer = Answer(refusal.body(), JSON_TYPE, 500)
         if self._left:
             self.close_connection = True
-        self._send(answer)
-        if self._left:
-            self._drain()
+        try:
+            self._send(answer)
+        finally:
+            if answer.afterwards is not None:
+                answer.afterwards()
 
     def _answer(self) -> Answer:
+        if self.request_version == "HTTP/0.9":
+            self.request_version = "HTTP/1.0"
+            raise Refusal(400, "BadRequest", "The request has no version of HTTP.")
         length = self._length()
         self._left = length
         self._check_host()

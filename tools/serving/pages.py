@@ -1,11 +1,13 @@
 """The folder of pages: its titles, its files, and how a page is replaced."""
 from __future__ import annotations
 
+import errno
 import fcntl
 import hashlib
 import os
 import secrets
 import stat
+import time
 from contextlib import contextmanager
 from typing import Iterator, Optional
 from urllib.parse import unquote
@@ -14,6 +16,7 @@ from .other_tools import titles
 from .refusals import Refusal
 
 PAGE_BYTES = 2_097_152  # more than these wtround doesn't take
+STEP = 100_000_000  # nanoseconds, more than the steps of the clock of file systems
 TEMPORARY = ".wtround-serve-"  # begins the names of files that are being written
 
 
@@ -38,15 +41,21 @@ class PageFolder:
 
     def __init__(self, path: str) -> None:
         self.path = os.path.realpath(path)
-        self._titles: tuple = (None, [])  # when the folder changed last, and its titles then
+        self._titles: tuple = (None, [])  # the folder's state, and its titles then
 
     def titles(self) -> list:
         """The full names of the pages, in the order of their letters."""
-        changed = os.stat(self.path).st_mtime_ns
-        if self._titles[0] != changed:
+        state, listed = self.state(), self._titles
+        if state is None or listed[0] != state:
             names = (title_of_file(name) for name in os.listdir(self.path))
-            self._titles = (changed, sorted(name for name in names if name is not None))
-        return self._titles[1]
+            listed = self._titles = (state, sorted(name for name in names if name is not None))
+        return listed[1]
+
+    def state(self) -> Optional[int]:
+        """A number that changes when files come or go; nothing where they did just now, since a clock's step may hide
+        the next change."""
+        changed = os.stat(self.path).st_mtime_ns
+        return changed if time.time_ns() - changed > STEP else None
 
     def read(self, name: str) -> bytes:
         """The page of a full name, as its bytes. Refuses with 404 where there is none."""
@@ -64,9 +73,9 @@ class PageFolder:
                 return None
             with open(path, "rb", opener=open_regular) as file:
                 return file.read(PAGE_BYTES + 1)
-        except FileNotFoundError:
-            return None
         except OSError as error:
+            if error.errno in (errno.ENOENT, errno.ENAMETOOLONG):
+                return None
             sentence = f"The page's file can't be read: {error.strerror}."
             raise Refusal(500, "FolderFault", sentence, "folder fault") from None
 
@@ -99,6 +108,9 @@ class PageFolder:
             raise Refusal(500, "NotStored", f"The page couldn't be written, and is as it was: {error.strerror}.") from None
         finally:
             remove_if_there(temporary)
+
+    def sync(self) -> None:
+        """Makes the names of files outlast a loss of power, as their bytes do already."""
         sync_directory(self.path)
 
     def remove_unfinished(self) -> None:

@@ -7,7 +7,7 @@ import subprocess
 import tempfile
 import threading
 from pathlib import Path
-from typing import Optional
+from typing import Optional, Set
 
 from .refusals import Refusal, from_line
 
@@ -38,12 +38,12 @@ def find_program(given: Optional[str]) -> str:
 
 
 def started_once(path: str) -> str:
-    """Runs a program without words, so that a clone's launcher proves and builds it now, and no request waits for it.
+    """Runs a program once, so that a clone's launcher proves and builds it now, and no request waits for it.
 
     The answer is the program that requests run: what the launcher built, or `path` itself."""
-    done = subprocess.run([path], stdin=subprocess.DEVNULL, stdout=subprocess.DEVNULL, stderr=subprocess.PIPE)
-    if done.returncode != 1 or b"usage: wtround" not in done.stderr:
-        raise ProgramMissing(f"{path} doesn't run as wtround: {done.stderr.decode('utf-8', 'replace').strip()[-500:]}")
+    done = subprocess.run([path, "gen", "1"], stdin=subprocess.DEVNULL, stdout=subprocess.PIPE)
+    if done.returncode != 0 or not done.stdout.startswith(b"bytes "):
+        raise ProgramMissing(f"{path} doesn't run as wtround")
     built = Path(path).resolve().parent / "crates/wtround/out/wtround"
     return str(built) if os.access(built, os.X_OK) else path
 
@@ -55,10 +55,14 @@ class Program:
         self._path = path
         self._seconds = seconds
         self._running = threading.BoundedSemaphore(at_once)
+        self._processes: Set[subprocess.Popen] = set()
         self._room = tempfile.mkdtemp(prefix="wtround-serve-")
         os.symlink(os.path.abspath(pages), os.path.join(self._room, "pages"))
 
     def close(self) -> None:
+        """Ends what still runs."""
+        for process in list(self._processes):
+            process.kill()
         shutil.rmtree(self._room, ignore_errors=True)
 
     def html(self, title: str, room: Optional[str] = None) -> bytes:
@@ -89,10 +93,13 @@ class Program:
         except OSError as error:
             raise Refusal(500, "ProgramFailed", f"The program couldn't be started: {error.strerror}.") from None
         with process:
+            self._processes.add(process)
             try:
                 out, told = process.communicate(given, self._seconds)
             except subprocess.TimeoutExpired:
                 process.kill()
                 sentence = "The page takes too long: shorten it, or start the server with a longer --time-limit."
                 raise Refusal(503, "TimeLimit", sentence, headers={"Retry-After": "60"}) from None
+            finally:
+                self._processes.discard(process)
         return out, told.decode("utf-8", "replace"), process.returncode

@@ -4,7 +4,7 @@ from __future__ import annotations
 import json
 import re
 from dataclasses import dataclass, field
-from typing import Iterator, Optional
+from typing import Any, List, Optional, Tuple
 
 from .other_tools import explanations
 
@@ -57,6 +57,9 @@ NAMES = [  # of each line that is no `edit refused: NAME`: a pattern, the error'
     (".* too long", "TemplateTooLong", 422),
 ]
 
+WITH_REASON = ("HtmlRefused", "ElementDoesNotFit", "BadContent")
+ABOUT_DOCUMENT = ("HtmlRefused", "ElementDoesNotFit", "ElementHasNoSource")
+
 
 def from_line(line: str, document: Optional[bytes] = None) -> Refusal:
     """The refusal for a line of wtround; `document` is the HTML that it was given, if it was."""
@@ -71,51 +74,52 @@ def from_line(line: str, document: Optional[bytes] = None) -> Refusal:
         error, status = edit[1], 422
     else:
         error, status = next((name, status) for pattern, name, status in NAMES if re.fullmatch(pattern, text))
-    why = re.search("(?::| [0-9]+) ([A-Z][A-Za-z0-9]+)$", text) if error not in ("TemplateTooLong",) else None
-    refusal = Refusal(status, error, told.advice, text, why[1] if why and why[1] != error else None)
-    is_about_document = edit or error in ("HtmlRefused", "ElementDoesNotFit", "ElementHasNoSource")
+    why = re.search(" ([A-Z][A-Za-z0-9]+)$", text) if error in WITH_REASON else None
+    refusal = Refusal(status, error, told.advice, text, why[1] if why else None)
+    is_about_document = edit or error in ABOUT_DOCUMENT
     if document is not None and is_about_document and told.locate is not None:
         locate(refusal, told, document)
     return refusal
 
 
-def locate(refusal: Refusal, told, document: bytes) -> None:
+def locate(refusal: Refusal, told: Any, document: bytes) -> None:
     """Says which element of the document a refusal is about."""
     if refusal.error == "HtmlRefused":  # up to its place the document is well-formed
         document, place = document[: told.number], told.number
     else:
-        found = told.locate(document, told.number)
-        if found is None:
-            return
-        place = found + 1
-    for element in paths(document, place):
-        refusal.element, refusal.path, identifier = element
-    if refusal.element is not None:
+        place = told.locate(document, told.number)
+    found = element_at(document, place) if place is not None else None
+    if found is not None:
+        refusal.element, refusal.path, identifier = found
         refusal.node = identifier if re.fullmatch("mw[1-9][0-9]*", identifier) else refusal.path
 
 
-def paths(document: bytes, place: int) -> Iterator[tuple]:
-    """The last element that begins before a place: its number, its path and its id. Nothing where there is none."""
-    counts, open_elements, last, number = [0], [], None, 0
-    for tag in TAG.finditer(document, 0, place if place < len(document) else len(document)):
+def element_at(document: bytes, place: int) -> Optional[Tuple[int, str, str]]:
+    """The last element that begins at a place or before it: its number, its path and its id."""
+    counts: List[int] = [0]  # of children, of each open element
+    opened: List[Tuple[str, int]] = []
+    last, number = None, 0
+    for tag in TAG.finditer(document):
+        if tag.start() > place:
+            break
         if tag[1]:
-            if open_elements:
-                open_elements.pop()
+            if opened:
+                opened.pop()
                 counts.pop()
             continue
         number += 1
         counts[-1] += 1
         name = tag[2].decode()
-        last = (number, [*open_elements, (name, counts[-1])], tag)
+        last = (number, [*opened, (name, counts[-1])], tag)
         if name not in VOID:
-            open_elements.append((name, counts[-1]))
+            opened.append((name, counts[-1]))
             counts.append(0)
-    if last is not None:
-        identifier = explanations.attributes_of(last[2][3]).get("id", "")
-        yield last[0], selector(last[1]), identifier
+    if last is None:
+        return None
+    return last[0], selector(last[1]), explanations.attributes_of(last[2][3]).get("id", "")
 
 
-def selector(steps: list) -> str:
+def selector(steps: List[Tuple[str, int]]) -> str:
     """A CSS selector: from the body where there is one."""
     names = [name for name, _ in steps]
     start = names.index("body") if "body" in names else 0

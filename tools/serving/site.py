@@ -7,10 +7,11 @@ import re
 import secrets
 import tempfile
 import threading
+from concurrent.futures import ThreadPoolExecutor
 from dataclasses import dataclass, field
 from html import escape
 from pathlib import Path
-from typing import Callable, Dict, List, Optional
+from typing import Callable, Dict, List, Optional, Tuple
 from urllib.parse import quote
 
 from . import bodies, documents
@@ -48,6 +49,8 @@ class Request:
     body: Callable[[], bytes]
 
     def fields(self, json_alone: bool = False) -> Dict[str, object]:
+        if self.headers.get("content-encoding", "identity").lower() != "identity":
+            raise Refusal(415, "BadContentEncoding", "Send the body uncompressed.")
         return bodies.fields_of(self.headers.get("content-type", ""), self.body(), json_alone)
 
 
@@ -57,6 +60,7 @@ class Answer:
     content_type: str
     status: int = 200
     headers: Dict[str, str] = field(default_factory=dict)
+    afterwards: Optional[Callable[[], None]] = None  # what is done when the answer has been sent
 
 
 class Site:
@@ -91,14 +95,18 @@ class Site:
     def page_html(self, request: Request, title: str, wanted: Optional[str] = None) -> Answer:
         check_accepted(request.headers.get("accept", ""))
         name = full_name(title)
-        self._check_revision(self.folder.read(name), wanted)
-        document = self.program.html(name)
-        page = self.folder.read(name)
-        tag = etag(self.folder, name, document)
+        page, document, tag = self._taken(name)
+        self._check_revision(page, wanted)
         headers = {"ETag": tag, "Vary": "Accept", "Cache-Control": "no-cache"}
         if names_tag(request.headers.get("if-none-match", ""), tag):
             return Answer(b"", HTML_TYPE, 304, headers)
         return Answer(shaped(document, page, request.query), HTML_TYPE, 200, headers)
+
+    def _taken(self, name: str) -> Tuple[bytes, bytes, str]:
+        """A page, its HTML, and the tag of both. Where the page changes meanwhile the tag is that of no page."""
+        page = self.folder.read(name)
+        document = self.program.html(name)
+        return page, document, etag(self.folder, name, page, document)
 
     def page_wikitext(self, request: Request, title: str, wanted: Optional[str] = None) -> Answer:
         page = self.folder.read(full_name(title))
@@ -122,11 +130,9 @@ class Site:
         name = full_name(title)
         fields = request.fields()
         document = bodies.encoded(bodies.text_field(fields, "html"))
-        page = self.folder.read(name)
-        self._check_revision(page, wanted)
-        original = self.program.html(name)
-        self._check_tag(request, etag(self.folder, name, original))
-        return Answer(self.program.edit(name, self._prepared(document, original)), WIKITEXT_TYPE)
+        if "if-match" not in request.headers:  # which says more than the number
+            self._check_revision(self.folder.read(name), wanted)
+        return Answer(self._edited(request, name, document)[1], WIKITEXT_TYPE)
 
     def _page_of(self, document: bytes) -> bytes:
         """The page that an HTML is, as it is written, or else as it is when it is mended."""
@@ -158,45 +164,58 @@ class Site:
             raise Refusal(428, "NoIfMatch", sentence)
         is_preview = bodies.flag(request.query.get("preview"))
         document = bodies.encoded(bodies.text_field(request.fields(json_alone=True), "html"))
-        page = self.folder.read(name)
-        original = self.program.html(name)
-        self._check_tag(request, etag(self.folder, name, original))
-        new = self.program.edit(name, self._prepared(document, original))
-        tag = self._stored(request, name, page, new, is_preview)
+        page, new = self._edited(request, name, document)
         found = {
-            "etag": tag,
             "changed": new != page,
             "diff": unified(page.decode(), new.decode(), titles.file_name(name)),
             "bytes_before": len(page),
             "bytes_after": len(new),
         }
-        return Answer(json.dumps(found).encode() + b"\n", JSON_TYPE, 200, {"ETag": tag})
-
-    def _stored(self, request: Request, name: str, page: bytes, new: bytes, is_preview: bool) -> str:
-        """Stores a new page, if nothing has changed since it was made. The answer is the tag of the page as it is now."""
+        is_stored = new != page and not is_preview
         with self.folder.locked():
-            tag = etag(self.folder, name, self.program.html(name))
+            found["etag"] = self._tag_then(request, name, new if is_stored else None)
+            answer = Answer(json.dumps(found).encode() + b"\n", JSON_TYPE, 200, {"ETag": found["etag"]})
+            if is_stored:
+                answer.afterwards = self.folder.sync
+                self.folder.replace(name, new)  # behind it nothing is left but to send the answer
+        return answer
+
+    def _edited(self, request: Request, name: str, document: bytes) -> Tuple[bytes, bytes]:
+        """The page, and the new page of an edit. HTML that bears a mark was made for `edit`, and is given on as it is
+        while the page's tag is looked at; other HTML is mended and marked first."""
+        with ThreadPoolExecutor(1) as pool:
+            early = pool.submit(self.program.edit, name, document) if MARK.search(document) else None
+            page, original, tag = self._taken(name)
             self._check_tag(request, tag)
-            if is_preview or new == page:
-                return tag
-            self.folder.replace(name, new)
-        return etag(self.folder, name, self.program.html(name))
+            if early is not None:
+                return page, early.result()
+        return page, self.program.edit(name, marked(document.decode(), original.decode()).encode())
+
+    def _tag_then(self, request: Request, name: str, new: Optional[bytes]) -> str:
+        """The tag that the page has once its text is the new one, if there is one. Refuses where anything has changed
+        since the edit."""
+        with ThreadPoolExecutor(1) as pool:
+            after = pool.submit(self._tag_of_text, name, new) if new is not None else None
+            _, _, tag = self._taken(name)
+            self._check_tag(request, tag)
+            return after.result() if after is not None else tag
+
+    def _tag_of_text(self, name: str, text: bytes) -> str:
+        """The tag that a page will have once this is its text."""
+        with self._texts.page(text) as (room, text_name):
+            return etag(self.folder, name, text, self.program.html(text_name, room))
 
     def _check_tag(self, request: Request, tag: str) -> None:
         wanted = request.headers.get("if-match")
         if wanted and not names_tag(wanted, tag):
             raise Refusal(412, "Stale", STALE, headers={"ETag": tag})
 
-    def _prepared(self, document: bytes, original: bytes) -> bytes:
-        """The HTML as `edit` takes it. What bears a mark was made for it, and is given on as it is."""
-        return document if MARK.search(document) else marked(document.decode(), original.decode()).encode()
-
     # ------------------------------------------------------------ the editor
 
-    def titles(self, _: Request) -> Answer:
+    def title_list(self, _: Request) -> Answer:
         return Answer(json.dumps({"titles": self.folder.titles()}).encode() + b"\n", JSON_TYPE)
 
-    def list(self, _: Request) -> Answer:
+    def page_list(self, _: Request) -> Answer:
         if (CLIENT / "editor/pages.html").is_file():
             return self._client_file("editor/pages.html", PAGE_TYPE)
         items = (
@@ -249,7 +268,7 @@ class TextRoom:
         self._folder = folder
         self._lock = threading.Lock()
         self._room: Optional[tempfile.TemporaryDirectory] = None
-        self._linked: tuple = (None, set())  # when the folder changed last, and the names of its files then
+        self._linked: tuple = (None, set())  # the folder's state, and the names of its files then
 
     def close(self) -> None:
         if self._room is not None:
@@ -266,8 +285,8 @@ class TextRoom:
 
     def _link(self) -> None:
         """Makes the links to the folder's files those that they are now."""
-        changed = os.stat(self._folder.path).st_mtime_ns
-        if self._linked[0] == changed:
+        state = self._folder.state()
+        if state is not None and self._linked[0] == state:
             return
         assert self._room is not None
         names = {name for name in os.listdir(self._folder.path) if name.endswith(".wiki")}
@@ -275,7 +294,7 @@ class TextRoom:
             os.symlink(os.path.join(self._folder.path, name), os.path.join(self._room.name, "pages", name))
         for name in self._linked[1] - names:
             remove_if_there(os.path.join(self._room.name, "pages", name))
-        self._linked = (changed, names)
+        self._linked = (state, names)
 
 
 class TextPage:
@@ -341,11 +360,11 @@ def match(pattern: List[str], segments: List[str]) -> Optional[List[str]]:
 ROUTES = [
     (method, path.split("/")[1:], view)
     for method, path, view in [
-        ("GET", "/", Site.list),
-        ("GET", "/editor/", Site.list),
-        ("GET", "/editor", Site.list),
+        ("GET", "/", Site.page_list),
+        ("GET", "/editor/", Site.page_list),
+        ("GET", "/editor", Site.page_list),
         ("GET", "/editor/{title}", Site.editor),
-        ("GET", "/titles", Site.titles),
+        ("GET", "/titles", Site.title_list),
         ("GET", "/client/{file}", Site.static),
         ("GET", "/client/{part}/{file}", Site.static),
         ("GET", "/client/{part}/{part}/{file}", Site.static),

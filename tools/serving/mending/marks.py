@@ -7,7 +7,7 @@ from typing import List, Optional, Set
 from .kinds import CELLS, HEADINGS, ITEMS, LINES
 from .markup import Child, Element
 from .original import Original
-from .texts import is_same
+from .texts import WHITE, is_same
 
 # What can be written anew, so that it may stand where it didn't stand in the page.
 WRITABLE = HEADINGS | frozenset("b i a br p hr li".split())
@@ -37,12 +37,26 @@ def mark_in(part: Element, original: Original) -> None:
     if part.name in LINES or (part.name in ITEMS | CELLS and kept.is_inline):
         if not is_same(part, kept.part):
             mark(part, "content")
+            if part.name != "p":
+                drop_last_blanks(part)
         return
     is_top_list = part.name in ("ul", "ol") and kept.parent is None
     if is_top_list and child_numbers(part) != child_numbers(kept.part):
         mark(part, "children")
     for child in part.elements():
         mark_in(child, original)
+
+
+def drop_last_blanks(part: Element) -> None:
+    """`edit` would keep blanks at the end of a heading, an item or a cell by a `<nowiki/>` behind them."""
+    last = part.children[-1] if part.children else None
+    if not isinstance(last, str):
+        return
+    rest = last.rstrip(WHITE)
+    if rest != "":
+        part.children[-1] = rest
+    else:
+        part.children.pop()
 
 
 def child_numbers(part: Element) -> List[int]:

@@ -6,6 +6,7 @@ from __future__ import annotations
 
 import html
 import re
+from functools import lru_cache
 from typing import Dict, Iterator, List, Optional, Union
 
 from ..refusals import Refusal
@@ -58,7 +59,8 @@ class Element:
     @property
     def number(self) -> int:
         """The number of the page's node that it stands for, 0 where there is none."""
-        return number_of(self.attributes.get("id", ""))
+        identifier = self.attributes.get("id")
+        return number_of(identifier) if identifier else 0
 
     def elements(self) -> "Iterator[Element]":
         return (child for child in self.children if isinstance(child, Element))
@@ -89,6 +91,7 @@ class Element:
         return "".join(parts)
 
 
+@lru_cache(maxsize=1 << 16)
 def number_of(identifier: str) -> int:
     """The number in an `id` of the program, as `mw12`; 0 of any other."""
     found = NUMBER.fullmatch(identifier)

@@ -313,11 +313,12 @@ class Mender:
         target = link_target(element.get("href"), rel)
         if target is None or self._has_lost_inside(element, content):
             return content
-        link = self._part(element, "a", content)
+        is_new = self._number_of(element) == 0
+        link = Element("a", target, content) if is_new else self._part(element, "a", content)
         for name, value in target.items():
             if link.get(name) != value:
                 link.attributes[name] = value
-        if (kept is not None and kept.part.text() == link.text()) or (kept is None and link.number != 0):
+        if kept.part.text() == link.text() if kept is not None else not is_new:
             return [link]
         return with_edges_outside(link, kept.part.text() if kept is not None else "")
 
@@ -343,6 +344,8 @@ class Mender:
         was, now = kept.part.text() if kept is not None else None, part.text()
         if was is None or now == was:
             return [part]
+        if is_blank(now) and is_blank(was):
+            return [Element(part.name, part.attributes, [was])]
         if now == "":
             return []
         is_before = now.endswith(was)
@@ -409,8 +412,6 @@ def is_hollow(element: Element) -> bool:
 
 def may_have(name: str, attribute: str) -> bool:
     """Whether a new element may have an attribute."""
-    if name == "a":
-        return attribute in ("rel", "href")
     if name in ("table", "tr", "td", "th"):
         return attribute in TABLE_ATTRIBUTES
     if name == "span":

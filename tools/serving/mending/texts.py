@@ -2,7 +2,8 @@
 from __future__ import annotations
 
 import re
-from typing import List, Optional
+from itertools import islice
+from typing import Iterable, Iterator, List, Optional, Tuple
 
 from .kinds import ITEMS, is_blank, is_block, is_hidden_name, is_island
 from .markup import Child, Element
@@ -94,30 +95,35 @@ def trim_edges(block: Element, lead: List[Child], kept: Optional[Kept], was: str
 
 
 class Texts:
-    """The texts of a block beside those that the page has: what lies before and behind the change isn't touched."""
+    """The texts of a block beside those that the page has. Before and behind what was changed the page's white space is
+    put back: browsers put no-break spaces for blanks, and blanks for line breaks, next to what is typed."""
 
     def __init__(self, was: str, now: str) -> None:
-        front = common_start(was, now)
-        most = min(len(was), len(now)) - front
-        back = common_start(was[::-1], now[::-1], most)
+        most = min(len(was), len(now))
+        back = count_same(zip(reversed(was), reversed(now)), most)
+        front = count_same(zip(was, now), most - back)
+        self._was = was
         self._from = front
         self._to = len(now) - back
+        self._longer = len(now) - len(was)
         self._at = 0  # where in the block's text the next piece begins
         changed = was[front : len(was) - back]
-        self._has_no_breaks = "\u00a0" not in changed
+        self._has_no_breaks = "\u00a0" in changed
         self._has_returns = "\r" in changed
-        self._has_indents = bool(re.search("\n[ \t]", was))
 
     def mend(self, block: Element, lead: List[Child]) -> None:
         self._pieces(lead, block.name in ("p", "pre"), False)
-        if block.name != "p" or self._has_indents:
+        if block.name != "p":
             return
+        lead[:] = [part for piece in lead for part in split_at_lines(piece)]
+        has_indents, has_trails = re.search("\n[ \t]", self._was), re.search("[ \t]\n", self._was)
         for at, piece in enumerate(lead):
             if isinstance(piece, str):
-                lead[at] = re.sub("\n[ \t]+", "\n", piece)
+                mended = piece if has_indents else re.sub("\n[ \t]+", "\n", piece)
+                lead[at] = mended if has_trails else without_trails(mended)
 
     def _pieces(self, pieces: List[Child], is_paragraph: bool, is_new: bool) -> None:
-        """`is_paragraph`: line breaks may stand among them; `is_new`: they stand in a new element."""
+        """`is_paragraph`: line breaks may stand among them; `is_new`: they stand in a new element that holds none."""
         for at, piece in enumerate(pieces):
             if isinstance(piece, str):
                 mended = self._text(piece, is_paragraph)
@@ -125,15 +131,16 @@ class Texts:
             elif is_hidden_name(piece.name) or is_island(piece.get) or piece.get("typeof") != "":
                 self._at += len(piece.text())
             else:
-                self._pieces(piece.children, False, is_new or piece.number == 0)
+                is_split = is_paragraph and is_new_style(piece)
+                self._pieces(piece.children, is_split, is_new or (piece.number == 0 and not is_split))
 
     def _text(self, text: str, is_paragraph: bool) -> str:
-        start = min(max(self._from - self._at, 0), len(text))
-        end = min(max(self._to - self._at, start), len(text))
-        self._at += len(text)
-        if start == end:
-            return text
-        return text[:start] + self._typed(text[start:end], is_paragraph) + text[end:]
+        first = self._at
+        last = self._at = first + len(text)
+        start = min(max(self._from, first), last)
+        end = min(max(self._to, start), last)
+        front, back = self._was[first:start], self._was[end - self._longer : last - self._longer] if end < last else ""
+        return front + self._typed(text[start - first : end - first], is_paragraph) + back
 
     def _typed(self, text: str, is_paragraph: bool) -> str:
         """`text` is what was typed or pasted."""
@@ -141,21 +148,62 @@ class Texts:
         mended = re.sub("[\v\f]", " ", mended)
         if not self._has_returns:
             mended = re.sub("\r\n?", "\n", mended)
-        if self._has_no_breaks:
+        if not self._has_no_breaks:
             mended = mended.replace("\u00a0", " ")
         return re.sub("\n(?:[ \t]*\n)+", "\n", mended) if is_paragraph else re.sub("\n+", " ", mended)
 
 
-def common_start(one: str, other: str, most: Optional[int] = None) -> int:
-    """How many characters two texts begin with that are the same, `most` at most."""
-    length = min(len(one), len(other)) if most is None else most
-    if one[:length] == other[:length]:
-        return length
-    low, high = 0, length  # the first `low` are the same, the first `high` aren't
-    while high - low > 1:
-        middle = (low + high) // 2
-        if one[low:middle] == other[low:middle]:
-            low = middle
-        else:
-            high = middle
-    return low
+def without_trails(text: str) -> str:
+    """A text without blanks at the ends of its lines but the last."""
+    *lines, last = text.split("\n")
+    return "\n".join([line.rstrip(" \t") for line in lines] + [last])
+
+
+def is_new_style(piece: Child) -> bool:
+    """Bold or italic that an editor made."""
+    return not isinstance(piece, str) and piece.number == 0 and piece.name in ("b", "i")
+
+
+def split_at_lines(piece: Child) -> List[Child]:
+    """Bold and italic end with a line in wikitext: what an editor made over several lines of a paragraph begins anew on
+    each."""
+    if isinstance(piece, str) or not is_new_style(piece):
+        return [piece]
+    out: List[Child] = []
+    line = Element(piece.name, dict(piece.attributes))
+    for child in inner_pieces(piece):
+        if child != "\n":
+            append(line.children, child)
+            continue
+        if line.children:
+            out.append(line)
+        line = Element(piece.name, dict(piece.attributes))
+        append(out, child)
+    if line.children:
+        out.append(line)
+    return out
+
+
+def inner_pieces(style: Element) -> Iterator[Child]:
+    """What stands in a style, each line break by itself, without the blanks round it."""
+    for child in style.children:
+        if not isinstance(child, str):
+            yield from split_at_lines(child)
+            continue
+        lines = child.split("\n")
+        for at, line in enumerate(lines):
+            if at > 0:
+                yield "\n"
+                line = line.lstrip(" \t")
+            yield line.rstrip(" \t") if at < len(lines) - 1 else line
+
+
+def count_same(pairs: Iterable[Tuple[str, str]], most: int) -> int:
+    """How many of the first pairs are the same character, or white space of the page (the first) for which a browser put
+    a blank; `most` at most."""
+    count = 0
+    for was, now in islice(pairs, most):
+        if was != now and (now not in (" ", "\u00a0") or was not in WHITE):
+            break
+        count += 1
+    return count
