@@ -6,7 +6,7 @@ const UNDO = "Undo takes it back (Ctrl+Z).";
 /** @type {Record<string, string>} */
 const BY_NAME = {
   InTemplate: "This part comes from a template: change it in the template or in the page's source. " + UNDO,
-  Moved: "Something was moved here that can't be written anew, as a template, a reference or a table. " + UNDO,
+  Moved: "A template, a reference or a table would stand in another paragraph here, which can't be written yet. " + UNDO,
   UnknownId: "This was pasted from another page and can't be written here. " + UNDO,
   RepeatedId: "This is a copy of something that can't be written twice, as a template or a reference. " + UNDO,
   UnmarkedChange: "This can be changed in the page's source alone so far, as the text of an item that holds a list, or a table's rows. " + UNDO,

@@ -14,6 +14,8 @@ const WRITABLE = new Set(["b", "i", "a", "br", "p", ...HEADINGS, "hr", "li"]);
 
 /** @param {Part} page  a mended body @param {Original} original  changed in place */
 export function addMarks(page, original) {
+  const present = new Set(numbersIn(page));
+  for (const block of page.parts) adopt(block, original, present);
   settle(page, 0, original);
   if (!hasSameChildren(page, original.page)) mark(page, "children");
   for (const child of page.parts) markIn(child, original);
@@ -71,7 +73,31 @@ function childNumbers(part) {
   });
 }
 
+/** @param {Part} part @returns {number[]} the numbers of all elements in it */
+function numbersIn(part) {
+  return part.parts.flatMap((child) => [child.number, ...numbersIn(child)]);
+}
+
 // ---- Nodes that moved
+
+/**
+ * A paragraph, heading or item in which something stands that can't be written anew, all of it from one other block,
+ * which is gone, becomes that block: so two blocks that were joined are saved as the second one without the first.
+ * @param {Part} block @param {Original} original @param {Set<number>} present  the numbers that stand in the page
+ */
+function adopt(block, original, present) {
+  if (block.name === "section" || block.name === "ul" || block.name === "ol") {
+    for (const inner of block.parts) adopt(inner, original, present);
+    return;
+  }
+  if (!(LINES.has(block.name) || block.name === "li") || isUntouched(block, original)) return;
+  const parents = new Set(nearestKept(block).filter((part) => !canBeAnew(part)).map((part) => parentOf(part, original)));
+  const [number] = parents;
+  const gone = original.nodes.get(number)?.part;
+  if (parents.size !== 1 || number === block.number || present.has(number) || gone?.name !== block.name) return;
+  block.attributes = new Map(gone.attributes);
+  present.add(number);
+}
 
 /**
  * Takes the number off what stands elsewhere than in the page, where it can be written anew: its place among the kept

@@ -9,6 +9,7 @@
 import { Part, numberOf } from "./markup.js";
 import { Original, kindOf } from "./original.js";
 import { linkTarget } from "./links.js";
+import { putBack } from "./strays.js";
 import { append, isEmpty, isLineBreak, tidy } from "./texts.js";
 import {
   ATTRIBUTES, CELLS, HEADINGS, ITEMS, LINES, LISTS, TABLE_ATTRIBUTES, TAGS, isBlank, isBlock, isBlockName, isHiddenName,
@@ -46,13 +47,16 @@ export class Mender {
   page(root) {
     this.#claim(root);
     const attributes = this.original?.page.attributes ?? this.#attributes(root, "body", 0);
-    return new Part("body", new Map(attributes), this.#blocks(root.childNodes));
+    const page = new Part("body", new Map(attributes), this.#blocks(root.childNodes));
+    if (this.original !== undefined) putBack(page, this.original);
+    return page;
   }
 
   // ---- Numbers
 
-  /** Finds the owner of each number: of several elements of the right kind the first that shows something, else the
-   * first. @param {Element} root */
+  /** Finds the owner of each number: of several elements of the right kind, as the halves of a paragraph that was split,
+   * the one that holds most of what can't be written anew; of those the first that shows something, else the first.
+   * @param {Element} root */
   #claim(root) {
     for (const element of root.querySelectorAll("[id]")) {
       const number = numberOf(element.getAttribute("id"));
@@ -65,7 +69,9 @@ export class Mender {
   /** @param {Element} element @param {Element} owner  one that came before it @param {number} number  of both */
   #isBetter(element, owner, number) {
     if (!this.#isOfKind(element, number)) return false;
-    return !this.#isOfKind(owner, number) || (isHollow(owner) && !isHollow(element));
+    if (!this.#isOfKind(owner, number)) return true;
+    const [more, less] = [thingsIn(element), thingsIn(owner)];
+    return more > less || (more === less && isHollow(owner) && !isHollow(element));
   }
 
   /** Whether the element can be the page's node of this number. @param {Element} element @param {number} number */
@@ -173,7 +179,7 @@ export class Mender {
   #standsInBody(element, name, isInLine) {
     if (!element.hasAttribute("about") && !isHiddenName(name)) return isBlockName(name);
     const kept = this.#kept(this.#numberOf(element));
-    if (kept !== undefined) return kept.parent === null;
+    if (kept !== undefined && (kept.parent === null || isInLine || !isHiddenName(name))) return kept.parent === null;
     return !isInLine || isBlockName(name);
   }
 
@@ -465,6 +471,11 @@ function isList(part) {
  * @param {Element} element */
 function isHollow(element) {
   return isBlank(element.textContent ?? "") && element.querySelector("[id]") === null;
+}
+
+/** How many groups, extensions and other islands stand in an element. @param {Element} element */
+function thingsIn(element) {
+  return [...element.querySelectorAll("[data-parsoid]")].filter((inner) => isIsland(valuesOf(inner))).length;
 }
 
 /** Whether a new element may have an attribute. @param {string} name @param {string} attribute */

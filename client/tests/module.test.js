@@ -115,6 +115,8 @@ const MENDS = [
   ["paragraphs in an item are its lines", '<ul id="mw1"><li id="mw2">a</li></ul>', '<ul id="mw1"><li id="mw2"><p>a</p><p>b</p></li></ul>', '<ul id="mw1"><li id="mw2">a<br/>b</li></ul>'],
   ["an empty new item goes", '<ul id="mw1"><li id="mw2">a</li></ul>', '<ul id="mw1"><li id="mw2">a</li><li><br/></li></ul>', '<ul id="mw1"><li id="mw2">a</li></ul>'],
   ["a carrier is undone", "", '<table><template data-wt-name="meta" typeof="mw:Comment"/></table>'.replace("/>", "></template>"), "<table></table>"],
+  ["a comment goes back into the block that held it", '<p id="mw1">one two<meta typeof="mw:Comment" id="mw2"/> three</p><p id="mw3">x</p>', '<p id="mw1">one more two threes</p><meta typeof="mw:Comment" id="mw2"/><p id="mw3">x</p>', '<p id="mw1">one more two<meta typeof="mw:Comment" id="mw2"/> threes</p><p id="mw3">x</p>'],
+  ["a skip goes back into the link that held it", '<p id="mw1"><a rel="mw:WikiLink" href="./A" id="mw2">a<meta typeof="mw:Skip" id="mw3"/>s</a> b</p>', '<p id="mw1"><meta typeof="mw:Skip" id="mw3"/><a rel="mw:WikiLink" href="./A" id="mw2">as</a> c</p>', '<p id="mw1"><a rel="mw:WikiLink" href="./A" id="mw2">a<meta typeof="mw:Skip" id="mw3"/>s</a> c</p>'],
   ["new bold ends with its line", '<p id="mw1">a b\nc d</p>', '<p id="mw1">a <b>b\nc</b> d</p>', '<p id="mw1">a <b>b</b>\n<b>c</b> d</p>'],
 ];
 
@@ -129,6 +131,10 @@ const MARKS = [
     '<p id="mw1" data-wt-edit="content"><b>c</b><b id="mw2">a</b><i id="mw3">b</i></p>'],
   ["a reference keeps its number wherever it stands", '<p id="mw1">a<span typeof="mw:Extension/ref" id="mw2"></span></p><p id="mw3">b</p>', '<p id="mw1">a</p><p id="mw3">b<span typeof="mw:Extension/ref" id="mw2"></span></p>',
     '<p id="mw1" data-wt-edit="content">a</p><p id="mw3" data-wt-edit="content">b<span typeof="mw:Extension/ref" id="mw2"></span></p>'],
+  ["of a split paragraph the half with a reference stays", '<p id="mw1">a b<span typeof="mw:Extension/ref" id="mw2" data-parsoid="x"></span></p>', '<p id="mw1">a</p><p id="mw1">b<span typeof="mw:Extension/ref" id="mw2" data-parsoid="x"></span></p>',
+    '<p>a</p><p id="mw1" data-wt-edit="content">b<span typeof="mw:Extension/ref" id="mw2" data-parsoid=\'x\'></span></p>'],
+  ["of joined paragraphs the one with a reference stays", '<p id="mw1">a</p><p id="mw2">b<span typeof="mw:Extension/ref" id="mw3"></span></p>', '<p id="mw1">ab<span typeof="mw:Extension/ref" id="mw3"></span></p>',
+    '<p id="mw2" data-wt-edit="content">ab<span typeof="mw:Extension/ref" id="mw3"></span></p>'],
   ["a new item marks its list", '<ul id="mw1"><li id="mw2">a</li></ul>', '<ul id="mw1"><li id="mw2">a</li><li>b</li></ul>',
     '<ul id="mw1" data-wt-edit="children"><li id="mw2">a</li><li>b</li></ul>'],
   ["blanks at the end of a changed cell go", '<table id="mw1"><tbody id="mw2"><tr id="mw3"><td id="mw4">a </td></tr></tbody></table>', '<table id="mw1"><tbody id="mw2"><tr id="mw3"><td id="mw4">ab </td></tr></tbody></table>',
@@ -150,13 +156,13 @@ test("saving leaves the DOM as it is", () => {
   assert.equal(JSON.stringify(root, ["childNodes", "localName", "data"]), before);
 });
 
-test("a long paragraph, many blocks and deep nesting take time in proportion", () => {
+test("many blocks in another order take time in proportion", () => {
   const blocks = Array.from({ length: 20000 }, (_, at) => `<p id="mw${2 * at + 1}">a <b id="mw${2 * at + 2}">b</b></p>`);
   const root = opened(page(blocks.join("\n")));
   root.replaceChildren(...root.childNodes.reverse());
-  const start = performance.now();
+  const start = process.cpuUsage();
   const html = save(root, { marks: true });
-  assert.ok(performance.now() - start < 5000);
+  assert.ok(process.cpuUsage(start).user < 3e6); // microseconds
   assert.equal(html.match(/<p>/g)?.length, 19999);
 });
 
