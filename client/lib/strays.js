@@ -39,11 +39,12 @@ export function putBack(page, original) {
 function find(part, number, original, homes, strays) {
   for (const child of part.parts) {
     const kept = original.nodes.get(child.number);
-    if (child.attributes.has("about") || kept?.part === child) continue;
+    if (child.attributes.has("about")) continue;
     if (kept !== undefined && isHiddenName(child.name)) {
       if ((kept.parent?.part.number ?? 0) !== number) strays.push({ part: child, kept });
       continue;
     }
+    if (kept?.part === child) continue; // nothing in it was changed
     if (kept !== undefined && !homes.has(child.number)) homes.set(child.number, child);
     find(child, kept === undefined ? number : child.number, original, homes, strays);
   }
