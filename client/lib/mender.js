@@ -475,7 +475,7 @@ function isHollow(element) {
 
 /** How many groups, extensions and other islands stand in an element. @param {Element} element */
 function thingsIn(element) {
-  return [...element.querySelectorAll("[data-parsoid]")].filter((inner) => isIsland(valuesOf(inner))).length;
+  return [...element.querySelectorAll("[id]")].filter((inner) => isIsland(valuesOf(inner))).length;
 }
 
 /** Whether a new element may have an attribute. @param {string} name @param {string} attribute */
