@@ -1,4 +1,5 @@
-"""Offsets in other units than bytes, over outside pages where they are here; the reader and writer of HTML, and diffs."""
+"""Offsets in other units than bytes, over outside pages where they are here; the reader and writer of HTML,
+and diffs."""
 import difflib
 import json
 import random
