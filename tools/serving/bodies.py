@@ -4,7 +4,7 @@ from __future__ import annotations
 import binascii
 import json
 import re
-from typing import Dict
+from typing import Dict, Optional
 
 from .refusals import Refusal
 
@@ -78,8 +78,8 @@ def line_breaks(text: str) -> str:
 
 
 def unescaped(text: bytes) -> bytes:
-    """A name or value of a form. Its escapes are those of quoted-printable with `%` for `=`, which is read much faster
-    and in less memory than by urllib's functions."""
+    """A name or value of a form. Its escapes are those of quoted-printable with `%` for `=`, which is read
+    much faster and in less memory than by urllib's functions."""
     return binascii.a2b_qp(text.replace(b"+", b" ").replace(b"=", b"%3D").replace(b"%", b"="))
 
 
@@ -97,19 +97,24 @@ def part_fields(body: bytes, boundary: str) -> Dict[str, object]:
         head, mark, value = part.lstrip(b" \t").partition(b"\r\n\r\n")
         if not head.startswith(b"\r\n") or not mark:
             raise malformed("a part has no head")
-        disposition = next((h for h in decoded(head).split("\r\n") if h.lower().startswith("content-disposition:")), "")
-        name = media_type(disposition)[1].get("name")
+        name = name_of_part(decoded(head))
         if name is None:
             raise malformed("a part has no name")
         fields.setdefault(name, line_breaks(decoded(value)))
     return fields
 
 
+def name_of_part(head: str) -> Optional[str]:
+    lines = (line for line in head.split("\r\n") if line.lower().startswith("content-disposition:"))
+    return media_type(next(lines, ""))[1].get("name")
+
+
 # ---------------------------------------------------------------- single fields
 
 
 def text_field(fields: Dict[str, object], name: str) -> str:
-    """The text of a field, which Parsoid also takes as an object with a `body`. Refuses with 400 where there is none."""
+    """The text of a field, which Parsoid also takes as an object with a `body`. Refuses with 400 where there
+    is none."""
     value = fields.get(name)
     if isinstance(value, dict):
         value = value.get("body")

@@ -27,8 +27,8 @@ def lines_of(text: str) -> list:
 
 
 def changes(before: list, after: list) -> list:
-    """Slices (start, end, start, end) of the two that aren't the same, in order: lines that stand once in each, and in
-    the same order, hold the rest in place."""
+    """Slices (start, end, start, end) of the two that aren't the same, in order: lines that stand once in
+    each, and in the same order, hold the rest in place."""
     found = []
     for a, b, c, d in gaps(before, after):
         if (b - a) <= SMALL and (d - c) <= SMALL:

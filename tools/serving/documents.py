@@ -1,4 +1,5 @@
-"""What is asked of a document that wtround wrote: without data-parsoid, its body alone, offsets in other units."""
+"""What is asked of a document that wtround wrote: without data-parsoid, its body alone, offsets in other
+units."""
 from __future__ import annotations
 
 import re

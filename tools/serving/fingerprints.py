@@ -11,16 +11,16 @@ from .other_tools import titles
 from .pages import PageFolder, revision
 
 CALL = re.compile(r"\{\{+([^{}|]+)")  # where a call's target begins, behind all braces
-HIDDEN = re.compile(r"<!--.*?(?:-->|\Z)|</?(?:include|noinclude|onlyinclude)[a-z]*[^<>]*>", re.DOTALL | re.IGNORECASE)
+HIDDEN = re.compile(r"<!--.*?(?:-->|\Z)|</?(?:include|no|only)[a-z]*[^<>]*>", re.DOTALL | re.IGNORECASE)
 TAG = re.compile(r'\s*(?:W/)?"([\x21\x23-\x7e]*)"\s*(?:,|\Z)')
 
 
 def etag(folder: PageFolder, name: str, page: bytes, document: bytes) -> str:
     """The tag of a page and its HTML.
 
-    It is a hash of the page, of its HTML, in which stands all that its templates give, and of every page that a call
-    names in letters, in the page or in these in turn. So it changes with each of them, and also with a template whose
-    name other calls or arguments make up, where that shows anything.
+    It is a hash of the page, of its HTML, in which stands all that its templates give, and of every page that
+    a call names in letters, in the page or in these in turn. So it changes with each of them, and also with a
+    template whose name other calls or arguments make up, where that shows anything.
     """
     digest = hashlib.sha256(hashlib.sha256(page).digest() + hashlib.sha256(document).digest())
     seen, texts = {name}, [page]

@@ -8,7 +8,7 @@ from contextlib import contextmanager
 from email.utils import formatdate
 from http.server import BaseHTTPRequestHandler, ThreadingHTTPServer
 from ipaddress import ip_address
-from typing import Dict, Iterator, Optional, Set
+from typing import Any, Dict, Iterator, Optional, Set
 from urllib.parse import parse_qsl, unquote
 
 from .refusals import Refusal
@@ -17,7 +17,7 @@ from .site import JSON_TYPE, Answer, Request, Site
 BODY_BYTES = 67_108_864  # of a request
 SECONDS = 30  # that a client may keep silent
 CONNECTIONS = 64
-DRAINED_BYTES = 2 * BODY_BYTES  # of a refused body that are read and thrown away, so that the client sees the answer
+DRAINED_BYTES = 2 * BODY_BYTES  # of a refused body that are thrown away, so that its client sees the answer
 
 SAFE = {
     "X-Content-Type-Options": "nosniff",
@@ -46,7 +46,7 @@ class Server(ThreadingHTTPServer):
         super().__init__(address, Handler)
         self.is_loopback = ip_address(self.server_address[0]).is_loopback
 
-    def process_request(self, request: socket.socket, client_address: tuple) -> None:  # type: ignore[override]
+    def process_request(self, request: Any, client_address: Any) -> None:
         self._room.acquire()
         try:
             super().process_request(request, client_address)
@@ -54,7 +54,7 @@ class Server(ThreadingHTTPServer):
             self._room.release()
             raise
 
-    def process_request_thread(self, request: socket.socket, client_address: tuple) -> None:  # type: ignore[override]
+    def process_request_thread(self, request: Any, client_address: Any) -> None:
         try:
             super().process_request_thread(request, client_address)
         finally:
@@ -101,7 +101,8 @@ class Handler(BaseHTTPRequestHandler):
         """What BaseHTTPRequestHandler refuses: a malformed request line or head."""
         self.close_connection = True
         self.request_version = "HTTP/1.0"  # with a status line, whatever was asked for
-        refusal = Refusal(code, "BadRequest", f"The request is malformed or not understood: {message or code}.")
+        sentence = f"The request is malformed or not understood: {message or code}."
+        refusal = Refusal(code, "BadRequest", sentence)
         self._send(Answer(refusal.body(), JSON_TYPE, code))
         self._drain()
 
@@ -121,7 +122,8 @@ class Handler(BaseHTTPRequestHandler):
             raise
         except Exception:
             self.server.handle_error(self.request, self.client_address)
-            refusal = Refusal(500, "ServerFailed", "The server failed, and stored nothing: its log says more.")
+            sentence = "The server failed, and stored nothing: its log says more."
+            refusal = Refusal(500, "ServerFailed", sentence)
             answer = Answer(refusal.body(), JSON_TYPE, 500)
         if self._left:
             self.close_connection = True
@@ -141,12 +143,12 @@ class Handler(BaseHTTPRequestHandler):
         if self.command not in ("GET", "HEAD"):
             self._check_origin()
         if length > BODY_BYTES:
-            raise Refusal(413, "BodyTooLong", f"The body has more than {BODY_BYTES:,} bytes: send one page alone.")
+            sentence = f"The body has more than {BODY_BYTES:,} bytes: send one page alone."
+            raise Refusal(413, "BodyTooLong", sentence)
         path, _, query = self.path.partition("?")
         headers = {name.lower(): value for name, value in self.headers.items()}
-        request = Request(
-            "GET" if self.command == "HEAD" else self.command, segments(path), parameters(query), headers, self._read
-        )
+        method = "GET" if self.command == "HEAD" else self.command
+        request = Request(method, segments(path), parameters(query), headers, self._read)
         return self.server.site.answer(request)
 
     def _length(self) -> int:
@@ -169,8 +171,8 @@ class Handler(BaseHTTPRequestHandler):
     def _check_host(self) -> None:
         hosts = self.headers.get_all("Host", [])
         if len(hosts) != 1 or not self._is_own_host(hosts[0]):
-            sentence = "The request names another host: use the address that the server printed, or start it with --host."
-            raise Refusal(403, "BadHost", sentence)
+            sentence = "use the address that the server printed, or start it with --host"
+            raise Refusal(403, "BadHost", f"The request names another host: {sentence}.")
 
     def _is_own_host(self, host: str) -> bool:
         name = host.strip().lower()
@@ -190,8 +192,8 @@ class Handler(BaseHTTPRequestHandler):
         host = self.headers.get("Host", "").strip().lower()
         is_own = all(origin.strip().lower() in (f"http://{host}", f"https://{host}") for origin in origins)
         if not is_own or self.headers.get("Sec-Fetch-Site", "same-origin") not in ("same-origin", "none"):
-            sentence = "The request comes from another site's page: send it from a page of this server, or without Origin."
-            raise Refusal(403, "BadOrigin", sentence)
+            sentence = "send it from a page of this server, or without Origin"
+            raise Refusal(403, "BadOrigin", f"The request comes from another site's page: {sentence}.")
 
     def _read(self) -> bytes:
         if self.headers.get("Expect", "").lower() == "100-continue":
@@ -221,7 +223,8 @@ class Handler(BaseHTTPRequestHandler):
             self.wfile.write(answer.body)
 
     def _drain(self) -> None:
-        """Reads on for a while what a refused client still sends, since else it might never see the answer."""
+        """Reads on for a while what a refused client still sends, since else it might never see the
+        answer."""
         try:
             self.wfile.flush()
             self.connection.shutdown(socket.SHUT_WR)
@@ -261,5 +264,6 @@ def parameters(query: str) -> Dict[str, str]:
     try:
         pairs = parse_qsl(query, keep_blank_values=True, errors="strict", max_num_fields=20)
     except (UnicodeError, ValueError):
-        raise Refusal(400, "BadQuery", "What stands behind the question mark is not UTF-8, or is too much.") from None
+        sentence = "What stands behind the question mark is not UTF-8, or is too much."
+        raise Refusal(400, "BadQuery", sentence) from None
     return dict(pairs)

@@ -1,4 +1,5 @@
-"""The two tools beside the server whose parts it uses: titles and file names, and what to do about a refusal."""
+"""The two tools beside the server whose parts it uses: titles and file names, and what to do about a
+refusal."""
 from __future__ import annotations
 
 import importlib.util

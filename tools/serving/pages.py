@@ -21,13 +21,15 @@ TEMPORARY = ".wtround-serve-"  # begins the names of files that are being writte
 
 
 def full_name(text: str) -> str:
-    """The full name of the title that a text is. Refuses with 404 what is no good title, or has a fragment."""
+    """The full name of the title that a text is. Refuses with 404 what is no good title, or has a
+    fragment."""
     try:
         title = titles.read_title(text)
     except titles.BadTitle as error:
         raise Refusal(404, "BadTitle", f"This is no title of a page: {error}.") from None
     if title.fragment is not None:
-        raise Refusal(404, "BadTitle", "This is no title of a page: leave out the # and what stands behind it.")
+        sentence = "This is no title of a page: leave out the # and what stands behind it."
+        raise Refusal(404, "BadTitle", sentence)
     return title.full_name
 
 
@@ -52,8 +54,8 @@ class PageFolder:
         return listed[1]
 
     def state(self) -> Optional[int]:
-        """A number that changes when files come or go; nothing where they did just now, since a clock's step may hide
-        the next change."""
+        """A number that changes when files come or go; nothing where they did just now, since a clock's step
+        may hide the next change."""
         changed = os.stat(self.path).st_mtime_ns
         return changed if time.time_ns() - changed > STEP else None
 
@@ -61,12 +63,13 @@ class PageFolder:
         """The page of a full name, as its bytes. Refuses with 404 where there is none."""
         data = self.read_if_there(name)
         if data is None:
-            sentence = "The folder has no page of this title: check its spelling, or make the page's file first."
+            sentence = "The folder has no page of this title: check its spelling, or make its file first."
             raise Refusal(404, "NoSuchPage", sentence, "no such page")
         return data
 
     def read_if_there(self, name: str) -> Optional[bytes]:
-        """At most `PAGE_BYTES` + 1 bytes; nothing where there is no file, or one that leads out of the folder."""
+        """At most `PAGE_BYTES` + 1 bytes; nothing where there is no file, or one that leads out of the
+        folder."""
         path = self.file(name)
         try:
             if os.path.dirname(os.path.realpath(path)) != self.path:
@@ -105,7 +108,8 @@ class PageFolder:
                 os.fsync(file.fileno())
             os.replace(temporary, path)
         except OSError as error:
-            raise Refusal(500, "NotStored", f"The page couldn't be written, and is as it was: {error.strerror}.") from None
+            sentence = f"The page couldn't be written, and is as it was: {error.strerror}."
+            raise Refusal(500, "NotStored", sentence) from None
         finally:
             remove_if_there(temporary)
 

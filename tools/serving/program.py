@@ -21,7 +21,8 @@ class ProgramMissing(Exception):
 
 
 def find_program(given: Optional[str]) -> str:
-    """The path of wtround: the one that is given, that of the clone, that of the release, or that on the PATH."""
+    """The path of wtround: the one that is given, that of the clone, that of the release, or that on the
+    PATH."""
     if given is not None:
         path = shutil.which(given)
         if path is None:
@@ -83,7 +84,8 @@ class Program:
         if status == 0:
             return out
         if status < 0:
-            raise Refusal(500, "ProgramFailed", "The program was ended by a signal: try again.", f"signal {-status}")
+            sentence = "The program was ended by a signal: try again."
+            raise Refusal(500, "ProgramFailed", sentence, f"signal {-status}")
         raise from_line(line, given)
 
     def _finish(self, words: list, given: bytes, room: str) -> tuple:
@@ -91,14 +93,15 @@ class Program:
         try:
             process = subprocess.Popen([self._path, *words], cwd=room, stdin=pipe, stdout=pipe, stderr=pipe)
         except OSError as error:
-            raise Refusal(500, "ProgramFailed", f"The program couldn't be started: {error.strerror}.") from None
+            sentence = f"The program couldn't be started: {error.strerror}."
+            raise Refusal(500, "ProgramFailed", sentence) from None
         with process:
             self._processes.add(process)
             try:
                 out, told = process.communicate(given, self._seconds)
             except subprocess.TimeoutExpired:
                 process.kill()
-                sentence = "The page takes too long: shorten it, or start the server with a longer --time-limit."
+                sentence = "The page takes too long: shorten it, or start the server with a longer limit."
                 raise Refusal(503, "TimeLimit", sentence, headers={"Retry-After": "60"}) from None
             finally:
                 self._processes.discard(process)

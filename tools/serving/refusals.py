@@ -16,8 +16,8 @@ TAG = explanations.TAG
 class Refusal(Exception):
     """A request that is answered with an error.
 
-    `element` counts the elements of the HTML that was sent from 1, in document order; `node` is `mwN`, or the element's
-    path where it has no such id; `path` is a CSS selector that finds it.
+    `element` counts the elements of the HTML that was sent from 1, in document order; `node` is `mwN`, or the
+    element's path where it has no such id; `path` is a CSS selector that finds it.
     """
 
     status: int
@@ -68,7 +68,8 @@ def from_line(line: str, document: Optional[bytes] = None) -> Refusal:
     try:
         told = explanations.read_refusal(text)
     except explanations.ExplainError:
-        return Refusal(500, "ProgramFailed", "The program answered what the server doesn't know: look at its log.", text)
+        sentence = "The program answered what the server doesn't know: is it of another version?"
+        return Refusal(500, "ProgramFailed", sentence, text)
     edit = re.fullmatch("edit refused: ([A-Za-z]+).*", text)
     if edit:
         error, status = edit[1], 422

@@ -35,7 +35,7 @@ JSON_TYPE = "application/json; charset=utf-8"
 PAGE_TYPE = "text/html; charset=utf-8"
 
 MARK = re.compile(rb"<[a-z][a-z0-9]*\s(?:[^<>\"']|\"[^\"]*\"|'[^']*')*?\bdata-wt-edit\s*=")
-STALE = "The page, or a template that it takes, was changed since you opened it: open it again, and make your change there."
+STALE = "The page, or a template that it takes, was changed since you opened it: open it again, and edit that."
 
 
 @dataclass
@@ -87,7 +87,8 @@ class Site:
                 return view(self, request, *found)
         if is_known:
             allowed = ", ".join(sorted({m for m, p, _ in ROUTES if match(p, request.segments) is not None}))
-            raise Refusal(405, "BadMethod", f"This address takes {allowed} alone.", headers={"Allow": allowed})
+            sentence = f"This address takes {allowed} alone."
+            raise Refusal(405, "BadMethod", sentence, headers={"Allow": allowed})
         raise Refusal(404, "NoSuchRoute", "Nothing is at this address: docs/serving.md lists what is.")
 
     # ------------------------------------------------------------ pages
@@ -103,7 +104,8 @@ class Site:
         return Answer(shaped(document, page, request.query), HTML_TYPE, 200, headers)
 
     def _taken(self, name: str) -> Tuple[bytes, bytes, str]:
-        """A page, its HTML, and the tag of both. Where the page changes meanwhile the tag is that of no page."""
+        """A page, its HTML, and the tag of both. Where the page changes meanwhile the tag is that of no
+        page."""
         page = self.folder.read(name)
         document = self.program.html(name)
         return page, document, etag(self.folder, name, page, document)
@@ -160,7 +162,7 @@ class Site:
         """Writes the page that an edit gives, if the page and its templates are those that were taken."""
         name = full_name(title)
         if not request.headers.get("if-match"):
-            sentence = "Send the ETag that came with the page's HTML as If-Match, so that no other change is lost."
+            sentence = "Send the ETag that came with the HTML as If-Match, so that no other change is lost."
             raise Refusal(428, "NoIfMatch", sentence)
         is_preview = bodies.flag(request.query.get("preview"))
         document = bodies.encoded(bodies.text_field(request.fields(json_alone=True), "html"))
@@ -181,8 +183,8 @@ class Site:
         return answer
 
     def _edited(self, request: Request, name: str, document: bytes) -> Tuple[bytes, bytes]:
-        """The page, and the new page of an edit. HTML that bears a mark was made for `edit`, and is given on as it is
-        while the page's tag is looked at; other HTML is mended and marked first."""
+        """The page, and the new page of an edit. HTML that bears a mark was made for `edit`, and is given on
+        as it is while the page's tag is looked at; other HTML is mended and marked first."""
         with ThreadPoolExecutor(1) as pool:
             early = pool.submit(self.program.edit, name, document) if MARK.search(document) else None
             page, original, tag = self._taken(name)
@@ -192,8 +194,8 @@ class Site:
         return page, self.program.edit(name, marked(document.decode(), original.decode()).encode())
 
     def _tag_then(self, request: Request, name: str, new: Optional[bytes]) -> str:
-        """The tag that the page has once its text is the new one, if there is one. Refuses where anything has changed
-        since the edit."""
+        """The tag that the page has once its text is the new one, if there is one. Refuses where anything has
+        changed since the edit."""
         with ThreadPoolExecutor(1) as pool:
             after = pool.submit(self._tag_of_text, name, new) if new is not None else None
             _, _, tag = self._taken(name)
@@ -218,9 +220,8 @@ class Site:
     def page_list(self, _: Request) -> Answer:
         if (CLIENT / "editor/pages.html").is_file():
             return self._client_file("editor/pages.html", PAGE_TYPE)
-        items = (
-            f'<li><a href="/editor/{quote(title, safe="")}">{escape(title)}</a></li>' for title in self.folder.titles()
-        )
+        links = ((f"/editor/{quote(title, safe='')}", title) for title in self.folder.titles())
+        items = (f'<li><a href="{address}">{escape(title)}</a></li>' for address, title in links)
         text = LIST.format(folder=escape(self.folder.path), items="\n".join(items))
         return Answer(text.encode("utf-8", "surrogateescape"), PAGE_TYPE)
 
@@ -248,7 +249,7 @@ LIST = """<!DOCTYPE html>
 <meta charset="utf-8">
 <meta name="viewport" content="width=device-width, initial-scale=1">
 <title>Pages</title>
-<style>body {{ font-family: sans-serif; line-height: 1.6; max-width: 40em; margin: 2em auto; padding: 0 1em }}</style>
+<style>body {{ font-family: sans-serif; line-height: 1.6; max-width: 40em; margin: 2em auto }}</style>
 </head>
 <body>
 <h1>Pages</h1>
@@ -328,13 +329,16 @@ def check_accepted(field: str) -> None:
     """Refuses with 406 a request for another major version of the HTML alone."""
     wanted = re.findall(r'text/html[^,]*?profile="[^"]*/Specs/HTML/([0-9]+)', field, re.IGNORECASE)
     others = re.sub(r'text/html[^,]*profile="[^"]*"', "", field, flags=re.IGNORECASE)
-    if wanted and HTML_VERSION.split(".")[0] not in wanted and not re.search(r"text/html|text/\*|\*/\*", others):
-        raise Refusal(406, "NotAcceptable", f"The HTML is of version {HTML_VERSION}: ask for that, or for none.")
+    takes_any = not wanted or re.search(r"text/html|text/\*|\*/\*", others)
+    if not takes_any and HTML_VERSION.split(".")[0] not in wanted:
+        sentence = f"The HTML is of version {HTML_VERSION}: ask for that, or for none."
+        raise Refusal(406, "NotAcceptable", sentence)
 
 
 def check_text(page: bytes) -> None:
     if len(page) > PAGE_BYTES:
-        raise Refusal(422, "PageTooLong", "The page is longer than a page may be: divide it.", "page too long")
+        sentence = "The page is longer than a page may be: divide it."
+        raise Refusal(422, "PageTooLong", sentence, "page too long")
     try:
         page.decode("utf-8")
     except UnicodeDecodeError as error:
@@ -343,7 +347,8 @@ def check_text(page: bytes) -> None:
 
 
 def match(pattern: List[str], segments: List[str]) -> Optional[List[str]]:
-    """What stands for the names of a pattern, or nothing where it doesn't fit. A name with `?` may be missing."""
+    """What stands for the names of a pattern, or nothing where it doesn't fit. A name with `?` may be
+    missing."""
     values = []
     for k, part in enumerate(pattern):
         if k >= len(segments):

@@ -197,7 +197,8 @@ class Saving(ServingCase):
         self.assertEqual(self.stored(), before)
 
     def test_a_page_is_stale_when_a_template_is(self) -> None:
-        """Also a template within a template, one whose change shows nothing, one that is absent, one whose name is made."""
+        """Also a template within a template, one whose change shows nothing, one that is absent, one whose
+        name is made."""
         lang = self.pages / "Template%3ALang.wiki"
         for name, text in {
             "Main": "{{outer|x}} {{absent}} {{{{{1|made}}}}}", "Template%3AOuter": "{{Inner}}", "Template%3AInner": "one",

@@ -1,4 +1,5 @@
-"""Offsets in other units than bytes, over outside pages where they are here; the reader and writer of HTML, and diffs."""
+"""Offsets in other units than bytes, over outside pages where they are here; the reader and writer of HTML,
+and diffs."""
 import difflib
 import json
 import random
@@ -18,7 +19,7 @@ from serving.mending.markup import Element, read_body, written
 from serving.refusals import Refusal
 
 VECTORS = REPOSITORY.parent / "shared/vectors"
-CLIENT_DOCUMENTS = REPOSITORY / "client/tests/documents"
+SHARED = REPOSITORY / "client/tests/documents"
 
 
 def outside_pages() -> Iterator[Tuple[str, bytes, bytes]]:
@@ -121,6 +122,13 @@ def in_value(text: str) -> str:
     return text.replace("&", "&amp;").replace("\u00a0", "&nbsp;").replace('"', "&quot;")
 
 
+def replaced(text: str, pairs: List[List[str]]) -> str:
+    for before, after in pairs:
+        assert before in text, before
+        text = text.replace(before, after, 1)
+    return text
+
+
 class Mending(unittest.TestCase):
     @unittest.skipUnless(VECTORS.is_dir(), "there are no outside pages")
     def test_outside_pages_come_back(self) -> None:
@@ -138,15 +146,13 @@ class Mending(unittest.TestCase):
                     self.assertEqual(marked(sent, document), document)
         self.assertGreater(count, 1000)
 
+    @unittest.skipUnless(SHARED.is_dir(), "there is no client here")
     def test_the_documents_of_the_client(self) -> None:
         """Those over which the JavaScript module is tried too."""
-        folders = [path for path in sorted(CLIENT_DOCUMENTS.glob("*")) if path.is_dir()]
-        if not folders:
-            self.skipTest("there is no client here")
-        for folder in folders:
-            with self.subTest(document=folder.name):
-                page, edited, wanted = ((folder / f"{n}.html").read_text("utf-8") for n in ("page", "edited", "wanted"))
-                self.assertEqual(marked(edited.rstrip("\n"), page.rstrip("\n")), wanted.rstrip("\n"))
+        page = (SHARED / "page.html").read_text("utf-8")
+        for case in json.loads((SHARED / "cases.json").read_text("utf-8")):
+            with self.subTest(case=case["name"]):
+                self.assertEqual(marked(replaced(page, case["edited"]), page), replaced(page, case["wanted"]))
 
     def test_strays_go_back(self) -> None:
         """What VisualEditor moves out of a block that it changes."""

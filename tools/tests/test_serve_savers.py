@@ -1,4 +1,5 @@
-"""Several savers at once, and savers that are killed: a page is whole, and stored only where 200 was answered."""
+"""Several savers at once, and savers that are killed: a page is whole, and stored only where 200 was
+answered."""
 import http.client
 import json
 import os

@@ -20,29 +20,32 @@ CELLS = frozenset("td th caption".split())
 LINES = HEADINGS | {"p"}  # blocks that hold a line or lines of text
 BLOCKS = LINES | LISTS | ITEMS | CELLS | frozenset("hr pre table tbody tr section".split())
 
-# Elements of other documents that hold blocks, or are one: they stand for a paragraph where they hold text alone.
+# Elements of other documents that hold blocks, or are one: they stand for a paragraph where they hold text
+# alone.
 BOXES = frozenset(
     (
-        "div article aside main header footer nav figure figcaption blockquote center address details summary form "
-        "fieldset hgroup thead tfoot colgroup"
+        "div article aside main header footer nav figure figcaption blockquote center address details "
+        "summary form fieldset hgroup thead tfoot colgroup"
     ).split()
 )
 # Elements of which nothing is kept.
 LEFT_OUT = frozenset(
     (
-        "script style noscript title head template img picture svg math canvas video audio iframe object embed input "
-        "button select textarea option base col wbr area map"
+        "script style noscript title head template img picture svg math canvas video audio iframe object "
+        "embed input button select textarea option base col wbr area map"
     ).split()
 )
 SAME = {"strong": "b", "em": "i"}  # what other editors write for ours
-TAGS = frozenset("sup sub small s u code span".split())  # pairs of tags: those of the page stay, no new one is written
+# Pairs of tags that stand in a page's text: those of the page stay, new ones can't be written.
+TAGS = frozenset("sup sub small s u code span".split())
 MARK = re.compile("mw:(?:Comment|Skip|Includes/)")
 ISLAND = re.compile("mw:(?:Extension/|Placeholder)")
 BLANK = " \t\n\r\f\u00a0"
 
 
 def name_of(element: Element) -> str:
-    """Our name for an element; `box` where it is a box of another document, empty where nothing of it is kept."""
+    """Our name for an element; `box` where it is a box of another document, empty where nothing of it is
+    kept."""
     name = element.name
     if name == "template":
         return element.get("data-wt-name")

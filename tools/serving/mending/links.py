@@ -13,8 +13,8 @@ ENDS_ADDRESS = re.compile('[\x00- <>"\\[\\]\x7f]')
 
 
 def link_target(href: str, rel: str) -> Optional[Dict[str, str]]:
-    """`rel` and `href` as the program takes them; nothing where it can be no link. `rel` is empty where the browser or
-    another editor made the link."""
+    """`rel` and `href` as the program takes them; nothing where it can be no link. `rel` is empty where the
+    browser or another editor made the link."""
     address = href.strip(" \t\n\r")
     if rel == "mw:WikiLink":
         return {"rel": rel, "href": href}
@@ -24,7 +24,9 @@ def link_target(href: str, rel: str) -> Optional[Dict[str, str]]:
         return {"rel": rel, "href": href}
     if address == "" or OTHER_SCHEME.match(address):
         return None
-    return {"rel": "mw:WikiLink", "href": address if address.startswith("./") else "./" + re.sub("[ \t\n\r]+", "_", address)}
+    if not address.startswith("./"):
+        address = "./" + re.sub("[ \t\n\r]+", "_", address)
+    return {"rel": "mw:WikiLink", "href": address}
 
 
 def escaped_address(address: str) -> str:

@@ -1,5 +1,5 @@
-"""Marks for the command `edit`, which writes anew only what is marked: `content` on blocks whose inside was changed,
-`children` where blocks or items came or went. docs/editing.md says where a mark may stand."""
+"""Marks for the command `edit`, which writes anew only what is marked: `content` on blocks whose inside was
+changed, `children` where blocks or items came or went. docs/editing.md says where a mark may stand."""
 from __future__ import annotations
 
 from typing import List, Optional, Set
@@ -60,8 +60,8 @@ def drop_last_blanks(part: Element) -> None:
 
 
 def child_numbers(part: Element) -> List[int]:
-    """The numbers of the children, 0 for a new one; those of sections count as the body's. What belongs to a group
-    beside its first element isn't counted."""
+    """The numbers of the children, 0 for a new one; those of sections count as the body's. What belongs to a
+    group beside its first element isn't counted."""
     numbers: List[int] = []
     for child in part.elements():
         if child.name == "section":
@@ -75,9 +75,9 @@ def child_numbers(part: Element) -> List[int]:
 
 
 def settle(parent: Element, number: int, original: Original) -> None:
-    """Takes the number off what stands elsewhere than in the page, where it can be written anew: its place among the
-    kept nodes of its kept parent is another one. What can't be written keeps its number, and the edit is refused by
-    name. `number` is that of the page's node that the parent is, 0 for the body."""
+    """Takes the number off what stands elsewhere than in the page, where it can be written anew: its place
+    among the kept nodes of its kept parent is another one. What can't be written keeps its number, and the
+    edit is refused by name. `number` is that of the page's node that the parent is, 0 for the body."""
     while True:
         kept = nearest_kept(parent)
         at_home = [part for part in kept if parent_of(part, original) == number]
@@ -132,13 +132,14 @@ def weight_of(chain: Optional[Chain]) -> int:
 
 
 def heaviest_rising(parts: List[Element]) -> Set[int]:
-    """Of parts in the order of the document those that stay, by their `id()`: their numbers rise, and as many stay as
-    can, first of those that can't be written anew."""
+    """Of parts in the order of the document those that stay, by their `id()`: their numbers rise, and as many
+    stay as can, first of those that can't be written anew."""
     numbers = [part.number for part in parts]
     if all(left < right for left, right in zip(numbers, numbers[1:])):
         return {id(part) for part in parts}
     ranks = {number: at for at, number in enumerate(sorted(set(numbers)), 1)}
-    best: List[Optional[Chain]] = [None] * (len(ranks) + 1)  # the heaviest chain by its rank, as a tree of prefixes
+    # The heaviest chain that ends at a rank or below, as a tree of prefixes.
+    best: List[Optional[Chain]] = [None] * (len(ranks) + 1)
     for part, number in zip(parts, numbers):
         rank = ranks[number]
         chain = Chain(part, heaviest_below(best, rank - 1), 1 if can_be_anew(part) else len(parts) + 1)

@@ -1,4 +1,5 @@
-"""A lenient reader of HTML as browsers, editors and libraries write it, and the strict writer that wtround reads.
+"""A lenient reader of HTML as browsers, editors and libraries write it, and the strict writer that wtround
+reads.
 
 Both take time in proportion to the text, whatever it holds.
 """
@@ -14,7 +15,7 @@ from ..refusals import Refusal
 MOST_DEPTH = 300  # nested elements that are read; wtround takes 200
 
 VOID = frozenset("area base br col embed hr img input link meta param source track wbr".split())
-RAW = frozenset("script style title textarea xmp iframe noembed noframes".split())  # their inside is no markup
+RAW = frozenset("script style title textarea xmp iframe noembed noframes".split())  # hold no markup
 BLOCKS = frozenset("p h1 h2 h3 h4 h5 h6 hr pre ul ol dl table div section blockquote".split())
 
 # Elements whose end tag may be left out, by the elements whose beginning ends them.
@@ -23,7 +24,9 @@ ENDED_BY: Dict[str, frozenset] = {
     **dict.fromkeys(("dt", "dd"), frozenset(["dt", "dd", "p"])),
     **dict.fromkeys(("td", "th"), frozenset(["td", "th", "p"])),
     "tr": frozenset(["td", "th", "tr", "p", "caption"]),
-    **dict.fromkeys(("tbody", "thead", "tfoot"), frozenset(["td", "th", "tr", "tbody", "thead", "tfoot", "p", "caption"])),
+    **dict.fromkeys(
+        ("tbody", "thead", "tfoot"), frozenset(["td", "th", "tr", "tbody", "thead", "tfoot", "p", "caption"])
+    ),
     **dict.fromkeys(BLOCKS, frozenset(["p"])),
 }
 
@@ -47,7 +50,9 @@ class Element:
 
     __slots__ = ("name", "attributes", "children")
 
-    def __init__(self, name: str, attributes: Optional[Dict[str, str]] = None, children: Optional[List[Child]] = None) -> None:
+    def __init__(
+        self, name: str, attributes: Optional[Dict[str, str]] = None, children: Optional[List[Child]] = None
+    ) -> None:
         self.name = name
         self.attributes = attributes or {}
         self.children = children or []
@@ -257,7 +262,8 @@ def of_number(digits: str, base: int) -> str:
 
 
 def read_body(document: str) -> Element:
-    """The body of a document, or of a part of one, as an element `body`. Line breaks of two characters become one."""
+    """The body of a document, or of a part of one, as an element `body`. Line breaks of two characters become
+    one."""
     if document.startswith("\ufeff"):
         document = document[1:]
     if "\r" in document:

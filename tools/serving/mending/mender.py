@@ -1,7 +1,7 @@
 """From what an editor and a browser left in a document to a tree that the program reads.
 
-Where a page is known as it was opened, an element is *kept* if it has the `id` of a node of the page and is of that
-node's kind; any other is new.
+Where a page is known as it was opened, an element is *kept* if it has the `id` of a node of the page and is
+of that node's kind; any other is new.
 """
 from __future__ import annotations
 
@@ -9,8 +9,8 @@ import re
 from typing import Callable, Dict, Iterable, List, Optional
 
 from .kinds import (
-    ATTRIBUTES, CELLS, ITEMS, LINES, LISTS, TABLE_ATTRIBUTES, TAGS, is_blank, is_block, is_block_name, is_hidden_name,
-    is_island, name_of,
+    ATTRIBUTES, CELLS, ITEMS, LINES, LISTS, TABLE_ATTRIBUTES, TAGS, is_blank, is_block, is_block_name,
+    is_hidden_name, is_island, name_of,
 )  # fmt: skip
 from .links import link_target
 from .markup import Child, Element
@@ -43,7 +43,8 @@ class Mender:
     # ------------------------------------------------------------ numbers
 
     def _claim(self, root: Element) -> None:
-        """Finds the owner of each number: the first element of the right kind that shows something, else the first."""
+        """Finds the owner of each number: the first element of the right kind that shows something, else the
+        first."""
         for element in root.walk():
             number = element.number
             if number == 0 or not self._is_of_kind(element, number):
@@ -71,7 +72,8 @@ class Mender:
         return self.original.nodes.get(number) if self.original is not None else None
 
     def _attributes(self, element: Element, name: str, number: int) -> Dict[str, str]:
-        """The attributes that stay: of a kept element those that it had, of a new one those that its kind may have."""
+        """The attributes that stay: of a kept element those that it had, of a new one those that its kind may
+        have."""
         kept = self._kept(number)
         attributes = {}
         for attribute, value in element.attributes.items():
@@ -86,8 +88,8 @@ class Mender:
     # ------------------------------------------------------------ blocks
 
     def _blocks(self, nodes: Iterable[Child]) -> Pieces:
-        """What stands in the body, in a section, in a box: blocks, and white space between them. Text and inline
-        elements that stand there directly are a new paragraph."""
+        """What stands in the body, in a section, in a box: blocks, and white space between them. Text and
+        inline elements that stand there directly are a new paragraph."""
         out: Pieces = []
         loose: Pieces = []
         for node in nodes:
@@ -112,8 +114,8 @@ class Mender:
         return out
 
     def _stands_in_body(self, element: Element, name: str, is_in_line: bool) -> bool:
-        """Whether an element directly in the body belongs there; else it stands in a paragraph whose own element is
-        gone. `is_in_line`: such a paragraph has begun."""
+        """Whether an element directly in the body belongs there; else it stands in a paragraph whose own
+        element is gone. `is_in_line`: such a paragraph has begun."""
         if "about" not in element.attributes and not is_hidden_name(name):
             return is_block_name(name)
         kept = self._kept(self._number_of(element))
@@ -158,8 +160,8 @@ class Mender:
         return self._blocks(element.children)
 
     def _lines(self, attributes: Dict[str, str], name: str, content: Pieces) -> Pieces:
-        """A paragraph or heading; where blocks stand in it, it is split round them, and its first part that isn't empty
-        stays what it was."""
+        """A paragraph or heading; where blocks stand in it, it is split round them, and its first part that
+        isn't empty stays what it was."""
         if not any(map(is_block, content)):
             return [tidy(Element(name, attributes, content), self.original)]
         out: Pieces = []
@@ -206,7 +208,8 @@ class Mender:
             if item.number != 0 or not is_empty(item.children):
                 made.children.append(item)
         elif name in LISTS:
-            items = [part for part in made.elements() if part.name in ITEMS and "about" not in part.attributes]
+            parts = [part for part in made.elements() if "about" not in part.attributes]
+            items = [part for part in parts if part.name in ITEMS]
             if not items:
                 items = [Element(item_name)]
                 made.children.append(items[0])
@@ -217,7 +220,8 @@ class Mender:
                 made.children.append(item)
 
     def _item(self, element: Element, name: str) -> Element:
-        return tidy(self._part(element, name, self._flat(self._inline(element.children), is_list)), self.original)
+        content = self._flat(self._inline(element.children), is_list)
+        return tidy(self._part(element, name, content), self.original)
 
     def _table_part(self, element: Element, name: str) -> Element:
         part = self._part(element, name, [])
@@ -238,7 +242,8 @@ class Mender:
             is_behind_block = is_behind_block or not is_new
             return is_behind_block
 
-        return tidy(self._part(element, name, self._flat(self._inline(element.children), stays)), self.original)
+        content = self._flat(self._inline(element.children), stays)
+        return tidy(self._part(element, name, content), self.original)
 
     # ------------------------------------------------------------ what stands in a line
 
@@ -279,7 +284,8 @@ class Mender:
         return self._by_style(element) if name in ("span", "font") else self._inline(element.children)
 
     def _has_lost_inside(self, element: Element, children: Pieces) -> bool:
-        """Whether a link or a style vanishes because its inside did. Of a page that isn't known only a new one does."""
+        """Whether a link or a style vanishes because its inside did. Of a page that isn't known only a new
+        one does."""
         kept = self._kept(self._number_of(element))
         is_bare = all(not isinstance(piece, str) and is_line_break(piece) for piece in children)
         if not is_bare or (kept is not None and is_empty(kept.part.children)):
@@ -379,8 +385,8 @@ class Mender:
         return part
 
     def _flat(self, pieces: Pieces, stays: Callable[[Element], bool]) -> Pieces:
-        """Blocks where none may stand become their inside, with a line break to what stands before and behind them.
-        `stays`: whether a block may stand there."""
+        """Blocks where none may stand become their inside, with a line break to what stands before and behind
+        them. `stays`: whether a block may stand there."""
         out: Pieces = []
         is_behind_block = False
         for piece in pieces:

@@ -26,7 +26,7 @@ class Kept:
         self.parent = parent  # the node that it stands in, none in the body
         self.at = at  # which child of its parent's element it is
         self.kind = kind_of(part.name, part.get)
-        self.is_inline = not any(map(is_block, part.children))  # nothing but text and inline elements stands in it
+        self.is_inline = not any(map(is_block, part.children))  # texts and inline elements alone stand in it
 
 
 class Original:

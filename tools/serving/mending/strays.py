@@ -1,4 +1,5 @@
-"""What VisualEditor moves out of a block that it changes: comments, include tags, skips, switches and categories."""
+"""What VisualEditor moves out of a block that it changes: comments, include tags, skips, switches and
+categories."""
 from __future__ import annotations
 
 from typing import Dict, List, Optional, Set, Tuple
@@ -27,7 +28,8 @@ def put_back(edited: Element, original: Original) -> None:
 
 
 def find(part: Element, number: int, original: Original, homes: Dict[int, Element], strays: list) -> None:
-    """Finds the elements that have a number, and the strays. `number` is that of the nearest such element round it."""
+    """Finds the elements that have a number, and the strays. `number` is that of the nearest such element
+    round it."""
     for child in part.elements():
         own = child.number
         kept = original.nodes.get(own)
@@ -73,13 +75,15 @@ def beside_element(children: List[Child], neighbour: Optional[Child], step: int)
     if neighbour is None or isinstance(neighbour, str) or neighbour.number == 0:
         return None
     number = neighbour.number
-    places = (at for at, child in enumerate(children) if not isinstance(child, str) and child.number == number)
-    found = next(places, None)
-    return None if found is None else found + step
+    for at, child in enumerate(children):
+        if not isinstance(child, str) and child.number == number:
+            return at + step
+    return None
 
 
 def into_text(home: Element, element: Element, before: str, behind: Optional[Child]) -> bool:
-    """Puts an element between two texts that have become one: where their ends meet, or where one of them is."""
+    """Puts an element between two texts that have become one: where their ends meet, or where one of them
+    is."""
     end, start = before[-NEAR:], behind[:NEAR] if isinstance(behind, str) else ""
     for wanted, offset in ((end + start, len(end)), (end, len(end)), (start, 0)):
         if not wanted:
@@ -89,6 +93,7 @@ def into_text(home: Element, element: Element, before: str, behind: Optional[Chi
             if place >= 0:
                 assert isinstance(child, str)
                 cut = place + offset
-                home.children[at : at + 1] = [piece for piece in (child[:cut], element, child[cut:]) if piece != ""]
+                pieces = (child[:cut], element, child[cut:])
+                home.children[at : at + 1] = [piece for piece in pieces if piece != ""]
                 return True
     return False

@@ -32,7 +32,8 @@ def is_blank_text(piece: Child) -> bool:
 
 
 def is_empty(pieces: List[Child]) -> bool:
-    """Whether nothing but white space and the line break that a browser puts into an empty block stands there."""
+    """Whether nothing but white space and the line break that a browser puts into an empty block stands
+    there."""
     return all(is_blank_text(piece) or is_line_break(piece) for piece in pieces)
 
 
@@ -50,8 +51,9 @@ def is_same(now: Element, was: Element) -> bool:
 
 
 def tidy(block: Element, original: Optional[Original]) -> Element:
-    """Mends a block with text whose inside isn't that of the page: the line break at its end, which shows nothing;
-    blanks at its ends, no-break spaces, carriage returns and line breaks that the page hadn't there."""
+    """Mends a block with text whose inside isn't that of the page: the line break at its end, which shows
+    nothing; blanks at its ends, no-break spaces, carriage returns and line breaks that the page hadn't
+    there."""
     kept = original.nodes.get(block.number) if original is not None else None
     if kept is None and block.number != 0:
         return block
@@ -95,8 +97,9 @@ def trim_edges(block: Element, lead: List[Child], kept: Optional[Kept], was: str
 
 
 class Texts:
-    """The texts of a block beside those that the page has. Before and behind what was changed the page's white space is
-    put back: browsers put no-break spaces for blanks, and blanks for line breaks, next to what is typed."""
+    """The texts of a block beside those that the page has. Before and behind what was changed the page's
+    white space is put back: browsers put no-break spaces for blanks, and blanks for line breaks, next to what
+    is typed."""
 
     def __init__(self, was: str, now: str) -> None:
         most = min(len(was), len(now))
@@ -123,7 +126,8 @@ class Texts:
                 lead[at] = mended if has_trails else without_trails(mended)
 
     def _pieces(self, pieces: List[Child], is_paragraph: bool, is_new: bool) -> None:
-        """`is_paragraph`: line breaks may stand among them; `is_new`: they stand in a new element that holds none."""
+        """`is_paragraph`: line breaks may stand among them; `is_new`: they stand in a new element that holds
+        none."""
         for at, piece in enumerate(pieces):
             if isinstance(piece, str):
                 mended = self._text(piece, is_paragraph)
@@ -139,7 +143,8 @@ class Texts:
         last = self._at = first + len(text)
         start = min(max(self._from, first), last)
         end = min(max(self._to, start), last)
-        front, back = self._was[first:start], self._was[end - self._longer : last - self._longer] if end < last else ""
+        front = self._was[first:start]
+        back = self._was[end - self._longer : last - self._longer] if end < last else ""
         return front + self._typed(text[start - first : end - first], is_paragraph) + back
 
     def _typed(self, text: str, is_paragraph: bool) -> str:
@@ -165,8 +170,8 @@ def is_new_style(piece: Child) -> bool:
 
 
 def split_at_lines(piece: Child) -> List[Child]:
-    """Bold and italic end with a line in wikitext: what an editor made over several lines of a paragraph begins anew on
-    each."""
+    """Bold and italic end with a line in wikitext: what an editor made over several lines of a paragraph
+    begins anew on each."""
     if isinstance(piece, str) or not is_new_style(piece):
         return [piece]
     out: List[Child] = []
@@ -199,8 +204,8 @@ def inner_pieces(style: Element) -> Iterator[Child]:
 
 
 def count_same(pairs: Iterable[Tuple[str, str]], most: int) -> int:
-    """How many of the first pairs are the same character, or white space of the page (the first) for which a browser put
-    a blank; `most` at most."""
+    """How many of the first pairs are the same character, or white space of the page (the first) for which a
+    browser put a blank; `most` at most."""
     count = 0
     for was, now in islice(pairs, most):
         if was != now and (now not in (" ", "\u00a0") or was not in WHITE):
