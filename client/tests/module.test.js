@@ -3,6 +3,8 @@
 
 import { test } from "node:test";
 import assert from "node:assert/strict";
+import { createRequire } from "node:module";
+import { readFileSync } from "node:fs";
 import { HtmlRefused, Offsets, describe, hrefOf, isChanged, open, rangeOf, save } from "../bughtiso.js";
 import { read } from "../lib/markup.js";
 import { SmallDocument } from "./small_dom.js";
@@ -142,6 +144,47 @@ const MARKS = [
 ];
 
 for (const [name, was, now, wanted] of MARKS) test(`marks: ${name}`, () => assert.equal(saved(was, now, true), wanted));
+
+/** @param {string} html @param {[string, string][]} replacements  one after the other, each of the first such text */
+function replaced(html, replacements) {
+  return replacements.reduce((text, [was, now]) => {
+    assert.ok(text.includes(was), `there is no ${was}`);
+    return text.replace(was, () => now);
+  }, html);
+}
+
+/** White space between blocks, which no edit compares. @param {string} html */
+function withoutSeparators(html) {
+  return html.replace(/(<\/(?:p|h[1-6]|ul|ol|dl|table)>)[ \t\n]+/g, "$1");
+}
+
+/** jsdom, where it is installed; Debian's lies where NODE_PATH=/usr/share/nodejs finds it. @returns {any} */
+function findJsdom() {
+  try {
+    return createRequire(import.meta.url)("jsdom").JSDOM;
+  } catch {
+    return null;
+  }
+}
+
+const documents = new URL("documents/", import.meta.url);
+const shared = readFileSync(new URL("page.html", documents), "utf8");
+for (const { name, edited: changes, wanted } of JSON.parse(readFileSync(new URL("cases.json", documents), "utf8"))) {
+  test(`shared document: ${name}`, () => {
+    const now = replaced(shared, changes).replace(/<!--(.*?)-->/gs, "<comment>$1</comment>");
+    const body = now.slice(now.indexOf(">", now.indexOf("<body")) + 1, now.indexOf("</body>"));
+    const html = save(edited(body), { original: shared, marks: true });
+    assert.equal(withoutSeparators(html), withoutSeparators(replaced(shared, wanted)));
+  });
+}
+
+test("outside documents come back from jsdom", (context) => {
+  const JSDOM = findJsdom();
+  const documents = outsideDocuments();
+  if (JSDOM === null || documents.length === 0) return context.skip("there is no jsdom or no outside documents here");
+  const { document } = new JSDOM("").window;
+  for (const html of documents) assert.equal(save(open(html, { document }), { marks: true }), html);
+});
 
 test("new and removed blocks mark the body", () => {
   for (const now of ['<p id="mw1">one <b id="mw2">two</b> three</p>', `${TEXT}<h2>x</h2>`]) {
