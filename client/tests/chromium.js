@@ -166,7 +166,7 @@ export class Tab {
   }
 
   /** Waits until an expression is true. @param {string} expression @param {number} [milliseconds] */
-  async until(expression, milliseconds = 10000) {
+  async until(expression, milliseconds = 60000) {
     const end = Date.now() + milliseconds;
     while (!(await this.js(`Boolean(${expression})`))) {
       if (Date.now() > end) throw new Error(`not true within ${milliseconds} ms: ${expression}`);
