@@ -39,14 +39,18 @@ def find_program(given: Optional[str]) -> str:
 
 
 def started_once(path: str) -> str:
-    """Runs a program once, so that a clone's launcher proves and builds it now, and no request waits for it.
+    """Sees that a program runs. A clone's launcher builds it now, so that no request waits for it.
 
-    The answer is the program that requests run: what the launcher built, or `path` itself."""
+    The answer is the program that requests run: what the launcher tells, or `path` itself."""
+    if Path(path) == REPOSITORY / "wtround":
+        told = subprocess.run([path, "--where"], stdin=subprocess.DEVNULL, stdout=subprocess.PIPE)
+        if told.returncode != 0:
+            raise ProgramMissing(f"{path} has no program to run")
+        path = os.fsdecode(told.stdout).rstrip("\n")
     done = subprocess.run([path, "gen", "1"], stdin=subprocess.DEVNULL, stdout=subprocess.PIPE)
     if done.returncode != 0 or not done.stdout.startswith(b"bytes "):
         raise ProgramMissing(f"{path} doesn't run as wtround")
-    built = Path(path).resolve().parent / "crates/wtround/out/wtround"
-    return str(built) if os.access(built, os.X_OK) else path
+    return path
 
 
 class Program:
