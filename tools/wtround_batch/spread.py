@@ -1,0 +1,2 @@
+"""For several machines."""
+WORDS = ()
