@@ -5,8 +5,8 @@ import html
 from dataclasses import dataclass
 
 WIDTH = 720
-LABEL = 250  # columns of a bar chart for its labels
-NUMBER = 110  # and for its numbers
+LABEL = 230  # columns of a bar chart for its labels
+NUMBER = 150  # and for its numbers
 ROW = 26
 PLOT_HEIGHT = 200
 
@@ -47,10 +47,12 @@ def shortened(label: str, most: int = 36) -> str:
     return label if len(label) <= most else label[: most - 1] + "…"
 
 
-def histogram(columns: "list[tuple[str, int]]", title: str, axis: str, marks: "list[tuple[float, str]]" = ()) -> str:
-    """Columns side by side, each with the label of its left edge, some of which are written.
+def histogram(
+    columns: "list[tuple[str, int]]", title: str, axis: str, ticks: "list[int]", marks: "list[tuple[float, str]]"
+) -> str:
+    """Columns side by side, each with the label of its left edge.
 
-    `marks` are places on the axis, in columns from the left, that are marked with a line and a word.
+    The labels of the columns in `ticks` are written. `marks` are places on the axis, in columns from the left, that are marked with a line and a word.
     """
     left, right, top, bottom = 56, 16, 34, 46
     most = max((count for _, count in columns), default=0) or 1
@@ -62,7 +64,6 @@ def histogram(columns: "list[tuple[str, int]]", title: str, axis: str, marks: "l
         parts.append(f'<line class="grid" x1="{left}" x2="{WIDTH - right}" y1="{y:.1f}" y2="{y:.1f}"/>')
         if most >= 4 or share == 1:
             parts.append(f'<text class="tick" x="{left - 8}" y="{y:.1f}" text-anchor="end">{most * share:,.0f}</text>')
-    every = max(1, -(-len(columns) // 10))
     for k, (label, count) in enumerate(columns):
         height = max(1.5, PLOT_HEIGHT * count / most) if count else 0.0
         x = left + k * step
@@ -70,7 +71,7 @@ def histogram(columns: "list[tuple[str, int]]", title: str, axis: str, marks: "l
             f'<rect class="plain" x="{x + 1:.1f}" y="{floor - height:.1f}" width="{max(step - 2, 1):.1f}" height="{height:.1f}">'
             f"<title>{escaped(label)}: {count:,}</title></rect>"
         )
-        if k % every == 0:
+        if k in ticks:
             parts.append(f'<text class="tick" x="{x:.1f}" y="{floor + 16}" text-anchor="middle">{escaped(label)}</text>')
     parts.append(f'<line class="axis" x1="{left}" x2="{WIDTH - right}" y1="{floor}" y2="{floor}"/>')
     parts.append(f'<text class="tick" x="{left + room / 2:.1f}" y="{floor + 36}" text-anchor="middle">{escaped(axis)}</text>')

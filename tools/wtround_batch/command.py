@@ -9,7 +9,6 @@ import sys
 from contextlib import contextmanager
 from typing import Callable, Iterator, TextIO
 
-from . import spread
 from .program import ProgramError, digest_of_file, find_program, refuse_unfit
 from .progress import Progress, spelled_time
 from .report import About, Report, write_json
@@ -127,12 +126,17 @@ def stopped_by_signals() -> "Iterator[None]":
             signal.signal(number, signal.SIG_IGN)
 
 
+def memory_of(arguments: argparse.Namespace) -> "int | None":
+    """The limit of memory in bytes."""
+    return None if arguments.memory_limit is None else int(arguments.memory_limit * 1_000_000)
+
+
 def orders_of(arguments: argparse.Namespace, program: str, store: "Store | None") -> Orders:
     output = "files" if arguments.output is not None else "lines" if arguments.json is not None else "nothing"
     export = arguments.export
     return Orders(
         program=program,
-        memory_limit=None if arguments.memory_limit is None else int(arguments.memory_limit * 1_000_000),
+        memory_limit=memory_of(arguments),
         time_limit=arguments.time_limit,
         commands=arguments.commands,
         pages=arguments.pages,
@@ -166,7 +170,15 @@ def told(counts: Counts, total: int) -> str:
         text += f"; {counts.kept:,} as before"
     done = counts.pages - counts.kept
     rate = f", {done / counts.seconds:,.0f} pages a second" if done and counts.seconds > 0.5 else ""
-    return f"{text}; {spelled_time(counts.seconds)}{rate}"
+    return f"{text}; {spelled_time(counts.seconds)}{rate}" if counts.seconds else text
+
+
+def told_of(report: Report) -> str:
+    """What came of the pages of a report, in a line."""
+    counts = Counts(pages=report.figures.pages)
+    for outcomes in report.figures.outcomes.values():
+        counts.outcomes.update(outcomes)
+    return told(counts, counts.pages)
 
 
 def write_report(report: Report) -> None:
@@ -236,11 +248,13 @@ def main_of_run(words: "list[str]") -> int:
 
 
 def main() -> int:
+    from . import spread  # which uses what stands above
+
     words = sys.argv[1:]
     sys.stdout.reconfigure(errors="backslashreplace")  # type: ignore[attr-defined]
     try:
         if words and words[0] in spread.WORDS:
-            return spread.main(words)
+            return spread.WORDS[words[0]](words[1:])
         return main_of_run(words)
     except ProgramError as error:
         print(f"{PROGRAM}: {error}", file=sys.stderr)

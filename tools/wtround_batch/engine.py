@@ -12,7 +12,7 @@ from typing import Iterator
 from .program import end_with_parent
 from .results import DIED, Examined, Known, Result
 from .siblings import PACKAGE_PARENT
-from .worker import Orders, examined_from_json, known_as_json, read_frame, write_frame
+from .worker import FrameReader, Orders, examined_from_json, known_as_json, write_frame
 
 BATCH_PAGES = 16
 BATCH_BYTES = 256 << 10
@@ -60,6 +60,7 @@ class Worker:
         )
         self.batches: "deque[list[Task]]" = deque()
         assert self.process.stdin is not None and self.process.stdout is not None
+        self._frames = FrameReader(self.process.stdout.fileno())
         write_frame(self.process.stdin, asdict(orders))
 
     def send(self, batch: "list[Task]") -> None:
@@ -70,14 +71,14 @@ class Worker:
         except BrokenPipeError:
             pass  # its end is found when it is read
 
-    def receive(self) -> "Done | None":
-        """The answer to the oldest batch; None where the worker has ended."""
-        assert self.process.stdout is not None
-        frame = read_frame(self.process.stdout)
-        if frame is None:
+    def receive(self) -> "list[Done] | None":
+        """The answers to the oldest batches that are whole by now; None where the worker has ended."""
+        frames = self._frames.read()
+        if frames is None:
             return None
-        self.batches.popleft()
-        return Done([examined_from_json(page) for page in frame[0]["pages"]], frame[1])
+        for _ in frames:
+            self.batches.popleft()
+        return [Done([examined_from_json(page) for page in header["pages"]], output) for header, output in frames]
 
     def close(self) -> None:
         """Lets the worker end, which ends its program; one that doesn't is ended."""
@@ -126,9 +127,7 @@ class Engine:
                 if not any(worker.batches for worker in self._workers):
                     return
                 for key, _ in self._selector.select():
-                    worker = key.data
-                    if worker.batches:
-                        yield self._received(worker)
+                    yield from self._received(key.data)
         finally:
             for worker in self._workers:
                 worker.close()
@@ -152,7 +151,7 @@ class Engine:
         self._workers.append(worker)
         self._selector.register(worker.process.stdout, selectors.EVENT_READ, worker)
 
-    def _received(self, worker: Worker) -> Done:
+    def _received(self, worker: Worker) -> "list[Done]":
         done = worker.receive()
         if done is not None:
             return done
@@ -160,13 +159,11 @@ class Engine:
         self._workers.remove(worker)
         worker.close()
         # Each page is tried by itself, so that the one at fault is found.
-        lost = [task for batch in worker.batches for task in batch]
-        if len(worker.batches[0]) == 1:
-            lost = lost[1:]
-        self._again.extend([task] for task in lost)
-        if len(worker.batches[0]) > 1:
-            return Done([], b"")
-        task = worker.batches[0][0]
+        at_fault = worker.batches.popleft() if worker.batches and len(worker.batches[0]) == 1 else []
+        self._again.extend([task] for batch in worker.batches for task in batch)
+        if not at_fault:
+            return []
+        task = at_fault[0]
         failure = Result(DIED, f"the worker ended with status {worker.process.returncode}")
         nothing = Known("", b"", [], b"")
-        return Done([Examined(task.title, task.bytes, nothing, {c: failure for c in self._orders.commands})], b"")
+        return [Done([Examined(task.title, task.bytes, nothing, {c: failure for c in self._orders.commands})], b"")]

@@ -4,6 +4,7 @@ from __future__ import annotations
 import json
 import re
 import time
+from functools import lru_cache
 from typing import Callable, Iterable, Protocol
 
 from .program import Answer, Cases, Died, TooSlow, case
@@ -69,20 +70,29 @@ class Templates:
 
 def called_names(text: bytes) -> "list[str]":
     """The pages that a text calls by names that are written out."""
-    names = {}
-    for match in CALL.finditer(text):
-        try:
-            names[called_name(match[1].decode())] = True
-        except (importer.BadTitle, UnicodeDecodeError):
-            continue
+    names = (called_name(target) for target in dict.fromkeys(CALL.findall(text)))
+    return list(dict.fromkeys(name for name in names if name is not None))
+
+
+def guessed_names(title: str, pages: "dict[str, bytes]") -> "list[str]":
+    """What a page takes as far as it can be seen: these pages, and what they call."""
+    names = dict.fromkeys(pages)
+    for text in pages.values():
+        names.update(dict.fromkeys(called_names(text)))
+    names.pop(title, None)
     return list(names)
 
 
-def called_name(target: str) -> str:
-    """The full name of the page that a call takes. Raises BadTitle where it is none."""
-    is_page = target.startswith(":")
-    title = importer.read_title(target[1:] if is_page else target)
-    return full_name(title.full_name if is_page or title.namespace else "Template:" + target)
+@lru_cache(maxsize=1 << 15)
+def called_name(target: bytes) -> "str | None":
+    """The full name of the page that a call takes; None where it is no title."""
+    try:
+        text = target.decode()
+        is_page = text.startswith(":")
+        title = importer.read_title(text[1:] if is_page else text)
+        return full_name(title.full_name if is_page or title.namespace else "Template:" + text)
+    except (importer.BadTitle, UnicodeDecodeError):
+        return None
 
 
 def first_difference(a: bytes, b: bytes) -> int:
@@ -143,16 +153,24 @@ class Examiner:
                 return Examined(title, len(text), Known(stamp, digest, names, known.taken_digest), {})
             is_sure = known.taken_digest == current
         if not is_sure:
-            failure, names = self._find_templates(title, text, names)
+            failure, names = self.find_templates(title, text, names)
         current = self._digest_of_taken(names)
         if failure is not None:
             now = Known(stamp, digest, names, unsure(current))
             return Examined(title, len(text), now, {command: failure for command in commands})
-        results = self._run(title, text, self.pages_of(title, text, names), commands)
+        results = self.run(title, text, self.pages_of(title, text, names), commands)
         return Examined(title, len(text), Known(stamp, digest, names, current), results)
 
     def _digest_of_taken(self, names: "list[str]") -> bytes:
         return taken_digest((name, self._templates.digest(name)) for name in names)
+
+    def find_pages(self, title: str, text: bytes, known: "Known | None") -> "tuple[list[str], dict[str, bytes]]":
+        """The names of the templates that the page takes, and the page with those that are there."""
+        if known is not None and known.digest == digest_of(text) and self._digest_of_taken(known.names) == known.taken_digest:
+            names = known.names
+        else:
+            _, names = self.find_templates(title, text, [])
+        return names, self.pages_of(title, text, names)
 
     def pages_of(self, title: str, text: bytes, names: "list[str]") -> "dict[str, bytes]":
         """The page and the templates of these names that are there."""
@@ -166,7 +184,7 @@ class Examiner:
     def _start_clock(self) -> None:
         self._deadline = time.monotonic() + self._time_limit
 
-    def _find_templates(self, title: str, text: bytes, guess: "list[str]") -> "tuple[Result | None, list[str]]":
+    def find_templates(self, title: str, text: bytes, guess: "list[str]") -> "tuple[Result | None, list[str]]":
         """The names of the pages that this one takes, by asking `expand`; or why they can't be known, and a guess.
 
         What the page seems to call is sent along. Where the program asks for more that is there, it is sent
@@ -181,17 +199,18 @@ class Examiner:
             try:
                 answer = self._ask(case(["expand", title], b"", pages, wants_names=True))
             except (Died, TooSlow) as failure:
-                return self._failed(failure), [name for name in pages if name != title]
+                return self._failed(failure), guessed_names(title, pages)
             if answer.line == "no memory":
                 failure = self._explained(Result(NO_MEMORY, answer.line), title, text)
-                return failure, [name for name in pages if name != title]
+                return failure, guessed_names(title, pages)
             missing = [n for n in answer.names if n not in pages and self._templates.text(n) is not None]
             if not missing:
                 return None, [name for name in answer.names if name != title]
             pages.update(self._templates.reached(missing))
             pages[title] = text
 
-    def _run(self, title: str, text: bytes, pages: "dict[str, bytes]", commands: "list[str]") -> "dict[str, Result]":
+    def run(self, title: str, text: bytes, pages: "dict[str, bytes]", commands: "list[str]") -> "dict[str, Result]":
+        """What comes of the commands, with these pages and no others."""
         results: "dict[str, Result]" = {}
         html: "Answer | None" = None  # one answer of `html` serves two commands
         for command in sorted(commands, key=COMMANDS.index):

@@ -6,7 +6,7 @@ import json
 import os
 from hashlib import blake2b
 
-from .results import Examined, Result
+from .results import COMMANDS, Examined, Known, Result
 from .siblings import importer
 
 SUFFIXES = {"html": ".html", "wikitext": ".wiki", "ranges": ".ranges", "expand": ".expanded", "lint": ".lint"}
@@ -58,8 +58,9 @@ class Files:
 class Lines:
     """Makes a line of JSON of each page."""
 
-    def __init__(self, is_packed: bool) -> None:
+    def __init__(self, is_packed: bool, has_output: bool = True) -> None:
         self._is_packed = is_packed
+        self._has_output = has_output
 
     def take(self, examined: Examined, revision: str) -> bytes:
         line: "dict[str, object]" = {"title": examined.title}
@@ -72,19 +73,37 @@ class Lines:
         return json.dumps(line, ensure_ascii=False).encode() + b"\n"
 
     def _as_json(self, result: Result) -> "dict[str, object]":
-        said: "dict[str, object]" = {"outcome": result.outcome, "seconds": round(result.seconds, 6)}
+        said: "dict[str, object]" = {
+            "outcome": result.outcome,
+            "seconds": round(result.seconds, 6),
+            "written": result.written,
+        }
         if result.line:
             said["line"] = result.line
         if result.advice:
             said["explain"] = json.loads(result.advice)
         if result.findings:
-            said["counts"] = json.loads(result.findings)["counts"]
-        if result.has_output:
+            said["findings"] = json.loads(result.findings)
+        if result.has_output and self._has_output:
             said["output"] = result.out.decode("utf-8", "replace")
         return said
 
     def finish(self, lines: bytes) -> bytes:
         return packed(lines) if self._is_packed else lines
+
+
+def read_line(line: bytes) -> Examined:
+    """The page of such a line, without its output. Raises ValueError or KeyError where it is none."""
+    value = json.loads(line)
+    results = {}
+    for command in COMMANDS:
+        if command in value:
+            said = value[command]
+            advice = json.dumps(said["explain"], ensure_ascii=False) if "explain" in said else ""
+            findings = json.dumps(said["findings"]) if "findings" in said else ""
+            seconds = float(said["seconds"])
+            results[command] = Result(said["outcome"], said.get("line", ""), advice, said["written"], seconds, findings)
+    return Examined(value["title"], value["bytes"], Known("", b"", value["templates"], b""), results)
 
 
 class Nothing:

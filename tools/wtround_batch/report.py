@@ -47,6 +47,7 @@ class Figures:
     """The counts of a run, made in one pass over its results."""
 
     pages: int = 0
+    failed: int = 0  # pages that a command did not answer, or that came back otherwise
     bytes: int = 0
     outcomes: "dict[str, Counter[str]]" = field(default_factory=dict)  # by command
     reasons: "Counter[str]" = field(default_factory=Counter)
@@ -99,12 +100,14 @@ class Report:
     def _figures(self, commands: "list[str]") -> Figures:
         figures = Figures(outcomes={command: Counter() for command in commands})
         columns = "title, command, outcome, reason, bytes, seconds, findings"
-        for row in self._store.rows(f"SELECT {columns} FROM result WHERE run = ?", self._run):
+        last, last_failed = "", ""
+        for row in self._store.rows(f"SELECT {columns} FROM result WHERE run = ? ORDER BY title", self._run):
             title, command, outcome, reason, size, seconds, findings = row
             if command not in figures.outcomes:
                 continue
             figures.outcomes[command][outcome] += 1
-            if command == commands[0]:
+            if title != last:
+                last = title
                 figures.pages += 1
                 figures.bytes += size
                 figures.sizes[max(size, 1).bit_length() - 1] += 1
@@ -113,6 +116,8 @@ class Report:
                 figures.times[step_of_time(seconds)] += 1
             else:
                 figures.reasons[reason] += 1
+                figures.failed += title != last_failed
+                last_failed = title
             figures.seconds += seconds
             push(figures.slowest, MOST_SLOWEST, (seconds, title, command, size))
             if findings:
@@ -179,6 +184,7 @@ def write_json(report: Report, file: TextIO) -> None:
         "written": time.strftime("%Y-%m-%dT%H:%M:%SZ", time.gmtime()),
         "seconds": round(about.seconds, 3),
         "pages": figures.pages,
+        "failed_pages": figures.failed,
         "kept": about.kept,
         "bytes": figures.bytes,
         "processor_seconds": round(figures.seconds, 3),

@@ -1,6 +1,7 @@
 """The report as one HTML file, which needs nothing but a browser."""
 from __future__ import annotations
 
+import time
 from typing import Iterator, TextIO
 
 from .charts import Bar, bars, escaped, histogram
@@ -81,11 +82,12 @@ def spelled_bytes(number: float) -> str:
 
 def spelled_seconds(seconds: float) -> str:
     """A short span of time with two or three digits."""
-    if seconds < 0.001:
-        return f"{seconds * 1e6:.0f} µs"
-    if seconds < 1:
-        return f"{seconds * 1000:.{0 if seconds >= 0.1 else 1 if seconds >= 0.01 else 2}f} ms"
-    return f"{seconds:.2f} s" if seconds < 60 else spelled_time(seconds)
+    if seconds >= 60:
+        return spelled_time(seconds)
+    for unit, size in (("s", 1.0), ("ms", 1e-3), ("µs", 1e-6)):
+        if seconds >= size:
+            break
+    return f"{seconds / size:.3g} {unit}"
 
 
 def linked(title: str, link: str) -> str:
@@ -112,7 +114,7 @@ class Page:
 
     def write(self) -> None:
         about = self._report.about
-        title = f"What came of {about.source}"
+        title = f"Report on {about.source}"
         self._write(
             '<!DOCTYPE html>\n<html lang="en"><head><meta charset="utf-8">'
             '<meta name="viewport" content="width=device-width, initial-scale=1">'
@@ -131,15 +133,21 @@ class Page:
     def _head(self) -> "Iterator[str]":
         about = self._report.about
         words = ", ".join(f"<code>{escaped(command)}</code>" for command in about.commands)
-        old = f"; of {count_of(about.kept, 'page', 'pages')} the results of an earlier run hold" if about.kept else ""
+        old = f"; {about.kept:,} of them had not changed since an earlier run" if about.kept else ""
         yield (
-            f'<p class="soft">{words} on {count_of(self._figures.pages, "page", "pages")}, '
-            f"{count_of(about.jobs, 'process', 'processes')} of <code>wtround_cases</code> {escaped(about.program)}{old}.</p>\n"
+            f'<p class="soft">{words} on {count_of(self._figures.pages, "page", "pages")}{old}. '
+            f"Made {time.strftime('%d %B %Y, %H:%M', time.gmtime())} UTC with {escaped(self._machine())}.</p>\n"
         )
         if not about.is_finished:
             yield '<p class="alert">The run was stopped before its end: the rest of the pages is missing here.</p>\n'
         if not about.export_is_whole:
             yield '<p class="alert">The export is broken: see <a href="#skipped">what was skipped</a>.</p>\n'
+
+    def _machine(self) -> str:
+        about = self._report.about
+        if about.jobs == 0:
+            return "several machines"
+        return f"{count_of(about.jobs, 'process', 'processes')} of wtround_cases {about.program}"
 
     def _tiles(self) -> "Iterator[str]":
         figures, about = self._figures, self._report.about
@@ -149,8 +157,7 @@ class Page:
             style = "bad" if counts[DIFFERS] else "good"
             tiles.append((style, share(counts[SAME], sum(counts.values())), "came back byte for byte"))
             tiles.append(("bad" if counts[DIFFERS] else "", f"{counts[DIFFERS]:,}", "came back otherwise"))
-        failed = sum(figures.reasons.values()) - figures.of(DIFFERS)
-        tiles.append(("warn" if failed else "good", f"{failed:,}", "without an answer"))
+        tiles.append(("warn" if figures.failed else "good", f"{figures.failed:,}", "pages with a failure"))
         if "lint" in figures.outcomes:
             tiles.append(("", f"{sum(kind.places for kind in figures.findings.values()):,}", "doubtful places"))
         done = figures.pages - about.kept
@@ -177,7 +184,7 @@ class Page:
 
     def _failures(self) -> "Iterator[str]":
         reasons = self._figures.reasons.most_common()
-        yield "<h2>Why pages were not answered</h2>\n"
+        yield "<h2>Why pages failed</h2>\n"
         if not reasons:
             yield "<p>Every page was answered.</p>\n"
             return
@@ -185,7 +192,12 @@ class Page:
         for reason, count in reasons:
             is_open = " open" if count <= 20 else ""
             yield f"<details{is_open}><summary><b>{escaped(reason)}</b>: {count:,}</summary>\n"
+            advice = ""
             for failure in self._report.failures(reason, MOST_LISTED):
+                said = str(failure.explained.get("advice", ""))
+                if said not in ("", advice):
+                    advice = said
+                    yield f'<p class="soft">{escaped(advice)}</p>\n'
                 yield self._failure(failure)
             if count > MOST_LISTED:
                 yield f'<p class="soft">And {count - MOST_LISTED:,} more, in {escaped(self._json_name())}.</p>\n'
@@ -200,10 +212,9 @@ class Page:
         if "line" in explained:
             where = f"{explained['page']}, " if explained["page"] != failure.title else ""
             place = f" ({escaped(str(where))}line {explained['line']}, column {explained['column']})"
-        said = f'<br><span class="soft">{escaped(str(explained["advice"]))}</span>' if "advice" in explained else ""
         shown = f"<pre>{escaped(str(explained['shown']))}</pre>" if "shown" in explained else ""
         command = f"<code>{escaped(failure.command)}</code>: {escaped(failure.line)}"
-        return f"<div><p>{linked(failure.title, failure.link)} – {command}{place}{said}</p>{shown}</div>\n"
+        return f"<div><p>{linked(failure.title, failure.link)} – {command}{place}</p>{shown}</div>\n"
 
     def _findings(self) -> "Iterator[str]":
         if "lint" not in self._figures.outcomes:
@@ -238,13 +249,15 @@ class Page:
         if times:
             steps = range(min(times), max(times) + 1)
             columns = [(spelled_seconds(10 ** (step / STEPS_OF_TIME)), times[step]) for step in steps]
+            ticks = [k for k, step in enumerate(steps) if step % STEPS_OF_TIME == 0]
             marks, words = [], []
-            for word, part in (("half", 0.5), ("99 %", 0.99)):
+            for word, part in (("Half", 0.5), ("99 %", 0.99)):
                 value = self._report.quantile(part)
                 assert value is not None
                 marks.append((step_of_time(value) - min(times) + 0.5, f"{word}: {spelled_seconds(value)}"))
-                words.append(f"{word} of the answers were there within {spelled_seconds(value)}")
-            yield f"<figure>{histogram(columns, 'Answers by their time', 'seconds of processor time, each step 1.6 times the last', marks)}"
+                words.append(f"{word.lower() if words else word} of the answers were there within {spelled_seconds(value)}")
+            axis = "processor time, each step 1.6 times the last"
+            yield f"<figure>{histogram(columns, 'Answers by their time', axis, ticks, marks)}"
             yield f"<figcaption>{escaped(', '.join(words))}.</figcaption></figure>\n"
         yield "<h3>The slowest</h3>\n"
         rows = (
@@ -259,7 +272,8 @@ class Page:
         if sizes:
             steps = range(min(sizes), max(sizes) + 1)
             columns = [(spelled_size(step), sizes[step]) for step in steps]
-            yield f"<figure>{histogram(columns, 'Pages by their size', 'bytes, each step twice the last')}</figure>\n"
+            axis = "bytes, each step twice the last"
+            yield f"<figure>{histogram(columns, 'Pages by their size', axis, list(range(len(columns))), [])}</figure>\n"
         yield "<h3>The largest</h3>\n"
         rows = ((linked(title, self._report.link(title)), f"{size:,}") for size, title in self._figures.largest)
         yield from table(("Page", "Bytes"), rows)

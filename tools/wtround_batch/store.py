@@ -287,4 +287,4 @@ class Export:
         return link_in_wiki(self._base, title)
 
     def describe(self) -> str:
-        return f"the export {self.path}"
+        return f"the export “{self.path}”"

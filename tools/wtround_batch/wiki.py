@@ -141,7 +141,7 @@ class Folder:
         return quote(os.path.relpath(self.file_of(title), report_folder))
 
     def describe(self) -> str:
-        return f"the folder {self.path}"
+        return f"the folder “{self.path}”"
 
 
 # ---------------------------------------------------------------- an export

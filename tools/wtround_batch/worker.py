@@ -6,6 +6,7 @@ first frame says what to do; each further one holds a batch, and is answered by 
 from __future__ import annotations
 
 import json
+import os
 import queue
 import signal
 import sys
@@ -19,6 +20,8 @@ from .program import Cases
 from .results import Examined, Known, Result
 from .store import Export
 from .wiki import Folder
+
+PIPE_READ = 1 << 20
 
 
 def write_frame(stream: BinaryIO, header: "dict[str, object]", payload: bytes = b"") -> None:
@@ -34,6 +37,36 @@ def read_frame(stream: BinaryIO) -> "tuple[dict, bytes] | None":
     header = json.loads(line)
     payload = stream.read(header["payload"])
     return (header, payload) if len(payload) == header["payload"] else None
+
+
+class FrameReader:
+    """Reads frames from a pipe as they come, for a process that waits for several pipes at once."""
+
+    def __init__(self, descriptor: int) -> None:
+        self._descriptor = descriptor
+        self._buffer = bytearray()
+        self._header: "dict | None" = None
+
+    def read(self) -> "list[tuple[dict, bytes]] | None":
+        """The frames that are whole after one more read; None at the end of the pipe."""
+        data = os.read(self._descriptor, PIPE_READ)
+        if not data:
+            return None
+        self._buffer += data
+        frames = []
+        while True:
+            if self._header is None:
+                end = self._buffer.find(b"\n")
+                if end < 0:
+                    return frames
+                self._header = json.loads(self._buffer[:end])
+                del self._buffer[: end + 1]
+            length = self._header["payload"]
+            if len(self._buffer) < length:
+                return frames
+            frames.append((self._header, bytes(self._buffer[:length])))
+            del self._buffer[:length]
+            self._header = None
 
 
 @dataclass(frozen=True)
