@@ -3,11 +3,11 @@
 
   bench/batch.py [--pages N] [--rounds N] [--from FOLDER] [--commands WORDS]
 
-It makes N pages (10,000) from those of examples/ and from the sections that `wtround gen` makes, one to forty of
-them, or takes N copies of the pages of FOLDER in turn. Then it runs `tools/batch` over them in turn on one
-processor and on all, each time from nothing, and prints for each run the pages and megabytes a second, the
-processor time of all its processes, and the peak memory of the largest. On a machine that does other work too,
-the ratio of the rates tells less than the processor time: with twice that, no number of processors helps.
+It makes N pages (10,000) from those of examples/ and from the sections that `wtround gen` makes, one to
+forty of them, or takes N copies of the pages of FOLDER in turn. Then it runs `tools/batch` over them in
+turn on one processor and on all, each time from nothing, and prints for each run the pages and megabytes
+a second, the processor time of all its processes, and the peak memory of the largest. On a machine that
+does other work too, the rates depend on that work; the processor time of a run does so much less.
 """
 import argparse
 import os
@@ -26,7 +26,8 @@ TOOL = TOP / "tools" / "batch"
 def sections(count: int) -> str:
     """The page that `wtround gen` makes."""
     return "".join(
-        f"== Section {k} ==\n\nWord ''{k}'' and [[Page {k}]].\n\n* item {k}\n\n{{{{T}}}}\n\n" for k in range(1, count + 1)
+        f"== Section {k} ==\n\nWord ''{k}'' and [[Page {k}]].\n\n* item {k}\n\n{{{{T}}}}\n\n"
+        for k in range(1, count + 1)
     )
 
 
@@ -55,15 +56,32 @@ def run(root: Path, processors: "set[int]", commands: str) -> "tuple[float, floa
         (root / name).unlink(missing_ok=True)
     before = resource.getrusage(resource.RUSAGE_CHILDREN)
     started = time.monotonic()
-    command = [sys.executable, str(TOOL), commands, "--quiet", "--state", "state", "-j", str(len(processors))]
-    subprocess.run(command, cwd=root, check=True, stderr=subprocess.DEVNULL, preexec_fn=lambda: os.sched_setaffinity(0, processors))
+    command = [
+        sys.executable,
+        str(TOOL),
+        commands,
+        "--quiet",
+        "--state",
+        "state",
+        "-j",
+        str(len(processors)),
+    ]
+    subprocess.run(
+        command,
+        cwd=root,
+        check=True,
+        stderr=subprocess.DEVNULL,
+        preexec_fn=lambda: os.sched_setaffinity(0, processors),
+    )
     after = resource.getrusage(resource.RUSAGE_CHILDREN)
     used = after.ru_utime + after.ru_stime - before.ru_utime - before.ru_stime
     return time.monotonic() - started, used, after.ru_maxrss / 1000
 
 
 def main() -> None:
-    parser = argparse.ArgumentParser(description=__doc__, formatter_class=argparse.RawDescriptionHelpFormatter)
+    parser = argparse.ArgumentParser(
+        description=__doc__, formatter_class=argparse.RawDescriptionHelpFormatter
+    )
     parser.add_argument("--pages", type=int, default=10_000)
     parser.add_argument("--rounds", type=int, default=3)
     parser.add_argument("--from", dest="folder", type=Path)
@@ -74,7 +92,9 @@ def main() -> None:
     with tempfile.TemporaryDirectory() as folder:
         root = Path(folder)
         size = make_pages(root / "pages", arguments.pages, taken)
-        print(f"{arguments.pages:,} pages, {size:,} bytes, {arguments.commands}, load {os.getloadavg()[0]:.1f}")
+        print(
+            f"{arguments.pages:,} pages, {size:,} bytes, {arguments.commands}, load {os.getloadavg()[0]:.1f}"
+        )
         for _ in range(arguments.rounds):
             rates = {}
             for processors in ({min(everything)}, everything):
@@ -82,7 +102,8 @@ def main() -> None:
                 rate = rates[len(processors)] = arguments.pages / seconds
                 print(
                     f"{len(processors)} processors: {rate:,.0f} pages/s, {size / seconds / 1e6:.2f} MB/s, "
-                    f"{seconds:.1f} s, {used:.1f} s of processor time ({used / seconds:.2f} at once), peak {peak:.0f} MB"
+                    f"{seconds:.1f} s, {used:.1f} s of processor time ({used / seconds:.2f} at once), "
+                    f"peak {peak:.0f} MB"
                 )
             print(f"ratio of the rates {rates[len(everything)] / rates[1]:.2f}", flush=True)
 

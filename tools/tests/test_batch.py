@@ -140,14 +140,20 @@ class TwoThousandPages(BatchCase):
         self.assertEqual(report["failed_pages"], refused)
         reasons = {"page not UTF-8": 42, "a template is not UTF-8": 18, "braces too deep": 14}
         self.assertEqual(report["reasons"], reasons)
-        wanted = [(f"Latin {k}", "page not UTF-8 at 1") for k in range(20)] + [("Template:Bad", "page not UTF-8 at 6")]
+        wanted = [(f"Latin {k}", "page not UTF-8 at 1") for k in range(20)] + [
+            ("Template:Bad", "page not UTF-8 at 6")
+        ]
         wanted += [(f"Uses {k}", "Template:Bad not UTF-8 at 6") for k in range(9)]
         wanted += [(f"Deep {k}", "braces too deep at 400") for k in range(7)]
-        both = sorted((title, command, line) for title, line in wanted for command in ("wikitext", "ranges"))
+        both = sorted(
+            (title, command, line) for title, line in wanted for command in ("wikitext", "ranges")
+        )
         self.assertEqual(self.failures(report), both)
         uses = next(f for f in report["failures"] if f["title"] == "Uses 3")
         explained = uses["explain"]
-        self.assertEqual((explained["page"], explained["line"], explained["column"]), ("Template:Bad", 1, 7))
+        self.assertEqual(
+            (explained["page"], explained["line"], explained["column"]), ("Template:Bad", 1, 7)
+        )
         self.assertIn("the template stops being UTF-8", explained["advice"])
         self.assertEqual(uses["link"], "pages/Uses_3.wiki")
         self.assertEqual(report["bytes"], sum(path.stat().st_size for path in self.pages.iterdir()))
@@ -156,7 +162,9 @@ class TwoThousandPages(BatchCase):
         self.make()
         report = self.report("wikitext")
         text = (self.root / "report.html").read_text()
-        self.assertNotRegex(text, r"<script|<link|<img|<iframe|@import|url\(|https?://(?!www\.w3\.org/2000/svg)")
+        self.assertNotRegex(
+            text, r"<script|<link|<img|<iframe|@import|url\(|https?://(?!www\.w3\.org/2000/svg)"
+        )
         for failure in report["failures"]:
             self.assertIn(f'<a href="{failure["link"]}">{failure["title"]}</a>', text)
         for number in ("2,000", "1,963  (98.2 %)", "37  (1.9 %)"):
@@ -246,10 +254,14 @@ class TwoThousandPages(BatchCase):
 
     def peak(self, *words: str) -> int:
         """The peak memory in KB of the process that leads a run."""
-        run = "import resource, runpy, sys\nsys.argv = sys.argv[1:]\nrunpy.run_path(sys.argv[0])['main']()\n"
+        run = (
+            "import resource, runpy, sys\nsys.argv = sys.argv[1:]\nrunpy.run_path(sys.argv[0])['main']()\n"
+        )
         run += "print(resource.getrusage(resource.RUSAGE_SELF).ru_maxrss)"
         command = [sys.executable, "-c", run, *self.command(*words)[1:]]
-        done = subprocess.run(command, cwd=self.root, stdout=subprocess.PIPE, stderr=subprocess.DEVNULL, check=True)
+        done = subprocess.run(
+            command, cwd=self.root, stdout=subprocess.PIPE, stderr=subprocess.DEVNULL, check=True
+        )
         return int(done.stdout)
 
 
@@ -280,7 +292,14 @@ class Templates(BatchCase):
         "Made name": ["Template:Name", "Template:T"],
         "Key": ["Template:Show", "Template:Key"],
         "Hidden": ["Template:Hide", "Template:T"],
-        "Made twice": ["Template:Chain", "Template:Name", "Template:T", "Article", "Template:Never", "User:Box"],
+        "Made twice": [
+            "Template:Chain",
+            "Template:Name",
+            "Template:T",
+            "Article",
+            "Template:Never",
+            "User:Box",
+        ],
         "Self": ["Template:Self", "Template:Includes", "Template:Show", "Template:No such"],
         "In a comment": ["Template:Show", "Template:T"],
         "None": [],
@@ -296,7 +315,9 @@ class Templates(BatchCase):
         words = [[command, title] for title in pages for command in ("html", "ranges", "expand")]
         for (command, title), (status, out, _) in zip(words, answers_with_all(pages, words)):
             with self.subTest(command=command, title=title):
-                self.assertEqual((status, lines[title][command]["output"]), ("0", bytes.fromhex(out).decode()))
+                self.assertEqual(
+                    (status, lines[title][command]["output"]), ("0", bytes.fromhex(out).decode())
+                )
         for title, names in self.TAKEN.items():
             with self.subTest(title=title):
                 self.assertEqual(sorted(lines[title]["templates"]), sorted(names))
@@ -311,7 +332,10 @@ class Templates(BatchCase):
         self.assertEqual(done, {"None"})
         self.assertEqual(self.changed("Template:Key", "2"), {"Template:Key", "Key"})
         self.assertEqual(self.changed("Template:No such", "now it is"), {"Template:No such", "Self"})
-        self.assertEqual(self.changed("Template:Name", "Hide"), {"Template:Name", "Template:Chain", "Made name", "Made twice"})
+        self.assertEqual(
+            self.changed("Template:Name", "Hide"),
+            {"Template:Name", "Template:Chain", "Made name", "Made twice"},
+        )
         # The same bytes with another time are no change.
         os.utime(self.pages / "None.wiki", (1, 1))
         self.assertEqual(self.report("html", "--json", "lines")["kept"], count + 1)
@@ -353,12 +377,16 @@ class Outputs(BatchCase):
         # A page that is refused from now on has no output any more.
         self.write("A/B", b"\xff")
         self.run_tool("html,wikitext,expand", "-o", "out")
-        self.assertEqual({path.name for path in (self.root / "out").iterdir()}, {n for n in names if n[0] == "T"})
+        self.assertEqual(
+            {path.name for path in (self.root / "out").iterdir()}, {n for n in names if n[0] == "T"}
+        )
 
     def test_compressed_files(self) -> None:
         self.make()
         self.run_tool("wikitext", "-o", "out", "--compress")
-        self.assertEqual(gzip.decompress((self.root / "out/A%2FB.wiki.gz").read_bytes()).decode(), "a ''b'' é")
+        self.assertEqual(
+            gzip.decompress((self.root / "out/A%2FB.wiki.gz").read_bytes()).decode(), "a ''b'' é"
+        )
 
     def test_compressed_lines_and_a_cut_file(self) -> None:
         for k in range(100):
@@ -366,7 +394,9 @@ class Outputs(BatchCase):
         self.run_tool("wikitext", "--json", "lines.gz", "-z")
         path = self.root / "lines.gz"
         lines = [json.loads(line) for line in gzip.decompress(path.read_bytes()).splitlines()]
-        self.assertEqual(sorted(line["wikitext"]["output"] for line in lines), sorted(f"page {k}" for k in range(100)))
+        self.assertEqual(
+            sorted(line["wikitext"]["output"] for line in lines), sorted(f"page {k}" for k in range(100))
+        )
         # What was written behind the last stored result is cut off; where some is missing all is made anew.
         path.write_bytes(path.read_bytes() + b"rest of a line")
         self.assertEqual(self.report("wikitext", "--json", "lines.gz", "-z")["kept"], 100)
@@ -384,11 +414,17 @@ class Outputs(BatchCase):
     def test_list_and_namespaces(self) -> None:
         self.make()
         self.write("Talk:X", "x")
-        (self.root / "list").write_text("a/b\n\nNowhere\nA[b\nTemplate:t\n")
+        (self.root / "list").write_text("a/B\n\nNowhere\nA[b\nTemplate:t\n")
         report = self.report("html", "--list", "list")
         self.assertEqual(report["outcomes"]["html"], {"answered": 2, "absent": 1})
         self.assertEqual(report["skipped"], [{"title": "A[b", "why": "the title has the character ["}])
-        for words, count in ((["main"], 2), (["0"], 2), (["Template", "1"], 2), (["talk"], 1), (["Help"], 0)):
+        for words, count in (
+            (["main"], 2),
+            (["0"], 2),
+            (["Template", "1"], 2),
+            (["talk"], 1),
+            (["Help"], 0),
+        ):
             with self.subTest(words=words):
                 chosen = [part for word in words for part in ("--namespace", word)]
                 self.assertEqual(self.report("html", *chosen)["pages"], count)
@@ -399,7 +435,9 @@ class Outputs(BatchCase):
             (self.pages / name).write_text("x")
         report = self.report("html")
         self.assertEqual(report["pages"], 3)
-        self.assertEqual(sorted(entry["title"] for entry in report["skipped"]), ["%zz.wiki", "A%2fB.wiki", "small.wiki"])
+        self.assertEqual(
+            sorted(entry["title"] for entry in report["skipped"]), ["%zz.wiki", "A%2fB.wiki", "small.wiki"]
+        )
 
     @unittest.skipIf(os.geteuid() == 0, "root may read everything")
     def test_a_file_that_cannot_be_read(self) -> None:
@@ -410,7 +448,9 @@ class Outputs(BatchCase):
     def test_a_directory_among_the_pages(self) -> None:
         self.make()
         (self.pages / "Folder.wiki").mkdir()
-        self.assertEqual(self.report("html")["outcomes"]["html"], {"answered": 2, "refused": 1, "unreadable": 1})
+        self.assertEqual(
+            self.report("html")["outcomes"]["html"], {"answered": 2, "refused": 1, "unreadable": 1}
+        )
 
     def test_the_longest_page(self) -> None:
         self.write("Most", "a" * PAGE_LIMIT)
@@ -421,8 +461,9 @@ class Outputs(BatchCase):
 
 
 class Exports(BatchCase):
-    def page(self, title: str, text: str, number: int = 7, rest: str = "") -> str:
-        return f"<page><title>{title}</title><revision><id>{number}</id><text>{escape(text)}</text></revision>{rest}</page>\n"
+    def page(self, title: str, text: str, number: int = 7) -> str:
+        text = f"<id>{number}</id><text>{escape(text)}</text>"
+        return f"<page><title>{title}</title><revision>{text}</revision></page>\n"
 
     def export(self, *pages: str, name: str = "export.xml") -> str:
         head = "<mediawiki>\n<siteinfo><base>https://wiki.example/wiki/Main_Page</base></siteinfo>\n"
@@ -430,7 +471,9 @@ class Exports(BatchCase):
         return name
 
     def test_straight_over_an_export(self) -> None:
-        name = self.export(self.page("Main Page", "a {{t}}", 12), self.page("Template:T", "t"), self.page("A[b", "x"))
+        name = self.export(
+            self.page("Main Page", "a {{t}}", 12), self.page("Template:T", "t"), self.page("A[b", "x")
+        )
         report = self.report("wikitext", name, "--json", "lines")
         self.assertEqual(report["outcomes"]["wikitext"], {"came back": 2})
         self.assertEqual(report["skipped"], [{"title": "A[b", "why": "the title has the character ["}])
@@ -442,7 +485,9 @@ class Exports(BatchCase):
     def test_a_later_export(self) -> None:
         one, two = self.page("One", "1 {{t}}"), self.page("Two", "2")
         self.report("html", self.export(one, two, self.page("Template:T", "t")))
-        report = self.report("html", self.export(one, self.page("Two", "changed", 8), self.page("Three", "3")))
+        report = self.report(
+            "html", self.export(one, self.page("Two", "changed", 8), self.page("Three", "3"))
+        )
         self.assertEqual((report["pages"], report["kept"]), (3, 0))  # the template is gone
         report = self.report("html", self.export(self.page("Three", "3", 9), one))
         self.assertEqual((report["pages"], report["kept"]), (2, 2))
@@ -478,7 +523,11 @@ class Exports(BatchCase):
 
     def test_titles_that_no_file_can_have(self) -> None:
         title = "ж" * 120  # 720 bytes as a file name
-        name = self.export(self.page(title, "x"), self.page("Template:" + title, "y"), self.page("Calls", f"{{{{{title}}}}}"))
+        name = self.export(
+            self.page(title, "x"),
+            self.page("Template:" + title, "y"),
+            self.page("Calls", f"{{{{{title}}}}}"),
+        )
         self.run_tool("expand", name, "-o", "out")
         files = sorted((self.root / "out").iterdir())
         self.assertEqual(len(files), 3)
@@ -508,7 +557,9 @@ class Limits(BatchCase):
         self.write("Dies", "{{t}}")
         self.write("Good", "{{t}}")
         report = self.report("html,ranges")
-        self.assertEqual([line[:2] for line in self.failures(report)], [("Dies", "html"), ("Dies", "ranges")])
+        self.assertEqual(
+            [line[:2] for line in self.failures(report)], [("Dies", "html"), ("Dies", "ranges")]
+        )
         self.assertEqual(self.report("html,ranges")["kept"], 2)
         self.write("Template:T", "now there")
         self.assertEqual(self.report("html,ranges")["kept"], 0)
@@ -520,9 +571,16 @@ class Limits(BatchCase):
             self.write(f"P{k}", "text")
         report = self.report("html", "--memory-limit", "60")
         self.assertEqual(report["outcomes"]["html"], {"answered": 50, "no memory": 1})
-        words = " ".join(f"'{word}'" for word in self.command("html", "--again", "--report", "limited.html"))
+        words = " ".join(
+            f"'{word}'" for word in self.command("html", "--again", "--report", "limited.html")
+        )
         limit = 600_000  # KB, enough for Python
-        subprocess.run(["bash", "-c", f"ulimit -v {limit}; exec {words}"], cwd=self.root, stderr=subprocess.DEVNULL, check=True)
+        subprocess.run(
+            ["bash", "-c", f"ulimit -v {limit}; exec {words}"],
+            cwd=self.root,
+            stderr=subprocess.DEVNULL,
+            check=True,
+        )
         limited = json.loads((self.root / "limited.json").read_text())
         self.assertEqual(limited["outcomes"]["html"]["answered"], 50)
         self.assertEqual([failure["title"] for failure in limited["failures"]], ["Letters"])
@@ -558,18 +616,25 @@ class Lint(BatchCase):
         self.write("Good", "'''a'''")
         report = self.report("lint", "--json", "lines")
         findings = report["findings"]
-        self.assertEqual({k: (v["places"], v["pages"]) for k, v in findings.items()}, {"OpenStyle": (3, 2), "UnequalHeading": (1, 1)})
+        self.assertEqual(
+            {k: (v["places"], v["pages"]) for k, v in findings.items()},
+            {"OpenStyle": (3, 2), "UnequalHeading": (1, 1)},
+        )
         example = {"title": "Two", "places": 2, "first": [1, 1, 0, 4], "link": "pages/Two.wiki"}
         self.assertEqual(findings["OpenStyle"]["examples"][0], example)
         text = (self.root / "report.html").read_text()
         self.assertIn("bold or italic text that nothing closes: 3", text)
         self.assertIn("3 on 2 pages", text)
         line = next(line for line in self.lines() if line["title"] == "One")
-        self.assertEqual(line["lint"]["findings"]["first"], [["OpenStyle", 1, 1, 0, 4], ["UnequalHeading", 2, 1, 5, 11]])
+        self.assertEqual(
+            line["lint"]["findings"]["first"], [["OpenStyle", 1, 1, 0, 4], ["UnequalHeading", 2, 1, 5, 11]]
+        )
 
     def test_a_program_that_lacks_a_command(self) -> None:
         lacking = self.root / "lacking"
-        lacking.write_text("#!/bin/sh\nwhile read -r line; do printf '1\\t\\t7774726f756e643a2075736167653a200a\\n'; done\n")
+        lacking.write_text(
+            "#!/bin/sh\nwhile read -r line; do printf '1\\t\\t7774726f756e643a2075736167653a200a\\n'; done\n"
+        )
         lacking.chmod(0o755)
         self.program = lacking
         _, told = self.run_tool("lint", status=2)
@@ -585,20 +650,33 @@ class OtherBytes(BatchCase):
         self.write("Good", "abc")
         self.write("Bad", "gh")
         report = self.report("wikitext", status=3)
-        self.assertEqual(self.failures(report), [("Bad", "wikitext", "the page that came back differs from byte 1 on")])
+        self.assertEqual(
+            self.failures(report), [("Bad", "wikitext", "the page that came back differs from byte 1 on")]
+        )
 
 
 class Words(BatchCase):
     def test_wrong_arguments(self) -> None:
-        for words in ([], ["nothing"], ["html,"], ["html", "-z"], ["html", "-o", "a", "--json", "b"], ["html", "-j", "0"]):
+        for words in (
+            [],
+            ["nothing"],
+            ["html,"],
+            ["html", "-z"],
+            ["html", "-o", "a", "--json", "b"],
+            ["html", "-j", "0"],
+        ):
             with self.subTest(words=words):
                 command = [sys.executable, str(TOOLS / "batch"), *words]
-                done = subprocess.run(command, cwd=self.root, stdout=subprocess.PIPE, stderr=subprocess.PIPE)
+                done = subprocess.run(
+                    command, cwd=self.root, stdout=subprocess.PIPE, stderr=subprocess.PIPE
+                )
                 self.assertEqual(done.returncode, 2)
         self.run_tool("wikitext", "-o", "pages", status=2)
         self.assertIn("is no program", self.run_tool("html", "--program", "absent", status=2)[1])
         self.assertIn("No such file", self.run_tool("html", "--pages", "absent", status=1)[1])
-        (self.root / "other.sqlite").write_text("this is no database, but long enough for one to be looked for in it")
+        (self.root / "other.sqlite").write_text(
+            "this is no database, but long enough for one to be looked for in it"
+        )
         self.assertIn("not a database", self.run_tool("html", "--state", "other.sqlite", status=1)[1])
 
     def test_an_empty_folder(self) -> None:
@@ -631,10 +709,16 @@ class SeveralMachines(BatchCase):
         self.assertEqual(sorted(line[:1] for line in done.stdout.splitlines()), [b"0"] * 4 + [b"2"] * 2)
         # The lines may be divided, and come in any order.
         lines = cases.splitlines(keepends=True)
-        parts = [self.run_tool("answers", "--no-output", stdin=b"".join(part))[0] for part in (lines[3:], lines[:3])]
+        parts = [
+            self.run_tool("answers", "--no-output", stdin=b"".join(part))[0]
+            for part in (lines[3:], lines[:3])
+        ]
         (self.root / "one").write_bytes(parts[0])
         (self.root / "two").write_bytes(parts[1])
-        self.assertIn("3 pages: 2 answered, 2 came back, 2 refused", self.run_tool("gather", "one", "two", "-r", "g.html")[1])
+        self.assertIn(
+            "3 pages: 2 answered, 2 came back, 2 refused",
+            self.run_tool("gather", "one", "two", "-r", "g.html")[1],
+        )
         report = json.loads((self.root / "g.json").read_text())
         self.assertEqual(report["outcomes"]["wikitext"], {"came back": 2, "refused": 1})
         self.assertEqual(report["failures"][0]["explain"]["line"], 1)
@@ -647,7 +731,9 @@ class SeveralMachines(BatchCase):
         self.assertIn("line 1 is no case", told)
         self.assertIn("line 2 is no case", told)
         (self.root / "bad").write_text("{}\n")
-        self.assertIn("bad: line 1 is no answer", self.run_tool("gather", "bad", "-r", "g.html", status=1)[1])
+        self.assertIn(
+            "bad: line 1 is no answer", self.run_tool("gather", "bad", "-r", "g.html", status=1)[1]
+        )
 
 
 if __name__ == "__main__":

@@ -58,7 +58,9 @@ def words_of_commands(text: str) -> "list[str]":
     unknown = [word for word in words if word not in COMMANDS]
     if unknown:
         known = ", ".join(COMMANDS)
-        raise argparse.ArgumentTypeError(f"{importer.printable(unknown[0]) or '(nothing)'} is none of {known}")
+        raise argparse.ArgumentTypeError(
+            f"{importer.printable(unknown[0]) or '(nothing)'} is none of {known}"
+        )
     return [command for command in COMMANDS if command in words]
 
 
@@ -76,8 +78,19 @@ def positive(kind: "Callable[[str], float]") -> "Callable[[str], float]":
 def add_common_options(parser: argparse.ArgumentParser) -> None:
     add = parser.add_argument
     add("--program", metavar="FILE", help="the wtround_cases to use (default: the one beside this tool)")
-    add("--time-limit", type=positive(float), default=60.0, metavar="SECONDS", help="of a page (default: %(default)g)")
-    add("--memory-limit", type=positive(int), metavar="MB", help="of each process of wtround_cases (default: none)")
+    add(
+        "--time-limit",
+        type=positive(float),
+        default=60.0,
+        metavar="SECONDS",
+        help="of a page (default: %(default)g)",
+    )
+    add(
+        "--memory-limit",
+        type=positive(int),
+        metavar="MB",
+        help="of each process of wtround_cases (default: none)",
+    )
 
 
 def add_wiki_options(parser: argparse.ArgumentParser) -> None:
@@ -86,7 +99,14 @@ def add_wiki_options(parser: argparse.ArgumentParser) -> None:
     add("export", nargs="?", metavar="EXPORT", help="an XML export (default: the folder of --pages)")
     add("--pages", default="pages", metavar="DIR", help="the folder of pages (default: %(default)s)")
     add("--list", metavar="FILE", help="try the pages of this list alone, a title on each line")
-    add("--namespace", action="append", default=[], metavar="NAME", help="try the pages of this namespace alone (a name or a number; main or 0 is the one without a name); may be repeated")
+    add(
+        "--namespace",
+        action="append",
+        default=[],
+        metavar="NAME",
+        help="try the pages of this namespace alone, by name or number (main or 0 is the one without a name); "
+        "may be repeated",
+    )
     add("--state", default=STATE, metavar="FILE", help="the file of results (default: %(default)s)")
     add("--quiet", action="store_true", help="tell no progress")
 
@@ -100,11 +120,22 @@ def parser() -> argparse.ArgumentParser:
     )
     add_wiki_options(parser)
     add = parser.add_argument
-    add("-r", "--report", metavar="FILE", help="write a report: FILE as HTML, and beside it one that ends in .json")
+    add(
+        "-r",
+        "--report",
+        metavar="FILE",
+        help="write a report: FILE as HTML, and beside it one that ends in .json",
+    )
     add("-o", "--output", metavar="DIR", help="write each answer into a file of this folder")
     add("--json", metavar="FILE", help="write a line of JSON for each page into this file")
     add("-z", "--compress", action="store_true", help="pack the output with gzip")
-    add("-j", "--jobs", type=positive(int), metavar="N", help="processes at once (default: one for each processor)")
+    add(
+        "-j",
+        "--jobs",
+        type=positive(int),
+        metavar="N",
+        help="processes at once (default: one for each processor)",
+    )
     add("--again", action="store_true", help="try all pages anew")
     add_common_options(parser)
     return parser
@@ -132,7 +163,9 @@ def memory_of(arguments: argparse.Namespace) -> "int | None":
 
 
 def orders_of(arguments: argparse.Namespace, program: str, store: "Store | None") -> Orders:
-    output = "files" if arguments.output is not None else "lines" if arguments.json is not None else "nothing"
+    output = (
+        "files" if arguments.output is not None else "lines" if arguments.json is not None else "nothing"
+    )
     export = arguments.export
     return Orders(
         program=program,
@@ -153,7 +186,9 @@ def read_source(arguments: argparse.Namespace, store: Store, progress: Progress)
         os.scandir(arguments.pages).close()
         return Folder(arguments.pages)
     size = os.path.getsize(arguments.export)
-    store.read_export(arguments.export, lambda read, pages: progress.show_reading(read / size if size else None, pages))
+    store.read_export(
+        arguments.export, lambda read, pages: progress.show_reading(read / size if size else None, pages)
+    )
     progress.clear()
     return Export(store.path, arguments.export)
 
@@ -183,7 +218,10 @@ def told_of(report: Report) -> str:
 
 def write_report(report: Report) -> None:
     """Writes both files of a report, each whole or not at all."""
-    writers: "list[tuple[str, Callable[[Report, TextIO], None]]]" = [(report.path, write_html), (report.json_path, write_json)]
+    writers: "list[tuple[str, Callable[[Report, TextIO], None]]]" = [
+        (report.path, write_html),
+        (report.json_path, write_json),
+    ]
     for path, write in writers:
         temporary = f"{path}.part-{os.getpid()}"
         with open(temporary, "w", encoding="utf-8", errors="backslashreplace") as file:
@@ -209,14 +247,26 @@ def run_all(arguments: argparse.Namespace, program: str, store: Store, progress:
         pass
     progress.clear()
     if arguments.report is not None:
-        about = About(source.describe(), arguments.commands, digest, jobs, run.counts.seconds, run.counts.kept, is_finished, is_whole)
+        about = About(
+            source.describe(),
+            arguments.commands,
+            digest,
+            jobs,
+            run.counts.seconds,
+            run.counts.kept,
+            is_finished,
+            is_whole,
+        )
         write_report(Report(store, source, run.number, about, arguments.report))
     print(told(run.counts, run.total), file=sys.stderr)
     if not is_finished:
         print(f"{PROGRAM}: stopped; the same words go on from here", file=sys.stderr)
         return 130
     if not is_whole:
-        print(f"{PROGRAM}: {arguments.export}: the export is broken; the pages that could be read were tried", file=sys.stderr)
+        print(
+            f"{PROGRAM}: {arguments.export}: the export is broken; the pages that could be read were tried",
+            file=sys.stderr,
+        )
         return 1
     return 3 if run.counts.outcomes[DIFFERS] else 0
 
@@ -228,7 +278,9 @@ def refuse_arguments(parser: argparse.ArgumentParser, arguments: argparse.Namesp
         parser.error("--compress needs --output or --json")
     if arguments.report is not None and os.path.splitext(arguments.report)[1] == ".json":
         parser.error("--report: FILE is the HTML; the JSON lies beside it")
-    if arguments.output is not None and os.path.realpath(arguments.output) == os.path.realpath(arguments.pages):
+    if arguments.output is not None and os.path.realpath(arguments.output) == os.path.realpath(
+        arguments.pages
+    ):
         parser.error("--output: the answers of `wikitext` would replace the pages")
 
 

@@ -7,7 +7,7 @@ import subprocess
 import sys
 from collections import deque
 from dataclasses import asdict, dataclass
-from typing import Iterator
+from typing import Generator, Iterator
 
 from .program import end_with_parent
 from .results import DIED, Examined, Known, Result
@@ -26,7 +26,7 @@ class Task:
     title: str
     stamp: str
     revision: str
-    bytes: int
+    size: int  # bytes
     known: "Known | None"
     held: "tuple[bytes, bytes] | None"
 
@@ -60,7 +60,8 @@ class Worker:
         )
         self.batches: "deque[list[Task]]" = deque()
         assert self.process.stdin is not None and self.process.stdout is not None
-        self._frames = FrameReader(self.process.stdout.fileno())
+        self.output = self.process.stdout.fileno()
+        self._frames = FrameReader(self.output)
         write_frame(self.process.stdin, asdict(orders))
 
     def send(self, batch: "list[Task]") -> None:
@@ -78,7 +79,10 @@ class Worker:
             return None
         for _ in frames:
             self.batches.popleft()
-        return [Done([examined_from_json(page) for page in header["pages"]], output) for header, output in frames]
+        return [
+            Done([examined_from_json(page) for page in header["pages"]], output)
+            for header, output in frames
+        ]
 
     def close(self) -> None:
         """Lets the worker end, which ends its program; one that doesn't is ended."""
@@ -99,11 +103,11 @@ def batches_of(tasks: "Iterator[Task]", most: int) -> "Iterator[list[Task]]":
     batch: "list[Task]" = []
     size = 0
     for task in tasks:
-        if batch and (len(batch) >= most or size + task.bytes > BATCH_BYTES):
+        if batch and (len(batch) >= most or size + task.size > BATCH_BYTES):
             yield batch
             batch, size = [], 0
         batch.append(task)
-        size += task.bytes
+        size += task.size
     if batch:
         yield batch
 
@@ -119,7 +123,7 @@ class Engine:
         self._workers: "list[Worker]" = []
         self._again: "deque[list[Task]]" = deque()  # pages whose worker ended, each by itself
 
-    def run(self, tasks: "Iterator[Task]") -> "Iterator[Done]":
+    def run(self, tasks: "Iterator[Task]") -> "Generator[Done, None, None]":
         batches = batches_of(tasks, self._most)
         try:
             while True:
@@ -139,8 +143,8 @@ class Engine:
                 is_new = number >= len(self._workers)
                 if not is_new and len(self._workers[number].batches) > waiting:
                     continue
-                batch = self._again.popleft() if self._again else next(batches, None)
-                if batch is None:
+                batch = self._again.popleft() if self._again else next(batches, [])
+                if not batch:
                     return
                 if is_new:
                     self._start_worker()
@@ -149,13 +153,13 @@ class Engine:
     def _start_worker(self) -> None:
         worker = Worker(self._orders)
         self._workers.append(worker)
-        self._selector.register(worker.process.stdout, selectors.EVENT_READ, worker)
+        self._selector.register(worker.output, selectors.EVENT_READ, worker)
 
     def _received(self, worker: Worker) -> "list[Done]":
         done = worker.receive()
         if done is not None:
             return done
-        self._selector.unregister(worker.process.stdout)
+        self._selector.unregister(worker.output)
         self._workers.remove(worker)
         worker.close()
         # Each page is tried by itself, so that the one at fault is found.
@@ -166,4 +170,9 @@ class Engine:
         task = at_fault[0]
         failure = Result(DIED, f"the worker ended with status {worker.process.returncode}")
         nothing = Known("", b"", [], b"")
-        return [Done([Examined(task.title, task.bytes, nothing, {c: failure for c in self._orders.commands})], b"")]
+        return [
+            Done(
+                [Examined(task.title, task.size, nothing, {c: failure for c in self._orders.commands})],
+                b"",
+            )
+        ]

@@ -9,22 +9,25 @@ from typing import Callable, Iterable, Protocol
 
 from .program import Answer, Cases, Died, TooSlow, case
 from .siblings import explainer, importer
+
 from .results import (
-    ABSENT, ANSWERED, COMMANDS, DIED, DIFFERS, NO_MEMORY, REFUSED, SAME, SLOW, UNREADABLE, Examined, Known, Result,
+    ABSENT, ANSWERED, COMMANDS, DIED, DIFFERS, NO_MEMORY, REFUSED, SAME, SLOW, UNREADABLE, Examined, Known,
+    Result,
 )  # fmt: skip
 from .store import digest_of, taken_digest, unsure
 from .wiki import full_name
 
 MEMORY_OF_TEXTS = 32 << 20  # bytes of templates that a worker remembers
 MOST_FINDINGS = 100  # of a page that are kept with their places
-# A call whose name is written out. Names that are made by other calls are found when the program asks for them.
+# A call whose name is written out. Names that other calls make are found when the program asks for them.
 CALL = re.compile(rb"\{\{\s*([^{}|<>\[\]#]+?)\s*(?:\||\}\})")
 
 
 class Texts(Protocol):
     """Where the texts of a wiki's pages come from."""
 
-    def text(self, title: str) -> "bytes | None": ...
+    def text(self, title: str) -> "bytes | None":
+        ...
 
 
 class Templates:
@@ -146,7 +149,9 @@ class Examiner:
         held: "tuple[bytes, bytes] | None",
     ) -> Examined:
         digest = digest_of(text)
-        failure, names, is_sure = None, [], False
+        failure: "Result | None" = None
+        names: "list[str]" = []
+        is_sure = False
         if known is not None and known.digest == digest:
             names, current = known.names, self._digest_of_taken(known.names)
             if known.taken_digest in (current, unsure(current)) and held == (digest, known.taken_digest):
@@ -164,9 +169,15 @@ class Examiner:
     def _digest_of_taken(self, names: "list[str]") -> bytes:
         return taken_digest((name, self._templates.digest(name)) for name in names)
 
-    def find_pages(self, title: str, text: bytes, known: "Known | None") -> "tuple[list[str], dict[str, bytes]]":
+    def find_pages(
+        self, title: str, text: bytes, known: "Known | None"
+    ) -> "tuple[list[str], dict[str, bytes]]":
         """The names of the templates that the page takes, and the page with those that are there."""
-        if known is not None and known.digest == digest_of(text) and self._digest_of_taken(known.names) == known.taken_digest:
+        if (
+            known is not None
+            and known.digest == digest_of(text)
+            and self._digest_of_taken(known.names) == known.taken_digest
+        ):
             names = known.names
         else:
             _, names = self.find_templates(title, text, [])
@@ -174,7 +185,9 @@ class Examiner:
 
     def pages_of(self, title: str, text: bytes, names: "list[str]") -> "dict[str, bytes]":
         """The page and the templates of these names that are there."""
-        pages = {name: text for name, text in ((n, self._templates.text(n)) for n in names) if text is not None}
+        pages = {
+            name: text for name, text in ((n, self._templates.text(n)) for n in names) if text is not None
+        }
         pages[title] = text
         return pages
 
@@ -184,8 +197,10 @@ class Examiner:
     def _start_clock(self) -> None:
         self._deadline = time.monotonic() + self._time_limit
 
-    def find_templates(self, title: str, text: bytes, guess: "list[str]") -> "tuple[Result | None, list[str]]":
-        """The names of the pages that this one takes, by asking `expand`; or why they can't be known, and a guess.
+    def find_templates(
+        self, title: str, text: bytes, guess: "list[str]"
+    ) -> "tuple[Result | None, list[str]]":
+        """The names of the pages that this one takes, by asking `expand`; or a failure, with a guess.
 
         What the page seems to call is sent along. Where the program asks for more that is there, it is sent
         too, until nothing is missing: then it has had all that it has in the wiki.
@@ -198,8 +213,8 @@ class Examiner:
         while True:
             try:
                 answer = self._ask(case(["expand", title], b"", pages, wants_names=True))
-            except (Died, TooSlow) as failure:
-                return self._failed(failure), guessed_names(title, pages)
+            except (Died, TooSlow) as ending:
+                return self._failed(ending), guessed_names(title, pages)
             if answer.line == "no memory":
                 failure = self._explained(Result(NO_MEMORY, answer.line), title, text)
                 return failure, guessed_names(title, pages)
@@ -209,7 +224,9 @@ class Examiner:
             pages.update(self._templates.reached(missing))
             pages[title] = text
 
-    def run(self, title: str, text: bytes, pages: "dict[str, bytes]", commands: "list[str]") -> "dict[str, Result]":
+    def run(
+        self, title: str, text: bytes, pages: "dict[str, bytes]", commands: "list[str]"
+    ) -> "dict[str, Result]":
         """What comes of the commands, with these pages and no others."""
         results: "dict[str, Result]" = {}
         html: "Answer | None" = None  # one answer of `html` serves two commands
@@ -223,14 +240,14 @@ class Examiner:
                     answer = self._ask(case([command, title], b"", pages))
                     html = answer if command == "html" else html
                     results[command] = self._result(command, answer, title, text)
-            except (Died, TooSlow) as failure:
-                results[command] = self._failed(failure)
+            except (Died, TooSlow) as ending:
+                results[command] = self._failed(ending)
         return results
 
-    def _failed(self, failure: Exception) -> Result:
-        if isinstance(failure, TooSlow):
+    def _failed(self, ending: Exception) -> Result:
+        if isinstance(ending, TooSlow):
             return Result(SLOW, f"no answer within {self._time_limit:g} seconds", seconds=self._time_limit)
-        return Result(DIED, f"the program died: {failure}")
+        return Result(DIED, f"the program died: {ending}")
 
     def _result(self, command: str, answer: Answer, title: str, text: bytes) -> Result:
         if answer.status != 0:
@@ -274,14 +291,19 @@ def explanation(line: str, title: str, text: bytes, look: "Callable[[str], bytes
     place = refusal.locate(data, refusal.number) if refusal.locate is not None else None
     if place is not None:
         spot = explainer.spot(data, place)
-        said.update(page=page, line=spot.line, column=spot.column, shown=explainer.line_with_caret(spot.before, spot.after))
+        said.update(
+            page=page,
+            line=spot.line,
+            column=spot.column,
+            shown=explainer.line_with_caret(spot.before, spot.after),
+        )
     return json.dumps(said, ensure_ascii=False)
 
 
 def findings_of(listing: str) -> str:
     """What `lint` found, as JSON: how many of each kind, and the first of them with their places."""
     counts: "dict[str, int]" = {}
-    first = []
+    first: "list[list]" = []
     for line in listing.splitlines():
         kind, _, places = line.partition(" ")
         counts[kind] = counts.get(kind, 0) + 1

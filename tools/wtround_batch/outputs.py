@@ -9,7 +9,13 @@ from hashlib import blake2b
 from .results import COMMANDS, Examined, Known, Result
 from .siblings import importer
 
-SUFFIXES = {"html": ".html", "wikitext": ".wiki", "ranges": ".ranges", "expand": ".expanded", "lint": ".lint"}
+SUFFIXES = {
+    "html": ".html",
+    "wikitext": ".wiki",
+    "ranges": ".ranges",
+    "expand": ".expanded",
+    "lint": ".lint",
+}
 NAME_BYTES = 255  # of a file, in most file systems
 HEAD_BYTES = 200
 COMPRESSION = 6
@@ -102,7 +108,9 @@ def read_line(line: bytes) -> Examined:
             advice = json.dumps(said["explain"], ensure_ascii=False) if "explain" in said else ""
             findings = json.dumps(said["findings"]) if "findings" in said else ""
             seconds = float(said["seconds"])
-            results[command] = Result(said["outcome"], said.get("line", ""), advice, said["written"], seconds, findings)
+            results[command] = Result(
+                said["outcome"], said.get("line", ""), advice, said["written"], seconds, findings
+            )
     return Examined(value["title"], value["bytes"], Known("", b"", value["templates"], b""), results)
 
 

@@ -51,12 +51,14 @@ class Answer:
 
 
 def find_program(given: "str | None") -> str:
-    """The path of `wtround_cases`: the one given, the one beside the tools, the clone's, or one on the PATH."""
+    """The path of `wtround_cases`: that given, that beside the tools, the clone's, or that on the PATH."""
     if given is not None:
         if not os.access(given, os.X_OK) or os.path.isdir(given):
             raise ProgramError(f"{given} is no program that can be run")
         return os.path.realpath(given)
-    clone = os.path.join(siblings.PACKAGE_PARENT, os.pardir, "crates", "wtround_cases", "out", "wtround_cases")
+    clone = os.path.join(
+        siblings.PACKAGE_PARENT, os.pardir, "crates", "wtround_cases", "out", "wtround_cases"
+    )
     for path in (siblings.find("wtround_cases"), clone, shutil.which("wtround_cases")):
         if path is not None and os.access(path, os.X_OK):
             return os.path.realpath(path)
@@ -73,13 +75,23 @@ def digest_of_file(path: str) -> str:
 
 
 def case(
-    words: "Iterable[str]", input_hex: bytes = b"", pages: "Mapping[str, bytes] | None" = None, wants_names: bool = False
+    words: "Iterable[str]",
+    input_hex: bytes = b"",
+    pages: "Mapping[str, bytes] | None" = None,
+    wants_names: bool = False,
 ) -> bytes:
     """The line of a case, without its line break. The input is in hex already, the pages are not."""
     entries = (
-        binascii.hexlify(name.encode()) + b"=" + binascii.hexlify(text) for name, text in (pages or {}).items()
+        binascii.hexlify(name.encode()) + b"=" + binascii.hexlify(text)
+        for name, text in (pages or {}).items()
     )
-    line = b",".join(binascii.hexlify(word.encode()) for word in words) + b"\t" + input_hex + b"\t" + b",".join(entries)
+    line = (
+        b",".join(binascii.hexlify(word.encode()) for word in words)
+        + b"\t"
+        + input_hex
+        + b"\t"
+        + b",".join(entries)
+    )
     return line + b"\tnames" if wants_names else line
 
 
@@ -240,10 +252,16 @@ def read_answer(text: bytes, seconds: float) -> Answer:
     if text == b"no memory":
         return Answer(8, b"", "no memory", [], seconds)
     if len(fields) < 3 or not fields[0].isdigit():
-        raise Died(f"its answer is none: {siblings.importer.printable(text[:60].decode('utf-8', 'replace'))}")
+        raise Died(
+            f"its answer is none: {siblings.importer.printable(text[:60].decode('utf-8', 'replace'))}"
+        )
     line = binascii.unhexlify(fields[2]).decode("utf-8", "replace").rstrip("\n")
     line = line[len("wtround: ") :] if line.startswith("wtround: ") else line
-    names = [binascii.unhexlify(name).decode() for name in fields[3].split(b",") if name] if len(fields) > 3 else []
+    names = (
+        [binascii.unhexlify(name).decode() for name in fields[3].split(b",") if name]
+        if len(fields) > 3
+        else []
+    )
     return Answer(int(fields[0]), fields[1], line, names, seconds)
 
 
@@ -256,10 +274,14 @@ def refuse_unfit(path: str, commands: "Iterable[str]") -> None:
             line = case(words, b"", {"Main": b""}, wants_names=True)
             answer = cases.ask(line, time.monotonic() + PROBE_SECONDS)
             if answer.status == 1:
-                raise ProgramError(f"{path} does not know the command {command}: use a later wtround_cases, or leave it out")
+                raise ProgramError(
+                    f"{path} does not know the command {command}: use a later wtround_cases, or leave it out"
+                )
     except TooSlow:
         raise ProgramError(f"{path} does not answer line by line: use a later wtround_cases") from None
     except (Died, OSError) as error:
-        raise ProgramError(f"{path} is no wtround_cases that this tool can ask ({error}): use a later one") from None
+        raise ProgramError(
+            f"{path} is no wtround_cases that this tool can ask ({error}): use a later one"
+        ) from None
     finally:
         cases.close()

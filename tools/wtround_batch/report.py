@@ -39,7 +39,9 @@ class About:
 class KindOfFinding:
     places: int = 0
     pages: int = 0
-    examples: "list[tuple[int, str, list]]" = field(default_factory=list)  # places, title, the first of them
+    examples: "list[tuple[int, str, list]]" = field(
+        default_factory=list
+    )  # places, title, the first of them
 
 
 @dataclass
@@ -53,7 +55,9 @@ class Figures:
     reasons: "Counter[str]" = field(default_factory=Counter)
     times: "Counter[int]" = field(default_factory=Counter)  # answers, by `step_of_time`
     sizes: "Counter[int]" = field(default_factory=Counter)  # pages, by the power of two below their bytes
-    slowest: "list[tuple[float, str, str, int]]" = field(default_factory=list)  # seconds, title, command, bytes
+    slowest: "list[tuple[float, str, str, int]]" = field(
+        default_factory=list
+    )  # seconds, title, command, bytes
     largest: "list[tuple[int, str]]" = field(default_factory=list)
     findings: "dict[str, KindOfFinding]" = field(default_factory=dict)
     seconds: float = 0.0  # of processor time, of all answers
@@ -101,7 +105,9 @@ class Report:
         figures = Figures(outcomes={command: Counter() for command in commands})
         columns = "title, command, outcome, reason, bytes, seconds, findings"
         last, last_failed = "", ""
-        for row in self._store.rows(f"SELECT {columns} FROM result WHERE run = ? ORDER BY title", self._run):
+        for row in self._store.rows(
+            f"SELECT {columns} FROM result WHERE run = ? ORDER BY title", self._run
+        ):
             title, command, outcome, reason, size, seconds, findings = row
             if command not in figures.outcomes:
                 continue
@@ -133,7 +139,7 @@ class Report:
             kind = kinds.setdefault(name, KindOfFinding())
             kind.places += count
             kind.pages += 1
-            first = next((place[1:] for place in found["first"] if place[0] == name), [])
+            first: list = next((place[1:] for place in found["first"] if place[0] == name), [])
             push(kind.examples, MOST_EXAMPLES, (count, title, first))
 
     def quantile(self, share: float) -> "float | None":
@@ -141,7 +147,8 @@ class Report:
         answers = sum(self.figures.times.values())
         if answers == 0:
             return None
-        query = f"SELECT seconds FROM result WHERE run = ? AND NOT ({NO_ANSWER}) ORDER BY seconds LIMIT 1 OFFSET ?"
+        query = "SELECT seconds FROM result WHERE run = ? AND NOT "
+        query += f"({NO_ANSWER}) ORDER BY seconds LIMIT 1 OFFSET ?"
         return next(iter(self._store.rows(query, self._run, min(answers - 1, int(share * answers)))))[0]
 
     def link(self, title: str) -> str:
@@ -149,12 +156,16 @@ class Report:
 
     def failures(self, reason: str, most: int = -1) -> "Iterator[Failure]":
         """The pages that have this reason, by their titles."""
-        query = f"SELECT title, command, line, advice FROM result WHERE run = ? AND reason = ? AND {NO_ANSWER} ORDER BY title LIMIT ?"
+        query = "SELECT title, command, line, advice FROM result WHERE run = ? AND reason = ? AND "
+        query += f"{NO_ANSWER} ORDER BY title LIMIT ?"
         for title, command, line, advice in self._store.rows(query, self._run, reason, most):
-            yield Failure(title, command, reason, line, json.loads(advice) if advice else {}, self.link(title))
+            yield Failure(
+                title, command, reason, line, json.loads(advice) if advice else {}, self.link(title)
+            )
 
     def skipped(self) -> "Iterator[tuple[str, str]]":
-        yield from self._store.rows("SELECT title, why FROM skipped ORDER BY rowid")
+        for title, why in self._store.rows("SELECT title, why FROM skipped ORDER BY rowid"):
+            yield title, why
 
     def shown_place(self, title: str, start: int) -> str:
         """The line of a page round a place, with a caret under it; empty where the page can't be read."""
@@ -194,18 +205,33 @@ def write_json(report: Report, file: TextIO) -> None:
         },
         "reasons": dict(figures.reasons.most_common()),
         "seconds_of_an_answer": {
-            name: report.quantile(share) for name, share in (("median", 0.5), ("of 95 %", 0.95), ("of 99 %", 0.99))
+            name: report.quantile(share)
+            for name, share in (("median", 0.5), ("of 95 %", 0.95), ("of 99 %", 0.99))
         },
         "slowest": [
-            {"title": title, "command": command, "seconds": round(seconds, 6), "bytes": size, "link": report.link(title)}
+            {
+                "title": title,
+                "command": command,
+                "seconds": round(seconds, 6),
+                "bytes": size,
+                "link": report.link(title),
+            }
             for seconds, title, command, size in figures.slowest
         ],
-        "largest": [{"title": title, "bytes": size, "link": report.link(title)} for size, title in figures.largest],
-        "findings": {name: findings_as_json(report, kind) for name, kind in sorted(figures.findings.items())},
+        "largest": [
+            {"title": title, "bytes": size, "link": report.link(title)} for size, title in figures.largest
+        ],
+        "findings": {
+            name: findings_as_json(report, kind) for name, kind in sorted(figures.findings.items())
+        },
     }
     text = json.dumps(head, ensure_ascii=False, indent=1)
     file.write(text[: text.rindex("\n}")])
-    write_list(file, "failures", (failure_as_json(f) for reason in figures.reasons for f in report.failures(reason)))
+    write_list(
+        file,
+        "failures",
+        (failure_as_json(f) for reason in figures.reasons for f in report.failures(reason)),
+    )
     write_list(file, "skipped", ({"title": title, "why": why} for title, why in report.skipped()))
     file.write("\n}\n")
 
@@ -220,12 +246,18 @@ def write_list(file: TextIO, name: str, entries: "Iterator[dict]") -> None:
 
 
 def failure_as_json(failure: Failure) -> dict:
-    said = {"title": failure.title, "command": failure.command, "reason": failure.reason, "line": failure.line}
+    said = {
+        "title": failure.title,
+        "command": failure.command,
+        "reason": failure.reason,
+        "line": failure.line,
+    }
     return {**said, "link": failure.link, **({"explain": failure.explained} if failure.explained else {})}
 
 
 def findings_as_json(report: Report, kind: KindOfFinding) -> dict:
     examples = [
-        {"title": title, "places": count, "first": first, "link": report.link(title)} for count, title, first in kind.examples
+        {"title": title, "places": count, "first": first, "link": report.link(title)}
+        for count, title, first in kind.examples
     ]
     return {"places": kind.places, "pages": kind.pages, "examples": examples}

@@ -29,10 +29,11 @@ KINDS = {
 }
 
 STYLE = """
-:root { color-scheme: light dark; --text: #1d2229; --soft: #5b6470; --line: #d9dee4; --back: #fff; --panel: #f5f7f9;
-  --plain: #4478b5; --good: #2f8558; --warn: #c27a13; --bad: #b93a3a; --link: #1f5fa8; }
-@media (prefers-color-scheme: dark) { :root { --text: #e5e9ee; --soft: #9ba6b2; --line: #363d46; --back: #14181d;
-  --panel: #1d2228; --plain: #6a9fdc; --good: #4fb583; --warn: #e0a04a; --bad: #e27070; --link: #86b8f2; } }
+:root { color-scheme: light dark; --text: #1d2229; --soft: #5b6470; --line: #d9dee4; --back: #fff;
+  --panel: #f5f7f9; --plain: #4478b5; --good: #2f8558; --warn: #c27a13; --bad: #b93a3a; --link: #1f5fa8; }
+@media (prefers-color-scheme: dark) { :root { --text: #e5e9ee; --soft: #9ba6b2; --line: #363d46;
+  --back: #14181d; --panel: #1d2228; --plain: #6a9fdc; --good: #4fb583; --warn: #e0a04a; --bad: #e27070;
+  --link: #86b8f2; } }
 * { box-sizing: border-box; }
 body { margin: 0; background: var(--back); color: var(--text); font: 16px/1.5 system-ui, sans-serif; }
 main { max-width: 60rem; margin: 0 auto; padding: 2rem 1.25rem 4rem; }
@@ -42,7 +43,8 @@ h3 { font-size: 1rem; margin: 1.5rem 0 .25rem; }
 p, ul { margin: .5rem 0; }
 .soft { color: var(--soft); }
 .alert { border-left: 4px solid var(--bad); background: var(--panel); padding: .5rem .9rem; }
-.tiles { display: grid; grid-template-columns: repeat(auto-fit, minmax(9.5rem, 1fr)); gap: .75rem; margin: 1.5rem 0; }
+.tiles { display: grid; grid-template-columns: repeat(auto-fit, minmax(9.5rem, 1fr)); gap: .75rem;
+  margin: 1.5rem 0; }
 .tile { background: var(--panel); border-radius: 6px; padding: .75rem .9rem; }
 .tile b { display: block; font-size: 1.55rem; line-height: 1.2; font-variant-numeric: tabular-nums; }
 .tile span { color: var(--soft); font-size: .875rem; }
@@ -52,14 +54,16 @@ figcaption { color: var(--soft); font-size: .875rem; margin-top: .25rem; }
 svg text { font: 13px system-ui, sans-serif; fill: var(--text); dominant-baseline: middle; }
 svg .tick { fill: var(--soft); font-size: 12px; } svg .mark { fill: var(--soft); font-size: 12px; }
 svg .number { font-variant-numeric: tabular-nums; }
-svg rect.plain { fill: var(--plain); } svg rect.good { fill: var(--good); } svg rect.warn { fill: var(--warn); }
-svg rect.bad { fill: var(--bad); }
+svg rect.plain { fill: var(--plain); } svg rect.good { fill: var(--good); }
+svg rect.warn { fill: var(--warn); } svg rect.bad { fill: var(--bad); }
 svg line { stroke: var(--line); } svg line.axis { stroke: var(--soft); }
 svg line.mark { stroke: var(--soft); stroke-dasharray: 3 3; }
 .wide { overflow-x: auto; }
 table { border-collapse: collapse; width: 100%; font-size: .9375rem; }
-th, td { text-align: left; padding: .3rem .75rem .3rem 0; border-bottom: 1px solid var(--line); vertical-align: top; }
-th { color: var(--soft); font-weight: 600; } td.n, th.n { text-align: right; font-variant-numeric: tabular-nums; white-space: nowrap; }
+th, td { text-align: left; padding: .3rem .75rem .3rem 0; border-bottom: 1px solid var(--line);
+  vertical-align: top; }
+th { color: var(--soft); font-weight: 600; }
+td.n, th.n { text-align: right; font-variant-numeric: tabular-nums; white-space: nowrap; }
 a { color: var(--link); }
 pre { margin: .25rem 0; padding: .4rem .6rem; background: var(--panel); border-radius: 4px; overflow-x: auto;
   font: 13px/1.35 ui-monospace, monospace; }
@@ -101,7 +105,13 @@ def share(part: int, whole: int) -> str:
     percent = 100 * part / whole
     if part not in (0, whole):
         percent = min(max(percent, 0.01), 99.99)
-    return f"{percent:.0f} %" if part in (0, whole) else f"{percent:.2f} %" if percent < 1 or percent > 99 else f"{percent:.1f} %"
+    return (
+        f"{percent:.0f} %"
+        if part in (0, whole)
+        else f"{percent:.2f} %"
+        if percent < 1 or percent > 99
+        else f"{percent:.1f} %"
+    )
 
 
 class Page:
@@ -118,7 +128,8 @@ class Page:
         self._write(
             '<!DOCTYPE html>\n<html lang="en"><head><meta charset="utf-8">'
             '<meta name="viewport" content="width=device-width, initial-scale=1">'
-            f"<title>{escaped(title)}</title><style>{STYLE}</style></head><body><main>\n<h1>{escaped(title)}</h1>\n"
+            f"<title>{escaped(title)}</title><style>{STYLE}</style></head><body><main>\n"
+            f"<h1>{escaped(title)}</h1>\n"
         )
         for part in (self._head(), self._tiles(), self._outcomes(), self._failures(), self._findings()):
             self._write_all(part)
@@ -136,10 +147,12 @@ class Page:
         old = f"; {about.kept:,} of them had not changed since an earlier run" if about.kept else ""
         yield (
             f'<p class="soft">{words} on {count_of(self._figures.pages, "page", "pages")}{old}. '
-            f"Made {time.strftime('%d %B %Y, %H:%M', time.gmtime())} UTC with {escaped(self._machine())}.</p>\n"
+            f"Made {time.strftime('%d %B %Y, %H:%M', time.gmtime())} UTC "
+            f"with {escaped(self._machine())}.</p>\n"
         )
         if not about.is_finished:
-            yield '<p class="alert">The run was stopped before its end: the rest of the pages is missing here.</p>\n'
+            yield '<p class="alert">The run was stopped before its end: '
+            yield "the rest of the pages is missing here.</p>\n"
         if not about.export_is_whole:
             yield '<p class="alert">The export is broken: see <a href="#skipped">what was skipped</a>.</p>\n'
 
@@ -159,7 +172,9 @@ class Page:
             tiles.append(("bad" if counts[DIFFERS] else "", f"{counts[DIFFERS]:,}", "came back otherwise"))
         tiles.append(("warn" if figures.failed else "good", f"{figures.failed:,}", "pages with a failure"))
         if "lint" in figures.outcomes:
-            tiles.append(("", f"{sum(kind.places for kind in figures.findings.values()):,}", "doubtful places"))
+            tiles.append(
+                ("", f"{sum(kind.places for kind in figures.findings.values()):,}", "doubtful places")
+            )
         done = figures.pages - about.kept
         tiles.append(("", spelled_time(about.seconds), "this run took"))
         if about.seconds > 0 and done > 0:
@@ -174,13 +189,19 @@ class Page:
         for command, counts in self._figures.outcomes.items():
             whole = sum(counts.values())
             shown = [
-                Bar(OUTCOME_WORDS[o], counts[o], f"{counts[o]:,}  ({share(counts[o], whole)})", OUTCOME_STYLES.get(o, "bad"))
+                Bar(
+                    OUTCOME_WORDS[o],
+                    counts[o],
+                    f"{counts[o]:,}  ({share(counts[o], whole)})",
+                    OUTCOME_STYLES.get(o, "bad"),
+                )
                 for o in OUTCOMES
                 if counts[o]
             ]
             name = f"{command}: what came of {count_of(whole, 'page', 'pages')}"
             note = " (there and back)" if command == "wikitext" else ""
-            yield f"<figure>{bars(shown, name)}<figcaption><code>{escaped(command)}</code>{note}</figcaption></figure>\n"
+            caption = f"<figcaption><code>{escaped(command)}</code>{note}</figcaption>"
+            yield f"<figure>{bars(shown, name)}{caption}</figure>\n"
 
     def _failures(self) -> "Iterator[str]":
         reasons = self._figures.reasons.most_common()
@@ -188,7 +209,8 @@ class Page:
         if not reasons:
             yield "<p>Every page was answered.</p>\n"
             return
-        yield f"<figure>{bars([Bar(r, n, f'{n:,}', 'warn') for r, n in reasons], 'Reasons and their counts')}</figure>\n"
+        shown = [Bar(reason, count, f"{count:,}", "warn") for reason, count in reasons]
+        yield f"<figure>{bars(shown, 'Reasons and their counts')}</figure>\n"
         for reason, count in reasons:
             is_open = " open" if count <= 20 else ""
             yield f"<details{is_open}><summary><b>{escaped(reason)}</b>: {count:,}</summary>\n"
@@ -200,7 +222,8 @@ class Page:
                     yield f'<p class="soft">{escaped(advice)}</p>\n'
                 yield self._failure(failure)
             if count > MOST_LISTED:
-                yield f'<p class="soft">And {count - MOST_LISTED:,} more, in {escaped(self._json_name())}.</p>\n'
+                yield f'<p class="soft">And {count - MOST_LISTED:,} more, '
+                yield f"in {escaped(self._json_name())}.</p>\n"
             yield "</details>\n"
 
     def _json_name(self) -> str:
@@ -224,7 +247,10 @@ class Page:
         if not kinds:
             yield "<p>None was found.</p>\n"
             return
-        shown = [Bar(name, k.places, f"{k.places:,} on {count_of(k.pages, 'page', 'pages')}") for name, k in kinds]
+        shown = [
+            Bar(name, k.places, f"{k.places:,} on {count_of(k.pages, 'page', 'pages')}")
+            for name, k in kinds
+        ]
         yield f"<figure>{bars(shown, 'Doubtful places by kind')}</figure>\n"
         for name, kind in kinds:
             what = f" – {escaped(KINDS[name])}" if name in KINDS else ""
@@ -232,7 +258,7 @@ class Page:
             for count, title, first in kind.examples:
                 yield self._example(title, count, first)
             if kind.pages > MOST_EXAMPLES:
-                yield f'<p class="soft">These are the pages that have most of them; {kind.pages:,} pages have some.</p>\n'
+                yield f'<p class="soft">The pages with the most; {kind.pages:,} pages have some.</p>\n'
             yield "</details>\n"
 
     def _example(self, title: str, count: int, first: list) -> str:
@@ -255,13 +281,18 @@ class Page:
                 value = self._report.quantile(part)
                 assert value is not None
                 marks.append((step_of_time(value) - min(times) + 0.5, f"{word}: {spelled_seconds(value)}"))
-                words.append(f"{word.lower() if words else word} of the answers were there within {spelled_seconds(value)}")
+                words.append(f"{word} of the answers were there within {spelled_seconds(value)}")
             axis = "processor time, each step 1.6 times the last"
             yield f"<figure>{histogram(columns, 'Answers by their time', axis, ticks, marks)}"
             yield f"<figcaption>{escaped(', '.join(words))}.</figcaption></figure>\n"
         yield "<h3>The slowest</h3>\n"
         rows = (
-            (linked(title, self._report.link(title)), f"<code>{escaped(command)}</code>", spelled_seconds(seconds), f"{size:,}")
+            (
+                linked(title, self._report.link(title)),
+                f"<code>{escaped(command)}</code>",
+                spelled_seconds(seconds),
+                f"{size:,}",
+            )
             for seconds, title, command, size in self._figures.slowest
         )
         yield from table(("Page", "Command", "Time", "Bytes"), rows)
@@ -273,16 +304,20 @@ class Page:
             steps = range(min(sizes), max(sizes) + 1)
             columns = [(spelled_size(step), sizes[step]) for step in steps]
             axis = "bytes, each step twice the last"
-            yield f"<figure>{histogram(columns, 'Pages by their size', axis, list(range(len(columns))), [])}</figure>\n"
+            drawn = histogram(columns, "Pages by their size", axis, list(range(len(columns))), [])
+            yield f"<figure>{drawn}</figure>\n"
         yield "<h3>The largest</h3>\n"
-        rows = ((linked(title, self._report.link(title)), f"{size:,}") for size, title in self._figures.largest)
+        rows = (
+            (linked(title, self._report.link(title)), f"{size:,}") for size, title in self._figures.largest
+        )
         yield from table(("Page", "Bytes"), rows)
 
     def _skipped(self) -> "Iterator[str]":
         rows = list(zip(range(MOST_LISTED + 1), self._report.skipped()))
         if not rows:
             return
-        yield '<h2 id="skipped">What was skipped</h2>\n<p>These stand in the wiki or the list and are no pages that can be tried.</p>\n'
+        yield '<h2 id="skipped">What was skipped</h2>\n'
+        yield "<p>These stand in the wiki or the list and are no pages that can be tried.</p>\n"
         shown = ((escaped(title or "(no title)"), escaped(why)) for _, (title, why) in rows[:MOST_LISTED])
         yield from table(("Title or file", "Why"), shown)
         if len(rows) > MOST_LISTED:
@@ -297,7 +332,9 @@ def table(heads: "tuple[str, ...]", rows: "Iterator[tuple[str, ...]]") -> "Itera
     """A table whose cells are HTML already; those of numbers stand at the right."""
     numbers = {"Bytes", "Time"}
     style = ['class="n"' if head in numbers else "" for head in heads]
-    yield '<div class="wide"><table><tr>' + "".join(f"<th {s}>{h}</th>" for s, h in zip(style, heads)) + "</tr>\n"
+    yield '<div class="wide"><table><tr>' + "".join(
+        f"<th {s}>{h}</th>" for s, h in zip(style, heads)
+    ) + "</tr>\n"
     for row in rows:
         yield "<tr>" + "".join(f"<td {s}>{cell}</td>" for s, cell in zip(style, row)) + "</tr>\n"
     yield "</table></div>\n"

@@ -54,7 +54,9 @@ class Result:
         if self.outcome != REFUSED:
             return REASONS[self.outcome]
         text = re.sub(r" at [0-9]+.*", "", self.line)
-        return re.sub(r"^(?!page |html |input |expansion ).*(?= not UTF-8$| too long$)", "a template is", text)
+        return re.sub(
+            r"^(?!page |html |input |expansion ).*(?= not UTF-8$| too long$)", "a template is", text
+        )
 
 
 @dataclass(frozen=True)

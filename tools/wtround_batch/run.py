@@ -54,7 +54,11 @@ class Counts:
 
     def failures(self) -> str:
         """The outcomes that somebody should look at, for the line of progress."""
-        words = [f"{count:,} {FAILURE_WORDS[outcome]}" for outcome, count in self.outcomes.items() if outcome in FAILURE_WORDS]
+        words = [
+            f"{count:,} {FAILURE_WORDS[outcome]}"
+            for outcome, count in self.outcomes.items()
+            if outcome in FAILURE_WORDS
+        ]
         return "".join(f", {word}" for word in words)
 
 
@@ -86,7 +90,9 @@ class Target:
         self._file = open(path, "r+b" if os.path.exists(path) else "w+b")
         size = self._file.seek(0, os.SEEK_END)
         if length < 0 and size > 0:
-            raise StoreError(f"{path} is there and holds no lines of this file of results: remove it, or name another")
+            raise StoreError(
+                f"{path} is there and holds no lines of this file of results: remove it, or name another"
+            )
         starts_anew = starts_anew or length < 0 or size < length
         self._file.truncate(0 if starts_anew else length)
         self._file.seek(0, os.SEEK_END)
@@ -111,7 +117,9 @@ class Target:
 
 
 class Run:
-    def __init__(self, store: Store, source: Source, choice: Choice, orders: Orders, target: Target, program: str) -> None:
+    def __init__(
+        self, store: Store, source: Source, choice: Choice, orders: Orders, target: Target, program: str
+    ) -> None:
         self._store = store
         self._source = source
         self._choice = choice
@@ -162,14 +170,15 @@ class Run:
             entry = self._source.entry(title)
             known = None if is_new else self._store.known(title)
             held = None if known is None else self._store.held(title, self._orders.commands, self._makings)
-            if held is not None and entry.stamp and entry.stamp == known.stamp and self._holds(known, held):
+            is_same = known is not None and entry.stamp != "" and entry.stamp == known.stamp
+            if is_same and held is not None and self._holds(known, held):
                 self._keep(title)
                 self._commit_now_and_then()
             else:
                 yield Task(title, entry.stamp, entry.revision, entry.bytes, known, held)
 
-    def _holds(self, known: Known, held: "tuple[bytes, bytes]") -> bool:
-        if held != (known.digest, known.taken_digest):
+    def _holds(self, known: "Known | None", held: "tuple[bytes, bytes]") -> bool:
+        if known is None or held != (known.digest, known.taken_digest):
             return False
         try:
             current = taken_digest((name, self._digest_of_template(name)) for name in known.names)

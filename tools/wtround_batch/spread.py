@@ -13,7 +13,7 @@ from .program import Cases, case, find_program, refuse_unfit
 from .progress import Progress
 from .report import About, Report
 from .results import Examined, Known
-from .run import Choice
+from .run import Choice, Source
 from .siblings import importer
 from .store import Export, Store, digest_of, taken_digest
 from .wiki import Folder, Namespaces, Skipped
@@ -25,12 +25,12 @@ takes it, with the page and only the templates that it takes. `cut -f3-` leaves 
 """
 ANSWERS_EPILOG = """\
 It needs no file but wtround_cases. Each line of standard input is a case with its command and title, as
-`wtround-batch cases` writes them; for each a line of JSON is written, as --json of wtround-batch writes it. A case in
-which wtround_cases dies, or takes too long, is a line as well. Lines may come and go in any order.
+`wtround-batch cases` writes them; for each a line of JSON is written, as --json of wtround-batch writes it.
+A case in which wtround_cases dies, or takes too long, is a line as well. The lines may come in any order.
 """
 GATHER_EPILOG = """\
-Run it beside the folder of pages, or the file of results, of which the cases were made: then the report links to
-the pages.
+Run it beside the folder of pages, or the file of results, of which the cases were made: then the report
+links to the pages.
 """
 
 
@@ -81,13 +81,17 @@ def write_cases(words: "list[str]") -> int:
     return 0
 
 
-def write_cases_of_page(title: str, source: "Folder | Export", store: Store, examiner: Examiner, commands: "list[str]") -> None:
+def write_cases_of_page(
+    title: str, source: "Folder | Export", store: Store, examiner: Examiner, commands: "list[str]"
+) -> None:
     text = source.text(title)
     if text is None:
         print(f"{one_machine.PROGRAM}: {importer.printable(title)}: no such page", file=sys.stderr)
         return
     names, pages = examiner.find_pages(title, text, store.known(title))
-    store.set_known(title, Known("", digest_of(text), names, taken_digest((n, digest_or_none(pages, n)) for n in names)))
+    store.set_known(
+        title, Known("", digest_of(text), names, taken_digest((n, digest_or_none(pages, n)) for n in names))
+    )
     for command in commands:
         words = ["html" if command == "wikitext" else command, title]
         head = command.encode() + b"\t" + binascii.hexlify(title.encode()) + b"\t"
@@ -108,7 +112,9 @@ def answers_parser() -> argparse.ArgumentParser:
         epilog=ANSWERS_EPILOG,
         formatter_class=argparse.RawDescriptionHelpFormatter,
     )
-    parser.add_argument("--no-output", action="store_true", help="leave the output out; say what came of each page alone")
+    parser.add_argument(
+        "--no-output", action="store_true", help="leave the output out; say what came of each page alone"
+    )
     one_machine.add_common_options(parser)
     return parser
 
@@ -122,7 +128,10 @@ def write_answers(words: "list[str]") -> int:
         try:
             examined = answer(line, cases, arguments.time_limit, not arguments.no_output)
         except ValueError:
-            print(f"{one_machine.PROGRAM}: line {number} is no case of `{one_machine.PROGRAM} cases`", file=sys.stderr)
+            print(
+                f"{one_machine.PROGRAM}: line {number} is no case of `{one_machine.PROGRAM} cases`",
+                file=sys.stderr,
+            )
             status = 1
             continue
         sys.stdout.buffer.write(lines.take(examined, ""))
@@ -159,10 +168,26 @@ def gather_parser() -> argparse.ArgumentParser:
         formatter_class=argparse.RawDescriptionHelpFormatter,
     )
     add = parser.add_argument
-    add("files", nargs="*", metavar="FILE", help="lines of `wtround-batch answers` (default: standard input)")
-    add("-r", "--report", required=True, metavar="FILE", help="write FILE as HTML, and beside it one that ends in .json")
+    add(
+        "files",
+        nargs="*",
+        metavar="FILE",
+        help="lines of `wtround-batch answers` (default: standard input)",
+    )
+    add(
+        "-r",
+        "--report",
+        required=True,
+        metavar="FILE",
+        help="write FILE as HTML, and beside it one that ends in .json",
+    )
     add("--pages", default="pages", metavar="DIR", help="the folder of pages (default: %(default)s)")
-    add("--state", default=one_machine.STATE, metavar="FILE", help="the file of results (default: %(default)s)")
+    add(
+        "--state",
+        default=one_machine.STATE,
+        metavar="FILE",
+        help="the file of results (default: %(default)s)",
+    )
     return parser
 
 
@@ -195,8 +220,17 @@ def gather(words: "list[str]") -> int:
                 seconds += result.seconds
                 commands.add(command)
         store.commit()
-        source = Export(store.path, "") if store.about("export") else Folder(arguments.pages)
-        about = About("answers of several machines", [c for c in one_machine.COMMANDS if c in commands], "", 0, 0.0, 0, True, True)
+        source: Source = Export(store.path, "") if store.about("export") else Folder(arguments.pages)
+        about = About(
+            "answers of several machines",
+            [c for c in one_machine.COMMANDS if c in commands],
+            "",
+            0,
+            0.0,
+            0,
+            True,
+            True,
+        )
         report = Report(store, source, run, about, arguments.report)
         one_machine.write_report(report)
         print(one_machine.told_of(report), file=sys.stderr)

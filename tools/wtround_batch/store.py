@@ -11,7 +11,7 @@ from typing import Callable, Iterable, Iterator
 from urllib.parse import quote
 
 from .results import Known, Result
-from .wiki import Entry, ExportReader, Namespaces, Skipped, link_in_wiki
+from .wiki import Entry, ExportedPage, ExportReader, Namespaces, Skipped, link_in_wiki
 
 FORMAT = "1"
 MOST_REMEMBERED = 1 << 16  # entries of each of the two small memories of templates
@@ -19,8 +19,9 @@ MOST_REMEMBERED = 1 << 16  # entries of each of the two small memories of templa
 SCHEMA = """
 CREATE TABLE about (name TEXT PRIMARY KEY, value TEXT NOT NULL) WITHOUT ROWID;
 -- The pages of an export, with their texts. `reading` counts how often an export was read.
-CREATE TABLE page (id INTEGER PRIMARY KEY, title TEXT NOT NULL UNIQUE, namespace INTEGER NOT NULL, revision TEXT NOT NULL,
-    digest BLOB NOT NULL, bytes INTEGER NOT NULL, text BLOB NOT NULL, reading INTEGER NOT NULL);
+CREATE TABLE page (id INTEGER PRIMARY KEY, title TEXT NOT NULL UNIQUE, namespace INTEGER NOT NULL,
+    revision TEXT NOT NULL, digest BLOB NOT NULL, bytes INTEGER NOT NULL, text BLOB NOT NULL,
+    reading INTEGER NOT NULL);
 -- What stands in the export or the folder and is no page; `place` is where it was found.
 CREATE TABLE skipped (title TEXT NOT NULL, why TEXT NOT NULL, place TEXT NOT NULL);
 CREATE TABLE template (id INTEGER PRIMARY KEY, title TEXT NOT NULL UNIQUE);
@@ -29,9 +30,10 @@ CREATE TABLE known (title TEXT PRIMARY KEY, stamp TEXT NOT NULL, digest BLOB NOT
     taken_digest BLOB NOT NULL) WITHOUT ROWID;
 -- What came of a command on a page. It holds as long as the text, the templates and `making` (the program and
 -- where the output went) are the same. `run` is the last run in which the page was chosen.
-CREATE TABLE result (title TEXT NOT NULL, command TEXT NOT NULL, digest BLOB NOT NULL, taken_digest BLOB NOT NULL,
-    making TEXT NOT NULL, run INTEGER NOT NULL, outcome TEXT NOT NULL, reason TEXT NOT NULL, line TEXT NOT NULL,
-    advice TEXT NOT NULL, bytes INTEGER NOT NULL, written INTEGER NOT NULL, seconds REAL NOT NULL, findings TEXT NOT NULL,
+CREATE TABLE result (title TEXT NOT NULL, command TEXT NOT NULL, digest BLOB NOT NULL,
+    taken_digest BLOB NOT NULL, making TEXT NOT NULL, run INTEGER NOT NULL, outcome TEXT NOT NULL,
+    reason TEXT NOT NULL, line TEXT NOT NULL, advice TEXT NOT NULL, bytes INTEGER NOT NULL,
+    written INTEGER NOT NULL, seconds REAL NOT NULL, findings TEXT NOT NULL,
     PRIMARY KEY (title, command)) WITHOUT ROWID;
 """
 
@@ -45,7 +47,7 @@ def digest_of(text: bytes) -> bytes:
 
 
 def taken_digest(templates: "Iterable[tuple[str, bytes | None]]") -> bytes:
-    """One digest of all templates that a page takes, by their names and digests; None for one that isn't there."""
+    """One digest of all templates that a page takes, by name and digest; None for one that isn't there."""
     digest = blake2b(digest_size=16)
     for name, text_digest in templates:
         digest.update(name.encode() + b"\0" + (text_digest or b"-") + b"\n")
@@ -58,7 +60,7 @@ def unsure(digest: bytes) -> bytes:
 
 
 class Lock:
-    """Keeps a second run away from the same file of results. It goes when this process ends, however that is."""
+    """Keeps a second run away from the same file of results, until this process ends, however that is."""
 
     def __init__(self, path: str) -> None:
         self._file = open(path, "a+")
@@ -67,7 +69,9 @@ class Lock:
         except OSError:
             self._file.seek(0)
             owner = self._file.read().strip() or "unknown"
-            raise StoreError(f"another run (process {owner}) is at work with this file of results") from None
+            raise StoreError(
+                f"another run (process {owner}) is at work with this file of results"
+            ) from None
         self._file.truncate(0)
         self._file.write(f"{os.getpid()}\n")
         self._file.flush()
@@ -93,9 +97,13 @@ class Store:
     def _create(self) -> None:
         tables = self._connection.execute("SELECT count(*) FROM sqlite_master").fetchone()[0]
         if tables == 0:
-            self._connection.executescript("BEGIN;" + SCHEMA + f"INSERT INTO about VALUES ('format', '{FORMAT}'); COMMIT;")
+            self._connection.executescript(
+                "BEGIN;" + SCHEMA + f"INSERT INTO about VALUES ('format', '{FORMAT}'); COMMIT;"
+            )
         elif self.about("format") != FORMAT:
-            raise StoreError(f"{self.path} was written by another version of this tool: remove it, or name another")
+            raise StoreError(
+                f"{self.path} was written by another version of this tool: remove it, or name another"
+            )
 
     # ------------------------------------------------------------ transactions and single values
 
@@ -147,7 +155,9 @@ class Store:
     def _name_of(self, number: int) -> str:
         name = self._names.get(number)
         if name is None:
-            name = self._connection.execute("SELECT title FROM template WHERE id = ?", (number,)).fetchone()[0]
+            name = self._connection.execute(
+                "SELECT title FROM template WHERE id = ?", (number,)
+            ).fetchone()[0]
             remember(self._names, number, name)
         return name
 
@@ -155,13 +165,17 @@ class Store:
         number = self._ids.get(name)
         if number is None:
             self._connection.execute("INSERT OR IGNORE INTO template (title) VALUES (?)", (name,))
-            number = self._connection.execute("SELECT id FROM template WHERE title = ?", (name,)).fetchone()[0]
+            number = self._connection.execute(
+                "SELECT id FROM template WHERE title = ?", (name,)
+            ).fetchone()[0]
             remember(self._ids, name, number)
         return number
 
     # ------------------------------------------------------------ results
 
-    def held(self, title: str, commands: "list[str]", makings: "tuple[str, str]") -> "tuple[bytes, bytes] | None":
+    def held(
+        self, title: str, commands: "list[str]", makings: "tuple[str, str]"
+    ) -> "tuple[bytes, bytes] | None":
         """The digests of the text and the templates for which the results of all these commands are there."""
         query = "SELECT command, digest, taken_digest FROM result WHERE title = ? AND making IN (?, ?)"
         rows = [row for row in self._connection.execute(query, (title, *makings)) if row[0] in commands]
@@ -175,18 +189,24 @@ class Store:
 
     def outcomes(self, title: str, commands: "list[str]") -> "list[str]":
         query = "SELECT command, outcome FROM result WHERE title = ?"
-        return [outcome for command, outcome in self._connection.execute(query, (title,)) if command in commands]
+        return [
+            outcome for command, outcome in self._connection.execute(query, (title,)) if command in commands
+        ]
 
     def is_empty(self) -> bool:
         """Whether nothing is known of any page."""
         return self._connection.execute("SELECT 1 FROM known LIMIT 1").fetchone() is None
 
-    def set_result(self, title: str, command: str, known: Known, making: str, run: int, size: int, result: Result) -> None:
+    def set_result(
+        self, title: str, command: str, known: Known, making: str, run: int, size: int, result: Result
+    ) -> None:
         columns = (
-            title, command, known.digest, known.taken_digest, making, run, result.outcome, result.reason, result.line,
-            result.advice, size, result.written, result.seconds, result.findings,
+            title, command, known.digest, known.taken_digest, making, run, result.outcome, result.reason,
+            result.line, result.advice, size, result.written, result.seconds, result.findings,
         )  # fmt: skip
-        self._connection.execute("REPLACE INTO result VALUES (?, ?, ?, ?, ?, ?, ?, ?, ?, ?, ?, ?, ?, ?)", columns)
+        self._connection.execute(
+            "REPLACE INTO result VALUES (?, ?, ?, ?, ?, ?, ?, ?, ?, ?, ?, ?, ?, ?)", columns
+        )
 
     # ------------------------------------------------------------ what is no page
 
@@ -194,7 +214,9 @@ class Store:
         self._connection.execute("DELETE FROM skipped WHERE place = ?", (place,))
 
     def add_skipped(self, skipped: Skipped, place: str) -> None:
-        self._connection.execute("INSERT INTO skipped VALUES (?, ?, ?)", (skipped.title, skipped.why, place))
+        self._connection.execute(
+            "INSERT INTO skipped VALUES (?, ?, ?)", (skipped.title, skipped.why, place)
+        )
 
     # ------------------------------------------------------------ the pages of an export
 
@@ -217,7 +239,9 @@ class Store:
                 if isinstance(page, Skipped):
                     self.add_skipped(page, "export")
                 elif not self._take_page(page, reading):
-                    self.add_skipped(Skipped(page.title, "an earlier page of this export has the same title"), "export")
+                    self.add_skipped(
+                        Skipped(page.title, "an earlier page of this export has the same title"), "export"
+                    )
                 if count % 1000 == 999:
                     self.commit()
                     show(raw.tell(), count + 1)
@@ -228,10 +252,12 @@ class Store:
         self.set_about("export", identity)
         self.commit()
 
-    def _take_page(self, page: "object", reading: int) -> bool:
+    def _take_page(self, page: ExportedPage, reading: int) -> bool:
         """Whether this is the first page of its title in this reading."""
         digest = digest_of(page.text)
-        row = self._connection.execute("SELECT digest, reading FROM page WHERE title = ?", (page.title,)).fetchone()
+        row = self._connection.execute(
+            "SELECT digest, reading FROM page WHERE title = ?", (page.title,)
+        ).fetchone()
         if row is not None and row[1] == reading:
             return False
         if row is not None and row[0] == digest:
@@ -257,7 +283,9 @@ class Export:
 
     def __init__(self, store_path: str, export_path: str) -> None:
         self.path = export_path
-        self._connection = sqlite3.connect(f"file:{quote(store_path)}?mode=ro", uri=True, isolation_level=None)
+        self._connection = sqlite3.connect(
+            f"file:{quote(store_path)}?mode=ro", uri=True, isolation_level=None
+        )
         self._base = (self._one("SELECT value FROM about WHERE name = 'base'") or ("",))[0]
 
     def _one(self, query: str, *values: object) -> "tuple | None":
@@ -277,7 +305,9 @@ class Export:
 
     def entry(self, title: str) -> Entry:
         row = self._one("SELECT digest, bytes, revision FROM page WHERE title = ?", title)
-        return Entry(title, row[0].hex(), row[1], True, row[2]) if row else Entry(title, "", 0, exists=False)
+        return (
+            Entry(title, row[0].hex(), row[1], True, row[2]) if row else Entry(title, "", 0, exists=False)
+        )
 
     def text(self, title: str) -> "bytes | None":
         row = self._one("SELECT text FROM page WHERE title = ?", title)

@@ -6,15 +6,15 @@ import re
 import time
 import zlib
 from dataclasses import dataclass
-from typing import BinaryIO, Iterator, Union
+from typing import Any, BinaryIO, Iterator, Union
 from urllib.parse import quote, unquote_to_bytes
 
 from .siblings import importer
 
 SETTLED_NS = 2_000_000_000  # a file this old was not changed again within one tick of its clock
 NAMESPACE_NUMBERS = {
-    "Talk": 1, "User": 2, "User talk": 3, "Project": 4, "Project talk": 5, "File": 6, "File talk": 7, "Template": 10,
-    "Template talk": 11, "Help": 12, "Help talk": 13, "Category": 14, "Category talk": 15,
+    "Talk": 1, "User": 2, "User talk": 3, "Project": 4, "Project talk": 5, "File": 6, "File talk": 7,
+    "Template": 10, "Template talk": 11, "Help": 12, "Help talk": 13, "Category": 14, "Category talk": 15,
 }  # fmt: skip
 
 
@@ -46,7 +46,7 @@ def full_name(text: str) -> str:
 
 
 def namespace_number(title: str) -> int:
-    """The number of a title's namespace, as MediaWiki counts; 0 also where the profile has no such namespace."""
+    """The number of a title's namespace, as MediaWiki counts; 0 also for one that the profile hasn't."""
     prefix, colon, _ = title.partition(":")
     return NAMESPACE_NUMBERS.get(prefix, 0) if colon else 0
 
@@ -155,7 +155,7 @@ class ExportedPage:
     text: bytes
 
 
-def exported_page(page: "importer.Page") -> "Union[ExportedPage, Skipped]":
+def exported_page(page: "Any") -> "Union[ExportedPage, Skipped]":
     try:
         title = full_name(page.title)
         text = importer.page_text(page)
@@ -195,8 +195,10 @@ class ExportReader:
             is_last = not data
             yield from self._read(stream, data, is_last)
 
-    def _read(self, stream: BinaryIO, data: bytes, is_last: bool) -> "Iterator[Union[ExportedPage, Skipped]]":
-        """The pages that end in these bytes; where they are broken it reads on to the next beginning of a page."""
+    def _read(
+        self, stream: BinaryIO, data: bytes, is_last: bool
+    ) -> "Iterator[Union[ExportedPage, Skipped]]":
+        """The pages that end in these bytes; where they are broken, those from the next beginning on."""
         while True:
             failure = None
             try:

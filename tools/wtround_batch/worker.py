@@ -1,7 +1,8 @@
 """A process that works off batches of pages with a `wtround_cases` of its own.
 
 It reads and writes frames: a line of JSON, with the number of bytes that follow it under `payload`. The
-first frame says what to do; each further one holds a batch, and is answered by one. It ends where its input does.
+first frame says what to do; each further one holds a batch, and is answered by one. It ends where its
+input does.
 """
 from __future__ import annotations
 
@@ -12,7 +13,7 @@ import signal
 import sys
 import threading
 from dataclasses import dataclass
-from typing import BinaryIO
+from typing import IO
 
 from .examine import Examiner
 from .outputs import Files, Lines, Nothing
@@ -24,12 +25,12 @@ from .wiki import Folder
 PIPE_READ = 1 << 20
 
 
-def write_frame(stream: BinaryIO, header: "dict[str, object]", payload: bytes = b"") -> None:
+def write_frame(stream: "IO[bytes]", header: "dict[str, object]", payload: bytes = b"") -> None:
     stream.write(json.dumps({**header, "payload": len(payload)}).encode() + b"\n" + payload)
     stream.flush()
 
 
-def read_frame(stream: BinaryIO) -> "tuple[dict, bytes] | None":
+def read_frame(stream: "IO[bytes]") -> "tuple[dict, bytes] | None":
     """The next frame; None at the end of the stream, also in the middle of a frame."""
     line = stream.readline()
     if not line.endswith(b"\n"):
@@ -53,7 +54,7 @@ class FrameReader:
         if not data:
             return None
         self._buffer += data
-        frames = []
+        frames: "list[tuple[dict, bytes]]" = []
         while True:
             if self._header is None:
                 end = self._buffer.find(b"\n")
@@ -130,7 +131,7 @@ def examined_from_json(value: dict) -> Examined:
     return Examined(value["title"], value["bytes"], known, results)
 
 
-def read_ahead(stream: BinaryIO, batches: "queue.Queue") -> None:
+def read_ahead(stream: "IO[bytes]", batches: "queue.Queue") -> None:
     """Takes what comes at once, so that the process that sends it never waits."""
     while True:
         frame = read_frame(stream)
@@ -157,7 +158,11 @@ def main() -> int:
         lines, done = [], []
         for task in frame[0]["pages"]:
             examined = examiner.examine(
-                task["title"], task["stamp"], orders.commands, known_from_json(task["known"]), held_from_json(task["held"])
+                task["title"],
+                task["stamp"],
+                orders.commands,
+                known_from_json(task["known"]),
+                held_from_json(task["held"]),
             )
             if examined.results:
                 lines.append(sink.take(examined, task["revision"]))
