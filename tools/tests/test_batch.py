@@ -672,12 +672,13 @@ class Words(BatchCase):
                 )
                 self.assertEqual(done.returncode, 2)
         self.run_tool("wikitext", "-o", "pages", status=2)
-        self.assertIn("is no program", self.run_tool("html", "--program", "absent", status=2)[1])
         self.assertIn("No such file", self.run_tool("html", "--pages", "absent", status=1)[1])
         (self.root / "other.sqlite").write_text(
             "this is no database, but long enough for one to be looked for in it"
         )
         self.assertIn("not a database", self.run_tool("html", "--state", "other.sqlite", status=1)[1])
+        self.program = self.root / "absent"
+        self.assertIn("is no program", self.run_tool("html", status=2)[1])
 
     def test_an_empty_folder(self) -> None:
         report = self.report("wikitext")
