@@ -23,5 +23,6 @@ pub use laws::{
     children_in_order, comparisons, edited_is_the_page, first_refusal, only_the_page_is_taken,
     what_is_kept,
 };
+pub use marks::is_children;
 pub use refusal::Check;
 pub use visit::{Visit, is_content, preorder};

@@ -20,7 +20,8 @@ pub fn is_marked(mark: Mark) -> bool
     }
 }
 
-fn is_children(mark: Mark) -> bool
+/// Whether the mark says that some children are new or missing.
+pub fn is_children(mark: Mark) -> bool
     ensures { result ≡ is_children mark }
 {
     match mark {

@@ -1,3 +1,4 @@
+pub mod ChildFaulting
 mod ContentCases
 pub mod Faulting
 pub mod FirstReason

@@ -194,30 +194,42 @@ is_element why.Element = true
 is_element why.Href = false
 is_element why.LineBreak = false
 is_element why.Nested = false
+is_element why.EmptyList = false
 
 abbrev pub is_href : ContentWhy → Bool
 is_href why.Element = false
 is_href why.Href = true
 is_href why.LineBreak = false
 is_href why.Nested = false
+is_href why.EmptyList = false
 
 abbrev pub is_line_break : ContentWhy → Bool
 is_line_break why.Element = false
 is_line_break why.Href = false
 is_line_break why.LineBreak = true
 is_line_break why.Nested = false
+is_line_break why.EmptyList = false
 
 abbrev pub is_nested : ContentWhy → Bool
 is_nested why.Element = false
 is_nested why.Href = false
 is_nested why.LineBreak = false
 is_nested why.Nested = true
+is_nested why.EmptyList = false
+
+abbrev pub is_empty_list : ContentWhy → Bool
+is_empty_list why.Element = false
+is_empty_list why.Href = false
+is_empty_list why.LineBreak = false
+is_empty_list why.Nested = false
+is_empty_list why.EmptyList = true
 
 abbrev pub first_why : List ContentWhy → Option ContentWhy
 first_why ws =
     if list_any is_element ws then Some why.Element else
     (if list_any is_href ws then Some why.Href else
-    (if list_any is_line_break ws then Some why.LineBreak else (if list_any is_nested ws then Some why.Nested else None)))
+    (if list_any is_line_break ws then Some why.LineBreak else
+    (if list_any is_nested ws then Some why.Nested else (if list_any is_empty_list ws then Some why.EmptyList else None))))
 
 abbrev pub is_paragraph : BlockForm → Bool
 is_paragraph form.Paragraph = true

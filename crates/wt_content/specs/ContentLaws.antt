@@ -13,6 +13,7 @@ order why.Element = 0
 order why.Href = 1
 order why.LineBreak = 2
 order why.Nested = 3
+order why.EmptyList = 4
 
 -- Nothing is wrong; or this is wrong somewhere, and nothing that would be named before it is.
 abbrev pub IsFirstReason : List ContentWhy → Option ContentWhy → Type 0

@@ -1,3 +1,4 @@
+pub mod Children
 pub mod Content
 pub mod ContentLaws
 pub mod Grammar

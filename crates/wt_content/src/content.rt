@@ -50,10 +50,11 @@ pub struct Faults {
     pub href: bool,
     pub line_break: bool,
     pub nested: bool,
+    pub empty_list: bool,
 }
 
 impl Faults {
-    fn none() -> Faults
+    pub fn none() -> Faults
         ensures { HasFaults result [] }
     {
         Faults {
@@ -61,10 +62,11 @@ impl Faults {
             href: false,
             line_break: false,
             nested: false,
+            empty_list: false,
         }
     }
 
-    fn add(&mut self, why: ContentWhy)
+    pub fn add(&mut self, why: ContentWhy)
         ensures { (ws : List ContentWhy) → HasFaults self.old ws → HasFaults self.new (ws ++ why ∷ []) }
     {
         match why {
@@ -72,10 +74,11 @@ impl Faults {
             ContentWhy::Href => self.href = true,
             ContentWhy::LineBreak => self.line_break = true,
             ContentWhy::Nested => self.nested = true,
+            ContentWhy::EmptyList => self.empty_list = true,
         }
     }
 
-    fn add_any(&mut self, why: Option<ContentWhy>)
+    pub fn add_any(&mut self, why: Option<ContentWhy>)
         ensures { (ws : List ContentWhy) → HasFaults self.old ws → HasFaults self.new (ws ++ if_any why) }
     {
         if let Some(why) = why {
@@ -84,7 +87,7 @@ impl Faults {
     }
 
     /// The first, in the order of `ContentWhy`.
-    fn first(self) -> Option<ContentWhy>
+    pub fn first(self) -> Option<ContentWhy>
         ensures { (ws : List ContentWhy) → HasFaults self ws → result ≡ first_why ws }
     {
         if self.element {
@@ -95,6 +98,8 @@ impl Faults {
             Some(ContentWhy::LineBreak)
         } else if self.nested {
             Some(ContentWhy::Nested)
+        } else if self.empty_list {
+            Some(ContentWhy::EmptyList)
         } else {
             None
         }
@@ -154,7 +159,8 @@ fn any_holds_link(nodes: &[Node<'_>]) -> bool
 
 // ---- one node
 
-fn has_break(text: &[u8]) -> bool
+/// Whether a line break stands in a text.
+pub fn has_break(text: &[u8]) -> bool
     ensures { result ≡ has_break text.now }
 {
     for byte in text {
@@ -409,7 +415,7 @@ fn below(spot: Spot, way: Way) -> Spot
 }
 
 #[cycle(visiting)]
-fn visit_all(
+pub fn visit_all(
     alloc: Global,
     page: &Page<'_, '_>,
     spot: Spot,
@@ -463,7 +469,7 @@ fn is_paragraph(form: BlockForm) -> bool
 }
 
 /// Where the children of a marked node stand, by what it was in the page.
-fn outermost(old: &Node<'_>) -> Spot
+pub fn outermost(old: &Node<'_>) -> Spot
     ensures { result ≡ outermost (view old.now) }
 {
     Spot {

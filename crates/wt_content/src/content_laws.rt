@@ -1,11 +1,12 @@
 //! Laws of what may stand in a content, which do nothing when they are called.
 
 ghost use Rattle.std.specs.Prelude.{◌≡◌, ℕ, Bool, true, false, List, [], None};
-ghost use Rattle.wt_tree.specs.Tree.{Tree, Trees};
+ghost use Rattle.wt_tree.specs.Tree.{Tree, Trees, label};
 ghost use Rattle.wt_tree.specs.Tiling.{HasNoGroup};
 ghost use Rattle.wt_kept.specs.Page.{Page, TellsSame, page_of};
 ghost use Rattle.wt_content.specs.declared.content.Spot.{Spot};
 ghost use Rattle.wt_content.specs.declared.content.Standing.TheVariants as stands;
+ghost use Rattle.wt_content.specs.Children.{bad_children, children_faults, holder_of};
 ghost use Rattle.wt_content.specs.Content.{all_faults, any_holds_link, bad_content, content_faults, held, is_url, outermost, standing};
 ghost use Rattle.wt_content.specs.ContentLaws.{IsFirstReason, IsReadWhole};
 ghost use Rattle.wt_content.specs.Grammar.{AreContent};
@@ -27,9 +28,11 @@ pub fn untouched_nodes_stand()
 {}
 
 /// The reason that is answered is there, and none that would be named before it.
-#[tactic(auto, using(crate::proofs::FirstReason::first_reason))]
+#[tactic(auto, using(crate::proofs::FirstReason::first_reason, crate::proofs::FirstReason::first_of_children))]
 pub fn first_reason()
-    ensures { (same : Tree → Tree → Bool) (old new : Tree) → IsFirstReason (content_faults same old new) (bad_content same old new) }
+    ensures content { (same : Tree → Tree → Bool) (old new : Tree) → IsFirstReason (content_faults same old new) (bad_content same old new) }
+    ensures children { (same : Tree → Tree → Bool) (new : Tree)
+        → IsFirstReason (children_faults same (holder_of (label new).kind) (held new)) (bad_children same new) }
 {}
 
 /// A URL that a new link may have is read as it stands, whatever follows that doesn't belong to URLs.

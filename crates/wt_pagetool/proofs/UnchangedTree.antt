@@ -19,10 +19,9 @@ use Rattle.wt_round_trip.proofs.Rows.{is_somewhere, held}
 use Rattle.wt_checks.specs.Checked.{checked}
 use Rattle.wt_checks.specs.Elements.{signs_in}
 use Rattle.wt_checks.specs.Groups.{is_marked, have_mark}
-use Rattle.wt_checks.specs.Kept.{IsSublist, kept_under, GroupAsItWas, NodeAsItWas, Kept}
+use Rattle.wt_checks.specs.Kept.{IsSublist, kept_under, GroupAsItWas, NodeAsItWas, GroupKept, NodeKept, MarkKept, Kept}
 use Rattle.wt_checks.specs.Places.{Place, placed, all_placed, places, number, kind_at, is_kept, is_body, is_content, numbered, Page, page_of, parent_below}
 use Rattle.wt_checks.specs.Unmarked.{is_compared, entry_by, entry, entries}
-use Rattle.wt_checks.proofs.AsItWas.{GroupKept, NodeKept, MarkKept}
 use Rattle.wt_checks.proofs.Found.{Itself, each_itself}
 use Rattle.wt_checks.proofs.InOrder.{test_equal}
 use Rattle.wt_checks.proofs.Lookups.{each_split, each_join, AllZero, all_page_numbers}

@@ -71,6 +71,7 @@ content_why bad.Element = codes "Element"
 content_why bad.Href = codes "Href"
 content_why bad.LineBreak = codes "LineBreak"
 content_why bad.Nested = codes "Nested"
+content_why bad.EmptyList = codes "EmptyList"
 
 -- what the comparison of the two trees found, and the node where it did
 unfoldable pub check_name : Check → List ℕ

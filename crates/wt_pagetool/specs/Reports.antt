@@ -12,7 +12,7 @@ use Rattle.wt_annotated.specs.Reached.{AreReachedSlices}
 use Rattle.wt_fitting.specs.Read.{page as as_page, read}
 use Rattle.wt_markup.specs.Html.{html_text}
 use Rattle.wt_page_round_trip.specs.PageTree.{page_tree}
-use Rattle.wt_selser.specs.Changes.{marked, changes}
+use Rattle.wt_selser.specs.BodySlices.{slices}
 use Rattle.wt_shown.specs.Restored.{restored_from}
 use Rattle.wt_shown.specs.SameNodes.{same_node}
 use Rattle.wt_selser.specs.Splice.{spliced, OutsideStands}
@@ -123,7 +123,7 @@ pub record WroteSource (input : List ℕ) (left old new : Option (List ℕ)) : T
 
 -- The new page of an edit: the page with the inside of each marked node, and nothing else, replaced by its spelling.
 abbrev pub new_page : Pages → List ℕ → Tree → List ℕ
-new_page pages page edited = spliced page (changes same_node (marked (page_tree pages page) edited))
+new_page pages page edited = spliced page (slices same_node (page_tree pages page) edited)
 
 -- A page stands under the title whose expansion nothing refuses, and the whole input for an edited tree that differs from the
 -- page's only where it may; nothing refuses the edit, and `out` took the new page, in which all that stands outside the insides
@@ -141,6 +141,6 @@ pub record WroteEdit (pages : Pages) (title input : List ℕ) (left old new : Op
   pub allowed : checked_edit (page_tree pages page) edited ≡ None
   pub unrefused : answer_of_edit pages page edited ≡ Ok (new_page pages page edited)
   pub wrote : Appends old new (new_page pages page edited)
-  pub outside : OutsideStands page (new_page pages page edited) (changes same_node (marked (page_tree pages page) edited))
+  pub outside : OutsideStands page (new_page pages page edited) (slices same_node (page_tree pages page) edited)
   pub answered : IsUnrefused pages (new_page pages page edited)
   pub shows : plain (page_tree pages (new_page pages page edited)) ≡ plain (restored_from (page_tree pages page) edited)

@@ -271,6 +271,7 @@ fn content_why(why: ContentWhy) -> &'static str
         ContentWhy::Href => "Href",
         ContentWhy::LineBreak => "LineBreak",
         ContentWhy::Nested => "Nested",
+        ContentWhy::EmptyList => "EmptyList",
     }
 }
 

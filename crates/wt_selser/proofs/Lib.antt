@@ -3,7 +3,11 @@ pub mod Outside
 pub mod Chains
 pub mod PageChains
 pub mod EditChains
+pub mod ListWalk
+pub mod BodyWalk
+pub mod Pushing
 pub mod Spliced
+pub mod StepWalk
 pub mod Answering
 pub mod GroupFaultLaws
 pub mod NoGroups

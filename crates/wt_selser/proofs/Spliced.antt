@@ -1,17 +1,21 @@
 -- How the code makes the changes and the new page, one change at a time.
-use Rattle.std.proofs.Common.{◌≡◌, ◌<◌, ℕ, ◌+◌, Bool, List, ◌∷◌, ◌++◌, length, drop, get_or, sym, ap, ◌∙◌}
+use Rattle.std.proofs.Common.{◌≡◌, ◌<◌, ℕ, ◌+◌, Bool, true, false, Option, Some, List, [], ◌∷◌, ◌++◌, length, drop, get_or, refl, sym, ap, ◌∙◌}
+use Rattle.std.specs.Prelude.{if◌then◌else◌}
+use Rattle.std.specs.List.{flat_map}
 use Rattle.std.proofs.lemmas.List.{drop_more}
 use Rattle.wt_guards.specs.declared.side.Place.{Place as Surround}
 use Rattle.wt_tree.specs.declared.node.Node.{Node, out-Node}
 use Rattle.wt_tree.specs.Tree.{Tree, label}
-use Rattle.wt_tree.specs.View.{view}
+use Rattle.wt_tree.specs.View.{view, views}
 use Rattle.wt_tree.proofs.Views.{view_out}
 use Rattle.wt_escape.specs.Spelling.{inline_spelling}
+use Rattle.wt_checks.specs.declared.visit.Visit.{Visit}
+use Rattle.wt_checks.specs.Places.{Place, Page, is_content}
+use Rattle.wt_checks.specs.View.{seen}
 use Rattle.wt_selser.specs.declared.change.Change.{Change as Made}
-use Rattle.wt_selser.specs.declared.change.Pair.{Pair as Found}
-use Rattle.wt_selser.specs.Changes.{change_of, change_with, place_in}
+use Rattle.wt_selser.specs.Changes.{all_insides, change_with, inside_of, insides, place_in}
 use Rattle.wt_selser.specs.Splice.{Change, between, spliced_from}
-use Rattle.wt_selser.specs.Views.{changes_view, pair_of}
+use Rattle.wt_selser.specs.Views.{changes_view}
 
 pub kind_seen : (n : Node) → (label (view n)).kind ≡ (out-Node n).kind
 kind_seen n = rw (view_out n)
@@ -19,16 +23,44 @@ kind_seen n = rw (view_out n)
 pub ranges_seen : (n : Node) → (label (view n)).ranges ≡ (out-Node n).ranges
 ranges_seen n = rw (view_out n)
 
--- the change of a pair is pushed
-pub change_made : (same : Tree → Tree → Bool) (p : Found) (xs ys : List Change) (by : List ℕ) (place : Surround)
-    → place ≡ place_in (out-Node p.old.now).kind → by ≡ inline_spelling same (view p.old.now) (view p.new.now) place
-    → ys ≡ xs ++ change_with (out-Node p.old.now).ranges by → ys ≡ xs ++ change_of same (pair_of p)
-change_made same p xs ys by place d e f =
-    let t = view p.old.now in
-    let u = view p.new.now in
-    f ∙ ap (λ (b : List ℕ). xs ++ change_with (out-Node p.old.now).ranges b)
-    (e ∙ ap (inline_spelling same t u) (d ∙ ap place_in (sym (kind_seen p.old.now))))
-    ∙ ap (λ r. xs ++ change_with r (inline_spelling same t u (place_in (label t).kind))) (sym (ranges_seen p.old.now))
+-- the inside of a node of the page is pushed
+pub inside_made : (same : Tree → Tree → Bool) (v : Visit) (u : Tree) (xs ys : List Change) (by : List ℕ) (place : Surround)
+    → place ≡ place_in (out-Node v.node.now).kind → by ≡ inline_spelling same (view v.node.now) u place
+    → ys ≡ xs ++ change_with (out-Node v.node.now).ranges by → ys ≡ xs ++ inside_of same (Some (seen v)) u
+inside_made same v u xs ys by place d e f =
+    let t = view v.node.now in
+    f ∙ ap (λ (b : List ℕ). xs ++ change_with (out-Node v.node.now).ranges b)
+    (e ∙ ap (inline_spelling same t u) (d ∙ ap place_in (sym (kind_seen v.node.now))))
+    ∙ ap (λ r. xs ++ change_with r (inline_spelling same t u (place_in (label t).kind))) (sym (ranges_seen v.node.now))
+
+insides_out : (same : Tree → Tree → Bool) (page : Page) (n : Node) → insides same page (view n)
+    ≡ (if is_content (out-Node n).mark then inside_of same (page (out-Node n).id) (view n) else all_insides same page (views (out-Node n).children))
+insides_out same page n =
+    ap (insides same page) (view_out n)
+    ∙ ap (λ (t : Tree). if is_content (out-Node n).mark then inside_of same (page (out-Node n).id) t else all_insides same page (views (out-Node n).children))
+    (sym (view_out n))
+
+pub content_pushed : (same : Tree → Tree → Bool) (page : Page) (n : Node) (xs ys : List Change) (b : Bool) (o : Option Place)
+    → b ≡ is_content (out-Node n).mark → b ≡ true → o ≡ page (out-Node n).id → ys ≡ xs ++ inside_of same o (view n)
+    → ys ≡ xs ++ insides same page (view n)
+content_pushed same page n xs ys b o e t is f =
+    let held = all_insides same page (views (out-Node n).children) in
+    f ∙ ap (λ (p : Option Place). xs ++ inside_of same p (view n)) is
+    ∙ ap (λ (c : Bool). xs ++ (if c then inside_of same (page (out-Node n).id) (view n) else held)) (sym t ∙ e)
+    ∙ ap (λ (cs : List Change). xs ++ cs) (sym (insides_out same page n))
+
+pub held_pushed : (same : Tree → Tree → Bool) (page : Page) (n : Node) (ns : List Node) (xs ys : List Change) (b : Bool)
+    → b ≡ is_content (out-Node n).mark → b ≡ false → ns ≡ (out-Node n).children → ys ≡ xs ++ all_insides same page (views ns)
+    → ys ≡ xs ++ insides same page (view n)
+held_pushed same page n ns xs ys b e t are f =
+    f ∙ ap (λ (ms : List Node). xs ++ all_insides same page (views ms)) are
+    ∙ ap (λ (c : Bool). xs ++ (if c then inside_of same (page (out-Node n).id) (view n) else all_insides same page (views (out-Node n).children))) (sym t ∙ e)
+    ∙ ap (λ (cs : List Change). xs ++ cs) (sym (insides_out same page n))
+
+pub insides_views : (same : Tree → Tree → Bool) (page : Page) (ns : List Node)
+    → all_insides same page (views ns) ≡ flat_map (λ n. insides same page (view n)) ns
+insides_views same page [] = refl
+insides_views same page (n ∷ ns) = ap (λ (cs : List Change). insides same page (view n) ++ cs) (insides_views same page ns)
 
 -- the rest of the new page begins with the next change
 pub spliced_turn : (page : List ℕ) (at : ℕ) (cs : List Made) (i : ℕ) (c : Made) → i < length cs → c ≡ get_or cs i c

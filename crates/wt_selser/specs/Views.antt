@@ -1,9 +1,13 @@
 -- What the code's own types stand for.
-use Rattle.std.specs.Prelude.{List, map}
+use Rattle.std.specs.Prelude.{Bool, true, List, [], ◌∷◌, ◌++◌, map}
 use Rattle.wt_tree.specs.View.{view}
 use Rattle.wt_selser.specs.declared.change.Change.{Change as Made}
 use Rattle.wt_selser.specs.declared.change.Pair.{Pair as Found}
 use Rattle.wt_selser.specs.Changes.{Pair}
+use Rattle.wt_selser.specs.declared.steps.Step.{Step as Taken}
+use Rattle.wt_selser.specs.declared.steps.Step.TheVariants as taken
+use Rattle.wt_selser.specs.Steps.{Step, stays, goes, kept, comes}
+use Rattle.wt_selser.specs.BodySlices.{is_parted}
 use Rattle.wt_selser.specs.Splice.{Change}
 
 abbrev pub pair_of : Found → Pair
@@ -17,3 +21,17 @@ change_view c = record { start = c.start; end = c.end; by = c.by }
 
 abbrev pub changes_view : List Made → List Change
 changes_view cs = map change_view cs
+
+abbrev pub step_view : Taken → Step
+step_view (taken.Stays t) = stays (view t.now)
+step_view (taken.Goes t) = goes (view t.now)
+step_view (taken.Kept t u) = kept (view t.now) (view u.now)
+step_view (taken.Comes u) = comes (view u.now)
+
+abbrev pub steps_view : List Taken → List Step
+steps_view ss = map step_view ss
+
+-- for so many of the last steps each, from none on, whether the separators from there on part
+abbrev pub parted_ends : List Step → List Bool
+parted_ends [] = true ∷ []
+parted_ends (s ∷ ss) = parted_ends ss ++ (is_parted (s ∷ ss) ∷ [])

@@ -1,23 +1,23 @@
 //! The slices of the page that an edit replaces, and the new page.
 
-ghost use Rattle.std.specs.Prelude.{◌≡◌, ◌++◌, Bool, drop, OnOk, IfOk};
+ghost use Rattle.std.specs.Prelude.{◌≡◌, ◌++◌, Bool, drop, option_map, OnOk, IfOk};
 ghost use Rattle.wt_tree.specs.Tree.{Tree, label};
 ghost use Rattle.std.specs.List.{flat_map};
 ghost use Rattle.wt_tree.specs.Tiling.{InPreorder};
-ghost use Rattle.wt_tree.specs.View.{view};
+ghost use Rattle.wt_tree.specs.View.{view, views};
 ghost use Rattle.wt_tree.specs.declared.kind.Kind.TheVariants as kind;
 ghost use Rattle.wt_kept.specs.Page.{TellsSame};
 ghost use Rattle.wt_checks.specs.Places.{page_of, places};
 ghost use Rattle.wt_checks.specs.View.{all_seen, indexed, seen};
-ghost use Rattle.wt_selser.specs.Changes.{change_of, change_with, changes, marked, pair_at, place_in};
+ghost use Rattle.wt_selser.specs.Changes.{all_insides, change_with, inside_of, insides, is_edited, marked, pair_at, place_in};
 ghost use Rattle.wt_selser.specs.Splice.{between, spliced};
 ghost use Rattle.wt_selser.specs.Views.{changes_view, pair_of, pairs_of};
 
 use std::alloc::Global;
-use wt_checks::{Visit, is_content, numbered_nodes, original, preorder};
+use wt_checks::{Visit, is_children, is_content, original, preorder};
 use wt_escape::{Place, spell_inline};
 use wt_span::{NoMemory, Str};
-use wt_tree::{Kind, Node, Ranges};
+use wt_tree::{Kind, Mark, Node, Ranges};
 
 /// A marked node as it was in the page, and what it was edited to.
 #[derive(Clone, Copy)]
@@ -56,6 +56,13 @@ fn place_in(kind: Kind) -> Place
     }
 }
 
+/// Whether a mark says that what a node holds was edited: its content, or which children it has.
+fn is_edited(mark: Mark) -> bool
+    ensures { result ≡ is_edited mark }
+{
+    is_content(mark) || is_children(mark)
+}
+
 fn push_pair<'t, 'a>(
     pairs: &mut Vec<Pair<'t, 'a>>,
     index: &[Visit<'t, 'a>],
@@ -63,7 +70,7 @@ fn push_pair<'t, 'a>(
 ) -> Result<(), NoMemory>
     ensures { OnOk result (pairs_of pairs.new.items ≡ pairs_of pairs.old.items ++ pair_at (indexed index.now) (seen visit.entry)) }
 {
-    if !is_content(visit.node.mark) {
+    if !is_edited(visit.node.mark) {
         return Ok(());
     }
     if let Some(old) = original(index, visit.node.id) {
@@ -92,16 +99,13 @@ fn pairs_in<'t, 'a>(
 /// The marked nodes of an edited tree in preorder, each with the page's node of its number.
 pub fn marked_pairs<'t, 'a>(
     alloc: Global,
-    page: &'t Node<'a>,
+    index: &[Visit<'t, 'a>],
     edited: &'t Node<'a>,
 ) -> Result<Vec<Pair<'t, 'a>>, NoMemory>
-    requires body { (label (view page.now)).kind ≡ kind.Body }
-    requires numbered { ∥ InPreorder (view page.now) ∥₁ }
-    ensures { IfOk result (λ ps. pairs_of ps.items ≡ marked (view page.now) (view edited.now)) }
+    ensures { IfOk result (λ ps. pairs_of ps.items ≡ flat_map (pair_at (indexed index.now)) (places (view edited.now))) }
 {
-    let index = numbered_nodes(alloc, page)?;
     let edited = preorder(alloc, edited)?;
-    pairs_in(alloc, index.as_slice(), edited.as_slice())
+    pairs_in(alloc, index, edited.as_slice())
 }
 
 /// Appends the inside of a node with these ranges, by what is written for it.
@@ -122,24 +126,60 @@ fn push_inside(found: &mut Vec<Change>, ranges: Option<Ranges>, by: Str) -> Resu
     Ok(())
 }
 
-fn push_change(alloc: Global, found: &mut Vec<Change>, pair: Pair<'_, '_>) -> Result<(), NoMemory>
+/// Appends the inside of a node of the page, spelled as it was edited.
+fn push_inside_of(
+    alloc: Global,
+    found: &mut Vec<Change>,
+    old: Option<Visit<'_, '_>>,
+    new: &Node<'_>,
+) -> Result<(), NoMemory>
     ensures { (same : Tree → Tree → Bool) → TellsSame same
-        → OnOk result (changes_view found.new.items ≡ changes_view found.old.items ++ change_of same (pair_of pair.entry)) }
+        → OnOk result (changes_view found.new.items ≡ changes_view found.old.items ++ inside_of same (option_map seen old.entry) (view new.now)) }
 {
-    let by = spell_inline(alloc, pair.old, pair.new, place_in(pair.old.kind))?;
-    push_inside(found, pair.old.ranges, by)?;
+    match old {
+        None => Ok(()),
+        Some(visit) => {
+            let old = visit.node;
+            let by = spell_inline(alloc, old, new, place_in(old.kind))?;
+            push_inside(found, old.ranges, by)?;
+            Ok(())
+        }
+    }
+}
+
+/// Appends the insides of the nodes marked `content` in a tree.
+#[cycle(walking)]
+pub fn push_insides(
+    alloc: Global,
+    found: &mut Vec<Change>,
+    index: &[Visit<'_, '_>],
+    node: &Node<'_>,
+) -> Result<(), NoMemory>
+    ensures { (same : Tree → Tree → Bool) → TellsSame same
+        → OnOk result (changes_view found.new.items ≡ changes_view found.old.items ++ insides same (indexed index.now) (view node.now)) }
+{
+    if is_content(node.mark) {
+        push_inside_of(alloc, found, original(index, node.id), node)?;
+        return Ok(());
+    }
+    push_all_insides(alloc, found, index, node.children.as_slice())?;
     Ok(())
 }
 
-/// The changes of the marked nodes.
-pub fn changes(alloc: Global, pairs: &[Pair<'_, '_>]) -> Result<Vec<Change>, NoMemory>
-    ensures { (same : Tree → Tree → Bool) → TellsSame same → IfOk result (λ cs. changes_view cs.items ≡ changes same (pairs_of pairs.now)) }
+#[cycle(walking)]
+fn push_all_insides(
+    alloc: Global,
+    found: &mut Vec<Change>,
+    index: &[Visit<'_, '_>],
+    nodes: &[Node<'_>],
+) -> Result<(), NoMemory>
+    ensures { (same : Tree → Tree → Bool) → TellsSame same
+        → OnOk result (changes_view found.new.items ≡ changes_view found.old.items ++ all_insides same (indexed index.now) (views nodes.now)) }
 {
-    let mut found = Vec::new(alloc);
-    for pair in pairs {
-        push_change(alloc, &mut found, *pair)?;
+    for node in nodes {
+        push_insides(alloc, found, index, node)?;
     }
-    Ok(found)
+    Ok(())
 }
 
 /// Appends what stands in the page between two places.

@@ -6,26 +6,40 @@ ghost use Rattle.wt_tree.specs.Tree.{Tree, label};
 ghost use Rattle.wt_tree.specs.View.{view};
 ghost use Rattle.wt_tree.specs.declared.kind.Kind.TheVariants as kind;
 ghost use Rattle.wt_kept.specs.Page.{TellsSame};
+ghost use Rattle.wt_checks.specs.Places.{page_of};
+ghost use Rattle.wt_checks.specs.View.{indexed};
 ghost use Rattle.wt_tangled.specs.Passes.{AreOf};
-ghost use Rattle.wt_selser.specs.Changes.{changes};
-ghost use Rattle.wt_selser.specs.Edits.{AnswersEdit, is_tangled, bad_pair, refused_pairs, edit_answer, pairs_answer, first_of, most_bytes, tangled_pair};
+ghost use Rattle.wt_selser.specs.BodySlices.{slices};
+ghost use Rattle.wt_selser.specs.Changes.{marked};
 ghost use Rattle.wt_selser.specs.Splice.{spliced};
-ghost use Rattle.wt_selser.specs.Views.{pair_of, pairs_of};
+ghost use Rattle.wt_selser.specs.Edits.{AnswersEdit, is_tangled, bad_pair, refused_pairs, edit_answer, if_short, pairs_answer, first_of, most_bytes, tangled_pair, why_bad};
+ghost use Rattle.wt_selser.specs.Views.{changes_view, pair_of, pairs_of};
 
-use crate::change::{Pair, changes, marked_pairs, spliced};
+use crate::change::{Change, Pair, marked_pairs, spliced};
 use crate::group_fault::has_faulty_group;
 use crate::refusal::EditRefusal;
+use crate::slices::slices;
 use std::alloc::Global;
-use wt_checks::check;
-use wt_content::bad_content;
+use wt_checks::{Visit, check, is_children, is_content, numbered_nodes};
+use wt_content::{ContentWhy, bad_children, bad_content};
 use wt_span::{Items, NoMemory, PAGE_BYTES, Str};
 use wt_tangled::Passes;
 use wt_tree::Node;
 
+/// Why what stands in a marked node can't be written.
+fn why_bad(alloc: Global, pair: Pair<'_, '_>) -> Result<Option<ContentWhy>, NoMemory>
+    ensures { (same : Tree → Tree → Bool) → TellsSame same → IfOk result (λ w. w ≡ why_bad same (pair_of pair.entry)) }
+{
+    if is_children(pair.new.mark) {
+        return bad_children(alloc, pair.new);
+    }
+    bad_content(alloc, pair.old, pair.new)
+}
+
 fn bad_pair(alloc: Global, pair: Pair<'_, '_>) -> Result<Option<EditRefusal>, NoMemory>
     ensures { (same : Tree → Tree → Bool) → TellsSame same → IfOk result (λ r. r ≡ bad_pair same (pair_of pair.entry)) }
 {
-    let found = bad_content(alloc, pair.old, pair.new)?;
+    let found = why_bad(alloc, pair)?;
     match found {
         Some(why) => Ok(Some(EditRefusal::BadContent(pair.new.id, why))),
         None => Ok(None),
@@ -64,6 +78,7 @@ fn is_tangled(
     Ok(faulty)
 }
 
+/// Whether a content can't be read by itself.
 fn tangled_pair(
     alloc: Global,
     items: &Items<'_>,
@@ -75,6 +90,9 @@ fn tangled_pair(
     ensures value { IfOk result (λ r. r ≡ tangled_pair items.now page.now (pair_of pair.entry)) }
     ensures passes { AreOf items.now page.now passes.new }
 {
+    if !is_content(pair.new.mark) {
+        return Ok(None);
+    }
     let tangled = is_tangled(alloc, items, page, passes, pair.old)?;
     if tangled {
         return Ok(Some(EditRefusal::Tangled(pair.new.id)));
@@ -118,16 +136,6 @@ fn refused_pairs(
     Ok(tangled)
 }
 
-/// The page with the insides of marked nodes spelled anew, however long it is.
-fn with_changes(alloc: Global, page: &str, pairs: &[Pair<'_, '_>]) -> Result<Str, NoMemory>
-    ensures { (same : Tree → Tree → Bool) → TellsSame same
-        → IfOk result (λ new. new ≡ spliced page.now (changes same (pairs_of pairs.now))) }
-{
-    let found = changes(alloc, pairs)?;
-    let new = spliced(alloc, page, found.as_slice())?;
-    Ok(new)
-}
-
 /// Whether a page is longer than a page may be.
 #[tactic(auto, unfolding(crate::specs::Edits::most_bytes))]
 fn is_too_long(page: &str) -> bool
@@ -136,21 +144,11 @@ fn is_too_long(page: &str) -> bool
     page.len() > PAGE_BYTES
 }
 
-/// The new page of marked nodes.
-fn new_page(
-    alloc: Global,
-    items: &Items<'_>,
-    page: &str,
-    pairs: &[Pair<'_, '_>],
-) -> Result<Str, EditRefusal>
-    ensures { (same : Tree → Tree → Bool) → TellsSame same
-        → AnswersEdit (pairs_answer same items.now page.now (pairs_of pairs.now)) result }
+/// The page with these slices replaced, where it isn't too long.
+fn new_page(alloc: Global, page: &str, changes: &[Change]) -> Result<Str, EditRefusal>
+    ensures { AnswersEdit (if_short (spliced page.now (changes_view changes.now))) result }
 {
-    let refused = refused_pairs(alloc, items, page.as_bytes(), pairs)?;
-    if let Some(refusal) = refused {
-        return Err(refusal);
-    }
-    let new = with_changes(alloc, page, pairs)?;
+    let new = spliced(alloc, page, changes)?;
     let long = is_too_long(new.as_str());
     if long {
         return Err(EditRefusal::NewPageTooLong);
@@ -158,7 +156,32 @@ fn new_page(
     Ok(new)
 }
 
-/// The new page of an edited page: the page with the insides of its marked nodes spelled anew. `items` are
+/// The new page of an edit that the checks let through. `index` are the body and the nodes of the page with
+/// numbers.
+fn checked_edit<'t, 'a>(
+    alloc: Global,
+    items: &Items<'a>,
+    page: &str,
+    index: &[Visit<'t, 'a>],
+    tree: &'t Node<'a>,
+    edited: &'t Node<'a>,
+) -> Result<Str, EditRefusal>
+    requires { indexed index.now ≡ page_of (view tree.now) }
+    ensures { (same : Tree → Tree → Bool) → TellsSame same
+        → AnswersEdit (pairs_answer same items.now page.now (marked (view tree.now) (view edited.now))
+        (slices same (view tree.now) (view edited.now))) result }
+{
+    let pairs = marked_pairs(alloc, index, edited)?;
+    let refused = refused_pairs(alloc, items, page.as_bytes(), pairs.as_slice())?;
+    if let Some(refusal) = refused {
+        return Err(refusal);
+    }
+    let changes = slices(alloc, index, tree, edited)?;
+    new_page(alloc, page, changes.as_slice())
+}
+
+/// The new page of an edited page: the page with the insides of nodes marked `content` spelled anew, and
+/// with the blocks and items that come and go where a node is marked `children`. `items` are
 /// the page's items with its templates expanded, `tree` is its tree with its numbers from 1 in preorder,
 /// `edited` the tree that was read.
 ///
@@ -181,6 +204,6 @@ pub fn edit<'t, 'a>(
     if let Some(refusal) = refused {
         return Err(EditRefusal::Check(refusal));
     }
-    let pairs = marked_pairs(alloc, tree, edited)?;
-    new_page(alloc, items, page, pairs.as_slice())
+    let index = numbered_nodes(alloc, tree)?;
+    checked_edit(alloc, items, page, index.as_slice(), tree, edited)
 }

@@ -6,7 +6,8 @@ ghost use Rattle.wt_span.specs.Origins.{Expanded};
 ghost use Rattle.wt_tree.specs.Tiling.{Covers, InPreorder, NoneIsGroup, Tiled};
 ghost use Rattle.wt_tree.specs.Tree.{Label, Tree, Trees, label, tree};
 ghost use Rattle.wt_tree.specs.declared.kind.Kind.TheVariants as kind;
-ghost use Rattle.wt_selser.specs.Changes.{changes, marked};
+ghost use Rattle.wt_checks.specs.Groups.{has_mark};
+ghost use Rattle.wt_selser.specs.BodySlices.{slices};
 ghost use Rattle.wt_selser.specs.Edits.{edit_answer, is_tangled, most_bytes};
 ghost use Rattle.wt_selser.specs.Leaves.{LeavesHoldNoNumber};
 ghost use Rattle.wt_tangled.specs.OpenTags.{before, touches_open_tag};
@@ -33,15 +34,15 @@ pub fn nothing_changes()
 pub fn edit_is_a_splice()
     ensures apart { (same : Tree → Tree → Bool) (page : List ℕ) (tree edited : Tree) → (label tree).kind ≡ kind.Body → InPreorder tree → Tiled tree
         → Covers (length page) tree → LeavesHoldNoNumber tree → checked false tree edited ≡ None
-        → AreApart 0 (changes same (marked tree edited)) (length page) }
+        → AreApart 0 (slices same tree edited) (length page) }
     ensures stands { (same : Tree → Tree → Bool) (items : Expanded) (page new : List ℕ) (tree edited : Tree) → (label tree).kind ≡ kind.Body
         → InPreorder tree → Tiled tree → Covers (length page) tree → LeavesHoldNoNumber tree → edit_answer same items page tree edited ≡ Ok new
-        → OutsideStands page new (changes same (marked tree edited)) }
+        → OutsideStands page new (slices same tree edited) }
 {}
 
 /// Where nothing is marked and the checks refuse nothing, the new page is the page.
 pub fn unmarked_edit_is_the_page()
-    ensures { (same : Tree → Tree → Bool) (items : Expanded) (page : List ℕ) (tree edited : Tree) → marked tree edited ≡ []
+    ensures { (same : Tree → Tree → Bool) (items : Expanded) (page : List ℕ) (tree edited : Tree) → has_mark edited ≡ false
         → checked false tree edited ≡ None → length page ≤ most_bytes → edit_answer same items page tree edited ≡ Ok page }
 {}
 

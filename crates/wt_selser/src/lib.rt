@@ -2,12 +2,16 @@
 //! spelled anew, and every other byte stands as it was.
 #![tactic(auto)]
 
+mod body;
 mod change;
 mod differing;
 mod editing;
 mod group_fault;
 mod laws;
+mod list;
 mod refusal;
+mod slices;
+mod steps;
 
 pub use differing::first_differing;
 pub use editing::edit;
