@@ -7,7 +7,6 @@ use Rattle.wt_tree.specs.declared.kind.Kind.TheVariants as kind
 use Rattle.wt_tree.specs.declared.kind.Mark.{Mark}
 use Rattle.wt_tree.specs.declared.kind.Mark.TheVariants as marks
 use Rattle.wt_tree.specs.declared.kind.Ranges.{Ranges}
-use Rattle.wt_tree.specs.Kinds.{shape}
 use Rattle.wt_tree.specs.Tree.{Label, Tree, tree, Trees, none, more}
 use Rattle.wt_escape.specs.Spelling.{block_spelling, inline_spelling}
 use Rattle.wt_selser.specs.BodySlices.{slices}
@@ -37,13 +36,11 @@ paragraphs = node kind.Body 0 (at 0 4 0 0) [] marks.Nothing
 heading_behind : (same : Tree → Tree → Bool) → slices same paragraphs (kept kind.Body 0 marks.Children
     (more (kept kind.Para 1 marks.Nothing none) (more (new (kind.Heading 2)) (more (kept kind.Para 2 marks.Nothing none) none))))
     ≡ at_place 1 (10 ∷ 10 ∷ (block_spelling same (new (kind.Heading 2)) 42 ++ 10 ∷ [])) ∷ []
-unfolding shape
 heading_behind same = refl
 
 -- `a` is missing
 first_missing : (same : Tree → Tree → Bool) → slices same paragraphs (kept kind.Body 0 marks.Children (more (kept kind.Para 2 marks.Nothing none) none))
     ≡ record { start = 0; end = 1; by = [] } ∷ []
-unfolding shape
 first_missing same = refl
 
 -- ---- the line `* x`, and `* x`, `* y`
@@ -59,24 +56,20 @@ two_items = node kind.Body 0 (at 0 7 0 0) [] marks.Nothing
 
 item_before : (same : Tree → Tree → Bool) → slices same one_item (kept kind.Body 0 marks.Nothing (more (kept kind.Ul 1 marks.Children
     (more (new kind.Li) (more (kept kind.Li 2 marks.Nothing none) none))) none)) ≡ at_place 0 (block_spelling same (new kind.Li) 42 ++ 10 ∷ []) ∷ []
-unfolding shape
 item_before same = refl
 
 first_item_missing : (same : Tree → Tree → Bool) → slices same two_items (kept kind.Body 0 marks.Nothing (more (kept kind.Ul 1 marks.Children
     (more (kept kind.Li 3 marks.Nothing none) none)) none)) ≡ record { start = 0; end = 4; by = [] } ∷ []
-unfolding shape
 first_item_missing same = refl
 
 last_item_missing : (same : Tree → Tree → Bool) → slices same two_items (kept kind.Body 0 marks.Nothing (more (kept kind.Ul 1 marks.Children
     (more (kept kind.Li 2 marks.Nothing none) none)) none)) ≡ record { start = 3; end = 7; by = [] } ∷ []
-unfolding shape
 last_item_missing same = refl
 
 -- at one place: a new item at the list's end stands before the block behind the list
 item_then_block : (same : Tree → Tree → Bool) → slices same one_item (kept kind.Body 0 marks.Children (more (kept kind.Ul 1 marks.Children
     (more (kept kind.Li 2 marks.Nothing none) (more (new kind.Li) none))) (more (new (kind.Heading 2)) none)))
     ≡ at_place 3 (10 ∷ block_spelling same (new kind.Li) 42) ∷ at_place 3 (10 ∷ 10 ∷ (block_spelling same (new (kind.Heading 2)) 42 ++ [])) ∷ []
-unfolding shape
 item_then_block same = refl
 
 -- and the content of an item that was empty before the item behind it: the line `*`
@@ -88,5 +81,4 @@ pub content_then_item : (same : Tree → Tree → Bool) → slices same empty_it
     (more (kept kind.Li 2 marks.Content none) (more (new kind.Li) none))) none))
     ≡ record { start = 1; end = 1; by = inline_spelling same (node kind.Li 2 (at 0 1 1 0) [] marks.Nothing none) (kept kind.Li 2 marks.Content none) place.Item }
     ∷ at_place 1 (10 ∷ block_spelling same (new kind.Li) 42) ∷ []
-unfolding shape
 content_then_item same = refl
