@@ -77,7 +77,7 @@ abbrev empty_item : Tree
 empty_item = node kind.Body 0 (at 0 1 0 0) [] marks.Nothing
     (more (node kind.Ul 1 (at 0 1 0 0) [] marks.Nothing (more (node kind.Li 2 (at 0 1 1 0) [] marks.Nothing none) none)) none)
 
-pub content_then_item : (same : Tree → Tree → Bool) → slices same empty_item (kept kind.Body 0 marks.Nothing (more (kept kind.Ul 1 marks.Children
+content_then_item : (same : Tree → Tree → Bool) → slices same empty_item (kept kind.Body 0 marks.Nothing (more (kept kind.Ul 1 marks.Children
     (more (kept kind.Li 2 marks.Content none) (more (new kind.Li) none))) none))
     ≡ record { start = 1; end = 1; by = inline_spelling same (node kind.Li 2 (at 0 1 1 0) [] marks.Nothing none) (kept kind.Li 2 marks.Content none) place.Item }
     ∷ at_place 1 (10 ∷ block_spelling same (new kind.Li) 42) ∷ []

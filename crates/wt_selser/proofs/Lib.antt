@@ -1,5 +1,5 @@
 mod Cases
-pub mod ChildrenCases
+mod ChildrenCases
 pub mod Outside
 pub mod Chains
 pub mod PageChains

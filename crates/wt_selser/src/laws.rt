@@ -22,7 +22,7 @@ pub fn outside_stands()
 {}
 
 /// A page without marks is its own new page.
-#[tactic(auto, using(crate::proofs::Outside::nothing_changes, crate::proofs::ChildrenCases::content_then_item))]
+#[tactic(auto, using(crate::proofs::Outside::nothing_changes))]
 pub fn nothing_changes()
     ensures { (page : List ℕ) → spliced page [] ≡ page }
 {}
