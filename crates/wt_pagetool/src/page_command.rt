@@ -16,9 +16,10 @@ use crate::refusal::Refusal;
 use bumpalo::Bump;
 use std::alloc::Global;
 use wt_html_out::{LengthRefusal, html_bytes_within};
+use wt_lint::{finding_lines, lint};
 use wt_listing::listing;
 use wt_outer::Folder;
-use wt_span::{HTML_BYTES, PAGE_BYTES};
+use wt_span::{HTML_BYTES, List, NoMemory, PAGE_BYTES};
 use wt_tree::Annotated;
 
 /// The HTML of a page, if it is no longer than it may be. The writer stops at the longest HTML, so no
@@ -34,18 +35,26 @@ fn html_within(alloc: Global, tree: &Annotated<'_>) -> Result<Output, Refusal>
     }
 }
 
+/// The lines of the doubtful places of a page of this tree.
+fn findings_of(alloc: Global, page: &str, tree: &Annotated<'_>) -> Result<List<u8>, NoMemory> {
+    let findings = lint(alloc, page, tree)?;
+    finding_lines(alloc, findings.as_slice())
+}
+
 /// What a command makes of a page of this tree.
 fn output_of_tree(
     alloc: Global,
     command: PageCommand,
+    page: &str,
     tree: &Annotated<'_>,
 ) -> Result<Output, Refusal>
-    ensures answered { Answered (made_of_tree command (view tree.now.body)) result }
+    ensures answered { Answered (made_of_tree command page.now (view tree.now.body)) result }
     ensures of_page { IfErr result IsOfPage }
 {
     match command {
         PageCommand::Html => html_within(alloc, tree),
         PageCommand::Ranges => Ok(Output::Bytes(listing(alloc, tree.body())?)),
+        PageCommand::Lint => Ok(Output::Bytes(findings_of(alloc, page, tree)?)),
     }
 }
 
@@ -70,7 +79,7 @@ fn output_of_text<F: Folder>(
 {
     let arena = Bump::new(alloc);
     let tree = tree_of_text(alloc, page, &arena, folder)?;
-    output_of_tree(alloc, command, &tree)
+    output_of_tree(alloc, command, page, &tree)
 }
 
 /// What a command makes of the page that stands under a title.

@@ -1,0 +1,2 @@
+pub fn each_once_in_order() {}
+pub fn line_counts_back() {}

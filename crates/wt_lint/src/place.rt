@@ -1,0 +1,87 @@
+//! Where a node stands.
+
+ghost use Rattle.std.specs.Prelude.{◌≡◌};
+ghost use Rattle.wt_lint.specs.Nodes.{below, paragraph_below, sort_of, top};
+
+use wt_tree::{Kind, Ranges};
+
+/// What is looked for in a node.
+#[derive(Clone, Copy, Debug)]
+pub enum Sort {
+    /// Bold or italic text.
+    Style,
+    Group,
+    Paragraph,
+    Table,
+    Nowiki,
+    Text,
+    Island,
+    Heading,
+    Category,
+    /// Nothing.
+    Other,
+}
+
+pub fn sort_of(kind: Kind) -> Sort
+    ensures { result ≡ sort_of kind }
+{
+    match kind {
+        Kind::Bold => Sort::Style,
+        Kind::Italic => Sort::Style,
+        Kind::Group => Sort::Group,
+        Kind::Para => Sort::Paragraph,
+        Kind::Table => Sort::Table,
+        Kind::Nowiki => Sort::Nowiki,
+        Kind::Text => Sort::Text,
+        Kind::Island => Sort::Island,
+        Kind::Heading(_) => Sort::Heading,
+        Kind::Category => Sort::Category,
+        _ => Sort::Other,
+    }
+}
+
+/// Whether a node stands in a table or in a `nowiki`, and, of what stands directly in a paragraph that is in no
+/// table, where the paragraph begins.
+#[derive(Clone, Copy, Debug)]
+pub struct Place {
+    pub in_table: bool,
+    pub in_nowiki: bool,
+    pub paragraph: Option<u32>,
+}
+
+/// Where a body stands.
+pub fn top() -> Place
+    ensures { result ≡ top }
+{
+    Place {
+        in_table: false,
+        in_nowiki: false,
+        paragraph: None,
+    }
+}
+
+fn paragraph_below(in_table: bool, sort: Sort, start: u32) -> Option<u32>
+    ensures { result ≡ paragraph_below in_table sort start }
+{
+    match sort {
+        Sort::Paragraph => {
+            if in_table {
+                None
+            } else {
+                Some(start)
+            }
+        }
+        _ => None,
+    }
+}
+
+/// Where what stands directly in a node stands; the node begins at `start`.
+pub fn below(place: Place, sort: Sort, start: u32) -> Place
+    ensures { result ≡ below place sort start }
+{
+    Place {
+        in_table: place.in_table || matches!(sort, Sort::Table),
+        in_nowiki: place.in_nowiki || matches!(sort, Sort::Nowiki),
+        paragraph: paragraph_below(place.in_table, sort, start),
+    }
+}
