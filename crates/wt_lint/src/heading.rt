@@ -1,7 +1,7 @@
 //! Headings whose signs differ in number.
 
 ghost use Rattle.std.specs.Prelude.{◌≡◌, ◌≤◌, length};
-ghost use Rattle.wt_lint.specs.Findings.{is_sign, is_plain, signs_behind, is_unequal};
+ghost use Rattle.wt_lint.specs.Findings.{is_plain, signs_behind, is_unequal};
 
 use crate::bytes::{equals_ahead, equals_behind, others_behind, slice};
 use wt_span::front_of;

@@ -3,18 +3,23 @@
 
 mod bytes;
 mod category;
+mod cursor;
 mod finding;
 mod heading;
 mod laws;
+mod met;
 mod node;
 mod order;
 mod place;
+mod push;
 mod report;
 mod search;
 mod spot;
 mod style;
 mod tag;
 mod text;
+mod titles;
+mod walk;
 
 pub use finding::{Finding, Kind};
 pub use laws::{each_once_in_order, line_counts_back};

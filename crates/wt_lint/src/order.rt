@@ -1,64 +1,52 @@
 //! The findings of a page in their order.
 
+ghost use Rattle.std.specs.Prelude.{◌≡◌, ◌≤◌, length, map, IfOk, OnOk};
+ghost use Rattle.std.specs.BTreeSet.{insert_key};
+ghost use Rattle.wt_annotated.specs.Reached.{AreReachedSlices};
+ghost use Rattle.wt_span.specs.declared.limits.TheConstants.{PAGE_BYTES};
+ghost use Rattle.wt_tree.specs.View.{view};
+ghost use Rattle.wt_lint.specs.Findings.{in_order, order_of};
+ghost use Rattle.wt_lint.specs.Found.{each, seen};
+ghost use Rattle.wt_lint.specs.Lines.{as_located, findings, located};
+
+use crate::cursor::Cursor;
 use crate::finding::Finding;
-use crate::place::top;
-use crate::search::{Search, push_of_tree};
 use crate::spot::Spot;
-use indexmap::IndexSet;
+use crate::walk::spots_in;
 use std::alloc::Global;
 use std::collections::BTreeSet;
-use wt_span::{List, NoMemory, Range};
-use wt_tree::{Annotated, Node};
+use wt_span::{List, NoMemory, PAGE_BYTES, Range};
+use wt_tree::Annotated;
 
-/// All that is found in a tree.
-fn spots_in(alloc: Global, page: &[u8], body: &Node<'_>) -> Result<Vec<Spot>, NoMemory> {
-    let mut search = Search {
-        found: Vec::new(alloc),
-        titles: IndexSet::new(alloc),
-    };
-    push_of_tree(alloc, &mut search, page, top(), body)?;
-    Ok(search.found)
+fn put(set: &mut BTreeSet<Spot>, spot: Spot) -> Result<(), NoMemory>
+    ensures { OnOk result (each set.new.keys ≡ insert_key order_of (each set.old.keys) (seen spot)) }
+{
+    set.insert(spot)?;
+    Ok(())
 }
 
 /// These in their order, each once.
-fn in_order(alloc: Global, found: Vec<Spot>) -> Result<BTreeSet<Spot>, NoMemory> {
+fn in_order(alloc: Global, found: &[Spot]) -> Result<BTreeSet<Spot>, NoMemory>
+    ensures { IfOk result (λ set. each set.keys ≡ in_order (each found.now)) }
+{
     let mut set = BTreeSet::new(alloc);
     for spot in found {
-        set.insert(spot)?;
+        put(&mut set, *spot)?;
     }
     Ok(set)
 }
 
-/// A place of a page with its line, and the byte of that line, both from 1.
-#[derive(Clone, Copy)]
-struct Cursor {
-    at: u32,
-    line: u32,
-    column: u32,
-}
-
-fn after(cursor: Cursor, byte: u8) -> Cursor {
-    if byte == b'\n' {
-        Cursor {
-            at: cursor.at + 1,
-            line: cursor.line + 1,
-            column: 1,
-        }
-    } else {
-        Cursor {
-            at: cursor.at + 1,
-            line: cursor.line,
-            column: cursor.column + 1,
-        }
+/// A finding, where the cursor stands at its start.
+fn finding_at(cursor: Cursor, spot: Spot) -> Finding {
+    Finding {
+        kind: spot.kind,
+        at: Range {
+            start: spot.start,
+            end: spot.end,
+        },
+        line: cursor.line,
+        column: cursor.column,
     }
-}
-
-fn moved(page: &[u8], cursor: Cursor, place: u32) -> Cursor {
-    let mut cursor = cursor;
-    for at in cursor.at..place {
-        cursor = after(cursor, page[at as usize]);
-    }
-    cursor
 }
 
 /// These with their lines and columns.
@@ -66,37 +54,36 @@ fn with_lines(
     alloc: Global,
     page: &[u8],
     spots: BTreeSet<Spot>,
-) -> Result<List<Finding>, NoMemory> {
+) -> Result<List<Finding>, NoMemory>
+    requires { length page.now ≤ PAGE_BYTES }
+    ensures { IfOk result (λ fs. map as_located fs ≡ map (located page.now) (each spots.keys)) }
+{
+    let mut spots = spots;
     let mut findings = List::new(alloc);
-    let mut cursor = Cursor {
-        at: 0,
-        line: 1,
-        column: 1,
-    };
-    for spot in spots {
-        cursor = moved(page, cursor, spot.start);
-        findings.push(Finding {
-            kind: spot.kind,
-            at: Range {
-                start: spot.start,
-                end: spot.end,
-            },
-            line: cursor.line,
-            column: cursor.column,
-        })?;
+    let mut cursor = Cursor::first();
+    while let Some(spot) = spots.pop_first() {
+        cursor = cursor.moved(page, spot.start);
+        findings.push(finding_at(cursor, spot))?;
     }
     Ok(findings)
 }
 
 /// The doubtful places of a page, by its tree: exactly those that `specs/Findings.antt` defines, each once, in
 /// the order of their starts, then of their ends, then of their kinds as `Kind` lists them. What a template
-/// gives isn't looked at. `tree` has to be the tree of `page`.
+/// gives isn't looked at.
+///
+/// `tree` has to be a tree of `page`, which has at most `PAGE_BYTES` bytes: the range of each node but those in
+/// groups is a slice of it.
 pub fn lint(
     alloc: Global,
     page: &str,
     tree: &Annotated<'_>,
-) -> Result<List<Finding>, NoMemory> {
+) -> Result<List<Finding>, NoMemory>
+    requires room { length page.now ≤ PAGE_BYTES }
+    requires slices { AreReachedSlices page.now (view tree.now.body) }
+    ensures { IfOk result (λ fs. map as_located fs ≡ findings page.now (view tree.now.body)) }
+{
     let found = spots_in(alloc, page.as_bytes(), tree.body())?;
-    let ordered = in_order(alloc, found)?;
+    let ordered = in_order(alloc, found.as_slice())?;
     with_lines(alloc, page.as_bytes(), ordered)
 }

@@ -1,9 +1,9 @@
 //! Where a node stands.
 
 ghost use Rattle.std.specs.Prelude.{◌≡◌};
-ghost use Rattle.wt_lint.specs.Nodes.{below, paragraph_below, sort_of, top};
+ghost use Rattle.wt_lint.specs.Nodes.{below, is_group, is_nowiki, is_table, paragraph_below, sort_of, top};
 
-use wt_tree::{Kind, Ranges};
+use wt_tree::Kind;
 
 /// What is looked for in a node.
 #[derive(Clone, Copy, Debug)]
@@ -36,7 +36,12 @@ pub fn sort_of(kind: Kind) -> Sort
         Kind::Island => Sort::Island,
         Kind::Heading(_) => Sort::Heading,
         Kind::Category => Sort::Category,
-        _ => Sort::Other,
+        Kind::Body | Kind::Rule | Kind::Pre | Kind::Br | Kind::Entity => Sort::Other,
+        Kind::Ul | Kind::Ol | Kind::Dl | Kind::Li | Kind::Dt | Kind::Dd => Sort::Other,
+        Kind::Tbody | Kind::Tr | Kind::Caption | Kind::Td | Kind::Th => Sort::Other,
+        Kind::WikiLink | Kind::ExtLink | Kind::Tag(_) => Sort::Other,
+        Kind::Switch | Kind::Comment | Kind::Include | Kind::Skip => Sort::Other,
+        Kind::Sep | Kind::Empty => Sort::Other,
     }
 }
 
@@ -60,6 +65,25 @@ pub fn top() -> Place
     }
 }
 
+fn is_table(sort: Sort) -> bool
+    ensures { result ≡ is_table sort }
+{
+    matches!(sort, Sort::Table)
+}
+
+fn is_nowiki(sort: Sort) -> bool
+    ensures { result ≡ is_nowiki sort }
+{
+    matches!(sort, Sort::Nowiki)
+}
+
+/// Whether a node of this sort is a group.
+pub fn is_group(sort: Sort) -> bool
+    ensures { result ≡ is_group sort }
+{
+    matches!(sort, Sort::Group)
+}
+
 fn paragraph_below(in_table: bool, sort: Sort, start: u32) -> Option<u32>
     ensures { result ≡ paragraph_below in_table sort start }
 {
@@ -71,7 +95,8 @@ fn paragraph_below(in_table: bool, sort: Sort, start: u32) -> Option<u32>
                 Some(start)
             }
         }
-        _ => None,
+        Sort::Style | Sort::Group | Sort::Table | Sort::Nowiki | Sort::Text => None,
+        Sort::Island | Sort::Heading | Sort::Category | Sort::Other => None,
     }
 }
 
@@ -80,8 +105,8 @@ pub fn below(place: Place, sort: Sort, start: u32) -> Place
     ensures { result ≡ below place sort start }
 {
     Place {
-        in_table: place.in_table || matches!(sort, Sort::Table),
-        in_nowiki: place.in_nowiki || matches!(sort, Sort::Nowiki),
+        in_table: place.in_table || is_table(sort),
+        in_nowiki: place.in_nowiki || is_nowiki(sort),
         paragraph: paragraph_below(place.in_table, sort, start),
     }
 }

@@ -1,17 +1,28 @@
 //! The lines of `lint`.
 
+ghost use Rattle.std.specs.Prelude.{◌≡◌, ◌++◌, map, IfOk, OnOk};
+ghost use Rattle.wt_lint.specs.Lines.{as_located};
+ghost use Rattle.wt_lint.specs.Report.{finding_lines, line, next_number};
+
 use crate::finding::Finding;
 use std::alloc::Global;
 use wt_outer::{push, push_number};
 use wt_span::{List, NoMemory};
 
-fn push_next(out: &mut Vec<u8>, number: u32) -> Result<(), NoMemory> {
+/// Appends a blank and a number.
+fn push_next(out: &mut Vec<u8>, number: u32) -> Result<(), NoMemory>
+    ensures { OnOk result (out.new.items ≡ out.old.items ++ next_number number) }
+{
     push(out, b" ")?;
     push_number(out, number)?;
     Ok(())
 }
 
-fn push_line(out: &mut Vec<u8>, finding: Finding) -> Result<(), NoMemory> {
+/// Appends the line of a finding.
+#[tactic(auto, unfolding(crate::specs::Report::line))]
+fn push_line(out: &mut Vec<u8>, finding: Finding) -> Result<(), NoMemory>
+    ensures { OnOk result (out.new.items ≡ out.old.items ++ line (as_located finding)) }
+{
     push(out, finding.kind.word())?;
     push_next(out, finding.line)?;
     push_next(out, finding.column)?;
@@ -21,8 +32,11 @@ fn push_line(out: &mut Vec<u8>, finding: Finding) -> Result<(), NoMemory> {
     Ok(())
 }
 
-/// The lines of findings: for each `KIND LINE COLUMN START END` and a line break.
-pub fn finding_lines(alloc: Global, findings: &[Finding]) -> Result<List<u8>, NoMemory> {
+/// The lines of findings: for each `KIND LINE COLUMN START END` and a line break. The numbers are decimal, places
+/// are bytes.
+pub fn finding_lines(alloc: Global, findings: &[Finding]) -> Result<List<u8>, NoMemory>
+    ensures { IfOk result (λ bytes. bytes ≡ finding_lines (map as_located findings.now)) }
+{
     let mut out = Vec::new(alloc);
     for finding in findings {
         push_line(&mut out, *finding)?;

@@ -1,6 +1,8 @@
 //! Tags that are kept as they stand, since nothing closes them or they close nothing.
 
-ghost use Rattle.std.specs.Prelude.{◌≡◌, ◌<◌, length};
+ghost use Rattle.std.specs.Prelude.{◌≡◌, ◌≤◌, length};
+ghost use Rattle.std.specs.Char.{is_ascii_alphanumeric};
+ghost use Rattle.std.specs.List.{prefix_len};
 ghost use Rattle.wt_span.specs.Bytes.{lower};
 ghost use Rattle.wt_lint.specs.Tags.{name_at, is_paired_name, closes_itself, is_open_tag, is_closing_tag};
 
