@@ -1,2 +1,5 @@
+pub mod LineLaws
+pub mod Noting
 pub mod Orders
 pub mod TextTurns
+pub mod Walking

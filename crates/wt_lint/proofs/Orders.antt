@@ -1,5 +1,6 @@
 -- Findings in order.
-use Rattle.std.proofs.Common.{◌≡◌, List, [], ◌∷◌, map, refl, ap, ◌∙◌}
+use Rattle.std.proofs.Common.{◌≡◌, ℕ, List, [], ◌∷◌, ◌++◌, map, refl, sym, ap, ◌∙◌, append_assoc}
+use Rattle.std.proofs.lemmas.List.{map-append}
 use Rattle.std.specs.BTreeSet.{insert_key}
 use Rattle.std.specs.Ordering.{match_ordering, ordering_then, nat_cmp}
 use Rattle.std.specs.declared.cmp.Ordering.{Ordering}
@@ -7,10 +8,12 @@ use Rattle.std.specs.declared.cmp.Ordering.TheVariants.{Less, Equal, Greater}
 use Rattle.wt_lint.specs.contracts.finding.KindOrd.TheImpl as kind_ord
 use Rattle.wt_lint.specs.declared.finding.Kind.{Kind}
 use Rattle.wt_lint.specs.declared.finding.Kind.TheVariants as kind
+use Rattle.wt_lint.specs.declared.finding.Finding.{Finding}
 use Rattle.wt_lint.specs.declared.spot.Spot.{Spot}
 use Rattle.wt_lint.specs.Findings.{order_of}
 use Rattle.wt_lint.specs.Found.{each, seen}
 use Rattle.wt_lint.specs.Kinds.{rank}
+use Rattle.wt_lint.specs.Lines.{Located, as_located, located}
 
 -- what is put among what is kept is seen among what is seen
 pub put_seen : (cmp : Spot → Spot → Ordering) → ((x y : Spot) → cmp x y ≡ order_of (seen x) (seen y)) → (ks : List Spot) (k : Spot)
@@ -63,3 +66,15 @@ kind_order =
 pub spot_order : (x y : Spot)
     → ordering_then (nat_cmp x.start y.start) (ordering_then (nat_cmp x.end y.end) (kind_ord.ghosts.cmp x.kind y.kind)) ≡ order_of (seen x) (seen y)
 spot_order x y = ap (λ o. ordering_then (nat_cmp x.start y.start) (ordering_then (nat_cmp x.end y.end) o)) (kind_order x.kind y.kind)
+
+-- ---- the loop that gives lines
+
+pub lines_turn : (page : List ℕ) (fs : List Finding) (f : Finding) (spot : Spot) (ks rest : List Spot) (gs : List Finding) (t : List Located) → ks ≡ spot ∷ rest
+    → as_located f ≡ located page (seen spot) → gs ≡ fs ++ f ∷ []
+    → map as_located fs ++ map (located page) (each ks) ≡ t → map as_located gs ++ map (located page) (each rest) ≡ t
+lines_turn page fs f spot ks rest gs t e l g h =
+    ap (λ xs. map as_located xs ++ map (located page) (each rest)) g
+    ∙ ap (λ xs. xs ++ map (located page) (each rest)) (map-append as_located fs (f ∷ []))
+    ∙ append_assoc (map as_located fs) (as_located f ∷ []) (map (located page) (each rest))
+    ∙ ap (λ x. map as_located fs ++ (x ∷ map (located page) (each rest))) l
+    ∙ ap (λ xs. map as_located fs ++ map (located page) (each xs)) (sym e) ∙ h

@@ -3,6 +3,7 @@ use Rattle.std.specs.Prelude.{ℕ, Bool, true, false, ◌||◌, List, [], ◌∷
 use Rattle.wt_tree.specs.declared.kind.Kind.{Kind}
 use Rattle.wt_tree.specs.declared.kind.Kind.TheVariants as kind
 use Rattle.wt_tree.specs.declared.kind.Ranges.{Ranges}
+use Rattle.wt_tree.specs.Tiling.{is_group as is_group_kind}
 use Rattle.wt_tree.specs.Tree.{Label, Tree, tree, Trees, none, more}
 use Rattle.wt_lint.specs.declared.place.Sort.{Sort}
 use Rattle.wt_lint.specs.declared.place.Sort.TheVariants.{Style, Group, Paragraph, Table, Nowiki, Text, Island, Heading, Category, Other}
@@ -108,7 +109,7 @@ Stand = Place × Label
 abbrev mutual
   pub nodes : Place → Tree → List Stand
   nodes p (tree l ts) =
-      (p, l) ∷ (if is_group (sort_of l.kind) then [] else nodes_in_all (below p (sort_of l.kind) (start_of l.ranges)) ts)
+      (p, l) ∷ (if is_group_kind l.kind then [] else nodes_in_all (below p (sort_of l.kind) (start_of l.ranges)) ts)
 
   pub nodes_in_all : Place → Trees → List Stand
   nodes_in_all p none = []

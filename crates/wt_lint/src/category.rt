@@ -1,6 +1,7 @@
 //! Titles of categories.
 
-ghost use Rattle.std.specs.Prelude.{◌≡◌};
+ghost use Rattle.std.specs.Prelude.{◌≡◌, ◌≤◌, length};
+ghost use Rattle.std.specs.List.{prefix_len};
 ghost use Rattle.wt_tree.specs.View.{attrs_of, label_of};
 ghost use Rattle.wt_tree.specs.declared.node.Node.{out-Node};
 ghost use Rattle.wt_lint.specs.Categories.{href_in, is_title_byte, title_in, title_of};
@@ -26,12 +27,19 @@ fn is_title_byte(byte: u8) -> bool
     byte != b'#'
 }
 
+/// How many bytes of a link stand before its key.
+fn title_len(href: &[u8]) -> usize
+    ensures value { result ≡ prefix_len is_title_byte href.now }
+    ensures within { result ≤ length href.now }
+{
+    href.iter().take_while(|byte| is_title_byte(**byte)).count()
+}
+
 /// A link up to its key.
 fn title_in(href: &[u8]) -> &[u8]
     ensures { result.now ≡ title_in href.now }
 {
-    let count = href.iter().take_while(|byte| is_title_byte(**byte)).count();
-    front_of(href, count)
+    front_of(href, title_len(href))
 }
 
 /// The title of a category, as its link has it.

@@ -19,7 +19,7 @@ impl Cursor {
     /// The start of a page.
     pub fn first() -> Cursor
         ensures at { result.at ≡ 0 }
-        ensures is { (page : List ℕ) → IsAt page 0 result }
+        ensures is { (page : List ℕ) → IsAt page result.at result }
     {
         Cursor {
             at: 0,
@@ -34,7 +34,7 @@ impl Cursor {
         requires is { IsAt page.now self.at self }
         requires within { self.at < length page.now }
         ensures at { result.at ≡ self.at + 1 }
-        ensures is { IsAt page.now (self.at + 1) result }
+        ensures is { IsAt page.now result.at result }
     {
         if page[self.at as usize] == b'\n' {
             Cursor {
@@ -51,8 +51,24 @@ impl Cursor {
         }
     }
 
-    /// The place, or the end of the page where that comes first; counted on from this one where it doesn't
-    /// stand behind it.
+    /// A place that doesn't stand before this one.
+    fn counted(self, page: &[u8], place: u32) -> Cursor
+        requires room { length page.now ≤ PAGE_BYTES }
+        requires is { IsAt page.now self.at self }
+        requires ahead { self.at ≤ place }
+        requires within { place ≤ length page.now }
+        ensures at { result.at ≡ place }
+        ensures is { IsAt page.now result.at result }
+    {
+        let mut cursor = self;
+        for _at in self.at..place {
+            cursor = cursor.stepped(page);
+        }
+        cursor
+    }
+
+    /// A place, which counts as the end of the page where it stands behind it. It is counted on from this one, or
+    /// from the start where it stands before this one.
     pub fn moved(self, page: &[u8], place: u32) -> Cursor
         requires room { length page.now ≤ PAGE_BYTES }
         requires is { IsAt page.now self.at self }
@@ -60,10 +76,10 @@ impl Cursor {
         ensures is { IsAt page.now place result }
     {
         let end = cmp::min(place, page.len() as u32);
-        let mut cursor = if end < self.at { Cursor::first() } else { self };
-        for _ in cursor.at..end {
-            cursor = cursor.stepped(page);
+        if self.at <= end {
+            self.counted(page, end)
+        } else {
+            Cursor::first().counted(page, end)
         }
-        cursor
     }
 }

@@ -1,10 +1,11 @@
 //! The findings of a page in their order.
 
-ghost use Rattle.std.specs.Prelude.{◌≡◌, ◌≤◌, length, map, IfOk, OnOk};
+ghost use Rattle.std.specs.Prelude.{◌≡◌, ◌≤◌, ℕ, List, length, map, IfOk, OnOk};
 ghost use Rattle.std.specs.BTreeSet.{insert_key};
 ghost use Rattle.wt_annotated.specs.Reached.{AreReachedSlices};
 ghost use Rattle.wt_span.specs.declared.limits.TheConstants.{PAGE_BYTES};
 ghost use Rattle.wt_tree.specs.View.{view};
+ghost use Rattle.wt_lint.specs.Cursors.{IsAt};
 ghost use Rattle.wt_lint.specs.Findings.{in_order, order_of};
 ghost use Rattle.wt_lint.specs.Found.{each, seen};
 ghost use Rattle.wt_lint.specs.Lines.{as_located, findings, located};
@@ -37,7 +38,9 @@ fn in_order(alloc: Global, found: &[Spot]) -> Result<BTreeSet<Spot>, NoMemory>
 }
 
 /// A finding, where the cursor stands at its start.
-fn finding_at(cursor: Cursor, spot: Spot) -> Finding {
+fn finding_at(cursor: Cursor, spot: Spot) -> Finding
+    ensures { (page : List ℕ) → IsAt page spot.start cursor → as_located result ≡ located page (seen spot) }
+{
     Finding {
         kind: spot.kind,
         at: Range {

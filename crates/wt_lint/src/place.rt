@@ -1,7 +1,8 @@
 //! Where a node stands.
 
 ghost use Rattle.std.specs.Prelude.{◌≡◌};
-ghost use Rattle.wt_lint.specs.Nodes.{below, is_group, is_nowiki, is_table, paragraph_below, sort_of, top};
+ghost use Rattle.wt_tree.specs.Tiling.{is_group};
+ghost use Rattle.wt_lint.specs.Nodes.{below, is_nowiki, is_table, paragraph_below, sort_of, top};
 
 use wt_tree::Kind;
 
@@ -77,11 +78,11 @@ fn is_nowiki(sort: Sort) -> bool
     matches!(sort, Sort::Nowiki)
 }
 
-/// Whether a node of this sort is a group.
-pub fn is_group(sort: Sort) -> bool
-    ensures { result ≡ is_group sort }
+/// Whether a node of this kind is a group.
+pub fn is_group(kind: Kind) -> bool
+    ensures { result ≡ is_group kind }
 {
-    matches!(sort, Sort::Group)
+    matches!(kind, Kind::Group)
 }
 
 fn paragraph_below(in_table: bool, sort: Sort, start: u32) -> Option<u32>

@@ -35,12 +35,12 @@ fn push_of_tree(
         return Ok(());
     };
     push_of_node(alloc, search, page, place, node, range)?;
-    let sort = sort_of(node.kind);
-    if is_group(sort) {
+    if is_group(node.kind) {
         return Ok(());
     }
-    let inside = below(place, sort, range.start);
-    push_of_all(alloc, search, page, inside, node.children.as_slice())
+    let inside = below(place, sort_of(node.kind), range.start);
+    push_of_all(alloc, search, page, inside, node.children.as_slice())?;
+    Ok(())
 }
 
 #[cycle(walk)]
