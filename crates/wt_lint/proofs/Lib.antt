@@ -1,4 +1,7 @@
+mod Cases
+pub mod InOrder
 pub mod LineLaws
+pub mod LinesBack
 pub mod Noting
 pub mod Orders
 pub mod TextTurns

@@ -8,7 +8,7 @@ use Rattle.wt_span.specs.Bytes.{is_break}
 use Rattle.wt_lint.specs.Bytes.{suffix_len}
 use Rattle.wt_lint.specs.Lines.{breaks, line_of, column_of}
 
-breaks_join : (bs cs : List ℕ) → breaks (bs ++ cs) ≡ breaks bs + breaks cs
+pub breaks_join : (bs cs : List ℕ) → breaks (bs ++ cs) ≡ breaks bs + breaks cs
 breaks_join [] cs = omega arith
 breaks_join (b ∷ bs) cs = by (is_break b) (breaks_join bs cs)
   where
@@ -36,7 +36,7 @@ prefix_few p (b ∷ bs) = by (p b) (prefix_few p bs)
 taken_one : (page : List ℕ) (at : ℕ) → at < length page → take (at + 1) page ≡ take at page ++ get_or page at 0 ∷ []
 taken_one page at lt = take_more page at 0 lt
 
-break_column : (b : ℕ) (bs : List ℕ) → suffix_len (λ c. not (is_break c)) (bs ++ b ∷ []) ≡ (if is_break b then 0 else 1 + suffix_len (λ c. not (is_break c)) bs)
+pub break_column : (b : ℕ) (bs : List ℕ) → suffix_len (λ c. not (is_break c)) (bs ++ b ∷ []) ≡ (if is_break b then 0 else 1 + suffix_len (λ c. not (is_break c)) bs)
 break_column b bs = ap (prefix_len (λ c. not (is_break c))) (reverse-append bs (b ∷ [])) ∙ by (is_break b)
   where
     by : (t : Bool) → (if not t then 1 + suffix_len (λ c. not (is_break c)) bs else 0) ≡ (if t then 0 else 1 + suffix_len (λ c. not (is_break c)) bs)

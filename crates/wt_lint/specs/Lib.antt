@@ -1,5 +1,6 @@
 pub mod Bytes
 pub mod Categories
+pub mod Counting
 pub mod Cursors
 pub mod Findings
 pub mod Found

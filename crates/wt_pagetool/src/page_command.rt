@@ -1,6 +1,9 @@
-ghost use Rattle.std.specs.Prelude.{◌≡◌, ◌≤◌, length, IfSome, IfErr, Some};
+ghost use Rattle.std.specs.Prelude.{◌≡◌, ◌≤◌, length, IfOk, IfSome, IfErr, Some};
+ghost use Rattle.wt_annotated.specs.Reached.{AreReachedSlices};
 ghost use Rattle.wt_expand.specs.Expansion.{page_work};
 ghost use Rattle.wt_expand.specs.Work.{Pages, names_asked};
+ghost use Rattle.wt_lint.specs.Lines.{findings};
+ghost use Rattle.wt_lint.specs.Report.{finding_lines};
 ghost use Rattle.wt_markup.specs.Html.{html_text};
 ghost use Rattle.wt_tree.specs.View.{view};
 ghost use Rattle.wt_transclusion.specs.Asked.{Asks};
@@ -36,7 +39,11 @@ fn html_within(alloc: Global, tree: &Annotated<'_>) -> Result<Output, Refusal>
 }
 
 /// The lines of the doubtful places of a page of this tree.
-fn findings_of(alloc: Global, page: &str, tree: &Annotated<'_>) -> Result<List<u8>, NoMemory> {
+fn findings_of(alloc: Global, page: &str, tree: &Annotated<'_>) -> Result<List<u8>, NoMemory>
+    requires room { length page.now ≤ PAGE_BYTES }
+    requires slices { AreReachedSlices page.now (view tree.now.body) }
+    ensures { IfOk result (λ bytes. bytes ≡ finding_lines (findings page.now (view tree.now.body))) }
+{
     let findings = lint(alloc, page, tree)?;
     finding_lines(alloc, findings.as_slice())
 }
@@ -48,6 +55,8 @@ fn output_of_tree(
     page: &str,
     tree: &Annotated<'_>,
 ) -> Result<Output, Refusal>
+    requires room { length page.now ≤ PAGE_BYTES }
+    requires slices { AreReachedSlices page.now (view tree.now.body) }
     ensures answered { Answered (made_of_tree command page.now (view tree.now.body)) result }
     ensures of_page { IfErr result IsOfPage }
 {
