@@ -1,9 +1,9 @@
 -- Worked cases of what is found.
 use Rattle.std.proofs.Common.{◌≡◌, refl, [], ◌∷◌, true, false}
-use Rattle.std.specs.Prelude.{None, Some, codes}
+use Rattle.std.specs.Prelude.{codes}
 use Rattle.wt_tree.specs.declared.kind.Ranges.{Ranges}
 use Rattle.wt_lint.specs.declared.finding.Kind.TheVariants as kind
-use Rattle.wt_lint.specs.Findings.{in_order, is_unequal, is_open_style, signs_behind}
+use Rattle.wt_lint.specs.Findings.{in_order, is_unequal, is_open_style}
 use Rattle.wt_lint.specs.Lines.{column_of, line_of}
 use Rattle.wt_lint.specs.Tags.{is_closing_tag, is_open_tag, is_paired_name}
 use Rattle.wt_lint.specs.Texts.{pairs, runs, table_ends}

@@ -1,9 +1,8 @@
 -- The line and the column of the next place.
-use Rattle.std.proofs.Common.{◌≡◌, ℕ, ◌+◌, ◌<◌, ◌≤◌, Bool, true, false, List, [], ◌∷◌, ◌++◌, length, take, drop, map, get_or, refl, sym, ap, ◌∙◌, arith, min, ⊎_elim}
-use Rattle.std.specs.Prelude.{not, ◌==◌, reverse, if◌then◌else◌}
+use Rattle.std.proofs.Common.{◌≡◌, ℕ, ◌+◌, ◌<◌, ◌≤◌, Bool, true, false, List, [], ◌∷◌, ◌++◌, length, take, get_or, refl, ap, ◌∙◌, arith}
+use Rattle.std.specs.Prelude.{not, reverse, if◌then◌else◌}
 use Rattle.std.specs.List.{prefix_len}
-use Rattle.std.proofs.lemmas.List.{take_more, take_all, reverse-append, length-take, length-reverse}
-use Rattle.std.proofs.str.Laws.{order}
+use Rattle.std.proofs.lemmas.List.{take_more, reverse-append, length-take, length-reverse}
 use Rattle.wt_span.specs.Bytes.{is_break}
 use Rattle.wt_lint.specs.Bytes.{suffix_len}
 use Rattle.wt_lint.specs.Lines.{breaks, line_of, column_of}
@@ -75,28 +74,3 @@ line_few page at = omega (arith, breaks_few (take at page), taken_few page at)
 
 pub column_few : (page : List ℕ) (at : ℕ) → column_of page at ≤ 1 + length page
 column_few page at = omega (arith, prefix_few (λ c. not (is_break c)) (reverse (take at page)), taken_few page at, length-reverse (take at page))
-
--- ---- past the end
-
-pub line_clipped : (page : List ℕ) (at : ℕ) → length page ≤ at → line_of page at ≡ line_of page (length page)
-line_clipped page at le = ap (λ bs. 1 + breaks bs) (take_all at page le ∙ sym (take_all (length page) page (omega arith)))
-
-pub column_clipped : (page : List ℕ) (at : ℕ) → length page ≤ at → column_of page at ≡ column_of page (length page)
-column_clipped page at le =
-    ap (λ bs. 1 + suffix_len (λ c. not (is_break c)) bs) (take_all at page le ∙ sym (take_all (length page) page (omega arith)))
-
--- a place behind the end counts as the end
-by_end : (P : ℕ → ℕ) (size at end : ℕ) → (size ≤ at → P at ≡ P size) → end ≡ min at size → P end ≡ P at
-by_end P size at end clipped e = ⊎_elim (λ lt. past lt) (λ le. within le) (order size at)
-  where
-    past : size < at → P end ≡ P at
-    past lt = let is : end ≡ size = omega (arith, e, lt) in ap P is ∙ sym (clipped (omega (arith, lt)))
-
-    within : at ≤ size → P end ≡ P at
-    within le = let is : end ≡ at = omega (arith, e, le) in ap P is
-
-pub line_at_end : (page : List ℕ) (at end : ℕ) → end ≡ min at (length page) → line_of page end ≡ line_of page at
-line_at_end page at end e = by_end (line_of page) (length page) at end (line_clipped page at) e
-
-pub column_at_end : (page : List ℕ) (at end : ℕ) → end ≡ min at (length page) → column_of page end ≡ column_of page at
-column_at_end page at end e = by_end (column_of page) (length page) at end (column_clipped page at) e

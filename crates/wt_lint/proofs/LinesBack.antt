@@ -1,7 +1,7 @@
 -- What stands before a place: whole lines, and a row behind them.
-use Rattle.std.proofs.Common.{◌≡◌, ℕ, ◌+◌, Bool, true, false, List, [], ◌∷◌, ◌++◌, length, take, refl, sym, ap, ◌∙◌, subst, arith, append_assoc, append-nil, length-append}
-use Rattle.std.specs.Prelude.{not, reverse, slice_index, if◌then◌else◌}
-use Rattle.std.proofs.lemmas.List.{reverse-append, reverse-reverse, length-reverse}
+use Rattle.std.proofs.Common.{◌≡◌, ℕ, Bool, true, false, List, [], ◌∷◌, ◌++◌, length, take, refl, sym, ap, ◌∙◌, subst, arith, append_assoc, append-nil, length-append}
+use Rattle.std.specs.Prelude.{not, reverse, slice_index}
+use Rattle.std.proofs.lemmas.List.{reverse-append, reverse-reverse}
 use Rattle.wt_span.specs.Bytes.{is_break}
 use Rattle.wt_lint.specs.Bytes.{suffix_len}
 use Rattle.wt_lint.specs.Counting.{AreWhole, CountsBack}

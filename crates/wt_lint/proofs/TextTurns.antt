@@ -1,10 +1,10 @@
 -- One turn of each loop over the bytes of a text.
-use Rattle.std.proofs.Common.{◌≡◌, ℕ, ◌+◌, ◌-◌, ◌<◌, ◌≤◌, Bool, true, false, List, [], ◌∷◌, ◌++◌, length, drop, map, get_or, refl, sym, ap, ◌∙◌, arith, append_assoc, eq-eqb}
-use Rattle.std.specs.Prelude.{◌==◌, ◌&&◌, not, if◌then◌else◌}
+use Rattle.std.proofs.Common.{◌≡◌, ℕ, ◌+◌, ◌-◌, ◌<◌, Bool, true, false, List, [], ◌∷◌, ◌++◌, length, drop, get_or, refl, sym, ap, ◌∙◌, arith, append_assoc, eq-eqb}
+use Rattle.std.specs.Prelude.{◌==◌, ◌&&◌, not}
 use Rattle.std.proofs.lemmas.Bool.Decides.{nat_tests}
 use Rattle.std.proofs.lemmas.List.{drop_more, map-append}
 use Rattle.wt_lint.specs.Found.{Span, Found, as_all}
-use Rattle.wt_lint.specs.Texts.{when, pairs, ends_table, end_at, table_ends}
+use Rattle.wt_lint.specs.Texts.{when, pairs, end_at, table_ends}
 use Rattle.wt_lint.specs.declared.finding.Kind.{Kind}
 
 -- what is taken now goes before what is left
@@ -32,15 +32,6 @@ ends_turn page from start bs i kind xs ys t lt e h =
     ap (λ (p : ℕ). ys ++ as_all kind (table_ends page from p (drop (i + 1) bs))) next
     ∙ taken kind xs ys t (end_at page from (start + i) (drop i bs)) rest e
     (ap (λ ss. xs ++ as_all kind ss) (sym (ends_here page from (start + i) bs i lt)) ∙ h)
-
-pub two_long : (bs : List ℕ) → ends_table bs ≡ true → 2 ≤ length bs
-two_long [] e = cc
-two_long (b ∷ []) e = absurd (not_one (b == 124) e)
-  where
-    not_one : (t : Bool) → (t && false) ≡ true → ⊥
-    not_one true e = cc
-    not_one false e = cc
-two_long (b ∷ c ∷ bs) e = omega arith
 
 -- ---- pairs
 

@@ -1,5 +1,5 @@
 -- What the walk over a tree takes.
-use Rattle.std.proofs.Common.{◌≡◌, ℕ, ◌+◌, ◌<◌, ◌≤◌, Bool, true, false, List, [], ◌∷◌, ◌++◌, length, take, map, get_or, refl, sym, ap, ◌∙◌, subst, append_assoc, append-nil, arith, zero, suc}
+use Rattle.std.proofs.Common.{◌≡◌, ℕ, ◌+◌, ◌<◌, ◌≤◌, Bool, false, List, [], ◌∷◌, ◌++◌, length, take, get_or, refl, sym, ap, ◌∙◌, subst, append_assoc, append-nil, arith, zero, suc}
 use Rattle.std.specs.Prelude.{Option, Some, None, if◌then◌else◌}
 use Rattle.std.specs.List.{AllByRecursion, flat_map}
 use Rattle.std.proofs.lemmas.List.{take_more}
@@ -17,7 +17,7 @@ use Rattle.wt_lint.specs.declared.place.Place.{Place}
 use Rattle.wt_lint.specs.declared.place.Sort.{Sort}
 use Rattle.wt_lint.specs.declared.search.Search.{Search}
 use Rattle.wt_lint.specs.Findings.{at_range, at_ranges, found_from, titles_after, titles_from}
-use Rattle.wt_lint.specs.Found.{Found, each}
+use Rattle.wt_lint.specs.Found.{each}
 use Rattle.wt_lint.specs.Nodes.{Stand, below, nodes, nodes_in_all, sort_of, start_of}
 use Rattle.wt_lint.specs.Search.{Takes}
 use Rattle.wt_lint.specs.Titles.{names}
@@ -35,9 +35,6 @@ found_join page titles ((p, l) ∷ ms) ns =
     let here = at_ranges page titles p l l.ranges in
     ap (λ fs. here ++ fs) (found_join page (titles_after l titles) ms ns)
     ∙ sym (append_assoc here (found_from page (titles_after l titles) ms) (found_from page (titles_from (titles_after l titles) ms) ns))
-
-pub takes_none : (page : List ℕ) (a : Search) → Takes page [] a a
-takes_none page a = record { found = sym (append-nil (each a.found.items)); titles = refl }
 
 pub takes_more : (page : List ℕ) (ms ns : List Stand) (a b c : Search) → Takes page ms a b → Takes page ns b c → Takes page (ms ++ ns) a c
 takes_more page ms ns a b c h k = record {
@@ -69,17 +66,7 @@ below_node p n =
 nodes_out : (p : Place) (n : Node) → nodes p (view n) ≡ (p, label_of (out-Node n)) ∷ below_node p n
 nodes_out p n = rw (view_out n) refl
 
--- a group
-pub takes_group : (page : List ℕ) (p : Place) (n : Node) (r : Ranges) (a b : Search) → (out-Node n).ranges ≡ Some r → is_group (out-Node n).kind ≡ true
-    → each b.found.items ≡ each a.found.items ++ at_range page (names a.titles) p (label_of (out-Node n)) r
-    → names b.titles ≡ titles_after (label_of (out-Node n)) (names a.titles) → Takes page (nodes p (view n)) a b
-takes_group page p n r a b e g f t =
-    let nothing : below_node p n ≡ [] =
-    ap (λ (is : Bool). if is then [] else nodes_in_all (below p (sort_of (out-Node n).kind) (start_of (out-Node n).ranges)) (views (out-Node n).children)) g in
-    subst (λ ns. Takes page ns a b) (sym (nodes_out p n ∙ ap (λ ns. (p, label_of (out-Node n)) ∷ ns) nothing))
-    (takes_one page p (label_of (out-Node n)) r a b e f t)
-
--- any other node, and then what stands in it
+-- a node that is no group, and then what stands in it
 pub takes_tree : (page : List ℕ) (p : Place) (n : Node) (r : Ranges) (a b c : Search) → (out-Node n).ranges ≡ Some r → is_group (out-Node n).kind ≡ false
     → each b.found.items ≡ each a.found.items ++ at_range page (names a.titles) p (label_of (out-Node n)) r
     → names b.titles ≡ titles_after (label_of (out-Node n)) (names a.titles)
@@ -164,11 +151,6 @@ pub lies : (page : List ℕ) (n : Node) (r : Ranges) → AreReachedSlices page (
 lies page n r h e =
     let t = tree (label_of (out-Node n)) (views (out-Node n).children) in
     range_lies page (flat t) (opening_of (label t)) (label t).closing (out-Node n).ranges r e ((taken_apart page n h).0)
-
-pub has_range : (page : List ℕ) (n : Node) → AreReachedSlices page (view n) → (out-Node n).ranges ≡ None → ⊥
-has_range page n h e =
-    let t = tree (label_of (out-Node n)) (views (out-Node n).children) in
-    subst (λ o. StandsIn page o (flat t) (opening_of (label t)) (label t).closing) e ((taken_apart page n h).0)
 
 -- each of several
 pub each_sliced : (page : List ℕ) (ns : List Node) (i : ℕ) (n : Node) → i < length ns → n ≡ get_or ns i n

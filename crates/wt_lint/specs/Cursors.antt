@@ -1,5 +1,5 @@
 -- A cursor has the line and the column of a place.
-use Rattle.std.specs.Prelude.{◌≡◌, ◌≤◌, ℕ, List, length}
+use Rattle.std.specs.Prelude.{◌≡◌, ℕ, List}
 use Rattle.wt_lint.specs.declared.cursor.Cursor.{Cursor}
 use Rattle.wt_lint.specs.Lines.{line_of, column_of}
 

@@ -1,5 +1,5 @@
 -- Where findings stand, and the list of a page's findings.
-use Rattle.std.specs.Prelude.{ℕ, ◌+◌, not, Bool, List, [], ◌∷◌, map, take, if◌then◌else◌}
+use Rattle.std.specs.Prelude.{ℕ, ◌+◌, not, List, [], ◌∷◌, map, take, if◌then◌else◌}
 use Rattle.wt_span.specs.Bytes.{is_break}
 use Rattle.wt_tree.specs.Tree.{Tree}
 use Rattle.wt_lint.specs.declared.finding.Kind.{Kind}

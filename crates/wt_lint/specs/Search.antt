@@ -1,5 +1,5 @@
 -- What the walk over a tree has taken.
-use Rattle.std.specs.Prelude.{◌≡◌, ℕ, List, ◌++◌, map}
+use Rattle.std.specs.Prelude.{◌≡◌, ℕ, List, ◌++◌}
 use Rattle.wt_lint.specs.declared.search.Search.{Search}
 use Rattle.wt_lint.specs.Findings.{found_from, titles_from}
 use Rattle.wt_lint.specs.Found.{each}

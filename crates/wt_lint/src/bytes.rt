@@ -38,7 +38,11 @@ pub fn blanks_behind(bytes: &[u8]) -> usize
     ensures value { result ≡ suffix_len is_blank bytes.now }
     ensures within { result ≤ length bytes.now }
 {
-    bytes.iter().rev().take_while(|byte| is_blank(**byte)).count()
+    bytes
+        .iter()
+        .rev()
+        .take_while(|byte| is_blank(**byte))
+        .count()
 }
 
 fn is_equals(byte: u8) -> bool
@@ -64,7 +68,11 @@ pub fn equals_ahead(bytes: &[u8]) -> usize
 pub fn equals_behind(bytes: &[u8]) -> usize
     ensures { result ≡ suffix_len is_equals bytes.now }
 {
-    bytes.iter().rev().take_while(|byte| is_equals(**byte)).count()
+    bytes
+        .iter()
+        .rev()
+        .take_while(|byte| is_equals(**byte))
+        .count()
 }
 
 /// How many bytes but `=` end a text.
@@ -72,7 +80,11 @@ pub fn others_behind(bytes: &[u8]) -> usize
     ensures value { result ≡ suffix_len (λ b. not (is_equals b)) bytes.now }
     ensures within { result ≤ length bytes.now }
 {
-    bytes.iter().rev().take_while(|byte| is_other(**byte)).count()
+    bytes
+        .iter()
+        .rev()
+        .take_while(|byte| is_other(**byte))
+        .count()
 }
 
 /// How many bytes of this one begin a text.

@@ -53,11 +53,7 @@ fn finding_at(cursor: Cursor, spot: Spot) -> Finding
 }
 
 /// These with their lines and columns.
-fn with_lines(
-    alloc: Global,
-    page: &[u8],
-    spots: BTreeSet<Spot>,
-) -> Result<List<Finding>, NoMemory>
+fn with_lines(alloc: Global, page: &[u8], spots: BTreeSet<Spot>) -> Result<List<Finding>, NoMemory>
     requires { length page.now ≤ PAGE_BYTES }
     ensures { IfOk result (λ fs. map as_located fs ≡ map (located page.now) (each spots.keys)) }
 {
@@ -77,11 +73,7 @@ fn with_lines(
 ///
 /// `tree` has to be a tree of `page`, which has at most `PAGE_BYTES` bytes: the range of each node but those in
 /// groups is a slice of it.
-pub fn lint(
-    alloc: Global,
-    page: &str,
-    tree: &Annotated<'_>,
-) -> Result<List<Finding>, NoMemory>
+pub fn lint(alloc: Global, page: &str, tree: &Annotated<'_>) -> Result<List<Finding>, NoMemory>
     requires room { length page.now ≤ PAGE_BYTES }
     requires slices { AreReachedSlices page.now (view tree.now.body) }
     ensures { IfOk result (λ fs. map as_located fs ≡ findings page.now (view tree.now.body)) }

@@ -89,13 +89,7 @@ fn paragraph_below(in_table: bool, sort: Sort, start: u32) -> Option<u32>
     ensures { result ≡ paragraph_below in_table sort start }
 {
     match sort {
-        Sort::Paragraph => {
-            if in_table {
-                None
-            } else {
-                Some(start)
-            }
-        }
+        Sort::Paragraph => { if in_table { None } else { Some(start) } }
         Sort::Style | Sort::Group | Sort::Table | Sort::Nowiki | Sort::Text => None,
         Sort::Island | Sort::Heading | Sort::Category | Sort::Other => None,
     }

@@ -10,12 +10,7 @@ use wt_span::NoMemory;
 use wt_tree::Ranges;
 
 /// Takes one more.
-pub fn push_spot(
-    found: &mut Vec<Spot>,
-    kind: Kind,
-    start: u32,
-    end: u32,
-) -> Result<(), NoMemory>
+pub fn push_spot(found: &mut Vec<Spot>, kind: Kind, start: u32, end: u32) -> Result<(), NoMemory>
     requires { start ≤ end }
     ensures { OnOk result (each found.new.items ≡ each found.old.items ++ as_found kind (start, end) ∷ []) }
 {

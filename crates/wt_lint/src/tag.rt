@@ -15,7 +15,10 @@ fn name_len(bytes: &[u8]) -> usize
     ensures value { result ≡ prefix_len is_ascii_alphanumeric bytes.now }
     ensures within { result ≤ length bytes.now }
 {
-    bytes.iter().take_while(|byte| byte.is_ascii_alphanumeric()).count()
+    bytes
+        .iter()
+        .take_while(|byte| byte.is_ascii_alphanumeric())
+        .count()
 }
 
 /// The name that stands at a place.
@@ -52,8 +55,7 @@ fn closes_itself(source: &[u8]) -> bool
 pub fn is_open_tag(source: &[u8]) -> bool
     ensures { result ≡ is_open_tag source.now }
 {
-    source.starts_with(b"<")
-        && (is_paired_name(name_at(source, 1)) && !closes_itself(source))
+    source.starts_with(b"<") && (is_paired_name(name_at(source, 1)) && !closes_itself(source))
 }
 
 /// Whether a source is a closing tag of such a name.

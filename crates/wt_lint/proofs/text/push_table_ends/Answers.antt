@@ -1,4 +1,4 @@
-use Rattle.std.proofs.Common.{ap, drop, ◌∙◌, ◌+◌, ◌++◌}
+use Rattle.std.proofs.Common.{ap, ◌∙◌, ◌+◌, ◌++◌}
 use Rattle.wt_lint.specs.Found.{as_all, each}
 use Rattle.wt_lint.specs.Texts.{end_at}
 use Rattle.wt_lint.proofs.TextTurns.{ends_turn}

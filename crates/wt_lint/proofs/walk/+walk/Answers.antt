@@ -4,7 +4,7 @@ use Rattle.std.specs.List.{AllByRecursion}
 use Rattle.wt_annotated.specs.Reached.{reached_in_all}
 use Rattle.wt_annotated.specs.Slices.{IsSlice}
 use Rattle.wt_tree.specs.View.{views}
-use Rattle.wt_lint.proofs.Walking.{each_sliced, inside_sliced, lies, nodes_views, one_of_all, smaller_inside, has_range, takes_group, takes_node, takes_turn}
+use Rattle.wt_lint.proofs.Walking.{each_sliced, inside_sliced, lies, nodes_views, one_of_all, smaller_inside, takes_node, takes_turn}
 use Rattle.wt_lint.proofs.walk.+walk.Goals as goal
 
 pub push_of_all-push_of_tree-requires : goal.push_of_all-push_of_tree-requires
