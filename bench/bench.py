@@ -2,7 +2,7 @@
 """Measures the proved `wtround`: `html` on pages of 64 KiB, 512 KiB and 2 MiB, `wikitext` on HTML of 512 KiB,
 8 MiB and 64 MiB less a page's frame, of the HTML of pages with comments and entities, and of what `html` answers
 for pages of links, URLs, styles and tags (a third of the size for apostrophes); `html` on pages of lists and tables, and of templates; `expand` on pages of
-calls; `gen` of 100, 1,000 and 10,000 sections; `edit` on pages of which one word or a word of each paragraph was changed.
+calls; `lint` on pages that are doubtful all over; `gen` of 100, 1,000 and 10,000 sections; `edit` on pages of which one word or a word of each paragraph was changed.
 
   bench/bench.py PROGRAM [OTHER]
 
@@ -127,6 +127,18 @@ EDIT_KINDS = {
     "one word of an article with templates": (lines(called_article), one_word, WITH_CALLS),
 }
 
+
+# Pages that are doubtful all over.
+LINT_KINDS = {
+    "braces and brackets": whole("{{ }} [[ ]] "),
+    "open bold paragraphs": whole("'''a\n\n"),
+    "stray ends of tables": whole("|}\n"),
+    "stray tags": whole("</s>"),
+    "one category again and again": whole("[[Category:X]]"),
+    "unequal headings": whole("== a ===\n"),
+    "brackets": whole("[["),
+    "one run of braces": whole("{"),
+}
 
 # Pages of which the text is expanded, and the files of the templates that they call.
 ARGUMENTS = "|".join(f"a{k}={k}" for k in range(1000))
@@ -270,6 +282,8 @@ def main():
         measure(programs, f"expand, {kind}", ["expand", "Main"], SIZES, make, templates)
     for kind, (make, templates) in CALL_KINDS.items():
         measure(programs, f"html, {kind}", ["html", "Main"], SIZES, make, templates)
+    for kind, make in LINT_KINDS.items():
+        measure(programs, f"lint, {kind}", ["lint", "Main"], SIZES, make)
     for sections in (100, 1_000, 10_000):
         measure(programs, f"gen {sections}", ["gen", str(sections)], [67 * sections], lambda size: b"a" * size)
     for kind, (make, given, templates) in EDIT_KINDS.items():

@@ -1,4 +1,5 @@
 """explain over lines of wtround: those of the stored cases, and one of each kind."""
+import json
 import subprocess
 import sys
 import tempfile
@@ -73,7 +74,7 @@ def bytes_of(field: str) -> bytes:
 class Lines(unittest.TestCase):
     def test_each_kind_of_refusal(self) -> None:
         lines = [
-            "usage: wtround html TITLE | wikitext | edit TITLE | ranges TITLE | expand TITLE | gen N",
+            "usage: wtround html TITLE | wikitext | edit TITLE | ranges TITLE | expand TITLE | gen N | lint TITLE",
             "no such page", "page too long", "page not UTF-8 at 7", "html too long", "input too long",
             "braces too deep at 300", "braces too deep at 3 in Template:A b", "expansion too large", "element 3 has no source",
             "Template:X not UTF-8 at 0", "Template:X too long", "Über not UTF-8 at 1", "read fault", "folder fault",
@@ -156,6 +157,44 @@ class Commands(unittest.TestCase):
     def test_no_file_is_needed_without_a_place(self) -> None:
         self.assertIn("check its spelling", self.run_tool(stdin="wtround: no such page\n")[0])
         self.assertIn("UTF-8", self.run_tool(stdin="wtround: page not UTF-8 at 4\n")[0])
+
+    def test_doubtful_places(self) -> None:
+        (self.root / "Opava.wiki").write_text("The ď }}\n'''town\n", encoding="utf-8")
+        lines = "StrayBraces 1 8 7 9\nOpenStyle 2 1 10 17\n"
+        shown, _ = self.run_tool("Opava.wiki", stdin=lines)
+        self.assertEqual(
+            shown,
+            "Opava.wiki:1:7: StrayBraces\n"
+            "    The ď }}\n"
+            "          ^\n"
+            "These braces close no call: remove them, or write the braces that they belong to.\n"
+            "Opava.wiki:2:1: OpenStyle\n"
+            "    '''town\n"
+            "    ^\n"
+            "Bold or italic text begins here and no apostrophes close it, or it holds nothing: "
+            "close it with as many apostrophes, or remove these.\n",
+        )
+        self.assertIn("is not in this file", self.run_tool("Opava.wiki", "OpenTag 1 1 0 99", status=1)[1])
+        self.assertTrue(self.run_tool(stdin=lines)[0].startswith("1:8: StrayBraces\n"))
+
+    def test_json(self) -> None:
+        (self.root / "Opava.wiki").write_bytes(b"x\n\xc4\x8f\xff")
+        shown, _ = self.run_tool("--json", "Opava.wiki", stdin="StrayBraces 1 8 7 9\n")
+        (found,) = json.loads(shown)
+        self.assertIn("close no call", found.pop("advice"))
+        self.assertEqual({"kind": "StrayBraces", "line": 1, "column": 8, "start": 7, "end": 9}, found)
+        (refusal,) = json.loads(self.run_tool("--json", "Opava.wiki", "wtround: page not UTF-8 at 4")[0])
+        self.assertEqual(("Opava.wiki", 2, 3, 4), tuple(refusal[k] for k in ("file", "line", "column", "start")))
+        self.assertEqual("page not UTF-8 at 4", refusal["refusal"])
+        self.assertEqual([], json.loads(self.run_tool("--json", stdin="")[0]))
+
+    def test_each_kind_of_doubtful_place(self) -> None:
+        for kind, advice in tool.FINDING_REASONS.items():
+            (found,) = tool.read_findings(f"{kind} 1 2 3 4\n")
+            self.assertEqual((kind, 1, 2, 3, 4), (found.kind, found.line, found.column, found.start, found.end))
+            self.assertEqual(advice, found.advice)
+            self.assertTrue(advice.endswith("."))
+        self.assertEqual([], tool.read_findings("Other 1 2 3 4\nOpenTag 1 2 3\nOpenTag 1 2 3 4 5\n"))
 
     def test_statuses(self) -> None:
         (self.root / "short").write_text("abc")

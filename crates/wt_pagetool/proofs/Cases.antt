@@ -29,6 +29,11 @@ unfolding command_of page_name read_text is_allowed is_forbidden title_in whole_
     has_signature is_step begins_with_step holds_step ends_with_step
 ranges_main = refl
 
+lint_main : command_of (codes "lint" ∷ codes "main page" ∷ []) ≡ Some (Page pages.Lint (codes "Main page"))
+unfolding command_of page_name read_text is_allowed is_forbidden title_in whole_in cut_namespace is_good full_name_of prefix_of
+    has_signature is_step begins_with_step holds_step ends_with_step
+lint_main = refl
+
 edit_main : command_of (codes "edit" ∷ codes "main page" ∷ []) ≡ Some (Edit (codes "Main page"))
 unfolding command_of page_name read_text is_allowed is_forbidden title_in whole_in cut_namespace is_good full_name_of prefix_of
     has_signature is_step begins_with_step holds_step ends_with_step

@@ -12,9 +12,10 @@ use Rattle.wt_body.specs.Body.{meaning}
 use Rattle.wt_annotated.specs.Annotated.{annotated}
 use Rattle.wt_annotated.specs.Clean.{is_clean}
 use Rattle.wt_annotated.specs.GroupData.{group_data}
+use Rattle.wt_annotated.specs.Reached.{AreReachedSlices}
 use Rattle.wt_page_round_trip.specs.PageTree.{expanded_tree, page_tree}
 use Rattle.wt_page_round_trip.proofs.HeldPages.{its_page}
-use Rattle.wt_page_round_trip.proofs.PageTrees.{clean_meaning}
+use Rattle.wt_page_round_trip.proofs.PageTrees.{clean_meaning, page_reached}
 use Rattle.wt_expand.specs.Texts.{shown_text}
 use Rattle.wt_expand.specs.PageCalls.{expanded_page}
 use Rattle.wt_expand.specs.Work.{Refused}
@@ -106,6 +107,12 @@ page_small pages page e text room unrefused is =
 
 pub tree_expanded : (pages : Pages) (page : List ℕ) (t : Tree) (e : Expanded) → t ≡ expanded_tree e → e ≡ expanded_page pages page → t ≡ page_tree pages page
 tree_expanded pages page t e is same = is ∙ ap expanded_tree same
+
+-- and its ranges are slices of the page
+pub tree_sliced : (pages : Pages) (page : List ℕ) (t : Tree) (e : Expanded) → IsUtf8 page → refusal_of_page pages page ≡ None → t ≡ expanded_tree e
+    → e ≡ expanded_page pages page → AreReachedSlices page t
+tree_sliced pages page t e text unrefused is same =
+    subst (AreReachedSlices page) (sym (tree_expanded pages page t e is same)) (page_reached pages page (its_page pages page text unrefused))
 
 -- the tree of items is made of the meaning that was built
 pub meaning_small : (calls : List OuterCall) (xs : List Item) (t : ItemTree) → t ≡ meaning xs

@@ -22,7 +22,7 @@ use Rattle.wt_pagetool.specs.declared.refusal.Refusal.TheVariants.{HtmlTooLong}
 use Rattle.wt_pagetool.specs.declared.status.Status.{Status}
 use Rattle.wt_pagetool.specs.declared.status.Status.TheVariants as status
 use Rattle.wt_pagetool.specs.declared.command.PageCommand.{PageCommand}
-use Rattle.wt_pagetool.specs.declared.command.PageCommand.TheVariants.{Html, Ranges}
+use Rattle.wt_pagetool.specs.declared.command.PageCommand.TheVariants.{Html, Ranges, Lint}
 use Rattle.wt_pagetool.specs.declared.command.Command.{Command}
 use Rattle.wt_pagetool.specs.declared.command.Command.TheVariants.{Page, Expand, Edit, Gen, Wikitext}
 use Rattle.wt_pagetool.specs.Answers.{done, refused, expanded_by, told_of_tree, gen_of, gen_answer, title_answer, answer_told, IsText}
@@ -84,7 +84,8 @@ either false x y few other = other
 few_two : (word title : List ℕ) → HasFewSections (page_command word title)
 few_two word title =
     let name = page_name title in
-    let gen = either (bytes_eq word (codes "gen")) (option_map (λ n. Gen n) (section_count title)) None (few_gen title) tt in
+    let lint = either (bytes_eq word (codes "lint")) (option_map (λ name. Page Lint name) name) None (few_page Lint name) tt in
+    let gen = either (bytes_eq word (codes "gen")) (option_map (λ n. Gen n) (section_count title)) _ (few_gen title) lint in
     let edit = either (bytes_eq word (codes "edit")) (option_map (λ name. Edit name) name) _ (few_edit name) gen in
     let expand = either (bytes_eq word (codes "expand")) (option_map (λ name. Expand name) name) _ (few_expand name) edit in
     let ranges = either (bytes_eq word (codes "ranges")) (option_map (λ name. Page Ranges name) name) _ (few_page Ranges name) expand in

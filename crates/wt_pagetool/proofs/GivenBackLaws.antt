@@ -53,7 +53,7 @@ stands_there page other e = cc
 
 pub written : (pages : Pages) (page bytes : List ℕ) → html_answer pages (Some page) ≡ done bytes → Written pages page bytes
 written pages page bytes e =
-    let m = expanded_made pages (Some page) (λ bs. made_of_tree Html (page_tree pages bs)) bytes e in
+    let m = expanded_made pages (Some page) (λ bs. made_of_tree Html bs (page_tree pages bs)) bytes e in
     let html = html_text (page_tree pages m.page) in
     let few = few_html html bytes (nat_lt 67108864 (length html)) refl m.is in
     subst (λ bs. Written pages bs bytes) (stands_there page m.page m.found)

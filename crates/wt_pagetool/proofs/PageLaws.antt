@@ -153,10 +153,10 @@ absent_is (Some pages) title answer is gives = absent_step (pages title) (sym (a
 
 -- ---- from the tree of a page to the answer
 
-pub tree_made : (command : PageCommand) (t u : Tree) (o : Option Refused) (result : Result Output Refusal) → o ≡ None → t ≡ u
-    → Answered (made_of_tree command t) result → Answered (expanded_by (made_of_tree command u) o) result
-tree_made command t u o result none is a =
-    subst (λ x. Answered x result) (ap (made_of_tree command) is ∙ sym (ap (expanded_by (made_of_tree command u)) none)) a
+pub tree_made : (command : PageCommand) (page : List ℕ) (t u : Tree) (o : Option Refused) (result : Result Output Refusal) → o ≡ None → t ≡ u
+    → Answered (made_of_tree command page t) result → Answered (expanded_by (made_of_tree command page u) o) result
+tree_made command page t u o result none is a =
+    subst (λ x. Answered x result) (ap (made_of_tree command page) is ∙ sym (ap (expanded_by (made_of_tree command page u)) none)) a
 
 abbrev refused_by : Refusal → Result Output Refusal
 refused_by reason = Err reason

@@ -16,7 +16,7 @@ use Rattle.wt_pagetool.specs.declared.refusal.Refusal.{Refusal}
 use Rattle.wt_pagetool.specs.declared.refusal.Refusal.TheVariants.{HtmlTooLong, NoMemory}
 use Rattle.wt_pagetool.specs.declared.output.Output.{Output}
 use Rattle.wt_pagetool.specs.declared.command.PageCommand.{PageCommand}
-use Rattle.wt_pagetool.specs.declared.command.PageCommand.TheVariants.{Html, Ranges}
+use Rattle.wt_pagetool.specs.declared.command.PageCommand.TheVariants.{Html, Ranges, Lint}
 use Rattle.wt_pagetool.specs.declared.command.Command.TheVariants.{Page, Expand, Edit, Gen, Wikitext}
 use Rattle.wt_pagetool.specs.Outputs.{output_bytes}
 use Rattle.wt_pagetool.specs.Statuses.{code, IsAnswer, IsDoneOrRefused, IsFaultOrNoMemory}
@@ -45,20 +45,22 @@ within_done : (text bytes : List ℕ) (v : Bool) → cond v (refused HtmlTooLong
 within_done text bytes true e = cc
 within_done text bytes false e = cc
 
-made_is : (command : PageCommand) (t : Tree) (bytes : List ℕ) → made_of_tree command t ≡ done bytes → bytes ≡ page_output command t
-made_is Html t bytes e = within_done (html_text t) bytes (nat_lt HTML_BYTES (length (html_text t))) e
-made_is Ranges t bytes e = cc
+made_is : (command : PageCommand) (page : List ℕ) (t : Tree) (bytes : List ℕ) → made_of_tree command page t ≡ done bytes
+    → bytes ≡ page_output command page t
+made_is Html page t bytes e = within_done (html_text t) bytes (nat_lt HTML_BYTES (length (html_text t))) e
+made_is Ranges page t bytes e = cc
+made_is Lint page t bytes e = cc
 
 wrote_page : (command : PageCommand) (pages : Pages) (title bytes : List ℕ) (old new : Option (List ℕ))
     → title_answer (pages title) (made command pages) ≡ done bytes → Appends old new bytes → WrotePage command pages title old new
 wrote_page command pages title bytes old new e wrote =
-    let h = expanded_made pages (pages title) (λ page. made_of_tree command (page_tree pages page)) bytes e in
+    let h = expanded_made pages (pages title) (λ page. made_of_tree command page (page_tree pages page)) bytes e in
     let its : IsItsPage pages h.page = its_page pages h.page h.text h.unrefused in
     record {
       page = h.page;
       found = h.found;
       unrefused = h.unrefused;
-      wrote = subst (Appends old new) (made_is command (page_tree pages h.page) bytes h.is) wrote;
+      wrote = subst (Appends old new) (made_is command h.page (page_tree pages h.page) bytes h.is) wrote;
       tiled = page_tiled pages h.page;
       covers = page_covered pages h.page its;
       slices = page_reached pages h.page its;

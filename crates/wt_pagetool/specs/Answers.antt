@@ -5,6 +5,8 @@ use Rattle.wt_tree.specs.Tree.{Tree}
 use Rattle.wt_tree.specs.Source.{flat}
 use Rattle.wt_markup.specs.Html.{html_text}
 use Rattle.wt_listing.specs.Listing.{listing}
+use Rattle.wt_lint.specs.Lines.{findings}
+use Rattle.wt_lint.specs.Report.{finding_lines}
 use Rattle.wt_utf8.specs.Places.{not_utf8_place}
 use Rattle.wt_expand.specs.Texts.{shown_text}
 use Rattle.wt_expand.specs.Work.{Refused, braces_too_deep, too_large, not_utf8, too_long, first_refusal}
@@ -25,7 +27,7 @@ use Rattle.wt_pagetool.specs.declared.status.Status.TheVariants.{Done}
 use Rattle.wt_pagetool.specs.declared.refusal.Refusal.{Refusal}
 use Rattle.wt_pagetool.specs.declared.refusal.Refusal.TheVariants.{Usage, Absent, TooLong, NotUtf8, BracesTooDeep, TooLarge, TemplateNotUtf8, TemplateTooLong, HtmlTooLong, InputTooLong, Html as html_refused, Unfit, Unsourced, NewExpansion, Unspelled}
 use Rattle.wt_pagetool.specs.declared.command.PageCommand.{PageCommand}
-use Rattle.wt_pagetool.specs.declared.command.PageCommand.TheVariants.{Html, Ranges}
+use Rattle.wt_pagetool.specs.declared.command.PageCommand.TheVariants.{Html, Ranges, Lint}
 use Rattle.wt_pagetool.specs.declared.command.Command.{Command}
 use Rattle.wt_pagetool.specs.declared.command.Command.TheVariants.{Page, Expand, Edit, Gen, Wikitext}
 use Rattle.wt_pagetool.specs.Refusals.{status_of, refusal_of_edit}
@@ -87,19 +89,22 @@ pub record IsUnrefused (pages : Pages) (page : List ℕ) : Type 0 where
 abbrev pub html_within : List ℕ → Answer
 html_within bytes = if nat_lt HTML_BYTES (length bytes) then refused HtmlTooLong else done bytes
 
--- what a command writes of the tree of a page: `html` its HTML, `ranges` a line for each node that has a number
-abbrev pub page_output : PageCommand → Tree → List ℕ
-page_output Html t = html_text t
-page_output Ranges t = listing t
+-- what a command writes of a page and its tree: `html` its HTML, `ranges` a line for each node that has a number, `lint` a line
+-- for each doubtful place
+abbrev pub page_output : PageCommand → List ℕ → Tree → List ℕ
+page_output Html page t = html_text t
+page_output Ranges page t = listing t
+page_output Lint page t = finding_lines (findings page t)
 
 -- HTML may not be too long
-abbrev pub made_of_tree : PageCommand → Tree → Answer
-made_of_tree Html t = html_within (page_output Html t)
-made_of_tree Ranges t = done (page_output Ranges t)
+abbrev pub made_of_tree : PageCommand → List ℕ → Tree → Answer
+made_of_tree Html page t = html_within (page_output Html page t)
+made_of_tree Ranges page t = done (page_output Ranges page t)
+made_of_tree Lint page t = done (page_output Lint page t)
 
 -- what a command makes of a page that is text: of the tree of the expanded page, or what its work refuses first
 abbrev pub made : PageCommand → Pages → List ℕ → Answer
-made command pages page = expanded_by (made_of_tree command (page_tree pages page)) (refusal_of_page pages page)
+made command pages page = expanded_by (made_of_tree command page (page_tree pages page)) (refusal_of_page pages page)
 
 -- `html` of what stands under the title
 abbrev pub html_answer : Pages → Option (List ℕ) → Answer

@@ -94,7 +94,7 @@ pub record WrotePage (command : PageCommand) (pages : Pages) (title : List ℕ) 
   pub page : List ℕ
   pub found : pages title ≡ Some page
   pub unrefused : refusal_of_page pages page ≡ None
-  pub wrote : Appends old new (page_output command (page_tree pages page))
+  pub wrote : Appends old new (page_output command page (page_tree pages page))
   pub tiled : Tiled (page_tree pages page)
   pub covers : Covers (length page) (page_tree pages page)
   pub slices : AreReachedSlices page (page_tree pages page)

@@ -6,7 +6,7 @@ use Rattle.wt_gen.specs.declared.page.TheConstants.{MOST_SECTIONS}
 use Rattle.wt_names.specs.declared.title.Title.{Title}
 use Rattle.wt_names.specs.Good.{read_text}
 use Rattle.wt_names.specs.Namespace.{full_name_of}
-use Rattle.wt_pagetool.specs.declared.command.PageCommand.TheVariants.{Html, Ranges}
+use Rattle.wt_pagetool.specs.declared.command.PageCommand.TheVariants.{Html, Ranges, Lint}
 use Rattle.wt_pagetool.specs.declared.command.Command.{Command}
 use Rattle.wt_pagetool.specs.declared.command.Command.TheVariants.{Page, Expand, Edit, Gen, Wikitext}
 
@@ -33,6 +33,7 @@ page_command word title =
     else if bytes_eq word (codes "expand") then option_map (λ name. Expand name) (page_name title)
     else if bytes_eq word (codes "edit") then option_map (λ name. Edit name) (page_name title)
     else if bytes_eq word (codes "gen") then option_map (λ n. Gen n) (section_count title)
+    else if bytes_eq word (codes "lint") then option_map (λ name. Page Lint name) (page_name title)
     else None
 
 -- the command that the words name, or none

@@ -13,6 +13,8 @@ pub enum PageCommand {
     Html,
     /// Its numbered nodes, with their places.
     Ranges,
+    /// Its doubtful places.
+    Lint,
 }
 
 /// What the words of a call ask for.
@@ -109,6 +111,9 @@ fn page_command(alloc: Global, word: &str, title: &str) -> Result<Option<Command
     }
     if word == "gen" {
         return Ok(gen_of(title));
+    }
+    if word == "lint" {
+        return of_page(alloc, PageCommand::Lint, title);
     }
     Ok(None)
 }

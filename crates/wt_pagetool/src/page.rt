@@ -1,6 +1,7 @@
 //! The tree of a page with its templates expanded.
 
 ghost use Rattle.std.specs.Prelude.{◌≡◌, ◌≤◌, ◌<◌, ◌^◌, length, OnOk, IfOk, IfErr, Some, None};
+ghost use Rattle.wt_annotated.specs.Reached.{AreReachedSlices};
 ghost use Rattle.wt_expand.specs.Expansion.{page_work};
 ghost use Rattle.wt_expand.specs.PageCalls.{expanded_page};
 ghost use Rattle.wt_expand.specs.Work.{Pages, names_asked};
@@ -44,6 +45,7 @@ pub fn annotated_of_text<'a, F: Folder>(
     folder: &mut F,
 ) -> Result<Annotated<'a>, Refusal>
     requires room { length page.now ≤ PAGE_BYTES }
+    ensures slices { IfOk result (λ a. AreReachedSlices page.entry.now (view a.tree.body)) }
     ensures tree { (pages : Pages) → F.pages folder.old ≡ Some pages
         → IfOk result (λ a. view a.tree.body ≡ page_tree pages page.entry.now) }
     ensures items { (pages : Pages) → F.pages folder.old ≡ Some pages
@@ -75,6 +77,7 @@ pub fn tree_of_text<'a, F: Folder>(
     folder: &mut F,
 ) -> Result<Tree<'a>, Refusal>
     requires room { length page.now ≤ PAGE_BYTES }
+    ensures slices { IfOk result (λ tree. AreReachedSlices page.entry.now (view tree.body)) }
     ensures tree { (pages : Pages) → F.pages folder.old ≡ Some pages
         → IfOk result (λ tree. view tree.body ≡ page_tree pages page.entry.now) }
     ensures refused { (pages : Pages) → F.pages folder.old ≡ Some pages

@@ -1,6 +1,9 @@
-ghost use Rattle.std.specs.Prelude.{◌≡◌, ◌≤◌, length, IfSome, IfErr, Some};
+ghost use Rattle.std.specs.Prelude.{◌≡◌, ◌≤◌, length, IfOk, IfSome, IfErr, Some};
+ghost use Rattle.wt_annotated.specs.Reached.{AreReachedSlices};
 ghost use Rattle.wt_expand.specs.Expansion.{page_work};
 ghost use Rattle.wt_expand.specs.Work.{Pages, names_asked};
+ghost use Rattle.wt_lint.specs.Lines.{findings};
+ghost use Rattle.wt_lint.specs.Report.{finding_lines};
 ghost use Rattle.wt_markup.specs.Html.{html_text};
 ghost use Rattle.wt_tree.specs.View.{view};
 ghost use Rattle.wt_transclusion.specs.Asked.{Asks};
@@ -16,9 +19,10 @@ use crate::refusal::Refusal;
 use bumpalo::Bump;
 use std::alloc::Global;
 use wt_html_out::{LengthRefusal, html_bytes_within};
+use wt_lint::{finding_lines, lint};
 use wt_listing::listing;
 use wt_outer::Folder;
-use wt_span::{HTML_BYTES, PAGE_BYTES};
+use wt_span::{HTML_BYTES, List, NoMemory, PAGE_BYTES};
 use wt_tree::Annotated;
 
 /// The HTML of a page, if it is no longer than it may be. The writer stops at the longest HTML, so no
@@ -34,18 +38,32 @@ fn html_within(alloc: Global, tree: &Annotated<'_>) -> Result<Output, Refusal>
     }
 }
 
+/// The lines of the doubtful places of a page of this tree.
+fn findings_of(alloc: Global, page: &str, tree: &Annotated<'_>) -> Result<List<u8>, NoMemory>
+    requires room { length page.now ≤ PAGE_BYTES }
+    requires slices { AreReachedSlices page.now (view tree.now.body) }
+    ensures { IfOk result (λ bytes. bytes ≡ finding_lines (findings page.now (view tree.now.body))) }
+{
+    let findings = lint(alloc, page, tree)?;
+    finding_lines(alloc, findings.as_slice())
+}
+
 /// What a command makes of a page of this tree.
 fn output_of_tree(
     alloc: Global,
     command: PageCommand,
+    page: &str,
     tree: &Annotated<'_>,
 ) -> Result<Output, Refusal>
-    ensures answered { Answered (made_of_tree command (view tree.now.body)) result }
+    requires room { length page.now ≤ PAGE_BYTES }
+    requires slices { AreReachedSlices page.now (view tree.now.body) }
+    ensures answered { Answered (made_of_tree command page.now (view tree.now.body)) result }
     ensures of_page { IfErr result IsOfPage }
 {
     match command {
         PageCommand::Html => html_within(alloc, tree),
         PageCommand::Ranges => Ok(Output::Bytes(listing(alloc, tree.body())?)),
+        PageCommand::Lint => Ok(Output::Bytes(findings_of(alloc, page, tree)?)),
     }
 }
 
@@ -70,7 +88,7 @@ fn output_of_text<F: Folder>(
 {
     let arena = Bump::new(alloc);
     let tree = tree_of_text(alloc, page, &arena, folder)?;
-    output_of_tree(alloc, command, &tree)
+    output_of_tree(alloc, command, page, &tree)
 }
 
 /// What a command makes of the page that stands under a title.

@@ -71,8 +71,8 @@ fn find_answer<S: Source, F: Folder>(
 ///
 /// `html TITLE` writes to `out` the HTML of the page that stands in `folder` under the title, with its
 /// templates expanded, whose pages stand in `folder`, too, and `ranges TITLE` a line for each of its nodes
-/// that has a number: `mwN KIND START END OPEN CLOSE`, in bytes. `expand TITLE` writes the items of the
-/// expanded page. `gen N` makes a page of N sections and its HTML, reads this back and writes what it
+/// that has a number: `mwN KIND START END OPEN CLOSE`, in bytes, and `lint TITLE` a line for each doubtful
+/// place: `KIND LINE COLUMN START END`. `expand TITLE` writes the items of the expanded page. `gen N` makes a page of N sections and its HTML, reads this back and writes what it
 /// counted. `wikitext` reads the HTML of `input` to its end and writes to `out` the source of the page
 /// for which it stands. `edit TITLE` reads the HTML of `input`, in which some elements of the page's HTML are
 /// marked as edited, and writes the new page, in which the inside of each of them, and nothing else, is
@@ -91,7 +91,8 @@ pub fn run<S: Source, F: Folder, W: Sink, E: Sink>(
     out: &mut W,
     err: &mut E,
 ) -> u8
-    // `html` or `ranges`, when it is done, wrote the HTML or the listing of the tree of the expanded page.
+    // `html`, `ranges` or `lint`, when it is done, wrote the HTML, the listing or the doubtful places of the
+    // tree of the expanded page.
     // The ranges tile the page from its first byte to its last; of each node, but for what stands in groups,
     // the source stands at its range, with delimiters as wide as it says; the numbers are in preorder; and
     // nothing refuses the expansion.
@@ -201,7 +202,7 @@ pub fn run<S: Source, F: Folder, W: Sink, E: Sink>(
     ensures waits { (title : List ℕ) → command_of words.now ≡ Some (Command.Edit title)
         → IfSome (F.pages folder.old) (λ pages. IsNoText (pages title) → input.new ≡ input.old) }
 
-    // A command that doesn't read (`html`, `ranges`, `expand`, `gen`) leaves the input as it was, and one
+    // A command that doesn't read (`html`, `ranges`, `expand`, `gen`, `lint`) leaves the input as it was, and one
     // that doesn't fetch (`wikitext`, `gen`) the folder; words that are no command leave both.
     ensures unread { ¬ Reads (command_of words.now) → input.new ≡ input.old }
     ensures unasked { ¬ Fetches (command_of words.now) → folder.new ≡ folder.old }

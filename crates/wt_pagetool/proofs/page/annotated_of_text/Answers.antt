@@ -2,7 +2,7 @@ use Rattle.wt_tree.specs.View.{view}
 use Rattle.wt_expand.specs.Expansion.{page_work}
 use Rattle.wt_expand.specs.Work.{names_asked}
 use Rattle.wt_pagetool.proofs.AskedLaws.{named_all, named_first}
-use Rattle.wt_pagetool.proofs.ExpandLaws.{page_small, tree_expanded}
+use Rattle.wt_pagetool.proofs.ExpandLaws.{page_small, tree_expanded, tree_sliced}
 use Rattle.wt_pagetool.proofs.page.annotated_of_text.Goals as goal
 
 pub annotated_of_items-requires : goal.annotated_of_items-requires
@@ -21,6 +21,11 @@ returns-in_err-tree-clause-asked g c = λ pages told.
     let d = g.F.Folder in
     named_all (names_asked (page_work pages c.args.page.now)) (d.answered c.args.folder.now) (d.answered c.expand.new.folder)
     c.from_residual-in_err-tree.result (c.in_ok-items.ensures.named pages told)
+
+pub returns-clause-slices : goal.returns-clause-slices
+returns-clause-slices g c =
+    let s = c.in_ok-items.ensures.some in
+    tree_sliced s.0 c.args.page.now (view c.in_ok-tree.tree.tree.body) c.in_ok-items.items c.utf8.page s.2 c.in_ok-tree.ensures.tree s.1
 
 pub returns-clause-tree : goal.returns-clause-tree
 returns-clause-tree g c = λ pages told.

@@ -1,0 +1,15 @@
+pub mod Bytes
+pub mod Categories
+pub mod Counting
+pub mod Cursors
+pub mod Findings
+pub mod Found
+pub mod Kinds
+pub mod Lines
+pub mod Nodes
+pub mod Report
+pub mod Parts
+pub mod Search
+pub mod Tags
+pub mod Texts
+pub mod Titles
