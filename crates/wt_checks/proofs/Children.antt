@@ -1,6 +1,6 @@
 -- Each kept node of a page is a child of its kept parent, and so the page's node for a kept node of the
 -- edited tree is a child of the page's node for its kept parent.
-use Rattle.std.proofs.Common.{◌≡◌, ◌≢◌, ℕ, Bool, true, false, List, [], ◌∷◌, map, refl, sym, ap, ◌∙◌, subst, inl, inr, ◌⊎◌}
+use Rattle.std.proofs.Common.{◌≡◌, ◌≢◌, ℕ, Bool, true, false, List, [], ◌∷◌, map, refl, ap, ◌∙◌, subst, inl, inr, ◌⊎◌}
 use Rattle.std.specs.Prelude.{◌==◌, ◌||◌, not, if◌then◌else◌, filter, Option, Some, None}
 use Rattle.std.specs.List.{AllByRecursion}
 use Rattle.wt_tree.specs.declared.kind.Kind.{Kind}
@@ -10,8 +10,8 @@ use Rattle.wt_tree.specs.Tiling.{is_group, ids, ids_of_all, numbers, numbers_of_
 use Rattle.wt_tree.specs.Tree.{Tree, tree, Trees, none, more, label, listed}
 use Rattle.wt_checks.specs.Ids.{has_parent}
 use Rattle.wt_checks.specs.Kept.{children, InOrder}
-use Rattle.wt_checks.specs.Places.{Place, placed, all_placed, places, number, is_kept, is_body, is_content, Page, page_of, parent_below}
-use Rattle.wt_checks.specs.PutBack.{has_body, have_body, IsOneBody, IsAsRead, AreAsRead}
+use Rattle.wt_checks.specs.Places.{Place, placed, all_placed, places, number, kind_at, is_kept, is_body, is_content, Page, page_of, parent_below}
+use Rattle.wt_checks.specs.PutBack.{has_body, have_body, IsOneBody, TextsHoldNoNumber}
 use Rattle.wt_checks.specs.Tokens.{is_text}
 use Rattle.wt_checks.proofs.Found.{Itself, each_itself, found_has, Inner, inner_by, own_by, PageNodes, body_no_group}
 use Rattle.wt_checks.proofs.InOrder.{Increasing, Right, all_right, kept_not_zero, not_zero_kept, same_by}
@@ -38,6 +38,10 @@ abbrev IsChild : Page → Place → Type 0
 IsChild page p = is_kept p ≡ true → IsIn page p.parent p.node
 
 -- ---- in the page
+
+-- a text holds no number
+abbrev TextFree : Place → Type 0
+TextFree p = is_text (writing (kind_at p)) ≡ true → AllZero (ids_of_all (children p.node))
 
 -- in a group nothing has a number
 mutual
@@ -69,7 +73,7 @@ below_kept parent id z = by_zero (id == 0) (not_zero_kept id z)
     by_zero false h = refl
 
 below_by : (g n : Bool) (page : Page) (parent : ℕ) (within : Bool) (id : ℕ) (p : Place) (ts : Trees) → Inner g ts
-    → (n ≡ true → id ≢ 0) → (id ≢ 0 → page id ≡ Some p) → (n ≡ false → ts ≡ none)
+    → (n ≡ true → id ≢ 0) → (id ≢ 0 → page id ≡ Some p) → (n ≡ false → AllZero (ids_of_all ts))
     → (page (parent_below parent id) ≡ Some p → AllZero (others_of_all ts) → NoZero (numbers_of_all ts)
     → AllByRecursion (IsChild page) (all_placed (parent_below parent id) within ts))
     → AllByRecursion (IsChild page) (all_placed (parent_below parent id) within ts)
@@ -78,11 +82,11 @@ below_by false true page parent within id p ts i z f e h =
     let w = i.outside refl in
     h (ap page (below_kept parent id (z refl)) ∙ f (z refl)) w.0 w.1
 below_by false false page parent within id p ts i z f e h =
-    subst (λ (us : Trees). AllByRecursion (IsChild page) (all_placed (parent_below parent id) within us)) (sym (e refl)) tt
+    all_in_group page (parent_below parent id) within ts (e refl)
 
 mutual
   child_below : (page : Page) (parent : ℕ) (within : Bool) (q : Place) (t : Tree) → page parent ≡ Some q → Among t (children q.node)
-      → AllByRecursion (Itself page) (placed parent within t) → AllByRecursion IsAsRead (placed parent within t)
+      → AllByRecursion (Itself page) (placed parent within t) → AllByRecursion TextFree (placed parent within t)
       → AllZero (others t) → NoZero (numbers t) → has_body t ≡ false → AllByRecursion (IsChild page) (placed parent within t)
   child_below page parent within q (tree l ts) e m s r z o b =
       let c = or_false (is_body l.kind) (have_body ts) b in
@@ -92,18 +96,18 @@ mutual
             (inner_by (is_numbered l.kind) (is_group l.kind) l.id ts z o)
             (own_by (is_numbered l.kind) l.id (if is_group l.kind then [] else numbers_of_all ts) o)
             (λ k. s.0 (not_zero_kept l.id k))
-            (λ n. r.0.text (unnumbered_text l.kind n c.0))
+            (λ n. r.0 (unnumbered_text l.kind n c.0))
             (λ f y w. all_child_below page (parent_below parent l.id) (within || is_content l.mark) p ts f (λ t i. i) s.1 r.1 y w c.1),
       )
 
   all_child_below : (page : Page) (parent : ℕ) (within : Bool) (q : Place) (ts : Trees) → page parent ≡ Some q
       → ((t : Tree) → Among t ts → Among t (children q.node))
-      → AllByRecursion (Itself page) (all_placed parent within ts) → AllByRecursion IsAsRead (all_placed parent within ts)
+      → AllByRecursion (Itself page) (all_placed parent within ts) → AllByRecursion TextFree (all_placed parent within ts)
       → AllZero (others_of_all ts) → NoZero (numbers_of_all ts) → have_body ts ≡ false → AllByRecursion (IsChild page) (all_placed parent within ts)
   all_child_below page parent within q none e m s r z o b = tt
   all_child_below page parent within q (more t ts) e m s r z o b =
       let a = each_split (Itself page) (placed parent within t) (all_placed parent within ts) s in
-      let d = each_split IsAsRead (placed parent within t) (all_placed parent within ts) r in
+      let d = each_split TextFree (placed parent within t) (all_placed parent within ts) r in
       let y = each_split (λ n. n ≡ 0) (others t) (others_of_all ts) z in
       let p = each_split (λ n. n ≢ 0) (numbers t) (numbers_of_all ts) o in
       let c = or_false (has_body t) (have_body ts) b in
@@ -112,7 +116,7 @@ mutual
       (all_child_below page parent within q ts e (λ u i. m u (inr i)) a.1 d.1 y.1 p.1 c.1)
 
 root_below : (page : Page) (t : Tree) → (label t).id ≡ 0 → is_body (label t).kind ≡ true → have_body (children t) ≡ false
-    → page 0 ≡ Some (record { node = t; parent = 0; in_content = false }) → AllByRecursion (Itself page) (places t) → AllByRecursion IsAsRead (places t)
+    → page 0 ≡ Some (record { node = t; parent = 0; in_content = false }) → AllByRecursion (Itself page) (places t) → AllByRecursion TextFree (places t)
     → AllZero (others t) → NoZero (numbers t) → AllByRecursion (IsChild page) (places t)
 root_below page (tree l ts) n b a e s r z o =
     let i = inner_by (is_numbered l.kind) (is_group l.kind) l.id ts z o in
@@ -152,7 +156,7 @@ stand_in page (p ∷ ps) r f = (
 )
 
 pub all_stand_in : (page edited : Tree) → IsOneBody page → PageNodes page → PageNumbers page
-    → Increasing (map number (filter is_kept (places page))) → AreAsRead page → InOrder (places page) (places edited)
+    → Increasing (map number (filter is_kept (places page))) → TextsHoldNoNumber page → InOrder (places page) (places edited)
     → AllByRecursion (StandsIn (page_of page)) (places edited)
 all_stand_in page edited b n i inc r o =
     let all = root_below (page_of page) page i.root b.root b.alone n.root (each_itself (places page) inc) r i.unnumbered i.counted in

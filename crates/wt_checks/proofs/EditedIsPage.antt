@@ -14,7 +14,7 @@ use Rattle.wt_checks.specs.Gist.{gist}
 use Rattle.wt_checks.specs.Ids.{is_there, is_unknown}
 use Rattle.wt_checks.specs.Kept.{Kept, GroupAsItWas, NodeAsItWas, NodeKept}
 use Rattle.wt_checks.specs.Places.{Place, places, kind_at, is_kept, is_body, parent_below, Page, page_of}
-use Rattle.wt_checks.specs.PutBack.{original, inside_back, put_back, all_put_back, IsOneBody, AreAsRead, IsThePage}
+use Rattle.wt_checks.specs.PutBack.{original, inside_back, put_back, all_put_back, IsOneBody, TextsHoldNoNumber, AreAsRead, IsThePage}
 use Rattle.wt_checks.specs.Unmarked.{is_compared}
 use Rattle.wt_checks.proofs.Children.{all_stand_in}
 use Rattle.wt_checks.proofs.Given.{HiddenKept, all_given}
@@ -137,7 +137,7 @@ is_page values page edited b h r e =
       marks = a.marks;
     }
 
-pub page_is : (values : Bool) (page edited : Tree) → IsOneBody page → InPreorder page → AreAsRead page → IsOneBody edited → AreAsRead edited
+pub page_is : (values : Bool) (page edited : Tree) → IsOneBody page → InPreorder page → TextsHoldNoNumber page → IsOneBody edited → AreAsRead edited
     → IsThePage values page edited → checked values page edited ≡ None
 page_is values page edited b h t r d a =
     let k : (label page).kind ≡ kind.Body = body_is (label page).kind b.root in
