@@ -11,3 +11,4 @@ pub mod StepWalk
 pub mod Answering
 pub mod GroupFaultLaws
 pub mod NoGroups
+pub mod StepsApart

@@ -63,14 +63,14 @@ tiles false (Some r) inside h = record {
   high = λ e. omega arith;
 }
 
-begins : (from : ℕ) (r : Option Ranges) → BeginsAt from r → start_of r ≡ from
+pub begins : (from : ℕ) (r : Option Ranges) → BeginsAt from r → start_of r ≡ from
 begins from None h = absurd h
 begins from (Some r) h = h
 
-tree_grows : (t : Tree) → Tiled t → start_of (label t).ranges ≤ end_of (label t).ranges
+pub tree_grows : (t : Tree) → Tiled t → start_of (label t).ranges ≤ end_of (label t).ranges
 tree_grows (tree l ts) h = (tiles (is_leaf l.kind) l.ranges (λ from to. TiledFrom ts from to) h).grows
 
-trees_grow : (ts : Trees) (from to : ℕ) → TiledFrom ts from to → from ≤ to
+pub trees_grow : (ts : Trees) (from to : ℕ) → TiledFrom ts from to → from ≤ to
 trees_grow none from to h = omega (arith, h)
 trees_grow (more t ts) from to h =
     let b = begins from (label t).ranges h.0 in
