@@ -12,3 +12,4 @@ pub mod Answering
 pub mod GroupFaultLaws
 pub mod NoGroups
 pub mod StepsApart
+pub mod Bodies

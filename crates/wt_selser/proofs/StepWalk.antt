@@ -52,14 +52,15 @@ pub none_more : (number : ℕ) (nodes : List Node) (i : ℕ) (n : Node) → i < 
     → (out-Node n).id ≢ number → NoneBefore number nodes i → NoneBefore number nodes (i + 1)
 none_more number nodes i n lt is other before =
     let rest = drop (i + 1) nodes in
-    let here = from_place nodes i n lt is in
-    (before.0 ∙ ap (λ (xs : List Node). from_number number (views xs)) here ∙ passed_other number n rest other,
-    λ h. before.1 h
-    ∙ ap (λ (xs : List Node). passed h (views (take i nodes)) ++ passed_up_to h number (views xs)) here
-    ∙ ap (λ (ss : List Step). passed h (views (take i nodes)) ++ ss) (up_to_other h number n rest other)
-    ∙ sym (append_assoc (passed h (views (take i nodes))) (passed_one h (view n) ∷ []) (passed_up_to h number (views rest)))
-    ∙ ap (λ (ss : List Step). ss ++ passed_up_to h number (views rest)) (sym (passed_more h (take i nodes) (n ∷ [])))
-    ∙ ap (λ (xs : List Node). passed h (views xs) ++ passed_up_to h number (views rest)) (sym (up_to_place nodes i n lt is)))
+    let here = from_place nodes i n lt is in (
+      before.0 ∙ ap (λ (xs : List Node). from_number number (views xs)) here ∙ passed_other number n rest other,
+      λ h. before.1 h
+          ∙ ap (λ (xs : List Node). passed h (views (take i nodes)) ++ passed_up_to h number (views xs)) here
+          ∙ ap (λ (ss : List Step). passed h (views (take i nodes)) ++ ss) (up_to_other h number n rest other)
+          ∙ sym (append_assoc (passed h (views (take i nodes))) (passed_one h (view n) ∷ []) (passed_up_to h number (views rest)))
+          ∙ ap (λ (ss : List Step). ss ++ passed_up_to h number (views rest)) (sym (passed_more h (take i nodes) (n ∷ [])))
+          ∙ ap (λ (xs : List Node). passed h (views xs) ++ passed_up_to h number (views rest)) (sym (up_to_place nodes i n lt is)),
+    )
 
 -- ---- passing nodes
 

@@ -3,13 +3,12 @@ use Rattle.std.proofs.Common.{arith, ◌≡◌, ◌≢◌, ◌≤◌, ℕ, Bool,
 use Rattle.std.specs.Prelude.{◌==◌, ◌&&◌, not, if◌then◌else◌, Option, Some, None}
 use Rattle.std.specs.List.{AllByRecursion}
 use Rattle.wt_tree.specs.declared.kind.Ranges.{Ranges}
-use Rattle.wt_tree.specs.Tiling.{Tiled, TiledFrom, end_of}
-use Rattle.wt_tree.specs.Tree.{Tree, tree, Trees, none, more, label, listed}
+use Rattle.wt_tree.specs.Tiling.{TiledFrom, end_of}
+use Rattle.wt_tree.specs.Tree.{Tree, Trees, none, more, label, listed}
 use Rattle.wt_escape.specs.Spelling.{block_spelling}
-use Rattle.wt_checks.specs.Places.{Place, Page}
+use Rattle.wt_checks.specs.Places.{Page}
 use Rattle.wt_checks.proofs.Found.{Found}
 use Rattle.wt_checks.proofs.InOrder.{same_by, test_equal}
-use Rattle.wt_checks.proofs.Lookups.{each_join}
 use Rattle.wt_content.specs.declared.children.Holder.{Holder}
 use Rattle.wt_content.specs.declared.children.Holder.TheVariants as holder
 use Rattle.wt_content.specs.Children.{is_child}

@@ -61,7 +61,12 @@ pub fn push_at(found: &mut Vec<Change>, place: u32, by: Str) -> Result<(), NoMem
 }
 
 /// Appends a slice that goes.
-fn push_removed(found: &mut Vec<Change>, alloc: Global, start: u32, end: u32) -> Result<(), NoMemory>
+fn push_removed(
+    found: &mut Vec<Change>,
+    alloc: Global,
+    start: u32,
+    end: u32,
+) -> Result<(), NoMemory>
     ensures { OnOk result (changes_view found.new.items ≡ changes_view found.old.items ++ record { start = start; end = end; by = [] } ∷ []) }
 {
     found.push(Change {

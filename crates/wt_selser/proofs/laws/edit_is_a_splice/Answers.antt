@@ -1,4 +1,3 @@
-use Rattle.wt_selser.proofs.StepsApart.{list_apart, body_apart}
 use Rattle.wt_selser.proofs.EditChains.{slices_apart, edit_stands}
 use Rattle.wt_selser.proofs.laws.edit_is_a_splice.Goals as goal
 
