@@ -3,6 +3,7 @@ import os
 import re
 import shutil
 import subprocess
+import sys
 import tempfile
 import unittest
 from pathlib import Path
@@ -64,14 +65,15 @@ class ManualPages(unittest.TestCase):
 
 @unittest.skipUnless(shutil.which("bash"), "there is no bash")
 class Completion(unittest.TestCase):
-    def complete(self, *words: str) -> list:
+    def complete(self, *words: str, program: str = "wtround") -> list:
         """What is offered for the last word."""
         with tempfile.TemporaryDirectory() as folder:
             pages = Path(folder) / "pages"
             pages.mkdir()
             for name in ("Opava", "A%2FB", "Template%3ALang_x", "%C3%9Cber"):
                 (pages / f"{name}.wiki").touch()
-            script = f"source '{DIST}/wtround.bash-completion'; COMP_WORDS=(wtround \"$@\"); COMP_CWORD=$#; _wtround; "
+            function = "_" + program.replace("-", "_")
+            script = f"source '{DIST}/{program}.bash-completion'; COMP_WORDS=({program} \"$@\"); COMP_CWORD=$#; {function}; "
             script += r"printf '%s\n' ${COMPREPLY[@]+\"${COMPREPLY[@]}\"}".replace('\\"', '"')
             command = ["bash", "--norc", "-c", script, "bash", *words]
             environment = {**os.environ, "LC_ALL": "C.UTF-8"}
@@ -86,6 +88,34 @@ class Completion(unittest.TestCase):
         self.assertEqual(sorted(self.complete("html", "")), ["A/B", "Opava", "Template:Lang_x", "Über"])
         self.assertEqual(self.complete("ranges", "Te"), ["Template:Lang_x"])
         self.assertEqual(self.complete("wikitext", ""), [""])
+
+    def test_words_of_batch(self) -> None:
+        commands = ["expand", "html", "lint", "ranges", "wikitext"]
+        for words, wanted in {
+            ("",): [*commands, "answers", "cases", "gather"],
+            ("html,r",): ["html,ranges"],
+            ("cases", "w"): ["wikitext"],
+            ("wikitext", "pa"): ["pages"],
+            ("wikitext", "--re"): ["--report"],
+            ("gather", "--"): ["--help", "--pages", "--report", "--state"],
+            ("html", "--namespace", "Te"): ["Template"],
+            ("html", "--jobs", ""): [""],
+        }.items():
+            with self.subTest(words=words):
+                self.assertEqual(self.complete(*words, program="wtround-batch"), wanted)
+
+    def test_each_option_of_batch_is_completed_and_explained(self) -> None:
+        """Those that its --help names stand in the completion and the manual page."""
+        command = [sys.executable, str(REPOSITORY / "tools/batch"), "--help"]
+        shown = subprocess.run(command, stdout=subprocess.PIPE, check=True).stdout.decode()
+        options = set(re.findall(r"(?<![\w-])--[a-z-]+", shown))
+        self.assertGreater(len(options), 10)
+        completion = (DIST / "wtround-batch.bash-completion").read_text()
+        manual = (DIST / "wtround-batch.1").read_text().replace("\\-", "-")
+        for option in options:
+            with self.subTest(option=option):
+                self.assertIn(option, completion)
+                self.assertIn(option, manual)
 
 
 if __name__ == "__main__":

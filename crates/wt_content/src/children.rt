@@ -106,7 +106,8 @@ fn is_rule(form: BlockForm) -> bool
 {
     match form {
         BlockForm::Rule => true,
-        BlockForm::Paragraph | BlockForm::Heading(_) | BlockForm::Item | BlockForm::NoBlock => false,
+        BlockForm::Paragraph | BlockForm::Heading(_) | BlockForm::Item | BlockForm::NoBlock =>
+            false,
     }
 }
 

@@ -12,6 +12,8 @@ mod expanded;
 #[cfg(test)]
 mod expansion;
 #[cfg(test)]
+mod functions;
+#[cfg(test)]
 mod reader;
 #[cfg(test)]
 mod titles;

@@ -22,7 +22,8 @@ use Rattle.wt_page_round_trip.proofs.HeldPages.{its_page}
 use Rattle.wt_page_round_trip.proofs.PageTrees.{page_tiled, page_covered, page_numbered}
 use Rattle.wt_selser.specs.declared.refusal.EditRefusal.{EditRefusal}
 use Rattle.wt_selser.specs.declared.refusal.EditRefusal.TheVariants as of_edit
-use Rattle.wt_selser.specs.Changes.{marked, changes}
+use Rattle.wt_selser.specs.BodySlices.{slices}
+use Rattle.wt_selser.specs.Changes.{marked}
 use Rattle.wt_shown.specs.Children.{IsFirstDiffering, shown_children, differing}
 use Rattle.wt_selser.specs.Edits.{edit_answer, unless_refused, if_short, most_bytes, refused_pairs, AnswersEdit as AnswersAs}
 use Rattle.wt_shown.specs.Restored.{restored_from}
@@ -185,10 +186,10 @@ checked_ok None p text new e = (refl, unrefused_ok p text new e)
 checked_ok (Some c) p text new e = cc
 
 answer_ok : (items : Expanded) (page : List ℕ) (t edited : Tree) (new : List ℕ) → edit_answer same_node items page t edited ≡ Ok new
-    → (checked false t edited ≡ None) × (new ≡ spliced page (changes same_node (marked t edited)))
+    → (checked false t edited ≡ None) × (new ≡ spliced page (slices same_node t edited))
 unfolding edit_answer
 answer_ok items page t edited new e =
-    checked_ok (checked false t edited) (refused_pairs same_node items page (marked t edited)) (spliced page (changes same_node (marked t edited)))
+    checked_ok (checked false t edited) (refused_pairs same_node items page (marked t edited)) (spliced page (slices same_node t edited))
     new e
 
 unspelled_done : (new bytes : List ℕ) (o : Option ℕ) → unspelled_by new o ≡ done bytes → (bytes ≡ new) × (o ≡ None)

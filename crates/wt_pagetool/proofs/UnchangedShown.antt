@@ -17,28 +17,31 @@ use Rattle.wt_tree.specs.Tiling.{is_group, InPreorder}
 use Rattle.wt_tree.specs.Tree.{Label, Tree, tree, Trees, none, more, label}
 use Rattle.wt_round_trip.specs.GroupNodes.{group_nodes}
 use Rattle.wt_round_trip.specs.Written.{label_read, unranged, unranged_all, is_childless, IsWrittenGroup, NodeIsWritten, WrittenIn, AllWrittenIn, IsWritten}
+use Rattle.wt_checks.specs.Groups.{is_marked, has_mark, have_mark}
 use Rattle.wt_checks.specs.Places.{Place, placed, all_placed, places, is_content, Page, page_of, parent_below}
 use Rattle.wt_checks.proofs.Found.{Itself, each_itself}
 use Rattle.wt_checks.proofs.InOrder.{not_zero_kept, test_other}
 use Rattle.wt_checks.proofs.Lookups.{each_split}
 use Rattle.wt_checks.proofs.WhatIsKept.{increasing}
-use Rattle.wt_selser.specs.Changes.{Pair, pair_at, marked}
 use Rattle.wt_shown.specs.Children.{listed, shown_children}
 use Rattle.wt_shown.specs.Restored.{held_there, group_held, held_by, restored, all_restored, restored_from}
 use Rattle.wt_pagetool.proofs.UnchangedTree.{IsAgain, page_again, true_is}
 
 -- ---- nothing is marked
 
-pair_none : (m : Mark) (xs : List Pair) → m ≡ mark.Nothing → (if is_content m then xs else []) ≡ []
-pair_none m xs e = ap (λ k. if is_content k then xs else []) e
+mutual
+  none_marked : (page : Page) (m : ℕ) (w : Bool) (u : Tree) → AllByRecursion (IsAgain page) (placed m w u) → has_mark u ≡ false
+  none_marked page m w (tree l us) h =
+      ap (λ b. b || have_mark us) (ap is_marked h.0.unmarked) ∙ none_marked_in page (parent_below m l.id) (w || is_content l.mark) us h.1
 
-pairs_none : (page : Page) (ps : List Place) → AllByRecursion (IsAgain page) ps → flat_map (pair_at page) ps ≡ []
-pairs_none page [] h = refl
-pairs_none page (p ∷ ps) h =
-    ap (λ xs. xs ++ flat_map (pair_at page) ps) (pair_none (label p.node).mark _ h.0.unmarked) ∙ pairs_none page ps h.1
+  none_marked_in : (page : Page) (m : ℕ) (w : Bool) (us : Trees) → AllByRecursion (IsAgain page) (all_placed m w us) → have_mark us ≡ false
+  none_marked_in page m w none h = refl
+  none_marked_in page m w (more u us) h =
+      let s = each_split (IsAgain page) (placed m w u) (all_placed m w us) h in
+      ap (λ b. b || have_mark us) (none_marked page m w u s.0) ∙ none_marked_in page m w us s.1
 
-pub unchanged_unmarked : (t : Tree) → IsWritten t → InPreorder t → marked t (unranged t) ≡ []
-unchanged_unmarked t w i = pairs_none (page_of t) (places (unranged t)) (page_again t w i)
+pub unchanged_unmarked : (t : Tree) → IsWritten t → InPreorder t → has_mark (unranged t) ≡ false
+unchanged_unmarked t w i = none_marked (page_of t) 0 false (unranged t) (page_again t w i)
 
 -- ---- what is shown
 

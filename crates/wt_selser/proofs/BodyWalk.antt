@@ -1,12 +1,12 @@
 -- How the code finds the slices of a body, step by step.
-use Rattle.std.proofs.Common.{arith, ◌≡◌, ◌<◌, ◌≤◌, ℕ, zero, suc, ◌+◌, ◌-◌, Bool, true, false, Option, None, Some, List, [], ◌∷◌, ◌++◌, length, drop, get_or, refl, sym, ap, ◌∙◌, subst, length-append, append_assoc}
+use Rattle.std.proofs.Common.{arith, ◌≡◌, ◌<◌, ◌≤◌, ℕ, zero, suc, ◌+◌, ◌-◌, Bool, true, false, Option, None, Some, List, [], ◌∷◌, ◌++◌, length, drop, get_or, refl, sym, ap, ◌∙◌, subst, length-append, append_assoc, append-nil}
 use Rattle.std.specs.Prelude.{◌&&◌, ◌||◌, if◌then◌else◌, nat_eq, Result, Ok, Err, IfOk, option_map}
-use Rattle.std.specs.List.{ends_with}
+use Rattle.std.specs.List.{ends_with, flat_map}
 use Rattle.std.proofs.lemmas.List.{drop_more, drop_all}
 use Rattle.wt_tree.specs.declared.node.Node.{Node, out-Node}
 use Rattle.wt_tree.specs.Source.{flat}
 use Rattle.wt_tree.specs.Tiling.{end_of}
-use Rattle.wt_tree.specs.Tree.{Tree, label}
+use Rattle.wt_tree.specs.Tree.{Tree, Trees, label}
 use Rattle.wt_tree.specs.View.{view, views}
 use Rattle.wt_tree.proofs.Views.{view_out}
 use Rattle.wt_checks.specs.declared.visit.Visit.{Visit}
@@ -14,16 +14,18 @@ use Rattle.wt_checks.specs.Kept.{children}
 use Rattle.wt_checks.specs.Marks.{is_children}
 use Rattle.wt_checks.specs.Places.{Place, Page}
 use Rattle.wt_checks.specs.View.{seen}
+use Rattle.wt_escape.specs.Spelling.{block_spelling}
+use Rattle.wt_content.specs.declared.children.Holder.TheVariants as holder
 use Rattle.wt_content.specs.Children.{is_mark, is_separator, is_space}
 use Rattle.wt_content.specs.Content.{has_break}
 use Rattle.wt_selser.specs.declared.body.Front.{Front}
 use Rattle.wt_selser.specs.declared.steps.Step.{Step as Taken}
 use Rattle.wt_selser.specs.declared.steps.Step.TheVariants as taken
-use Rattle.wt_selser.specs.BodySlices.{blank_at, child_slices, holds_break, is_parted, leaves_blank, leaves_break, list_at, break_at, parts_with, past, past_node, said_or, slices_of, all_child_slices, body_slices, start}
+use Rattle.wt_selser.specs.BodySlices.{all_child_slices, before_new, begins_new, blank_at, body_slices, break_at, child_slices, for_removed, holds_break, holds_kept, is_parted, leaves_blank, leaves_break, list_at, parts_with, past, past_node, removed_with, said_or, slices_of, start, step_slices, tail, tail_at_end, tail_before}
 use Rattle.wt_selser.specs.Changes.{insides}
-use Rattle.wt_selser.specs.ListSlices.{list_slices, sign_of}
+use Rattle.wt_selser.specs.ListSlices.{at_place, list_slices, sign_of}
 use Rattle.wt_selser.specs.Splice.{Change}
-use Rattle.wt_selser.specs.Steps.{Step, stays, goes, kept, comes}
+use Rattle.wt_selser.specs.Steps.{Step, stays, goes, kept, comes, steps}
 use Rattle.wt_selser.specs.Views.{parted_ends, steps_view, step_view}
 use Rattle.wt_selser.proofs.ListWalk.{steps_end, steps_turn}
 use Rattle.wt_selser.proofs.Spliced.{kind_seen, ranges_seen}
@@ -126,13 +128,13 @@ view_drop (suc i) (x ∷ xs) = view_drop i xs
 pub ends_known : (xs : List Taken) (es : List Bool) → es ≡ parted_ends (steps_view xs) → length es ≡ length xs + 1
 ends_known xs es e = ap (λ (bs : List Bool). length bs) e ∙ ends_length (steps_view xs) ∙ ap (λ (n : ℕ). n + 1) (view_length xs)
 
-pub parted_at : (xs : List Taken) (es : List Bool) (i : ℕ) (b : Bool) → es ≡ parted_ends (steps_view xs) → i ≤ length xs
-    → b ≡ get_or es (length xs - i) b → b ≡ is_parted (steps_view (drop i xs))
-parted_at xs es i b e le is =
+pub parted_at : (xs : List Taken) (es : List Bool) (i : ℕ) (d : Bool) → es ≡ parted_ends (steps_view xs) → i ≤ length xs
+    → get_or es (length xs - i) d ≡ is_parted (steps_view (drop i xs))
+parted_at xs es i d e le =
     let l = view_length xs in
-    is ∙ ap (λ (bs : List Bool). get_or bs (length xs - i) b) e
-    ∙ ap (λ (n : ℕ). get_or (parted_ends (steps_view xs)) (n - i) b) (sym l)
-    ∙ ends_at (steps_view xs) i b (omega (arith, l, le)) ∙ ap is_parted (view_drop i xs)
+    ap (λ (bs : List Bool). get_or bs (length xs - i) d) e
+    ∙ ap (λ (n : ℕ). get_or (parted_ends (steps_view xs)) (n - i) d) (sym l)
+    ∙ ends_at (steps_view xs) i d (omega (arith, l, le)) ∙ ap is_parted (view_drop i xs)
 
 -- none of them
 pub ends_begin : (xs : List Taken) (es : List Bool) → es ≡ true ∷ [] → (es ≡ parted_ends (steps_view (drop (length xs - 0) xs)))
@@ -249,3 +251,89 @@ pub other_child : (same : Tree → Tree → Bool) (page : Page) (n : Node) (b : 
 other_child same page n b xs ys e t f =
     f ∙ ap (λ (c : Bool). xs ++ (if c then list_at same page (page (out-Node n).id) (views (out-Node n).children) else insides same page (view n))) (sym t ∙ e)
     ∙ ap (λ (cs : List Change). xs ++ cs) (sym (child_out same page n))
+
+-- ---- the tail
+
+pub tail_new : (f : Front) (rs ss : List Step) (b : Bool) → rs ≡ ss → b ≡ begins_new rs → b ≡ true → [] ≡ tail f ss
+tail_new f rs ss b is e t =
+    ap (λ (c : Bool). if c then [] else (if holds_kept ss then tail_before ss else tail_at_end f ss)) (sym t ∙ e ∙ ap begins_new is)
+
+pub tail_is : (f : Front) (rs ss : List Step) (b d : Bool) → rs ≡ ss → b ≡ begins_new rs → b ≡ false → d ≡ holds_kept rs
+    → (if d then tail_before ss else tail_at_end f ss) ≡ tail f ss
+tail_is f rs ss b d is e t k =
+    ap (λ (c : Bool). if c then tail_before ss else tail_at_end f ss) (k ∙ ap holds_kept is)
+    ∙ ap (λ (c : Bool). if c then [] else (if holds_kept ss then tail_before ss else tail_at_end f ss)) (sym t ∙ e ∙ ap begins_new is)
+
+-- ---- one step
+
+pub goes_slices : (same : Tree → Tree → Bool) (page : Page) (f : Front) (n : Node) (ss : List Step) (c b : Bool) (xs ys : List Change)
+    → c ≡ is_parted ss → b ≡ (f.is_parted && c) → ys ≡ xs ++ removed_with (out-Node n).ranges (for_removed b)
+    → ys ≡ xs ++ step_slices same page f (goes (view n)) ss
+goes_slices same page f n ss c b xs ys e d k =
+    k ∙ ap (λ (x : Bool). xs ++ removed_with (out-Node n).ranges (for_removed x)) (d ∙ ap (λ (x : Bool). f.is_parted && x) e)
+    ∙ ap (λ r. xs ++ removed_with r (for_removed (f.is_parted && is_parted ss))) (sym (ranges_seen n))
+
+pub comes_slices : (same : Tree → Tree → Bool) (page : Page) (f : Front) (n : Node) (ss : List Step) (by : List ℕ) (xs ys : List Change)
+    → by ≡ tail f ss → ys ≡ xs ++ at_place f.at (before_new f.is_start ++ (block_spelling same (view n) 42 ++ by)) ∷ []
+    → ys ≡ xs ++ step_slices same page f (comes (view n)) ss
+comes_slices same page f n ss by xs ys e k =
+    k ∙ ap (λ (bs : List ℕ). xs ++ at_place f.at (before_new f.is_start ++ (block_spelling same (view n) 42 ++ bs)) ∷ []) e
+
+pub nothing_pushed : (xs : List Change) → xs ≡ xs ++ []
+nothing_pushed xs = let empty : xs ++ [] ≡ xs = simp append-nil in sym empty
+
+-- ---- all steps
+
+pub body_turn : (same : Tree → Tree → Bool) (page : Page) (ss : List Taken) (i : ℕ) (s : Taken) (f f2 : Front) (ds es all : List Change) → i < length ss
+    → s ≡ get_or ss i s → es ≡ ds ++ step_slices same page f (step_view s) (steps_view (drop (i + 1) ss)) → f2 ≡ past f (step_view s)
+    → ds ++ body_slices same page f (steps_view (drop i ss)) ≡ all → es ++ body_slices same page f2 (steps_view (drop (i + 1) ss)) ≡ all
+body_turn same page ss i s f f2 ds es all l is e p inv =
+    let rest = steps_view (drop (i + 1) ss) in
+    let own = step_slices same page f (step_view s) rest in
+    let joined : (ds ++ own) ++ body_slices same page f2 rest ≡ ds ++ (own ++ body_slices same page f2 rest) = simp append_assoc in
+    ap (λ (xs : List Change). xs ++ body_slices same page f2 rest) e ∙ joined
+    ∙ ap (λ (g : Front). ds ++ (own ++ body_slices same page g rest)) p
+    ∙ ap (λ (rs : List Step). ds ++ body_slices same page f rs) (sym (steps_turn ss i s l is)) ∙ inv
+
+pub body_end : (same : Tree → Tree → Bool) (page : Page) (ss : List Taken) (i : ℕ) (f : Front) (ds all : List Change) → length ss ≤ i
+    → ds ++ body_slices same page f (steps_view (drop i ss)) ≡ all → ds ≡ all
+body_end same page ss i f ds all l inv =
+    nothing_pushed ds ∙ ap (λ (rs : List Step). ds ++ body_slices same page f rs) (sym (steps_end ss i l)) ∙ inv
+
+-- ---- a page
+
+pub children_views : (same : Tree → Tree → Bool) (page : Page) (ns : List Node)
+    → all_child_slices same page (views ns) ≡ flat_map (λ n. child_slices same page (view n)) ns
+children_views same page [] = refl
+children_views same page (n ∷ ns) = ap (λ (cs : List Change). child_slices same page (view n) ++ cs) (children_views same page ns)
+
+slices_out : (same : Tree → Tree → Bool) (page : Page) (ts : Trees) (n : Node) → slices_of same page ts (view n)
+    ≡ (if is_children (out-Node n).mark then body_slices same page start (steps holder.Body ts (views (out-Node n).children))
+    else all_child_slices same page (views (out-Node n).children))
+slices_out same page ts n = ap (slices_of same page ts) (view_out n)
+
+pub kept_body : (same : Tree → Tree → Bool) (page : Page) (ts : Trees) (n : Node) (b : Bool) (ns : List Node) (xs ys : List Change)
+    → b ≡ is_children (out-Node n).mark → b ≡ false → ns ≡ (out-Node n).children → ys ≡ xs ++ all_child_slices same page (views ns)
+    → ys ≡ xs ++ slices_of same page ts (view n)
+kept_body same page ts n b ns xs ys e t are k =
+    let all = views (out-Node n).children in
+    k ∙ ap (λ (ms : List Node). xs ++ all_child_slices same page (views ms)) are
+    ∙ ap (λ (c : Bool). xs ++ (if c then body_slices same page start (steps holder.Body ts all) else all_child_slices same page all)) (sym t ∙ e)
+    ∙ ap (λ (cs : List Change). xs ++ cs) (sym (slices_out same page ts n))
+
+pub changed_body : (same : Tree → Tree → Bool) (page : Page) (ts : Trees) (n : Node) (b : Bool) (ns : List Node) (ss : List Step) (xs ys : List Change)
+    → b ≡ is_children (out-Node n).mark → b ≡ true → ns ≡ (out-Node n).children → ss ≡ steps holder.Body ts (views ns)
+    → ys ≡ xs ++ body_slices same page start ss → ys ≡ xs ++ slices_of same page ts (view n)
+changed_body same page ts n b ns ss xs ys e t are is k =
+    let all = views (out-Node n).children in
+    k ∙ ap (λ (rs : List Step). xs ++ body_slices same page start rs) (is ∙ ap (λ (ms : List Node). steps holder.Body ts (views ms)) are)
+    ∙ ap (λ (c : Bool). xs ++ (if c then body_slices same page start (steps holder.Body ts all) else all_child_slices same page all)) (sym t ∙ e)
+    ∙ ap (λ (cs : List Change). xs ++ cs) (sym (slices_out same page ts n))
+
+pub page_sliced : (same : Tree → Tree → Bool) (look page : Page) (n : Node) (u : Tree) (ns : List Node) (cs ds : List Change) → look ≡ page → cs ≡ []
+    → ns ≡ (out-Node n).children → ds ≡ cs ++ slices_of same look (views ns) u → ds ≡ slices_of same page (children (view n)) u
+page_sliced same look page n u ns cs ds e none are k =
+    k ∙ ap (λ (xs : List Change). xs ++ slices_of same look (views ns) u) none
+    ∙ ap (λ (p : Page). slices_of same p (views ns) u) e
+    ∙ ap (λ (ms : List Node). slices_of same page (views ms) u) are
+    ∙ ap (λ (t : Tree). slices_of same page (children t) u) (sym (view_out n))

@@ -1,4 +1,5 @@
 mod Cases
+mod ChildrenCases
 pub mod Outside
 pub mod Chains
 pub mod PageChains

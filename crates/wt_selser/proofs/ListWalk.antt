@@ -1,6 +1,6 @@
 -- How the code finds the slices of a list, item by item.
-use Rattle.std.proofs.Common.{arith, ◌≡◌, ◌<◌, ◌≤◌, ℕ, ◌+◌, ◌-◌, Bool, true, false, None, Some, List, [], ◌∷◌, ◌++◌, length, take, drop, get_or, length-drop, refl, sym, ap, ◌∙◌, append_assoc, append-nil}
-use Rattle.std.specs.Prelude.{◌==◌, if◌then◌else◌}
+use Rattle.std.proofs.Common.{arith, ◌≡◌, ◌<◌, ◌≤◌, ℕ, zero, suc, ◌+◌, ◌-◌, Bool, true, false, None, Some, List, [], ◌∷◌, ◌++◌, length, take, drop, get_or, length-drop, refl, sym, ap, ◌∙◌, append_assoc, append-nil}
+use Rattle.std.specs.Prelude.{◌==◌, if◌then◌else◌, nat_lt}
 use Rattle.std.proofs.lemmas.List.{drop_more, drop_all, take_all}
 use Rattle.wt_tree.specs.declared.node.Node.{Node, out-Node}
 use Rattle.wt_tree.specs.Tiling.{end_of}
@@ -26,6 +26,10 @@ id_seen n = rw (view_out n)
 -- the nodes from a place on
 pub nodes_turn : (ns : List Node) (i : ℕ) (n : Node) → i < length ns → n ≡ get_or ns i n → views (drop i ns) ≡ more (view n) (views (drop (i + 1) ns))
 nodes_turn ns i n l is = ap views (drop_more ns i n l ∙ ap (λ (m : Node). m ∷ drop (i + 1) ns) (sym is))
+
+pub some_there : (n : ℕ) → true ≡ nat_lt 0 n → 0 < n
+some_there zero e = absurd (cc)
+some_there (suc n) e = omega arith
 
 -- a slice from a place up to the end
 pub rest_is : (ns : List Node) (i : ℕ) → take (length ns - i) (drop i ns) ≡ drop i ns
@@ -181,6 +185,9 @@ comes_step same page sign at n ds es ss e =
 -- the steps from a place on
 pub steps_turn : (ss : List Taken) (i : ℕ) (s : Taken) → i < length ss → s ≡ get_or ss i s → steps_view (drop i ss) ≡ step_view s ∷ steps_view (drop (i + 1) ss)
 steps_turn ss i s l is = ap steps_view (drop_more ss i s l ∙ ap (λ (r : Taken). r ∷ drop (i + 1) ss) (sym is))
+
+pub rest_steps : (ss : List Taken) (i : ℕ) → steps_view (take (length ss - i) (drop i ss)) ≡ steps_view (drop i ss)
+rest_steps ss i = ap steps_view (take_all (length ss - i) (drop i ss) (omega (arith, length-drop i ss)))
 
 pub steps_end : (ss : List Taken) (i : ℕ) → length ss ≤ i → steps_view (drop i ss) ≡ []
 steps_end ss i l = ap steps_view (drop_all i ss l)

@@ -1,5 +1,5 @@
 -- How the code finds its steps along children: nodes that are passed one by one.
-use Rattle.std.proofs.Common.{arith, ◌≡◌, ◌<◌, ◌≤◌, ℕ, ◌+◌, ◌-◌, Bool, true, false, List, [], ◌∷◌, ◌++◌, length, take, drop, map, get_or, refl, sym, ap, ◌∙◌, nat_eq, ◌≢◌, ◌⊎◌, inl, inr, if◌then◌else◌, append_assoc, append-nil}
+use Rattle.std.proofs.Common.{arith, ◌≡◌, ◌<◌, ◌≤◌, ℕ, ◌+◌, ◌-◌, Bool, true, false, List, [], ◌∷◌, ◌++◌, length, take, drop, get_or, refl, sym, ap, ◌∙◌, nat_eq, ◌≢◌, inl, inr, if◌then◌else◌, append_assoc, append-nil}
 use Rattle.std.specs.Prelude.{◌==◌, not}
 use Rattle.std.proofs.lemmas.Bool.Decides.{eqb_tells}
 use Rattle.std.proofs.lemmas.List.{drop_more, take_more, drop_all, take_all, drop-drop, length-drop}

@@ -304,12 +304,13 @@ fn leaves_blank(
 {
     let mut front = first;
     for at in from..steps.len() {
+        let step = steps[at];
         let parted = parts(front, is_parted(steps, ends, at + 1));
-        let said = blank_at(alloc, parted, steps[at])?;
+        let said = blank_at(alloc, parted, step)?;
         if let Some(blank) = said {
             return Ok(blank);
         }
-        front = past(alloc, front, steps[at])?;
+        front = past(alloc, front, step)?;
     }
     Ok(false)
 }
@@ -481,6 +482,7 @@ pub fn push_body<'t, 'a>(
         is_parted: true,
     };
     for at in 0..steps.len() {
+        let step = steps[at];
         push_step(
             alloc,
             found,
@@ -489,9 +491,9 @@ pub fn push_body<'t, 'a>(
             ends.as_slice(),
             at + 1,
             front,
-            steps[at],
+            step,
         )?;
-        front = past(alloc, front, steps[at])?;
+        front = past(alloc, front, step)?;
     }
     Ok(())
 }

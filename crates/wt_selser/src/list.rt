@@ -62,8 +62,8 @@ pub fn push_at(found: &mut Vec<Change>, place: u32, by: Str) -> Result<(), NoMem
 
 /// Appends a slice that goes.
 fn push_removed(
-    found: &mut Vec<Change>,
     alloc: Global,
+    found: &mut Vec<Change>,
     start: u32,
     end: u32,
 ) -> Result<(), NoMemory>
@@ -172,7 +172,7 @@ fn push_removed_before(
     ensures { OnOk result (changes_view found.new.items ≡ changes_view found.old.items ++ removed_before start end) }
 {
     if let Some(start) = start {
-        push_removed(found, alloc, start, end)?;
+        push_removed(alloc, found, start, end)?;
     }
     Ok(())
 }
@@ -216,7 +216,7 @@ fn push_step(
         Step::Stays(_) => Ok(at),
         Step::Goes(old) => {
             let end = end_of(old.ranges);
-            push_removed(found, alloc, at, end)?;
+            push_removed(alloc, found, at, end)?;
             Ok(end)
         }
         Step::Kept(old, new) => {

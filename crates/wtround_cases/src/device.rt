@@ -50,6 +50,8 @@ pub struct Devices {
     pub folder: Device,
     pub out: Device,
     pub err: Device,
+    /// Whether the answer tells which names the folder was asked for.
+    pub tells_names: bool,
 }
 
 impl Devices {
@@ -59,11 +61,17 @@ impl Devices {
             folder: Device::ample(alloc),
             out: Device::ample(alloc),
             err: Device::ample(alloc),
+            tells_names: false,
         }
     }
 
-    /// Sets a device by a word `NAME:MOST:CALL`; without a call it never fails.
+    /// Sets a device by a word `NAME:MOST:CALL`; without a call it never fails. The word `names` asks for
+    /// the names that the folder is asked for.
     fn set(&mut self, alloc: Global, word: &str) -> Result<(), CaseRefusal> {
+        if word == "names" {
+            self.tells_names = true;
+            return Ok(());
+        }
         let (name, rest) = word.split_once(':').ok_or(CaseRefusal::Malformed)?;
         let (most, failing) = rest.split_once(':').ok_or(CaseRefusal::Malformed)?;
         let device = Device::read(alloc, most, failing)?;

@@ -6,8 +6,10 @@
 //! (`NAME=BYTES`, alike, joined by `,`, no name twice), and how its devices behave: words
 //! `DEVICE:MOST:CALL`, joined by `,`, for `input`, `folder`, `out` and `err`, where a call gives or
 //! takes at most so many bytes and the one of this number fails. An answer has the status, the bytes
-//! of standard output and those of standard error, both in hex. A line that isn't a case is answered
-//! `malformed`, and one for which no memory is found `no memory`.
+//! of standard output and those of standard error, both in hex. With the word `names` in the fourth
+//! field it also has the names that the call asked its folder for. A line that isn't a case is answered
+//! `malformed`, and one for which no memory is found `no memory`. Each answer is written before the
+//! next line is read.
 //! The status is 0 once all lines are answered, and 7 where a standard stream failed.
 #![tactic(auto)]
 
@@ -50,8 +52,9 @@ fn answer_all(rt: &HostRuntime) -> io::Result<()> {
             break;
         }
         write_answer(alloc, &line, &mut out)?;
+        out.flush()?;
     }
-    out.flush()
+    Ok(())
 }
 
 fn main(rt: HostRuntime) -> ExitCode {

@@ -10,11 +10,11 @@ returns-in-Stays c =
 
 pub returns-in-Goes : goal.returns-in-Goes
 returns-in-Goes c =
-    past_by c.args.front c.in-Goes.node.now c.args.step c.past_node.result (ap (λ s. past c.args.front (step_view s)) (sym c.in-Goes.is)) c.past_node.ensures
+    past_by c.args.front c.in-Goes.node.now c.args.step c.past_node-in-Goes.result (ap (λ s. past c.args.front (step_view s)) (sym c.in-Goes.is)) c.past_node-in-Goes.ensures
 
 pub returns-in-Kept : goal.returns-in-Kept
 returns-in-Kept c =
-    past_by c.args.front c.in-Kept.node.now c.args.step c.past_node.result (ap (λ s. past c.args.front (step_view s)) (sym c.in-Kept.is)) c.past_node.ensures
+    past_by c.args.front c.in-Kept.node.now c.args.step c.past_node-in-Kept.result (ap (λ s. past c.args.front (step_view s)) (sym c.in-Kept.is)) c.past_node-in-Kept.ensures
 
 pub returns-in-Comes : goal.returns-in-Comes
 returns-in-Comes c = ap (λ s. past c.args.front (step_view s)) (sym c.in-Comes.is)

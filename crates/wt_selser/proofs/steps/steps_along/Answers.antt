@@ -7,7 +7,7 @@ use Rattle.wt_selser.proofs.steps.steps_along.Goals as goal
 
 pub loop-child-preserved : goal.loop-child-preserved
 loop-child-preserved c =
-    step_taken c.args.holder c.args.old.now c.args.new.now c.loop-child.from c.in_ok-passed.field c.loop-child.child-index c.child-item.result
+    step_taken c.args.holder c.args.old.now c.args.new.now c.loop-child.from c.in_ok-passed.passed c.loop-child.child-index c.child-item.result
     (steps_view c.loop-child.steps.items) (steps_view c.push_child.new.out.items) (steps c.args.holder (views c.args.old.now) (views c.args.new.now))
     c.loop-child.invariant.0 c.in_ok-passed.ensures.fits (omega arith) c.child-item.is c.loop-child.invariant.1 c.in_ok-passed.ensures.goes_on
 

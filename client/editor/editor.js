@@ -1,0 +1,207 @@
+// @ts-check
+/** The editor of one page: it reads the page from the server, lets it be edited, and gives it back. */
+
+import { isChanged, open } from "../bughtiso.js";
+import { Commands } from "./commands.js";
+import { History } from "./history.js";
+import { pasted } from "./paste.js";
+import { Saving } from "./saving.js";
+import { ServerRefused, page as readPage } from "./server.js";
+import { deleteRests, deleteThing, groupSizes, nameThings, selectThing, thingAt, thingBeside } from "./things.js";
+
+/** From so many on, blocks out of sight aren't laid out. */
+const MANY_BLOCKS = 500;
+
+/** @template {HTMLElement} T @param {string} id @returns {T} */
+const byId = (id) => /** @type {T} */ (/** @type {unknown} */ (document.getElementById(id)));
+
+/** @returns {string} the title that the address names */
+function titleOfAddress() {
+  return decodeURIComponent(location.pathname.replace(/^\/editor\//, ""));
+}
+
+class Editor {
+  constructor() {
+    this.title = titleOfAddress();
+    this.root = byId("page");
+    /** The page as it was opened, and the server's name for this state of it. */
+    this.html = "";
+    this.etag = "";
+    /** @type {Map<string, number>} */
+    this.sizes = new Map();
+    /** The thing that is selected as a whole. @type {HTMLElement | null} */
+    this.thing = null;
+    this.history = new History(this.root, () => this.#changed());
+    this.commands = new Commands(this.root, this.history, (text) => this.say(text));
+    this.saving = new Saving({
+      title: this.title,
+      root: this.root,
+      html: () => this.html,
+      etag: () => this.etag,
+      say: (text) => this.say(text),
+      saved: () => this.read(),
+      bookmark: () => this.commands.bookmark(),
+    });
+    this.#listen();
+    document.title = `${this.title} – editor`;
+    byId("title").textContent = this.title;
+  }
+
+  #listen() {
+    this.root.addEventListener("keydown", (event) => this.#key(event));
+    this.root.addEventListener("beforeinput", (event) => this.#beforeInput(event));
+    this.root.addEventListener("paste", (event) => this.#paste(event));
+    this.root.addEventListener("drop", (event) => this.#drop(event));
+    this.root.addEventListener("click", (event) => this.#click(event));
+    document.addEventListener("selectionchange", () => this.#selected());
+    document.addEventListener("keydown", (event) => {
+      if ((event.ctrlKey || event.metaKey) && event.key.toLowerCase() === "s") {
+        event.preventDefault();
+        this.saving.preview();
+      }
+    });
+    byId("thing-delete").addEventListener("click", () => this.#deleteThing());
+    byId("thing-close").addEventListener("click", () => (this.#showThing(null), this.commands.focus()));
+    window.addEventListener("beforeunload", (event) => {
+      if (this.history.canUndo && isChanged(this.root)) event.preventDefault();
+    });
+  }
+
+  /** Reads the page from the server and shows it. */
+  async read() {
+    try {
+      const scrolled = window.scrollY;
+      const { html, etag } = await readPage(this.title);
+      this.html = html;
+      this.etag = etag;
+      open(html, { into: this.root });
+      this.root.classList.toggle("long", this.root.childElementCount > MANY_BLOCKS);
+      nameThings(this.root);
+      this.sizes = groupSizes(this.root);
+      this.history.forget();
+      this.root.contentEditable = "true";
+      document.execCommand("defaultParagraphSeparator", false, "p");
+      document.execCommand("styleWithCSS", false, "false");
+      byId("save").removeAttribute("disabled");
+      byId("waiting").hidden = true;
+      window.scrollTo(0, scrolled);
+    } catch (error) {
+      byId("waiting").textContent = error instanceof ServerRefused ? error.sentence : String(error);
+      byId("waiting").hidden = false;
+    } finally {
+      this.root.setAttribute("aria-busy", "false");
+    }
+  }
+
+  /** @param {string} text */
+  say(text) {
+    byId("status").textContent = text;
+  }
+
+  #changed() {
+    this.commands?.show();
+    if (byId("status").textContent !== "") this.say("");
+  }
+
+  // ---- Things
+
+  /** @param {KeyboardEvent} event */
+  #key(event) {
+    if (event.key === "Escape") this.#showThing(null);
+    if (event.key !== "Backspace" && event.key !== "Delete") return;
+    if (event.ctrlKey || event.metaKey || event.altKey) return;
+    if (this.thing !== null) {
+      event.preventDefault();
+      this.#deleteThing();
+      return;
+    }
+    const beside = thingBeside(this.root, event.key === "Backspace");
+    if (beside === null) return;
+    event.preventDefault();
+    this.#select(beside);
+  }
+
+  /** @param {HTMLElement} thing */
+  #select(thing) {
+    selectThing(thing, this.root);
+    this.#showThing(thing);
+  }
+
+  #deleteThing() {
+    const thing = this.thing;
+    if (thing === null) return;
+    this.#showThing(null);
+    this.root.focus({ preventScroll: true });
+    this.history.step(() => deleteThing(thing, this.root));
+    this.say(`${thing.dataset.name ?? "It"} is deleted. Undo takes this back (Ctrl+Z).`);
+  }
+
+  /** @param {MouseEvent} event */
+  #click(event) {
+    const thing = thingAt(/** @type {Node} */ (event.target), this.root);
+    if (thing !== null) {
+      event.preventDefault();
+      const about = thing.getAttribute("about");
+      this.#select(about === null ? thing : this.root.querySelector(`[about="${CSS.escape(about)}"]`) ?? thing);
+    } else if (/** @type {Element} */ (event.target).closest("a")) {
+      event.preventDefault();
+    }
+  }
+
+  #selected() {
+    if (this.thing === null) return;
+    const selection = document.getSelection();
+    const isWhole = selection?.rangeCount && !selection.isCollapsed && selection.getRangeAt(0).intersectsNode(this.thing);
+    if (!isWhole && document.activeElement === this.root) this.#showThing(null);
+  }
+
+  /** @param {HTMLElement | null} thing */
+  #showThing(thing) {
+    for (const element of this.root.querySelectorAll("[data-selected]")) element.removeAttribute("data-selected");
+    this.thing = thing;
+    byId("thing").hidden = thing === null;
+    if (thing === null) return;
+    const about = thing.getAttribute("about");
+    const all = about === null ? [thing] : this.root.querySelectorAll(`[about="${CSS.escape(about)}"]`);
+    for (const element of all) element.setAttribute("data-selected", "");
+    byId("thing-name").textContent = thing.dataset.name ?? "";
+    byId("thing-advice").textContent = "can be changed in the page's source alone. Delete takes it out.";
+    byId("thing-source").textContent = sourceOf(thing);
+    this.say(`${thing.dataset.name ?? "It"} is selected.`);
+  }
+
+  // ---- What is typed and pasted
+
+  /** @param {InputEvent} event */
+  #beforeInput(event) {
+    if (/^format(?!Bold|Italic|Remove)/.test(event.inputType)) event.preventDefault();
+    if (event.inputType.startsWith("delete")) setTimeout(() => deleteRests(this.root, this.sizes));
+  }
+
+  /** @param {ClipboardEvent} event */
+  #paste(event) {
+    event.preventDefault();
+    if (event.clipboardData === null) return;
+    const { html, leftOut } = pasted(event.clipboardData, this.root);
+    if (html !== "") this.history.step(() => document.execCommand("insertHTML", false, html));
+    if (leftOut > 0) this.say("Templates and references can't be copied; they were left out of what you pasted.");
+  }
+
+  /** @param {DragEvent} event */
+  #drop(event) {
+    event.preventDefault();
+    this.say("Text can't be dragged here: cut and paste it.");
+  }
+}
+
+/** @param {HTMLElement} thing @returns {string} its wikitext */
+function sourceOf(thing) {
+  try {
+    return JSON.parse(thing.getAttribute("data-parsoid") ?? "{}").src ?? "";
+  } catch {
+    return "";
+  }
+}
+
+const editor = new Editor();
+await editor.read();

@@ -1,0 +1,119 @@
+// @ts-check
+/** What is pasted, as paragraphs, headings, lists, bold, italic and links. */
+
+/** @type {Record<string, string>} */
+const SAME = { strong: "b", em: "i", b: "b", i: "i", h1: "h2", h2: "h2", h3: "h3", h4: "h4", h5: "h5", h6: "h6", p: "p", ul: "ul", ol: "ol", li: "li", br: "br" };
+const LEFT_OUT = new Set(["script", "style", "noscript", "title", "head", "meta", "link", "template", "svg", "math", "img", "input", "button", "select", "textarea"]);
+const BOXES = new Set(["div", "section", "article", "blockquote", "table", "tbody", "tr", "dl", "dt", "dd", "pre", "figure", "header", "footer", "main"]);
+
+/**
+ * What the clipboard holds, as HTML of ours.
+ * @param {DataTransfer} data
+ * @param {HTMLElement} root  the text: a template or reference that was cut out of it comes back as it was
+ * @returns {{html: string, leftOut: number}} `leftOut`: how many templates and references couldn't be copied
+ */
+export function pasted(data, root) {
+  const html = data.getData("text/html");
+  if (html === "") return { html: fromText(data.getData("text/plain")), leftOut: 0 };
+  const page = new DOMParser().parseFromString(html, "text/html");
+  const out = document.createElement("div");
+  const cleaner = new Cleaner(root);
+  cleaner.copy(page.body, out);
+  return { html: out.innerHTML, leftOut: cleaner.leftOut };
+}
+
+/** @param {string} text */
+function fromText(text) {
+  const out = document.createElement("div");
+  const paragraphs = text.replace(/\r\n?/g, "\n").replace(/^\n+|\n+$/g, "").split(/\n[ \t]*\n\s*/);
+  if (paragraphs.length === 1) {
+    out.textContent = paragraphs[0].replaceAll("\n", " ");
+    return out.innerHTML;
+  }
+  for (const paragraph of paragraphs) {
+    const element = document.createElement("p");
+    element.textContent = paragraph.replaceAll("\n", " ");
+    out.append(element);
+  }
+  return out.innerHTML;
+}
+
+class Cleaner {
+  leftOut = 0;
+
+  /** @param {HTMLElement} root */
+  constructor(root) {
+    this.root = root;
+  }
+
+  /** @param {Node} from @param {Element} to */
+  copy(from, to) {
+    for (const node of from.childNodes) {
+      if (node.nodeType === 3) to.append(/** @type {Text} */ (node).data.replace(/[\n\t\r]+/g, " "));
+      else if (node.nodeType === 1) this.#element(/** @type {HTMLElement} */ (node), to);
+    }
+  }
+
+  /** @param {HTMLElement} element @param {Element} to */
+  #element(element, to) {
+    const name = element.localName;
+    if (element.hasAttribute("data-thing")) this.#thing(element, to);
+    else if (LEFT_OUT.has(name)) return;
+    else if (name === "a" && /^(?:https?|ftp):\/\/|^\.\//i.test(element.getAttribute("href") ?? "")) this.#link(element, to);
+    else if (SAME[name] && !/font-weight:\s*(?:normal|400)/.test(element.getAttribute("style") ?? "")) this.#same(element, to);
+    else if (BOXES.has(name)) this.#box(element, to);
+    else this.#styled(element, to);
+  }
+
+  /** A template or reference: one that was cut out moves, others can't be copied. @param {HTMLElement} element
+   * @param {Element} to */
+  #thing(element, to) {
+    const id = element.getAttribute("id") ?? "";
+    const isCut = id !== "" && this.root.querySelector(`[id="${CSS.escape(id)}"]`) === null;
+    if (isCut) to.append(element.cloneNode(true));
+    else if ((element.textContent ?? "") !== "") to.append(element.textContent ?? "");
+    else this.leftOut += 1;
+  }
+
+  /** @param {HTMLElement} element @param {Element} to */
+  #link(element, to) {
+    const href = element.getAttribute("href") ?? "";
+    const link = document.createElement("a");
+    link.setAttribute("rel", href.startsWith("./") ? "mw:WikiLink" : "mw:ExtLink");
+    link.setAttribute("href", href);
+    this.copy(element, link);
+    to.append(link);
+  }
+
+  /** @param {HTMLElement} element @param {Element} to */
+  #same(element, to) {
+    const copy = document.createElement(SAME[element.localName]);
+    this.copy(element, copy);
+    to.append(copy);
+  }
+
+  /** A box with text alone is a paragraph. @param {HTMLElement} element @param {Element} to */
+  #box(element, to) {
+    const holdsBlocks = element.querySelector("p,h1,h2,h3,h4,h5,h6,ul,ol,div,table,tr,dt,dd,pre,blockquote") !== null;
+    if (holdsBlocks) {
+      this.copy(element, to);
+      return;
+    }
+    const paragraph = document.createElement("p");
+    this.copy(element, paragraph);
+    if ((paragraph.textContent ?? "").trim() !== "") to.append(paragraph);
+  }
+
+  /** @param {HTMLElement} element @param {Element} to */
+  #styled(element, to) {
+    const style = element.getAttribute("style") ?? "";
+    let into = to;
+    for (const [name, pattern] of [["b", /font-weight:\s*(?:bold|[6-9]00)/i], ["i", /font-style:\s*italic/i]]) {
+      if (!(/** @type {RegExp} */ (pattern).test(style)) || element.localName === "body") continue;
+      const inner = document.createElement(/** @type {string} */ (name));
+      into.append(inner);
+      into = inner;
+    }
+    this.copy(element, into);
+  }
+}

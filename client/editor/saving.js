@@ -1,0 +1,138 @@
+// @ts-check
+/** Saving: what would change is shown before it is stored; a refusal shows its place and what to do. */
+
+import { save } from "../bughtiso.js";
+import { ServerRefused, give } from "./server.js";
+import { shownDiff } from "./diff.js";
+import { sentenceFor } from "./sentences.js";
+
+/** @template {HTMLElement} T @param {string} id @returns {T} */
+const byId = (id) => /** @type {T} */ (/** @type {unknown} */ (document.getElementById(id)));
+
+/** @typedef {{title: string, root: HTMLElement, html: () => string, etag: () => string, say: (text: string) => void, saved: () => Promise<void>,
+ *   bookmark: () => () => void}} Page  `html`: the page as it was opened, `etag`: the name of this state of it */
+
+export class Saving {
+  /** @param {Page} page */
+  constructor(page) {
+    this.page = page;
+    this.button = /** @type {HTMLButtonElement} */ (byId("save"));
+    this.dialog = /** @type {HTMLDialogElement} */ (byId("changes"));
+    this.refusal = byId("refusal");
+    /** What is shown in the dialog. */
+    this.document = "";
+    /** The element that a refusal is about. @type {Element | null} */
+    this.place = null;
+    /** Puts the caret back to where it was. */
+    this.restore = () => undefined;
+    this.button.addEventListener("click", () => this.preview());
+    byId("changes-save").addEventListener("click", () => this.#store());
+    byId("refusal-close").addEventListener("click", () => (this.clear(), this.restore()));
+    byId("refusal-show").addEventListener("click", () => this.#goToPlace());
+    this.dialog.addEventListener("close", () => this.restore());
+  }
+
+  /** Shows what would change. */
+  async preview() {
+    this.clear();
+    this.restore = this.page.bookmark();
+    this.document = save(this.page.root, { marks: true });
+    if (this.document === this.page.html()) {
+      this.page.say("Nothing was changed.");
+      return;
+    }
+    await this.#busy(async () => {
+      const answer = await give(this.page.title, this.document, this.page.etag(), true);
+      if (!answer.changed) {
+        this.page.say("Nothing would change in the page's source.");
+        return;
+      }
+      const longer = answer.bytes_after - answer.bytes_before;
+      const much = longer === 0 ? "as long as before" : `${Math.abs(longer)} bytes ${longer > 0 ? "longer" : "shorter"}`;
+      byId("changes-size").textContent = `The source will be ${much}. Nothing else in it changes.`;
+      byId("changes-diff").replaceChildren(...shownDiff(answer.diff));
+      this.dialog.showModal();
+    });
+  }
+
+  async #store() {
+    this.dialog.close();
+    await this.#busy(async () => {
+      await give(this.page.title, this.document, this.page.etag(), false);
+      await this.page.saved();
+      this.page.say("The page is saved.");
+    });
+  }
+
+  /** @param {() => Promise<void>} action */
+  async #busy(action) {
+    this.button.disabled = true;
+    this.page.say("…");
+    try {
+      await action();
+      if (byId("status").textContent === "…") this.page.say("");
+    } catch (error) {
+      this.page.say("");
+      if (!(error instanceof ServerRefused)) throw error;
+      this.#showRefusal(error);
+    } finally {
+      this.button.disabled = false;
+    }
+  }
+
+  /** @param {ServerRefused} refused */
+  #showRefusal(refused) {
+    const isStale = refused.status === 412;
+    const hasNewBlocks = /data-wt-edit="children"/.test(this.document);
+    const isNewBlock = hasNewBlocks && refused.error === "NotEditable";
+    this.place = (isNewBlock ? firstNew(this.page.root) : null) ?? this.#find(refused.node);
+    this.place?.setAttribute("data-refused", "");
+    byId("refusal-sentence").textContent = sentenceFor(refused, hasNewBlocks);
+    byId("refusal-detail").textContent = refused.line || refused.error;
+    byId("refusal-show").hidden = this.place === null;
+    const newer = /** @type {HTMLAnchorElement} */ (byId("refusal-newer"));
+    newer.hidden = !isStale;
+    newer.href = `/editor/${encodeURIComponent(this.page.title)}`;
+    this.refusal.hidden = false;
+    this.refusal.focus();
+    this.place?.scrollIntoView({ block: "center" });
+  }
+
+  /** @param {string} node  an id of the program or a selector in the body @returns {Element | null} */
+  #find(node) {
+    if (node === "") return null;
+    const root = this.page.root;
+    try {
+      if (/^mw\d+$/.test(node)) return root.querySelector(`[id="${node}"]`);
+      return root.querySelector(node.replace(/^body\s*>/, ":scope >"));
+    } catch {
+      return null;
+    }
+  }
+
+  #goToPlace() {
+    if (this.place === null) return;
+    this.place.scrollIntoView({ block: "center" });
+    this.page.root.focus({ preventScroll: true });
+    document.getSelection()?.collapse(this.place, 0);
+  }
+
+  /** Takes a refusal off. */
+  clear() {
+    this.refusal.hidden = true;
+    this.place?.removeAttribute("data-refused");
+    this.place = null;
+  }
+}
+
+/** The first block or item that the page hadn't. @param {HTMLElement} root @returns {Element | null} */
+function firstNew(root) {
+  /** @type {Set<string>} */
+  const seen = new Set();
+  for (const element of root.querySelectorAll(":scope > p, :scope > h1, :scope > h2, :scope > h3, :scope > h4, :scope > h5, :scope > h6, :scope > hr, :scope > div, :scope > ul, :scope > ol, :scope > * > li")) {
+    const id = element.getAttribute("id") ?? "";
+    if (id === "" || seen.has(id)) return element;
+    seen.add(id);
+  }
+  return null;
+}

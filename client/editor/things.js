@@ -1,0 +1,150 @@
+// @ts-check
+/** What can't be edited in the text: each is one thing with a name, which can be selected and deleted as a whole. */
+
+import { describe } from "../bughtiso.js";
+
+const THINGS = '[about], span[typeof^="mw:Extension/"], span[typeof="mw:Placeholder"], meta:not([typeof="mw:Skip"]), link, pre';
+
+/** @type {Record<string, string>} */
+const EXTENSIONS = { ref: "Reference", references: "List of references", gallery: "Gallery", math: "Formula", pre: "Preformatted text" };
+
+/** @type {Record<string, (name: string) => string>} */
+const NAMES = {
+  template: (name) => `Template: ${name}`,
+  argument: (name) => `Argument ${name}`,
+  extension: (name) => EXTENSIONS[name] ?? `Extension: ${name}`,
+  media: (name) => `Media: ${name}`,
+  function: (name) => `Function ${name}`,
+  tag: (name) => `Tag ${name}`,
+  comment: () => "Comment",
+  include: (name) => `Tag <${name}>`,
+  switch: (name) => `Switch: ${name}`,
+  category: (name) => name.replace(/#.*$/, "").replace(/^(?!Category:)/, "Category: ").replace(/^Category:\s*/, "Category: "),
+  other: (name) => name || "Part of the page's source",
+};
+
+/** Shows the things below the root as such. @param {HTMLElement} root */
+export function nameThings(root) {
+  let references = 0;
+  for (const element of root.querySelectorAll(THINGS)) {
+    if (element.parentElement?.closest("[data-thing]")) continue;
+    const thing = describe(element);
+    const isReference = thing?.kind === "extension" && thing.name === "ref";
+    element.setAttribute("contenteditable", "false");
+    element.setAttribute("data-thing", isReference ? "reference" : thing?.kind ?? "other");
+    if (element.hasAttribute("about") && !element.hasAttribute("data-mw")) continue;
+    if (isReference) references += 1;
+    const name = thing === null ? "Preformatted text" : NAMES[thing.kind](thing.name) + (isReference ? ` ${references}` : "");
+    element.setAttribute("data-name", name);
+    element.setAttribute("data-label", isReference ? `[${references}]` : name);
+    element.setAttribute("title", name);
+    if (!(element.textContent ?? "").trim()) element.setAttribute("data-hollow", "");
+    if (!/^(?:table|ul|ol|dl|pre|meta|link)$/.test(element.localName)) {
+      element.setAttribute("role", "group");
+      element.setAttribute("aria-label", name);
+    }
+  }
+}
+
+/** @param {Node | null} node @param {HTMLElement} root @returns {HTMLElement | null} the thing that a node stands in */
+export function thingAt(node, root) {
+  const element = node?.nodeType === 1 ? /** @type {Element} */ (node) : node?.parentElement ?? null;
+  const thing = /** @type {HTMLElement | null} */ (element?.closest("[data-thing]") ?? null);
+  return thing && root.contains(thing) ? thing : null;
+}
+
+/** All elements of a thing: of a group each that has its `about`. @param {HTMLElement} thing @param {HTMLElement} root
+ * @returns {HTMLElement[]} */
+export function elementsOf(thing, root) {
+  const about = thing.getAttribute("about");
+  if (about === null) return [thing];
+  return [.../** @type {NodeListOf<HTMLElement>} */ (root.querySelectorAll(`[about="${CSS.escape(about)}"]`))];
+}
+
+/**
+ * The thing directly beside the caret, which a press of Backspace or Delete would take.
+ * @param {HTMLElement} root @param {boolean} isBefore @returns {HTMLElement | null}
+ */
+export function thingBeside(root, isBefore) {
+  const selection = document.getSelection();
+  if (!selection?.isCollapsed || !selection.anchorNode || !root.contains(selection.anchorNode)) return null;
+  const { anchorNode: node, anchorOffset: offset } = selection;
+  if (node.nodeType === 3) {
+    const text = /** @type {Text} */ (node).data;
+    if ((isBefore ? text.slice(0, offset) : text.slice(offset)) !== "") return null;
+  } else {
+    const child = node.childNodes[isBefore ? offset - 1 : offset];
+    if (child !== undefined) return edgeThing(child, isBefore, root);
+  }
+  /** @type {Node | null} */
+  let at = node;
+  while (at !== null && at !== root) {
+    let beside = isBefore ? at.previousSibling : at.nextSibling;
+    while (beside?.nodeType === 3 && isPassedOver(/** @type {Text} */ (beside))) {
+      beside = isBefore ? beside.previousSibling : beside.nextSibling;
+    }
+    if (beside) return edgeThing(beside, isBefore, root);
+    at = at.parentNode;
+  }
+  return null;
+}
+
+/** White space between blocks. @param {Text} text */
+function isPassedOver(text) {
+  return !/\S/.test(text.data) && (text.data === "" || !text.parentElement?.closest("p,h1,h2,h3,h4,h5,h6,li,dt,dd,td,th,caption"));
+}
+
+/** The thing at a node's end or beginning. @param {Node} node @param {boolean} isBefore @param {HTMLElement} root */
+function edgeThing(node, isBefore, root) {
+  /** @type {Node | null} */
+  let at = node;
+  while (at) {
+    const thing = thingAt(at, root);
+    if (thing || at.nodeType === 3) return thing;
+    at = isBefore ? at.lastChild : at.firstChild;
+  }
+  return null;
+}
+
+/** Selects a thing as a whole. @param {HTMLElement} thing @param {HTMLElement} root */
+export function selectThing(thing, root) {
+  const elements = elementsOf(thing, root);
+  const range = document.createRange();
+  range.setStartBefore(elements[0]);
+  range.setEndAfter(elements[elements.length - 1]);
+  const selection = document.getSelection();
+  selection?.removeAllRanges();
+  selection?.addRange(range);
+}
+
+/** Takes a thing out and puts the caret where it stood. @param {HTMLElement} thing @param {HTMLElement} root */
+export function deleteThing(thing, root) {
+  const elements = elementsOf(thing, root);
+  const range = document.createRange();
+  range.setStartBefore(elements[0]);
+  range.collapse(true);
+  for (const element of elements) element.remove();
+  const selection = document.getSelection();
+  selection?.removeAllRanges();
+  selection?.addRange(range);
+}
+
+/** Takes out what is left of groups of which a part was deleted. @param {HTMLElement} root @param {Map<string, number>} sizes */
+export function deleteRests(root, sizes) {
+  const now = groupSizes(root);
+  for (const [about, size] of now) {
+    if (size >= (sizes.get(about) ?? size)) continue;
+    for (const element of root.querySelectorAll(`[about="${CSS.escape(about)}"]`)) element.remove();
+  }
+}
+
+/** How many elements each group has. @param {HTMLElement} root @returns {Map<string, number>} */
+export function groupSizes(root) {
+  /** @type {Map<string, number>} */
+  const sizes = new Map();
+  for (const element of root.querySelectorAll("[about]")) {
+    const about = element.getAttribute("about") ?? "";
+    sizes.set(about, (sizes.get(about) ?? 0) + 1);
+  }
+  return sizes;
+}

@@ -1,0 +1,513 @@
+// @ts-check
+/**
+ * From what an editor and a browser left in a DOM to a tree that the program reads. Nothing is changed in the DOM.
+ *
+ * Where a page is known as it was opened, an element is *kept* if it has the `id` of a node of the page and is of that
+ * node's kind; any other is new.
+ */
+
+import { Part, numberOf } from "./markup.js";
+import { Original, kindOf } from "./original.js";
+import { linkTarget } from "./links.js";
+import { putBack } from "./strays.js";
+import { append, isEmpty, isLineBreak, tidy } from "./texts.js";
+import {
+  ATTRIBUTES, CELLS, HEADINGS, ITEMS, LINES, LISTS, TABLE_ATTRIBUTES, TAGS, isBlank, isBlock, isBlockName, isHiddenName,
+  isIsland, nameOf,
+} from "./kinds.js";
+
+/** @typedef {(Part | string)[]} Pieces */
+
+const ELEMENT = 1;
+const TEXT = 3;
+
+/** @param {Node} node @returns {string} the text of a text node */
+function textOf(node) {
+  return /** @type {Text} */ (node).data;
+}
+
+/** @param {Element} element @returns {(name: string) => string} */
+function valuesOf(element) {
+  return (name) => element.getAttribute(name) ?? "";
+}
+
+export class Mender {
+  /** Which element has a number, of several that have it. @type {Map<number, Element>} */
+  #owners = new Map();
+
+  /** Whether what is read stands in a link. */
+  #inLink = false;
+
+  /** @param {Original | undefined} original  the page as it was, where that is known */
+  constructor(original) {
+    this.original = original;
+  }
+
+  /** @param {Element} root  the element whose inside is the page's @returns {Part} its body */
+  page(root) {
+    this.#claim(root);
+    const attributes = this.original?.page.attributes ?? this.#attributes(root, "body", 0);
+    const page = new Part("body", new Map(attributes), this.#blocks(root.childNodes));
+    if (this.original !== undefined) putBack(page, this.original);
+    return page;
+  }
+
+  // ---- Numbers
+
+  /** Finds the owner of each number: of several elements of the right kind, as the halves of a paragraph that was split,
+   * the one that holds most of what can't be written anew; of those the first that shows something, else the first.
+   * @param {Element} root */
+  #claim(root) {
+    for (const element of root.querySelectorAll("[id]")) {
+      const number = numberOf(element.getAttribute("id"));
+      if (number === 0) continue;
+      const owner = this.#owners.get(number);
+      if (owner === undefined || this.#isBetter(element, owner, number)) this.#owners.set(number, element);
+    }
+  }
+
+  /** @param {Element} element @param {Element} owner  one that came before it @param {number} number  of both */
+  #isBetter(element, owner, number) {
+    if (!this.#isOfKind(element, number)) return false;
+    if (!this.#isOfKind(owner, number)) return true;
+    const [more, less] = [thingsIn(element), thingsIn(owner)];
+    return more > less || (more === less && isHollow(owner) && !isHollow(element));
+  }
+
+  /** Whether the element can be the page's node of this number. @param {Element} element @param {number} number */
+  #isOfKind(element, number) {
+    if (this.original === undefined) return true;
+    const kept = this.original.nodes.get(number);
+    if (kept === undefined || kindOf(nameOf(element), valuesOf(element)) !== kept.kind) return false;
+    const data = element.getAttribute("data-parsoid");
+    return data === null || data === kept.part.value("data-parsoid");
+  }
+
+  /** @param {Element} element @returns {number} its number, where it is the one that has it; else 0 */
+  #numberOf(element) {
+    const number = numberOf(element.getAttribute("id"));
+    return number !== 0 && this.#owners.get(number) === element && this.#isOfKind(element, number) ? number : 0;
+  }
+
+  /** The page's own block, where the element is as it was opened. @param {Element} element @returns {Part | undefined} */
+  #untouched(element) {
+    const kept = this.#kept(numberOf(element.getAttribute("id")));
+    return kept !== undefined && this.#isUntouched(element, kept.part) ? kept.part : undefined;
+  }
+
+  /** @param {Element} element @param {Part} part @returns {boolean} */
+  #isUntouched(element, part) {
+    if (element.localName !== part.name && element.getAttribute("data-wt-name") !== part.name) return false;
+    for (const [name, value] of part.attributes) if (element.getAttribute(name) !== value) return false;
+    const number = part.number;
+    if (number === 0 ? element.hasAttribute("id") && !part.attributes.has("id") : this.#owners.get(number) !== element) return false;
+    const { childNodes } = element;
+    if (childNodes.length !== part.children.length) return false;
+    let at = 0;
+    for (const node of childNodes) {
+      const child = part.children[at];
+      at += 1;
+      const isSame =
+        typeof child === "string"
+          ? node.nodeType === TEXT && textOf(node) === child
+          : node.nodeType === ELEMENT && this.#isUntouched(/** @type {Element} */ (node), child);
+      if (!isSame) return false;
+    }
+    return true;
+  }
+
+  /** @param {number} number */
+  #kept(number) {
+    return this.original?.nodes.get(number);
+  }
+
+  /** The attributes that stay: of a kept element those that it had, of a new one those that its kind may have.
+   * @param {Element} element @param {string} name @param {number} number @returns {Map<string, string>} */
+  #attributes(element, name, number) {
+    const had = this.#kept(number)?.part.attributes;
+    /** @type {Map<string, string>} */
+    const attributes = new Map();
+    for (const attribute of element.attributes) {
+      if (number === 0 ? mayHave(name, attribute.name) : ATTRIBUTES.has(attribute.name)) {
+        if (had === undefined || had.has(attribute.name)) attributes.set(attribute.name, attribute.value);
+      }
+    }
+    return attributes;
+  }
+
+  /** @param {Element} element @param {string} name @param {Pieces} children @returns {Part} */
+  #part(element, name, children) {
+    return new Part(name, this.#attributes(element, name, this.#numberOf(element)), children);
+  }
+
+  // ---- Blocks
+
+  /** What stands in the body, in a section, in a box: blocks, and white space between them. Text and inline elements
+   * that stand there directly are a new paragraph.
+   * @param {Iterable<Node>} nodes @returns {Pieces} */
+  #blocks(nodes) {
+    /** @type {Pieces} */
+    const out = [];
+    /** @type {Node[]} */
+    let loose = [];
+    const close = () => {
+      if (loose.length > 0) out.push(...this.#paragraphs(loose));
+      loose = [];
+    };
+    for (const node of nodes) {
+      if (node.nodeType === TEXT) {
+        if (loose.length > 0 || !isBlank(textOf(node))) loose.push(node);
+        else append(out, textOf(node).replace(/[^ \t\n\r]/g, " "));
+      } else if (node.nodeType === ELEMENT) {
+        const element = /** @type {Element} */ (node);
+        const name = nameOf(element);
+        if (name === "") continue;
+        if (this.#standsInBody(element, name, loose.length > 0)) {
+          close();
+          for (const piece of this.#block(element, name)) if (!this.#hasVanished(piece)) append(out, piece);
+        } else {
+          loose.push(element);
+        }
+      }
+    }
+    close();
+    return out;
+  }
+
+  /** Whether an element directly in the body belongs there; else it stands in a paragraph whose own element is gone.
+   * @param {Element} element @param {string} name @param {boolean} isInLine  whether such a paragraph has begun */
+  #standsInBody(element, name, isInLine) {
+    if (!element.hasAttribute("about") && !isHiddenName(name)) return isBlockName(name);
+    const kept = this.#kept(this.#numberOf(element));
+    if (kept !== undefined && (kept.parent === null || isInLine || !isHiddenName(name))) return kept.parent === null;
+    return !isInLine || isBlockName(name);
+  }
+
+  /** A paragraph or heading of which nothing is left. @param {Part | string} piece */
+  #hasVanished(piece) {
+    if (typeof piece === "string" || !LINES.has(piece.name) || piece.attributes.has("about")) return false;
+    if (this.original === undefined && piece.number !== 0) return false;
+    const kept = this.#kept(piece.number);
+    return isEmpty(piece.children) && (kept === undefined || !isEmpty(kept.part.children));
+  }
+
+  /** @param {Node[]} nodes  texts and inline elements without a block @returns {Pieces} */
+  #paragraphs(nodes) {
+    return this.#lines(new Map(), "p", this.#inline(nodes)).filter((piece) => !this.#hasVanished(piece));
+  }
+
+  /** @param {Element} element @param {string} name  our name for it @returns {Pieces} */
+  #block(element, name) {
+    const untouched = this.#untouched(element);
+    if (untouched !== undefined) return [untouched];
+    if (element.hasAttribute("about")) return [this.#asItStands(element, name)];
+    if (isHiddenName(name)) return this.#hidden(element, name);
+    if (LINES.has(name)) {
+      return this.#lines(this.#attributes(element, name, this.#numberOf(element)), name, this.#inline(element.childNodes));
+    }
+    if (LISTS.has(name)) return this.#list(element, name);
+    if (name === "hr") return [this.#part(element, name, [])];
+    if (name === "pre") return [tidy(this.#part(element, name, this.#inline(element.childNodes)), this.original)];
+    if (name === "section") return [this.#part(element, name, this.#blocks(element.childNodes))];
+    if (name === "table" || name === "tbody" || name === "tr") return [this.#tablePart(element, name)];
+    return this.#blocks(element.childNodes);
+  }
+
+  /** A paragraph or heading; where blocks stand in it, it is split round them, and its first part that isn't empty
+   * stays what it was.
+   * @param {Map<string, string>} attributes @param {string} name @param {Pieces} content @returns {Pieces} */
+  #lines(attributes, name, content) {
+    if (!content.some((piece) => typeof piece !== "string" && isBlock(piece))) {
+      return [tidy(new Part(name, attributes, content), this.original)];
+    }
+    /** @type {Pieces} */
+    const out = [];
+    /** @type {Part | null} */
+    let line = null;
+    let isFirst = true;
+    for (const piece of content) {
+      if (typeof piece !== "string" && isBlock(piece)) {
+        line = null;
+        out.push(piece);
+        continue;
+      }
+      if (line === null) {
+        if (typeof piece === "string" && isBlank(piece)) continue;
+        line = isFirst ? new Part(name, attributes) : new Part("p");
+        isFirst = false;
+        out.push(line);
+      }
+      append(line.children, piece);
+    }
+    return out.map((piece) => (typeof piece !== "string" && LINES.has(piece.name) ? tidy(piece, this.original) : piece));
+  }
+
+  /** @param {Element} element @param {string} name @returns {Pieces} */
+  #list(element, name) {
+    const list = this.#part(element, name, []);
+    const itemName = name === "dl" ? "dd" : "li";
+    for (const node of element.childNodes) {
+      if (node.nodeType === TEXT && isBlank(textOf(node))) {
+        append(list.children, textOf(node).replace(/[^ \t\n\r]/g, " "));
+      } else if (node.nodeType === TEXT) {
+        list.children.push(tidy(new Part(itemName, new Map(), [textOf(node)]), this.original));
+      } else if (node.nodeType === ELEMENT) {
+        this.#inList(list, /** @type {Element} */ (node), itemName);
+      }
+    }
+    const hasItems = list.parts.some((part) => !isHiddenName(part.name));
+    return hasItems || isEmpty(this.#kept(list.number)?.part.children ?? ["a"]) ? [list] : list.parts;
+  }
+
+  /** @param {Part} list @param {Element} element  a child of it @param {string} itemName  what its items are */
+  #inList(list, element, itemName) {
+    const name = nameOf(element);
+    if (name === "") return;
+    if (element.hasAttribute("about") || isHiddenName(name)) {
+      list.children.push(...this.#block(element, name));
+    } else if (ITEMS.has(name)) {
+      const item = this.#item(element, name);
+      if (item.number !== 0 || !isEmpty(item.children)) list.children.push(item);
+    } else if (LISTS.has(name)) {
+      let last = list.parts.findLast((part) => ITEMS.has(part.name) && !part.attributes.has("about"));
+      if (last === undefined) list.children.push((last = new Part(itemName)));
+      last.children.push(...this.#list(element, name));
+    } else {
+      const item = new Part(itemName, new Map(), this.#flat(this.#inlineElement(element), isList));
+      if (!isEmpty(tidy(item, this.original).children)) list.children.push(item);
+    }
+  }
+
+  /** @param {Element} element @param {string} name @returns {Part} */
+  #item(element, name) {
+    return tidy(this.#part(element, name, this.#flat(this.#inline(element.childNodes), isList)), this.original);
+  }
+
+  /** @param {Element} element @param {string} name @returns {Part} */
+  #tablePart(element, name) {
+    const part = this.#part(element, name, []);
+    for (const node of element.childNodes) {
+      if (node.nodeType === TEXT) append(part.children, textOf(node));
+      if (node.nodeType !== ELEMENT) continue;
+      const child = /** @type {Element} */ (node);
+      const childName = nameOf(child);
+      if (childName === "") continue;
+      if (CELLS.has(childName) && !child.hasAttribute("about")) part.children.push(this.#cell(child, childName));
+      else if (isBlockName(childName) || isHiddenName(childName)) part.children.push(...this.#block(child, childName));
+      else part.children.push(...this.#inlineElement(child));
+    }
+    return part;
+  }
+
+  /** A cell or caption: new paragraphs in it, before any block of the page, are lines of its text.
+   * @param {Element} element @param {string} name @returns {Part} */
+  #cell(element, name) {
+    let isBehindBlock = false;
+    const stays = (/** @type {Part} */ part) => {
+      const isNew = part.number === 0 && !part.attributes.has("about") && LINES.has(part.name);
+      isBehindBlock ||= !isNew;
+      return isBehindBlock;
+    };
+    return tidy(this.#part(element, name, this.#flat(this.#inline(element.childNodes), stays)), this.original);
+  }
+
+  // ---- What stands in a line
+
+  /** @param {Iterable<Node>} nodes @returns {Pieces} texts, inline elements, and the blocks that stand among them */
+  #inline(nodes) {
+    /** @type {Pieces} */
+    const out = [];
+    for (const node of nodes) {
+      if (node.nodeType === TEXT) append(out, textOf(node));
+      if (node.nodeType !== ELEMENT) continue;
+      for (const piece of this.#inlineElement(/** @type {Element} */ (node))) append(out, piece);
+    }
+    return out;
+  }
+
+  /** @param {Element} element @returns {Pieces} */
+  #inlineElement(element) {
+    const name = nameOf(element);
+    if (name === "") return [];
+    if (element.hasAttribute("about")) return [this.#asItStands(element, name)];
+    if (isHiddenName(name)) return this.#hidden(element, name);
+    if (CELLS.has(name)) return [this.#cell(element, name)];
+    if (ITEMS.has(name)) return [this.#item(element, name)];
+    if (isBlockName(name)) return this.#block(element, name);
+    if (name === "br") return [this.#part(element, name, [])];
+    if (name === "a") return this.#link(element);
+    if (name === "span" && element.hasAttribute("typeof")) return this.#special(element);
+    const isKept = this.#numberOf(element) !== 0;
+    if (name === "b" || name === "i" || (isKept && TAGS.has(name))) return this.#styled(element, name);
+    return name === "span" || name === "font" ? this.#byStyle(element) : this.#inline(element.childNodes);
+  }
+
+  /** Bold, italic, a pair of tags; it vanishes where its inside did. @param {Element} element @param {string} name */
+  #styled(element, name) {
+    const children = this.#flat(this.#inline(element.childNodes), () => false);
+    const kept = this.#kept(this.#numberOf(element));
+    const isBare = children.every((piece) => piece === "" || (typeof piece !== "string" && isLineBreak(piece)));
+    if (isBare && !(kept !== undefined && isEmpty(kept.part.children)) && this.#mayVanish(element)) return children;
+    return [this.#part(element, name, children)];
+  }
+
+  /** Whether an element without an inside is what is left of one; of a page that isn't known only a new one is.
+   * @param {Element} element */
+  #mayVanish(element) {
+    return this.original !== undefined || this.#numberOf(element) === 0;
+  }
+
+  /** A `span` or `font` of another document: bold and italic by its style, else its inside. @param {Element} element */
+  #byStyle(element) {
+    const style = element.getAttribute("style") ?? "";
+    let pieces = this.#inline(element.childNodes);
+    if (isEmpty(pieces)) return pieces;
+    if (/font-style:\s*(?:italic|oblique)/i.test(style)) pieces = [new Part("i", new Map(), this.#flat(pieces, () => false))];
+    if (/font-weight:\s*(?:bold|[6-9]00)/i.test(style)) pieces = [new Part("b", new Map(), this.#flat(pieces, () => false))];
+    return pieces;
+  }
+
+  /** @param {Element} element  an `a` @returns {Pieces} */
+  #link(element) {
+    if (this.#inLink) return this.#inline(element.childNodes);
+    this.#inLink = true;
+    const content = this.#flat(this.#inline(element.childNodes), () => false);
+    this.#inLink = false;
+    const kept = this.#kept(this.#numberOf(element));
+    const target = linkTarget(element.getAttribute("href") ?? "", kept?.part.value("rel") ?? element.getAttribute("rel") ?? "");
+    if (target === null) return content;
+    const isBare = content.every((piece) => piece === "" || (typeof piece !== "string" && isLineBreak(piece)));
+    if (isBare && !(kept !== undefined && isEmpty(kept.part.children)) && this.#mayVanish(element)) return content;
+    const isNew = this.#numberOf(element) === 0;
+    const link = isNew ? new Part("a", target, content) : this.#part(element, "a", content);
+    for (const [name, value] of target) if (link.value(name) !== value) link.attributes.set(name, value);
+    if (kept?.part.text === link.text || (kept === undefined && !isNew)) return [link];
+    return withEdgesOutside(link, kept?.part.text ?? "");
+  }
+
+  /** A `span` with a `typeof`: an entity, a nowiki, an island. @param {Element} element @returns {Pieces} */
+  #special(element) {
+    const type = element.getAttribute("typeof") ?? "";
+    const isKept = this.#numberOf(element) !== 0;
+    if (isIsland(valuesOf(element))) {
+      return [this.#part(element, "span", []), ...this.#inline(element.childNodes)];
+    }
+    if (!isKept || (type !== "mw:Entity" && type !== "mw:Nowiki")) return this.#inline(element.childNodes);
+    const part = this.#part(element, "span", this.#inline(element.childNodes));
+    return type === "mw:Entity" ? this.#entity(part) : isEmpty(part.children) && !this.#wasEmpty(part) ? [] : [part];
+  }
+
+  /** @param {Part} part */
+  #wasEmpty(part) {
+    const kept = this.#kept(part.number);
+    return kept === undefined || isEmpty(kept.part.children);
+  }
+
+  /** What was typed at an entity's edge stands beside it. @param {Part} part @returns {Pieces} */
+  #entity(part) {
+    const was = this.#kept(part.number)?.part.text;
+    const now = part.text;
+    if (was === undefined || now === was) return [part];
+    if (now === "") return [];
+    if (isBlank(now) && isBlank(was)) return [new Part(part.name, part.attributes, [was])];
+    const isBefore = now.endsWith(was);
+    if (!isBefore && !now.startsWith(was)) return [part];
+    const whole = new Part(part.name, part.attributes, [was]);
+    return isBefore ? [now.slice(0, now.length - was.length), whole] : [whole, now.slice(was.length)];
+  }
+
+  /** A comment, an include tag, a skip, a switch, a category: those of the page alone. @param {Element} element
+   * @param {string} name @returns {Pieces} */
+  #hidden(element, name) {
+    const values = valuesOf(element);
+    const isOurs = [values("typeof"), values("property"), values("rel")].some((value) => value.startsWith("mw:"));
+    const isKept = this.original === undefined || this.#numberOf(element) !== 0;
+    return isOurs && isKept ? [this.#part(element, name, [])] : [];
+  }
+
+  /** A group or a part of one: nothing in it is mended. @param {Element} element @param {string} name @returns {Part} */
+  #asItStands(element, name) {
+    const number = this.#numberOf(element);
+    const part = new Part(name === "box" ? element.localName : name);
+    for (const attribute of element.attributes) {
+      const isLost = number === 0 && (attribute.name === "id" || attribute.name === "data-parsoid");
+      if (ATTRIBUTES.has(attribute.name) && !isLost) part.attributes.set(attribute.name, attribute.value);
+    }
+    for (const node of element.childNodes) {
+      if (node.nodeType === TEXT) append(part.children, textOf(node));
+      if (node.nodeType !== ELEMENT) continue;
+      const child = /** @type {Element} */ (node);
+      const childName = nameOf(child);
+      if (childName !== "") part.children.push(this.#asItStands(child, child.localName === "template" ? childName : child.localName));
+    }
+    return part;
+  }
+
+  /** Blocks where none may stand become their inside, with a line break to what stands before and behind them.
+   * @param {Pieces} pieces @param {(block: Part) => boolean} stays  whether a block may stand there @returns {Pieces} */
+  #flat(pieces, stays) {
+    /** @type {Pieces} */
+    const out = [];
+    let isBehindBlock = false;
+    for (const piece of pieces) {
+      const isInner = typeof piece !== "string" && isBlock(piece) && !stays(piece);
+      const content = isInner ? this.#flat(piece.children, () => false) : [piece];
+      if (isEmpty(content) && (isInner || isBehindBlock)) continue;
+      const isStaying = !isInner && typeof piece !== "string" && isBlock(piece);
+      if ((isInner || isBehindBlock) && !isStaying && !isEmpty(out)) append(out, new Part("br"));
+      for (const inner of content) append(out, inner);
+      isBehindBlock = isInner;
+    }
+    return out;
+  }
+}
+
+/** @param {Part} part */
+function isList(part) {
+  return LISTS.has(part.name);
+}
+
+/** Whether an element shows nothing, as the half of a split paragraph that keeps nothing but its `br`.
+ * @param {Element} element */
+function isHollow(element) {
+  return isBlank(element.textContent ?? "") && element.querySelector("[id]") === null;
+}
+
+/** How many groups, extensions and other islands stand in an element. @param {Element} element */
+function thingsIn(element) {
+  return [...element.querySelectorAll("[id]")].filter((inner) => isIsland(valuesOf(inner))).length;
+}
+
+/** Whether a new element may have an attribute. @param {string} name @param {string} attribute */
+function mayHave(name, attribute) {
+  switch (name) {
+    case "table":
+    case "tr":
+    case "td":
+    case "th":
+      return TABLE_ATTRIBUTES.has(attribute);
+    case "span":
+      return attribute === "typeof" || attribute === "data-mw";
+    case "meta":
+    case "link":
+      return ATTRIBUTES.has(attribute);
+    case "body":
+      return attribute === "data-parsoid";
+    case "section":
+      return /^[a-z][a-z0-9:-]*$/.test(attribute) && attribute !== "data-wt-edit";
+    default:
+      return false;
+  }
+}
+
+/** Blanks at a link's edges that the page's link hadn't stand outside it. @param {Part} link @param {string} was */
+function withEdgesOutside(link, was) {
+  const first = link.children[0];
+  const front = typeof first === "string" && !/^\s/.test(was) ? /^[ \t\n\u00a0]*/.exec(first)?.[0] ?? "" : "";
+  if (front !== "") link.children[0] = /** @type {string} */ (first).slice(front.length);
+  const last = link.children[link.children.length - 1];
+  const back = typeof last === "string" && !/\s$/.test(was) ? /[ \t\n\u00a0]*$/.exec(last)?.[0] ?? "" : "";
+  if (back !== "") link.children[link.children.length - 1] = /** @type {string} */ (last).slice(0, last.length - back.length);
+  link.children = link.children.filter((piece) => piece !== "");
+  return isEmpty(link.children) ? [front + back] : [front, link, back].filter((piece) => piece !== "");
+}

@@ -1,0 +1,70 @@
+// @ts-check
+/** A page as it was opened: its nodes by their numbers, to compare with what an editor made of them. */
+
+import { Part, readPage, write } from "./markup.js";
+import { isBlock } from "./kinds.js";
+
+/** A node of the page as it was. */
+export class Kept {
+  /** @param {Part} part @param {Kept | null} parent  the node that it stands in, null in the body @param {number} at */
+  constructor(part, parent, at) {
+    this.part = part;
+    this.parent = parent;
+    /** Which child of its parent's element it is. */
+    this.at = at;
+  }
+
+  get kind() {
+    return kindOf(this.part.name, (name) => this.part.value(name));
+  }
+
+  /** Whether nothing but text and inline elements stands in it. */
+  get isInline() {
+    return !this.part.parts.some(isBlock);
+  }
+}
+
+/**
+ * What an element is, in one word: an `id` counts only on an element of the kind that it had.
+ * @param {string} name @param {(name: string) => string} value
+ */
+export function kindOf(name, value) {
+  if (value("about") !== "") return "group";
+  if (name === "a") return `a ${value("rel")}`;
+  if (name === "link") return `link ${value("rel")}`;
+  return `${name} ${value("typeof")} ${value("property")}`.trimEnd();
+}
+
+export class Original {
+  /** @type {Map<number, Kept> | null} */
+  #nodes = null;
+
+  /** @param {string} html  as the program wrote it */
+  constructor(html) {
+    this.page = readPage(html);
+    /** The document as `save` would write it. */
+    this.text = write(this.page);
+  }
+
+  /** The nodes by number; read when they are first asked for. @returns {Map<number, Kept>} */
+  get nodes() {
+    if (this.#nodes === null) {
+      this.#nodes = new Map();
+      this.#collect(this.page, null, this.#nodes);
+    }
+    return this.#nodes;
+  }
+
+  /** @param {Part} part @param {Kept | null} parent @param {Map<number, Kept>} nodes */
+  #collect(part, parent, nodes) {
+    part.children.forEach((child, at) => {
+      if (typeof child === "string") return;
+      let kept = parent;
+      if (child.number !== 0) {
+        kept = new Kept(child, parent, at);
+        nodes.set(child.number, kept);
+      }
+      if (!child.attributes.has("about")) this.#collect(child, kept, nodes);
+    });
+  }
+}

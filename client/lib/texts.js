@@ -1,0 +1,189 @@
+// @ts-check
+/** What is mended in the texts of a block that an editor changed. */
+
+import { Part } from "./markup.js";
+import { Kept, Original } from "./original.js";
+import { ITEMS, isBlank, isBlock, isHiddenName, isIsland } from "./kinds.js";
+
+/** Puts a piece at the end; texts that meet become one. @param {(Part | string)[]} pieces @param {Part | string} piece */
+export function append(pieces, piece) {
+  if (piece === "") return;
+  const last = pieces.length - 1;
+  if (typeof piece === "string" && typeof pieces[last] === "string") pieces[last] += piece;
+  else pieces.push(piece);
+}
+
+/** @param {Part | string} piece @returns {boolean} a line break that an editor made */
+export function isLineBreak(piece) {
+  return typeof piece !== "string" && piece.name === "br" && piece.number === 0;
+}
+
+/** Whether nothing but white space and the line break that a browser puts into an empty block stands there.
+ * @param {(Part | string)[]} pieces */
+export function isEmpty(pieces) {
+  return pieces.filter((piece) => !(typeof piece === "string" && isBlank(piece))).every(isLineBreak);
+}
+
+/**
+ * Mends a block with text whose inside isn't that of the page: the line break at its end, which shows nothing; blanks
+ * at its ends, no-break spaces, carriage returns and line breaks that the page hadn't there.
+ * @param {Part} block @param {Original | undefined} original @returns {Part} the block
+ */
+export function tidy(block, original) {
+  const kept = original?.nodes.get(block.number);
+  if (kept === undefined && block.number !== 0) return block;
+  if (kept !== undefined && isSame(block, kept.part)) return block;
+  const end = block.children.findIndex((piece) => typeof piece !== "string" && isBlock(piece));
+  const lead = end < 0 ? block.children : block.children.slice(0, end);
+  dropLastBreak(lead, end >= 0);
+  const was = kept?.part.text ?? "";
+  new Texts(was, block.text).mend(block, lead);
+  trimEdges(block, lead, kept, was);
+  block.children = [...lead.filter((piece) => piece !== ""), ...(end < 0 ? [] : block.children.slice(end))];
+  return block;
+}
+
+/** Whether two elements are the same, inside too. @param {Part} now @param {Part} was @returns {boolean} */
+export function isSame(now, was) {
+  if (now.name !== was.name || now.children.length !== was.children.length) return false;
+  for (const [name, value] of was.attributes) {
+    if (now.value(name) !== value && name !== "data-parsoid" && name !== "data-mw") return false;
+  }
+  return now.children.every((child, at) => {
+    const other = was.children[at];
+    return typeof child === "string" || typeof other === "string" ? child === other : isSame(child, other);
+  });
+}
+
+/** @param {(Part | string)[]} lead  the pieces of a block before any block in it @param {boolean} isBeforeBlock */
+function dropLastBreak(lead, isBeforeBlock) {
+  let last = lead.length - 1;
+  while (last >= 0 && isBlankText(lead[last])) last -= 1;
+  if (last < 0 || !isLineBreak(lead[last])) return;
+  lead.splice(last, 1);
+  if (!isBeforeBlock) lead.splice(last);
+}
+
+/** @param {Part | string} piece */
+function isBlankText(piece) {
+  return typeof piece === "string" && isBlank(piece);
+}
+
+/** Takes blanks off a block's ends where the page's block has none there.
+ * @param {Part} block @param {(Part | string)[]} lead @param {Kept | undefined} kept @param {string} was */
+function trimEdges(block, lead, kept, was) {
+  if (block.name === "pre") return;
+  if (typeof lead[0] === "string" && !/^[ \t\n]/.test(was)) lead[0] = lead[0].replace(/^[ \t\n]+/, "");
+  const last = lead.length - 1;
+  const isItemWithList = ITEMS.has(block.name) && lead.length < block.children.length;
+  const text = lead[last];
+  if (typeof text !== "string" || isItemWithList || kept?.isInline === false) return;
+  if (!/[ \t\n]$/.test(was)) lead[last] = text.replace(/[ \t\n]+$/, "");
+}
+
+/**
+ * The texts of a block beside those that the page has. Before and behind what was changed the page's white space is put
+ * back: browsers put no-break spaces for blanks, and blanks for line breaks, next to what is typed.
+ */
+class Texts {
+  /** @param {string} was @param {string} now */
+  constructor(was, now) {
+    const most = Math.min(was.length, now.length);
+    let back = 0;
+    while (back < most && isSameSign(was[was.length - 1 - back], now[now.length - 1 - back])) back += 1;
+    let front = 0;
+    while (front < most - back && isSameSign(was[front], now[front])) front += 1;
+    this.was = was;
+    this.from = front;
+    this.to = now.length - back;
+    /** How much longer the text has become. */
+    this.longer = now.length - was.length;
+    /** Where in the block's text the next piece begins. */
+    this.at = 0;
+    const changed = was.slice(front, was.length - back);
+    this.hasNoBreaks = changed.includes("\u00a0");
+    this.hasReturns = changed.includes("\r");
+  }
+
+  /** @param {Part} block @param {(Part | string)[]} lead */
+  mend(block, lead) {
+    this.#pieces(lead, block.name === "p" || block.name === "pre", false);
+    if (block.name !== "p") return;
+    lead.splice(0, lead.length, ...lead.flatMap(splitAtLines));
+    const hasIndents = /\n[ \t]/.test(this.was);
+    const hasTrails = /[ \t]\n/.test(this.was);
+    lead.forEach((piece, at) => {
+      if (typeof piece !== "string") return;
+      const mended = hasIndents ? piece : piece.replace(/\n[ \t]+/g, "\n");
+      lead[at] = hasTrails ? mended : mended.replace(/[ \t]+\n/g, "\n");
+    });
+  }
+
+  /** @param {(Part | string)[]} pieces @param {boolean} isParagraph  whether line breaks may stand among them
+   * @param {boolean} isNew  whether they stand in a new element that holds no line breaks */
+  #pieces(pieces, isParagraph, isNew) {
+    pieces.forEach((piece, at) => {
+      if (typeof piece === "string") {
+        const mended = this.#text(piece, isParagraph);
+        pieces[at] = isNew ? mended.replaceAll("\n", " ") : mended;
+      } else if (isHiddenName(piece.name) || isIsland((name) => piece.value(name)) || piece.value("typeof") !== "") {
+        this.at += piece.text.length;
+      } else {
+        const isSplit = isParagraph && isNewStyle(piece);
+        this.#pieces(piece.children, isSplit, isNew || (piece.number === 0 && !isSplit));
+      }
+    });
+  }
+
+  /** @param {string} text @param {boolean} isParagraph @returns {string} */
+  #text(text, isParagraph) {
+    const start = this.at;
+    const end = (this.at += text.length);
+    const from = Math.min(Math.max(this.from, start), end);
+    const to = Math.min(Math.max(this.to, from), end);
+    const front = this.was.slice(start, from);
+    const back = this.was.slice(to - this.longer, end - this.longer);
+    return front + this.#typed(text.slice(from - start, to - start), isParagraph) + back;
+  }
+
+  /** @param {string} text  what was typed or pasted @param {boolean} isParagraph */
+  #typed(text, isParagraph) {
+    let mended = text.replace(/[\u200b\ufeff]/g, "").replace(/[\v\f]/g, " ");
+    if (!this.hasReturns) mended = mended.replace(/\r\n?/g, "\n");
+    if (!this.hasNoBreaks) mended = mended.replaceAll("\u00a0", " ");
+    return isParagraph ? mended.replace(/\n(?:[ \t]*\n)+/g, "\n") : mended.replace(/\n+/g, " ");
+  }
+}
+
+/** @param {Part | string} piece @returns {boolean} bold or italic that an editor made */
+function isNewStyle(piece) {
+  return typeof piece !== "string" && piece.number === 0 && (piece.name === "b" || piece.name === "i");
+}
+
+/** Bold and italic end with a line in wikitext: what an editor made over several lines of a paragraph begins anew on
+ * each. @param {Part | string} piece @returns {(Part | string)[]} */
+function splitAtLines(piece) {
+  if (typeof piece === "string" || !isNewStyle(piece)) return [piece];
+  const inner = piece.children.flatMap((child) =>
+    typeof child === "string" ? child.split(/[ \t]*(\n)[ \t]*/) : splitAtLines(child),
+  );
+  /** @type {(Part | string)[]} */
+  const out = [];
+  let line = new Part(piece.name, new Map(piece.attributes));
+  const close = () => {
+    if (line.children.length > 0) out.push(line);
+    line = new Part(piece.name, new Map(piece.attributes));
+  };
+  for (const child of inner) {
+    if (child === "\n") close(), append(out, child);
+    else append(line.children, child);
+  }
+  close();
+  return out;
+}
+
+/** Whether a character of the page is the same now, or is white space for which a browser put a blank.
+ * @param {string} was @param {string} now */
+function isSameSign(was, now) {
+  return was === now || ((now === " " || now === "\u00a0") && (was === " " || was === "\n" || was === "\t"));
+}

@@ -1,0 +1,417 @@
+// @ts-check
+/**
+ * The editor page in a browser, driven by keys, over the repository's server and program. Whatever is done ends in a
+ * saved page, whose bytes are compared, or in a refusal by name; the text is still there after it.
+ */
+
+import { after, before, beforeEach, test } from "node:test";
+import assert from "node:assert/strict";
+import { spawnSync } from "node:child_process";
+import { Browser, findChromium } from "./chromium.js";
+import { Server, Wiki, examplePages, findProgram } from "./pages.js";
+
+const chromium = findChromium();
+const program = findProgram();
+const hasPython = spawnSync("python3", ["--version"]).status === 0;
+const skip =
+  chromium === null ? "there is no Chromium here"
+  : program === null ? "there is no wtround here: build it, or name one in WTROUND"
+  : !hasPython ? "there is no python3 here" : false;
+
+/** @type {Browser} */
+let browser;
+/** @type {import("./chromium.js").Tab} */
+let tab;
+/** @type {Wiki} */
+let wiki;
+/** @type {Server} */
+let server;
+
+const PAGE = [
+  "One '''two''' three [[Main Page|four]] five.",
+  "Second line with {{lang|de|Troppau}} and more.<ref>a note</ref>",
+  "",
+  "== Heading ==",
+  "Third paragraph.",
+  "",
+  "* first item",
+  "* second item",
+  "",
+  "{|",
+  "| north || south",
+  "|}",
+  "",
+].join("\n");
+
+before(async () => {
+  if (skip !== false || chromium === null || program === null) return;
+  wiki = new Wiki(program, { ...examplePages(), "Main Page": "x", "A page": PAGE, "Other page": "y" });
+  server = await Server.start(wiki);
+  browser = new Browser(chromium);
+  tab = await browser.tab();
+  await tab.size(1100, 800);
+});
+
+after(async () => {
+  if (skip !== false) return;
+  await browser.close();
+  await server.stop();
+  wiki.remove();
+});
+
+beforeEach(async () => {
+  if (skip !== false) return;
+  wiki.write("A page", PAGE);
+  await opened("A page");
+});
+
+/** @param {string} title */
+async function opened(title) {
+  await tab.go(`${server.url}/editor/${encodeURIComponent(title)}`);
+  await tab.until(`document.getElementById("page")?.isContentEditable`);
+  await tab.js(`document.getElementById("page").focus()`);
+}
+
+/** Selects from one place in the text to another, each said by a text and how many characters of it lie before.
+ * @param {string} text @param {number} at @param {string} [endText] @param {number} [endAt] */
+async function select(text, at, endText = text, endAt = at) {
+  await tab.js(`(() => {
+    const find = (text) => {
+      const walker = document.createTreeWalker(document.getElementById("page"), NodeFilter.SHOW_TEXT);
+      while (walker.nextNode()) if (walker.currentNode.data.includes(text)) return walker.currentNode;
+      throw new Error("no such text: " + text);
+    };
+    const place = (text, at) => [find(text), find(text).data.indexOf(text) + at];
+    getSelection().setBaseAndExtent(...place(${JSON.stringify(text)}, ${at}), ...place(${JSON.stringify(endText)}, ${endAt}));
+  })()`);
+}
+
+/** @returns {Promise<string>} the text that the page shows, white space as one blank */
+function shown() {
+  return tab.js(`document.getElementById("page").textContent.replace(/\\s+/g, " ").trim()`);
+}
+
+/** Presses Ctrl+S. @returns {Promise<"changes" | "refusal" | string>} what came: the changes, a refusal, or what was said */
+async function save() {
+  await tab.press("Control+s");
+  const dialog = `document.getElementById("changes").open`;
+  const refusal = `!document.getElementById("refusal").hidden`;
+  const said = `document.getElementById("status").textContent.replace("…", "")`;
+  await tab.until(`${dialog} || ${refusal} || ${said}`);
+  return tab.js(`${dialog} ? "changes" : ${refusal} ? "refusal" : ${said}`);
+}
+
+/** Saves, looks at the changes, stores them. @returns {Promise<string>} the page that is stored now */
+async function stored() {
+  assert.equal(await save(), "changes");
+  assert.ok((await tab.js(`document.querySelectorAll("#changes-diff .added, #changes-diff .removed").length`)) > 0);
+  await tab.press("Enter"); // on "Save the page", which has the focus
+  await tab.until(`document.getElementById("status").textContent === "The page is saved."`);
+  return wiki.read("A page");
+}
+
+/** Saves, and is refused; nothing is stored. @returns {Promise<string>} the refusal's line */
+async function refused() {
+  const before = wiki.read("A page");
+  assert.equal(await save(), "refusal");
+  assert.equal(wiki.read("A page"), before);
+  assert.notEqual(await tab.js(`document.getElementById("refusal-sentence").textContent`), "");
+  return tab.js(`document.getElementById("refusal-detail").textContent`);
+}
+
+/** What needs new or removed blocks: it is saved where the program takes them, else refused by name, and the text stays.
+ * @param {string} wanted  the page that is saved @param {string} text  what is shown then and before */
+async function storedOrNoNewBlocks(wanted, text) {
+  assert.equal(await shown(), text);
+  if ((await save()) === "refusal") {
+    assert.match(await tab.js(`document.getElementById("refusal-detail").textContent`), /^edit refused: NotEditable \d+$/);
+    assert.ok(await tab.js(`document.querySelector("[data-refused]") !== null`));
+    assert.equal(wiki.read("A page"), PAGE);
+  } else {
+    await tab.press("Enter");
+    await tab.until(`document.getElementById("status").textContent === "The page is saved."`);
+    assert.equal(wiki.read("A page"), wanted);
+  }
+  assert.equal(await shown(), text);
+}
+
+/** @param {string} html @param {string} text  what the clipboard holds */
+async function paste(html, text) {
+  await tab.js(`(() => {
+    const data = new DataTransfer();
+    if (${JSON.stringify(html)}) data.setData("text/html", ${JSON.stringify(html)});
+    data.setData("text/plain", ${JSON.stringify(text)});
+    document.activeElement.dispatchEvent(new ClipboardEvent("paste", { clipboardData: data, bubbles: true, cancelable: true }));
+  })()`);
+}
+
+const SHOWN =
+  "One two three four five. Second line with Troppau and more. Heading Third paragraph. first item second item north south";
+
+test("nothing changed: nothing is saved", { skip }, async () => {
+  assert.equal(await shown(), SHOWN);
+  assert.equal(await save(), "Nothing was changed.");
+  assert.equal(wiki.read("A page"), PAGE);
+});
+
+test("typed words are saved, and no other byte changes", { skip }, async () => {
+  await select("three ", 5);
+  await tab.type(" and [[a]] ''half''");
+  assert.equal(await stored(), PAGE.replace("three ", "three and &#91;&#91;a&#93;&#93; &#39;&#39;half&#39;&#39; "));
+});
+
+test("typing beside a line break of the source leaves it", { skip }, async () => {
+  await select("five.", 5);
+  await tab.type(" And six.");
+  assert.equal(await stored(), PAGE.replace("five.", "five. And six."));
+});
+
+test("after a save the page is opened anew and can be saved again", { skip }, async () => {
+  await select("Third", 5);
+  await tab.type("ly");
+  await stored();
+  await select("Thirdly", 7);
+  await tab.type(",");
+  assert.equal(await stored(), PAGE.replace("Third", "Thirdly,"));
+});
+
+test("bold and italic by keys, on and off", { skip }, async () => {
+  await select("Third", 0, "Third", 5);
+  await tab.press("Control+b");
+  await select("two", 0, "two", 3);
+  await tab.press("Control+b", "Control+i");
+  assert.equal(await stored(), PAGE.replace("Third", "'''Third'''").replace("'''two'''", "''two''"));
+});
+
+test("bold over a line break of the source", { skip }, async () => {
+  await select("five.", 0, "Second", 6);
+  await tab.press("Control+b");
+  assert.equal(await stored(), PAGE.replace("five.\nSecond", "'''five.'''\n'''Second'''"));
+});
+
+test("a link to a page that is found by its title", { skip }, async () => {
+  await select("Third", 0, "Third", 5);
+  await tab.press("Control+k");
+  await tab.until(`document.getElementById("link").open`);
+  await tab.type("other");
+  await tab.until(`document.querySelectorAll("#link-titles li").length === 1`);
+  await tab.press("ArrowDown", "Enter", "Enter");
+  await tab.until(`document.querySelector('#page a[href="./Other_page"]') !== null`);
+  assert.equal(await stored(), PAGE.replace("Third", "[[Other page|Third]]"));
+});
+
+test("a link to an address, with a text of its own; a link is changed and taken off", { skip }, async () => {
+  await select("Third", 0);
+  await tab.press("Control+k");
+  await tab.until(`document.getElementById("link").open`);
+  await tab.type("https://example.org/a b");
+  await tab.press("Tab");
+  await tab.type("Here");
+  await tab.press("Enter");
+  await tab.until(`document.getElementById("page").textContent.includes("Here")`);
+  await select("Here", 4);
+  await tab.type(" ");
+  assert.equal(await stored(), PAGE.replace("Third", "[https://example.org/a%20b Here] Third"));
+  await select("four", 1);
+  await tab.press("Control+k");
+  await tab.until(`document.getElementById("link").open`);
+  await tab.type("New title");
+  await tab.press("Enter");
+  await tab.until(`document.querySelector('#page a[href="./New_title"]') !== null`);
+  await select("Here", 1);
+  await tab.press("Control+k");
+  await tab.until(`document.getElementById("link").open`);
+  await tab.js(`document.getElementById("link-remove").click()`);
+  await tab.until(`document.querySelector('#page a[rel="mw:ExtLink"]') === null`);
+  assert.equal(await stored(), PAGE.replace("Third", "Here Third").replace("Main Page|four", "New title|four"));
+});
+
+test("Enter splits a paragraph", { skip }, async () => {
+  await select("Third paragraph", 6);
+  await tab.press("Enter");
+  await storedOrNoNewBlocks(PAGE.replace("Third paragraph.", "Third\n\nparagraph.\n"), SHOWN.replace("Third p", "Third p"));
+});
+
+test("Enter at a paragraph's end begins a new one", { skip }, async () => {
+  await select("Third paragraph.", 16);
+  await tab.press("Enter");
+  await tab.type("Fourth.");
+  await storedOrNoNewBlocks(
+    PAGE.replace("Third paragraph.", "Third paragraph.\n\nFourth.\n"), SHOWN.replace("paragraph.", "paragraph.Fourth."),
+  );
+});
+
+test("Enter, and Backspace again, changes nothing", { skip }, async () => {
+  await select("Third paragraph", 8);
+  await tab.press("Enter", "Backspace");
+  assert.equal(await save(), "Nothing was changed.");
+});
+
+test("Backspace at a block's start joins it to the one before", { skip }, async () => {
+  await select("Third", 0);
+  await tab.press("Backspace");
+  assert.equal(await shown(), SHOWN.replace("Heading Third", "HeadingThird"));
+  if ((await save()) === "refusal") {
+    assert.match(await tab.js(`document.getElementById("refusal-detail").textContent`), /NotEditable 0/);
+  } else {
+    await tab.press("Enter");
+    await tab.until(`document.getElementById("status").textContent === "The page is saved."`);
+    assert.equal(wiki.read("A page"), PAGE.replace("Heading ==\nThird paragraph.\n", "HeadingThird paragraph. ==\n\n"));
+  }
+});
+
+test("Enter in an item begins a new item", { skip }, async () => {
+  await select("first item", 10);
+  await tab.press("Enter");
+  await tab.type("between");
+  await storedOrNoNewBlocks(PAGE.replace("* first item\n", "* first item\n* between\n"), SHOWN.replace("first item", "first itembetween"));
+});
+
+test("a heading is made of a paragraph", { skip }, async () => {
+  await select("Third", 1);
+  await tab.js(`(() => { const block = document.getElementById("block"); block.value = "h3"; block.dispatchEvent(new Event("change")); })()`);
+  await storedOrNoNewBlocks(PAGE.replace("Third paragraph.\n", "\n=== Third paragraph. ===\n\n"), SHOWN);
+});
+
+test("two paragraphs are pasted into a paragraph", { skip }, async () => {
+  await select("Third ", 6);
+  await paste("", "pasted one\n\npasted two");
+  await storedOrNoNewBlocks(
+    PAGE.replace("Third paragraph.", "Third pasted one\n\npasted twoparagraph.\n"), SHOWN.replace("Third ", "Third pasted onepasted two"),
+  );
+});
+
+test("two paragraphs are pasted into a cell as lines", { skip }, async () => {
+  await select("north", 5);
+  await paste("<p>pasted <strong>one</strong></p><p style='color:red'>two<script>x</script></p>", "");
+  assert.equal(await stored(), PAGE.replace("north ||", "north<nowiki/>pasted '''one'''<br>two||").replace("north<nowiki/>pasted", "northpasted"));
+});
+
+test("a template is selected, then deleted, by Backspace; undo brings it back", { skip }, async () => {
+  await select(" and more", 0);
+  await tab.press("Backspace");
+  assert.equal(await tab.js(`document.getElementById("thing-name").textContent`), "Template: lang");
+  assert.equal(await shown(), SHOWN);
+  await tab.press("Backspace");
+  assert.equal(await shown(), SHOWN.replace("Troppau ", ""));
+  await tab.press("Control+z");
+  assert.equal(await shown(), SHOWN);
+  assert.equal(await save(), "Nothing was changed.");
+  await tab.press("Control+y");
+  assert.equal(await stored(), PAGE.replace("{{lang|de|Troppau}} ", " "));
+});
+
+test("a reference is deleted by a click and the key", { skip }, async () => {
+  await tab.js(`document.querySelector('[data-thing="reference"]').click()`);
+  assert.equal(await tab.js(`document.getElementById("thing-source").textContent`), "<ref>a note</ref>");
+  await tab.press("Delete");
+  assert.equal(await stored(), PAGE.replace("<ref>a note</ref>", ""));
+});
+
+test("an emptied cell", { skip }, async () => {
+  await select("south", 0, "south", 5);
+  await tab.press("Delete");
+  assert.equal(await stored(), PAGE.replace("|| south", "|| <nowiki/>"));
+});
+
+test("typing and deleting is undone and done again", { skip }, async () => {
+  await select("Third", 0, "Third", 5);
+  await tab.type("Fourth");
+  await select("five", 0, "Second line", 6);
+  await tab.press("Backspace");
+  await select("paragraph", 0);
+  await tab.press("Enter");
+  await tab.press("Control+z", "Control+z", "Control+z", "Control+z");
+  assert.equal(await shown(), SHOWN);
+  assert.equal(await save(), "Nothing was changed.");
+  await tab.press("Control+y");
+  assert.equal(await stored(), PAGE.replace("Third", "Fourth"));
+});
+
+test("a stale page is refused, and the text stays", { skip }, async () => {
+  await select("Third", 5);
+  await tab.type("ly");
+  wiki.write("A page", `${PAGE}changed by another\n`);
+  await refused();
+  assert.equal(await shown(), SHOWN.replace("Third", "Thirdly"));
+  assert.ok(await tab.js(`!document.getElementById("refusal-newer").hidden`));
+  assert.equal(wiki.read("A page"), `${PAGE}changed by another\n`);
+});
+
+test("a page that is stale when the changes are stored is refused, and the text stays", { skip }, async () => {
+  await select("Third", 5);
+  await tab.type("ly");
+  assert.equal(await save(), "changes");
+  wiki.write("A page", `${PAGE}changed by another\n`);
+  await tab.press("Enter");
+  await tab.until(`!document.getElementById("refusal").hidden`);
+  assert.equal(await shown(), SHOWN.replace("Third", "Thirdly"));
+  assert.equal(wiki.read("A page"), `${PAGE}changed by another\n`);
+});
+
+test("a refusal outlines its place", { skip }, async () => {
+  wiki.write("A page", "* item\n** inner\n\nnext\n");
+  await opened("A page");
+  await select("item", 4);
+  await tab.type("s");
+  assert.equal(await refused(), "edit refused: UnmarkedChange 2");
+  assert.ok(await tab.js(`document.querySelector("[data-refused]").textContent.startsWith("items")`));
+  assert.match(await shown(), /^items ?inner next$/);
+});
+
+test("the whole text is deleted and written anew", { skip }, async () => {
+  await tab.press("Control+a", "Backspace");
+  await tab.type("All new.");
+  assert.equal(await shown(), "All new.");
+  const answer = await save();
+  assert.match(answer, /^(?:changes|refusal)$/);
+  assert.equal(await shown(), "All new.");
+});
+
+test("a click on Save does what the key does, and the list of pages leads to the editor", { skip }, async () => {
+  await tab.go(`${server.url}/`);
+  await tab.until(`document.querySelectorAll("#pages a").length > 3`);
+  await tab.js(`(() => { const search = document.getElementById("search"); search.value = "a pa"; search.dispatchEvent(new Event("input")); })()`);
+  assert.equal(await tab.js(`document.querySelector("#pages a").textContent`), "A page");
+  await tab.js(`document.querySelector("#pages a").click()`);
+  await tab.until(`document.getElementById("page")?.isContentEditable`);
+  await select("Third", 5);
+  await tab.type("!");
+  await tab.js(`document.getElementById("save").click()`);
+  await tab.until(`document.getElementById("changes").open`);
+  await tab.js(`document.getElementById("changes-save").click()`);
+  await tab.until(`document.getElementById("status").textContent === "The page is saved."`);
+  assert.equal(wiki.read("A page"), PAGE.replace("Third", "Third!"));
+});
+
+test("a page of 1 MiB is opened and saved without a long wait", { skip }, async (context) => {
+  const lines = [];
+  for (let bytes = 0, at = 0; bytes < 1 << 20; at += 1) {
+    lines.push(`Paragraph ${at} of a '''long''' page with [[Main Page|links]], ''words'' and a reference.<ref>note ${at}</ref>`, "");
+    bytes += lines[lines.length - 2].length + 2;
+  }
+  wiki.write("A page", lines.join("\n"));
+  // The time of the browser's main thread, so that other work on the machine counts for nothing.
+  await tab.call("Performance.enable", { timeDomain: "threadTicks" });
+  const worked = async () => {
+    const { metrics } = await tab.call("Performance.getMetrics");
+    return metrics.find((/** @type {{name: string}} */ metric) => metric.name === "TaskDuration").value;
+  };
+  await tab.go("about:blank");
+  const start = await worked();
+  await opened("A page");
+  await tab.js("new Promise((done) => requestAnimationFrame(() => setTimeout(done)))");
+  const isOpen = await worked();
+  await select("Paragraph 17 ", 9);
+  await tab.type("s");
+  const isTyped = await worked();
+  assert.equal(await save(), "changes");
+  const isSaved = await worked();
+  const seconds = (/** @type {number} */ time) => `${time.toFixed(2)} s`;
+  context.diagnostic(`opened in ${seconds(isOpen - start)}, a letter in ${seconds(isTyped - isOpen)}, changes in ${seconds(isSaved - isTyped)}`);
+  // Each takes about a second; the limit leaves room for a machine that does other work.
+  assert.ok(isOpen - start < 6);
+  assert.ok(isSaved - isTyped < 6);
+});
+
+test("no script of the pages failed", { skip }, () => assert.deepEqual(tab.errors, []));

@@ -1,0 +1,256 @@
+// @ts-check
+/** The module without a browser, over a small DOM. */
+
+import { test } from "node:test";
+import assert from "node:assert/strict";
+import { createRequire } from "node:module";
+import { readFileSync } from "node:fs";
+import { HtmlRefused, Offsets, describe, hrefOf, isChanged, open, rangeOf, save } from "../bughtiso.js";
+import { read } from "../lib/markup.js";
+import { SmallDocument } from "./small_dom.js";
+import { Wiki, examplePages, findProgram, outsideDocuments } from "./pages.js";
+
+const HEAD = '<!DOCTYPE html><html><head><meta charset="utf-8"/></head>';
+const program = findProgram();
+
+/** @param {string} body  what stands in it @returns {string} */
+function page(body) {
+  return `${HEAD}<body data-parsoid='{"dsr":[0,9,0,0]}'>${body}</body></html>`;
+}
+
+/** @param {string} html */
+function opened(html) {
+  return open(html, { document: new SmallDocument() });
+}
+
+/** A DOM as an editor left it: nothing is carried, `<comment>` becomes a comment. @param {string} body */
+function edited(body) {
+  const document = new SmallDocument();
+  const put = (parent, part) => {
+    for (const child of part.children) {
+      if (typeof child === "string") parent.appendChild(document.createTextNode(child));
+      else if (child.name === "comment") parent.appendChild(document.createComment(child.text));
+      else {
+        const element = document.createElement(child.name);
+        for (const [name, value] of child.attributes) element.setAttribute(name, value);
+        put(element, child);
+        parent.appendChild(element);
+      }
+    }
+  };
+  put(document.body, read(`<html>${body}</html>`));
+  return document.body;
+}
+
+/** What is saved of an edited body. @param {string} was @param {string} now @param {boolean} [marks] */
+function saved(was, now, marks = false) {
+  const html = save(edited(now), { original: page(was), marks });
+  return html.slice(html.indexOf(">", html.indexOf("<body")) + 1, -"</body></html>".length);
+}
+
+const TEXT = '<p id="mw1">one <b id="mw2">two</b> three</p>\n\n<p id="mw3">four</p>';
+
+test("a document comes back byte for byte", () => {
+  const documents = [
+    page(""),
+    page("<p>a &amp; b &lt;c&gt; \"d\" 'e'</p>"),
+    page(`<p id="mw1" data-parsoid='{"o":"&#39;&amp;\\""}'>&#1;&#13;\u{1F600}\ud7ff</p>`),
+    page('<table id="mw1">\n<meta typeof="mw:Comment" id="mw2"/><tbody id="mw3"><tr id="mw4"><td id="mw5">a</td></tr></tbody></table>'),
+    page('<section data-mw-section-id="1" id="x"><h2 id="mw1">a</h2>\n<p id="mw2">b</p></section>'),
+  ];
+  for (const html of documents) {
+    assert.equal(save(opened(html)), html);
+    assert.equal(save(opened(html), { marks: true }), html);
+    assert.equal(isChanged(opened(html)), false);
+  }
+});
+
+test("outside documents come back byte for byte", (context) => {
+  const documents = outsideDocuments();
+  if (documents.length === 0) return context.skip("there are no outside documents here");
+  for (const html of documents) {
+    const root = opened(html);
+    assert.equal(save(root), html);
+    assert.equal(save(root, { marks: true }), html);
+  }
+});
+
+test("in tables carriers stand for what a parser of HTML would move out", () => {
+  const inTable = '<meta typeof="mw:Comment" id="mw2"/><link rel="mw:PageProp/Category" href="./Category:X" id="mw3"/>';
+  const html = page(`<table id="mw1">${inTable}<tbody id="mw4"><tr id="mw5"><span about="#mwt1" id="mw6"></span></tr></tbody></table>`);
+  const root = opened(html);
+  assert.deepEqual(root.querySelectorAll("[data-wt-name]").map((element) => element.localName), ["template", "template", "template"]);
+  assert.equal(save(root), html);
+});
+
+test("what isn't the program's HTML is refused", () => {
+  for (const html of ["", "<p>a</p>", page("<p>a"), page("<p>a</b></p>"), page("<P>a</P>"), page("<p x>a</p>"), page("a & b"), page("&#xD800;")]) {
+    assert.throws(() => opened(html), HtmlRefused, html);
+  }
+});
+
+const MENDS = [
+  ["strong and em become b and i", TEXT, '<p id="mw1">one <strong>x</strong> <em>y</em></p>', '<p id="mw1">one <b>x</b> <i>y</i></p>'],
+  ["font and span vanish, their style stays", "", '<p><font color="red">a</font><span>b</span><span style="font-weight:700">c</span></p>', "<p>ab<b>c</b></p>"],
+  ["comments, scripts and pictures are left out", "", "<p>a<comment>x</comment><script>y</script><img></img>b</p>", "<p>ab</p>"],
+  ["unknown attributes are left out", TEXT, '<p id="mw1" style="x" class="y" contenteditable="true">z</p>', '<p id="mw1">z</p>'],
+  ["the first of two equal ids stays", TEXT, '<p id="mw1">one</p><p id="mw1">two</p>', '<p id="mw1">one</p><p>two</p>'],
+  ["an empty first half leaves its id", TEXT, '<p id="mw1"><br/></p><p id="mw1">one</p>', '<p id="mw1">one</p>'],
+  ["an id on another kind is taken off", TEXT, '<p id="mw1">one <span id="mw2">two</span></p>', '<p id="mw1">one two</p>'],
+  ["an unknown id is taken off", TEXT, '<p id="mw9">one</p>', "<p>one</p>"],
+  ["a div is a paragraph", "", "<div>a</div><div><div>b</div>c</div>", "<p>a</p><p>b</p><p>c</p>"],
+  ["text directly in the body is a paragraph", TEXT, '<p id="mw1">a</p>b <b>c</b>', '<p id="mw1">a</p><p>b <b>c</b></p>'],
+  ["a list in a paragraph splits it", TEXT, '<p id="mw1">a<ul><li>b</li></ul>c</p>', '<p id="mw1">a</p><ul><li>b</li></ul><p>c</p>'],
+  ["the last line break of a block goes", TEXT, '<p id="mw1">one<br/></p>', '<p id="mw1">one</p>'],
+  ["an emptied paragraph goes", TEXT, '<p id="mw1"><br/></p>', ""],
+  ["no-break spaces that a browser put are blanks", TEXT, '<p id="mw1">one\u00a0 <b id="mw2">two</b> three</p>', '<p id="mw1">one  <b id="mw2">two</b> three</p>'],
+  ["no-break spaces of the page stay", '<p id="mw1">a\u00a0b c</p>', '<p id="mw1">a\u00a0b cd</p>', '<p id="mw1">a\u00a0b cd</p>'],
+  ["line breaks of the page come back", '<p id="mw1">a b\nc d</p>', '<p id="mw1">a bx c d</p>', '<p id="mw1">a bx\nc d</p>'],
+  ["carriage returns are line breaks", TEXT, '<p id="mw1">a&#13;\nb</p>', '<p id="mw1">a\nb</p>'],
+  ["blanks at a block's ends go", TEXT, '<p id="mw1">\u00a0x </p>', '<p id="mw1">x</p>'],
+  ["a link without rel leads to a page", "", '<p><a href="Main Page">x</a></p>', '<p><a rel="mw:WikiLink" href="./Main_Page">x</a></p>'],
+  ["a link without rel leads to an address", "", '<p><a href="http://a.b/c d">x</a></p>', '<p><a rel="mw:ExtLink" href="http://a.b/c%20d">x</a></p>'],
+  ["an address of another kind is no link", "", '<p><a href="javascript:x">y</a></p>', "<p>y</p>"],
+  ["blanks stand outside a link", "", '<p>x<a rel="mw:WikiLink" href="./Y"> y </a>z</p>', '<p>x <a rel="mw:WikiLink" href="./Y">y</a> z</p>'],
+  ["an emptied link goes", '<p id="mw1">a <a rel="mw:WikiLink" href="./X" id="mw2">b</a></p>', '<p id="mw1">a <a rel="mw:WikiLink" href="./X" id="mw2"></a></p>', '<p id="mw1">a</p>'],
+  ["what is typed at an entity stands beside it", '<p id="mw1">a<span typeof="mw:Entity" id="mw2">–</span></p>', '<p id="mw1">a<span typeof="mw:Entity" id="mw2">–b</span></p>', '<p id="mw1">a<span typeof="mw:Entity" id="mw2">–</span>b</p>'],
+  ["paragraphs in an item are its lines", '<ul id="mw1"><li id="mw2">a</li></ul>', '<ul id="mw1"><li id="mw2"><p>a</p><p>b</p></li></ul>', '<ul id="mw1"><li id="mw2">a<br/>b</li></ul>'],
+  ["an empty new item goes", '<ul id="mw1"><li id="mw2">a</li></ul>', '<ul id="mw1"><li id="mw2">a</li><li><br/></li></ul>', '<ul id="mw1"><li id="mw2">a</li></ul>'],
+  ["a carrier is undone", "", '<table><template data-wt-name="meta" typeof="mw:Comment"/></table>'.replace("/>", "></template>"), "<table></table>"],
+  ["a comment goes back into the block that held it", '<p id="mw1">one two<meta typeof="mw:Comment" id="mw2"/> three</p><p id="mw3">x</p>', '<p id="mw1">one more two threes</p><meta typeof="mw:Comment" id="mw2"/><p id="mw3">x</p>', '<p id="mw1">one more two<meta typeof="mw:Comment" id="mw2"/> threes</p><p id="mw3">x</p>'],
+  ["a skip goes back into the link that held it", '<p id="mw1"><a rel="mw:WikiLink" href="./A" id="mw2">a<meta typeof="mw:Skip" id="mw3"/>s</a> b</p>', '<p id="mw1"><meta typeof="mw:Skip" id="mw3"/><a rel="mw:WikiLink" href="./A" id="mw2">as</a> c</p>', '<p id="mw1"><a rel="mw:WikiLink" href="./A" id="mw2">a<meta typeof="mw:Skip" id="mw3"/>s</a> c</p>'],
+  ["new bold ends with its line", '<p id="mw1">a b\nc d</p>', '<p id="mw1">a <b>b\nc</b> d</p>', '<p id="mw1">a <b>b</b>\n<b>c</b> d</p>'],
+];
+
+for (const [name, was, now, wanted] of MENDS) test(`mend: ${name}`, () => assert.equal(saved(was, now), wanted));
+
+const MARKS = [
+  ["the changed block is marked", TEXT, '<p id="mw1">one <b id="mw2">2</b> three</p>\n\n<p id="mw3">four</p>',
+    '<p id="mw1" data-wt-edit="content">one <b id="mw2">2</b> three</p>\n\n<p id="mw3">four</p>'],
+  ["a split paragraph is a new one, with what can be written anew", TEXT, '<p id="mw1">one</p><p id="mw1"><b id="mw2">two</b> three</p>\n\n<p id="mw3">four</p>',
+    '<p id="mw1" data-wt-edit="content">one</p><p><b>two</b> three</p>\n\n<p id="mw3">four</p>'],
+  ["of elements that moved as few as can be are new", '<p id="mw1"><b id="mw2">a</b><i id="mw3">b</i><b id="mw4">c</b></p>', '<p id="mw1"><b id="mw4">c</b><b id="mw2">a</b><i id="mw3">b</i></p>',
+    '<p id="mw1" data-wt-edit="content"><b>c</b><b id="mw2">a</b><i id="mw3">b</i></p>'],
+  ["a reference keeps its number wherever it stands", '<p id="mw1">a<span typeof="mw:Extension/ref" id="mw2"></span></p><p id="mw3">b</p>', '<p id="mw1">a</p><p id="mw3">b<span typeof="mw:Extension/ref" id="mw2"></span></p>',
+    '<p id="mw1" data-wt-edit="content">a</p><p id="mw3" data-wt-edit="content">b<span typeof="mw:Extension/ref" id="mw2"></span></p>'],
+  ["of a split paragraph the half with a reference stays", '<p id="mw1">a b<span typeof="mw:Extension/ref" id="mw2" data-parsoid="x"></span></p>', '<p id="mw1">a</p><p id="mw1">b<span typeof="mw:Extension/ref" id="mw2" data-parsoid="x"></span></p>',
+    '<p>a</p><p id="mw1" data-wt-edit="content">b<span typeof="mw:Extension/ref" id="mw2" data-parsoid=\'x\'></span></p>'],
+  ["of joined paragraphs the one with a reference stays", '<p id="mw1">a</p><p id="mw2">b<span typeof="mw:Extension/ref" id="mw3"></span></p>', '<p id="mw1">ab<span typeof="mw:Extension/ref" id="mw3"></span></p>',
+    '<p id="mw2" data-wt-edit="content">ab<span typeof="mw:Extension/ref" id="mw3"></span></p>'],
+  ["a new item marks its list", '<ul id="mw1"><li id="mw2">a</li></ul>', '<ul id="mw1"><li id="mw2">a</li><li>b</li></ul>',
+    '<ul id="mw1" data-wt-edit="children"><li id="mw2">a</li><li>b</li></ul>'],
+  ["blanks at the end of a changed cell go", '<table id="mw1"><tbody id="mw2"><tr id="mw3"><td id="mw4">a </td></tr></tbody></table>', '<table id="mw1"><tbody id="mw2"><tr id="mw3"><td id="mw4">ab </td></tr></tbody></table>',
+    '<table id="mw1"><tbody id="mw2"><tr id="mw3"><td id="mw4" data-wt-edit="content">ab</td></tr></tbody></table>'],
+];
+
+for (const [name, was, now, wanted] of MARKS) test(`marks: ${name}`, () => assert.equal(saved(was, now, true), wanted));
+
+/** @param {string} html @param {[string, string][]} replacements  one after the other, each of the first such text */
+function replaced(html, replacements) {
+  return replacements.reduce((text, [was, now]) => {
+    assert.ok(text.includes(was), `there is no ${was}`);
+    return text.replace(was, () => now);
+  }, html);
+}
+
+/** White space between blocks, which no edit compares. @param {string} html */
+function withoutSeparators(html) {
+  return html.replace(/(<\/(?:p|h[1-6]|ul|ol|dl|table)>)[ \t\n]+/g, "$1");
+}
+
+/** jsdom, where it is installed; Debian's lies where NODE_PATH=/usr/share/nodejs finds it. @returns {any} */
+function findJsdom() {
+  try {
+    return createRequire(import.meta.url)("jsdom").JSDOM;
+  } catch {
+    return null;
+  }
+}
+
+const documents = new URL("documents/", import.meta.url);
+const shared = readFileSync(new URL("page.html", documents), "utf8");
+for (const { name, edited: changes, wanted } of JSON.parse(readFileSync(new URL("cases.json", documents), "utf8"))) {
+  test(`shared document: ${name}`, () => {
+    const now = replaced(shared, changes).replace(/<!--(.*?)-->/gs, "<comment>$1</comment>");
+    const body = now.slice(now.indexOf(">", now.indexOf("<body")) + 1, now.indexOf("</body>"));
+    const html = save(edited(body), { original: shared, marks: true });
+    assert.equal(withoutSeparators(html), withoutSeparators(replaced(shared, wanted)));
+  });
+}
+
+test("outside documents come back from jsdom", (context) => {
+  const JSDOM = findJsdom();
+  const documents = outsideDocuments();
+  if (JSDOM === null || documents.length === 0) return context.skip("there is no jsdom or no outside documents here");
+  const { document } = new JSDOM("").window;
+  for (const html of documents) assert.equal(save(open(html, { document }), { marks: true }), html);
+});
+
+test("new and removed blocks mark the body", () => {
+  for (const now of ['<p id="mw1">one <b id="mw2">two</b> three</p>', `${TEXT}<h2>x</h2>`]) {
+    assert.match(save(edited(now), { original: page(TEXT), marks: true }), /<body data-parsoid='[^']*' data-wt-edit="children">/);
+  }
+});
+
+test("saving leaves the DOM as it is", () => {
+  const root = edited('<p id="mw1"><strong>a</strong><br/></p><p id="mw1">\u00a0b</p><div>c</div>');
+  const before = JSON.stringify(root, ["childNodes", "localName", "data"]);
+  save(root, { original: page(TEXT), marks: true });
+  assert.equal(JSON.stringify(root, ["childNodes", "localName", "data"]), before);
+});
+
+test("many blocks in another order take time in proportion", () => {
+  const blocks = Array.from({ length: 20000 }, (_, at) => `<p id="mw${2 * at + 1}">a <b id="mw${2 * at + 2}">b</b></p>`);
+  const root = opened(page(blocks.join("\n")));
+  root.replaceChildren(...root.childNodes.reverse());
+  const start = process.cpuUsage();
+  const html = save(root, { marks: true });
+  assert.ok(process.cpuUsage(start).user < 3e6); // microseconds
+  assert.equal(html.match(/<p>/g)?.length, 19999);
+});
+
+test("places in UTF-16 units", () => {
+  const source = "ä\u{1F600}'''b'''";
+  const offsets = new Offsets(source);
+  const root = opened(page(`<b id="mw1" data-parsoid='{"c":"&#39;&#39;&#39;","dsr":[6,13,3,3],"o":"&#39;&#39;&#39;"}'>b</b>`));
+  assert.deepEqual(rangeOf(root.children[0], offsets), { start: 3, end: 10, open: 3, close: 3 });
+  assert.equal(source.slice(3, 10), "'''b'''");
+  assert.equal(rangeOf(edited("<b>b</b>").children[0], offsets), null);
+});
+
+test("names of what can't be edited", () => {
+  const root = opened(page(
+    `<span about="#mwt1" data-mw='{"parts":[{"template":{"i":0,"params":{},"target":{"wt":"Infobox town\\n"}}}]}' data-parsoid='{"src":"{{Infobox town}}"}'>x</span>` +
+    `<span typeof="mw:Extension/ref"></span><span typeof="mw:Placeholder" data-parsoid='{"src":"[[File:A b.jpg|thumb]]"}'></span><b>y</b>`,
+  ));
+  const [group, reference, media, bold] = root.children.map(describe);
+  assert.deepEqual(group, { kind: "template", name: "Infobox town", source: "{{Infobox town}}" });
+  assert.deepEqual(reference, { kind: "extension", name: "ref", source: "" });
+  assert.equal(media?.name, "A b.jpg");
+  assert.equal(bold, null);
+});
+
+test("links to titles", () => {
+  assert.equal(hrefOf("Opava (river)"), "./Opava_(river)");
+  assert.equal(hrefOf("A/B: ä#c d"), "./A/B:_%C3%A4#c_d");
+});
+
+test("the program takes what is saved", (context) => {
+  if (program === null) return context.skip("there is no wtround here: build it, or name one in WTROUND");
+  const wiki = new Wiki(program, examplePages());
+  try {
+    for (const title of Object.keys(examplePages())) {
+      const html = wiki.html(title);
+      assert.equal(save(opened(html)), html);
+      assert.deepEqual(wiki.run(["edit", title], save(opened(html), { marks: true })).out, wiki.read(title));
+    }
+    const root = opened(wiki.html("Opava"));
+    const text = root.querySelectorAll('[id="mw3"]')[0].childNodes.find((node) => node.data?.includes("is a town"));
+    text.data = text.data.replace("is a town", "is an old\u00a0 town");
+    const { status, out } = wiki.run(["edit", "Opava"], save(root, { marks: true }));
+    assert.equal(status, 0);
+    assert.equal(out, wiki.read("Opava").replace("is a town", "is an old  town"));
+  } finally {
+    wiki.remove();
+  }
+});

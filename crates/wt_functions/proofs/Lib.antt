@@ -1,0 +1,5 @@
+pub mod EqualParts
+pub mod Naming
+pub mod ChoiceLaws
+mod Cases
+mod FunctionCases

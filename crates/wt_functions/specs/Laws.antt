@@ -1,0 +1,47 @@
+-- What holds of every function call, in other words.
+use Rattle.std.specs.Prelude.{◌≡◌, ℕ, ◌+◌, ◌<◌, ◌≤◌, List, ◌++◌, length}
+use Rattle.wt_span.specs.Bytes.{lower}
+use Rattle.std.specs.List.{AllPass}
+use Rattle.wt_functions.specs.declared.function.Function.{Function}
+use Rattle.wt_functions.specs.declared.function.Function.TheVariants.{If, IfEq, Switch}
+use Rattle.wt_functions.specs.declared.chooser.Ask.TheVariants.{Tell, Give}
+use Rattle.wt_functions.specs.Functions.{is_space, word_of}
+use Rattle.wt_functions.specs.Choice.{Telling, text_at, asked}
+
+-- A target that names a function: blanks and line breaks, the function's word in any case, and anything; part 0 begins behind
+-- the word.
+pub record Names (f : Function) (part_0 : ℕ) (target : List ℕ) : Type 0 where
+  pub space : List ℕ
+  pub word : List ℕ
+  pub rest : List ℕ
+  pub all : target ≡ space ++ (word ++ rest)
+  pub is_space : AllPass is_space space
+  pub is_word : lower word ≡ word_of f
+  pub behind : part_0 ≡ length space + length word
+
+-- a part that is told is there, and it is the next one
+abbrev pub TellsInOrder : Telling → Type 0
+TellsInOrder t = (part : ℕ) → asked t ≡ Tell part → (part ≡ length t.texts) × (part ≤ length t.equals)
+
+-- a part that is given is there, and it isn't part 0
+abbrev pub GivesAPart : Telling → Type 0
+GivesAPart t = (part : ℕ) → asked t ≡ Give part → (0 < part) × (part ≤ length t.equals)
+
+-- of `#if` part 0 alone is told, of `#ifeq` part 1 too, and of `#switch` no part behind one that is equal to part 0
+abbrev pub IsNeeded : Function → ℕ → List (List ℕ) → Type 0
+IsNeeded If part texts = part ≡ 0
+IsNeeded IfEq part texts = part ≤ 1
+IsNeeded Switch part texts = (before : ℕ) → 0 < before → before < part → text_at texts before ≡ text_at texts 0 → ⊥
+
+abbrev pub TellsWhatIsNeeded : Telling → Type 0
+TellsWhatIsNeeded t = (part : ℕ) → asked t ≡ Tell part → IsNeeded t.function part t.texts
+
+-- when further texts are told
+abbrev pub with_more : Telling → List (List ℕ) → Telling
+with_more t more = record t { texts = t.texts ++ more }
+
+-- where nothing more is told, the texts of the other parts change nothing
+abbrev pub IsForGood : Telling → Type 0
+IsForGood t =
+    ((part : ℕ) → asked t ≡ Tell part → ⊥) → (more : List (List ℕ)) → length (t.texts ++ more) ≤ length t.equals + 1
+    → asked (with_more t more) ≡ asked t

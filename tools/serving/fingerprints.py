@@ -1,0 +1,74 @@
+"""When a page is stale: the tag (ETag) of a page and of what its templates give."""
+from __future__ import annotations
+
+import hashlib
+import html
+import re
+from functools import lru_cache
+from typing import Optional
+
+from .other_tools import titles
+from .pages import PageFolder, revision
+
+CALL = re.compile(r"\{\{+([^{}|]+)")  # where a call's target begins, behind all braces
+HIDDEN = re.compile(r"<!--.*?(?:-->|\Z)|</?(?:include|no|only)[a-z]*[^<>]*>", re.DOTALL | re.IGNORECASE)
+TAG = re.compile(r'\s*(?:W/)?"([\x21\x23-\x7e]*)"\s*(?:,|\Z)')
+
+
+def etag(folder: PageFolder, name: str, page: bytes, document: bytes) -> str:
+    """The tag of a page and its HTML.
+
+    It is a hash of the page, of its HTML, in which stands all that its templates give, and of every page that
+    a call names in letters, in the page or in these in turn. So it changes with each of them, and also with a
+    template whose name other calls or arguments make up, where that shows anything.
+    """
+    digest = hashlib.sha256(hashlib.sha256(page).digest() + hashlib.sha256(document).digest())
+    seen, texts = {name}, [page]
+    while texts:
+        for called in names_in(texts.pop()):
+            if called in seen:
+                continue
+            seen.add(called)
+            text = folder.read_if_there(called)
+            digest.update(hashlib.sha256(called.encode()).digest())
+            digest.update(hashlib.sha256(text).digest() if text is not None else b"absent")
+            if text is not None:
+                texts.append(text)
+    return f'W/"{revision(page)}/{digest.hexdigest()[:32]}"'
+
+
+@lru_cache(maxsize=4096)
+def names_in(page: bytes) -> tuple:
+    """The full names of the pages that calls in a text name in letters, in their order, each once."""
+    text = HIDDEN.sub("", page.decode("utf-8", "replace"))
+    names = (full_name_of_target(found) for found in CALL.findall(text))
+    return tuple(dict.fromkeys(name for name in names if name is not None))
+
+
+def full_name_of_target(target: str) -> Optional[str]:
+    text = html.unescape(target).strip(" \t\n")
+    is_page = text.startswith(":")
+    try:
+        title = titles.read_title(text[1:] if is_page else text)
+    except titles.BadTitle:
+        return None
+    if not title.name or title.fragment is not None:
+        return None
+    return title.full_name if title.namespace or is_page else f"Template:{title.name}"
+
+
+def tags_of(field: str) -> list:
+    """The tags in a field If-Match or If-None-Match, without `W/` and quotes; none where it is malformed."""
+    tags, place = [], 0
+    while place < len(field):
+        found = TAG.match(field, place)
+        if not found:
+            return []
+        tags.append(found[1])
+        place = found.end()
+    return tags
+
+
+def names_tag(field: str, tag: str) -> bool:
+    """Whether the field names this tag."""
+    return tags_of(tag)[0] in tags_of(field)

@@ -1,0 +1,28 @@
+"""Of the HTML that an editor sends, in whatever serialisation, the document that wtround takes.
+
+The rules are those of the module client/bughtiso.js ("What save mends" in client/README.md), file by file;
+both are tried with the documents of client/tests/documents. `mended` and `marked` are the calls for others.
+"""
+from .marks import add_marks
+from .markup import read_body, written
+from .mender import Mender
+from .original import Original
+from .strays import put_back
+
+__all__ = ["marked", "mended"]
+
+
+def marked(document: str, page: str) -> str:
+    """The document of an edited page, mended, with the marks that `edit` asks for. `page` is its HTML as
+    wtround wrote it. Raises Refusal."""
+    original = Original(read_body(page))
+    edited = read_body(document)
+    put_back(edited, original)
+    body = Mender(original).page(edited)
+    add_marks(body, original)
+    return written(body)
+
+
+def mended(document: str) -> str:
+    """The document of a page that isn't known, mended. Raises Refusal."""
+    return written(Mender(None).page(read_body(document)))

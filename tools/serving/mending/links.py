@@ -1,0 +1,34 @@
+"""What a link leads to: a page of the wiki or an address."""
+from __future__ import annotations
+
+import re
+from typing import Dict, Optional
+
+# Addresses of other kinds, which no wikitext of ours links to.
+OTHER_SCHEME = re.compile(
+    "//|(?:javascript|vbscript|data|blob|about|file|mailto|tel|sms|chrome|view-source):", re.IGNORECASE
+)
+ADDRESS = re.compile("(?:https?|ftp)://.", re.IGNORECASE)
+ENDS_ADDRESS = re.compile('[\x00- <>"\\[\\]\x7f]')
+
+
+def link_target(href: str, rel: str) -> Optional[Dict[str, str]]:
+    """`rel` and `href` as the program takes them; nothing where it can be no link. `rel` is empty where the
+    browser or another editor made the link."""
+    address = href.strip(" \t\n\r")
+    if rel == "mw:WikiLink":
+        return {"rel": rel, "href": href}
+    if ADDRESS.match(address):
+        return {"rel": "mw:ExtLink", "href": escaped_address(address)}
+    if rel == "mw:ExtLink":
+        return {"rel": rel, "href": href}
+    if address == "" or OTHER_SCHEME.match(address):
+        return None
+    if not address.startswith("./"):
+        address = "./" + re.sub("[ \t\n\r]+", "_", address)
+    return {"rel": "mw:WikiLink", "href": address}
+
+
+def escaped_address(address: str) -> str:
+    """An address without the signs that would end it in wikitext."""
+    return ENDS_ADDRESS.sub(lambda sign: f"%{ord(sign[0]):02X}", address)

@@ -1,0 +1,448 @@
+"""From what an editor and a browser left in a document to a tree that the program reads.
+
+Where a page is known as it was opened, an element is *kept* if it has the `id` of a node of the page and is
+of that node's kind; any other is new.
+"""
+from __future__ import annotations
+
+import re
+from typing import Callable, Dict, Iterable, List, Optional
+
+from .kinds import (
+    ATTRIBUTES, CELLS, ITEMS, LINES, LISTS, TABLE_ATTRIBUTES, TAGS, is_blank, is_block, is_block_name,
+    is_hidden_name, is_island, name_of,
+)  # fmt: skip
+from .links import link_target
+from .markup import Child, Element
+from .original import Kept, Original, kind_of
+from .texts import append, is_empty, is_line_break, tidy
+
+Pieces = List[Child]
+
+NOT_WHITE = re.compile("[^ \t\n\r]")
+ITALIC = re.compile(r"font-style:\s*(?:italic|oblique)", re.IGNORECASE)
+BOLD = re.compile(r"font-weight:\s*(?:bold|[6-9]00)", re.IGNORECASE)
+SECTION_ATTRIBUTE = re.compile("[a-z][a-z0-9:-]*")
+EDGE = " \t\n\u00a0"
+
+
+class Mender:
+    """`original` is the page as it was, where that is known."""
+
+    def __init__(self, original: Optional[Original]) -> None:
+        self.original = original
+        self._owners: Dict[int, Element] = {}  # which element has a number, of several that have it
+        self._in_link = False
+
+    def page(self, root: Element) -> Element:
+        """The body of the page that stands in this element."""
+        self._claim(root)
+        attributes = self.original.page.attributes if self.original else self._attributes(root, "body", 0)
+        return Element("body", dict(attributes), self._blocks(root.children))
+
+    # ------------------------------------------------------------ numbers
+
+    def _claim(self, root: Element) -> None:
+        """Finds the owner of each number: the first element of the right kind that shows something, else the
+        first."""
+        for element in root.walk():
+            number = element.number
+            if number == 0 or not self._is_of_kind(element, number):
+                continue
+            owner = self._owners.get(number)
+            if owner is None or (is_hollow(owner) and not is_hollow(element)):
+                self._owners[number] = element
+
+    def _is_of_kind(self, element: Element, number: int) -> bool:
+        """Whether the element can be the page's node of this number."""
+        if self.original is None:
+            return True
+        kept = self.original.nodes.get(number)
+        if kept is None or kind_of(name_of(element), element.get) != kept.kind:
+            return False
+        data = element.attributes.get("data-parsoid")
+        return data is None or data == kept.part.get("data-parsoid")
+
+    def _number_of(self, element: Element) -> int:
+        """Its number, where it is the one that has it; else 0."""
+        number = element.number
+        return number if number != 0 and self._owners.get(number) is element else 0
+
+    def _kept(self, number: int) -> Optional[Kept]:
+        return self.original.nodes.get(number) if self.original is not None else None
+
+    def _attributes(self, element: Element, name: str, number: int) -> Dict[str, str]:
+        """The attributes that stay: of a kept element those that it had, of a new one those that its kind may
+        have."""
+        kept = self._kept(number)
+        attributes = {}
+        for attribute, value in element.attributes.items():
+            if may_have(name, attribute) if number == 0 else attribute in ATTRIBUTES:
+                if kept is None or attribute in kept.part.attributes:
+                    attributes[attribute] = value
+        return attributes
+
+    def _part(self, element: Element, name: str, children: Pieces) -> Element:
+        return Element(name, self._attributes(element, name, self._number_of(element)), children)
+
+    # ------------------------------------------------------------ blocks
+
+    def _blocks(self, nodes: Iterable[Child]) -> Pieces:
+        """What stands in the body, in a section, in a box: blocks, and white space between them. Text and
+        inline elements that stand there directly are a new paragraph."""
+        out: Pieces = []
+        loose: Pieces = []
+        for node in nodes:
+            if isinstance(node, str):
+                if loose or not is_blank(node):
+                    loose.append(node)
+                else:
+                    append(out, NOT_WHITE.sub(" ", node))
+                continue
+            name = name_of(node)
+            if name == "":
+                continue
+            if not self._stands_in_body(node, name, bool(loose)):
+                loose.append(node)
+                continue
+            out += self._paragraphs(loose)
+            loose = []
+            for piece in self._block(node, name):
+                if not self._has_vanished(piece):
+                    append(out, piece)
+        out += self._paragraphs(loose)
+        return out
+
+    def _stands_in_body(self, element: Element, name: str, is_in_line: bool) -> bool:
+        """Whether an element directly in the body belongs there; else it stands in a paragraph whose own
+        element is gone. `is_in_line`: such a paragraph has begun."""
+        if "about" not in element.attributes and not is_hidden_name(name):
+            return is_block_name(name)
+        kept = self._kept(self._number_of(element))
+        if kept is not None:
+            return kept.parent is None
+        return not is_in_line or is_block_name(name)
+
+    def _has_vanished(self, piece: Child) -> bool:
+        """A paragraph or heading of which nothing is left."""
+        if isinstance(piece, str) or piece.name not in LINES or "about" in piece.attributes:
+            return False
+        if self.original is None and piece.number != 0:
+            return False
+        kept = self._kept(piece.number)
+        return is_empty(piece.children) and (kept is None or not is_empty(kept.part.children))
+
+    def _paragraphs(self, nodes: Pieces) -> Pieces:
+        """`nodes` are texts and inline elements without a block."""
+        if not nodes:
+            return []
+        return [piece for piece in self._lines({}, "p", self._inline(nodes)) if not self._has_vanished(piece)]
+
+    def _block(self, element: Element, name: str) -> Pieces:
+        """`name` is our name for the element."""
+        if "about" in element.attributes:
+            return [self._as_it_stands(element, name)]
+        if is_hidden_name(name):
+            return self._hidden(element, name)
+        if name in LINES:
+            attributes = self._attributes(element, name, self._number_of(element))
+            return self._lines(attributes, name, self._inline(element.children))
+        if name in LISTS:
+            return self._list(element, name)
+        if name == "hr":
+            return [self._part(element, name, [])]
+        if name == "pre":
+            return [tidy(self._part(element, name, self._inline(element.children)), self.original)]
+        if name == "section":
+            return [self._part(element, name, self._blocks(element.children))]
+        if name in ("table", "tbody", "tr"):
+            return [self._table_part(element, name)]
+        return self._blocks(element.children)
+
+    def _lines(self, attributes: Dict[str, str], name: str, content: Pieces) -> Pieces:
+        """A paragraph or heading; where blocks stand in it, it is split round them, and its first part that
+        isn't empty stays what it was."""
+        if not any(map(is_block, content)):
+            return [tidy(Element(name, attributes, content), self.original)]
+        out: Pieces = []
+        line: Optional[Element] = None
+        is_first = True
+        for piece in content:
+            if is_block(piece):
+                line = None
+                out.append(piece)
+                continue
+            if line is None:
+                if isinstance(piece, str) and is_blank(piece):
+                    continue
+                line = Element(name, attributes) if is_first else Element("p")
+                is_first = False
+                out.append(line)
+            append(line.children, piece)
+        return [tidy(p, self.original) if not isinstance(p, str) and p.name in LINES else p for p in out]
+
+    def _list(self, element: Element, name: str) -> Pieces:
+        made = self._part(element, name, [])
+        item_name = "dd" if name == "dl" else "li"
+        for node in element.children:
+            if not isinstance(node, str):
+                self._in_list(made, node, item_name)
+            elif is_blank(node):
+                append(made.children, NOT_WHITE.sub(" ", node))
+            else:
+                made.children.append(tidy(Element(item_name, {}, [node]), self.original))
+        has_items = any(not is_hidden_name(part.name) for part in made.elements())
+        kept = self._kept(made.number)
+        was_empty = kept is not None and is_empty(kept.part.children)
+        return [made] if has_items or was_empty else list(made.elements())
+
+    def _in_list(self, made: Element, element: Element, item_name: str) -> None:
+        """`element` is a child of the list that is made, `item_name` what its items are."""
+        name = name_of(element)
+        if name == "":
+            return
+        if "about" in element.attributes or is_hidden_name(name):
+            made.children += self._block(element, name)
+        elif name in ITEMS:
+            item = self._item(element, name)
+            if item.number != 0 or not is_empty(item.children):
+                made.children.append(item)
+        elif name in LISTS:
+            parts = [part for part in made.elements() if "about" not in part.attributes]
+            items = [part for part in parts if part.name in ITEMS]
+            if not items:
+                items = [Element(item_name)]
+                made.children.append(items[0])
+            items[-1].children += self._list(element, name)
+        else:
+            item = Element(item_name, {}, self._flat(self._inline_element(element), is_list))
+            if not is_empty(tidy(item, self.original).children):
+                made.children.append(item)
+
+    def _item(self, element: Element, name: str) -> Element:
+        content = self._flat(self._inline(element.children), is_list)
+        return tidy(self._part(element, name, content), self.original)
+
+    def _table_part(self, element: Element, name: str) -> Element:
+        part = self._part(element, name, [])
+        for node in element.children:
+            if isinstance(node, str):
+                append(part.children, node)
+            else:
+                part.children += self._inline_element(node)
+        return part
+
+    def _cell(self, element: Element, name: str) -> Element:
+        """A cell or caption: new paragraphs in it, before any block of the page, are lines of its text."""
+        is_behind_block = False
+
+        def stays(part: Element) -> bool:
+            nonlocal is_behind_block
+            is_new = part.number == 0 and "about" not in part.attributes and part.name in LINES
+            is_behind_block = is_behind_block or not is_new
+            return is_behind_block
+
+        content = self._flat(self._inline(element.children), stays)
+        return tidy(self._part(element, name, content), self.original)
+
+    # ------------------------------------------------------------ what stands in a line
+
+    def _inline(self, nodes: Iterable[Child]) -> Pieces:
+        """Texts, inline elements, and the blocks that stand among them."""
+        out: Pieces = []
+        for node in nodes:
+            if isinstance(node, str):
+                append(out, node)
+                continue
+            for piece in self._inline_element(node):
+                append(out, piece)
+        return out
+
+    def _inline_element(self, element: Element) -> Pieces:
+        name = name_of(element)
+        if name == "":
+            return []
+        if "about" in element.attributes:
+            return [self._as_it_stands(element, name)]
+        if is_hidden_name(name):
+            return self._hidden(element, name)
+        if name in CELLS:
+            return [self._cell(element, name)]
+        if name in ITEMS:
+            return [self._item(element, name)]
+        if is_block_name(name):
+            return self._block(element, name)
+        if name == "br":
+            return [self._part(element, name, [])]
+        if name == "a":
+            return self._link(element)
+        if name == "span" and "typeof" in element.attributes:
+            return self._special(element)
+        is_kept = self._number_of(element) != 0
+        if name in ("b", "i") or (is_kept and name in TAGS):
+            return self._styled(element, name)
+        return self._by_style(element) if name in ("span", "font") else self._inline(element.children)
+
+    def _has_lost_inside(self, element: Element, children: Pieces) -> bool:
+        """Whether a link or a style vanishes because its inside did. Of a page that isn't known only a new
+        one does."""
+        kept = self._kept(self._number_of(element))
+        is_bare = all(not isinstance(piece, str) and is_line_break(piece) for piece in children)
+        if not is_bare or (kept is not None and is_empty(kept.part.children)):
+            return False
+        return self.original is not None or self._number_of(element) == 0
+
+    def _styled(self, element: Element, name: str) -> Pieces:
+        """Bold, italic, a pair of tags."""
+        children = self._flat(self._inline(element.children), never)
+        return children if self._has_lost_inside(element, children) else [self._part(element, name, children)]
+
+    def _by_style(self, element: Element) -> Pieces:
+        """A `span` or `font` of another document: bold and italic by its style, else its inside."""
+        style, pieces = element.get("style"), self._inline(element.children)
+        if is_empty(pieces):
+            return pieces
+        if ITALIC.search(style):
+            pieces = [Element("i", {}, self._flat(pieces, never))]
+        if BOLD.search(style):
+            pieces = [Element("b", {}, self._flat(pieces, never))]
+        return pieces
+
+    def _link(self, element: Element) -> Pieces:
+        if self._in_link:
+            return self._inline(element.children)
+        self._in_link = True
+        content = self._flat(self._inline(element.children), never)
+        self._in_link = False
+        kept = self._kept(self._number_of(element))
+        rel = kept.part.get("rel") if kept is not None else element.get("rel")
+        target = link_target(element.get("href"), rel)
+        if target is None or self._has_lost_inside(element, content):
+            return content
+        is_new = self._number_of(element) == 0
+        link = Element("a", target, content) if is_new else self._part(element, "a", content)
+        for name, value in target.items():
+            if link.get(name) != value:
+                link.attributes[name] = value
+        if kept.part.text() == link.text() if kept is not None else not is_new:
+            return [link]
+        return with_edges_outside(link, kept.part.text() if kept is not None else "")
+
+    def _special(self, element: Element) -> Pieces:
+        """A `span` with a `typeof`: an entity, a nowiki, an island."""
+        kind = element.get("typeof")
+        if is_island(element.get):
+            return [self._part(element, "span", []), *self._inline(element.children)]
+        if self._number_of(element) == 0 or kind not in ("mw:Entity", "mw:Nowiki"):
+            return self._inline(element.children)
+        part = self._part(element, "span", self._inline(element.children))
+        if kind == "mw:Entity":
+            return self._entity(part)
+        return [] if is_empty(part.children) and not self._was_empty(part) else [part]
+
+    def _was_empty(self, part: Element) -> bool:
+        kept = self._kept(part.number)
+        return kept is None or is_empty(kept.part.children)
+
+    def _entity(self, part: Element) -> Pieces:
+        """What was typed at an entity's edge stands beside it."""
+        kept = self._kept(part.number)
+        was, now = kept.part.text() if kept is not None else None, part.text()
+        if was is None or now == was:
+            return [part]
+        if is_blank(now) and is_blank(was):
+            return [Element(part.name, part.attributes, [was])]
+        if now == "":
+            return []
+        is_before = now.endswith(was)
+        if not is_before and not now.startswith(was):
+            return [part]
+        whole = Element(part.name, part.attributes, [was])
+        return [now[: len(now) - len(was)], whole] if is_before else [whole, now[len(was) :]]
+
+    def _hidden(self, element: Element, name: str) -> Pieces:
+        """A comment, an include tag, a skip, a switch, a category: those of the page alone."""
+        is_ours = any(element.get(key).startswith("mw:") for key in ("typeof", "property", "rel"))
+        is_kept = self.original is None or self._number_of(element) != 0
+        return [self._part(element, name, [])] if is_ours and is_kept else []
+
+    def _as_it_stands(self, element: Element, name: str) -> Element:
+        """A group or a part of one: nothing in it is mended."""
+        number = self._number_of(element)
+        part = Element(element.name if name == "box" else name)
+        for attribute, value in element.attributes.items():
+            is_lost = number == 0 and attribute in ("id", "data-parsoid")
+            if attribute in ATTRIBUTES and not is_lost:
+                part.attributes[attribute] = value
+        for node in element.children:
+            if isinstance(node, str):
+                append(part.children, node)
+                continue
+            child_name = name_of(node)
+            if child_name != "":
+                name = child_name if node.name == "template" else node.name
+                part.children.append(self._as_it_stands(node, name))
+        return part
+
+    def _flat(self, pieces: Pieces, stays: Callable[[Element], bool]) -> Pieces:
+        """Blocks where none may stand become their inside, with a line break to what stands before and behind
+        them. `stays`: whether a block may stand there."""
+        out: Pieces = []
+        is_behind_block = False
+        for piece in pieces:
+            is_inner = not isinstance(piece, str) and is_block(piece) and not stays(piece)
+            content = self._flat(piece.children, never) if is_inner else [piece]
+            if is_empty(content) and (is_inner or is_behind_block):
+                continue
+            is_staying = not is_inner and is_block(piece)
+            if (is_inner or is_behind_block) and not is_staying and not is_empty(out):
+                append(out, Element("br"))
+            for inner in content:
+                append(out, inner)
+            is_behind_block = is_inner
+        return out
+
+
+def never(_: Element) -> bool:
+    return False
+
+
+def is_list(part: Element) -> bool:
+    return part.name in LISTS
+
+
+def is_hollow(element: Element) -> bool:
+    """Whether an element shows nothing, as the half of a split paragraph that keeps nothing but its `br`."""
+    return is_blank(element.text()) and not any("id" in inner.attributes for inner in element.walk())
+
+
+def may_have(name: str, attribute: str) -> bool:
+    """Whether a new element may have an attribute."""
+    if name in ("table", "tr", "td", "th"):
+        return attribute in TABLE_ATTRIBUTES
+    if name == "span":
+        return attribute in ("typeof", "data-mw")
+    if name in ("meta", "link"):
+        return attribute in ATTRIBUTES
+    if name == "section":
+        return bool(SECTION_ATTRIBUTE.fullmatch(attribute)) and attribute != "data-wt-edit"
+    return name == "body" and attribute == "data-parsoid"
+
+
+def with_edges_outside(link: Element, was: str) -> Pieces:
+    """Blanks at a link's edges that the page's link hadn't stand outside it."""
+    front = back = ""
+    children = link.children
+    if children and isinstance(children[0], str) and not was[:1].isspace():
+        text = children[0]
+        front = text[: len(text) - len(text.lstrip(EDGE))]
+        children[0] = text[len(front) :]
+    if children and isinstance(children[-1], str) and not was[-1:].isspace():
+        text = children[-1]
+        back = text[len(text.rstrip(EDGE)) :]
+        children[-1] = text[: len(text) - len(back)]
+    link.children = [piece for piece in children if piece != ""]
+    if is_empty(link.children):
+        return [front + back]
+    pieces: Pieces = [front, link, back]
+    return [piece for piece in pieces if piece != ""]

@@ -1,0 +1,48 @@
+"""A page as it was opened: its nodes by their numbers, to compare with what an editor made of them."""
+from __future__ import annotations
+
+from typing import Callable, Dict, Optional
+
+from .kinds import is_block
+from .markup import Element
+
+
+def kind_of(name: str, value: Callable[[str], str]) -> str:
+    """What an element is, in one word: an `id` counts only on an element of the kind that it had."""
+    if value("about") != "":
+        return "group"
+    if name in ("a", "link"):
+        return f"{name} {value('rel')}"
+    return f"{name} {value('typeof')} {value('property')}".rstrip()
+
+
+class Kept:
+    """A node of the page as it was."""
+
+    __slots__ = ("part", "parent", "at", "kind", "is_inline")
+
+    def __init__(self, part: Element, parent: "Optional[Kept]", at: int) -> None:
+        self.part = part
+        self.parent = parent  # the node that it stands in, none in the body
+        self.at = at  # which child of its parent's element it is
+        self.kind = kind_of(part.name, part.get)
+        self.is_inline = not any(map(is_block, part.children))  # texts and inline elements alone stand in it
+
+
+class Original:
+    """`page` is the body."""
+
+    def __init__(self, page: Element) -> None:
+        self.page = page
+        self.nodes: Dict[int, Kept] = {}
+        self._collect(page, None)
+
+    def _collect(self, part: Element, parent: Optional[Kept]) -> None:
+        for at, child in enumerate(part.children):
+            if isinstance(child, str):
+                continue
+            kept, number = parent, child.number
+            if number != 0:
+                kept = self.nodes[number] = Kept(child, parent, at)
+            if "about" not in child.attributes:
+                self._collect(child, kept)

@@ -1,0 +1,382 @@
+"""What each route answers, without HTTP: a request becomes an answer or a refusal."""
+from __future__ import annotations
+
+import json
+import os
+import re
+import secrets
+import tempfile
+import threading
+from concurrent.futures import ThreadPoolExecutor
+from dataclasses import dataclass, field
+from html import escape
+from pathlib import Path
+from typing import Callable, Dict, List, Optional, Tuple
+from urllib.parse import quote
+
+from . import bodies, documents
+from .differences import unified
+from .fingerprints import etag, names_tag
+from .mending import marked, mended
+from .other_tools import titles
+from .pages import PAGE_BYTES, PageFolder, full_name, remove_if_there, revision
+from .program import Program
+from .refusals import Refusal
+
+CLIENT = Path(__file__).resolve().parent.parent.parent / "client"
+STATIC = re.compile(r"(?!tests/)(?:[A-Za-z0-9_-]+/)*[A-Za-z0-9_-][A-Za-z0-9_.-]*\.(?:js|css|svg)")
+TYPES = {"js": "text/javascript", "css": "text/css", "svg": "image/svg+xml"}
+
+SPECIFICATION = "https://www.mediawiki.org/wiki/Specs"
+HTML_VERSION = "2.8.0"
+HTML_TYPE = f'text/html; charset=utf-8; profile="{SPECIFICATION}/HTML/{HTML_VERSION}"'
+WIKITEXT_TYPE = f'text/plain; charset=utf-8; profile="{SPECIFICATION}/wikitext/1.0.0"'
+JSON_TYPE = "application/json; charset=utf-8"
+PAGE_TYPE = "text/html; charset=utf-8"
+
+MARK = re.compile(rb"<[a-z][a-z0-9]*\s(?:[^<>\"']|\"[^\"]*\"|'[^']*')*?\bdata-wt-edit\s*=")
+STALE = "The page, or a template that it takes, was changed since you opened it: open it again, and edit that."
+
+
+@dataclass
+class Request:
+    """`body` reads the body when it is first asked for. Names of headers are in small letters."""
+
+    method: str
+    segments: List[str]
+    query: Dict[str, str]
+    headers: Dict[str, str]
+    body: Callable[[], bytes]
+
+    def fields(self, json_alone: bool = False) -> Dict[str, object]:
+        if self.headers.get("content-encoding", "identity").lower() != "identity":
+            raise Refusal(415, "BadContentEncoding", "Send the body uncompressed.")
+        return bodies.fields_of(self.headers.get("content-type", ""), self.body(), json_alone)
+
+
+@dataclass
+class Answer:
+    body: bytes
+    content_type: str
+    status: int = 200
+    headers: Dict[str, str] = field(default_factory=dict)
+    afterwards: Optional[Callable[[], None]] = None  # what is done when the answer has been sent
+
+
+class Site:
+    """The routes over one folder of pages."""
+
+    def __init__(self, folder: PageFolder, program: Program) -> None:
+        self.folder = folder
+        self.program = program
+        self._texts = TextRoom(folder)
+
+    def close(self) -> None:
+        self._texts.close()
+        self.program.close()
+
+    def answer(self, request: Request) -> Answer:
+        """Raises Refusal."""
+        is_known = False
+        for method, pattern, view in ROUTES:
+            found = match(pattern, request.segments)
+            if found is None:
+                continue
+            is_known = True
+            if request.method == method:
+                return view(self, request, *found)
+        if is_known:
+            allowed = ", ".join(sorted({m for m, p, _ in ROUTES if match(p, request.segments) is not None}))
+            sentence = f"This address takes {allowed} alone."
+            raise Refusal(405, "BadMethod", sentence, headers={"Allow": allowed})
+        raise Refusal(404, "NoSuchRoute", "Nothing is at this address: docs/serving.md lists what is.")
+
+    # ------------------------------------------------------------ pages
+
+    def page_html(self, request: Request, title: str, wanted: Optional[str] = None) -> Answer:
+        check_accepted(request.headers.get("accept", ""))
+        name = full_name(title)
+        page, document, tag = self._taken(name)
+        self._check_revision(page, wanted)
+        headers = {"ETag": tag, "Vary": "Accept", "Cache-Control": "no-cache"}
+        if names_tag(request.headers.get("if-none-match", ""), tag):
+            return Answer(b"", HTML_TYPE, 304, headers)
+        return Answer(shaped(document, page, request.query), HTML_TYPE, 200, headers)
+
+    def _taken(self, name: str) -> Tuple[bytes, bytes, str]:
+        """A page, its HTML, and the tag of both. Where the page changes meanwhile the tag is that of no
+        page."""
+        page = self.folder.read(name)
+        document = self.program.html(name)
+        return page, document, etag(self.folder, name, page, document)
+
+    def page_wikitext(self, request: Request, title: str, wanted: Optional[str] = None) -> Answer:
+        page = self.folder.read(full_name(title))
+        self._check_revision(page, wanted)
+        check_text(page)
+        headers = {"ETag": f'W/"{revision(page)}"', "Cache-Control": "no-cache"}
+        return Answer(page, WIKITEXT_TYPE, 200, headers)
+
+    def _check_revision(self, page: bytes, wanted: Optional[str]) -> None:
+        if wanted and wanted != str(revision(page)):
+            sentence = "The folder keeps no older revisions: leave the number out to have the page as it is."
+            raise Refusal(404, "NoSuchRevision", sentence)
+
+    # ------------------------------------------------------------ transforms
+
+    def to_wikitext(self, request: Request, title: str = "", wanted: Optional[str] = None) -> Answer:
+        """Of a page's title: the page as the HTML changes it. Without one: the page that the HTML is."""
+        if not title:
+            document = bodies.encoded(bodies.text_field(request.fields(), "html"))
+            return Answer(self._page_of(document), WIKITEXT_TYPE)
+        name = full_name(title)
+        fields = request.fields()
+        document = bodies.encoded(bodies.text_field(fields, "html"))
+        if "if-match" not in request.headers:  # which says more than the number
+            self._check_revision(self.folder.read(name), wanted)
+        return Answer(self._edited(request, name, document)[1], WIKITEXT_TYPE)
+
+    def _page_of(self, document: bytes) -> bytes:
+        """The page that an HTML is, as it is written, or else as it is when it is mended."""
+        try:
+            return self.program.wikitext(document)
+        except Refusal as refusal:
+            if refusal.error not in ("HtmlRefused", "ElementDoesNotFit"):
+                raise
+        return self.program.wikitext(mended(document.decode()).encode())
+
+    def to_html(self, request: Request, title: str = "", wanted: Optional[str] = None) -> Answer:
+        check_accepted(request.headers.get("accept", ""))
+        if title:
+            full_name(title)
+        fields = request.fields()
+        page = bodies.encoded(bodies.text_field(fields, "wikitext"))
+        with self._texts.page(page) as (room, name):
+            document = self.program.html(name, room)
+        options = {**{key: str(value) for key, value in fields.items() if key in SHAPES}, **request.query}
+        return Answer(shaped(document, page, options), HTML_TYPE)
+
+    # ------------------------------------------------------------ saving
+
+    def save(self, request: Request, title: str) -> Answer:
+        """Writes the page that an edit gives, if the page and its templates are those that were taken."""
+        name = full_name(title)
+        if not request.headers.get("if-match"):
+            sentence = "Send the ETag that came with the HTML as If-Match, so that no other change is lost."
+            raise Refusal(428, "NoIfMatch", sentence)
+        is_preview = bodies.flag(request.query.get("preview"))
+        document = bodies.encoded(bodies.text_field(request.fields(json_alone=True), "html"))
+        page, new = self._edited(request, name, document)
+        found = {
+            "changed": new != page,
+            "diff": unified(page.decode(), new.decode(), titles.file_name(name)),
+            "bytes_before": len(page),
+            "bytes_after": len(new),
+        }
+        is_stored = new != page and not is_preview
+        with self.folder.locked():
+            found["etag"] = self._tag_then(request, name, new if is_stored else None)
+            answer = Answer(json.dumps(found).encode() + b"\n", JSON_TYPE, 200, {"ETag": found["etag"]})
+            if is_stored:
+                answer.afterwards = self.folder.sync
+                self.folder.replace(name, new)  # behind it nothing is left but to send the answer
+        return answer
+
+    def _edited(self, request: Request, name: str, document: bytes) -> Tuple[bytes, bytes]:
+        """The page, and the new page of an edit. HTML that bears a mark was made for `edit`, and is given on
+        as it is while the page's tag is looked at; other HTML is mended and marked first."""
+        with ThreadPoolExecutor(1) as pool:
+            early = pool.submit(self.program.edit, name, document) if MARK.search(document) else None
+            page, original, tag = self._taken(name)
+            self._check_tag(request, tag)
+            if early is not None:
+                return page, early.result()
+        return page, self.program.edit(name, marked(document.decode(), original.decode()).encode())
+
+    def _tag_then(self, request: Request, name: str, new: Optional[bytes]) -> str:
+        """The tag that the page has once its text is the new one, if there is one. Refuses where anything has
+        changed since the edit."""
+        with ThreadPoolExecutor(1) as pool:
+            after = pool.submit(self._tag_of_text, name, new) if new is not None else None
+            _, _, tag = self._taken(name)
+            self._check_tag(request, tag)
+            return after.result() if after is not None else tag
+
+    def _tag_of_text(self, name: str, text: bytes) -> str:
+        """The tag that a page will have once this is its text."""
+        with self._texts.page(text) as (room, text_name):
+            return etag(self.folder, name, text, self.program.html(text_name, room))
+
+    def _check_tag(self, request: Request, tag: str) -> None:
+        wanted = request.headers.get("if-match")
+        if wanted and not names_tag(wanted, tag):
+            raise Refusal(412, "Stale", STALE, headers={"ETag": tag})
+
+    # ------------------------------------------------------------ the editor
+
+    def title_list(self, _: Request) -> Answer:
+        return Answer(json.dumps({"titles": self.folder.titles()}).encode() + b"\n", JSON_TYPE)
+
+    def page_list(self, _: Request) -> Answer:
+        if (CLIENT / "editor/pages.html").is_file():
+            return self._client_file("editor/pages.html", PAGE_TYPE)
+        links = ((f"/editor/{quote(title, safe='')}", title) for title in self.folder.titles())
+        items = (f'<li><a href="{address}">{escape(title)}</a></li>' for address, title in links)
+        text = LIST.format(folder=escape(self.folder.path), items="\n".join(items))
+        return Answer(text.encode("utf-8", "surrogateescape"), PAGE_TYPE)
+
+    def editor(self, _: Request, title: str) -> Answer:
+        full_name(title)
+        return self._client_file("editor/index.html", PAGE_TYPE)
+
+    def static(self, _: Request, *names: str) -> Answer:
+        name = "/".join(names)
+        if not STATIC.fullmatch(name):
+            raise Refusal(404, "NoSuchRoute", "The client has no such file.")
+        return self._client_file(name, f"{TYPES[name.rpartition('.')[2]]}; charset=utf-8")
+
+    def _client_file(self, name: str, content_type: str) -> Answer:
+        try:
+            data = (CLIENT / name).read_bytes()
+        except OSError:
+            raise Refusal(404, "NoSuchRoute", "The client has no such file.") from None
+        return Answer(data, content_type, 200, {"Cache-Control": "no-cache"})
+
+
+LIST = """<!DOCTYPE html>
+<html lang="en">
+<head>
+<meta charset="utf-8">
+<meta name="viewport" content="width=device-width, initial-scale=1">
+<title>Pages</title>
+<style>body {{ font-family: sans-serif; line-height: 1.6; max-width: 40em; margin: 2em auto }}</style>
+</head>
+<body>
+<h1>Pages</h1>
+<p>Of the folder {folder}:</p>
+<ul>
+{items}
+</ul>
+</body>
+</html>
+"""
+
+
+class TextRoom:
+    """A directory in which a text that is no page stands beside the folder's pages, for its templates."""
+
+    def __init__(self, folder: PageFolder) -> None:
+        self._folder = folder
+        self._lock = threading.Lock()
+        self._room: Optional[tempfile.TemporaryDirectory] = None
+        self._linked: tuple = (None, set())  # the folder's state, and the names of its files then
+
+    def close(self) -> None:
+        if self._room is not None:
+            self._room.cleanup()
+
+    def page(self, text: bytes) -> "TextPage":
+        """A page of this text, with a title of its own that no call names."""
+        with self._lock:
+            if self._room is None:
+                self._room = tempfile.TemporaryDirectory(prefix="wtround-serve-")
+                os.mkdir(os.path.join(self._room.name, "pages"))
+            self._link()
+        return TextPage(self._room.name, f"Text {secrets.token_hex(16)}", text)
+
+    def _link(self) -> None:
+        """Makes the links to the folder's files those that they are now."""
+        state = self._folder.state()
+        if state is not None and self._linked[0] == state:
+            return
+        assert self._room is not None
+        names = {name for name in os.listdir(self._folder.path) if name.endswith(".wiki")}
+        for name in names - self._linked[1]:
+            os.symlink(os.path.join(self._folder.path, name), os.path.join(self._room.name, "pages", name))
+        for name in self._linked[1] - names:
+            remove_if_there(os.path.join(self._room.name, "pages", name))
+        self._linked = (state, names)
+
+
+class TextPage:
+    """Is there inside a `with`, as the directory and the title."""
+
+    def __init__(self, room: str, name: str, text: bytes) -> None:
+        self._room, self._name, self._text = room, name, text
+        self._path = os.path.join(room, "pages", titles.file_name(name))
+
+    def __enter__(self) -> tuple:
+        with open(self._path, "xb") as file:
+            file.write(self._text[: PAGE_BYTES + 1])
+        return self._room, self._name
+
+    def __exit__(self, *_: object) -> None:
+        remove_if_there(self._path)
+
+
+SHAPES = ("body_only", "offsetType", "data_parsoid")
+
+
+def shaped(document: bytes, page: bytes, options: Dict[str, str]) -> bytes:
+    """The document in the form that a request asks for."""
+    document = documents.with_offsets(document, page, options.get("offsetType") or "byte")
+    if not bodies.flag(options.get("data_parsoid"), otherwise=True):
+        document = documents.without_data_parsoid(document)
+    return documents.body_of(document) if bodies.flag(options.get("body_only")) else document
+
+
+def check_accepted(field: str) -> None:
+    """Refuses with 406 a request for another major version of the HTML alone."""
+    wanted = re.findall(r'text/html[^,]*?profile="[^"]*/Specs/HTML/([0-9]+)', field, re.IGNORECASE)
+    others = re.sub(r'text/html[^,]*profile="[^"]*"', "", field, flags=re.IGNORECASE)
+    takes_any = not wanted or re.search(r"text/html|text/\*|\*/\*", others)
+    if not takes_any and HTML_VERSION.split(".")[0] not in wanted:
+        sentence = f"The HTML is of version {HTML_VERSION}: ask for that, or for none."
+        raise Refusal(406, "NotAcceptable", sentence)
+
+
+def check_text(page: bytes) -> None:
+    if len(page) > PAGE_BYTES:
+        sentence = "The page is longer than a page may be: divide it."
+        raise Refusal(422, "PageTooLong", sentence, "page too long")
+    try:
+        page.decode("utf-8")
+    except UnicodeDecodeError as error:
+        line = f"page not UTF-8 at {error.start}"
+        raise Refusal(422, "PageNotUtf8", "The page stops being UTF-8 there: convert it.", line) from None
+
+
+def match(pattern: List[str], segments: List[str]) -> Optional[List[str]]:
+    """What stands for the names of a pattern, or nothing where it doesn't fit. A name with `?` may be
+    missing."""
+    values = []
+    for k, part in enumerate(pattern):
+        if k >= len(segments):
+            if not part.endswith("?}"):
+                return None
+        elif part.startswith("{"):
+            if part != "{domain}":
+                values.append(segments[k])
+        elif part != segments[k]:
+            return None
+    return values if len(segments) <= len(pattern) else None
+
+
+ROUTES = [
+    (method, path.split("/")[1:], view)
+    for method, path, view in [
+        ("GET", "/", Site.page_list),
+        ("GET", "/editor/", Site.page_list),
+        ("GET", "/editor", Site.page_list),
+        ("GET", "/editor/{title}", Site.editor),
+        ("GET", "/titles", Site.title_list),
+        ("GET", "/client/{file}", Site.static),
+        ("GET", "/client/{part}/{file}", Site.static),
+        ("GET", "/client/{part}/{part}/{file}", Site.static),
+        ("POST", "/save/{title}", Site.save),
+        ("GET", "/{domain}/v3/page/html/{title}/{revision?}", Site.page_html),
+        ("GET", "/{domain}/v3/page/wikitext/{title}/{revision?}", Site.page_wikitext),
+        ("POST", "/{domain}/v3/transform/html/to/wikitext/{title?}/{revision?}", Site.to_wikitext),
+        ("POST", "/{domain}/v3/transform/wikitext/to/html/{title?}/{revision?}", Site.to_html),
+    ]
+]

@@ -1,0 +1,741 @@
+"""wtround-batch over made wikis, with the program that the repository builds, and with a stand-in for it."""
+import gzip
+import json
+import os
+import re
+import resource
+import shutil
+import signal
+import sqlite3
+import subprocess
+import sys
+import tempfile
+import time
+import unittest
+from pathlib import Path
+from urllib.parse import quote
+from xml.sax.saxutils import escape
+
+from loading import REPOSITORY, TOOLS
+
+try:
+    import pty
+except ImportError:
+    pty = None
+
+PROGRAM = REPOSITORY / "crates/wtround_cases/out/wtround_cases"
+STAND_IN = Path(__file__).resolve().parent / "stand_in.py"
+PAGE_LIMIT = 2_097_152
+
+
+def is_askable() -> bool:
+    """Whether the program is built, and answers line by line."""
+    if not os.access(PROGRAM, os.X_OK):
+        return False
+    process = subprocess.Popen([str(PROGRAM)], stdin=subprocess.PIPE, stdout=subprocess.PIPE)
+    process.stdin.write(b"\t\t\tnames\n")
+    process.stdin.flush()
+    os.set_blocking(process.stdout.fileno(), False)
+    answer = None
+    for _ in range(100):
+        answer = answer or process.stdout.read()
+        time.sleep(0 if answer else 0.1)
+    process.kill()
+    process.communicate()
+    return bool(answer) and answer.startswith(b"1\t")
+
+
+IS_ASKABLE = is_askable()
+
+
+def file_name(title: str) -> str:
+    return quote(title.replace(" ", "_"), safe="").replace("~", "%7E") + ".wiki"
+
+
+def hexed(text: "str | bytes") -> str:
+    return (text if isinstance(text, bytes) else text.encode()).hex()
+
+
+@unittest.skipUnless(IS_ASKABLE, "wtround_cases is not built here")
+class BatchCase(unittest.TestCase):
+    program = PROGRAM
+
+    def setUp(self) -> None:
+        folder = tempfile.TemporaryDirectory()
+        self.addCleanup(folder.cleanup)
+        self.root = Path(folder.name)
+        self.pages = self.root / "pages"
+        self.pages.mkdir()
+
+    def write(self, title: str, text: "str | bytes") -> None:
+        (self.pages / file_name(title)).write_bytes(text if isinstance(text, bytes) else text.encode())
+
+    def command(self, *words: str) -> "list[str]":
+        program = [] if words[0] == "gather" else ["--program", str(self.program)]
+        return [sys.executable, str(TOOLS / "batch"), *words, *program]
+
+    def environment(self) -> "dict[str, str]":
+        return {**os.environ, "REAL_CASES": str(PROGRAM)}
+
+    def start(self, *words: str) -> "subprocess.Popen[bytes]":
+        streams = {"stdin": subprocess.DEVNULL, "stdout": subprocess.PIPE, "stderr": subprocess.PIPE}
+        return subprocess.Popen(self.command(*words), cwd=self.root, env=self.environment(), **streams)
+
+    def run_tool(self, *words: str, status: int = 0, stdin: bytes = b"") -> "tuple[bytes, str]":
+        """Standard output, and standard error."""
+        command = self.command(*words)
+        streams = {"input": stdin, "stdout": subprocess.PIPE, "stderr": subprocess.PIPE}
+        done = subprocess.run(command, cwd=self.root, env=self.environment(), timeout=300, **streams)
+        self.assertEqual(done.returncode, status, done.stderr.decode())
+        return done.stdout, done.stderr.decode()
+
+    def report(self, *words: str, status: int = 0) -> dict:
+        """The JSON of the report of a run."""
+        self.run_tool(*words, "--report", "report.html", status=status)
+        return json.loads((self.root / "report.json").read_text())
+
+    def lines(self, name: str = "lines") -> "list[dict]":
+        return [json.loads(line) for line in (self.root / name).read_bytes().splitlines()]
+
+    def failures(self, report: dict) -> "list[tuple[str, str, str]]":
+        return sorted((f["title"], f["command"], f["line"]) for f in report["failures"])
+
+
+def answers_with_all(pages: "dict[str, bytes]", words: "list[list[str]]") -> "list[list[str]]":
+    """What the program answers when each case has all pages of the wiki."""
+    folder = ",".join(f"{hexed(title)}={hexed(text)}" for title, text in pages.items())
+    lines = "".join(",".join(map(hexed, case)) + f"\t\t{folder}\n" for case in words)
+    done = subprocess.run([str(PROGRAM)], input=lines.encode(), stdout=subprocess.PIPE, check=True)
+    return [line.split("\t") for line in done.stdout.decode().splitlines()]
+
+
+class TwoThousandPages(BatchCase):
+    """A made wiki whose every count is known."""
+
+    def make(self) -> None:
+        self.write("Template:T", "'''t'''")
+        self.write("Template:Outer", "{{Inner|{{{1}}}}} and {{T}}")
+        self.write("Template:Inner", "''{{{1}}}''")
+        self.write("Template:Bad", b"''x'' \xe9")
+        for k in range(1000):
+            self.write(f"Plain {k}", f"== Part {k} ==\nA word ''{k}'' and [[Page {k}]].\n\n* item\n")
+        for k in range(960):
+            self.write(f"Calls {k}", f"Begin {{{{Outer|{k}}}}}, {{{{absent {k}}}}}.\n\n{{{{T}}}}\n")
+        for k in range(20):
+            self.write(f"Latin {k}", b"M\xfcnze\n")
+        for k in range(9):
+            self.write(f"Uses {k}", "One.\nTwo {{Bad}}.")
+        for k in range(7):
+            self.write(f"Deep {k}", "{{a|" * 101 + "}}" * 101)
+
+    def test_report_is_exact(self) -> None:
+        self.make()
+        report = self.report("wikitext,ranges")
+        self.assertEqual(report["pages"], 2000)
+        self.assertTrue(report["finished"])
+        refused = 20 + 1 + 9 + 7  # the bad template is a page too
+        counts = {"wikitext": {"came back": 2000 - refused, "refused": refused}}
+        counts["ranges"] = {"answered": 2000 - refused, "refused": refused}
+        self.assertEqual(report["outcomes"], counts)
+        self.assertEqual(report["failed_pages"], refused)
+        reasons = {"page not UTF-8": 42, "a template is not UTF-8": 18, "braces too deep": 14}
+        self.assertEqual(report["reasons"], reasons)
+        wanted = [(f"Latin {k}", "page not UTF-8 at 1") for k in range(20)] + [
+            ("Template:Bad", "page not UTF-8 at 6")
+        ]
+        wanted += [(f"Uses {k}", "Template:Bad not UTF-8 at 6") for k in range(9)]
+        wanted += [(f"Deep {k}", "braces too deep at 400") for k in range(7)]
+        both = sorted(
+            (title, command, line) for title, line in wanted for command in ("wikitext", "ranges")
+        )
+        self.assertEqual(self.failures(report), both)
+        uses = next(f for f in report["failures"] if f["title"] == "Uses 3")
+        explained = uses["explain"]
+        self.assertEqual(
+            (explained["page"], explained["line"], explained["column"]), ("Template:Bad", 1, 7)
+        )
+        self.assertIn("the template stops being UTF-8", explained["advice"])
+        self.assertEqual(uses["link"], "pages/Uses_3.wiki")
+        self.assertEqual(report["bytes"], sum(path.stat().st_size for path in self.pages.iterdir()))
+
+    def test_html_of_the_report(self) -> None:
+        self.make()
+        report = self.report("wikitext")
+        text = (self.root / "report.html").read_text()
+        self.assertNotRegex(
+            text, r"<script|<link|<img|<iframe|@import|url\(|https?://(?!www\.w3\.org/2000/svg)"
+        )
+        for failure in report["failures"]:
+            self.assertIn(f'<a href="{failure["link"]}">{failure["title"]}</a>', text)
+        for number in ("2,000", "1,963  (98.2 %)", "37  (1.9 %)"):
+            self.assertIn(number, text)
+        self.assertEqual(text.count("<svg"), text.count("</svg>"))
+        self.assertGreaterEqual(text.count("<svg"), 4)
+
+    def test_killed_in_the_middle_and_gone_on(self) -> None:
+        self.make()
+        running = self.start("wikitext", "--json", "lines")
+        state = self.root / "wtround-batch.sqlite"
+        self.wait_for(lambda: state.exists() and self.stored(state) >= 50)
+        running.kill()
+        running.communicate()
+        self.assertLess(self.stored(state), 2000, "it was too fast to be killed")
+        self.assert_nothing_runs()
+        report = self.report("wikitext", "--json", "lines")
+        self.assertGreaterEqual(report["kept"], 50)
+        self.assertEqual(report["outcomes"], {"wikitext": {"came back": 1963, "refused": 37}})
+        titles = [line["title"] for line in self.lines()]
+        self.assertEqual((len(titles), len(set(titles))), (2000, 2000))
+        again = self.report("wikitext", "--json", "lines")
+        self.assertEqual((again["kept"], again["outcomes"]), (2000, report["outcomes"]))
+        self.assertEqual(len(self.lines()), 2000)
+
+    def stored(self, state: Path) -> int:
+        try:
+            connection = sqlite3.connect(f"file:{state}?mode=ro", uri=True)
+            try:
+                return connection.execute("SELECT count(*) FROM result").fetchone()[0]
+            finally:
+                connection.close()
+        except sqlite3.Error:
+            return 0
+
+    def wait_for(self, holds) -> None:
+        end = time.monotonic() + 120
+        while not holds():
+            self.assertLess(time.monotonic(), end)
+            time.sleep(0.01)
+
+    def assert_nothing_runs(self) -> None:
+        """No process that works in this test's folder is left."""
+
+        def running() -> "list[str]":
+            found = []
+            for path in Path("/proc").glob("[0-9]*/cwd"):
+                try:
+                    found += [str(path)] if os.readlink(path) == str(self.root) else []
+                except OSError:
+                    pass
+            return found
+
+        self.wait_for(lambda: not running())
+
+    def test_interrupted_and_gone_on(self) -> None:
+        self.make()
+        running = self.start("wikitext", "--report", "report.html")
+        self.wait_for(lambda: self.stored(self.root / "wtround-batch.sqlite") >= 50)
+        running.send_signal(signal.SIGINT)
+        told = running.communicate()[1].decode()
+        self.assertEqual(running.returncode, 130, told)
+        self.assertIn("stopped; the same words go on from here", told)
+        report = json.loads((self.root / "report.json").read_text())
+        self.assertFalse(report["finished"])
+        self.assertIn("The run was stopped before its end", (self.root / "report.html").read_text())
+        self.assert_nothing_runs()
+        whole = self.report("wikitext")
+        self.assertEqual((whole["kept"], whole["pages"], whole["finished"]), (report["pages"], 2000, True))
+
+    def test_two_runs_at_once(self) -> None:
+        self.make()
+        first = self.start("wikitext")
+        self.wait_for(lambda: self.stored(self.root / "wtround-batch.sqlite") >= 1)
+        _, told = self.run_tool("wikitext", status=1)
+        self.assertIn(f"another run (process {first.pid}) is at work with this file of results", told)
+        told = first.communicate()[1].decode()
+        self.assertEqual(first.returncode, 0)
+        self.assertRegex(told, "2,000 pages: 1,963 came back, 37 refused")
+
+    def test_memory_does_not_grow_with_the_pages(self) -> None:
+        """2,000 pages take no more than 6 MB over what 100 take."""
+        self.make()
+        (self.root / "few").write_text("".join(f"Calls {k}\n" for k in range(100)))
+        peaks = [self.peak("wikitext", "--list", "few"), self.peak("wikitext", "--again")]
+        self.assertLess(peaks[1] - peaks[0], 6 << 10)
+
+    def peak(self, *words: str) -> int:
+        """The peak memory in KB of the process that leads a run."""
+        run = (
+            "import resource, runpy, sys\nsys.argv = sys.argv[1:]\nrunpy.run_path(sys.argv[0])['main']()\n"
+        )
+        run += "print(resource.getrusage(resource.RUSAGE_SELF).ru_maxrss)"
+        command = [sys.executable, "-c", run, *self.command(*words)[1:]]
+        done = subprocess.run(
+            command, cwd=self.root, stdout=subprocess.PIPE, stderr=subprocess.DEVNULL, check=True
+        )
+        return int(done.stdout)
+
+
+class Templates(BatchCase):
+    """Each case has only the templates that its page takes, and has all of them."""
+
+    WIKI = {
+        "Template:Name": "T",
+        "Template:T": "'''t'''",
+        "Template:Key": "1",
+        "Template:Show": "<{{{1|nothing}}}>",
+        "Template:Hide": "hidden",
+        "Template:Chain": "{{ {{Name}} }}",
+        "Template:Never": "never",
+        "Template:Includes": "<noinclude>{{Never}}</noinclude>{{Show|a}}",
+        "Template:Self": "a {{Self}}",
+        "User:Box": "a box",
+        "Article": "an article {{Never}}",
+        "Made name": "{{ {{Name}} }}",
+        "Key": "{{Show|{{Key}}=v}}",
+        "Hidden": "{{Hide|{{T}}}} <nowiki>{{Never}}</nowiki> {{#if:{{Never}}}}",
+        "Made twice": "{{Chain}} {{:Article}} {{user:Box}}",
+        "Self": "{{Self}} {{:Self}} {{Includes}} {{no such}}",
+        "In a comment": "{{Sh<!-- Never -->ow|1}} {{\nT\n}}",
+        "None": "no call",
+    }
+    TAKEN = {
+        "Made name": ["Template:Name", "Template:T"],
+        "Key": ["Template:Show", "Template:Key"],
+        "Hidden": ["Template:Hide", "Template:T"],
+        "Made twice": [
+            "Template:Chain",
+            "Template:Name",
+            "Template:T",
+            "Article",
+            "Template:Never",
+            "User:Box",
+        ],
+        "Self": ["Template:Self", "Template:Includes", "Template:Show", "Template:No such"],
+        "In a comment": ["Template:Show", "Template:T"],
+        "None": [],
+    }
+
+    def test_answers_are_those_of_the_whole_wiki(self) -> None:
+        pages = {title: text.encode() for title, text in self.WIKI.items()}
+        for title, text in pages.items():
+            self.write(title, text)
+        self.run_tool("html,ranges,expand", "--json", "lines")
+        lines = {line["title"]: line for line in self.lines()}
+        self.assertEqual(sorted(lines), sorted(pages))
+        words = [[command, title] for title in pages for command in ("html", "ranges", "expand")]
+        for (command, title), (status, out, _) in zip(words, answers_with_all(pages, words)):
+            with self.subTest(command=command, title=title):
+                self.assertEqual(
+                    (status, lines[title][command]["output"]), ("0", bytes.fromhex(out).decode())
+                )
+        for title, names in self.TAKEN.items():
+            with self.subTest(title=title):
+                self.assertEqual(sorted(lines[title]["templates"]), sorted(names))
+
+    def test_only_changed_pages_are_done_anew(self) -> None:
+        for title, text in self.WIKI.items():
+            self.write(title, text)
+        self.assertEqual(self.report("html", "--json", "lines")["kept"], 0)
+        count = len(self.WIKI)
+        self.assertEqual(self.report("html", "--json", "lines")["kept"], count)
+        done = self.changed("None", "a change")
+        self.assertEqual(done, {"None"})
+        self.assertEqual(self.changed("Template:Key", "2"), {"Template:Key", "Key"})
+        self.assertEqual(self.changed("Template:No such", "now it is"), {"Template:No such", "Self"})
+        self.assertEqual(
+            self.changed("Template:Name", "Hide"),
+            {"Template:Name", "Template:Chain", "Made name", "Made twice"},
+        )
+        # The same bytes with another time are no change.
+        os.utime(self.pages / "None.wiki", (1, 1))
+        self.assertEqual(self.report("html", "--json", "lines")["kept"], count + 1)
+        self.assertEqual(self.report("html", "--json", "lines", "--again")["kept"], 0)
+        self.assertEqual(len(self.lines()), count + 1)
+
+    def changed(self, title: str, text: str) -> "set[str]":
+        """Which pages are done anew after this change."""
+        before = len(self.lines())
+        self.write(title, text)
+        self.report("html", "--json", "lines")
+        return {line["title"] for line in self.lines()[before:]}
+
+    def test_a_file_that_is_gone_is_a_change(self) -> None:
+        for title, text in self.WIKI.items():
+            self.write(title, text)
+        self.report("html", "--json", "lines")
+        (self.pages / file_name("Template:Key")).unlink()
+        before = len(self.lines())
+        report = self.report("html", "--json", "lines")
+        self.assertEqual({line["title"] for line in self.lines()[before:]}, {"Key"})
+        self.assertEqual(report["pages"], len(self.WIKI) - 1)
+
+
+class Outputs(BatchCase):
+    def make(self) -> None:
+        self.write("A/B", "a ''b'' é")
+        self.write("Template:T", "t")
+        self.write("Latin", b"\xfc")
+
+    def test_files(self) -> None:
+        self.make()
+        self.run_tool("html,wikitext,expand", "-o", "out")
+        names = {path.name for path in (self.root / "out").iterdir()}
+        stems = ("A%2FB", "Template%3AT")
+        self.assertEqual(names, {f"{stem}.{end}" for stem in stems for end in ("html", "wiki", "expanded")})
+        self.assertEqual((self.root / "out/A%2FB.wiki").read_text(), "a ''b'' é")
+        self.assertTrue((self.root / "out/A%2FB.html").read_text().startswith("<!DOCTYPE html>"))
+        # A page that is refused from now on has no output any more.
+        self.write("A/B", b"\xff")
+        self.run_tool("html,wikitext,expand", "-o", "out")
+        self.assertEqual(
+            {path.name for path in (self.root / "out").iterdir()}, {n for n in names if n[0] == "T"}
+        )
+
+    def test_compressed_files(self) -> None:
+        self.make()
+        self.run_tool("wikitext", "-o", "out", "--compress")
+        self.assertEqual(
+            gzip.decompress((self.root / "out/A%2FB.wiki.gz").read_bytes()).decode(), "a ''b'' é"
+        )
+
+    def test_compressed_lines_and_a_cut_file(self) -> None:
+        for k in range(100):
+            self.write(f"P{k}", f"page {k}")
+        self.run_tool("wikitext", "--json", "lines.gz", "-z")
+        path = self.root / "lines.gz"
+        lines = [json.loads(line) for line in gzip.decompress(path.read_bytes()).splitlines()]
+        self.assertEqual(
+            sorted(line["wikitext"]["output"] for line in lines), sorted(f"page {k}" for k in range(100))
+        )
+        # What was written behind the last stored result is cut off; where some is missing all is made anew.
+        path.write_bytes(path.read_bytes() + b"rest of a line")
+        self.assertEqual(self.report("wikitext", "--json", "lines.gz", "-z")["kept"], 100)
+        self.assertEqual(len(gzip.decompress(path.read_bytes()).splitlines()), 100)
+        path.write_bytes(path.read_bytes()[:-20])
+        self.assertEqual(self.report("wikitext", "--json", "lines.gz", "-z")["kept"], 0)
+        self.assertEqual(len(gzip.decompress(path.read_bytes()).splitlines()), 100)
+
+    def test_a_file_of_others_is_left_alone(self) -> None:
+        self.make()
+        (self.root / "lines").write_text("mine\n")
+        self.assertIn("holds no lines", self.run_tool("html", "--json", "lines", status=1)[1])
+        self.assertEqual((self.root / "lines").read_text(), "mine\n")
+
+    def test_list_and_namespaces(self) -> None:
+        self.make()
+        self.write("Talk:X", "x")
+        (self.root / "list").write_text("a/B\n\nNowhere\nA[b\nTemplate:t\n")
+        report = self.report("html", "--list", "list")
+        self.assertEqual(report["outcomes"]["html"], {"answered": 2, "absent": 1})
+        self.assertEqual(report["skipped"], [{"title": "A[b", "why": "the title has the character ["}])
+        for words, count in (
+            (["main"], 2),
+            (["0"], 2),
+            (["Template", "1"], 2),
+            (["talk"], 1),
+            (["Help"], 0),
+        ):
+            with self.subTest(words=words):
+                chosen = [part for word in words for part in ("--namespace", word)]
+                self.assertEqual(self.report("html", *chosen)["pages"], count)
+
+    def test_files_that_are_no_pages(self) -> None:
+        self.make()
+        for name in ("small.wiki", "A%2fB.wiki", "%zz.wiki", "note.txt", ".import-7.wiki"):
+            (self.pages / name).write_text("x")
+        report = self.report("html")
+        self.assertEqual(report["pages"], 3)
+        self.assertEqual(
+            sorted(entry["title"] for entry in report["skipped"]), ["%zz.wiki", "A%2fB.wiki", "small.wiki"]
+        )
+
+    @unittest.skipIf(os.geteuid() == 0, "root may read everything")
+    def test_a_file_that_cannot_be_read(self) -> None:
+        self.make()
+        (self.pages / "Template%3AT.wiki").chmod(0)
+        self.assertEqual(self.report("html")["outcomes"]["html"]["unreadable"], 1)
+
+    def test_a_directory_among_the_pages(self) -> None:
+        self.make()
+        (self.pages / "Folder.wiki").mkdir()
+        self.assertEqual(
+            self.report("html")["outcomes"]["html"], {"answered": 2, "refused": 1, "unreadable": 1}
+        )
+
+    def test_the_longest_page(self) -> None:
+        self.write("Most", "a" * PAGE_LIMIT)
+        self.write("More", "a" * (PAGE_LIMIT + 1))
+        report = self.report("wikitext")
+        self.assertEqual(report["outcomes"]["wikitext"], {"came back": 1, "refused": 1})
+        self.assertEqual(report["reasons"], {"page too long": 1})
+
+
+class Exports(BatchCase):
+    def page(self, title: str, text: str, number: int = 7) -> str:
+        text = f"<id>{number}</id><text>{escape(text)}</text>"
+        return f"<page><title>{title}</title><revision>{text}</revision></page>\n"
+
+    def export(self, *pages: str, name: str = "export.xml") -> str:
+        head = "<mediawiki>\n<siteinfo><base>https://wiki.example/wiki/Main_Page</base></siteinfo>\n"
+        (self.root / name).write_text(head + "".join(pages) + "</mediawiki>\n")
+        return name
+
+    def test_straight_over_an_export(self) -> None:
+        name = self.export(
+            self.page("Main Page", "a {{t}}", 12), self.page("Template:T", "t"), self.page("A[b", "x")
+        )
+        report = self.report("wikitext", name, "--json", "lines")
+        self.assertEqual(report["outcomes"]["wikitext"], {"came back": 2})
+        self.assertEqual(report["skipped"], [{"title": "A[b", "why": "the title has the character ["}])
+        self.assertEqual(report["largest"][0]["link"], "https://wiki.example/wiki/Main_Page")
+        line = next(line for line in self.lines() if line["title"] == "Main Page")
+        self.assertEqual((line["revision"], line["templates"]), ("12", ["Template:T"]))
+        self.assertEqual(self.report("wikitext", name, "--json", "lines")["kept"], 2)
+
+    def test_a_later_export(self) -> None:
+        one, two = self.page("One", "1 {{t}}"), self.page("Two", "2")
+        self.report("html", self.export(one, two, self.page("Template:T", "t")))
+        report = self.report(
+            "html", self.export(one, self.page("Two", "changed", 8), self.page("Three", "3"))
+        )
+        self.assertEqual((report["pages"], report["kept"]), (3, 0))  # the template is gone
+        report = self.report("html", self.export(self.page("Three", "3", 9), one))
+        self.assertEqual((report["pages"], report["kept"]), (2, 2))
+
+    def test_a_broken_page(self) -> None:
+        good = [self.page(f"Good {k}", f"text {k}") for k in range(3000)]
+        broken = "<page><title>Broken</title><revision><text>a</revision></page>\n"
+        entity = "<page><title>Entity</title><revision><text>&nbsp;</text></revision></page>\n"
+        name = self.export(*good[:1500], broken, *good[1500:2000], entity, *good[2000:])
+        report = self.report("wikitext", name, status=1)
+        self.assertEqual(report["outcomes"]["wikitext"], {"came back": 3000})
+        self.assertFalse(report["export_whole"])
+        self.assertEqual([entry["title"] for entry in report["skipped"]], ["Broken", "Entity"])
+        # Two lines stand before the first page.
+        self.assertRegex(report["skipped"][0]["why"], "^broken at line 1503, .*mismatched tag")
+        self.assertRegex(report["skipped"][1]["why"], "^broken at line 2004, .*undefined entity")
+        self.assertIn("The export is broken", (self.root / "report.html").read_text())
+
+    def test_a_cut_export(self) -> None:
+        name = self.export(self.page("One", "1"), self.page("Two", "2"))
+        text = (self.root / name).read_text()
+        (self.root / name).write_text(text[: text.index("Two") + 40])
+        report = self.report("wikitext", name, status=1)
+        self.assertEqual(report["outcomes"]["wikitext"], {"came back": 1})
+        packed = gzip.compress(text.encode())
+        (self.root / "cut.gz").write_bytes(packed[:-20])
+        self.assertFalse(self.report("wikitext", "cut.gz", status=1)["export_whole"])
+
+    def test_no_export(self) -> None:
+        (self.root / "page.html").write_text("<html></html>")
+        self.assertIn("the outermost element is html", self.run_tool("html", "page.html", status=1)[1])
+        self.assertIn("No such file", self.run_tool("html", "absent.xml", status=1)[1])
+
+    def test_titles_that_no_file_can_have(self) -> None:
+        title = "ж" * 120  # 720 bytes as a file name
+        name = self.export(
+            self.page(title, "x"),
+            self.page("Template:" + title, "y"),
+            self.page("Calls", f"{{{{{title}}}}}"),
+        )
+        self.run_tool("expand", name, "-o", "out")
+        files = sorted((self.root / "out").iterdir())
+        self.assertEqual(len(files), 3)
+        self.assertEqual((self.root / "out/Calls.expanded").read_text(), "y")
+
+
+class Limits(BatchCase):
+    """Pages at which the program dies, hangs or lacks memory."""
+
+    program = STAND_IN
+
+    def test_one_dies_and_one_hangs(self) -> None:
+        for title in ("Dies", "Hangs", "Dies once", *(f"P{k}" for k in range(50))):
+            self.write(title, "text")
+        report = self.report("wikitext", "--time-limit", "3", "--json", "lines")
+        self.assertEqual(report["outcomes"]["wikitext"], {"came back": 51, "died": 1, "too slow": 1})
+        failures = [
+            ("Dies", "wikitext", "the program died: it was ended by SIGABRT"),
+            ("Hangs", "wikitext", "no answer within 3 seconds"),
+        ]
+        self.assertEqual(self.failures(report), failures)
+        # These results hold as long as the limits do.
+        self.assertEqual(self.report("wikitext", "--time-limit", "3", "--json", "lines")["kept"], 53)
+        self.assertEqual(self.report("wikitext", "--time-limit", "2", "--json", "lines")["kept"], 51)
+
+    def test_found_while_templates_are_sought(self) -> None:
+        self.write("Dies", "{{t}}")
+        self.write("Good", "{{t}}")
+        report = self.report("html,ranges")
+        self.assertEqual(
+            [line[:2] for line in self.failures(report)], [("Dies", "html"), ("Dies", "ranges")]
+        )
+        self.assertEqual(self.report("html,ranges")["kept"], 2)
+        self.write("Template:T", "now there")
+        self.assertEqual(self.report("html,ranges")["kept"], 0)
+
+    def test_want_of_memory(self) -> None:
+        self.program = PROGRAM
+        self.write("Letters", "a\n\n" * 400_000)
+        for k in range(50):
+            self.write(f"P{k}", "text")
+        report = self.report("html", "--memory-limit", "60")
+        self.assertEqual(report["outcomes"]["html"], {"answered": 50, "no memory": 1})
+        words = " ".join(
+            f"'{word}'" for word in self.command("html", "--again", "--report", "limited.html")
+        )
+        limit = 600_000  # KB, enough for Python
+        subprocess.run(
+            ["bash", "-c", f"ulimit -v {limit}; exec {words}"],
+            cwd=self.root,
+            stderr=subprocess.DEVNULL,
+            check=True,
+        )
+        limited = json.loads((self.root / "limited.json").read_text())
+        self.assertEqual(limited["outcomes"]["html"]["answered"], 50)
+        self.assertEqual([failure["title"] for failure in limited["failures"]], ["Letters"])
+
+    def test_a_worker_that_is_ended(self) -> None:
+        """All pages are answered, though the workers are ended again and again."""
+        for k in range(400):
+            self.write(f"P{k}", "text")
+        running = self.start("wikitext", "--report", "report.html", "-j", "2")
+        for _ in range(3):
+            time.sleep(0.4)
+            for path in Path("/proc").glob("[0-9]*/stat"):
+                try:
+                    fields = path.read_text().rpartition(")")[2].split()
+                    if int(fields[1]) == running.pid:
+                        os.kill(int(path.parent.name), signal.SIGKILL)
+                        break
+                except (OSError, ProcessLookupError):
+                    pass
+        told = running.communicate()[1].decode()
+        self.assertEqual(running.returncode, 0, told)
+        outcomes = json.loads((self.root / "report.json").read_text())["outcomes"]["wikitext"]
+        self.assertEqual(sum(outcomes.values()), 400)
+        self.assertGreaterEqual(outcomes["came back"], 397)
+
+
+class Lint(BatchCase):
+    program = STAND_IN
+
+    def test_doubtful_places(self) -> None:
+        self.write("One", "'''a\n== b =\n")
+        self.write("Two", "'''a\n\n'''b\n")
+        self.write("Good", "'''a'''")
+        report = self.report("lint", "--json", "lines")
+        findings = report["findings"]
+        self.assertEqual(
+            {k: (v["places"], v["pages"]) for k, v in findings.items()},
+            {"OpenStyle": (3, 2), "UnequalHeading": (1, 1)},
+        )
+        example = {"title": "Two", "places": 2, "first": [1, 1, 0, 4], "link": "pages/Two.wiki"}
+        self.assertEqual(findings["OpenStyle"]["examples"][0], example)
+        text = (self.root / "report.html").read_text()
+        self.assertIn("bold or italic text that nothing closes: 3", text)
+        self.assertIn("3 on 2 pages", text)
+        line = next(line for line in self.lines() if line["title"] == "One")
+        self.assertEqual(
+            line["lint"]["findings"]["first"], [["OpenStyle", 1, 1, 0, 4], ["UnequalHeading", 2, 1, 5, 11]]
+        )
+
+    def test_a_program_that_lacks_a_command(self) -> None:
+        lacking = self.root / "lacking"
+        lacking.write_text(
+            "#!/bin/sh\nwhile read -r line; do printf '1\\t\\t7774726f756e643a2075736167653a200a\\n'; done\n"
+        )
+        lacking.chmod(0o755)
+        self.program = lacking
+        _, told = self.run_tool("lint", status=2)
+        self.assertIn(f"{lacking} does not know the command lint", told)
+
+
+class OtherBytes(BatchCase):
+    def test_a_page_that_comes_back_otherwise(self) -> None:
+        changing = self.root / "changing"
+        changing.write_text(f"#!/bin/sh\nexec {PROGRAM} | sed -u 's/^0\\t6768/0\\t6778/'\n")
+        changing.chmod(0o755)
+        self.program = changing
+        self.write("Good", "abc")
+        self.write("Bad", "gh")
+        report = self.report("wikitext", status=3)
+        self.assertEqual(
+            self.failures(report), [("Bad", "wikitext", "the page that came back differs from byte 1 on")]
+        )
+
+
+class Words(BatchCase):
+    def test_wrong_arguments(self) -> None:
+        for words in (
+            [],
+            ["nothing"],
+            ["html,"],
+            ["html", "-z"],
+            ["html", "-o", "a", "--json", "b"],
+            ["html", "-j", "0"],
+        ):
+            with self.subTest(words=words):
+                command = [sys.executable, str(TOOLS / "batch"), *words]
+                done = subprocess.run(
+                    command, cwd=self.root, stdout=subprocess.PIPE, stderr=subprocess.PIPE
+                )
+                self.assertEqual(done.returncode, 2)
+        self.run_tool("wikitext", "-o", "pages", status=2)
+        self.assertIn("No such file", self.run_tool("html", "--pages", "absent", status=1)[1])
+        (self.root / "other.sqlite").write_text(
+            "this is no database, but long enough for one to be looked for in it"
+        )
+        self.assertIn("not a database", self.run_tool("html", "--state", "other.sqlite", status=1)[1])
+        self.program = self.root / "absent"
+        self.assertIn("is no program", self.run_tool("html", status=2)[1])
+
+    def test_an_empty_folder(self) -> None:
+        report = self.report("wikitext")
+        self.assertEqual((report["pages"], report["reasons"]), (0, {}))
+
+    @unittest.skipIf(pty is None, "this system has no pseudo-terminals")
+    def test_a_bar_on_a_terminal_and_none_elsewhere(self) -> None:
+        for k in range(300):
+            self.write(f"P{k}", "text")
+        self.assertNotIn("\r", self.run_tool("wikitext")[1])
+        master, terminal = pty.openpty()
+        subprocess.run(self.command("wikitext", "--again"), cwd=self.root, stderr=terminal, check=True)
+        os.close(terminal)
+        told = os.read(master, 1 << 16).decode()
+        os.close(master)
+        self.assertRegex(told, r"^\r\x1b\[K\[#*-*\] \d+ % \d+ of 300 pages, \d+ a second")
+        self.assertRegex(told, r"\r\x1b\[K300 pages: 300 came back; ")
+
+
+class SeveralMachines(BatchCase):
+    def test_cases_answers_gather(self) -> None:
+        self.write("Good", "a {{t|x}}")
+        self.write("Template:T", "''{{{1}}}''")
+        self.write("Latin", b"\xfc")
+        cases, _ = self.run_tool("cases", "wikitext,expand")
+        self.assertEqual(len(cases.splitlines()), 6)
+        bare = b"".join(line.split(b"\t", 2)[2] + b"\n" for line in cases.splitlines())
+        done = subprocess.run([str(PROGRAM)], input=bare, stdout=subprocess.PIPE, check=True)
+        self.assertEqual(sorted(line[:1] for line in done.stdout.splitlines()), [b"0"] * 4 + [b"2"] * 2)
+        # The lines may be divided, and come in any order.
+        lines = cases.splitlines(keepends=True)
+        parts = [
+            self.run_tool("answers", "--no-output", stdin=b"".join(part))[0]
+            for part in (lines[3:], lines[:3])
+        ]
+        (self.root / "one").write_bytes(parts[0])
+        (self.root / "two").write_bytes(parts[1])
+        self.assertIn(
+            "3 pages: 2 answered, 2 came back, 2 refused",
+            self.run_tool("gather", "one", "two", "-r", "g.html")[1],
+        )
+        report = json.loads((self.root / "g.json").read_text())
+        self.assertEqual(report["outcomes"]["wikitext"], {"came back": 2, "refused": 1})
+        self.assertEqual(report["failures"][0]["explain"]["line"], 1)
+        whole = self.run_tool("answers", stdin=lines[0])[0]
+        self.assertIn("output", json.loads(whole)["wikitext"])
+
+    def test_lines_that_are_no_cases(self) -> None:
+        out, told = self.run_tool("answers", stdin=b"\nwikitext\tzz\t\t\t\nhtml\t41\t\t\t41=61\n", status=1)
+        self.assertEqual(len(out.splitlines()), 1)
+        self.assertIn("line 1 is no case", told)
+        self.assertIn("line 2 is no case", told)
+        (self.root / "bad").write_text("{}\n")
+        self.assertIn(
+            "bad: line 1 is no answer", self.run_tool("gather", "bad", "-r", "g.html", status=1)[1]
+        )
+
+
+if __name__ == "__main__":
+    unittest.main()

@@ -1,0 +1,321 @@
+"""The arguments of `wtround-batch`, and what it tells the user."""
+from __future__ import annotations
+
+import argparse
+import os
+import signal
+import sqlite3
+import sys
+from contextlib import contextmanager
+from typing import Callable, Iterator, TextIO
+
+from .program import ProgramError, digest_of_file, find_program, refuse_unfit
+from .progress import Progress, spelled_time
+from .report import About, Report, write_json
+from .report_html import write_html
+from .results import COMMANDS, DIFFERS, FAILURE_WORDS, OUTCOMES
+from .run import Choice, Counts, Run, Target
+from .siblings import importer
+from .store import Export, Store, StoreError
+from .wiki import Folder, Namespaces
+from .worker import Orders
+
+PROGRAM = "wtround-batch"
+STATE = "wtround-batch.sqlite"
+EPILOG = """\
+COMMANDS is one of these words, or several joined by commas:
+
+  html      the HTML of each page
+  wikitext  there and back: the HTML of each page, and the page that comes back from it, compared
+  ranges    what stands where in each page
+  expand    each page with its templates expanded
+  lint      doubtful places (where the program at hand knows this command)
+
+The pages are those of the folder `pages`, or of EXPORT, a wiki's XML export, plain or packed with gzip,
+bzip2 or xz. What came of each page is kept in a file of results: a run that was stopped goes on where it
+was, and a later one tries only pages that have changed since, or whose templates have.
+
+Three more words are for several machines (share/doc/bughtiso/scale.md): `%(prog)s cases` writes a case for
+each page, `%(prog)s answers` answers cases from standard input, and `%(prog)s gather` reports the answers.
+Each has a --help of its own.
+
+exit status:
+  0  every page was tried, and of those that went there and back each came back byte for byte; what was
+     refused or died is in the report
+  1  the run could not begin or end: its export is broken, another run is at work, a file cannot be written
+  2  the arguments are wrong, or the program does not know a command
+  3  every page was tried, and one came back with other bytes
+  130  it was interrupted; the same words go on where it was
+"""
+
+
+class Stopped(Exception):
+    """Somebody wants this run to end."""
+
+
+def words_of_commands(text: str) -> "list[str]":
+    words = [word.strip() for word in text.split(",")]
+    unknown = [word for word in words if word not in COMMANDS]
+    if unknown:
+        known = ", ".join(COMMANDS)
+        raise argparse.ArgumentTypeError(
+            f"{importer.printable(unknown[0]) or '(nothing)'} is none of {known}"
+        )
+    return [command for command in COMMANDS if command in words]
+
+
+def positive(kind: "Callable[[str], float]") -> "Callable[[str], float]":
+    def read(text: str) -> float:
+        value = kind(text)
+        if not 0 < value < 1e9:
+            raise ValueError
+        return value
+
+    read.__name__ = "number"
+    return read
+
+
+def add_common_options(parser: argparse.ArgumentParser) -> None:
+    add = parser.add_argument
+    add("--program", metavar="FILE", help="the wtround_cases to use (default: the one beside this tool)")
+    add(
+        "--time-limit",
+        type=positive(float),
+        default=60.0,
+        metavar="SECONDS",
+        help="of a page (default: %(default)g)",
+    )
+    add(
+        "--memory-limit",
+        type=positive(int),
+        metavar="MB",
+        help="of each process of wtround_cases (default: none)",
+    )
+
+
+def add_wiki_options(parser: argparse.ArgumentParser) -> None:
+    add = parser.add_argument
+    add("commands", type=words_of_commands, metavar="COMMANDS", help="what is done with each page")
+    add("export", nargs="?", metavar="EXPORT", help="an XML export (default: the folder of --pages)")
+    add("--pages", default="pages", metavar="DIR", help="the folder of pages (default: %(default)s)")
+    add("--list", metavar="FILE", help="try the pages of this list alone, a title on each line")
+    add(
+        "--namespace",
+        action="append",
+        default=[],
+        metavar="NAME",
+        help="try the pages of this namespace alone, by name or number (main or 0 is the one without a name); "
+        "may be repeated",
+    )
+    add("--state", default=STATE, metavar="FILE", help="the file of results (default: %(default)s)")
+    add("--quiet", action="store_true", help="tell no progress")
+
+
+def parser() -> argparse.ArgumentParser:
+    parser = argparse.ArgumentParser(
+        prog=PROGRAM,
+        description="Convert or check all pages of a wiki, and report what came of them.",
+        epilog=EPILOG,
+        formatter_class=argparse.RawDescriptionHelpFormatter,
+    )
+    add_wiki_options(parser)
+    add = parser.add_argument
+    add(
+        "-r",
+        "--report",
+        metavar="FILE",
+        help="write a report: FILE as HTML, and beside it one that ends in .json",
+    )
+    add("-o", "--output", metavar="DIR", help="write each answer into a file of this folder")
+    add("--json", metavar="FILE", help="write a line of JSON for each page into this file")
+    add("-z", "--compress", action="store_true", help="pack the output with gzip")
+    add(
+        "-j",
+        "--jobs",
+        type=positive(int),
+        metavar="N",
+        help="processes at once (default: one for each processor)",
+    )
+    add("--again", action="store_true", help="try all pages anew")
+    add_common_options(parser)
+    return parser
+
+
+@contextmanager
+def stopped_by_signals() -> "Iterator[None]":
+    """SIGTERM and SIGHUP end a run as an interrupt from the keyboard does."""
+
+    def stop(*_: object) -> None:
+        raise Stopped
+
+    for number in (signal.SIGTERM, signal.SIGHUP, signal.SIGINT):
+        signal.signal(number, stop)
+    try:
+        yield
+    finally:
+        for number in (signal.SIGTERM, signal.SIGHUP, signal.SIGINT):
+            signal.signal(number, signal.SIG_IGN)
+
+
+def memory_of(arguments: argparse.Namespace) -> "int | None":
+    """The limit of memory in bytes."""
+    return None if arguments.memory_limit is None else int(arguments.memory_limit * 1_000_000)
+
+
+def orders_of(arguments: argparse.Namespace, program: str, store: "Store | None") -> Orders:
+    output = (
+        "files" if arguments.output is not None else "lines" if arguments.json is not None else "nothing"
+    )
+    export = arguments.export
+    return Orders(
+        program=program,
+        memory_limit=memory_of(arguments),
+        time_limit=arguments.time_limit,
+        commands=arguments.commands,
+        pages=arguments.pages,
+        export=None if export is None or store is None else [store.path, export],
+        output=output,
+        output_folder=arguments.output or "",
+        is_packed=arguments.compress,
+    )
+
+
+def read_source(arguments: argparse.Namespace, store: Store, progress: Progress) -> "Folder | Export":
+    """The pages, those of an export once they are read. Raises ExportError or OSError."""
+    if arguments.export is None:
+        os.scandir(arguments.pages).close()
+        return Folder(arguments.pages)
+    size = os.path.getsize(arguments.export)
+    store.read_export(
+        arguments.export, lambda read, pages: progress.show_reading(read / size if size else None, pages)
+    )
+    progress.clear()
+    return Export(store.path, arguments.export)
+
+
+def told(counts: Counts, total: int) -> str:
+    """What came of a run, in a line."""
+    words = [f"{counts.outcomes[o]:,} {FAILURE_WORDS.get(o, o)}" for o in OUTCOMES if counts.outcomes[o]]
+    text = f"{counts.pages:,} pages" if counts.pages == total else f"{counts.pages:,} of {total:,} pages"
+    if words:
+        text += ": " + ", ".join(words)
+    if counts.skipped:
+        text += f"; {counts.skipped:,} skipped"
+    if counts.kept:
+        text += f"; {counts.kept:,} as before"
+    done = counts.pages - counts.kept
+    rate = f", {done / counts.seconds:,.0f} pages a second" if done and counts.seconds > 0.5 else ""
+    return f"{text}; {spelled_time(counts.seconds)}{rate}" if counts.seconds else text
+
+
+def told_of(report: Report) -> str:
+    """What came of the pages of a report, in a line."""
+    counts = Counts(pages=report.figures.pages)
+    for outcomes in report.figures.outcomes.values():
+        counts.outcomes.update(outcomes)
+    return told(counts, counts.pages)
+
+
+def write_report(report: Report) -> None:
+    """Writes both files of a report, each whole or not at all."""
+    writers: "list[tuple[str, Callable[[Report, TextIO], None]]]" = [
+        (report.path, write_html),
+        (report.json_path, write_json),
+    ]
+    for path, write in writers:
+        temporary = f"{path}.part-{os.getpid()}"
+        with open(temporary, "w", encoding="utf-8", errors="backslashreplace") as file:
+            write(report, file)
+        os.replace(temporary, path)
+
+
+def run_all(arguments: argparse.Namespace, program: str, store: Store, progress: Progress) -> int:
+    source = read_source(arguments, store, progress)
+    orders = orders_of(arguments, program, store)
+    target = Target(store, orders, arguments.json or arguments.output, arguments.again)
+    jobs = int(arguments.jobs or len(os.sched_getaffinity(0)))
+    digest = digest_of_file(program)
+    choice = Choice(Namespaces.chosen(arguments.namespace), arguments.list)
+    run = Run(store, source, choice, orders, target, digest)
+    is_whole = arguments.export is None or store.about("export whole") == "yes"
+    is_finished = False
+    try:
+        with stopped_by_signals():
+            run.go(jobs, progress)
+        is_finished = True
+    except Stopped:
+        pass
+    progress.clear()
+    if arguments.report is not None:
+        about = About(
+            source.describe(),
+            arguments.commands,
+            digest,
+            jobs,
+            run.counts.seconds,
+            run.counts.kept,
+            is_finished,
+            is_whole,
+        )
+        write_report(Report(store, source, run.number, about, arguments.report))
+    print(told(run.counts, run.total), file=sys.stderr)
+    if not is_finished:
+        print(f"{PROGRAM}: stopped; the same words go on from here", file=sys.stderr)
+        return 130
+    if not is_whole:
+        print(
+            f"{PROGRAM}: {arguments.export}: the export is broken; the pages that could be read were tried",
+            file=sys.stderr,
+        )
+        return 1
+    return 3 if run.counts.outcomes[DIFFERS] else 0
+
+
+def refuse_arguments(parser: argparse.ArgumentParser, arguments: argparse.Namespace) -> None:
+    if arguments.output is not None and arguments.json is not None:
+        parser.error("--output and --json: one of them")
+    if arguments.compress and arguments.output is None and arguments.json is None:
+        parser.error("--compress needs --output or --json")
+    if arguments.report is not None and os.path.splitext(arguments.report)[1] == ".json":
+        parser.error("--report: FILE is the HTML; the JSON lies beside it")
+    if arguments.output is not None and os.path.realpath(arguments.output) == os.path.realpath(
+        arguments.pages
+    ):
+        parser.error("--output: the answers of `wikitext` would replace the pages")
+
+
+def main_of_run(words: "list[str]") -> int:
+    this_parser = parser()
+    arguments = this_parser.parse_args(words)
+    refuse_arguments(this_parser, arguments)
+    program = find_program(arguments.program)
+    refuse_unfit(program, arguments.commands)
+    progress = Progress(sys.stderr, arguments.quiet)
+    store = Store(arguments.state)
+    try:
+        return run_all(arguments, program, store, progress)
+    finally:
+        progress.clear()
+        store.close()
+
+
+def main() -> int:
+    from . import spread  # which uses what stands above
+
+    words = sys.argv[1:]
+    sys.stdout.reconfigure(errors="backslashreplace")  # type: ignore[attr-defined]
+    try:
+        if words and words[0] in spread.WORDS:
+            return spread.WORDS[words[0]](words[1:])
+        return main_of_run(words)
+    except ProgramError as error:
+        print(f"{PROGRAM}: {error}", file=sys.stderr)
+        return 2
+    except (StoreError, importer.ExportError, sqlite3.Error) as error:
+        print(f"{PROGRAM}: {error}", file=sys.stderr)
+        return 1
+    except OSError as error:
+        print(f"{PROGRAM}: {error.filename or 'output'}: {error.strerror or error}", file=sys.stderr)
+        return 1
+    except (KeyboardInterrupt, Stopped):
+        return 130

@@ -1,0 +1,313 @@
+"""What is done with one page: which templates it takes, and what each command answers."""
+from __future__ import annotations
+
+import json
+import re
+import time
+from functools import lru_cache
+from typing import Callable, Iterable, Protocol
+
+from .program import Answer, Cases, Died, TooSlow, case
+from .siblings import explainer, importer
+
+from .results import (
+    ABSENT, ANSWERED, COMMANDS, DIED, DIFFERS, NO_MEMORY, REFUSED, SAME, SLOW, UNREADABLE, Examined, Known,
+    Result,
+)  # fmt: skip
+from .store import digest_of, taken_digest, unsure
+from .wiki import full_name
+
+MEMORY_OF_TEXTS = 32 << 20  # bytes of templates that a worker remembers
+MOST_FINDINGS = 100  # of a page that are kept with their places
+# A call whose name is written out. Names that other calls make are found when the program asks for them.
+CALL = re.compile(rb"\{\{\s*([^{}|<>\[\]#]+?)\s*(?:\||\}\})")
+
+
+class Texts(Protocol):
+    """Where the texts of a wiki's pages come from."""
+
+    def text(self, title: str) -> "bytes | None":
+        ...
+
+
+class Templates:
+    """The texts of templates, of which the last used are remembered."""
+
+    def __init__(self, texts: Texts) -> None:
+        self._texts = texts
+        self._memory: "dict[str, tuple[bytes | None, bytes | None, list[str]]]" = {}
+        self._bytes = 0
+
+    def _look(self, name: str) -> "tuple[bytes | None, bytes | None, list[str]]":
+        found = self._memory.get(name)
+        if found is None:
+            text = self._texts.text(name)
+            found = (text, None if text is None else digest_of(text), called_names(text or b""))
+            if self._bytes > MEMORY_OF_TEXTS:
+                self._memory.clear()
+                self._bytes = 0
+            self._memory[name] = found
+            self._bytes += len(text or b"") + 500
+        return found
+
+    def text(self, name: str) -> "bytes | None":
+        return self._look(name)[0]
+
+    def digest(self, name: str) -> "bytes | None":
+        return self._look(name)[1]
+
+    def reached(self, names: "Iterable[str]") -> "dict[str, bytes]":
+        """The templates of these names that are there, and all that they name themselves."""
+        found: "dict[str, bytes]" = {}
+        seen, waiting = set(), list(names)
+        while waiting:
+            name = waiting.pop()
+            if name not in seen:
+                seen.add(name)
+                text, _, called = self._look(name)
+                if text is not None:
+                    found[name] = text
+                    waiting.extend(called)
+        return found
+
+
+def called_names(text: bytes) -> "list[str]":
+    """The pages that a text calls by names that are written out."""
+    names = (called_name(target) for target in dict.fromkeys(CALL.findall(text)))
+    return list(dict.fromkeys(name for name in names if name is not None))
+
+
+def guessed_names(title: str, pages: "dict[str, bytes]") -> "list[str]":
+    """What a page takes as far as it can be seen: these pages, and what they call."""
+    names = dict.fromkeys(pages)
+    for text in pages.values():
+        names.update(dict.fromkeys(called_names(text)))
+    names.pop(title, None)
+    return list(names)
+
+
+@lru_cache(maxsize=1 << 15)
+def called_name(target: bytes) -> "str | None":
+    """The full name of the page that a call takes; None where it is no title."""
+    try:
+        text = target.decode()
+        is_page = text.startswith(":")
+        title = importer.read_title(text[1:] if is_page else text)
+        return full_name(title.full_name if is_page or title.namespace else "Template:" + text)
+    except (importer.BadTitle, UnicodeDecodeError):
+        return None
+
+
+def first_difference(a: bytes, b: bytes) -> int:
+    """The first place at which two texts differ."""
+    low, high = 0, min(len(a), len(b))
+    while low < high:
+        middle = (low + high + 1) // 2
+        if a[:middle] == b[:middle]:
+            low = middle
+        else:
+            high = middle - 1
+    return low
+
+
+class Examiner:
+    """Asks one running program about pages."""
+
+    def __init__(self, cases: Cases, texts: Texts, time_limit: float, wants_output: bool) -> None:
+        self._cases = cases
+        self._texts = texts
+        self._templates = Templates(texts)
+        self._time_limit = time_limit
+        self._wants_output = wants_output
+        self._deadline = 0.0
+
+    def examine(
+        self,
+        title: str,
+        stamp: str,
+        commands: "list[str]",
+        known: "Known | None" = None,
+        held: "tuple[bytes, bytes] | None" = None,
+    ) -> Examined:
+        """What comes of the page. Results that are held for the same text and templates are not made anew."""
+        try:
+            text = self._texts.text(title)
+            if text is not None:
+                return self._examine(title, text, stamp, commands, known, held)
+            failure = self._explained(Result(ABSENT, "no such page"), title, b"")
+        except OSError as error:  # of the page, of a template, or of starting the program
+            failure = Result(UNREADABLE, f"{error.filename or 'the wiki'}: {error.strerror or error}")
+        return Examined(title, 0, Known("", b"", [], b""), {command: failure for command in commands})
+
+    def _examine(
+        self,
+        title: str,
+        text: bytes,
+        stamp: str,
+        commands: "list[str]",
+        known: "Known | None",
+        held: "tuple[bytes, bytes] | None",
+    ) -> Examined:
+        digest = digest_of(text)
+        failure: "Result | None" = None
+        names: "list[str]" = []
+        is_sure = False
+        if known is not None and known.digest == digest:
+            names, current = known.names, self._digest_of_taken(known.names)
+            if known.taken_digest in (current, unsure(current)) and held == (digest, known.taken_digest):
+                return Examined(title, len(text), Known(stamp, digest, names, known.taken_digest), {})
+            is_sure = known.taken_digest == current
+        if not is_sure:
+            failure, names = self.find_templates(title, text, names)
+        current = self._digest_of_taken(names)
+        if failure is not None:
+            now = Known(stamp, digest, names, unsure(current))
+            return Examined(title, len(text), now, {command: failure for command in commands})
+        results = self.run(title, text, self.pages_of(title, text, names), commands)
+        return Examined(title, len(text), Known(stamp, digest, names, current), results)
+
+    def _digest_of_taken(self, names: "list[str]") -> bytes:
+        return taken_digest((name, self._templates.digest(name)) for name in names)
+
+    def find_pages(
+        self, title: str, text: bytes, known: "Known | None"
+    ) -> "tuple[list[str], dict[str, bytes]]":
+        """The names of the templates that the page takes, and the page with those that are there."""
+        if (
+            known is not None
+            and known.digest == digest_of(text)
+            and self._digest_of_taken(known.names) == known.taken_digest
+        ):
+            names = known.names
+        else:
+            _, names = self.find_templates(title, text, [])
+        return names, self.pages_of(title, text, names)
+
+    def pages_of(self, title: str, text: bytes, names: "list[str]") -> "dict[str, bytes]":
+        """The page and the templates of these names that are there."""
+        pages = {
+            name: text for name, text in ((n, self._templates.text(n)) for n in names) if text is not None
+        }
+        pages[title] = text
+        return pages
+
+    def _ask(self, line: bytes) -> Answer:
+        return self._cases.ask(line, self._deadline)
+
+    def _start_clock(self) -> None:
+        self._deadline = time.monotonic() + self._time_limit
+
+    def find_templates(
+        self, title: str, text: bytes, guess: "list[str]"
+    ) -> "tuple[Result | None, list[str]]":
+        """The names of the pages that this one takes, by asking `expand`; or a failure, with a guess.
+
+        What the page seems to call is sent along. Where the program asks for more that is there, it is sent
+        too, until nothing is missing: then it has had all that it has in the wiki.
+        """
+        if b"{{" not in text:
+            return None, []
+        self._start_clock()
+        pages = self._templates.reached(guess or called_names(text))
+        pages[title] = text
+        while True:
+            try:
+                answer = self._ask(case(["expand", title], b"", pages, wants_names=True))
+            except (Died, TooSlow) as ending:
+                return self._failed(ending), guessed_names(title, pages)
+            if answer.line == "no memory":
+                failure = self._explained(Result(NO_MEMORY, answer.line), title, text)
+                return failure, guessed_names(title, pages)
+            missing = [n for n in answer.names if n not in pages and self._templates.text(n) is not None]
+            if not missing:
+                return None, [name for name in answer.names if name != title]
+            pages.update(self._templates.reached(missing))
+            pages[title] = text
+
+    def run(
+        self, title: str, text: bytes, pages: "dict[str, bytes]", commands: "list[str]"
+    ) -> "dict[str, Result]":
+        """What comes of the commands, with these pages and no others."""
+        results: "dict[str, Result]" = {}
+        html: "Answer | None" = None  # one answer of `html` serves two commands
+        for command in sorted(commands, key=COMMANDS.index):
+            self._start_clock()
+            try:
+                if command == "wikitext":
+                    html = html or self._ask(case(["html", title], b"", pages))
+                    results[command] = self._there_and_back(title, text, html)
+                else:
+                    answer = self._ask(case([command, title], b"", pages))
+                    html = answer if command == "html" else html
+                    results[command] = self._result(command, answer, title, text)
+            except (Died, TooSlow) as ending:
+                results[command] = self._failed(ending)
+        return results
+
+    def _failed(self, ending: Exception) -> Result:
+        if isinstance(ending, TooSlow):
+            return Result(SLOW, f"no answer within {self._time_limit:g} seconds", seconds=self._time_limit)
+        return Result(DIED, f"the program died: {ending}")
+
+    def _result(self, command: str, answer: Answer, title: str, text: bytes) -> Result:
+        if answer.status != 0:
+            outcome = NO_MEMORY if answer.line == "no memory" else REFUSED
+            return self._explained(Result(outcome, answer.line, seconds=answer.seconds), title, text)
+        result = Result(ANSWERED, written=len(answer.out_hex) // 2, seconds=answer.seconds)
+        if command == "lint":
+            result.findings = findings_of(answer.out.decode("utf-8", "replace"))
+        if self._wants_output:
+            result.out = answer.out
+        return result
+
+    def _there_and_back(self, title: str, text: bytes, html: Answer) -> Result:
+        if html.status != 0:
+            return self._result("html", html, title, text)
+        back = self._ask(case(["wikitext"], html.out_hex))
+        result = self._result("wikitext", back, title, text)
+        result.seconds += html.seconds
+        if result.outcome == ANSWERED:
+            page = back.out
+            result.outcome = SAME if page == text else DIFFERS
+            if result.outcome == DIFFERS:
+                result.line = f"the page that came back differs from byte {first_difference(page, text)} on"
+        return result
+
+    def _explained(self, result: Result, title: str, text: bytes) -> Result:
+        result.advice = explanation(result.line, title, text, self._templates.text)
+        return result
+
+
+def explanation(line: str, title: str, text: bytes, look: "Callable[[str], bytes | None]") -> str:
+    """What `explain` says of a refusal, as JSON; empty where it says nothing."""
+    try:
+        refusal = explainer.read_refusal(line)
+    except explainer.ExplainError:
+        return ""
+    said: "dict[str, object]" = {"advice": refusal.advice}
+    page, data = title, text
+    if refusal.title is not None:
+        page, data = refusal.title, look(refusal.title) or b""
+    place = refusal.locate(data, refusal.number) if refusal.locate is not None else None
+    if place is not None:
+        spot = explainer.spot(data, place)
+        said.update(
+            page=page,
+            line=spot.line,
+            column=spot.column,
+            shown=explainer.line_with_caret(spot.before, spot.after),
+        )
+    return json.dumps(said, ensure_ascii=False)
+
+
+def findings_of(listing: str) -> str:
+    """What `lint` found, as JSON: how many of each kind, and the first of them with their places."""
+    counts: "dict[str, int]" = {}
+    first: "list[list]" = []
+    for line in listing.splitlines():
+        kind, _, places = line.partition(" ")
+        counts[kind] = counts.get(kind, 0) + 1
+        numbers = places.split(" ")
+        if len(first) < MOST_FINDINGS and len(numbers) >= 2:
+            first.append([kind, *map(int, numbers)])
+    return json.dumps({"counts": counts, "first": first}) if counts else ""

@@ -1,0 +1,287 @@
+"""The program `wtround_cases`, which answers a case a line, as a running process that is asked one by one."""
+from __future__ import annotations
+
+import binascii
+import ctypes
+import fcntl
+import hashlib
+import os
+import resource
+import select
+import shutil
+import signal
+import subprocess
+import time
+from dataclasses import dataclass
+from typing import Iterable, Mapping
+
+from . import siblings
+
+CHUNK = 1 << 20
+PIPE_BYTES = 1 << 20
+SET_PIPE_SIZE = 1031  # F_SETPIPE_SZ of Linux, which Python knows by name since 3.10
+PROBE_SECONDS = 10.0
+END_WITH_PARENT = 1  # PR_SET_PDEATHSIG of Linux
+LIBC = ctypes.CDLL(None)
+
+
+class ProgramError(Exception):
+    """The program cannot be used; the message says why."""
+
+
+class Died(Exception):
+    """The program ended in the middle of a case; the message says how."""
+
+
+class TooSlow(Exception):
+    """The answer was not there in time."""
+
+
+@dataclass(frozen=True)
+class Answer:
+    status: int
+    out_hex: bytes  # what standard output took, in hex
+    line: str  # what standard error took, without `wtround: ` and the line break
+    names: "list[str]"  # the pages that were asked for, in order, where the case wanted them
+    seconds: float  # of processor time
+
+    @property
+    def out(self) -> bytes:
+        return binascii.unhexlify(self.out_hex)
+
+
+def find_program(given: "str | None") -> str:
+    """The path of `wtround_cases`: that given, that beside the tools, the clone's, or that on the PATH."""
+    if given is not None:
+        if not os.access(given, os.X_OK) or os.path.isdir(given):
+            raise ProgramError(f"{given} is no program that can be run")
+        return os.path.realpath(given)
+    clone = os.path.join(
+        siblings.PACKAGE_PARENT, os.pardir, "crates", "wtround_cases", "out", "wtround_cases"
+    )
+    for path in (siblings.find("wtround_cases"), clone, shutil.which("wtround_cases")):
+        if path is not None and os.access(path, os.X_OK):
+            return os.path.realpath(path)
+    raise ProgramError("there is no wtround_cases beside this tool or on the PATH; --program names one")
+
+
+def digest_of_file(path: str) -> str:
+    """The first 16 hexadecimal digits of the SHA-256 of a file."""
+    digest = hashlib.sha256()
+    with open(path, "rb") as file:
+        for chunk in iter(lambda: file.read(CHUNK), b""):
+            digest.update(chunk)
+    return digest.hexdigest()[:16]
+
+
+def case(
+    words: "Iterable[str]",
+    input_hex: bytes = b"",
+    pages: "Mapping[str, bytes] | None" = None,
+    wants_names: bool = False,
+) -> bytes:
+    """The line of a case, without its line break. The input is in hex already, the pages are not."""
+    entries = (
+        binascii.hexlify(name.encode()) + b"=" + binascii.hexlify(text)
+        for name, text in (pages or {}).items()
+    )
+    line = (
+        b",".join(binascii.hexlify(word.encode()) for word in words)
+        + b"\t"
+        + input_hex
+        + b"\t"
+        + b",".join(entries)
+    )
+    return line + b"\tnames" if wants_names else line
+
+
+class Cases:
+    """A running `wtround_cases`. It is started when it is first asked, and anew after it died."""
+
+    def __init__(self, path: str, memory_limit: "int | None" = None) -> None:
+        self._path = path
+        self._memory_limit = memory_limit  # in bytes
+        self._process: "subprocess.Popen[bytes] | None" = None
+        self._is_fresh = True
+        self._left = b""
+
+    def ask(self, line: bytes, deadline: float) -> Answer:
+        """The answer to a case, before this moment of `time.monotonic`. Raises Died or TooSlow.
+
+        Where a process that has answered other cases before dies or lacks memory, the case is asked once
+        more of a fresh one: so it is never blamed for what others left behind.
+        """
+        was_fresh = self._process is None or self._is_fresh
+        try:
+            answer = self._ask_once(line, deadline)
+        except Died:
+            if was_fresh:
+                raise
+            answer = self._ask_once(line, deadline)
+        else:
+            if answer.line == "no memory" and not was_fresh:
+                self.close()
+                answer = self._ask_once(line, deadline)
+        return answer
+
+    def _ask_once(self, line: bytes, deadline: float) -> Answer:
+        process = self._process or self._start()
+        before = processor_time(process.pid)
+        try:
+            text = self._exchange(process, line + b"\n", deadline)
+        except (Died, TooSlow):
+            self.close()
+            raise
+        self._is_fresh = False
+        return read_answer(text, processor_time(process.pid) - before)
+
+    def _start(self) -> "subprocess.Popen[bytes]":
+        process = subprocess.Popen(
+            [self._path],
+            stdin=subprocess.PIPE,
+            stdout=subprocess.PIPE,
+            stderr=subprocess.DEVNULL,
+            bufsize=0,
+            preexec_fn=self._limit,
+        )
+        for stream in (process.stdin, process.stdout):
+            assert stream is not None
+            os.set_blocking(stream.fileno(), False)
+            widen(stream.fileno())
+        self._process, self._is_fresh, self._left = process, True, b""
+        return process
+
+    def _limit(self) -> None:
+        end_with_parent()
+        resource.setrlimit(resource.RLIMIT_CORE, (0, 0))
+        if self._memory_limit is not None:
+            resource.setrlimit(resource.RLIMIT_AS, (self._memory_limit, self._memory_limit))
+
+    def _exchange(self, process: "subprocess.Popen[bytes]", data: bytes, deadline: float) -> bytes:
+        """Writes a line and reads the next one."""
+        assert process.stdin is not None and process.stdout is not None
+        target, source = process.stdin.fileno(), process.stdout.fileno()
+        rest, parts = memoryview(data), [self._left]
+        poll = select.poll()
+        poll.register(source, select.POLLIN)
+        while True:
+            rest = rest[self._write_some(target, rest) :]
+            if len(rest):
+                poll.register(target, select.POLLOUT)
+            remaining = deadline - time.monotonic()
+            if remaining <= 0:
+                raise TooSlow
+            poll.poll(remaining * 1000 + 1)
+            if not len(rest):
+                poll = select.poll()
+                poll.register(source, select.POLLIN)
+            chunk = read_some(source)
+            if chunk == b"":
+                raise Died(self._ending(process))
+            if chunk:
+                line, mark, left = chunk.partition(b"\n")
+                parts.append(line)
+                if mark:
+                    self._left = left
+                    return b"".join(parts)
+
+    def _write_some(self, target: int, rest: memoryview) -> int:
+        try:
+            return os.write(target, rest) if len(rest) else 0
+        except BlockingIOError:
+            return 0
+        except BrokenPipeError:
+            return len(rest)  # its end is found when it is read
+
+    def _ending(self, process: "subprocess.Popen[bytes]") -> str:
+        try:
+            status = process.wait(timeout=5)
+        except subprocess.TimeoutExpired:
+            return "it closed its output"
+        if status >= 0:
+            return f"it ended with status {status}"
+        try:
+            name = signal.Signals(-status).name
+        except ValueError:
+            name = f"signal {-status}"
+        return f"it was ended by {name}"
+
+    def close(self) -> None:
+        """Ends the process."""
+        process, self._process = self._process, None
+        if process is None:
+            return
+        process.kill()
+        process.wait()
+        for stream in (process.stdin, process.stdout):
+            assert stream is not None
+            stream.close()
+
+
+def end_with_parent() -> None:
+    """Lets this process be ended when the one that started it ends."""
+    LIBC.prctl(END_WITH_PARENT, signal.SIGKILL)
+
+
+def read_some(source: int) -> "bytes | None":
+    """What can be read now; None where nothing is there yet, empty at the end."""
+    try:
+        return os.read(source, CHUNK)
+    except BlockingIOError:
+        return None
+
+
+def widen(descriptor: int) -> None:
+    """Makes room in a pipe for whole pages, where the system allows it."""
+    try:
+        fcntl.fcntl(descriptor, SET_PIPE_SIZE, PIPE_BYTES)
+    except OSError:
+        pass
+
+
+def processor_time(process_id: int) -> float:
+    """The seconds of processor time of a process, by the clock that Linux keeps of each."""
+    try:
+        return time.clock_gettime((~process_id << 3) | 2)
+    except OSError:
+        return time.monotonic()
+
+
+def read_answer(text: bytes, seconds: float) -> Answer:
+    fields = text.split(b"\t")
+    if text == b"no memory":
+        return Answer(8, b"", "no memory", [], seconds)
+    if len(fields) < 3 or not fields[0].isdigit():
+        raise Died(
+            f"its answer is none: {siblings.importer.printable(text[:60].decode('utf-8', 'replace'))}"
+        )
+    line = binascii.unhexlify(fields[2]).decode("utf-8", "replace").rstrip("\n")
+    line = line[len("wtround: ") :] if line.startswith("wtround: ") else line
+    names = (
+        [binascii.unhexlify(name).decode() for name in fields[3].split(b",") if name]
+        if len(fields) > 3
+        else []
+    )
+    return Answer(int(fields[0]), fields[1], line, names, seconds)
+
+
+def refuse_unfit(path: str, commands: "Iterable[str]") -> None:
+    """Raises ProgramError where the program cannot be asked one by one, or lacks one of these commands."""
+    cases = Cases(path)
+    try:
+        for command in commands:
+            words = [command] if command == "wikitext" else [command, "Main"]
+            line = case(words, b"", {"Main": b""}, wants_names=True)
+            answer = cases.ask(line, time.monotonic() + PROBE_SECONDS)
+            if answer.status == 1:
+                raise ProgramError(
+                    f"{path} does not know the command {command}: use a later wtround_cases, or leave it out"
+                )
+    except TooSlow:
+        raise ProgramError(f"{path} does not answer line by line: use a later wtround_cases") from None
+    except (Died, OSError) as error:
+        raise ProgramError(
+            f"{path} is no wtround_cases that this tool can ask ({error}): use a later one"
+        ) from None
+    finally:
+        cases.close()

@@ -1,0 +1,176 @@
+"""A process that works off batches of pages with a `wtround_cases` of its own.
+
+It reads and writes frames: a line of JSON, with the number of bytes that follow it under `payload`. The
+first frame says what to do; each further one holds a batch, and is answered by one. It ends where its
+input does.
+"""
+from __future__ import annotations
+
+import json
+import os
+import queue
+import signal
+import sys
+import threading
+from dataclasses import dataclass
+from typing import IO
+
+from .examine import Examiner
+from .outputs import Files, Lines, Nothing
+from .program import Cases
+from .results import Examined, Known, Result
+from .store import Export
+from .wiki import Folder
+
+PIPE_READ = 1 << 20
+
+
+def write_frame(stream: "IO[bytes]", header: "dict[str, object]", payload: bytes = b"") -> None:
+    stream.write(json.dumps({**header, "payload": len(payload)}).encode() + b"\n" + payload)
+    stream.flush()
+
+
+def read_frame(stream: "IO[bytes]") -> "tuple[dict, bytes] | None":
+    """The next frame; None at the end of the stream, also in the middle of a frame."""
+    line = stream.readline()
+    if not line.endswith(b"\n"):
+        return None
+    header = json.loads(line)
+    payload = stream.read(header["payload"])
+    return (header, payload) if len(payload) == header["payload"] else None
+
+
+class FrameReader:
+    """Reads frames from a pipe as they come, for a process that waits for several pipes at once."""
+
+    def __init__(self, descriptor: int) -> None:
+        self._descriptor = descriptor
+        self._buffer = bytearray()
+        self._header: "dict | None" = None
+
+    def read(self) -> "list[tuple[dict, bytes]] | None":
+        """The frames that are whole after one more read; None at the end of the pipe."""
+        data = os.read(self._descriptor, PIPE_READ)
+        if not data:
+            return None
+        self._buffer += data
+        frames: "list[tuple[dict, bytes]]" = []
+        while True:
+            if self._header is None:
+                end = self._buffer.find(b"\n")
+                if end < 0:
+                    return frames
+                self._header = json.loads(self._buffer[:end])
+                del self._buffer[: end + 1]
+            length = self._header["payload"]
+            if len(self._buffer) < length:
+                return frames
+            frames.append((self._header, bytes(self._buffer[:length])))
+            del self._buffer[:length]
+            self._header = None
+
+
+@dataclass(frozen=True)
+class Orders:
+    """What a worker has to do. All of it can be written as JSON."""
+
+    program: str
+    memory_limit: "int | None"  # bytes
+    time_limit: float  # seconds
+    commands: "list[str]"
+    pages: "str | None"  # the folder
+    export: "list[str] | None"  # the file of results and the export
+    output: str  # `files`, `lines` or `nothing`
+    output_folder: str
+    is_packed: bool
+
+    def source(self) -> "Folder | Export":
+        return Export(*self.export) if self.export is not None else Folder(self.pages or "")
+
+    def sink(self) -> "Files | Lines | Nothing":
+        if self.output == "files":
+            return Files(self.output_folder, self.is_packed)
+        return Lines(self.is_packed) if self.output == "lines" else Nothing()
+
+
+def known_as_json(known: "Known | None") -> "list | None":
+    return None if known is None else [known.digest.hex(), known.names, known.taken_digest.hex()]
+
+
+def known_from_json(value: "list | None") -> "Known | None":
+    return None if value is None else Known("", bytes.fromhex(value[0]), value[1], bytes.fromhex(value[2]))
+
+
+def held_from_json(value: "list | None") -> "tuple[bytes, bytes] | None":
+    return None if value is None else (bytes.fromhex(value[0]), bytes.fromhex(value[1]))
+
+
+def result_as_json(result: Result) -> list:
+    return [result.outcome, result.line, result.advice, result.written, result.seconds, result.findings]
+
+
+def result_from_json(value: list) -> Result:
+    return Result(*value)
+
+
+def examined_as_json(examined: Examined) -> dict:
+    return {
+        "title": examined.title,
+        "bytes": examined.bytes,
+        "stamp": examined.known.stamp,
+        "known": known_as_json(examined.known),
+        "results": {command: result_as_json(result) for command, result in examined.results.items()},
+    }
+
+
+def examined_from_json(value: dict) -> Examined:
+    known = known_from_json(value["known"])
+    assert known is not None
+    known = Known(value["stamp"], known.digest, known.names, known.taken_digest)
+    results = {command: result_from_json(result) for command, result in value["results"].items()}
+    return Examined(value["title"], value["bytes"], known, results)
+
+
+def read_ahead(stream: "IO[bytes]", batches: "queue.Queue") -> None:
+    """Takes what comes at once, so that the process that sends it never waits."""
+    while True:
+        frame = read_frame(stream)
+        batches.put(frame)
+        if frame is None:
+            return
+
+
+def main() -> int:
+    signal.signal(signal.SIGINT, signal.SIG_IGN)  # the process that started this one ends it
+    first = read_frame(sys.stdin.buffer)
+    if first is None:
+        return 0
+    orders = Orders(**{name: value for name, value in first[0].items() if name != "payload"})
+    cases = Cases(orders.program, orders.memory_limit)
+    sink = orders.sink()
+    examiner = Examiner(cases, orders.source(), orders.time_limit, orders.output != "nothing")
+    batches: "queue.Queue" = queue.Queue()
+    threading.Thread(target=read_ahead, args=(sys.stdin.buffer, batches), daemon=True).start()
+    while True:
+        frame = batches.get()
+        if frame is None:
+            break
+        lines, done = [], []
+        for task in frame[0]["pages"]:
+            examined = examiner.examine(
+                task["title"],
+                task["stamp"],
+                orders.commands,
+                known_from_json(task["known"]),
+                held_from_json(task["held"]),
+            )
+            if examined.results:
+                lines.append(sink.take(examined, task["revision"]))
+            done.append(examined_as_json(examined))
+        write_frame(sys.stdout.buffer, {"pages": done}, sink.finish(b"".join(lines)))
+    cases.close()
+    return 0
+
+
+if __name__ == "__main__":
+    sys.exit(main())
