@@ -8,8 +8,8 @@ use Rattle.wt_tree.specs.Tree.{Tree, tree, Trees, none, more, label}
 use Rattle.wt_checks.specs.Checked.{checked}
 use Rattle.wt_checks.specs.Kept.{Kept, children, kept_under, IsSublist, own_numbers, ChildrenInOrder}
 use Rattle.wt_checks.specs.Places.{Place, placed, all_placed, places, number, is_kept, is_content, Page, page_of, parent_below}
-use Rattle.wt_checks.specs.PutBack.{IsOneBody, AreAsRead}
-use Rattle.wt_checks.proofs.Children.{Among, StandsIn, all_stand_in}
+use Rattle.wt_checks.specs.PutBack.{IsOneBody, TextsHoldNoNumber}
+use Rattle.wt_checks.proofs.Children.{Among, StandsIn, all_stand_in, free_root}
 use Rattle.wt_checks.proofs.EditedIsPage.{body_is, nodes_of}
 use Rattle.wt_checks.proofs.Found.{PageNodes, found_has}
 use Rattle.wt_checks.proofs.InOrder.{Above, Increasing, Member, Members, sublist_of_members, sublist_increasing, under_increasing, increasing_tail, test_equal, kept_not_zero, not_zero_kept}
@@ -162,7 +162,7 @@ mutual
       each_join (ChildrenInOrder page) (placed parent within t) (all_placed parent within ts) (ordered page parent within t H h i.0 w.0)
       (all_ordered page parent within ts H h i.1 w.1)
 
-pub all_in_order : (values : Bool) (page edited : Tree) → IsOneBody page → InPreorder page → AreAsRead page → checked values page edited ≡ None
+pub all_in_order : (values : Bool) (page edited : Tree) → IsOneBody page → InPreorder page → TextsHoldNoNumber page → checked values page edited ≡ None
     → AllByRecursion (ChildrenInOrder (page_of page)) (places edited)
 all_in_order values page edited b h r e =
     let k : (label page).kind ≡ kind.Body = body_is (label page).kind b.root in
@@ -173,4 +173,4 @@ all_in_order values page edited b h r e =
     let all = grows 0 false page under in
     ordered (page_of page) 0 false edited n.each (λ m q s. (found_has Grows m q (places page) all s).0)
     (grows 0 false edited (λ m. sublist_increasing (kept_under m (places edited)) (kept_under m (places page)) (a.order m) (under m)))
-    (all_stand_in page edited b n (all_page_numbers page k h) inc r a.order)
+    (all_stand_in page edited b.root n.root (all_page_numbers page k h) inc (free_root page b r) a.order)

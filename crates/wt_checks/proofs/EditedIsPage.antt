@@ -14,9 +14,9 @@ use Rattle.wt_checks.specs.Gist.{gist}
 use Rattle.wt_checks.specs.Ids.{is_there, is_unknown}
 use Rattle.wt_checks.specs.Kept.{Kept, GroupAsItWas, NodeAsItWas, NodeKept}
 use Rattle.wt_checks.specs.Places.{Place, places, kind_at, is_kept, is_body, parent_below, Page, page_of}
-use Rattle.wt_checks.specs.PutBack.{original, inside_back, put_back, all_put_back, IsOneBody, AreAsRead, IsThePage}
+use Rattle.wt_checks.specs.PutBack.{original, inside_back, put_back, all_put_back, IsOneBody, TextsHoldNoNumber, AreAsRead, IsThePage}
 use Rattle.wt_checks.specs.Unmarked.{is_compared}
-use Rattle.wt_checks.proofs.Children.{all_stand_in}
+use Rattle.wt_checks.proofs.Children.{all_stand_in, free_root}
 use Rattle.wt_checks.proofs.Given.{HiddenKept, all_given}
 use Rattle.wt_checks.proofs.Found.{PageNodes, page_nodes, body_no_group}
 use Rattle.wt_checks.proofs.InOrder.{Nowhere, none_of_them, not_false, zero_of}
@@ -90,6 +90,17 @@ root_for page u b n r z e =
     for_body (page_of page) (label u) (record { node = page; parent = 0; in_content = false }) r (ap (page_of page) z ∙ n.root) (e ∙ sym z)
     (body_no_group (label page).kind b.root) n.root_found n.known
 
+-- the root of the edited tree has no number
+pub edited_root : (values : Bool) (page edited : Tree) → IsOneBody page → InPreorder page → is_body (label edited).kind ≡ true
+    → checked values page edited ≡ None → (label edited).id ≡ 0
+edited_root values page edited b h r e =
+    let k : (label page).kind ≡ kind.Body = body_is (label page).kind b.root in
+    let a : Kept values page edited = kept values page edited k h e in
+    let n : PageNodes page = nodes_of page b h in
+    let s = all_stay values (page_of page) (places edited) a.groups a.nodes a.marks in
+    let u = none_of_them (places page) (places edited) (increasing page k h) a.order in
+    root_zero values page edited n r (first_place (Stays values (page_of page)) edited s) (root_known (page_of page) edited u.unknown)
+
 pub same_gist : (values : Bool) (page edited : Tree) → IsOneBody page → InPreorder page → is_body (label edited).kind ≡ true
     → checked values page edited ≡ None → gist (put_back values (page_of page) edited) ≡ gist page
 same_gist values page edited b h r e =
@@ -97,9 +108,7 @@ same_gist values page edited b h r e =
     let a : Kept values page edited = kept values page edited k h e in
     let n : PageNodes page = nodes_of page b h in
     let s = all_stay values (page_of page) (places edited) a.groups a.nodes a.marks in
-    let u = none_of_them (places page) (places edited) (increasing page k h) a.order in
-    let z : (label edited).id ≡ 0 = root_zero values page edited n r (first_place (Stays values (page_of page)) edited s)
-    (root_known (page_of page) edited u.unknown) in
+    let z : (label edited).id ≡ 0 = edited_root values page edited b h r e in
     let q : Place = record { node = page; parent = 0; in_content = false } in
     same_node values (page_of page) 0 edited q n.each (root_for page edited b n r z (all_page_numbers page k h).root) s
 
@@ -137,7 +146,7 @@ is_page values page edited b h r e =
       marks = a.marks;
     }
 
-pub page_is : (values : Bool) (page edited : Tree) → IsOneBody page → InPreorder page → AreAsRead page → IsOneBody edited → AreAsRead edited
+pub page_is : (values : Bool) (page edited : Tree) → IsOneBody page → InPreorder page → TextsHoldNoNumber page → IsOneBody edited → AreAsRead edited
     → IsThePage values page edited → checked values page edited ≡ None
 page_is values page edited b h t r d a =
     let k : (label page).kind ≡ kind.Body = body_is (label page).kind b.root in
@@ -146,7 +155,7 @@ page_is values page edited b h t r d a =
     let inc = increasing page k h in
     let z : (label edited).id ≡ 0 = root_number values (page_of page) edited page r.root a.compared ∙ i.root in
     let g = all_given values (page_of page) (places edited) a.groups a.hidden d (edited_free page edited b n i.unnumbered inc a.order)
-    (all_stand_in page edited b n i inc t a.order) (all_distinct edited (none_of_them (places page) (places edited) inc a.order).repeated) in
+    (all_stand_in page edited b.root n.root i inc (free_root page b t) a.order) (all_distinct edited (none_of_them (places page) (places edited) inc a.order).repeated) in
     unrefused values page edited k h (record {
       order = a.order;
       groups = a.groups;

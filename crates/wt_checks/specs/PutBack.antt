@@ -5,7 +5,7 @@ use Rattle.wt_tree.specs.declared.kind.Mark.{Mark}
 use Rattle.wt_tree.specs.declared.kind.Mark.TheVariants as marks
 use Rattle.wt_tree.specs.declared.node.DataMw.{DataMw}
 use Rattle.wt_tree.specs.Kinds.{showing, writing}
-use Rattle.wt_tree.specs.Tiling.{is_group}
+use Rattle.wt_tree.specs.Tiling.{is_group, ids_of_all}
 use Rattle.wt_tree.specs.Tree.{Label, Tree, tree, Trees, none, more, label}
 use Rattle.wt_checks.specs.Gist.{gist}
 use Rattle.wt_checks.specs.Kept.{children, InOrder, GroupKept, NodeKept, MarkKept}
@@ -95,15 +95,19 @@ pub record IsOneBody (t : Tree) : Type 0 where
   pub root : is_body (label t).kind ≡ true
   pub alone : have_body (children t) ≡ false
 
--- A text, and what shows nothing, holds nothing, and a text has no number, as it is in a page's tree and in
--- one that is read from HTML.
+-- No text, and no separator, of a page's tree holds a node with a number.
+abbrev pub TextsHoldNoNumber : Tree → Type 0
+TextsHoldNoNumber page =
+    AllByRecursion (λ p. is_text (writing (kind_at p)) ≡ true → AllByRecursion (λ n. n ≡ 0) (ids_of_all (children p.node))) (places page)
+
+-- A text, and what shows nothing, holds nothing, and a text has no number, as it is where a tree is read from HTML.
 pub record IsAsRead (p : Place) : Type 0 where
   pub hidden : is_compared (showing (kind_at p)) ≡ false → children p.node ≡ none
   pub text : is_text (writing (kind_at p)) ≡ true → children p.node ≡ none
   pub unnumbered : is_text (writing (kind_at p)) ≡ true → number p ≡ 0
 
 abbrev pub AreAsRead : Tree → Type 0
-AreAsRead t = AllByRecursion IsAsRead (places t)
+AreAsRead edited = AllByRecursion IsAsRead (places edited)
 
 -- The edited tree is the page's but for what may differ: with that put back, all that is compared is
 -- the page's. Of what that doesn't see, kept nodes stand in their order, groups are as they were, and so

@@ -17,7 +17,7 @@ ghost use Rattle.wt_checks.specs.FirstRefusal.{IsFirstRefusal};
 ghost use Rattle.wt_checks.specs.Kept.{Kept, ChildrenInOrder};
 ghost use Rattle.wt_checks.specs.Gist.{gist};
 ghost use Rattle.wt_checks.specs.Places.{is_body, places, page_of};
-ghost use Rattle.wt_checks.specs.PutBack.{put_back, IsOneBody, AreAsRead, IsThePage};
+ghost use Rattle.wt_checks.specs.PutBack.{put_back, IsOneBody, TextsHoldNoNumber, AreAsRead, IsThePage};
 ghost use Rattle.wt_tree.specs.Plain.{plain};
 
 /// Nothing is refused exactly where all that isn't marked is kept: under each kept parent the kept
@@ -48,11 +48,11 @@ pub fn edited_is_the_page()
 {}
 
 /// And nothing else is taken. Of a tree whose only body is the root, and in which texts and what shows
-/// nothing hold nothing, as in the page, nothing is refused exactly where with all put back that may
-/// differ it is the page's, kept nodes stand in their order, groups are as they were, and so are, outside
+/// nothing hold nothing, nothing is refused exactly where with all put back that may differ it is the
+/// page's, kept nodes stand in their order, groups are as they were, and so are, outside
 /// marked content, hidden nodes and the kept nodes inside new elements; marks stand where they may.
 pub fn only_the_page_is_taken()
-    ensures { (values : Bool) (page edited : Tree) → IsOneBody page → InPreorder page → AreAsRead page
+    ensures { (values : Bool) (page edited : Tree) → IsOneBody page → InPreorder page → TextsHoldNoNumber page
         → IsOneBody edited → AreAsRead edited
         → (checked values page edited ≡ None) ↔ IsThePage values page edited }
 {}
@@ -60,7 +60,7 @@ pub fn only_the_page_is_taken()
 /// Where nothing is refused, the numbered nodes that a node holds itself are some of those that it holds
 /// in the page, in their order: under a mark `children` none is exchanged, and none comes from elsewhere.
 pub fn children_in_order()
-    ensures { (values : Bool) (page edited : Tree) → IsOneBody page → InPreorder page → AreAsRead page
+    ensures { (values : Bool) (page edited : Tree) → IsOneBody page → InPreorder page → TextsHoldNoNumber page
         → checked values page edited ≡ None → AllByRecursion (ChildrenInOrder (page_of page)) (places edited) }
 {}
 

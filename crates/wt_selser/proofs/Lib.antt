@@ -12,3 +12,5 @@ pub mod StepWalk
 pub mod Answering
 pub mod GroupFaultLaws
 pub mod NoGroups
+pub mod StepsApart
+pub mod Bodies

@@ -35,24 +35,24 @@ abbrev pub HasInside : Option Ranges → Type 0
 HasInside None = ⊥
 HasInside (Some r) = r.start + r.open_w + r.close_w ≤ r.end
 
-abbrev inside_start : Option Ranges → ℕ
+abbrev pub inside_start : Option Ranges → ℕ
 inside_start None = 0
 inside_start (Some r) = r.start + r.open_w
 
-abbrev inside_end : Option Ranges → ℕ
+abbrev pub inside_end : Option Ranges → ℕ
 inside_end None = 0
 inside_end (Some r) = r.end - r.close_w
 
 -- ---- what tiling says of one node
 
-record Tiles (leaf : Bool) (r : Option Ranges) (inside : ℕ → ℕ → Type 0) : Type 0 where
-  grows : start_of r ≤ end_of r
-  has : leaf ≡ false → HasInside r
-  held : leaf ≡ false → inside (inside_start r) (inside_end r)
-  low : leaf ≡ false → start_of r ≤ inside_start r
-  high : leaf ≡ false → inside_end r ≤ end_of r
+pub record Tiles (leaf : Bool) (r : Option Ranges) (inside : ℕ → ℕ → Type 0) : Type 0 where
+  pub grows : start_of r ≤ end_of r
+  pub has : leaf ≡ false → HasInside r
+  pub held : leaf ≡ false → inside (inside_start r) (inside_end r)
+  pub low : leaf ≡ false → start_of r ≤ inside_start r
+  pub high : leaf ≡ false → inside_end r ≤ end_of r
 
-tiles : (leaf : Bool) (r : Option Ranges) (inside : ℕ → ℕ → Type 0) → TiledBy leaf r inside → Tiles leaf r inside
+pub tiles : (leaf : Bool) (r : Option Ranges) (inside : ℕ → ℕ → Type 0) → TiledBy leaf r inside → Tiles leaf r inside
 tiles leaf None inside h = absurd h
 tiles true (Some r) inside h = record { grows = h; has = λ e. absurd (cc); held = λ e. absurd (cc); low = λ e. absurd (cc); high = λ e. absurd (cc) }
 tiles false (Some r) inside h = record {
@@ -63,14 +63,14 @@ tiles false (Some r) inside h = record {
   high = λ e. omega arith;
 }
 
-begins : (from : ℕ) (r : Option Ranges) → BeginsAt from r → start_of r ≡ from
+pub begins : (from : ℕ) (r : Option Ranges) → BeginsAt from r → start_of r ≡ from
 begins from None h = absurd h
 begins from (Some r) h = h
 
-tree_grows : (t : Tree) → Tiled t → start_of (label t).ranges ≤ end_of (label t).ranges
+pub tree_grows : (t : Tree) → Tiled t → start_of (label t).ranges ≤ end_of (label t).ranges
 tree_grows (tree l ts) h = (tiles (is_leaf l.kind) l.ranges (λ from to. TiledFrom ts from to) h).grows
 
-trees_grow : (ts : Trees) (from to : ℕ) → TiledFrom ts from to → from ≤ to
+pub trees_grow : (ts : Trees) (from to : ℕ) → TiledFrom ts from to → from ≤ to
 trees_grow none from to h = omega (arith, h)
 trees_grow (more t ts) from to h =
     let b = begins from (label t).ranges h.0 in
@@ -84,7 +84,7 @@ mutual
   none_kept : (P : Place → Type 0) (m : ℕ) (w : Bool) (t : Tree) → AllZero (ids t) → AllByRecursion (λ q. is_kept q ≡ true → P q) (placed m w t)
   none_kept P m w (tree l ts) z = (λ k. absurd (kept_not_zero l.id k z.0), all_none_kept P (parent_below m l.id) (w || is_content l.mark) ts z.1)
 
-  all_none_kept : (P : Place → Type 0) (m : ℕ) (w : Bool) (ts : Trees) → AllZero (ids_of_all ts)
+  pub all_none_kept : (P : Place → Type 0) (m : ℕ) (w : Bool) (ts : Trees) → AllZero (ids_of_all ts)
       → AllByRecursion (λ q. is_kept q ≡ true → P q) (all_placed m w ts)
   all_none_kept P m w none z = tt
   all_none_kept P m w (more t ts) z =

@@ -1,15 +1,16 @@
 //! Laws of the new page, which do nothing when they are called.
 
-ghost use Rattle.std.specs.Prelude.{◌≡◌, ◌≤◌, ℕ, Bool, List, [], length, None, Ok, false};
+ghost use Rattle.std.specs.Prelude.{◌≡◌, ◌≤◌, ℕ, Bool, List, [], length, None, Ok, true, false};
 ghost use Rattle.wt_checks.specs.Checked.{checked};
 ghost use Rattle.wt_span.specs.Origins.{Expanded};
 ghost use Rattle.wt_tree.specs.Tiling.{Covers, InPreorder, NoneIsGroup, Tiled};
 ghost use Rattle.wt_tree.specs.Tree.{Label, Tree, Trees, label, tree};
 ghost use Rattle.wt_tree.specs.declared.kind.Kind.TheVariants as kind;
 ghost use Rattle.wt_checks.specs.Groups.{has_mark};
+ghost use Rattle.wt_checks.specs.Places.{is_body};
 ghost use Rattle.wt_selser.specs.BodySlices.{slices};
 ghost use Rattle.wt_selser.specs.Edits.{edit_answer, is_tangled, most_bytes};
-ghost use Rattle.wt_selser.specs.Leaves.{LeavesHoldNoNumber};
+ghost use Rattle.wt_selser.specs.Leaves.{LeavesHoldNoNumber, HoldsNoBody};
 ghost use Rattle.wt_tangled.specs.OpenTags.{before, touches_open_tag};
 ghost use Rattle.wt_selser.specs.Splice.{Change, spliced, AreApart, OutsideStands};
 ghost use Rattle.wt_tangled.specs.TextCalls.{touches_text_call};
@@ -32,11 +33,12 @@ pub fn nothing_changes()
 /// node stands in another one. So every byte of the page outside the insides of the marked nodes stands in
 /// the new page, in its order.
 pub fn edit_is_a_splice()
-    ensures apart { (same : Tree → Tree → Bool) (page : List ℕ) (tree edited : Tree) → (label tree).kind ≡ kind.Body → InPreorder tree → Tiled tree
-        → Covers (length page) tree → LeavesHoldNoNumber tree → checked false tree edited ≡ None
+    ensures apart { (same : Tree → Tree → Bool) (page : List ℕ) (tree edited : Tree) → (label tree).kind ≡ kind.Body → HoldsNoBody tree → InPreorder tree → Tiled tree
+        → Covers (length page) tree → LeavesHoldNoNumber tree → is_body (label edited).kind ≡ true → checked false tree edited ≡ None
         → AreApart 0 (slices same tree edited) (length page) }
     ensures stands { (same : Tree → Tree → Bool) (items : Expanded) (page new : List ℕ) (tree edited : Tree) → (label tree).kind ≡ kind.Body
-        → InPreorder tree → Tiled tree → Covers (length page) tree → LeavesHoldNoNumber tree → edit_answer same items page tree edited ≡ Ok new
+        → HoldsNoBody tree → InPreorder tree → Tiled tree → Covers (length page) tree → LeavesHoldNoNumber tree
+        → is_body (label edited).kind ≡ true → edit_answer same items page tree edited ≡ Ok new
         → OutsideStands page new (slices same tree edited) }
 {}
 
