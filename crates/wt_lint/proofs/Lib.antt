@@ -1,5 +1,6 @@
 mod Cases
 pub mod InOrder
+pub mod InPage
 pub mod LineLaws
 pub mod LinesBack
 pub mod Noting

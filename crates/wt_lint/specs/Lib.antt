@@ -13,3 +13,4 @@ pub mod Search
 pub mod Tags
 pub mod Texts
 pub mod Titles
+pub mod Within
