@@ -14,7 +14,7 @@ use Rattle.wt_lint.specs.declared.finding.Kind.TheVariants as kind
 use Rattle.wt_lint.specs.declared.place.Place.{Place}
 use Rattle.wt_lint.specs.declared.place.Sort.{Sort}
 use Rattle.wt_lint.specs.Findings.{all_found, at_range, at_ranges, found, found_from, stray_ends, titles_after, whole}
-use Rattle.wt_lint.specs.Found.{Span, as_all}
+use Rattle.wt_lint.specs.Found.{Span, Found, as_all}
 use Rattle.wt_lint.specs.Kinds.{kinds}
 use Rattle.wt_lint.specs.Nodes.{Stand, below, nodes, nodes_in_all, sort_of, start_of, top}
 use Rattle.wt_lint.specs.Texts.{when, run_at, runs, pairs, ends_table, end_at, stands_first, table_ends}
@@ -23,7 +23,7 @@ use Rattle.wt_lint.proofs.LineLaws.{prefix_few}
 
 -- ---- lists
 
-join : {X : Type 0} (P : X → Type 0) (xs ys : List X) → AllByRecursion P xs → AllByRecursion P ys → AllByRecursion P (xs ++ ys)
+pub join : {X : Type 0} (P : X → Type 0) (xs ys : List X) → AllByRecursion P xs → AllByRecursion P ys → AllByRecursion P (xs ++ ys)
 join P [] ys h k = k
 join P (x ∷ xs) ys h k = (h.0, join P xs ys h.1 k)
 
@@ -35,11 +35,11 @@ back : {X : Type 0} (P : X → Type 0) (xs ys : List X) → AllByRecursion P (xs
 back P [] ys h = h
 back P (x ∷ xs) ys h = back P xs ys h.1
 
-join_all : {X Y : Type 0} (P : Y → Type 0) (f : X → List Y) (xs : List X) → ((x : X) → AllByRecursion P (f x)) → AllByRecursion P (flat_map f xs)
+pub join_all : {X Y : Type 0} (P : Y → Type 0) (f : X → List Y) (xs : List X) → ((x : X) → AllByRecursion P (f x)) → AllByRecursion P (flat_map f xs)
 join_all P f [] h = tt
 join_all P f (x ∷ xs) h = join P (f x) (flat_map f xs) (h x) (join_all P f xs h)
 
-held_when : (size : ℕ) (v : Bool) (spans : List Span) → (v ≡ true → AllByRecursion (IsRange size) spans) → AllByRecursion (IsRange size) (when v spans)
+pub held_when : (size : ℕ) (v : Bool) (spans : List Span) → (v ≡ true → AllByRecursion (IsRange size) spans) → AllByRecursion (IsRange size) (when v spans)
 held_when size true spans h = h refl
 held_when size false spans h = tt
 
@@ -72,7 +72,7 @@ pairs_lie size byte at (b ∷ c ∷ bs) h =
     by true k l = ((omega arith, omega (arith, h)), k)
     by false k l = l
 
-two_long : (bs : List ℕ) → ends_table bs ≡ true → 2 ≤ length bs
+pub two_long : (bs : List ℕ) → ends_table bs ≡ true → 2 ≤ length bs
 two_long [] e = cc
 two_long (b ∷ []) e = absurd (not_one (b == 124) e)
   where
@@ -81,7 +81,7 @@ two_long (b ∷ []) e = absurd (not_one (b == 124) e)
     not_one false e = cc
 two_long (b ∷ c ∷ bs) e = omega arith
 
-first_of : (v w : Bool) → (v && w) ≡ true → v ≡ true
+pub first_of : (v w : Bool) → (v && w) ≡ true → v ≡ true
 first_of true w e = refl
 first_of false w e = e
 
@@ -96,7 +96,7 @@ ends_lie size page from at (b ∷ bs) h =
 -- ---- a node
 
 -- a range of the page
-abbrev IsOf : List ℕ → Ranges → Type 0
+abbrev pub IsOf : List ℕ → Ranges → Type 0
 IsOf page r = (r.start ≤ r.end) × (r.end ≤ length page)
 
 text_size : (page : List ℕ) (r : Ranges) → IsOf page r → r.start + length (slice page r.start r.end) ≤ length page
@@ -139,40 +139,51 @@ at_range_lie page titles p l r h =
     join_all (LiesIn page) (λ k. as_all k (found page titles p (sort_of l.kind) l r k)) kinds
     (λ k. as_all_lie page k (found page titles p (sort_of l.kind) l r k) (found_lie page titles p (sort_of l.kind) l r k h))
 
-at_node_lie : (page : List ℕ) (titles : List (List ℕ)) (p : Place) (l : Label) (o : Option Ranges) (source opening closing : List ℕ)
-    → StandsIn page o source opening closing → AllByRecursion (LiesIn page) (at_ranges page titles p l o)
-at_node_lie page titles p l None source opening closing h = tt
-at_node_lie page titles p l (Some r) source opening closing h = at_range_lie page titles p l r (h.ordered, h.within)
-
 -- ---- all nodes
 
--- whatever is found at a node lies in the page
-abbrev Lies : List ℕ → Stand → Type 0
-Lies page (p, l) = (titles : List (List ℕ)) → AllByRecursion (LiesIn page) (at_ranges page titles p l l.ranges)
+-- what holds of all that is found at a node whose range lies in the page
+abbrev pub Here : (Found → Type 0) → List ℕ → Type 0
+Here P page = (titles : List (List ℕ)) (p : Place) (l : Label) (r : Ranges) → IsOf page r → AllByRecursion P (at_range page titles p l r)
+
+at_node : (P : Found → Type 0) (page : List ℕ) → Here P page → (titles : List (List ℕ)) (p : Place) (l : Label) (o : Option Ranges)
+    (source opening closing : List ℕ) → StandsIn page o source opening closing → AllByRecursion P (at_ranges page titles p l o)
+at_node P page here titles p l None source opening closing h = tt
+at_node P page here titles p l (Some r) source opening closing h = here titles p l r (h.ordered, h.within)
+
+-- it holds at a node, whatever stands before it
+abbrev Holds : (Found → Type 0) → List ℕ → Stand → Type 0
+Holds P page (p, l) = (titles : List (List ℕ)) → AllByRecursion P (at_ranges page titles p l l.ranges)
 
 mutual
-  nodes_lie : (page : List ℕ) (p : Place) (t : Tree) → AllByRecursion (IsSlice page) (reached t) → AllByRecursion (Lies page) (nodes p t)
-  nodes_lie page p (tree l ts) h = (
-    (λ titles. at_node_lie page titles p l l.ranges (flat (tree l ts)) (opening_of l) l.closing h.0),
-    inside (is_group l.kind) (λ k. all_lie page (below p (sort_of l.kind) (start_of l.ranges)) ts k) h.1,
+  at_tree : (P : Found → Type 0) (page : List ℕ) → Here P page → (p : Place) (t : Tree) → AllByRecursion (IsSlice page) (reached t)
+      → AllByRecursion (Holds P page) (nodes p t)
+  at_tree P page here p (tree l ts) h = (
+    (λ titles. at_node P page here titles p l l.ranges (flat (tree l ts)) (opening_of l) l.closing h.0),
+    inside (is_group l.kind) (λ k. at_trees P page here (below p (sort_of l.kind) (start_of l.ranges)) ts k) h.1,
   )
     where
-      inside : (v : Bool) → (AllByRecursion (IsSlice page) (reached_in_all ts) → AllByRecursion (Lies page) (nodes_in_all (below p (sort_of l.kind) (start_of l.ranges)) ts))
+      inside : (v : Bool) → (AllByRecursion (IsSlice page) (reached_in_all ts) → AllByRecursion (Holds P page) (nodes_in_all (below p (sort_of l.kind) (start_of l.ranges)) ts))
           → AllByRecursion (IsSlice page) (if v then [] else reached_in_all ts)
-          → AllByRecursion (Lies page) (if v then [] else nodes_in_all (below p (sort_of l.kind) (start_of l.ranges)) ts)
+          → AllByRecursion (Holds P page) (if v then [] else nodes_in_all (below p (sort_of l.kind) (start_of l.ranges)) ts)
       inside true f h = tt
       inside false f h = f h
 
-  all_lie : (page : List ℕ) (p : Place) (ts : Trees) → AllByRecursion (IsSlice page) (reached_in_all ts) → AllByRecursion (Lies page) (nodes_in_all p ts)
-  all_lie page p none h = tt
-  all_lie page p (more t ts) h =
-      join (Lies page) (nodes p t) (nodes_in_all p ts) (nodes_lie page p t (front (IsSlice page) (reached t) (reached_in_all ts) h))
-      (all_lie page p ts (back (IsSlice page) (reached t) (reached_in_all ts) h))
+  at_trees : (P : Found → Type 0) (page : List ℕ) → Here P page → (p : Place) (ts : Trees) → AllByRecursion (IsSlice page) (reached_in_all ts)
+      → AllByRecursion (Holds P page) (nodes_in_all p ts)
+  at_trees P page here p none h = tt
+  at_trees P page here p (more t ts) h =
+      join (Holds P page) (nodes p t) (nodes_in_all p ts) (at_tree P page here p t (front (IsSlice page) (reached t) (reached_in_all ts) h))
+      (at_trees P page here p ts (back (IsSlice page) (reached t) (reached_in_all ts) h))
 
-from_lie : (page : List ℕ) (titles : List (List ℕ)) (ns : List Stand) → AllByRecursion (Lies page) ns → AllByRecursion (LiesIn page) (found_from page titles ns)
-from_lie page titles [] h = tt
-from_lie page titles ((p, l) ∷ ns) h =
-    join (LiesIn page) (at_ranges page titles p l l.ranges) (found_from page (titles_after l titles) ns) (h.0 titles) (from_lie page (titles_after l titles) ns h.1)
+from_nodes : (P : Found → Type 0) (page : List ℕ) (titles : List (List ℕ)) (ns : List Stand) → AllByRecursion (Holds P page) ns
+    → AllByRecursion P (found_from page titles ns)
+from_nodes P page titles [] h = tt
+from_nodes P page titles ((p, l) ∷ ns) h =
+    join P (at_ranges page titles p l l.ranges) (found_from page (titles_after l titles) ns) (h.0 titles)
+    (from_nodes P page (titles_after l titles) ns h.1)
+
+pub holds_of_all : (P : Found → Type 0) (page : List ℕ) → Here P page → (t : Tree) → AreReachedSlices page t → AllByRecursion P (all_found page t)
+holds_of_all P page here t h = from_nodes P page [] (nodes top t) (at_tree P page here top t h)
 
 pub found_lie_in : (page : List ℕ) (t : Tree) → AreReachedSlices page t → AllByRecursion (LiesIn page) (all_found page t)
-found_lie_in page t h = from_lie page [] (nodes top t) (nodes_lie page top t h)
+found_lie_in page t h = holds_of_all (LiesIn page) page (at_range_lie page) t h

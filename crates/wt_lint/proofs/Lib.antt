@@ -5,5 +5,6 @@ pub mod LineLaws
 pub mod LinesBack
 pub mod Noting
 pub mod Orders
+pub mod Shaped
 pub mod TextTurns
 pub mod Walking

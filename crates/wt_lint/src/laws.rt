@@ -6,6 +6,7 @@ ghost use Rattle.wt_tree.specs.Tree.{Tree};
 ghost use Rattle.wt_lint.specs.Counting.{CountsBack};
 ghost use Rattle.wt_lint.specs.Findings.{all_found, in_order, order_of};
 ghost use Rattle.wt_lint.specs.Found.{Found};
+ghost use Rattle.wt_lint.specs.Shapes.{IsShaped};
 ghost use Rattle.wt_lint.specs.Within.{LiesIn};
 
 /// What is put in order is so: each stands before those behind it, by its start, its end and its kind, so
@@ -15,9 +16,12 @@ pub fn each_once_in_order()
     ensures same { (test : Found → Bool) → (fs : List Found) → list_any test (in_order fs) ≡ list_any test fs }
 {}
 
-/// All that is found in the tree of a page lies in the page: its range is a slice of it.
+/// All that is found in the tree of a page lies in the page: its range is a slice of it, and what stands there
+/// is, by the kind, a run of braces, two brackets, the end of a table, or a tag.
 pub fn findings_lie_in_the_page()
-    ensures { (page : List ℕ) → (t : Tree) → AreReachedSlices page t
+    ensures shape { (page : List ℕ) → (t : Tree) → AreReachedSlices page t
+        → AllByRecursion (IsShaped page) (all_found page t) }
+    ensures slices { (page : List ℕ) → (t : Tree) → AreReachedSlices page t
         → AllByRecursion (LiesIn page) (all_found page t) }
 {}
 
