@@ -13,11 +13,12 @@ ghost use Rattle.wt_lint.specs.Within.{LiesIn};
 /// none stands twice; and it is the same: a test passes one of these exactly where it passes one of those.
 pub fn each_once_in_order()
     ensures ordered { (fs : List Found) → IsStrictlySortedBy order_of (in_order fs) }
-    ensures same { (test : Found → Bool) → (fs : List Found) → list_any test (in_order fs) ≡ list_any test fs }
+    ensures same { (test : Found → Bool) → (fs : List Found)
+        → list_any test (in_order fs) ≡ list_any test fs }
 {}
 
-/// All that is found in the tree of a page lies in the page: its range is a slice of it, and what stands there
-/// is, by the kind, a run of braces, two brackets, the end of a table, or a tag.
+/// All that is found in the tree of a page lies in the page: its range is a slice of it, and what stands
+/// there is, by the kind, a run of braces, two brackets, the end of a table, or a tag.
 pub fn findings_lie_in_the_page()
     ensures shape { (page : List ℕ) → (t : Tree) → AreReachedSlices page t
         → AllByRecursion (IsShaped page) (all_found page t) }
@@ -25,8 +26,8 @@ pub fn findings_lie_in_the_page()
         → AllByRecursion (LiesIn page) (all_found page t) }
 {}
 
-/// The line and the column of a place lead back to it: before it stand whole lines, one fewer than the number
-/// of its line, and behind these, on its own, a byte fewer than the number of its column.
+/// The line and the column of a place lead back to it: before it stand whole lines, one fewer than the
+/// number of its line, and behind these, on its own, a byte fewer than the number of its column.
 pub fn line_counts_back()
     ensures { (page : List ℕ) → (at : ℕ) → CountsBack page at }
 {}

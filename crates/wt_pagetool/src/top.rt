@@ -72,12 +72,12 @@ fn find_answer<S: Source, F: Folder>(
 /// `html TITLE` writes to `out` the HTML of the page that stands in `folder` under the title, with its
 /// templates expanded, whose pages stand in `folder`, too, and `ranges TITLE` a line for each of its nodes
 /// that has a number: `mwN KIND START END OPEN CLOSE`, in bytes, and `lint TITLE` a line for each doubtful
-/// place: `KIND LINE COLUMN START END`. `expand TITLE` writes the items of the expanded page. `gen N` makes a page of N sections and its HTML, reads this back and writes what it
-/// counted. `wikitext` reads the HTML of `input` to its end and writes to `out` the source of the page
-/// for which it stands. `edit TITLE` reads the HTML of `input`, in which some elements of the page's HTML are
-/// marked as edited, and writes the new page, in which the inside of each of them, and nothing else, is
-/// written anew. Nothing goes to `out` before the whole answer is known, and each refusal has its one line
-/// on `err`.
+/// place: `KIND LINE COLUMN START END`. `expand TITLE` writes the items of the expanded page. `gen N`
+/// makes a page of N sections and its HTML, reads this back and writes what it counted. `wikitext` reads
+/// the HTML of `input` to its end and writes to `out` the source of the page for which it stands. `edit
+/// TITLE` reads the HTML of `input`, in which some elements of the page's HTML are marked as edited, and
+/// writes the new page, in which the inside of each of them, and nothing else, is written anew. Nothing
+/// goes to `out` before the whole answer is known, and each refusal has its one line on `err`.
 ///
 /// A title stands here for its full name. What is said of a device's pages or bytes holds where the device
 /// tells them (`IfSome`), as those in memory do; the directory and the standard streams of the program tell
@@ -202,8 +202,8 @@ pub fn run<S: Source, F: Folder, W: Sink, E: Sink>(
     ensures waits { (title : List ℕ) → command_of words.now ≡ Some (Command.Edit title)
         → IfSome (F.pages folder.old) (λ pages. IsNoText (pages title) → input.new ≡ input.old) }
 
-    // A command that doesn't read (`html`, `ranges`, `expand`, `gen`, `lint`) leaves the input as it was, and one
-    // that doesn't fetch (`wikitext`, `gen`) the folder; words that are no command leave both.
+    // A command that doesn't read (`html`, `ranges`, `expand`, `gen`, `lint`) leaves the input as it was, and
+    // one that doesn't fetch (`wikitext`, `gen`) the folder; words that are no command leave both.
     ensures unread { ¬ Reads (command_of words.now) → input.new ≡ input.old }
     ensures unasked { ¬ Fetches (command_of words.now) → folder.new ≡ folder.old }
 {
