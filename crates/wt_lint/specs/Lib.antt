@@ -10,6 +10,8 @@ pub mod Nodes
 pub mod Report
 pub mod Parts
 pub mod Search
+pub mod Shapes
 pub mod Tags
 pub mod Texts
 pub mod Titles
+pub mod Within

@@ -67,8 +67,8 @@ impl Cursor {
         cursor
     }
 
-    /// A place, which counts as the end of the page where it stands behind it. It is counted on from this one, or
-    /// from the start where it stands before this one.
+    /// A place, which counts as the end of the page where it stands behind it. It is counted on from this
+    /// one, or from the start where it stands before this one.
     pub fn moved(self, page: &[u8], place: u32) -> Cursor
         requires room { length page.now ≤ PAGE_BYTES }
         requires is { IsAt page.now self.at self }

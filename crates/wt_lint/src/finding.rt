@@ -3,8 +3,8 @@ ghost use Rattle.wt_lint.specs.Kinds.{word};
 
 use wt_span::Range;
 
-/// What is doubtful. What each kind is exactly found for, and with which range, is the definition `found` in
-/// `specs/Findings.antt`, and with an example `docs/profile.md`.
+/// What is doubtful. What each kind is exactly found for, and with which range, is the definition `found`
+/// in `specs/Findings.antt`, and with an example `docs/profile.md`.
 #[derive(Clone, Copy, Debug, PartialEq, Eq, PartialOrd, Ord)]
 pub enum Kind {
     /// Bold or italic text that no apostrophes close, or that holds nothing.
@@ -53,8 +53,8 @@ impl Kind {
     }
 }
 
-/// A doubtful place of a page: what it is, its range in bytes, and where that begins, by its line and the byte
-/// of that line, both counted from 1.
+/// A doubtful place of a page: what it is, its range in bytes, and where that begins, by its line and the
+/// byte of that line, both counted from 1.
 #[derive(Clone, Copy, Debug)]
 pub struct Finding {
     pub kind: Kind,

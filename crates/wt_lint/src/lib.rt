@@ -22,6 +22,6 @@ mod titles;
 mod walk;
 
 pub use finding::{Finding, Kind};
-pub use laws::{each_once_in_order, line_counts_back};
+pub use laws::{each_once_in_order, findings_lie_in_the_page, line_counts_back};
 pub use order::lint;
 pub use report::finding_lines;

@@ -52,7 +52,8 @@ fn push_signs(
 ) -> Result<(), NoMemory>
     requires within { range.end ≤ length page.now }
     requires ordered { range.start ≤ range.end }
-    ensures { OnOk result (each found.new.items ≡ each found.old.items ++ sign_findings page.now in_nowiki range) }
+    ensures { OnOk result (each found.new.items ≡ each found.old.items
+        ++ sign_findings page.now in_nowiki range) }
 {
     if in_nowiki {
         return Ok(());

@@ -67,12 +67,12 @@ fn with_lines(alloc: Global, page: &[u8], spots: BTreeSet<Spot>) -> Result<List<
     Ok(findings)
 }
 
-/// The doubtful places of a page, by its tree: exactly those that `specs/Findings.antt` defines, each once, in
-/// the order of their starts, then of their ends, then of their kinds as `Kind` lists them. What a template
-/// gives isn't looked at.
+/// The doubtful places of a page, by its tree: exactly those that `specs/Findings.antt` defines, each
+/// once, in the order of their starts, then of their ends, then of their kinds as `Kind` lists them. What
+/// a template gives isn't looked at.
 ///
-/// `tree` has to be a tree of `page`, which has at most `PAGE_BYTES` bytes: the range of each node but those in
-/// groups is a slice of it.
+/// `tree` has to be a tree of `page`, which has at most `PAGE_BYTES` bytes: the range of each node but
+/// those in groups is a slice of it.
 pub fn lint(alloc: Global, page: &str, tree: &Annotated<'_>) -> Result<List<Finding>, NoMemory>
     requires room { length page.now ≤ PAGE_BYTES }
     requires slices { AreReachedSlices page.now (view tree.now.body) }

@@ -46,8 +46,8 @@ pub fn sort_of(kind: Kind) -> Sort
     }
 }
 
-/// Whether a node stands in a table or in a `nowiki`, and, of what stands directly in a paragraph that is in no
-/// table, where the paragraph begins.
+/// Whether a node stands in a table or in a `nowiki`, and, of what stands directly in a paragraph that is
+/// in no table, where the paragraph begins.
 #[derive(Clone, Copy, Debug)]
 pub struct Place {
     pub in_table: bool,

@@ -26,7 +26,8 @@ pub fn push_whole(
     range: Ranges,
 ) -> Result<(), NoMemory>
     requires { range.start ≤ range.end }
-    ensures { OnOk result (each found.new.items ≡ each found.old.items ++ as_all kind (whole is_found range)) }
+    ensures { OnOk result (each found.new.items ≡ each found.old.items
+        ++ as_all kind (whole is_found range)) }
 {
     if is_found {
         push_spot(found, kind, range.start, range.end)?;

@@ -32,8 +32,8 @@ fn push_line(out: &mut Vec<u8>, finding: Finding) -> Result<(), NoMemory>
     Ok(())
 }
 
-/// The lines of findings: for each `KIND LINE COLUMN START END` and a line break. The numbers are decimal, places
-/// are bytes.
+/// The lines of findings: for each `KIND LINE COLUMN START END` and a line break. The numbers are decimal,
+/// places are bytes.
 pub fn finding_lines(alloc: Global, findings: &[Finding]) -> Result<List<u8>, NoMemory>
     ensures { IfOk result (λ bytes. bytes ≡ finding_lines (map as_located findings.now)) }
 {

@@ -6,7 +6,6 @@ ghost use Rattle.std.specs.List.{prefix_len};
 ghost use Rattle.wt_span.specs.Bytes.{lower};
 ghost use Rattle.wt_lint.specs.Tags.{name_at, is_paired_name, closes_itself, is_open_tag, is_closing_tag};
 
-use crate::bytes::byte_at;
 use wt_lex::is_same_name;
 use wt_span::{front_of, rest_of};
 

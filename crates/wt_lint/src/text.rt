@@ -1,9 +1,11 @@
 //! What is doubtful in a text.
 
-ghost use Rattle.std.specs.Prelude.{◌≡◌, ◌≤◌, ◌<◌, ◌^◌, ◌+◌, ◌-◌, ◌++◌, ◌&&◌, [], ◌∷◌, true, false, not, length, IfOk, OnOk};
+ghost use Rattle.std.specs.Prelude.{◌≡◌, ◌≤◌, ◌<◌, ◌^◌, ◌+◌, ◌-◌, ◌++◌, ◌&&◌, [], ◌∷◌};
+ghost use Rattle.std.specs.Prelude.{true, false, not, length, IfOk, OnOk};
 ghost use Rattle.wt_lint.specs.declared.finding.Kind.TheVariants as kind;
 ghost use Rattle.wt_lint.specs.Found.{each, as_all};
-ghost use Rattle.wt_lint.specs.Texts.{end_at, when, run_at, runs, pairs, ends_table, table_ends, is_front, stands_first};
+ghost use Rattle.wt_lint.specs.Texts.{end_at, ends_table, is_front, pairs, run_at, runs};
+ghost use Rattle.wt_lint.specs.Texts.{stands_first, table_ends, when};
 
 use crate::bytes::{blanks_behind, byte_at, run_len, slice};
 use crate::finding::Kind;
@@ -20,7 +22,8 @@ fn push_run(
     bytes: &[u8],
 ) -> Result<(), NoMemory>
     requires { start + length bytes.now < 2 ^ 32 }
-    ensures { OnOk result (each found.new.items ≡ each found.old.items ++ as_all kind (run_at byte start bytes.now)) }
+    ensures { OnOk result (each found.new.items ≡ each found.old.items
+        ++ as_all kind (run_at byte start bytes.now)) }
 {
     let count = run_len(byte, bytes);
     if count > 1 {
@@ -38,7 +41,8 @@ pub fn push_runs(
     bytes: &[u8],
 ) -> Result<(), NoMemory>
     requires { start + length bytes.now < 2 ^ 32 }
-    ensures { OnOk result (each found.new.items ≡ each found.old.items ++ as_all kind (runs byte start false bytes.now)) }
+    ensures { OnOk result (each found.new.items ≡ each found.old.items
+        ++ as_all kind (runs byte start false bytes.now)) }
 {
     let mut behind = false;
     for at in 0..bytes.len() {
@@ -83,7 +87,8 @@ pub fn push_pairs(
     bytes: &[u8],
 ) -> Result<(), NoMemory>
     requires { start + length bytes.now < 2 ^ 32 }
-    ensures { OnOk result (each found.new.items ≡ each found.old.items ++ as_all kind (pairs byte start bytes.now)) }
+    ensures { OnOk result (each found.new.items ≡ each found.old.items
+        ++ as_all kind (pairs byte start bytes.now)) }
 {
     let mut held = false;
     for at in 0..bytes.len() {
