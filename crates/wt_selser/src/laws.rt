@@ -30,10 +30,10 @@ pub fn nothing_changes()
     ensures { (page : List ℕ) → spliced page [] ≡ page }
 {}
 
-/// The slices of an edit stand in the page one after the other, where the page's tree tiles it and has its
-/// numbers in preorder, and the checks refuse nothing: kept nodes stand in the page's order, and no marked
-/// node stands in another one. So every byte of the page outside these slices stands in the new page, in its
-/// order.
+/// The slices of an edit (the insides of nodes marked `content`, the ranges of missing children with their
+/// separators, and the empty places of new ones) stand in the page one after the other, where the page's
+/// tree tiles it, has its numbers in preorder and holds no body in its body, and the checks refuse nothing.
+/// So every byte of the page outside them stands in the new page, in its order.
 pub fn edit_is_a_splice()
     ensures apart { (same : Tree → Tree → Bool) (page : List ℕ) (tree edited : Tree) → (label tree).kind ≡ kind.Body → HoldsNoBody tree → InPreorder tree → Tiled tree
         → Covers (length page) tree → LeavesHoldNoNumber tree → is_body (label edited).kind ≡ true → checked false tree edited ≡ None
