@@ -121,13 +121,14 @@ pub record WroteSource (input : List ℕ) (left old new : Option (List ℕ)) : T
   pub ended : IsAtEnd left
   pub wrote : Appends old new (flat tree)
 
--- The new page of an edit: the page with the inside of each marked node, and nothing else, replaced by its spelling.
+-- The new page of an edit: the page with its slices, and nothing else, replaced: the insides of nodes marked `content`, what goes and
+-- what comes among children.
 abbrev pub new_page : Pages → List ℕ → Tree → List ℕ
 new_page pages page edited = spliced page (slices same_node (page_tree pages page) edited)
 
 -- A page stands under the title whose expansion nothing refuses, and the whole input for an edited tree that differs from the
--- page's only where it may; nothing refuses the edit, and `out` took the new page, in which all that stands outside the insides
--- of the marked nodes stands as in the page, byte for byte and in its order. Nothing refuses the new page or its expansion, and
+-- page's only where it may; nothing refuses the edit, and `out` took the new page, in which all that stands outside these
+-- slices stands as in the page, byte for byte and in its order. Nothing refuses the new page or its expansion, and
 -- the plain view of its tree is that of the edited tree, in which a kept group is what the page's group of its number holds.
 pub record WroteEdit (pages : Pages) (title input : List ℕ) (left old new : Option (List ℕ)) : Type 0 where
   pub page : List ℕ

@@ -1,4 +1,5 @@
--- The slices of an edit stand in the page one after the other: kept nodes stand in the page's order, and no marked node in another one.
+-- The slices of an edit stand in the page one after the other: kept nodes stand in the page's order, and no node marked `content` in another
+-- one.
 use Rattle.std.proofs.Common.{arith, ◌≡◌, ◌≢◌, ℕ, ◌-◌, ◌≤◌, ◌<◌, Bool, true, false, List, [], ◌∷◌, ◌++◌, length, map, refl, sym, ap, ◌∙◌, subst, inl, inr, ◌⊎◌}
 use Rattle.std.specs.Prelude.{◌==◌, ◌&&◌, ◌||◌, not, if◌then◌else◌, nat_lt, filter, option_map, Option, Some, None, MatchOption, Result, Ok, Err}
 use Rattle.std.specs.List.{AllByRecursion}

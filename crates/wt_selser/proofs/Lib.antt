@@ -6,6 +6,7 @@ pub mod PageChains
 pub mod EditChains
 pub mod ListWalk
 pub mod BodyWalk
+pub mod Contents
 pub mod Pushing
 pub mod Spliced
 pub mod StepWalk

@@ -1,7 +1,7 @@
 -- The marked nodes of an edit, and the slices of the page that stand for those marked `content`: the inside of each, by the spelling of
 -- what it was edited to.
-use Rattle.std.specs.Prelude.{ℕ, Bool, ◌||◌, ◌+◌, ◌-◌, Option, Some, None, List, [], ◌∷◌, ◌++◌, if◌then◌else◌}
-use Rattle.std.specs.List.{flat_map}
+use Rattle.std.specs.Prelude.{◌≡◌, ℕ, false, Bool, ◌||◌, ◌+◌, ◌-◌, Option, Some, None, List, [], ◌∷◌, ◌++◌, if◌then◌else◌}
+use Rattle.std.specs.List.{AllByRecursion, flat_map}
 use Rattle.wt_tree.specs.declared.kind.Kind.{Kind}
 use Rattle.wt_tree.specs.declared.kind.Kind.TheVariants as kind
 use Rattle.wt_tree.specs.declared.kind.Ranges.{Ranges}
@@ -93,3 +93,11 @@ abbrev mutual
   pub all_insides : (Tree → Tree → Bool) → Page → Trees → List Change
   all_insides same page none = []
   all_insides same page (more u us) = insides same page u ++ all_insides same page us
+
+-- The same node by node in preorder, where nothing comes or goes.
+abbrev pub inside_at : (Tree → Tree → Bool) → Page → Place → List Change
+inside_at same page p = if is_content (label p.node).mark then inside_of same (page (number p)) p.node else []
+
+-- no node is marked `children`
+abbrev pub AllStay : Tree → Type 0
+AllStay edited = AllByRecursion (λ p. is_children (label p.node).mark ≡ false) (places edited)

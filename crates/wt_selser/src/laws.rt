@@ -7,8 +7,10 @@ ghost use Rattle.wt_tree.specs.Tiling.{Covers, InPreorder, NoneIsGroup, Tiled};
 ghost use Rattle.wt_tree.specs.Tree.{Label, Tree, Trees, label, tree};
 ghost use Rattle.wt_tree.specs.declared.kind.Kind.TheVariants as kind;
 ghost use Rattle.wt_checks.specs.Groups.{has_mark};
-ghost use Rattle.wt_checks.specs.Places.{is_body};
+ghost use Rattle.std.specs.List.{flat_map};
+ghost use Rattle.wt_checks.specs.Places.{is_body, page_of, places};
 ghost use Rattle.wt_selser.specs.BodySlices.{slices};
+ghost use Rattle.wt_selser.specs.Changes.{inside_at, AllStay};
 ghost use Rattle.wt_selser.specs.Edits.{edit_answer, is_tangled, most_bytes};
 ghost use Rattle.wt_selser.specs.Leaves.{LeavesHoldNoNumber, HoldsNoBody};
 ghost use Rattle.wt_tangled.specs.OpenTags.{before, touches_open_tag};
@@ -28,10 +30,10 @@ pub fn nothing_changes()
     ensures { (page : List ℕ) → spliced page [] ≡ page }
 {}
 
-/// The slices of an edit stand in the page one after the other, where the page's tree tiles it and has its
-/// numbers in preorder, and the checks refuse nothing: kept nodes stand in the page's order, and no marked
-/// node stands in another one. So every byte of the page outside the insides of the marked nodes stands in
-/// the new page, in its order.
+/// The slices of an edit (the insides of nodes marked `content`, the ranges of missing children with their
+/// separators, and the empty places of new ones) stand in the page one after the other, where the page's
+/// tree tiles it, has its numbers in preorder and holds no body in its body, and the checks refuse nothing.
+/// So every byte of the page outside them stands in the new page, in its order.
 pub fn edit_is_a_splice()
     ensures apart { (same : Tree → Tree → Bool) (page : List ℕ) (tree edited : Tree) → (label tree).kind ≡ kind.Body → HoldsNoBody tree → InPreorder tree → Tiled tree
         → Covers (length page) tree → LeavesHoldNoNumber tree → is_body (label edited).kind ≡ true → checked false tree edited ≡ None
@@ -40,6 +42,15 @@ pub fn edit_is_a_splice()
         → HoldsNoBody tree → InPreorder tree → Tiled tree → Covers (length page) tree → LeavesHoldNoNumber tree
         → is_body (label edited).kind ≡ true → edit_answer same items page tree edited ≡ Ok new
         → OutsideStands page new (slices same tree edited) }
+{}
+
+/// Where no node is marked `children` and the checks refuse nothing, the slices of an edit are the insides of
+/// the nodes marked `content`, node by node in preorder.
+#[tactic(auto, using(crate::proofs::Contents::contents_alone))]
+pub fn contents_alone()
+    ensures { (same : Tree → Tree → Bool) (tree edited : Tree) → (label tree).kind ≡ kind.Body → InPreorder tree → is_body (label edited).kind ≡ true
+        → AllStay edited → checked false tree edited ≡ None
+        → slices same tree edited ≡ flat_map (inside_at same (page_of tree)) (places edited) }
 {}
 
 /// Where nothing is marked and the checks refuse nothing, the new page is the page.

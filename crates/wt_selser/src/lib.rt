@@ -16,7 +16,7 @@ mod steps;
 pub use differing::first_differing;
 pub use editing::edit;
 pub use laws::{
-    edit_is_a_splice, groups_alone_tangle, nothing_changes, outside_stands,
+    contents_alone, edit_is_a_splice, groups_alone_tangle, nothing_changes, outside_stands,
     unmarked_edit_is_the_page,
 };
 pub use refusal::EditRefusal;
