@@ -141,9 +141,9 @@ class TwoThousandPages(BatchCase):
         reasons = {"page not UTF-8": 42, "a template is not UTF-8": 18, "braces too deep": 14}
         self.assertEqual(report["reasons"], reasons)
         wanted = [(f"Latin {k}", "page not UTF-8 at 1") for k in range(20)] + [
-            ("Template:Bad", "page not UTF-8 at 6")
+            ("Template:Bad", "page not UTF-8 at 7")
         ]
-        wanted += [(f"Uses {k}", "Template:Bad not UTF-8 at 6") for k in range(9)]
+        wanted += [(f"Uses {k}", "Template:Bad not UTF-8 at 7") for k in range(9)]
         wanted += [(f"Deep {k}", "braces too deep at 400") for k in range(7)]
         both = sorted(
             (title, command, line) for title, line in wanted for command in ("wikitext", "ranges")
@@ -152,7 +152,7 @@ class TwoThousandPages(BatchCase):
         uses = next(f for f in report["failures"] if f["title"] == "Uses 3")
         explained = uses["explain"]
         self.assertEqual(
-            (explained["page"], explained["line"], explained["column"]), ("Template:Bad", 1, 7)
+            (explained["page"], explained["line"], explained["column"]), ("Template:Bad", 1, 8)
         )
         self.assertIn("the template stops being UTF-8", explained["advice"])
         self.assertEqual(uses["link"], "pages/Uses_3.wiki")
