@@ -708,14 +708,14 @@ class SeveralMachines(BatchCase):
         bare = b"".join(line.split(b"\t", 2)[2] + b"\n" for line in cases.splitlines())
         done = subprocess.run([str(PROGRAM)], input=bare, stdout=subprocess.PIPE, check=True)
         self.assertEqual(sorted(line[:1] for line in done.stdout.splitlines()), [b"0"] * 4 + [b"2"] * 2)
-        # The lines may be divided, and come in any order.
+        # The lines may be divided, come in any order, and come twice.
         lines = cases.splitlines(keepends=True)
-        parts = [
-            self.run_tool("answers", "--no-output", stdin=b"".join(part))[0]
-            for part in (lines[3:], lines[:3])
-        ]
-        (self.root / "one").write_bytes(parts[0])
-        (self.root / "two").write_bytes(parts[1])
+        answers = b""
+        for part in (lines[3:], lines[:3], lines[2:4]):
+            answers += self.run_tool("answers", "--no-output", stdin=b"".join(part))[0]
+        answer_lines = sorted(answers.splitlines(keepends=True))
+        (self.root / "one").write_bytes(b"".join(answer_lines[:4]))
+        (self.root / "two").write_bytes(b"".join(answer_lines[4:]))
         self.assertIn(
             "3 pages: 2 answered, 2 came back, 2 refused",
             self.run_tool("gather", "one", "two", "-r", "g.html")[1],
