@@ -2,9 +2,6 @@
 import gzip
 import json
 import os
-import re
-import resource
-import shutil
 import signal
 import sqlite3
 import subprocess
@@ -586,25 +583,42 @@ class Limits(BatchCase):
         self.assertEqual([failure["title"] for failure in limited["failures"]], ["Letters"])
 
     def test_a_worker_that_is_ended(self) -> None:
-        """All pages are answered, though the workers are ended again and again."""
-        for k in range(400):
+        """All pages are answered, though workers are ended again and again."""
+        self.program = PROGRAM
+        for k in range(2000):
             self.write(f"P{k}", "text")
         running = self.start("wikitext", "--report", "report.html", "-j", "2")
-        for _ in range(3):
-            time.sleep(0.4)
-            for path in Path("/proc").glob("[0-9]*/stat"):
-                try:
-                    fields = path.read_text().rpartition(")")[2].split()
-                    if int(fields[1]) == running.pid:
-                        os.kill(int(path.parent.name), signal.SIGKILL)
-                        break
-                except (OSError, ProcessLookupError):
-                    pass
+        ended = 0
+        while ended < 3 and running.poll() is None:
+            workers = [process_id for process_id in children_of(running.pid) if is_worker(process_id)]
+            if len(workers) == 2:
+                os.kill(workers[ended % 2], signal.SIGKILL)
+                ended += 1
+            time.sleep(0.05)
         told = running.communicate()[1].decode()
         self.assertEqual(running.returncode, 0, told)
+        self.assertEqual(ended, 3, "it was too fast to be disturbed")
         outcomes = json.loads((self.root / "report.json").read_text())["outcomes"]["wikitext"]
-        self.assertEqual(sum(outcomes.values()), 400)
-        self.assertGreaterEqual(outcomes["came back"], 397)
+        self.assertEqual(sum(outcomes.values()), 2000)
+        self.assertGreaterEqual(outcomes["came back"], 1997)
+
+
+def children_of(process_id: int) -> "list[int]":
+    children = []
+    for path in Path("/proc").glob("[0-9]*/stat"):
+        try:
+            if int(path.read_text().rpartition(")")[2].split()[1]) == process_id:
+                children.append(int(path.parent.name))
+        except OSError:
+            pass
+    return children
+
+
+def is_worker(process_id: int) -> bool:
+    try:
+        return b"wtround_batch.worker" in Path(f"/proc/{process_id}/cmdline").read_bytes()
+    except OSError:
+        return False
 
 
 class Lint(BatchCase):

@@ -80,7 +80,7 @@ def add_common_options(parser: argparse.ArgumentParser) -> None:
         type=positive(float),
         default=60.0,
         metavar="SECONDS",
-        help="of a page (default: %(default)g)",
+        help="for one command on a page (default: %(default)g)",
     )
     add(
         "--memory-limit",
