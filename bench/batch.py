@@ -6,8 +6,12 @@
 It makes N pages (10,000) from those of examples/ and from the sections that `wtround gen` makes, one to
 forty of them, or takes N copies of the pages of FOLDER in turn. Then it runs `tools/batch` over them in
 turn on one processor and on all, each time from nothing, and prints for each run the pages and megabytes
-a second, the processor time of all its processes, and the peak memory of the largest. On a machine that
-does other work too, the rates depend on that work; the processor time of a run does so much less.
+a second, the processor time of all its processes, on how many processors they ran at once on average, how
+many they wanted (on which they ran, or for which they waited), and the peak memory of the largest.
+
+On a machine that does other work the rates depend on that work. What can be told there is how far more
+processors would help: the rates of two runs are as their processors divided by their processor times, as
+long as no fewer processors are wanted than there are.
 """
 import argparse
 import os
@@ -16,6 +20,7 @@ import shutil
 import subprocess
 import sys
 import tempfile
+import threading
 import time
 from pathlib import Path
 
@@ -50,8 +55,46 @@ def make_pages(folder: Path, count: int, taken: "list[Path]") -> int:
     return size
 
 
-def run(root: Path, processors: "set[int]", commands: str) -> "tuple[float, float, float]":
-    """Seconds, seconds of processor time, and MB of the largest process."""
+class Watcher(threading.Thread):
+    """Sums up how long the threads of a process and of those below it ran, and waited for a processor."""
+
+    def __init__(self, process_id: int) -> None:
+        super().__init__(daemon=True)
+        self._process_id = process_id
+        self._seen: "dict[str, tuple[int, int]]" = {}  # nanoseconds that a thread ran and waited
+        self.is_stopped = threading.Event()
+
+    def run(self) -> None:
+        while not self.is_stopped.wait(0.1):
+            for process_id in self._below():
+                for path in Path(f"/proc/{process_id}/task").glob("*/schedstat"):
+                    try:
+                        ran, waited, _ = map(int, path.read_text().split())
+                        self._seen[str(path)] = ran, waited
+                    except (OSError, ValueError):
+                        pass
+
+    def _below(self) -> "list[int]":
+        children: "dict[int, list[int]]" = {}
+        for path in Path("/proc").glob("[0-9]*/stat"):
+            try:
+                parent = int(path.read_text().rpartition(")")[2].split()[1])
+            except OSError:
+                continue
+            children.setdefault(parent, []).append(int(path.parent.name))
+        found, waiting = [], [self._process_id]
+        while waiting:
+            found.append(waiting.pop())
+            waiting.extend(children.get(found[-1], []))
+        return found
+
+    def wanted(self) -> float:
+        """Seconds."""
+        return sum(ran + waited for ran, waited in self._seen.values()) / 1e9
+
+
+def run(root: Path, processors: "set[int]", commands: str) -> "tuple[float, float, float, float]":
+    """Seconds, seconds of processor time, those that were wanted, and MB of the largest process."""
     for name in ("state", "state.lock", "state-wal", "state-shm"):
         (root / name).unlink(missing_ok=True)
     before = resource.getrusage(resource.RUSAGE_CHILDREN)
@@ -66,16 +109,19 @@ def run(root: Path, processors: "set[int]", commands: str) -> "tuple[float, floa
         "-j",
         str(len(processors)),
     ]
-    subprocess.run(
-        command,
-        cwd=root,
-        check=True,
-        stderr=subprocess.DEVNULL,
-        preexec_fn=lambda: os.sched_setaffinity(0, processors),
+    process = subprocess.Popen(
+        command, cwd=root, stderr=subprocess.DEVNULL, preexec_fn=lambda: os.sched_setaffinity(0, processors)
     )
+    watcher = Watcher(process.pid)
+    watcher.start()
+    if process.wait() != 0:
+        raise SystemExit("the run failed")
+    seconds = time.monotonic() - started
+    watcher.is_stopped.set()
+    watcher.join()
     after = resource.getrusage(resource.RUSAGE_CHILDREN)
     used = after.ru_utime + after.ru_stime - before.ru_utime - before.ru_stime
-    return time.monotonic() - started, used, after.ru_maxrss / 1000
+    return seconds, used, watcher.wanted(), after.ru_maxrss / 1000
 
 
 def main() -> None:
@@ -96,16 +142,22 @@ def main() -> None:
             f"{arguments.pages:,} pages, {size:,} bytes, {arguments.commands}, load {os.getloadavg()[0]:.1f}"
         )
         for _ in range(arguments.rounds):
-            rates = {}
+            rates, times = {}, {}
             for processors in ({min(everything)}, everything):
-                seconds, used, peak = run(root, processors, arguments.commands)
-                rate = rates[len(processors)] = arguments.pages / seconds
+                seconds, used, wanted, peak = run(root, processors, arguments.commands)
+                count = len(processors)
+                rates[count], times[count] = arguments.pages / seconds, used
                 print(
-                    f"{len(processors)} processors: {rate:,.0f} pages/s, {size / seconds / 1e6:.2f} MB/s, "
-                    f"{seconds:.1f} s, {used:.1f} s of processor time ({used / seconds:.2f} at once), "
-                    f"peak {peak:.0f} MB"
+                    f"{count} processors: {rates[count]:,.0f} pages/s, {size / seconds / 1e6:.2f} MB/s, "
+                    f"{seconds:.1f} s, {used:.1f} s of processor time, on {used / seconds:.2f} processors, "
+                    f"{wanted / seconds:.2f} wanted, peak {peak:.0f} MB"
                 )
-            print(f"ratio of the rates {rates[len(everything)] / rates[1]:.2f}", flush=True)
+            count = len(everything)
+            print(
+                f"rates {rates[count] / rates[1]:.2f} to 1; processor times {times[count] / times[1]:.3f} to 1, "
+                f"so {min(count, count * times[1] / times[count]):.2f} to 1 where {count} processors are free",
+                flush=True,
+            )
 
 
 if __name__ == "__main__":

@@ -2,9 +2,6 @@
 import gzip
 import json
 import os
-import re
-import resource
-import shutil
 import signal
 import sqlite3
 import subprocess
@@ -141,9 +138,9 @@ class TwoThousandPages(BatchCase):
         reasons = {"page not UTF-8": 42, "a template is not UTF-8": 18, "braces too deep": 14}
         self.assertEqual(report["reasons"], reasons)
         wanted = [(f"Latin {k}", "page not UTF-8 at 1") for k in range(20)] + [
-            ("Template:Bad", "page not UTF-8 at 6")
+            ("Template:Bad", "page not UTF-8 at 7")
         ]
-        wanted += [(f"Uses {k}", "Template:Bad not UTF-8 at 6") for k in range(9)]
+        wanted += [(f"Uses {k}", "Template:Bad not UTF-8 at 7") for k in range(9)]
         wanted += [(f"Deep {k}", "braces too deep at 400") for k in range(7)]
         both = sorted(
             (title, command, line) for title, line in wanted for command in ("wikitext", "ranges")
@@ -152,7 +149,7 @@ class TwoThousandPages(BatchCase):
         uses = next(f for f in report["failures"] if f["title"] == "Uses 3")
         explained = uses["explain"]
         self.assertEqual(
-            (explained["page"], explained["line"], explained["column"]), ("Template:Bad", 1, 7)
+            (explained["page"], explained["line"], explained["column"]), ("Template:Bad", 1, 8)
         )
         self.assertIn("the template stops being UTF-8", explained["advice"])
         self.assertEqual(uses["link"], "pages/Uses_3.wiki")
@@ -586,25 +583,42 @@ class Limits(BatchCase):
         self.assertEqual([failure["title"] for failure in limited["failures"]], ["Letters"])
 
     def test_a_worker_that_is_ended(self) -> None:
-        """All pages are answered, though the workers are ended again and again."""
-        for k in range(400):
+        """All pages are answered, though workers are ended again and again."""
+        self.program = PROGRAM
+        for k in range(2000):
             self.write(f"P{k}", "text")
         running = self.start("wikitext", "--report", "report.html", "-j", "2")
-        for _ in range(3):
-            time.sleep(0.4)
-            for path in Path("/proc").glob("[0-9]*/stat"):
-                try:
-                    fields = path.read_text().rpartition(")")[2].split()
-                    if int(fields[1]) == running.pid:
-                        os.kill(int(path.parent.name), signal.SIGKILL)
-                        break
-                except (OSError, ProcessLookupError):
-                    pass
+        ended = 0
+        while ended < 3 and running.poll() is None:
+            workers = [process_id for process_id in children_of(running.pid) if is_worker(process_id)]
+            if len(workers) == 2:
+                os.kill(workers[ended % 2], signal.SIGKILL)
+                ended += 1
+            time.sleep(0.05)
         told = running.communicate()[1].decode()
         self.assertEqual(running.returncode, 0, told)
+        self.assertEqual(ended, 3, "it was too fast to be disturbed")
         outcomes = json.loads((self.root / "report.json").read_text())["outcomes"]["wikitext"]
-        self.assertEqual(sum(outcomes.values()), 400)
-        self.assertGreaterEqual(outcomes["came back"], 397)
+        self.assertEqual(sum(outcomes.values()), 2000)
+        self.assertGreaterEqual(outcomes["came back"], 1997)
+
+
+def children_of(process_id: int) -> "list[int]":
+    children = []
+    for path in Path("/proc").glob("[0-9]*/stat"):
+        try:
+            if int(path.read_text().rpartition(")")[2].split()[1]) == process_id:
+                children.append(int(path.parent.name))
+        except OSError:
+            pass
+    return children
+
+
+def is_worker(process_id: int) -> bool:
+    try:
+        return b"wtround_batch.worker" in Path(f"/proc/{process_id}/cmdline").read_bytes()
+    except OSError:
+        return False
 
 
 class Lint(BatchCase):
@@ -708,14 +722,14 @@ class SeveralMachines(BatchCase):
         bare = b"".join(line.split(b"\t", 2)[2] + b"\n" for line in cases.splitlines())
         done = subprocess.run([str(PROGRAM)], input=bare, stdout=subprocess.PIPE, check=True)
         self.assertEqual(sorted(line[:1] for line in done.stdout.splitlines()), [b"0"] * 4 + [b"2"] * 2)
-        # The lines may be divided, and come in any order.
+        # The lines may be divided, come in any order, and come twice.
         lines = cases.splitlines(keepends=True)
-        parts = [
-            self.run_tool("answers", "--no-output", stdin=b"".join(part))[0]
-            for part in (lines[3:], lines[:3])
-        ]
-        (self.root / "one").write_bytes(parts[0])
-        (self.root / "two").write_bytes(parts[1])
+        answers = b""
+        for part in (lines[3:], lines[:3], lines[2:4]):
+            answers += self.run_tool("answers", "--no-output", stdin=b"".join(part))[0]
+        answer_lines = sorted(answers.splitlines(keepends=True))
+        (self.root / "one").write_bytes(b"".join(answer_lines[:4]))
+        (self.root / "two").write_bytes(b"".join(answer_lines[4:]))
         self.assertIn(
             "3 pages: 2 answered, 2 came back, 2 refused",
             self.run_tool("gather", "one", "two", "-r", "g.html")[1],

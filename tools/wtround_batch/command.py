@@ -6,7 +6,7 @@ import os
 import signal
 import sqlite3
 import sys
-from contextlib import contextmanager
+from contextlib import closing, contextmanager
 from typing import Callable, Iterator, TextIO
 
 from .program import ProgramError, digest_of_file, find_program, refuse_unfit
@@ -14,7 +14,7 @@ from .progress import Progress, spelled_time
 from .report import About, Report, write_json
 from .report_html import write_html
 from .results import COMMANDS, DIFFERS, FAILURE_WORDS, OUTCOMES
-from .run import Choice, Counts, Run, Target
+from .run import Choice, Counts, Run, Source, Target
 from .siblings import importer
 from .store import Export, Store, StoreError
 from .wiki import Folder, Namespaces
@@ -22,6 +22,7 @@ from .worker import Orders
 
 PROGRAM = "wtround-batch"
 STATE = "wtround-batch.sqlite"
+STOPPING = (signal.SIGINT, signal.SIGTERM, signal.SIGHUP)
 EPILOG = """\
 COMMANDS is one of these words, or several joined by commas:
 
@@ -47,10 +48,6 @@ exit status:
   3  every page was tried, and one came back with other bytes
   130  it was interrupted; the same words go on where it was
 """
-
-
-class Stopped(Exception):
-    """Somebody wants this run to end."""
 
 
 def words_of_commands(text: str) -> "list[str]":
@@ -83,7 +80,7 @@ def add_common_options(parser: argparse.ArgumentParser) -> None:
         type=positive(float),
         default=60.0,
         metavar="SECONDS",
-        help="of a page (default: %(default)g)",
+        help="for one command on a page (default: %(default)g)",
     )
     add(
         "--memory-limit",
@@ -104,7 +101,7 @@ def add_wiki_options(parser: argparse.ArgumentParser) -> None:
         action="append",
         default=[],
         metavar="NAME",
-        help="try the pages of this namespace alone, by name or number (main or 0 is the one without a name); "
+        help="try the pages of this namespace alone, by name or number (main or 0 is that without a name); "
         "may be repeated",
     )
     add("--state", default=STATE, metavar="FILE", help="the file of results (default: %(default)s)")
@@ -142,18 +139,18 @@ def parser() -> argparse.ArgumentParser:
 
 
 @contextmanager
-def stopped_by_signals() -> "Iterator[None]":
-    """SIGTERM and SIGHUP end a run as an interrupt from the keyboard does."""
+def stopped_by_signals(run: Run) -> "Iterator[None]":
+    """SIGINT, SIGTERM and SIGHUP stop the run, and are ignored after it: what is left is soon done."""
 
     def stop(*_: object) -> None:
-        raise Stopped
+        run.is_stopped = True
 
-    for number in (signal.SIGTERM, signal.SIGHUP, signal.SIGINT):
+    for number in STOPPING:
         signal.signal(number, stop)
     try:
         yield
     finally:
-        for number in (signal.SIGTERM, signal.SIGHUP, signal.SIGINT):
+        for number in STOPPING:
             signal.signal(number, signal.SIG_IGN)
 
 
@@ -230,45 +227,47 @@ def write_report(report: Report) -> None:
 
 
 def run_all(arguments: argparse.Namespace, program: str, store: Store, progress: Progress) -> int:
-    source = read_source(arguments, store, progress)
-    orders = orders_of(arguments, program, store)
-    target = Target(store, orders, arguments.json or arguments.output, arguments.again)
-    jobs = int(arguments.jobs or len(os.sched_getaffinity(0)))
-    digest = digest_of_file(program)
-    choice = Choice(Namespaces.chosen(arguments.namespace), arguments.list)
-    run = Run(store, source, choice, orders, target, digest)
-    is_whole = arguments.export is None or store.about("export whole") == "yes"
-    is_finished = False
-    try:
-        with stopped_by_signals():
-            run.go(jobs, progress)
-        is_finished = True
-    except Stopped:
-        pass
-    progress.clear()
-    if arguments.report is not None:
-        about = About(
-            source.describe(),
-            arguments.commands,
-            digest,
-            jobs,
-            run.counts.seconds,
-            run.counts.kept,
-            is_finished,
-            is_whole,
-        )
-        write_report(Report(store, source, run.number, about, arguments.report))
+    with closing(read_source(arguments, store, progress)) as source:
+        orders = orders_of(arguments, program, store)
+        target = Target(store, orders, arguments.json or arguments.output, arguments.again)
+        choice = Choice(Namespaces.chosen(arguments.namespace), arguments.list)
+        run = Run(store, source, choice, orders, target, digest_of_file(program))
+        with stopped_by_signals(run):
+            run.go(jobs_of(arguments), progress)
+        progress.clear()
+        is_whole = arguments.export is None or store.about("export whole") == "yes"
+        if arguments.report is not None:
+            write_report(
+                Report(
+                    store, source, run.number, about_run(arguments, run, source, is_whole), arguments.report
+                )
+            )
     print(told(run.counts, run.total), file=sys.stderr)
-    if not is_finished:
+    if run.is_stopped:
         print(f"{PROGRAM}: stopped; the same words go on from here", file=sys.stderr)
         return 130
     if not is_whole:
-        print(
-            f"{PROGRAM}: {arguments.export}: the export is broken; the pages that could be read were tried",
-            file=sys.stderr,
-        )
+        broken = "the export is broken; the pages that could be read were tried"
+        print(f"{PROGRAM}: {arguments.export}: {broken}", file=sys.stderr)
         return 1
     return 3 if run.counts.outcomes[DIFFERS] else 0
+
+
+def jobs_of(arguments: argparse.Namespace) -> int:
+    return int(arguments.jobs or len(os.sched_getaffinity(0)))
+
+
+def about_run(arguments: argparse.Namespace, run: Run, source: Source, is_whole: bool) -> About:
+    return About(
+        source=source.describe(),
+        commands=arguments.commands,
+        program=run.program,
+        jobs=jobs_of(arguments),
+        seconds=run.counts.seconds,
+        kept=run.counts.kept,
+        is_finished=not run.is_stopped,
+        export_is_whole=is_whole,
+    )
 
 
 def refuse_arguments(parser: argparse.ArgumentParser, arguments: argparse.Namespace) -> None:
@@ -278,9 +277,8 @@ def refuse_arguments(parser: argparse.ArgumentParser, arguments: argparse.Namesp
         parser.error("--compress needs --output or --json")
     if arguments.report is not None and os.path.splitext(arguments.report)[1] == ".json":
         parser.error("--report: FILE is the HTML; the JSON lies beside it")
-    if arguments.output is not None and os.path.realpath(arguments.output) == os.path.realpath(
-        arguments.pages
-    ):
+    folders = [os.path.realpath(path) for path in (arguments.output, arguments.pages) if path is not None]
+    if len(set(folders)) < len(folders):
         parser.error("--output: the answers of `wikitext` would replace the pages")
 
 
@@ -317,5 +315,5 @@ def main() -> int:
     except OSError as error:
         print(f"{PROGRAM}: {error.filename or 'output'}: {error.strerror or error}", file=sys.stderr)
         return 1
-    except (KeyboardInterrupt, Stopped):
+    except KeyboardInterrupt:
         return 130

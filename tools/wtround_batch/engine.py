@@ -7,7 +7,7 @@ import subprocess
 import sys
 from collections import deque
 from dataclasses import asdict, dataclass
-from typing import Generator, Iterator
+from typing import Callable, Generator, Iterator
 
 from .program import end_with_parent
 from .results import DIED, Examined, Known, Result
@@ -16,6 +16,7 @@ from .worker import FrameReader, Orders, examined_from_json, known_as_json, writ
 
 BATCH_PAGES = 16
 BATCH_BYTES = 256 << 10
+STOP_SECONDS = 0.5  # within which a run stops
 WAITING_BATCHES = 2  # of a worker: the one that it works on, and the next
 
 
@@ -115,8 +116,9 @@ def batches_of(tasks: "Iterator[Task]", most: int) -> "Iterator[list[Task]]":
 class Engine:
     """Works tasks off on several processes. A process that ends takes no more than one page with it."""
 
-    def __init__(self, orders: Orders, jobs: int, pages: int) -> None:
+    def __init__(self, orders: Orders, jobs: int, pages: int, is_stopped: "Callable[[], bool]") -> None:
         self._orders = orders
+        self._is_stopped = is_stopped
         self._jobs = jobs
         self._most = max(1, min(BATCH_PAGES, pages // (jobs * 8)))
         self._selector = selectors.DefaultSelector()
@@ -126,11 +128,11 @@ class Engine:
     def run(self, tasks: "Iterator[Task]") -> "Generator[Done, None, None]":
         batches = batches_of(tasks, self._most)
         try:
-            while True:
+            while not self._is_stopped():
                 self._hand_out(batches)
                 if not any(worker.batches for worker in self._workers):
                     return
-                for key, _ in self._selector.select():
+                for key, _ in self._selector.select(STOP_SECONDS):
                     yield from self._received(key.data)
         finally:
             for worker in self._workers:

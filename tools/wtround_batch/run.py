@@ -125,21 +125,23 @@ class Run:
         self._choice = choice
         self._orders = orders
         self._target = target
+        self.program = program  # its digest
         self._makings = target.makings(program, orders)
         self._digests: "dict[str, bytes | None]" = {}
         self._next_commit = 0.0
         self.counts = Counts()
+        self.is_stopped = False  # is set when the run shall end
         self.number = 0
         self.total = 0
 
     def go(self, jobs: int, progress: Progress) -> None:
-        """Tries every chosen page. What was stored stays stored, however this ends."""
+        """Tries every chosen page, until it is stopped. What was stored stays stored, however this ends."""
         started = time.monotonic()
         self._store.clear_skipped("list")
         self.number = self._store.count_up("run")
         self.total = self._count()
         self._store.begin()
-        engine = Engine(self._orders, jobs, self.total)
+        engine = Engine(self._orders, jobs, self.total, lambda: self.is_stopped)
         results = engine.run(self._tasks())
         try:
             for done in results:
@@ -165,6 +167,8 @@ class Run:
         """The pages that have to be tried. Those whose results hold are counted here."""
         is_new = self._store.is_empty()
         for title in self._choice.titles(self._source):
+            if self.is_stopped:
+                return
             if isinstance(title, Skipped):
                 continue
             entry = self._source.entry(title)

@@ -4,6 +4,7 @@ from __future__ import annotations
 import argparse
 import binascii
 import sys
+from contextlib import closing
 from typing import BinaryIO, Iterator
 
 from . import command as one_machine
@@ -67,13 +68,13 @@ def write_cases(words: "list[str]") -> int:
     store = Store(arguments.state)
     cases = Cases(program, one_machine.memory_of(arguments))
     try:
-        source = one_machine.read_source(arguments, store, progress)
-        examiner = Examiner(cases, source, arguments.time_limit, wants_output=False)
-        choice = Choice(Namespaces.chosen(arguments.namespace), arguments.list)
-        total = sum(not isinstance(title, Skipped) for title in choice.titles(source))
-        for count, title in enumerate(t for t in choice.titles(source) if not isinstance(t, Skipped)):
-            write_cases_of_page(title, source, store, examiner, arguments.commands)
-            progress.show(count + 1, total, "")
+        with closing(one_machine.read_source(arguments, store, progress)) as source:
+            examiner = Examiner(cases, source, arguments.time_limit, wants_output=False)
+            choice = Choice(Namespaces.chosen(arguments.namespace), arguments.list)
+            total = sum(not isinstance(title, Skipped) for title in choice.titles(source))
+            for count, title in enumerate(t for t in choice.titles(source) if not isinstance(t, Skipped)):
+                write_cases_of_page(title, source, store, examiner, arguments.commands)
+                progress.show(count + 1, total, "")
     finally:
         progress.clear()
         cases.close()
@@ -203,40 +204,47 @@ def gathered(files: "list[str]") -> "Iterator[tuple[str, int, bytes]]":
 def gather(words: "list[str]") -> int:
     arguments = gather_parser().parse_args(words)
     store = Store(arguments.state)
-    status, seconds, commands = 0, 0.0, set()
     try:
         run = store.count_up("run")
-        store.begin()
         store.clear_skipped("list")
-        for name, number, line in gathered(arguments.files):
-            try:
-                examined = read_line(line)
-            except (ValueError, KeyError, TypeError):
-                print(f"{one_machine.PROGRAM}: {name}: line {number} is no answer", file=sys.stderr)
-                status = 1
-                continue
-            for command, result in examined.results.items():
-                store.set_result(examined.title, command, examined.known, "", run, examined.bytes, result)
-                seconds += result.seconds
-                commands.add(command)
-        store.commit()
-        source: Source = Export(store.path, "") if store.about("export") else Folder(arguments.pages)
-        about = About(
-            "answers of several machines",
-            [c for c in one_machine.COMMANDS if c in commands],
-            "",
-            0,
-            0.0,
-            0,
-            True,
-            True,
-        )
-        report = Report(store, source, run, about, arguments.report)
-        one_machine.write_report(report)
+        commands, is_whole = take_answers(store, run, arguments.files)
+        found: Source = Export(store.path, "") if store.about("export") else Folder(arguments.pages)
+        with closing(found) as source:
+            about = About(
+                source="answers of several machines",
+                commands=[command for command in one_machine.COMMANDS if command in commands],
+                program="",
+                jobs=0,
+                seconds=0.0,
+                kept=0,
+                is_finished=True,
+                export_is_whole=True,
+            )
+            report = Report(store, source, run, about, arguments.report)
+            one_machine.write_report(report)
         print(one_machine.told_of(report), file=sys.stderr)
     finally:
         store.close()
-    return status
+    return 0 if is_whole else 1
+
+
+def take_answers(store: Store, run: int, files: "list[str]") -> "tuple[set[str], bool]":
+    """Stores the answers of these files. The commands that they answer, and whether every line was one."""
+    commands: "set[str]" = set()
+    is_whole = True
+    store.begin()
+    for name, number, line in gathered(files):
+        try:
+            examined = read_line(line)
+        except (ValueError, KeyError, TypeError):
+            print(f"{one_machine.PROGRAM}: {name}: line {number} is no answer", file=sys.stderr)
+            is_whole = False
+            continue
+        for command, result in examined.results.items():
+            store.set_result(examined.title, command, examined.known, "", run, examined.bytes, result)
+            commands.add(command)
+    store.commit()
+    return commands, is_whole
 
 
 WORDS = {"cases": write_cases, "answers": write_answers, "gather": gather}

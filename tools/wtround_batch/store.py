@@ -316,5 +316,8 @@ class Export:
     def link(self, title: str, report_folder: str) -> str:
         return link_in_wiki(self._base, title)
 
+    def close(self) -> None:
+        self._connection.close()
+
     def describe(self) -> str:
         return f"the export “{self.path}”"

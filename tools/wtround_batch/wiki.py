@@ -140,6 +140,9 @@ class Folder:
     def link(self, title: str, report_folder: str) -> str:
         return quote(os.path.relpath(self.file_of(title), report_folder))
 
+    def close(self) -> None:
+        """Nothing is held open."""
+
     def describe(self) -> str:
         return f"the folder “{self.path}”"
 
