@@ -22,7 +22,9 @@ export class Commands {
       button.addEventListener("mousedown", (event) => event.preventDefault());
       button.addEventListener("click", () => this.run(button.dataset.command ?? ""));
     }
-    this.block.addEventListener("change", () => this.#formatBlock(this.block.value));
+    this.block.addEventListener("pointerdown", () => (this.isByPointer = true));
+    this.block.addEventListener("keydown", () => (this.isByPointer = false));
+    this.block.addEventListener("change", () => this.#chooseBlock());
     document.addEventListener("selectionchange", () => this.show());
     root.addEventListener("keydown", (event) => this.#key(event));
     this.#rememberSelection();
@@ -87,6 +89,12 @@ export class Commands {
     if (command === "link") this.#link();
     else this.history.step(() => document.execCommand(command));
     this.show();
+  }
+
+  /** Whoever chooses by keys stays in the list. */
+  #chooseBlock() {
+    this.#formatBlock(this.block.value);
+    if (this.isByPointer === false) this.block.focus();
   }
 
   /** @param {string} name */

@@ -70,8 +70,9 @@ class Editor {
   /** Reads the page from the server and shows it. */
   async read() {
     try {
-      const scrolled = window.scrollY;
       const { html, etag } = await readPage(this.title);
+      const scrolled = window.scrollY;
+      const caret = caretIn(this.root);
       this.html = html;
       this.etag = etag;
       open(html, { into: this.root });
@@ -85,6 +86,7 @@ class Editor {
       byId("save").removeAttribute("disabled");
       byId("waiting").hidden = true;
       window.scrollTo(0, scrolled);
+      if (caret !== null) putCaret(this.root, caret);
     } catch (error) {
       byId("waiting").textContent = error instanceof ServerRefused ? error.sentence : String(error);
       byId("waiting").hidden = false;
@@ -100,6 +102,7 @@ class Editor {
 
   #changed() {
     this.commands?.show();
+    this.saving?.clear();
     if (byId("status").textContent !== "") this.say("");
   }
 
@@ -110,15 +113,19 @@ class Editor {
     if (event.key === "Escape") this.#showThing(null);
     if (event.key !== "Backspace" && event.key !== "Delete") return;
     if (event.ctrlKey || event.metaKey || event.altKey) return;
+    if (this.#takesThing(event.key === "Backspace")) event.preventDefault();
+  }
+
+  /** Deletes the thing that is selected, or selects the one beside the caret. @param {boolean} isBackward
+   * @returns {boolean} whether there was one */
+  #takesThing(isBackward) {
     if (this.thing !== null) {
-      event.preventDefault();
       this.#deleteThing();
-      return;
+      return true;
     }
-    const beside = thingBeside(this.root, event.key === "Backspace");
-    if (beside === null) return;
-    event.preventDefault();
-    this.#select(beside);
+    const beside = thingBeside(this.root, isBackward);
+    if (beside !== null) this.#select(beside);
+    return beside !== null;
   }
 
   /** @param {HTMLElement} thing */
@@ -174,6 +181,9 @@ class Editor {
 
   /** @param {InputEvent} event */
   #beforeInput(event) {
+    // Keyboards of phones send no key for these.
+    const isDeletion = /^deleteContent(Backward|Forward)$/.exec(event.inputType);
+    if (isDeletion && event.cancelable && this.#takesThing(isDeletion[1] === "Backward")) event.preventDefault();
     if (/^format(?!Bold|Italic|Remove)/.test(event.inputType)) event.preventDefault();
     if (event.inputType.startsWith("delete")) setTimeout(() => deleteRests(this.root, this.sizes));
   }
@@ -191,6 +201,34 @@ class Editor {
   #drop(event) {
     event.preventDefault();
     this.say("Text can't be dragged here: cut and paste it.");
+  }
+}
+
+/** Where the caret stands: in which block of the page, behind how many characters of it.
+ * @param {HTMLElement} root @returns {{block: number, characters: number} | null} */
+function caretIn(root) {
+  const selection = document.getSelection();
+  if (!selection?.rangeCount || !root.contains(selection.anchorNode)) return null;
+  const block = [...root.children].findIndex((child) => child.contains(selection.anchorNode));
+  if (block < 0) return null;
+  const range = selection.getRangeAt(0).cloneRange();
+  range.setStart(root.children[block], 0);
+  return { block, characters: range.toString().length };
+}
+
+/** @param {HTMLElement} root @param {{block: number, characters: number}} caret */
+function putCaret(root, caret) {
+  const block = root.children[Math.min(caret.block, root.childElementCount - 1)];
+  if (block === undefined) return;
+  const walker = document.createTreeWalker(block, NodeFilter.SHOW_TEXT);
+  let left = caret.characters;
+  while (walker.nextNode()) {
+    const text = /** @type {Text} */ (walker.currentNode);
+    if (left <= text.data.length && !text.parentElement?.closest("[data-thing]")) {
+      document.getSelection()?.collapse(text, left);
+      return;
+    }
+    left = Math.max(0, left - text.data.length);
   }
 }
 

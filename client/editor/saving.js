@@ -9,6 +9,8 @@ import { sentenceFor } from "./sentences.js";
 /** @template {HTMLElement} T @param {string} id @returns {T} */
 const byId = (id) => /** @type {T} */ (/** @type {unknown} */ (document.getElementById(id)));
 
+const WAITING = "The server is asked…";
+
 /** @typedef {{title: string, root: HTMLElement, html: () => string, etag: () => string, say: (text: string) => void, saved: () => Promise<void>,
  *   bookmark: () => () => void}} Page  `html`: the page as it was opened, `etag`: the name of this state of it */
 
@@ -21,6 +23,7 @@ export class Saving {
     this.refusal = byId("refusal");
     /** What is shown in the dialog. */
     this.document = "";
+    this.isBusy = false;
     /** The element that a refusal is about. @type {Element | null} */
     this.place = null;
     /** Puts the caret back to where it was. */
@@ -29,11 +32,12 @@ export class Saving {
     byId("changes-save").addEventListener("click", () => this.#store());
     byId("refusal-close").addEventListener("click", () => (this.clear(), this.restore()));
     byId("refusal-show").addEventListener("click", () => this.#goToPlace());
-    this.dialog.addEventListener("close", () => this.restore());
+    this.dialog.addEventListener("close", () => this.isBusy || this.restore());
   }
 
   /** Shows what would change. */
   async preview() {
+    if (this.isBusy || document.querySelector("dialog[open]") !== null) return;
     this.clear();
     this.restore = this.page.bookmark();
     this.document = save(this.page.root, { marks: true });
@@ -43,41 +47,49 @@ export class Saving {
     }
     await this.#busy(async () => {
       const answer = await give(this.page.title, this.document, this.page.etag(), true);
-      if (!answer.changed) {
-        this.page.say("Nothing would change in the page's source.");
-        return;
-      }
+      if (!answer.changed) return this.page.say("Nothing would change in the page's source.");
       const longer = answer.bytes_after - answer.bytes_before;
       const much = longer === 0 ? "as long as before" : `${Math.abs(longer)} bytes ${longer > 0 ? "longer" : "shorter"}`;
       byId("changes-size").textContent = `The source will be ${much}. Nothing else in it changes.`;
       byId("changes-diff").replaceChildren(...shownDiff(answer.diff));
       this.dialog.showModal();
     });
+    if (!this.dialog.open && this.refusal.hidden) this.restore();
   }
 
   async #store() {
-    this.dialog.close();
-    await this.#busy(async () => {
+    const asking = this.#busy(async () => {
       await give(this.page.title, this.document, this.page.etag(), false);
       await this.page.saved();
       this.page.say("The page is saved.");
     });
+    this.dialog.close();
+    await asking;
   }
 
-  /** @param {() => Promise<void>} action */
+  /** Asks the server for something; until it has answered nothing can be typed, which else would be neither shown nor
+   * stored. @param {() => Promise<void>} action */
   async #busy(action) {
-    this.button.disabled = true;
-    this.page.say("…");
+    this.#setBusy(true);
+    this.page.say(WAITING);
     try {
       await action();
-      if (byId("status").textContent === "…") this.page.say("");
+      if (byId("status").textContent === WAITING) this.page.say("");
     } catch (error) {
       this.page.say("");
       if (!(error instanceof ServerRefused)) throw error;
+      this.#setBusy(false);
       this.#showRefusal(error);
     } finally {
-      this.button.disabled = false;
+      this.#setBusy(false);
     }
+  }
+
+  /** @param {boolean} isBusy */
+  #setBusy(isBusy) {
+    this.isBusy = isBusy;
+    this.button.disabled = isBusy;
+    this.page.root.inert = isBusy;
   }
 
   /** @param {ServerRefused} refused */

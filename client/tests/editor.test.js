@@ -96,7 +96,7 @@ async function save() {
   await tab.press("Control+s");
   const dialog = `document.getElementById("changes").open`;
   const refusal = `!document.getElementById("refusal").hidden`;
-  const said = `document.getElementById("status").textContent.replace("…", "")`;
+  const said = `document.getElementById("status").textContent.replace("The server is asked…", "")`;
   await tab.until(`${dialog} || ${refusal} || ${said}`);
   return tab.js(`${dialog} ? "changes" : ${refusal} ? "refusal" : ${said}`);
 }
