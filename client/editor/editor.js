@@ -7,12 +7,17 @@ import { History } from "./history.js";
 import { pasted } from "./paste.js";
 import { Saving } from "./saving.js";
 import { ServerRefused, page as readPage } from "./server.js";
-import { deleteRests, deleteThing, groupSizes, nameThings, selectThing, thingAt, thingBeside } from "./things.js";
+import { deleteRests, deleteThing, elementsOf, groupSizes, nameThings, selectThing } from "./things.js";
+import { thingAt, thingBeside } from "./things.js";
 
 /** From so many on, blocks out of sight aren't laid out. */
 const MANY_BLOCKS = 500;
 
-/** @template {HTMLElement} T @param {string} id @returns {T} */
+/**
+ * @template {HTMLElement} T
+ * @param {string} id
+ * @returns {T}
+ */
 const byId = (id) => /** @type {T} */ (/** @type {unknown} */ (document.getElementById(id)));
 
 /** @returns {string} the title that the address names */
@@ -29,7 +34,10 @@ class Editor {
     this.etag = "";
     /** @type {Map<string, number>} */
     this.sizes = new Map();
-    /** The thing that is selected as a whole. @type {HTMLElement | null} */
+    /**
+     * The thing that is selected as a whole.
+     * @type {HTMLElement | null}
+     */
     this.thing = null;
     this.history = new History(this.root, () => this.#changed());
     this.commands = new Commands(this.root, this.history, (text) => this.say(text));
@@ -116,8 +124,11 @@ class Editor {
     if (this.#takesThing(event.key === "Backspace")) event.preventDefault();
   }
 
-  /** Deletes the thing that is selected, or selects the one beside the caret. @param {boolean} isBackward
-   * @returns {boolean} whether there was one */
+  /**
+   * Deletes the thing that is selected, or selects the one beside the caret.
+   * @param {boolean} isBackward
+   * @returns {boolean} whether there was one
+   */
   #takesThing(isBackward) {
     if (this.thing !== null) {
       this.#deleteThing();
@@ -148,8 +159,7 @@ class Editor {
     const thing = thingAt(/** @type {Node} */ (event.target), this.root);
     if (thing !== null) {
       event.preventDefault();
-      const about = thing.getAttribute("about");
-      this.#select(about === null ? thing : this.root.querySelector(`[about="${CSS.escape(about)}"]`) ?? thing);
+      this.#select(elementsOf(thing, this.root)[0]);
     } else if (/** @type {Element} */ (event.target).closest("a")) {
       event.preventDefault();
     }
@@ -158,19 +168,20 @@ class Editor {
   #selected() {
     if (this.thing === null) return;
     const selection = document.getSelection();
-    const isWhole = selection?.rangeCount && !selection.isCollapsed && selection.getRangeAt(0).intersectsNode(this.thing);
+    const range = selection?.rangeCount && !selection.isCollapsed ? selection.getRangeAt(0) : null;
+    const isWhole = range?.intersectsNode(this.thing) ?? false;
     if (!isWhole && document.activeElement === this.root) this.#showThing(null);
   }
 
   /** @param {HTMLElement | null} thing */
   #showThing(thing) {
-    for (const element of this.root.querySelectorAll("[data-selected]")) element.removeAttribute("data-selected");
+    for (const element of this.root.querySelectorAll("[data-selected]")) {
+      element.removeAttribute("data-selected");
+    }
     this.thing = thing;
     byId("thing").hidden = thing === null;
     if (thing === null) return;
-    const about = thing.getAttribute("about");
-    const all = about === null ? [thing] : this.root.querySelectorAll(`[about="${CSS.escape(about)}"]`);
-    for (const element of all) element.setAttribute("data-selected", "");
+    for (const element of elementsOf(thing, this.root)) element.setAttribute("data-selected", "");
     byId("thing-name").textContent = thing.dataset.name ?? "";
     byId("thing-advice").textContent = "can be changed in the page's source alone. Delete takes it out.";
     byId("thing-source").textContent = sourceOf(thing);
@@ -182,8 +193,8 @@ class Editor {
   /** @param {InputEvent} event */
   #beforeInput(event) {
     // Keyboards of phones send no key for these.
-    const isDeletion = /^deleteContent(Backward|Forward)$/.exec(event.inputType);
-    if (isDeletion && event.cancelable && this.#takesThing(isDeletion[1] === "Backward")) event.preventDefault();
+    const [, direction] = /^deleteContent(Backward|Forward)$/.exec(event.inputType) ?? [];
+    if (direction && event.cancelable && this.#takesThing(direction === "Backward")) event.preventDefault();
     if (/^format(?!Bold|Italic|Remove)/.test(event.inputType)) event.preventDefault();
     if (event.inputType.startsWith("delete")) setTimeout(() => deleteRests(this.root, this.sizes));
   }
@@ -194,7 +205,7 @@ class Editor {
     if (event.clipboardData === null) return;
     const { html, leftOut } = pasted(event.clipboardData, this.root);
     if (html !== "") this.history.step(() => document.execCommand("insertHTML", false, html));
-    if (leftOut > 0) this.say("Templates and references can't be copied; they were left out of what you pasted.");
+    if (leftOut > 0) this.say("Templates and references can't be copied: they were left out.");
   }
 
   /** @param {DragEvent} event */
@@ -204,8 +215,11 @@ class Editor {
   }
 }
 
-/** Where the caret stands: in which block of the page, behind how many characters of it.
- * @param {HTMLElement} root @returns {{block: number, characters: number} | null} */
+/**
+ * Where the caret stands: in which block of the page, behind how many characters of it.
+ * @param {HTMLElement} root
+ * @returns {{block: number, characters: number} | null}
+ */
 function caretIn(root) {
   const selection = document.getSelection();
   if (!selection?.rangeCount || !root.contains(selection.anchorNode)) return null;
@@ -216,7 +230,10 @@ function caretIn(root) {
   return { block, characters: range.toString().length };
 }
 
-/** @param {HTMLElement} root @param {{block: number, characters: number}} caret */
+/**
+ * @param {HTMLElement} root
+ * @param {{block: number, characters: number}} caret
+ */
 function putCaret(root, caret) {
   const block = root.children[Math.min(caret.block, root.childElementCount - 1)];
   if (block === undefined) return;
@@ -232,7 +249,10 @@ function putCaret(root, caret) {
   }
 }
 
-/** @param {HTMLElement} thing @returns {string} its wikitext */
+/**
+ * @param {HTMLElement} thing
+ * @returns {string} its wikitext
+ */
 function sourceOf(thing) {
   try {
     return JSON.parse(thing.getAttribute("data-parsoid") ?? "{}").src ?? "";

@@ -41,8 +41,12 @@ after(async () => {
   server.close();
 });
 
-/** The places, in a list of documents, of those for which a function in the browser gives another text.
- * @param {string[]} documents @param {string} body  of a function of `html` @returns {Promise<number[]>} */
+/**
+ * The places, in a list of documents, of those for which a function in the browser gives another text.
+ * @param {string[]} documents
+ * @param {string} body  of a function of `html`
+ * @returns {Promise<number[]>}
+ */
 async function changed(documents, body) {
   /** @type {number[]} */
   const places = [];
@@ -71,7 +75,11 @@ function documents() {
   return [...own, ...outsideDocuments()];
 }
 
-/** A page of pieces in an order that the number decides. @param {number} number @returns {string} */
+/**
+ * A page of pieces in an order that the number decides.
+ * @param {number} number
+ * @returns {string}
+ */
 function madePage(number) {
   const pieces = [
     "== h ==", "a '''b''' ''c'' [[d|e]]\nf", "* g\n** h\n*# i", "{|\n<!-- c -->\n|-\n| a || b\n|+ c\n|}", "; t : d", " p\n q",

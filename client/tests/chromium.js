@@ -70,7 +70,12 @@ export class Browser {
     else waiting.done(message.result);
   }
 
-  /** @param {string} method @param {object} [params] @param {string} [session] @returns {Promise<any>} */
+  /**
+   * @param {string} method
+   * @param {object} [params]
+   * @param {string} [session]
+   * @returns {Promise<any>}
+   */
   call(method, params = {}, session) {
     this.#number += 1;
     const id = this.#number;
@@ -78,7 +83,11 @@ export class Browser {
     return new Promise((done, failed) => this.#waiting.set(id, { done, failed }));
   }
 
-  /** @param {string} session @param {string} method @returns {Promise<any>} the next event of this name */
+  /**
+   * @param {string} session
+   * @param {string} method
+   * @returns {Promise<any>} the next event of this name
+   */
   next(session, method) {
     return new Promise((done) => {
       const listener = (/** @type {any} */ message) => {
@@ -129,12 +138,19 @@ const KEYS = {
 const MODIFIERS = { Alt: 1, Control: 2, Meta: 4, Shift: 8 };
 
 export class Tab {
-  /** @param {Browser} browser @param {string} session @param {string} target */
+  /**
+   * @param {Browser} browser
+   * @param {string} session
+   * @param {string} target
+   */
   constructor(browser, session, target) {
     this.browser = browser;
     this.session = session;
     this.target = target;
-    /** What scripts of the page threw and wrote to the console as errors. @type {string[]} */
+    /**
+     * What scripts of the page threw and wrote to the console as errors.
+     * @type {string[]}
+     */
     this.errors = [];
     browser.listen((message) => {
       if (message.sessionId !== session) return;
@@ -146,7 +162,11 @@ export class Tab {
     });
   }
 
-  /** @param {string} method @param {object} [params] @returns {Promise<any>} */
+  /**
+   * @param {string} method
+   * @param {object} [params]
+   * @returns {Promise<any>}
+   */
   call(method, params) {
     return this.browser.call(method, params, this.session);
   }
@@ -158,14 +178,22 @@ export class Tab {
     await loaded;
   }
 
-  /** The value of an expression, or what its promise gives. @param {string} expression @returns {Promise<any>} */
+  /**
+   * The value of an expression, or what its promise gives.
+   * @param {string} expression
+   * @returns {Promise<any>}
+   */
   async js(expression) {
     const answer = await this.call("Runtime.evaluate", { expression, awaitPromise: true, returnByValue: true });
     if (answer.exceptionDetails) throw new Error(answer.exceptionDetails.exception?.description ?? "script failed");
     return answer.result.value;
   }
 
-  /** Waits until an expression is true. @param {string} expression @param {number} [milliseconds] */
+  /**
+   * Waits until an expression is true.
+   * @param {string} expression
+   * @param {number} [milliseconds]
+   */
   async until(expression, milliseconds = 60000) {
     const end = Date.now() + milliseconds;
     while (!(await this.js(`Boolean(${expression})`))) {
@@ -174,7 +202,10 @@ export class Tab {
     }
   }
 
-  /** Presses keys, each a character or a name, with modifiers before it: "Control+b". @param {...string} keys */
+  /**
+   * Presses keys, each a character or a name, with modifiers before it: "Control+b".
+   * @param {...string} keys
+   */
   async press(...keys) {
     for (const key of keys) {
       const names = key.length === 1 ? [key] : key.split("+");
@@ -193,12 +224,19 @@ export class Tab {
     }
   }
 
-  /** Types a text, a key event for each character. @param {string} text */
+  /**
+   * Types a text, a key event for each character.
+   * @param {string} text
+   */
   async type(text) {
     for (const character of text) await this.press(character);
   }
 
-  /** @param {number} width @param {number} height @param {boolean} [isPhone] */
+  /**
+   * @param {number} width
+   * @param {number} height
+   * @param {boolean} [isPhone]
+   */
   async size(width, height, isPhone = false) {
     await this.call("Emulation.setDeviceMetricsOverride", {
       width, height, deviceScaleFactor: isPhone ? 2 : 1, mobile: isPhone,

@@ -1,7 +1,7 @@
 // @ts-check
 /**
- * The editor page in a browser, driven by keys, over the repository's server and program. Whatever is done ends in a
- * saved page, whose bytes are compared, or in a refusal by name; the text is still there after it.
+ * The editor page in a browser, driven by keys, over the repository's server and program. Whatever is done
+ * ends in a saved page, whose bytes are compared, or in a refusal by name; the text is still there after it.
  */
 
 import { after, before, beforeEach, test } from "node:test";
@@ -72,8 +72,14 @@ async function opened(title) {
   await tab.js(`document.getElementById("page").focus()`);
 }
 
-/** Selects from one place in the text to another, each said by a text and how many characters of it lie before.
- * @param {string} text @param {number} at @param {string} [endText] @param {number} [endAt] */
+/**
+ * Selects from one place in the text to another, each said by a text and how many characters of it lie
+ * before.
+ * @param {string} text
+ * @param {number} at
+ * @param {string} [endText]
+ * @param {number} [endAt]
+ */
 async function select(text, at, endText = text, endAt = at) {
   await tab.js(`(() => {
     const find = (text) => {
@@ -91,7 +97,10 @@ function shown() {
   return tab.js(`document.getElementById("page").textContent.replace(/\\s+/g, " ").trim()`);
 }
 
-/** Presses Ctrl+S. @returns {Promise<"changes" | "refusal" | string>} what came: the changes, a refusal, or what was said */
+/**
+ * Presses Ctrl+S.
+ * @returns {Promise<"changes" | "refusal" | string>} what came: the changes, a refusal, or what was said
+ */
 async function save() {
   await tab.press("Control+s");
   const dialog = `document.getElementById("changes").open`;
@@ -101,7 +110,10 @@ async function save() {
   return tab.js(`${dialog} ? "changes" : ${refusal} ? "refusal" : ${said}`);
 }
 
-/** Saves, looks at the changes, stores them. @returns {Promise<string>} the page that is stored now */
+/**
+ * Saves, looks at the changes, stores them.
+ * @returns {Promise<string>} the page that is stored now
+ */
 async function stored() {
   assert.equal(await save(), "changes");
   assert.ok((await tab.js(`document.querySelectorAll("#changes-diff .added, #changes-diff .removed").length`)) > 0);
@@ -110,7 +122,10 @@ async function stored() {
   return wiki.read("A page");
 }
 
-/** Saves, and is refused; nothing is stored. @returns {Promise<string>} the refusal's line */
+/**
+ * Saves, and is refused; nothing is stored.
+ * @returns {Promise<string>} the refusal's line
+ */
 async function refused() {
   const before = wiki.read("A page");
   assert.equal(await save(), "refusal");
@@ -119,8 +134,12 @@ async function refused() {
   return tab.js(`document.getElementById("refusal-detail").textContent`);
 }
 
-/** What needs new or removed blocks: it is saved where the program takes them, else refused by name, and the text stays.
- * @param {string} wanted  the page that is saved @param {string} text  what is shown then and before */
+/**
+ * What needs new or removed blocks: it is saved where the program takes them, else refused by name, and the
+ * text stays.
+ * @param {string} wanted  the page that is saved
+ * @param {string} text  what is shown then and before
+ */
 async function storedOrNoNewBlocks(wanted, text) {
   assert.equal(await shown(), text);
   if ((await save()) === "refusal") {
@@ -135,7 +154,10 @@ async function storedOrNoNewBlocks(wanted, text) {
   assert.equal(await shown(), text);
 }
 
-/** @param {string} html @param {string} text  what the clipboard holds */
+/**
+ * @param {string} html
+ * @param {string} text  what the clipboard holds
+ */
 async function paste(html, text) {
   await tab.js(`(() => {
     const data = new DataTransfer();
@@ -306,6 +328,40 @@ test("a reference is deleted by a click and the key", { skip }, async () => {
   assert.equal(await tab.js(`document.getElementById("thing-source").textContent`), "<ref>a note</ref>");
   await tab.press("Delete");
   assert.equal(await stored(), PAGE.replace("<ref>a note</ref>", ""));
+});
+
+test("a template that is cut and pasted in its paragraph moves", { skip }, async () => {
+  await tab.js(`document.querySelector('#page [typeof="mw:Transclusion"]').click()`);
+  const html = await tab.js(`document.querySelector('#page [typeof="mw:Transclusion"]').outerHTML`);
+  await tab.press("Delete");
+  await select(" and more", 4);
+  await paste(html, "Troppau");
+  assert.equal(await stored(), PAGE.replace("{{lang|de|Troppau}} and", " and<nowiki/>{{lang|de|Troppau}}"));
+});
+
+test("a copied template becomes its text, a copied reference is left out with a word", { skip }, async () => {
+  const html = await tab.js(
+    `[...document.querySelectorAll('#page [typeof="mw:Transclusion"], [data-thing="reference"]')].map((e) => e.outerHTML).join("")`,
+  );
+  await select("Third", 5);
+  await paste(html, "");
+  assert.match(await tab.js(`document.getElementById("status").textContent`), /left out/);
+  assert.equal(await stored(), PAGE.replace("Third", "ThirdTroppau"));
+});
+
+test("a keyboard that sends no keys selects and deletes a template too", { skip }, async () => {
+  await select(" and more", 0);
+  await tab.js(`document.execCommand("delete")`);
+  await tab.js(`document.execCommand("delete")`);
+  assert.equal(await shown(), SHOWN.replace("Troppau ", ""));
+});
+
+test("after a save the caret stands where it stood", { skip }, async () => {
+  await select("Third", 5);
+  await tab.type("ly");
+  await stored();
+  await tab.type("!");
+  assert.equal(await shown(), SHOWN.replace("Third", "Thirdly!"));
 });
 
 test("an emptied cell", { skip }, async () => {

@@ -13,7 +13,10 @@ import { Wiki, examplePages, findProgram, outsideDocuments } from "./pages.js";
 const HEAD = '<!DOCTYPE html><html><head><meta charset="utf-8"/></head>';
 const program = findProgram();
 
-/** @param {string} body  what stands in it @returns {string} */
+/**
+ * @param {string} body  what stands in it
+ * @returns {string}
+ */
 function page(body) {
   return `${HEAD}<body data-parsoid='{"dsr":[0,9,0,0]}'>${body}</body></html>`;
 }
@@ -23,7 +26,10 @@ function opened(html) {
   return open(html, { document: new SmallDocument() });
 }
 
-/** A DOM as an editor left it: nothing is carried, `<comment>` becomes a comment. @param {string} body */
+/**
+ * A DOM as an editor left it: nothing is carried, `<comment>` becomes a comment.
+ * @param {string} body
+ */
 function edited(body) {
   const document = new SmallDocument();
   const put = (parent, part) => {
@@ -42,7 +48,12 @@ function edited(body) {
   return document.body;
 }
 
-/** What is saved of an edited body. @param {string} was @param {string} now @param {boolean} [marks] */
+/**
+ * What is saved of an edited body.
+ * @param {string} was
+ * @param {string} now
+ * @param {boolean} [marks]
+ */
 function saved(was, now, marks = false) {
   const html = save(edited(now), { original: page(was), marks });
   return html.slice(html.indexOf(">", html.indexOf("<body")) + 1, -"</body></html>".length);
@@ -145,7 +156,10 @@ const MARKS = [
 
 for (const [name, was, now, wanted] of MARKS) test(`marks: ${name}`, () => assert.equal(saved(was, now, true), wanted));
 
-/** @param {string} html @param {[string, string][]} replacements  one after the other, each of the first such text */
+/**
+ * @param {string} html
+ * @param {[string, string][]} replacements  one after the other, each of the first such text
+ */
 function replaced(html, replacements) {
   return replacements.reduce((text, [was, now]) => {
     assert.ok(text.includes(was), `there is no ${was}`);
@@ -153,12 +167,18 @@ function replaced(html, replacements) {
   }, html);
 }
 
-/** White space between blocks, which no edit compares. @param {string} html */
+/**
+ * White space between blocks, which no edit compares.
+ * @param {string} html
+ */
 function withoutSeparators(html) {
   return html.replace(/(<\/(?:p|h[1-6]|ul|ol|dl|table)>)[ \t\n]+/g, "$1");
 }
 
-/** jsdom, where it is installed; Debian's lies where NODE_PATH=/usr/share/nodejs finds it. @returns {any} */
+/**
+ * jsdom, where it is installed; Debian's lies where NODE_PATH=/usr/share/nodejs finds it.
+ * @returns {any}
+ */
 function findJsdom() {
   try {
     return createRequire(import.meta.url)("jsdom").JSDOM;

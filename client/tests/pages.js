@@ -22,7 +22,10 @@ export function findProgram() {
 
 /** A folder with pages, and the program over it. */
 export class Wiki {
-  /** @param {string} program @param {Record<string, string>} pages  texts by title */
+  /**
+   * @param {string} program
+   * @param {Record<string, string>} pages  texts by title
+   */
   constructor(program, pages) {
     this.program = program;
     this.folder = mkdtempSync(join(tmpdir(), "bughtiso-wiki-"));
@@ -36,23 +39,36 @@ export class Wiki {
     return join(this.folder, "pages", `${escaped}.wiki`);
   }
 
-  /** @param {string} title @param {string} text */
+  /**
+   * @param {string} title
+   * @param {string} text
+   */
   write(title, text) {
     writeFileSync(this.#path(title), text);
   }
 
-  /** @param {string} title @returns {string} */
+  /**
+   * @param {string} title
+   * @returns {string}
+   */
   read(title) {
     return readFileSync(this.#path(title), "utf8");
   }
 
-  /** @param {string[]} words @param {string} [input] @returns {{status: number | null, out: string, line: string}} */
+  /**
+   * @param {string[]} words
+   * @param {string} [input]
+   * @returns {{status: number | null, out: string, line: string}}
+   */
   run(words, input = "") {
     const { status, stdout, stderr } = spawnSync(this.program, words, { cwd: this.folder, input, maxBuffer: 1 << 30 });
     return { status, out: stdout.toString(), line: stderr.toString().trim() };
   }
 
-  /** @param {string} title @returns {string} its HTML */
+  /**
+   * @param {string} title
+   * @returns {string} its HTML
+   */
   html(title) {
     const { status, out, line } = this.run(["html", title]);
     if (status !== 0) throw new Error(line);
@@ -66,7 +82,10 @@ export class Wiki {
 
 /** The server of the repository over a wiki. */
 export class Server {
-  /** @param {Wiki} wiki @returns {Promise<Server>} */
+  /**
+   * @param {Wiki} wiki
+   * @returns {Promise<Server>}
+   */
   static async start(wiki) {
     const words = [join(REPOSITORY, "tools/serve"), join(wiki.folder, "pages"), "--port", "0", "--program", wiki.program, "--quiet"];
     const child = spawn("python3", words, { stdio: ["ignore", "pipe", "inherit"] });
@@ -82,7 +101,10 @@ export class Server {
     return new Server(child, url);
   }
 
-  /** @param {import("node:child_process").ChildProcess} child @param {string} url */
+  /**
+   * @param {import("node:child_process").ChildProcess} child
+   * @param {string} url
+   */
   constructor(child, url) {
     this.child = child;
     this.url = url;
@@ -96,8 +118,11 @@ export class Server {
   }
 }
 
-/** The HTML of outside pages, where they are beside the repository or in the folder $BUGHTISO_CASES: what `html` answers in each case that is answered.
- * @returns {string[]} */
+/**
+ * The HTML of outside pages, where they are beside the repository or in the folder $BUGHTISO_CASES: what
+ * `html` answers in each case that is answered.
+ * @returns {string[]}
+ */
 export function outsideDocuments() {
   const folder = process.env.BUGHTISO_CASES ?? join(REPOSITORY, "../shared/vectors");
   if (!existsSync(folder)) return [];
