@@ -8,7 +8,7 @@ import { pasted } from "./paste.js";
 import { Saving } from "./saving.js";
 import { ServerRefused, page as readPage } from "./server.js";
 import { deleteRests, deleteThing, elementsOf, groupSizes, nameThings, selectThing } from "./things.js";
-import { thingAt, thingBeside } from "./things.js";
+import { selectedThing, thingAt, thingBeside } from "./things.js";
 
 /** From so many on, blocks out of sight aren't laid out. */
 const MANY_BLOCKS = 500;
@@ -166,7 +166,11 @@ class Editor {
   }
 
   #selected() {
-    if (this.thing === null) return;
+    if (this.thing === null) {
+      const selected = selectedThing(this.root);
+      if (selected !== null) this.#showThing(selected);
+      return;
+    }
     const selection = document.getSelection();
     const range = selection?.rangeCount && !selection.isCollapsed ? selection.getRangeAt(0) : null;
     const isWhole = range?.intersectsNode(this.thing) ?? false;

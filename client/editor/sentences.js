@@ -10,7 +10,7 @@ const BY_NAME = {
   UnknownId: "This was pasted from another page and can't be written here. " + UNDO,
   RepeatedId: `This is a copy of what can't be written twice, as a template or a reference. ${UNDO}`,
   UnmarkedChange:
-    `This can be changed in the page's source alone so far (an item that holds a list, a table's rows). ${UNDO}`,
+    `This can be changed in the page's source alone so far (an item with a list, a table's rows). ${UNDO}`,
   NotEditable: "This can be changed in the page's source alone so far. " + UNDO,
   BadContent: "This can't stand in a paragraph. " + UNDO,
   "BadContent Element": "This can't stand in a paragraph, an item or a cell here. " + UNDO,

@@ -149,6 +149,42 @@ function edgeThing(node, isBefore, root) {
 }
 
 /**
+ * The thing that is selected by keys or by the pointer, and nothing beside it.
+ * @param {HTMLElement} root
+ * @returns {HTMLElement | null}
+ */
+export function selectedThing(root) {
+  const selection = document.getSelection();
+  if (!selection?.rangeCount || selection.isCollapsed || !root.contains(selection.anchorNode)) return null;
+  const { startContainer, startOffset, endContainer, endOffset } = selection.getRangeAt(0);
+  const first = thingAt(nodeBehind(startContainer, startOffset), root);
+  const last = thingAt(nodeBefore(endContainer, endOffset), root);
+  if (first === null || last === null) return null;
+  const [whole] = elementsOf(first, root);
+  return elementsOf(last, root)[0] === whole ? whole : null;
+}
+
+/**
+ * @param {Node} node
+ * @param {number} offset
+ * @returns {Node | null} what a place in a text or an element stands directly before; null in a text
+ */
+function nodeBehind(node, offset) {
+  if (node.nodeType !== 3) return node.childNodes[offset] ?? null;
+  return offset === /** @type {Text} */ (node).data.length ? node.nextSibling : null;
+}
+
+/**
+ * @param {Node} node
+ * @param {number} offset
+ * @returns {Node | null} what a place in a text or an element stands directly behind; null in a text
+ */
+function nodeBefore(node, offset) {
+  if (node.nodeType !== 3) return node.childNodes[offset - 1] ?? null;
+  return offset === 0 ? node.previousSibling : null;
+}
+
+/**
  * Selects a thing as a whole.
  * @param {HTMLElement} thing
  * @param {HTMLElement} root

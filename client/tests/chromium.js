@@ -35,9 +35,9 @@ export class Browser {
   constructor(path) {
     this.profile = mkdtempSync(join(tmpdir(), "bughtiso-chromium-"));
     const flags = [
-      "--headless=new", "--no-sandbox", "--disable-gpu", "--no-first-run", "--disable-extensions", "--hide-scrollbars",
-      "--disable-background-networking", "--disable-component-update", "--disable-sync", "--disable-dev-shm-usage",
-      `--user-data-dir=${this.profile}`, "--remote-debugging-pipe", "about:blank",
+      "--headless=new", "--no-sandbox", "--disable-gpu", "--no-first-run", "--disable-extensions",
+      "--hide-scrollbars", "--disable-background-networking", "--disable-component-update", "--disable-sync",
+      "--disable-dev-shm-usage", `--user-data-dir=${this.profile}`, "--remote-debugging-pipe", "about:blank",
     ];
     this.process = spawn(path, flags, { stdio: ["ignore", "ignore", "ignore", "pipe", "pipe"] });
     this.to = /** @type {import("node:stream").Writable} */ (this.process.stdio[3]);
@@ -121,7 +121,10 @@ export class Browser {
   }
 }
 
-/** Keys that are no characters: their codes, and the text that they type. */
+/**
+ * Keys that are no characters: their codes, and the text that they type.
+ * @type {Record<string, {code: number, text?: string}>}
+ */
 const KEYS = {
   Enter: { code: 13, text: "\r" },
   Backspace: { code: 8 },
@@ -135,6 +138,7 @@ const KEYS = {
   Home: { code: 36 },
   End: { code: 35 },
 };
+/** @type {Record<string, number>} */
 const MODIFIERS = { Alt: 1, Control: 2, Meta: 4, Shift: 8 };
 
 export class Tab {
@@ -158,7 +162,9 @@ export class Tab {
         const { exceptionDetails } = message.params;
         this.errors.push(exceptionDetails.exception?.description ?? exceptionDetails.text);
       }
-      if (message.method === "Page.javascriptDialogOpening") this.call("Page.handleJavaScriptDialog", { accept: true });
+      if (message.method === "Page.javascriptDialogOpening") {
+        this.call("Page.handleJavaScriptDialog", { accept: true });
+      }
     });
   }
 
@@ -184,9 +190,10 @@ export class Tab {
    * @returns {Promise<any>}
    */
   async js(expression) {
-    const answer = await this.call("Runtime.evaluate", { expression, awaitPromise: true, returnByValue: true });
-    if (answer.exceptionDetails) throw new Error(answer.exceptionDetails.exception?.description ?? "script failed");
-    return answer.result.value;
+    const how = { awaitPromise: true, returnByValue: true };
+    const { result, exceptionDetails } = await this.call("Runtime.evaluate", { expression, ...how });
+    if (exceptionDetails) throw new Error(exceptionDetails.exception?.description ?? "script failed");
+    return result.value;
   }
 
   /**
@@ -210,16 +217,18 @@ export class Tab {
     for (const key of keys) {
       const names = key.length === 1 ? [key] : key.split("+");
       const last = /** @type {string} */ (names.pop());
-      const modifiers = names.reduce((sum, name) => sum + MODIFIERS[/** @type {keyof typeof MODIFIERS} */ (name)], 0);
-      const named = KEYS[/** @type {keyof typeof KEYS} */ (last)];
-      const text = modifiers & ~8 ? undefined : named ? /** @type {any} */ (named).text : last;
+      const modifiers = names.reduce((sum, name) => sum + MODIFIERS[name], 0);
+      const named = KEYS[last];
+      const text = modifiers & ~MODIFIERS.Shift ? undefined : named ? named.text : last;
+      const upper = last.toUpperCase();
       const event = {
         modifiers,
         key: last,
-        code: named ? last : /[a-z]/i.test(last) ? `Key${last.toUpperCase()}` : "",
-        windowsVirtualKeyCode: named?.code ?? (/[a-z0-9 ]/i.test(last) ? last.toUpperCase().charCodeAt(0) : 0),
+        code: named ? last : /[a-z]/i.test(last) ? `Key${upper}` : "",
+        windowsVirtualKeyCode: named?.code ?? (/[a-z0-9 ]/i.test(last) ? upper.charCodeAt(0) : 0),
       };
-      await this.call("Input.dispatchKeyEvent", { type: text === undefined ? "rawKeyDown" : "keyDown", text, ...event });
+      const type = text === undefined ? "rawKeyDown" : "keyDown";
+      await this.call("Input.dispatchKeyEvent", { type, text, ...event });
       await this.call("Input.dispatchKeyEvent", { type: "keyUp", ...event });
     }
   }

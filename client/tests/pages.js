@@ -2,7 +2,8 @@
 /** Pages for tests, the program, and the server of the repository. */
 
 import { spawn, spawnSync } from "node:child_process";
-import { accessSync, constants, existsSync, mkdtempSync, mkdirSync, readFileSync, readdirSync, rmSync, writeFileSync } from "node:fs";
+import { accessSync, constants, existsSync, mkdtempSync, mkdirSync, readFileSync } from "node:fs";
+import { readdirSync, rmSync, writeFileSync } from "node:fs";
 import { tmpdir } from "node:os";
 import { dirname, join } from "node:path";
 import { fileURLToPath } from "node:url";
@@ -35,8 +36,9 @@ export class Wiki {
 
   /** @param {string} title */
   #path(title) {
-    const escaped = encodeURIComponent(title.replaceAll(" ", "_")).replace(/[!'()*~]/g, (sign) => `%${sign.charCodeAt(0).toString(16).toUpperCase()}`);
-    return join(this.folder, "pages", `${escaped}.wiki`);
+    const escaped = (/** @type {string} */ sign) => `%${sign.charCodeAt(0).toString(16).toUpperCase()}`;
+    const name = encodeURIComponent(title.replaceAll(" ", "_")).replace(/[!'()*~]/g, escaped);
+    return join(this.folder, "pages", `${name}.wiki`);
   }
 
   /**
@@ -61,7 +63,8 @@ export class Wiki {
    * @returns {{status: number | null, out: string, line: string}}
    */
   run(words, input = "") {
-    const { status, stdout, stderr } = spawnSync(this.program, words, { cwd: this.folder, input, maxBuffer: 1 << 30 });
+    const how = { cwd: this.folder, input, maxBuffer: 1 << 30 };
+    const { status, stdout, stderr } = spawnSync(this.program, words, how);
     return { status, out: stdout.toString(), line: stderr.toString().trim() };
   }
 
@@ -87,7 +90,8 @@ export class Server {
    * @returns {Promise<Server>}
    */
   static async start(wiki) {
-    const words = [join(REPOSITORY, "tools/serve"), join(wiki.folder, "pages"), "--port", "0", "--program", wiki.program, "--quiet"];
+    const options = ["--port", "0", "--program", wiki.program, "--quiet"];
+    const words = [join(REPOSITORY, "tools/serve"), join(wiki.folder, "pages"), ...options];
     const child = spawn("python3", words, { stdio: ["ignore", "pipe", "inherit"] });
     const url = await new Promise((done, failed) => {
       let said = "";
@@ -118,6 +122,11 @@ export class Server {
   }
 }
 
+/** @param {string} name  a file's */
+function titleOfFile(name) {
+  return decodeURIComponent(name.slice(0, -".wiki".length)).replaceAll("_", " ");
+}
+
 /**
  * The HTML of outside pages, where they are beside the repository or in the folder $BUGHTISO_CASES: what
  * `html` answers in each case that is answered.
@@ -140,6 +149,6 @@ export function examplePages() {
   return Object.fromEntries(
     readdirSync(folder)
       .filter((name) => name.endsWith(".wiki"))
-      .map((name) => [decodeURIComponent(name.slice(0, -".wiki".length)).replaceAll("_", " "), readFileSync(join(folder, name), "utf8")]),
+      .map((name) => [titleOfFile(name), readFileSync(join(folder, name), "utf8")]),
   );
 }
