@@ -191,6 +191,8 @@ class Site:
             self._check_tag(request, tag)
             if early is not None:
                 return page, early.result()
+        if b"data-parsoid" not in document:
+            original = documents.without_data_parsoid(original)
         return page, self.program.edit(name, marked(document.decode(), original.decode()).encode())
 
     def _tag_then(self, request: Request, name: str, new: Optional[bytes]) -> str:
