@@ -131,10 +131,9 @@ class Site:
             return Answer(self._page_of(document), WIKITEXT_TYPE)
         name = full_name(title)
         fields = request.fields()
-        document = bodies.encoded(bodies.text_field(fields, "html"))
         if "if-match" not in request.headers:  # which says more than the number
             self._check_revision(self.folder.read(name), wanted)
-        return Answer(self._edited(request, name, document)[1], WIKITEXT_TYPE)
+        return Answer(self._edited(request, name, fields)[1], WIKITEXT_TYPE)
 
     def _page_of(self, document: bytes) -> bytes:
         """The page that an HTML is, as it is written, or else as it is when it is mended."""
@@ -165,8 +164,7 @@ class Site:
             sentence = "Send the ETag that came with the HTML as If-Match, so that no other change is lost."
             raise Refusal(428, "NoIfMatch", sentence)
         is_preview = bodies.flag(request.query.get("preview"))
-        document = bodies.encoded(bodies.text_field(request.fields(json_alone=True), "html"))
-        page, new = self._edited(request, name, document)
+        page, new = self._edited(request, name, request.fields(json_alone=True))
         found = {
             "changed": new != page,
             "diff": unified(page.decode(), new.decode(), titles.file_name(name)),
@@ -182,15 +180,21 @@ class Site:
                 self.folder.replace(name, new)  # behind it nothing is left but to send the answer
         return answer
 
-    def _edited(self, request: Request, name: str, document: bytes) -> Tuple[bytes, bytes]:
+    def _edited(self, request: Request, name: str, fields: Dict[str, object]) -> Tuple[bytes, bytes]:
         """The page, and the new page of an edit. HTML that bears a mark was made for `edit`, and is given on
         as it is while the page's tag is looked at; other HTML is mended and marked first."""
+        document = bodies.encoded(bodies.text_field(fields, "html"))
         with ThreadPoolExecutor(1) as pool:
             early = pool.submit(self.program.edit, name, document) if MARK.search(document) else None
             page, original, tag = self._taken(name)
             self._check_tag(request, tag)
             if early is not None:
                 return page, early.result()
+        if b"data-parsoid" in document:
+            unit = request.query.get("offsetType") or fields.get("offsetType")
+            original = documents.with_offsets(original, page, str(unit or "byte"))
+        else:
+            original = documents.without_data_parsoid(original)
         return page, self.program.edit(name, marked(document.decode(), original.decode()).encode())
 
     def _tag_then(self, request: Request, name: str, new: Optional[bytes]) -> str:

@@ -130,6 +130,20 @@ class Transforms(ServingCase):
             self.assertEqual((status, answer.decode()), (200, self.page().replace("is a town in", "is an old town in")))
         self.assertEqual(self.page(), (REPOSITORY / "examples/pages/Opava.wiki").read_text())
 
+    def test_an_edit_of_each_shape(self) -> None:
+        """Whatever parameters the page was taken with, its edit comes back."""
+        (self.pages / "Opava.wiki").write_text(self.page().replace("The lead", "\U0001f600 The lead"))
+        for query in ("", "?body_only=1", "?data_parsoid=0", "?offsetType=ucs2", "?offsetType=char&body_only=1"):
+            html, tag = self.html("Opava", query)
+            document = html.replace("is a town in", "is an old town in").replace("<h2", "<!-- x --><h2")
+            unit = query.partition("offsetType=")[2].partition("&")[0]
+            for fields, also in [({"offsetType": unit} if unit else {}, ""), ({}, query)]:
+                with self.subTest(query=query, fields=fields):
+                    body = json.dumps({"html": document, **fields}).encode()
+                    path = f"{TRANSFORM}html/to/wikitext/Opava{also}"
+                    status, _, answer = self.ask("POST", path, body, Content_Type="application/json", If_Match=tag)
+                    self.assertEqual((status, answer.decode()), (200, self.page().replace("is a town", "is an old town")))
+
     def test_a_stale_edit(self) -> None:
         html, tag = self.html("Opava")
         (self.pages / "Opava.wiki").write_text(self.page() + "more")
