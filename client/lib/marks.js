@@ -47,6 +47,7 @@ function markIn(part, original) {
     if (isSame(part, kept.part)) return;
     mark(part, "content");
     if (part.name !== "p") dropLastBlanks(part);
+    for (const child of part.parts) dropSkips(child, original);
     return;
   }
   const isTopList = (part.name === "ul" || part.name === "ol") && kept.parent === null;
@@ -65,6 +66,22 @@ function dropLastBlanks(part) {
   const rest = text.replace(/[ \t\n]+$/, "");
   if (rest !== "") part.children[last] = rest;
   else part.children.pop();
+}
+
+/**
+ * The letters that joined a link (`[[dog]]s`) stand behind a skip in it, which covers its `]]`; `edit` writes
+ * a changed link with all its text between its brackets, so the skip goes.
+ * @param {Part} part  in a marked block
+ * @param {Original} original
+ */
+function dropSkips(part, original) {
+  const was = original.nodes.get(part.number)?.part;
+  if (part.name === "a" && was !== undefined && !part.attributes.has("about") && !isSame(part, was)) {
+    const isSkip = (/** @type {Part | string} */ child) =>
+      typeof child !== "string" && child.value("typeof") === "mw:Skip";
+    part.children = part.children.filter((child) => !isSkip(child));
+  }
+  if (was !== part) for (const child of part.parts) dropSkips(child, original);
 }
 
 /**

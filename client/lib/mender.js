@@ -523,24 +523,23 @@ export class Mender {
     if (!isKept || (type !== "mw:Entity" && type !== "mw:Nowiki")) return this.#inline(element.childNodes);
     const part = this.#part(element, "span", this.#inline(element.childNodes));
     if (type === "mw:Entity") return this.#entity(part);
+    if (!part.parts.every((child) => child.value("typeof") === "mw:Entity")) return part.children;
     return isEmpty(part.children) && this.#mayVanish(element) ? [] : [part];
   }
 
   /**
-   * What was typed at an entity's edge stands beside it.
+   * An entity holds its character alone: what was typed at its edges stands beside it, and an entity whose
+   * character was changed is text.
    * @param {Part} part
    * @returns {Pieces}
    */
   #entity(part) {
     const was = this.#kept(part.number)?.part.text;
+    const pieces = part.children;
     const now = part.text;
-    if (was === undefined || now === was) return [part];
-    if (now === "") return [];
-    if (isBlank(now) && isBlank(was)) return [new Part(part.name, part.attributes, [was])];
-    const isBefore = now.endsWith(was);
-    if (!isBefore && !now.startsWith(was)) return [part];
-    const whole = new Part(part.name, part.attributes, [was]);
-    return isBefore ? [now.slice(0, now.length - was.length), whole] : [whole, now.slice(was.length)];
+    if (was === undefined || (now === was && pieces.length === 1)) return [part];
+    const isBlankStill = now !== "" && isBlank(now) && isBlank(was) && part.parts.length === 0;
+    return isBlankStill ? [new Part(part.name, part.attributes, [was])] : besideEntity(part, was);
   }
 
   /**
@@ -648,6 +647,28 @@ function mayHave(name, attribute) {
     default:
       return false;
   }
+}
+
+/**
+ * An entity that holds more than its character, and what stands beside this: its first text begins with it,
+ * or its last one ends with it.
+ * @param {Part} part
+ * @param {string} was  its character
+ * @returns {Pieces}
+ */
+function besideEntity(part, was) {
+  const first = part.children[0];
+  const last = part.children[part.children.length - 1];
+  if (first === undefined || was === "") return part.children;
+  const whole = new Part(part.name, part.attributes, [was]);
+  /** @type {Pieces} */
+  let pieces = part.children;
+  if (typeof last === "string" && last.endsWith(was)) {
+    pieces = [...part.children.slice(0, -1), last.slice(0, last.length - was.length), whole];
+  } else if (typeof first === "string" && first.startsWith(was)) {
+    pieces = [whole, first.slice(was.length), ...part.children.slice(1)];
+  }
+  return pieces.filter((piece) => piece !== "");
 }
 
 /**

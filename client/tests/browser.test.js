@@ -86,7 +86,8 @@ function madePage(number) {
   const pieces = [
     "== h ==", "a '''b''' ''c'' [[d|e]]\nf", "* g\n** h\n*# i", "{|\n<!-- c -->\n|-\n| a || b\n|+ c\n|}",
     "; t : d", " p\n q", "----", "{{lang|de|x}}", "{|\n{{lang|a|<!-- -->}}\n|}",
-    "<sup>s</sup> [http://a.b c]", "x <ref>y</ref> &nbsp; <nowiki>''z''</nowiki>", "__NOTOC__", "<includeonly>i</includeonly>",
+    "<sup>s</sup> [http://a.b c]",
+    "x <ref>y</ref> &nbsp; <nowiki>''z''</nowiki>", "__NOTOC__", "<includeonly>i</includeonly>",
     "[[File:A.png]]", "{{{n|m}}}", "\u{1F600}\u0301 \u0001", "<noinclude>\n* k</noinclude>",
   ];
   let state = number;

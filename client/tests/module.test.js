@@ -217,6 +217,12 @@ const MENDS = [
     '<p id="mw1">a<span typeof="mw:Entity" id="mw2">–</span>b</p>',
   ],
   [
+    "a line break in an entity stands beside it",
+    '<p id="mw1">a<span typeof="mw:Entity" id="mw2">–</span>b</p>',
+    '<p id="mw1">a<span typeof="mw:Entity" id="mw2">–<br/>x</span>b</p>',
+    '<p id="mw1">a<span typeof="mw:Entity" id="mw2">–</span><br/>xb</p>',
+  ],
+  [
     "paragraphs in an item are its lines",
     '<ul id="mw1"><li id="mw2">a</li></ul>',
     '<ul id="mw1"><li id="mw2"><p>a</p><p>b</p></li></ul>',
@@ -297,6 +303,12 @@ const MARKS = [
     '<p id="mw1">a</p><p id="mw2">b<span typeof="mw:Extension/ref" id="mw3"></span></p>',
     '<p id="mw1">ab<span typeof="mw:Extension/ref" id="mw3"></span></p>',
     '<p id="mw2" data-wt-edit="content">ab<span typeof="mw:Extension/ref" id="mw3"></span></p>',
+  ],
+  [
+    "a changed link has no skip",
+    '<p id="mw1"><a rel="mw:WikiLink" href="./A" id="mw2">a<meta typeof="mw:Skip" id="mw3"/>s</a></p>',
+    '<p id="mw1"><a rel="mw:WikiLink" href="./A" id="mw2">ab<meta typeof="mw:Skip" id="mw3"/>s</a></p>',
+    '<p id="mw1" data-wt-edit="content"><a rel="mw:WikiLink" href="./A" id="mw2">abs</a></p>',
   ],
   [
     "a new item marks its list",
