@@ -377,7 +377,10 @@ export class Mender {
    * @returns {Part}
    */
   #item(element, name) {
-    return this.#tidied(element, name, this.#flat(this.#inline(element.childNodes), isList));
+    const content = this.#inline(element.childNodes);
+    const isLast = blocksBehindText(content);
+    const stays = (/** @type {Part} */ part) => isList(part) && (part.number !== 0 || isLast(part));
+    return this.#tidied(element, name, this.#flat(content, stays));
   }
 
   /**
@@ -408,13 +411,15 @@ export class Mender {
    * @returns {Part}
    */
   #cell(element, name) {
+    const content = this.#inline(element.childNodes);
+    const isLast = blocksBehindText(content);
     let isBehindBlock = false;
     const stays = (/** @type {Part} */ part) => {
-      const isNew = part.number === 0 && !part.attributes.has("about") && LINES.has(part.name);
-      isBehindBlock ||= !isNew;
+      const isNew = part.number === 0 && !part.attributes.has("about");
+      isBehindBlock ||= !isNew || (isLast(part) && !LINES.has(part.name));
       return isBehindBlock;
     };
-    return this.#tidied(element, name, this.#flat(this.#inline(element.childNodes), stays));
+    return this.#tidied(element, name, this.#flat(content, stays));
   }
 
   // ---- What stands in a line
@@ -605,6 +610,19 @@ export class Mender {
 /** @param {Part} part */
 function isList(part) {
   return LISTS.has(part.name);
+}
+
+/**
+ * In an item or a cell blocks stand behind all text.
+ * @param {Pieces} pieces
+ * @returns {(block: Part) => boolean} whether one of them does
+ */
+function blocksBehindText(pieces) {
+  const isText = (/** @type {Part | string} */ piece) =>
+    typeof piece === "string" ? !isBlank(piece) : !isBlock(piece) && !isHiddenName(piece.name);
+  const end = pieces.map(isText).lastIndexOf(true);
+  const behind = new Set(pieces.slice(end + 1));
+  return (block) => behind.has(block);
 }
 
 /**

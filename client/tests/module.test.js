@@ -229,6 +229,18 @@ const MENDS = [
     '<ul id="mw1"><li id="mw2">a<br/>b</li></ul>',
   ],
   [
+    "a new list before text of an item is its lines",
+    '<ul id="mw1"><li id="mw2">ab</li></ul>',
+    '<ul id="mw1"><li id="mw2">a<ul><li>x</li><li>y</li></ul>b</li></ul>',
+    '<ul id="mw1"><li id="mw2">a<br/>x<br/>y<br/>b</li></ul>',
+  ],
+  [
+    "a new list behind the text of an item stays",
+    '<ul id="mw1"><li id="mw2">ab</li></ul>',
+    '<ul id="mw1"><li id="mw2">ab<ul><li>x</li></ul></li></ul>',
+    '<ul id="mw1"><li id="mw2">ab<ul><li>x</li></ul></li></ul>',
+  ],
+  [
     "an empty new item goes",
     '<ul id="mw1"><li id="mw2">a</li></ul>',
     '<ul id="mw1"><li id="mw2">a</li><li><br/></li></ul>',
