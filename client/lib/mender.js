@@ -540,11 +540,11 @@ export class Mender {
    */
   #entity(part) {
     const was = this.#kept(part.number)?.part.text;
-    const pieces = part.children;
+    if (was === undefined || (part.children.length === 1 && part.children[0] === was)) return [part];
+    const whole = new Part(part.name, part.attributes, [was]);
     const now = part.text;
-    if (was === undefined || (now === was && pieces.length === 1)) return [part];
     const isBlankStill = now !== "" && isBlank(now) && isBlank(was) && part.parts.length === 0;
-    return isBlankStill ? [new Part(part.name, part.attributes, [was])] : besideEntity(part, was);
+    return isBlankStill ? [whole] : withEntity(part.children, was, whole) ?? part.children;
   }
 
   /**
@@ -668,25 +668,33 @@ function mayHave(name, attribute) {
 }
 
 /**
- * An entity that holds more than its character, and what stands beside this: its first text begins with it,
- * or its last one ends with it.
- * @param {Part} part
- * @param {string} was  its character
- * @returns {Pieces}
+ * What stands in an entity, with the entity itself in place of its character.
+ * @param {Pieces} pieces
+ * @param {string} character
+ * @param {Part} entity
+ * @returns {Pieces | null} null where the character isn't there
  */
-function besideEntity(part, was) {
-  const first = part.children[0];
-  const last = part.children[part.children.length - 1];
-  if (first === undefined || was === "") return part.children;
-  const whole = new Part(part.name, part.attributes, [was]);
-  /** @type {Pieces} */
-  let pieces = part.children;
-  if (typeof last === "string" && last.endsWith(was)) {
-    pieces = [...part.children.slice(0, -1), last.slice(0, last.length - was.length), whole];
-  } else if (typeof first === "string" && first.startsWith(was)) {
-    pieces = [whole, first.slice(was.length), ...part.children.slice(1)];
+function withEntity(pieces, character, entity) {
+  for (const [at, piece] of pieces.entries()) {
+    const isText = typeof piece === "string";
+    const inside = isText ? cutAt(piece, character, entity) : withEntity(piece.children, character, entity);
+    if (inside === null) continue;
+    const put = isText ? inside : [new Part(piece.name, piece.attributes, inside)];
+    return [...pieces.slice(0, at), ...put, ...pieces.slice(at + 1)];
   }
-  return pieces.filter((piece) => piece !== "");
+  return null;
+}
+
+/**
+ * @param {string} text
+ * @param {string} character
+ * @param {Part} entity
+ * @returns {Pieces | null} the text with the entity for its character; null where that isn't there
+ */
+function cutAt(text, character, entity) {
+  const at = character === "" ? -1 : text.indexOf(character);
+  if (at < 0) return null;
+  return [text.slice(0, at), entity, text.slice(at + character.length)].filter((piece) => piece !== "");
 }
 
 /**

@@ -223,6 +223,12 @@ const MENDS = [
     '<p id="mw1">a<span typeof="mw:Entity" id="mw2">–</span><br/>xb</p>',
   ],
   [
+    "an entity may be made bold",
+    '<p id="mw1">a<span typeof="mw:Entity" id="mw2">–</span>b</p>',
+    '<p id="mw1">a<span typeof="mw:Entity" id="mw2"><b>–x</b></span>b</p>',
+    '<p id="mw1">a<b><span typeof="mw:Entity" id="mw2">–</span>x</b>b</p>',
+  ],
+  [
     "paragraphs in an item are its lines",
     '<ul id="mw1"><li id="mw2">a</li></ul>',
     '<ul id="mw1"><li id="mw2"><p>a</p><p>b</p></li></ul>',
