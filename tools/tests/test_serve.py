@@ -1,11 +1,13 @@
 """The routes of serve, over the example pages."""
 import json
 import os
+import socket
 import subprocess
 import sys
 import unittest
 from html.parser import HTMLParser
 from urllib.parse import urlencode
+from urllib.request import urlopen
 
 from loading import REPOSITORY, TOOLS
 from serving_case import PROGRAM, ServingCase, edited, run_program
@@ -330,6 +332,20 @@ class Editor(ServingCase):
 
 @unittest.skipIf(PROGRAM is None, "wtround is not built here (WTROUND=FILE names another)")
 class Command(unittest.TestCase):
+    def test_an_address_of_ipv6(self) -> None:
+        if not socket.has_ipv6:
+            self.skipTest("there is no IPv6")
+        command = [sys.executable, str(TOOLS / "serve"), str(REPOSITORY / "examples/pages"), "--address", "::1"]
+        with subprocess.Popen([*command, "--port", "0", "--program", PROGRAM, "-q"], stdout=subprocess.PIPE) as process:
+            address = process.stdout.readline().decode().strip()
+            try:
+                if not address:
+                    self.skipTest("this machine has no address of IPv6")
+                with urlopen(address + "titles", timeout=120) as answer:
+                    self.assertEqual(len(json.load(answer)["titles"]), 3)
+            finally:
+                process.terminate()
+
     def run_tool(self, *words: str) -> subprocess.CompletedProcess:
         command = [sys.executable, str(TOOLS / "serve"), *words]
         return subprocess.run(command, stdout=subprocess.PIPE, stderr=subprocess.PIPE, timeout=120)

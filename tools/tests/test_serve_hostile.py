@@ -150,6 +150,12 @@ class Hostile(ServingCase):
             self.assertEqual([status for status, _ in came], [413])
             self.assertEqual(json.loads(came[0][1])["error"], "BodyTooLong")
 
+    def test_html_that_is_too_long_to_mend(self) -> None:
+        tag = self.html("Opava")[1].encode()
+        body = b'{"html": "' + b"<b>x</b>" * 2_200_000 + b'"}'
+        came = answers(self.raw(request(b"POST /save/Opava", HOST + b"If-Match: " + tag + b"\r\n" + JSON, body)))
+        self.assertEqual((came[0][0], json.loads(came[0][1])["error"]), (413, "TooLongToMend"))
+
     def test_a_body_is_asked_for_once_the_head_is_let_in(self) -> None:
         head = HOST + JSON + b"Expect: 100-continue\r\n"
         came = answers(self.raw(request(b"POST /save/Opava", head, b'{"html": "<p>x</p>"}')))
