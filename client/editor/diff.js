@@ -55,7 +55,15 @@ function changedLines(removed, added) {
 }
 
 /**
- * Two lines, each cut where they begin and stop to differ, at words.
+ * @param {string | undefined} sign
+ * @returns {boolean} whether it belongs to a word
+ */
+function isOfWord(sign) {
+  return sign !== undefined && /[\p{L}\p{N}\ud800-\udfff]/u.test(sign);
+}
+
+/**
+ * Two lines, each cut where they begin and stop to differ, and never in a word.
  * @param {string} left
  * @param {string} right
  * @returns {[string[], string[]]}
@@ -64,10 +72,12 @@ function cut(left, right) {
   const most = Math.min(left.length, right.length);
   let front = 0;
   while (front < most && left[front] === right[front]) front += 1;
-  while (front > 0 && /[\p{L}\p{N}\ud800-\udfff]/u.test(left[front - 1])) front -= 1;
+  while (isOfWord(left[front - 1]) && (isOfWord(left[front]) || isOfWord(right[front]))) front -= 1;
+  const fromEnd = (/** @type {string} */ line, /** @type {number} */ signs) => line[line.length - signs];
   let back = 0;
-  while (back < most - front && left[left.length - 1 - back] === right[right.length - 1 - back]) back += 1;
-  while (back > 0 && /[\p{L}\p{N}\ud800-\udfff]/u.test(left[left.length - back])) back -= 1;
+  while (back < most - front && fromEnd(left, back + 1) === fromEnd(right, back + 1)) back += 1;
+  const isInWord = () => isOfWord(fromEnd(left, back + 1)) || isOfWord(fromEnd(right, back + 1));
+  while (back > 0 && isOfWord(fromEnd(left, back)) && isInWord()) back -= 1;
   const parts = (/** @type {string} */ line) => {
     const end = line.length - back;
     return [line.slice(0, front), line.slice(front, end), line.slice(end)];
