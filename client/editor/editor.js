@@ -8,7 +8,7 @@ import { pasted } from "./paste.js";
 import { Saving } from "./saving.js";
 import { ServerRefused, page as readPage } from "./server.js";
 import { deleteRests, deleteThing, elementsOf, groupSizes, nameThings, selectThing } from "./things.js";
-import { selectedThing, thingAt, thingBeside } from "./things.js";
+import { selectedThing, thingAt, thingBeside, thingsById } from "./things.js";
 
 /** From so many on, blocks out of sight aren't laid out. */
 const MANY_BLOCKS = 500;
@@ -34,6 +34,11 @@ class Editor {
     this.etag = "";
     /** @type {Map<string, number>} */
     this.sizes = new Map();
+    /**
+     * The things of the page as it was opened, by their ids.
+     * @type {Map<string, HTMLElement[]>}
+     */
+    this.things = new Map();
     /**
      * The thing that is selected as a whole.
      * @type {HTMLElement | null}
@@ -87,6 +92,7 @@ class Editor {
       this.root.classList.toggle("long", this.root.childElementCount > MANY_BLOCKS);
       nameThings(this.root);
       this.sizes = groupSizes(this.root);
+      this.things = thingsById(this.root);
       this.history.forget();
       this.root.contentEditable = "true";
       document.execCommand("defaultParagraphSeparator", false, "p");
@@ -189,7 +195,6 @@ class Editor {
     byId("thing-name").textContent = thing.dataset.name ?? "";
     byId("thing-advice").textContent = "can be changed in the page's source alone. Delete takes it out.";
     byId("thing-source").textContent = sourceOf(thing);
-    this.say(`${thing.dataset.name ?? "It"} is selected.`);
   }
 
   // ---- What is typed and pasted
@@ -207,7 +212,7 @@ class Editor {
   #paste(event) {
     event.preventDefault();
     if (event.clipboardData === null) return;
-    const { html, leftOut } = pasted(event.clipboardData, this.root);
+    const { html, leftOut } = pasted(event.clipboardData, this.root, this.things);
     if (html !== "") this.history.step(() => document.execCommand("insertHTML", false, html));
     if (leftOut > 0) this.say("Templates and references can't be copied: they were left out.");
   }

@@ -19,15 +19,17 @@ const BLOCKS = "p,h1,h2,h3,h4,h5,h6,ul,ol,div,table,tr,dt,dd,pre,blockquote";
 /**
  * What the clipboard holds, as HTML of ours.
  * @param {DataTransfer} data
- * @param {HTMLElement} root  the text: a template or reference that was cut out of it comes back as it was
+ * @param {HTMLElement} root  the text
+ * @param {Map<string, HTMLElement[]>} things  what can't be edited, as the page was opened: a template or
+ *   reference that was cut out of the text comes back as it was
  * @returns {{html: string, leftOut: number}} `leftOut`: how many templates and references couldn't be copied
  */
-export function pasted(data, root) {
+export function pasted(data, root, things) {
   const html = data.getData("text/html");
   if (html === "") return { html: fromText(data.getData("text/plain")), leftOut: 0 };
   const page = new DOMParser().parseFromString(html, "text/html");
   const out = document.createElement("div");
-  const cleaner = new Cleaner(root);
+  const cleaner = new Cleaner(root, things);
   cleaner.copy(page.body, out);
   return { html: out.innerHTML, leftOut: cleaner.leftOut };
 }
@@ -51,9 +53,13 @@ function fromText(text) {
 class Cleaner {
   leftOut = 0;
 
-  /** @param {HTMLElement} root */
-  constructor(root) {
+  /**
+   * @param {HTMLElement} root
+   * @param {Map<string, HTMLElement[]>} things
+   */
+  constructor(root, things) {
     this.root = root;
+    this.things = things;
   }
 
   /**
@@ -89,9 +95,10 @@ class Cleaner {
    * @param {Element} to
    */
   #thing(element, to) {
-    const id = element.getAttribute("id") ?? "";
-    const isCut = id !== "" && this.root.querySelector(`[id="${CSS.escape(id)}"]`) === null;
-    if (isCut) to.append(element.cloneNode(true));
+    const elements = this.things.get(element.getAttribute("id") ?? "") ?? [];
+    const isCut = elements.length > 0 && !elements.some((each) => this.root.contains(each));
+    if (isCut) to.append(...elements.map((each) => each.cloneNode(true)));
+    else if (element.hasAttribute("about") && !element.hasAttribute("id")) return;
     else if ((element.textContent ?? "") !== "") to.append(element.textContent ?? "");
     else this.leftOut += 1;
   }

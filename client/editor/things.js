@@ -70,6 +70,26 @@ export function nameThings(root) {
 }
 
 /**
+ * The elements of each thing that has an `id`.
+ * @param {HTMLElement} root
+ * @returns {Map<string, HTMLElement[]>}
+ */
+export function thingsById(root) {
+  /** @type {Map<string, HTMLElement[]>} */
+  const things = new Map();
+  /** @type {Map<string, HTMLElement[]>} */
+  const groups = new Map();
+  for (const element of /** @type {NodeListOf<HTMLElement>} */ (root.querySelectorAll("[data-thing]"))) {
+    const about = element.getAttribute("about") ?? "";
+    const elements = (about !== "" && groups.get(about)) || [];
+    elements.push(element);
+    if (about !== "") groups.set(about, elements);
+    if (element.id !== "") things.set(element.id, elements);
+  }
+  return things;
+}
+
+/**
  * @param {Node | null} node
  * @param {HTMLElement} root
  * @returns {HTMLElement | null} the thing that a node stands in
