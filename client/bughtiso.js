@@ -1,12 +1,13 @@
 // @ts-check
 /**
- * Pages of wikitext as HTML, for editors: `open` puts a page into a DOM, `save` writes the document that the program
- * `wtround` takes back, from whatever an editor and a browser have made of this DOM. One module without dependencies,
- * for browsers and for Node with any DOM.
+ * Pages of wikitext as HTML, for editors: `open` puts a page into a DOM, `save` writes the document that the
+ * program `wtround` takes back, from whatever an editor and a browser have made of this DOM. One module
+ * without dependencies, for browsers and for Node with any DOM.
  *
- * `save` only walks over the DOM and never changes it, so undo of the browser goes on working after it. It never uses
- * `innerHTML`: the program reads a strict HTML (each attribute in quotes, each element closed, six escapes by name), and
- * one writer knows its rules. What editors leave behind is mended on the way; README.md lists each mend.
+ * `save` only walks over the DOM and never changes it, so undo of the browser goes on working after it. It
+ * never uses `innerHTML`: the program reads a strict HTML (each attribute in quotes, each element closed, six
+ * escapes by name), and one writer knows its rules. What editors leave behind is mended on the way; README.md
+ * lists each mend.
  */
 
 import { Part, write } from "./lib/markup.js";
@@ -19,7 +20,10 @@ export { Offsets, rangeOf } from "./lib/offsets.js";
 export { describe, titleOf } from "./lib/names.js";
 export { hrefOf } from "./lib/links.js";
 
-/** What each opened root was, so that `save` can tell what was changed. @type {WeakMap<object, Original>} */
+/**
+ * What each opened root was, so that `save` can tell what was changed.
+ * @type {WeakMap<object, Original>}
+ */
 const opened = new WeakMap();
 
 /** Where an HTML parser throws out a `meta`, a `link` and an empty `span`. */
@@ -28,16 +32,16 @@ const TABLE_PARTS = new Set(["table", "tbody", "tr"]);
 /**
  * Puts a page into a DOM.
  *
- * In tables, where a parser of HTML would move a `meta`, a `link` or an empty `span` out, a *carrier* stands for it:
- * `<template data-wt-name="meta" ..its attributes..>`, which stays where it is, also when the editor writes and reads
- * its DOM as HTML. `save` undoes the carriers.
- *
+ * In tables, where a parser of HTML would move a `meta`, a `link` or an empty `span` out, a *carrier* stands
+ * for it: `<template data-wt-name="meta" ..its attributes..>`, which stays where it is, also when the editor
+ * writes and reads its DOM as HTML. `save` undoes the carriers.
  * @param {string} html  what `wtround html TITLE` wrote
- * @param {{into?: Element, document?: Document}} [options]
- *   `into`: the element that is to hold what stands in the page's body; it is emptied first. Without it a new document
- *   is made, and its body holds the page. `document`: the document that makes the elements, where there is no `into`
- *   and no global `document`, as in Node.
- * @returns {Element} the element that holds the page: `into`, or the new document's body. It is what `save` takes.
+ * @param {{into?: Element, document?: Document}} [options] `into`: the element that is to hold what stands in
+ *   the page's body; it is emptied first. Without it a new document is made, and its body holds the page.
+ *   `document`: the document that makes the elements, where there is no `into` and no global `document`, as
+ *   in Node.
+ * @returns {Element} the element that holds the page: `into`, or the new document's body. It is what `save`
+ *   takes.
  * @throws {HtmlRefused} where `html` isn't a document as the program writes it
  */
 export function open(html, options = {}) {
@@ -52,15 +56,14 @@ export function open(html, options = {}) {
 
 /**
  * Writes the page as a strict document.
- *
- * @param {Element | Document} dom  the root that `open` answered, another element whose inside is a page's, or a
- *   document
- * @param {{marks?: boolean, original?: string}} [options]
- *   `marks`: put the marks that the command `edit` asks for: `data-wt-edit="content"` on each block whose inside
- *   differs from the page that was opened, and `children` on the body and on its lists where blocks or items came or
- *   went. An element that was moved to another block then loses its `id` where it can be written anew (bold, italic,
- *   links, line breaks, paragraphs, headings, items). `original`: the HTML as the program wrote it, where `dom` wasn't
- *   made by `open`.
+ * @param {Element | Document} dom  the root that `open` answered, another element whose inside is a page's,
+ *   or a document
+ * @param {{marks?: boolean, original?: string}} [options] `marks`: put the marks that the command `edit` asks
+ *   for: `data-wt-edit="content"` on each block whose inside differs from the page that was opened, and
+ *   `children` on the body and on its lists where blocks or items came or went. An element that was moved to
+ *   another block then loses its `id` where it can be written anew (bold, italic, links, line breaks,
+ *   paragraphs, headings, items). `original`: the HTML as the program wrote it, where `dom` wasn't made by
+ *   `open`.
  * @returns {string} the document
  */
 export function save(dom, options = {}) {
@@ -68,7 +71,9 @@ export function save(dom, options = {}) {
   const original = options.original === undefined ? opened.get(root) : new Original(options.original);
   const page = new Mender(original).page(root);
   if (options.marks) {
-    if (original === undefined) throw new TypeError("marks need the page as it was: `open` it, or give `original`");
+    if (original === undefined) {
+      throw new TypeError("marks need the page as it was: `open` it, or give `original`");
+    }
     addMarks(page, original);
   }
   return write(page);
@@ -84,7 +89,11 @@ export function isChanged(root) {
   return original === undefined || write(new Mender(original).page(root)) !== original.text;
 }
 
-/** @param {Document | undefined} document @param {Part} page @returns {HTMLElement} */
+/**
+ * @param {Document | undefined} document
+ * @param {Part} page
+ * @returns {HTMLElement}
+ */
 function newBody(document, page) {
   if (document === undefined) throw new TypeError("there is no document here: give `document` or `into`");
   const body = document.implementation.createHTMLDocument("").body;
@@ -92,8 +101,12 @@ function newBody(document, page) {
   return body;
 }
 
-/** Makes the nodes of a part's inside. @param {Node} parent  that holds them then @param {Document} document
- * @param {Part} part */
+/**
+ * Makes the nodes of a part's inside.
+ * @param {Node} parent  that holds them then
+ * @param {Document} document
+ * @param {Part} part
+ */
 function fill(parent, document, part) {
   for (const child of part.children) {
     if (typeof child === "string") {
@@ -114,7 +127,10 @@ function isLostInTables(part) {
   return part.name === "meta" || part.name === "link" || (part.name === "span" && part.children.length === 0);
 }
 
-/** @param {Element | Document} dom @returns {Element} */
+/**
+ * @param {Element | Document} dom
+ * @returns {Element}
+ */
 function bodyOf(dom) {
   if (dom.nodeType === 9) return /** @type {Document} */ (dom).body;
   const element = /** @type {Element} */ (dom);

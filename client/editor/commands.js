@@ -11,18 +11,29 @@ const NEW_LINK = "#new-link-of-the-editor";
 const KEYS = { b: "bold", i: "italic", k: "link", z: "undo", y: "redo" };
 
 export class Commands {
-  /** @param {HTMLElement} root  the text @param {History} history @param {(text: string) => void} say */
+  /**
+   * @param {HTMLElement} root  the text
+   * @param {History} history
+   * @param {(text: string) => void} say
+   */
   constructor(root, history, say) {
     this.root = root;
     this.history = history;
     this.say = say;
+    /**
+     * What was last selected in the text.
+     * @type {Range | null}
+     */
+    this.range = null;
     this.buttons = /** @type {NodeListOf<HTMLButtonElement>} */ (document.querySelectorAll("[data-command]"));
     this.block = /** @type {HTMLSelectElement} */ (document.getElementById("block"));
     for (const button of this.buttons) {
       button.addEventListener("mousedown", (event) => event.preventDefault());
       button.addEventListener("click", () => this.run(button.dataset.command ?? ""));
     }
-    this.block.addEventListener("change", () => this.#formatBlock(this.block.value));
+    this.block.addEventListener("pointerdown", () => (this.isByPointer = true));
+    this.block.addEventListener("keydown", () => (this.isByPointer = false));
+    this.block.addEventListener("change", () => this.#chooseBlock());
     document.addEventListener("selectionchange", () => this.show());
     root.addEventListener("keydown", (event) => this.#key(event));
     this.#rememberSelection();
@@ -30,11 +41,10 @@ export class Commands {
 
   /** Keeps the selection in the text while another control has the focus. */
   #rememberSelection() {
-    /** @type {Range | null} */
-    this.range = null;
     document.addEventListener("selectionchange", () => {
       const selection = document.getSelection();
-      if (selection?.rangeCount && this.root.contains(selection.anchorNode)) this.range = selection.getRangeAt(0).cloneRange();
+      const isHere = selection?.rangeCount && this.root.contains(selection.anchorNode);
+      if (isHere) this.range = selection.getRangeAt(0).cloneRange();
     });
   }
 
@@ -50,7 +60,10 @@ export class Commands {
     selection?.addRange(range);
   }
 
-  /** Remembers the selection while a dialog is open. @returns {() => void} puts it back, and the focus */
+  /**
+   * Remembers the selection while a dialog is open.
+   * @returns {() => void} puts it back, and the focus
+   */
   bookmark() {
     this.focus();
     const selection = document.getSelection();
@@ -89,6 +102,12 @@ export class Commands {
     this.show();
   }
 
+  /** Whoever chooses by keys stays in the list. */
+  #chooseBlock() {
+    this.#formatBlock(this.block.value);
+    if (this.isByPointer === false) this.block.focus();
+  }
+
   /** @param {string} name */
   #formatBlock(name) {
     if (name === "") return;
@@ -125,7 +144,10 @@ export class Commands {
     return /^(?:p|h[1-6])$/.test(name) ? name : "";
   }
 
-  /** @param {string} selector @returns {Element | null} the nearest such element round the caret, in the text */
+  /**
+   * @param {string} selector
+   * @returns {Element | null} the nearest such element round the caret, in the text
+   */
   #closest(selector) {
     const node = document.getSelection()?.focusNode ?? null;
     const element = node?.nodeType === 1 ? /** @type {Element} */ (node) : node?.parentElement ?? null;
@@ -144,7 +166,7 @@ export class Commands {
     if (!selection?.rangeCount) return;
     const text = selection.toString();
     const hasText = link !== null || text.trim() !== "";
-    const href = link?.getAttribute("href") ?? (/^[a-z]+:\/\//i.test(text) || text.length > 100 ? text.trim() : text);
+    const href = link?.getAttribute("href") ?? text.trim();
     const restore = this.bookmark();
     const wish = await askForLink({ href, text: "", isLink: link !== null, hasText });
     restore();
@@ -173,11 +195,14 @@ export class Commands {
     const title = decodeURIComponent(wish.href.replace(/^\.\//, "")).replaceAll("_", " ");
     link.textContent = wish.text.trim() || (wish.rel === "mw:WikiLink" ? title : wish.href);
     range.insertNode(link);
-    document.getSelection()?.collapse(link.parentNode, [...(link.parentNode?.childNodes ?? [])].indexOf(link) + 1);
+    range.collapse(false);
   }
 }
 
-/** @param {Element} link @param {{href: string, rel: string}} target */
+/**
+ * @param {Element} link
+ * @param {{href: string, rel: string}} target
+ */
 function setTarget(link, target) {
   link.setAttribute("rel", target.rel);
   link.setAttribute("href", target.href);

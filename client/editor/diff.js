@@ -1,7 +1,10 @@
 // @ts-check
 /** A unified diff, to be read: changed lines with what changed in them. */
 
-/** @param {string} diff @returns {Node[]} */
+/**
+ * @param {string} diff
+ * @returns {Node[]}
+ */
 export function shownDiff(diff) {
   /** @type {Node[]} */
   const out = [];
@@ -25,14 +28,23 @@ export function shownDiff(diff) {
   return out;
 }
 
-/** @param {string[]} lines @param {number} from @param {string} sign @returns {string[]} those that begin with it */
+/**
+ * @param {string[]} lines
+ * @param {number} from
+ * @param {string} sign
+ * @returns {string[]} those that begin with it
+ */
 function run(lines, from, sign) {
   let end = from;
   while (end < lines.length && lines[end].startsWith(sign)) end += 1;
   return lines.slice(from, end).map((line) => line.slice(1));
 }
 
-/** @param {string[]} removed @param {string[]} added @returns {Node[]} */
+/**
+ * @param {string[]} removed
+ * @param {string[]} added
+ * @returns {Node[]}
+ */
 function changedLines(removed, added) {
   const isPaired = removed.length === added.length;
   const pairs = removed.map((line, at) => (isPaired ? cut(line, added[at]) : null));
@@ -42,21 +54,43 @@ function changedLines(removed, added) {
   ];
 }
 
-/** Two lines, each cut where they begin and stop to differ, at words. @param {string} left @param {string} right
- * @returns {[string[], string[]]} */
+/**
+ * @param {string | undefined} sign
+ * @returns {boolean} whether it belongs to a word
+ */
+function isOfWord(sign) {
+  return sign !== undefined && /[\p{L}\p{N}\ud800-\udfff]/u.test(sign);
+}
+
+/**
+ * Two lines, each cut where they begin and stop to differ, and never in a word.
+ * @param {string} left
+ * @param {string} right
+ * @returns {[string[], string[]]}
+ */
 function cut(left, right) {
   const most = Math.min(left.length, right.length);
   let front = 0;
   while (front < most && left[front] === right[front]) front += 1;
-  while (front > 0 && /[\p{L}\p{N}\ud800-\udfff]/u.test(left[front - 1])) front -= 1;
+  while (isOfWord(left[front - 1]) && (isOfWord(left[front]) || isOfWord(right[front]))) front -= 1;
+  const fromEnd = (/** @type {string} */ line, /** @type {number} */ signs) => line[line.length - signs];
   let back = 0;
-  while (back < most - front && left[left.length - 1 - back] === right[right.length - 1 - back]) back += 1;
-  while (back > 0 && /[\p{L}\p{N}\ud800-\udfff]/u.test(left[left.length - back])) back -= 1;
-  const parts = (/** @type {string} */ line) => [line.slice(0, front), line.slice(front, line.length - back), line.slice(line.length - back)];
+  while (back < most - front && fromEnd(left, back + 1) === fromEnd(right, back + 1)) back += 1;
+  const isInWord = () => isOfWord(fromEnd(left, back + 1)) || isOfWord(fromEnd(right, back + 1));
+  while (back > 0 && isOfWord(fromEnd(left, back)) && isInWord()) back -= 1;
+  const parts = (/** @type {string} */ line) => {
+    const end = line.length - back;
+    return [line.slice(0, front), line.slice(front, end), line.slice(end)];
+  };
   return [parts(left), parts(right)];
 }
 
-/** @param {string} kind @param {string} sign @param {string[]} parts  before, changed, behind @param {string} name */
+/**
+ * @param {string} kind
+ * @param {string} sign
+ * @param {string[]} parts  before, changed, behind
+ * @param {string} name
+ */
 function shownLine(kind, sign, parts, name) {
   const line = document.createElement("div");
   line.className = `line ${kind}`;

@@ -7,12 +7,17 @@ import { History } from "./history.js";
 import { pasted } from "./paste.js";
 import { Saving } from "./saving.js";
 import { ServerRefused, page as readPage } from "./server.js";
-import { deleteRests, deleteThing, groupSizes, nameThings, selectThing, thingAt, thingBeside } from "./things.js";
+import { deleteRests, deleteThing, elementsOf, groupSizes, nameThings, selectThing } from "./things.js";
+import { selectedThing, thingAt, thingBeside, thingsById } from "./things.js";
 
 /** From so many on, blocks out of sight aren't laid out. */
 const MANY_BLOCKS = 500;
 
-/** @template {HTMLElement} T @param {string} id @returns {T} */
+/**
+ * @template {HTMLElement} T
+ * @param {string} id
+ * @returns {T}
+ */
 const byId = (id) => /** @type {T} */ (/** @type {unknown} */ (document.getElementById(id)));
 
 /** @returns {string} the title that the address names */
@@ -29,7 +34,15 @@ class Editor {
     this.etag = "";
     /** @type {Map<string, number>} */
     this.sizes = new Map();
-    /** The thing that is selected as a whole. @type {HTMLElement | null} */
+    /**
+     * The things of the page as it was opened, by their ids.
+     * @type {Map<string, HTMLElement[]>}
+     */
+    this.things = new Map();
+    /**
+     * The thing that is selected as a whole.
+     * @type {HTMLElement | null}
+     */
     this.thing = null;
     this.history = new History(this.root, () => this.#changed());
     this.commands = new Commands(this.root, this.history, (text) => this.say(text));
@@ -70,14 +83,16 @@ class Editor {
   /** Reads the page from the server and shows it. */
   async read() {
     try {
-      const scrolled = window.scrollY;
       const { html, etag } = await readPage(this.title);
+      const scrolled = window.scrollY;
+      const caret = caretIn(this.root);
       this.html = html;
       this.etag = etag;
       open(html, { into: this.root });
       this.root.classList.toggle("long", this.root.childElementCount > MANY_BLOCKS);
       nameThings(this.root);
       this.sizes = groupSizes(this.root);
+      this.things = thingsById(this.root);
       this.history.forget();
       this.root.contentEditable = "true";
       document.execCommand("defaultParagraphSeparator", false, "p");
@@ -85,6 +100,7 @@ class Editor {
       byId("save").removeAttribute("disabled");
       byId("waiting").hidden = true;
       window.scrollTo(0, scrolled);
+      if (caret !== null) putCaret(this.root, caret);
     } catch (error) {
       byId("waiting").textContent = error instanceof ServerRefused ? error.sentence : String(error);
       byId("waiting").hidden = false;
@@ -100,6 +116,7 @@ class Editor {
 
   #changed() {
     this.commands?.show();
+    this.saving?.clear();
     if (byId("status").textContent !== "") this.say("");
   }
 
@@ -110,15 +127,22 @@ class Editor {
     if (event.key === "Escape") this.#showThing(null);
     if (event.key !== "Backspace" && event.key !== "Delete") return;
     if (event.ctrlKey || event.metaKey || event.altKey) return;
+    if (this.#takesThing(event.key === "Backspace")) event.preventDefault();
+  }
+
+  /**
+   * Deletes the thing that is selected, or selects the one beside the caret.
+   * @param {boolean} isBackward
+   * @returns {boolean} whether there was one
+   */
+  #takesThing(isBackward) {
     if (this.thing !== null) {
-      event.preventDefault();
       this.#deleteThing();
-      return;
+      return true;
     }
-    const beside = thingBeside(this.root, event.key === "Backspace");
-    if (beside === null) return;
-    event.preventDefault();
-    this.#select(beside);
+    const beside = thingBeside(this.root, isBackward);
+    if (beside !== null) this.#select(beside);
+    return beside !== null;
   }
 
   /** @param {HTMLElement} thing */
@@ -141,39 +165,45 @@ class Editor {
     const thing = thingAt(/** @type {Node} */ (event.target), this.root);
     if (thing !== null) {
       event.preventDefault();
-      const about = thing.getAttribute("about");
-      this.#select(about === null ? thing : this.root.querySelector(`[about="${CSS.escape(about)}"]`) ?? thing);
+      this.#select(elementsOf(thing, this.root)[0]);
     } else if (/** @type {Element} */ (event.target).closest("a")) {
       event.preventDefault();
     }
   }
 
   #selected() {
-    if (this.thing === null) return;
+    if (this.thing === null) {
+      const selected = selectedThing(this.root);
+      if (selected !== null) this.#showThing(selected);
+      return;
+    }
     const selection = document.getSelection();
-    const isWhole = selection?.rangeCount && !selection.isCollapsed && selection.getRangeAt(0).intersectsNode(this.thing);
+    const range = selection?.rangeCount && !selection.isCollapsed ? selection.getRangeAt(0) : null;
+    const isWhole = range?.intersectsNode(this.thing) ?? false;
     if (!isWhole && document.activeElement === this.root) this.#showThing(null);
   }
 
   /** @param {HTMLElement | null} thing */
   #showThing(thing) {
-    for (const element of this.root.querySelectorAll("[data-selected]")) element.removeAttribute("data-selected");
+    for (const element of this.root.querySelectorAll("[data-selected]")) {
+      element.removeAttribute("data-selected");
+    }
     this.thing = thing;
     byId("thing").hidden = thing === null;
     if (thing === null) return;
-    const about = thing.getAttribute("about");
-    const all = about === null ? [thing] : this.root.querySelectorAll(`[about="${CSS.escape(about)}"]`);
-    for (const element of all) element.setAttribute("data-selected", "");
+    for (const element of elementsOf(thing, this.root)) element.setAttribute("data-selected", "");
     byId("thing-name").textContent = thing.dataset.name ?? "";
     byId("thing-advice").textContent = "can be changed in the page's source alone. Delete takes it out.";
     byId("thing-source").textContent = sourceOf(thing);
-    this.say(`${thing.dataset.name ?? "It"} is selected.`);
   }
 
   // ---- What is typed and pasted
 
   /** @param {InputEvent} event */
   #beforeInput(event) {
+    // Keyboards of phones send no key for these.
+    const [, direction] = /^deleteContent(Backward|Forward)$/.exec(event.inputType) ?? [];
+    if (direction && event.cancelable && this.#takesThing(direction === "Backward")) event.preventDefault();
     if (/^format(?!Bold|Italic|Remove)/.test(event.inputType)) event.preventDefault();
     if (event.inputType.startsWith("delete")) setTimeout(() => deleteRests(this.root, this.sizes));
   }
@@ -182,9 +212,9 @@ class Editor {
   #paste(event) {
     event.preventDefault();
     if (event.clipboardData === null) return;
-    const { html, leftOut } = pasted(event.clipboardData, this.root);
+    const { html, leftOut } = pasted(event.clipboardData, this.root, this.things);
     if (html !== "") this.history.step(() => document.execCommand("insertHTML", false, html));
-    if (leftOut > 0) this.say("Templates and references can't be copied; they were left out of what you pasted.");
+    if (leftOut > 0) this.say("Templates and references can't be copied: they were left out.");
   }
 
   /** @param {DragEvent} event */
@@ -194,7 +224,44 @@ class Editor {
   }
 }
 
-/** @param {HTMLElement} thing @returns {string} its wikitext */
+/**
+ * Where the caret stands: in which block of the page, behind how many characters of it.
+ * @param {HTMLElement} root
+ * @returns {{block: number, characters: number} | null}
+ */
+function caretIn(root) {
+  const selection = document.getSelection();
+  if (!selection?.rangeCount || !root.contains(selection.anchorNode)) return null;
+  const block = [...root.children].findIndex((child) => child.contains(selection.anchorNode));
+  if (block < 0) return null;
+  const range = selection.getRangeAt(0).cloneRange();
+  range.setStart(root.children[block], 0);
+  return { block, characters: range.toString().length };
+}
+
+/**
+ * @param {HTMLElement} root
+ * @param {{block: number, characters: number}} caret
+ */
+function putCaret(root, caret) {
+  const block = root.children[Math.min(caret.block, root.childElementCount - 1)];
+  if (block === undefined) return;
+  const walker = document.createTreeWalker(block, NodeFilter.SHOW_TEXT);
+  let left = caret.characters;
+  while (walker.nextNode()) {
+    const text = /** @type {Text} */ (walker.currentNode);
+    if (left <= text.data.length && !text.parentElement?.closest("[data-thing]")) {
+      document.getSelection()?.collapse(text, left);
+      return;
+    }
+    left = Math.max(0, left - text.data.length);
+  }
+}
+
+/**
+ * @param {HTMLElement} thing
+ * @returns {string} its wikitext
+ */
 function sourceOf(thing) {
   try {
     return JSON.parse(thing.getAttribute("data-parsoid") ?? "{}").src ?? "";

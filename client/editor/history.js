@@ -1,33 +1,47 @@
 // @ts-check
 /**
- * Undo and redo. Each change of the DOM below the root is noted, whoever made it (typing, the browser's commands, our
- * own), and taken back in reverse order; so nodes stay the same ones, and nothing is read as HTML anew.
+ * Undo and redo. Each change of the DOM below the root is noted, whoever made it (typing, the browser's
+ * commands, our own), and taken back in reverse order; so nodes stay the same ones, and nothing is read as
+ * HTML anew.
  */
 
 /** Letters typed or deleted one after the other, each within this time of the last one, are one step. */
 const SAME_STEP_MILLISECONDS = 1000;
+const LETTERS = /^(insert|delete)(?:Text|CompositionText|ContentBackward|ContentForward)$/;
 
 /** @typedef {{node: Node, offset: number, endNode: Node, endOffset: number} | null} Place */
 /** @typedef {{undo: () => void, redo: () => void}} Change */
-/** @typedef {{changes: Change[], before: Place, after: Place, typing: string, time: number}} Step
- *   `typing`: "insert" or "delete" where letters were typed or deleted one after the other, else empty */
+/**
+ * @typedef {{changes: Change[], before: Place, after: Place, typing: string, time: number}} Step `typing`:
+ *   "insert" or "delete" where letters were typed or deleted one after the other, else empty
+ */
 
 export class History {
   /** @type {Step[]} */
   #done = [];
   /** @type {Step[]} */
   #undone = [];
-  /** Where the selection was before the next change. @type {Place} */
+  /**
+   * Where the selection was before the next change.
+   * @type {Place}
+   */
   #before = null;
   #typing = "";
 
-  /** @param {HTMLElement} root @param {() => void} changed  called after each change, undo and redo */
+  /**
+   * @param {HTMLElement} root
+   * @param {() => void} changed  called after each change, undo and redo
+   */
   constructor(root, changed) {
     this.root = root;
     this.changed = changed;
     this.observer = new MutationObserver((records) => this.#note(records));
     this.observer.observe(root, {
-      subtree: true, childList: true, characterData: true, characterDataOldValue: true, attributeOldValue: true,
+      subtree: true,
+      childList: true,
+      characterData: true,
+      characterDataOldValue: true,
+      attributeOldValue: true,
       attributeFilter: ["href", "rel"],
     });
     root.addEventListener("beforeinput", (event) => this.#prepare(event));
@@ -52,7 +66,10 @@ export class History {
     this.changed();
   }
 
-  /** Does something as one step of its own. @param {() => void} action */
+  /**
+   * Does something as one step of its own.
+   * @param {() => void} action
+   */
   step(action) {
     this.#note(this.observer.takeRecords());
     this.#typing = "";
@@ -77,7 +94,11 @@ export class History {
     this.#settle(step, step.after, this.#done);
   }
 
-  /** @param {Step} step @param {Place} selection @param {Step[]} steps  where the step goes */
+  /**
+   * @param {Step} step
+   * @param {Place} selection
+   * @param {Step[]} steps  where the step goes
+   */
   #settle(step, selection, steps) {
     this.observer.takeRecords();
     steps.push({ ...step, typing: "" });
@@ -93,7 +114,7 @@ export class History {
       else this.redo();
       return;
     }
-    this.#typing = /^(insert|delete)(?:Text|CompositionText|ContentBackward|ContentForward)$/.exec(event.inputType)?.[1] ?? "";
+    this.#typing = LETTERS.exec(event.inputType)?.[1] ?? "";
     this.#before = place(this.root);
   }
 
@@ -104,8 +125,9 @@ export class History {
     const changes = changesOf(records);
     const after = place(this.root);
     const last = this.#done[this.#done.length - 1];
-    const goesOn = last !== undefined && this.#typing !== "" && last.typing === this.#typing && isSamePlace(last.after, this.#before);
-    if (goesOn && time - last.time < SAME_STEP_MILLISECONDS) {
+    const isLike = last !== undefined && this.#typing !== "" && last.typing === this.#typing;
+    const isSoon = isLike && time - last.time < SAME_STEP_MILLISECONDS;
+    if (isSoon && isSamePlace(last.after, this.#before)) {
       last.changes.push(...changes);
       last.after = after;
       last.time = time;
@@ -118,19 +140,30 @@ export class History {
   }
 }
 
-/** @param {HTMLElement} root @returns {Place} where the selection is, if it is in the root */
+/**
+ * @param {HTMLElement} root
+ * @returns {Place} where the selection is, if it is in the root
+ */
 function place(root) {
   const selection = document.getSelection();
   if (!selection?.anchorNode || !selection.focusNode || !root.contains(selection.anchorNode)) return null;
   return {
-    node: selection.anchorNode, offset: selection.anchorOffset, endNode: selection.focusNode, endOffset: selection.focusOffset,
+    node: selection.anchorNode,
+    offset: selection.anchorOffset,
+    endNode: selection.focusNode,
+    endOffset: selection.focusOffset,
   };
 }
 
-/** Whether two carets stand at the same place. @param {Place} left @param {Place} right */
+/**
+ * Whether two carets stand at the same place.
+ * @param {Place} left
+ * @param {Place} right
+ */
 function isSamePlace(left, right) {
   if (left === null || right === null) return false;
-  return left.node === right.node && left.offset === right.offset && right.node === right.endNode && right.offset === right.endOffset;
+  const isCaret = right.node === right.endNode && right.offset === right.endOffset;
+  return isCaret && left.node === right.node && left.offset === right.offset;
 }
 
 /** @param {Place} selection */
@@ -146,9 +179,15 @@ function select(selection) {
     );
 }
 
-/** @param {MutationRecord[]} records @returns {Change[]} */
+/**
+ * @param {MutationRecord[]} records
+ * @returns {Change[]}
+ */
 function changesOf(records) {
-  /** What a text or an attribute became: what the next record of it says that it was. @type {Map<Node, Map<string, string | null>>} */
+  /**
+   * What a text or an attribute became: what the next record of it says that it was.
+   * @type {Map<Node, Map<string, string | null>>}
+   */
   const later = new Map();
   return [...records]
     .reverse()
@@ -168,19 +207,31 @@ function changesOf(records) {
     .reverse();
 }
 
-/** @param {Node} node @param {string | null} attribute @returns {string | null} */
+/**
+ * @param {Node} node
+ * @param {string | null} attribute
+ * @returns {string | null}
+ */
 function valueOf(node, attribute) {
-  return attribute === null ? /** @type {CharacterData} */ (node).data : /** @type {Element} */ (node).getAttribute(attribute);
+  if (attribute === null) return /** @type {CharacterData} */ (node).data;
+  return /** @type {Element} */ (node).getAttribute(attribute);
 }
 
-/** @param {Node} node @param {string | null} attribute @param {string | null} value */
+/**
+ * @param {Node} node
+ * @param {string | null} attribute
+ * @param {string | null} value
+ */
 function setValue(node, attribute, value) {
   if (attribute === null) /** @type {CharacterData} */ (node).data = value ?? "";
   else if (value === null) /** @type {Element} */ (node).removeAttribute(attribute);
   else /** @type {Element} */ (node).setAttribute(attribute, value);
 }
 
-/** @param {MutationRecord} record @returns {Change} */
+/**
+ * @param {MutationRecord} record
+ * @returns {Change}
+ */
 function childChange(record) {
   const { target, previousSibling, nextSibling } = record;
   const added = [...record.addedNodes];

@@ -8,7 +8,11 @@ import { titles } from "./server.js";
 const MOST_SHOWN = 8;
 const ADDRESS = /^(?:https?|ftp):\/\/[^/]/i;
 
-/** @template {HTMLElement} T @param {string} id @returns {T} */
+/**
+ * @template {HTMLElement} T
+ * @param {string} id
+ * @returns {T}
+ */
 const byId = (id) => /** @type {T} */ (/** @type {unknown} */ (document.getElementById(id)));
 
 /** @typedef {{href: string, rel: string, text: string} | "remove" | null} Wish */
@@ -26,7 +30,10 @@ let chosen = -1;
 /** @type {(wish: Wish) => void} */
 let answer = () => undefined;
 
-/** @param {string} value  what stands in the field @returns {{href: string, rel: string} | null} */
+/**
+ * @param {string} value  what stands in the field
+ * @returns {{href: string, rel: string} | null}
+ */
 function readTarget(value) {
   const written = value.trim();
   if (written === "" || /^[a-z]+:\/\/?$/i.test(written)) return null;
@@ -49,7 +56,10 @@ function showTitles() {
     : isKnown ? "" : "No page of this folder has this title yet.";
 }
 
-/** @param {string} title @param {number} at */
+/**
+ * @param {string} title
+ * @param {number} at
+ */
 function option(title, at) {
   const item = document.createElement("li");
   item.id = `link-title-${at}`;
@@ -112,8 +122,8 @@ dialog.addEventListener("close", closed);
 
 /**
  * Asks what a link is to lead to.
- * @param {{href: string, text: string, isLink: boolean, hasText: boolean}} now  `isLink`: the caret stands in one, with
- *   this `href`; `hasText`: a text is selected or linked already, so that none is asked for
+ * @param {{href: string, text: string, isLink: boolean, hasText: boolean}} now  `isLink`: the caret stands in
+ *   one, with this `href`; `hasText`: a text is selected or linked already, so that none is asked for
  * @returns {Promise<Wish>}
  */
 export function askForLink(now) {

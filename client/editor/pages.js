@@ -10,7 +10,10 @@ const list = /** @type {HTMLElement} */ (document.getElementById("pages"));
 const search = /** @type {HTMLInputElement} */ (document.getElementById("search"));
 const status = /** @type {HTMLElement} */ (document.getElementById("status"));
 
-/** @param {string} title @returns {HTMLElement} */
+/**
+ * @param {string} title
+ * @returns {HTMLElement}
+ */
 function entry(title) {
   const item = document.createElement("li");
   const link = document.createElement("a");

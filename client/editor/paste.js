@@ -2,22 +2,34 @@
 /** What is pasted, as paragraphs, headings, lists, bold, italic and links. */
 
 /** @type {Record<string, string>} */
-const SAME = { strong: "b", em: "i", b: "b", i: "i", h1: "h2", h2: "h2", h3: "h3", h4: "h4", h5: "h5", h6: "h6", p: "p", ul: "ul", ol: "ol", li: "li", br: "br" };
-const LEFT_OUT = new Set(["script", "style", "noscript", "title", "head", "meta", "link", "template", "svg", "math", "img", "input", "button", "select", "textarea"]);
-const BOXES = new Set(["div", "section", "article", "blockquote", "table", "tbody", "tr", "dl", "dt", "dd", "pre", "figure", "header", "footer", "main"]);
+const SAME = {
+  ...{ strong: "b", em: "i", b: "b", i: "i", p: "p", ul: "ul", ol: "ol", li: "li", br: "br" },
+  ...{ h1: "h2", h2: "h2", h3: "h3", h4: "h4", h5: "h5", h6: "h6" },
+};
+const LEFT_OUT = new Set([
+  "script", "style", "noscript", "title", "head", "meta", "link", "template", "svg", "math", "img", "input",
+  "button", "select", "textarea",
+]);
+const BOXES = new Set([
+  "div", "section", "article", "blockquote", "table", "tbody", "tr", "dl", "dt", "dd", "pre", "figure",
+  "header", "footer", "main",
+]);
+const BLOCKS = "p,h1,h2,h3,h4,h5,h6,ul,ol,div,table,tr,dt,dd,pre,blockquote";
 
 /**
  * What the clipboard holds, as HTML of ours.
  * @param {DataTransfer} data
- * @param {HTMLElement} root  the text: a template or reference that was cut out of it comes back as it was
+ * @param {HTMLElement} root  the text
+ * @param {Map<string, HTMLElement[]>} things  what can't be edited, as the page was opened: a template or
+ *   reference that was cut out of the text comes back as it was
  * @returns {{html: string, leftOut: number}} `leftOut`: how many templates and references couldn't be copied
  */
-export function pasted(data, root) {
+export function pasted(data, root, things) {
   const html = data.getData("text/html");
   if (html === "") return { html: fromText(data.getData("text/plain")), leftOut: 0 };
   const page = new DOMParser().parseFromString(html, "text/html");
   const out = document.createElement("div");
-  const cleaner = new Cleaner(root);
+  const cleaner = new Cleaner(root, things);
   cleaner.copy(page.body, out);
   return { html: out.innerHTML, leftOut: cleaner.leftOut };
 }
@@ -41,12 +53,19 @@ function fromText(text) {
 class Cleaner {
   leftOut = 0;
 
-  /** @param {HTMLElement} root */
-  constructor(root) {
+  /**
+   * @param {HTMLElement} root
+   * @param {Map<string, HTMLElement[]>} things
+   */
+  constructor(root, things) {
     this.root = root;
+    this.things = things;
   }
 
-  /** @param {Node} from @param {Element} to */
+  /**
+   * @param {Node} from
+   * @param {Element} to
+   */
   copy(from, to) {
     for (const node of from.childNodes) {
       if (node.nodeType === 3) to.append(/** @type {Text} */ (node).data.replace(/[\n\t\r]+/g, " "));
@@ -54,28 +73,40 @@ class Cleaner {
     }
   }
 
-  /** @param {HTMLElement} element @param {Element} to */
+  /**
+   * @param {HTMLElement} element
+   * @param {Element} to
+   */
   #element(element, to) {
     const name = element.localName;
+    const isLink = name === "a" && /^(?:https?|ftp):\/\/|^\.\//i.test(element.getAttribute("href") ?? "");
+    const isPlain = /font-weight:\s*(?:normal|400)/.test(element.getAttribute("style") ?? "");
     if (element.hasAttribute("data-thing")) this.#thing(element, to);
     else if (LEFT_OUT.has(name)) return;
-    else if (name === "a" && /^(?:https?|ftp):\/\/|^\.\//i.test(element.getAttribute("href") ?? "")) this.#link(element, to);
-    else if (SAME[name] && !/font-weight:\s*(?:normal|400)/.test(element.getAttribute("style") ?? "")) this.#same(element, to);
+    else if (isLink) this.#link(element, to);
+    else if (SAME[name] && !isPlain) this.#same(element, to);
     else if (BOXES.has(name)) this.#box(element, to);
     else this.#styled(element, to);
   }
 
-  /** A template or reference: one that was cut out moves, others can't be copied. @param {HTMLElement} element
-   * @param {Element} to */
+  /**
+   * A template or reference: one that was cut out moves, others can't be copied.
+   * @param {HTMLElement} element
+   * @param {Element} to
+   */
   #thing(element, to) {
-    const id = element.getAttribute("id") ?? "";
-    const isCut = id !== "" && this.root.querySelector(`[id="${CSS.escape(id)}"]`) === null;
-    if (isCut) to.append(element.cloneNode(true));
+    const elements = this.things.get(element.getAttribute("id") ?? "") ?? [];
+    const isCut = elements.length > 0 && !elements.some((each) => this.root.contains(each));
+    if (isCut) to.append(...elements.map((each) => each.cloneNode(true)));
+    else if (element.hasAttribute("about") && !element.hasAttribute("id")) return;
     else if ((element.textContent ?? "") !== "") to.append(element.textContent ?? "");
     else this.leftOut += 1;
   }
 
-  /** @param {HTMLElement} element @param {Element} to */
+  /**
+   * @param {HTMLElement} element
+   * @param {Element} to
+   */
   #link(element, to) {
     const href = element.getAttribute("href") ?? "";
     const link = document.createElement("a");
@@ -85,17 +116,23 @@ class Cleaner {
     to.append(link);
   }
 
-  /** @param {HTMLElement} element @param {Element} to */
+  /**
+   * @param {HTMLElement} element
+   * @param {Element} to
+   */
   #same(element, to) {
     const copy = document.createElement(SAME[element.localName]);
     this.copy(element, copy);
     to.append(copy);
   }
 
-  /** A box with text alone is a paragraph. @param {HTMLElement} element @param {Element} to */
+  /**
+   * A box with text alone is a paragraph.
+   * @param {HTMLElement} element
+   * @param {Element} to
+   */
   #box(element, to) {
-    const holdsBlocks = element.querySelector("p,h1,h2,h3,h4,h5,h6,ul,ol,div,table,tr,dt,dd,pre,blockquote") !== null;
-    if (holdsBlocks) {
+    if (element.querySelector(BLOCKS) !== null) {
       this.copy(element, to);
       return;
     }
@@ -104,13 +141,17 @@ class Cleaner {
     if ((paragraph.textContent ?? "").trim() !== "") to.append(paragraph);
   }
 
-  /** @param {HTMLElement} element @param {Element} to */
+  /**
+   * @param {HTMLElement} element
+   * @param {Element} to
+   */
   #styled(element, to) {
     const style = element.getAttribute("style") ?? "";
+    const isBold = /font-weight:\s*(?:bold|[6-9]00)/i.test(style);
+    const isItalic = /font-style:\s*italic/i.test(style);
     let into = to;
-    for (const [name, pattern] of [["b", /font-weight:\s*(?:bold|[6-9]00)/i], ["i", /font-style:\s*italic/i]]) {
-      if (!(/** @type {RegExp} */ (pattern).test(style)) || element.localName === "body") continue;
-      const inner = document.createElement(/** @type {string} */ (name));
+    for (const name of [...(isBold ? ["b"] : []), ...(isItalic ? ["i"] : [])]) {
+      const inner = document.createElement(name);
       into.append(inner);
       into = inner;
     }

@@ -6,11 +6,20 @@ import { ServerRefused, give } from "./server.js";
 import { shownDiff } from "./diff.js";
 import { sentenceFor } from "./sentences.js";
 
-/** @template {HTMLElement} T @param {string} id @returns {T} */
+/**
+ * @template {HTMLElement} T
+ * @param {string} id
+ * @returns {T}
+ */
 const byId = (id) => /** @type {T} */ (/** @type {unknown} */ (document.getElementById(id)));
 
-/** @typedef {{title: string, root: HTMLElement, html: () => string, etag: () => string, say: (text: string) => void, saved: () => Promise<void>,
- *   bookmark: () => () => void}} Page  `html`: the page as it was opened, `etag`: the name of this state of it */
+const WAITING = "The server is asked…";
+
+/**
+ * @typedef {{title: string, root: HTMLElement, html: () => string, etag: () => string, say: (text: string) =>
+ *   void, saved: () => Promise<void>, bookmark: () => () => void}} Page  `html`: the page as it was opened,
+ *   `etag`: the name of this state of it
+ */
 
 export class Saving {
   /** @param {Page} page */
@@ -21,19 +30,27 @@ export class Saving {
     this.refusal = byId("refusal");
     /** What is shown in the dialog. */
     this.document = "";
-    /** The element that a refusal is about. @type {Element | null} */
+    this.isBusy = false;
+    /**
+     * The element that a refusal is about.
+     * @type {Element | null}
+     */
     this.place = null;
-    /** Puts the caret back to where it was. */
+    /**
+     * Puts the caret back to where it was.
+     * @type {() => void}
+     */
     this.restore = () => undefined;
     this.button.addEventListener("click", () => this.preview());
     byId("changes-save").addEventListener("click", () => this.#store());
     byId("refusal-close").addEventListener("click", () => (this.clear(), this.restore()));
     byId("refusal-show").addEventListener("click", () => this.#goToPlace());
-    this.dialog.addEventListener("close", () => this.restore());
+    this.dialog.addEventListener("close", () => this.isBusy || this.restore());
   }
 
   /** Shows what would change. */
   async preview() {
+    if (this.isBusy || document.querySelector("dialog[open]") !== null) return;
     this.clear();
     this.restore = this.page.bookmark();
     this.document = save(this.page.root, { marks: true });
@@ -43,41 +60,57 @@ export class Saving {
     }
     await this.#busy(async () => {
       const answer = await give(this.page.title, this.document, this.page.etag(), true);
-      if (!answer.changed) {
-        this.page.say("Nothing would change in the page's source.");
-        return;
-      }
+      if (!answer.changed) return this.page.say("Nothing would change in the page's source.");
       const longer = answer.bytes_after - answer.bytes_before;
-      const much = longer === 0 ? "as long as before" : `${Math.abs(longer)} bytes ${longer > 0 ? "longer" : "shorter"}`;
+      const way = longer > 0 ? "longer" : "shorter";
+      const much = longer === 0 ? "as long as before" : `${Math.abs(longer)} bytes ${way}`;
       byId("changes-size").textContent = `The source will be ${much}. Nothing else in it changes.`;
       byId("changes-diff").replaceChildren(...shownDiff(answer.diff));
       this.dialog.showModal();
     });
+    if (!this.dialog.open && this.refusal.hidden) this.restore();
   }
 
   async #store() {
-    this.dialog.close();
-    await this.#busy(async () => {
+    let isStored = false;
+    const asking = this.#busy(async () => {
       await give(this.page.title, this.document, this.page.etag(), false);
       await this.page.saved();
-      this.page.say("The page is saved.");
+      isStored = true;
     });
+    this.dialog.close();
+    await asking;
+    if (!isStored) return;
+    this.page.root.focus({ preventScroll: true });
+    this.page.say("The page is saved.");
   }
 
-  /** @param {() => Promise<void>} action */
+  /**
+   * Asks the server for something; until it has answered nothing can be typed, which else would be neither
+   * shown nor stored.
+   * @param {() => Promise<void>} action
+   */
   async #busy(action) {
-    this.button.disabled = true;
-    this.page.say("…");
+    this.#setBusy(true);
+    this.page.say(WAITING);
     try {
       await action();
-      if (byId("status").textContent === "…") this.page.say("");
+      if (byId("status").textContent === WAITING) this.page.say("");
     } catch (error) {
       this.page.say("");
       if (!(error instanceof ServerRefused)) throw error;
+      this.#setBusy(false);
       this.#showRefusal(error);
     } finally {
-      this.button.disabled = false;
+      this.#setBusy(false);
     }
+  }
+
+  /** @param {boolean} isBusy */
+  #setBusy(isBusy) {
+    this.isBusy = isBusy;
+    this.button.disabled = isBusy;
+    this.page.root.inert = isBusy;
   }
 
   /** @param {ServerRefused} refused */
@@ -98,7 +131,10 @@ export class Saving {
     this.place?.scrollIntoView({ block: "center" });
   }
 
-  /** @param {string} node  an id of the program or a selector in the body @returns {Element | null} */
+  /**
+   * @param {string} node  an id of the program or a selector in the body
+   * @returns {Element | null}
+   */
   #find(node) {
     if (node === "") return null;
     const root = this.page.root;
@@ -125,11 +161,16 @@ export class Saving {
   }
 }
 
-/** The first block or item that the page hadn't. @param {HTMLElement} root @returns {Element | null} */
+/**
+ * The first block or item that the page hadn't.
+ * @param {HTMLElement} root
+ * @returns {Element | null}
+ */
 function firstNew(root) {
   /** @type {Set<string>} */
   const seen = new Set();
-  for (const element of root.querySelectorAll(":scope > p, :scope > h1, :scope > h2, :scope > h3, :scope > h4, :scope > h5, :scope > h6, :scope > hr, :scope > div, :scope > ul, :scope > ol, :scope > * > li")) {
+  const blocks = ":scope > :is(p, h1, h2, h3, h4, h5, h6, hr, div, ul, ol), :scope > * > li";
+  for (const element of root.querySelectorAll(blocks)) {
     const id = element.getAttribute("id") ?? "";
     if (id === "" || seen.has(id)) return element;
     seen.add(id);

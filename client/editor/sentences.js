@@ -6,10 +6,11 @@ const UNDO = "Undo takes it back (Ctrl+Z).";
 /** @type {Record<string, string>} */
 const BY_NAME = {
   InTemplate: "This part comes from a template: change it in the template or in the page's source. " + UNDO,
-  Moved: "A template, a reference or a table would stand in another paragraph here, which can't be written yet. " + UNDO,
+  Moved: `A template, a reference or a table would stand in another block: that can't be saved yet. ${UNDO}`,
   UnknownId: "This was pasted from another page and can't be written here. " + UNDO,
-  RepeatedId: "This is a copy of something that can't be written twice, as a template or a reference. " + UNDO,
-  UnmarkedChange: "This can be changed in the page's source alone so far, as the text of an item that holds a list, or a table's rows. " + UNDO,
+  RepeatedId: `This is a copy of what can't be written twice, as a template or a reference. ${UNDO}`,
+  UnmarkedChange:
+    `This can be changed in the page's source alone so far (an item with a list, a table's rows). ${UNDO}`,
   NotEditable: "This can be changed in the page's source alone so far. " + UNDO,
   BadContent: "This can't stand in a paragraph. " + UNDO,
   "BadContent Element": "This can't stand in a paragraph, an item or a cell here. " + UNDO,
@@ -17,7 +18,8 @@ const BY_NAME = {
   "BadContent LineBreak": "No line may end here: put a space.",
   "BadContent Nested": "A link can't hold a link: take one of them off.",
   "BadContent EmptyList": "A list can't lose all its items yet. " + UNDO,
-  Tangled: "This paragraph can be edited as source alone: its source begins or ends in what stands around it. " + UNDO,
+  Tangled:
+    `This paragraph can be edited as source alone: its source begins or ends in its neighbours. ${UNDO}`,
   NewPageTooLong: "The page is too long: take something out.",
   NewExpansion: "The page takes too many templates: take some out.",
   Unspelled: "This can't be written so that it shows the same. Write it in another way, or undo it (Ctrl+Z).",
@@ -26,9 +28,11 @@ const BY_NAME = {
 };
 
 const NO_NEW_BLOCKS =
-  "Paragraphs, headings and items can't be added, joined or taken out here yet. Undo takes this back (Ctrl+Z); other changes can be saved then.";
+  "Paragraphs, headings and items can't be added, joined or taken out here yet. " +
+  "Undo takes this back (Ctrl+Z); other changes can be saved then.";
 const STALE =
-  "This page was changed in the meantime. Your text is still here: open the newer page in a new tab, and make your change there.";
+  "This page was changed in the meantime. Your text is still here: " +
+  "open the newer page in a new tab, and make your change there.";
 
 /**
  * @param {import("./server.js").ServerRefused} refused

@@ -3,8 +3,10 @@
 
 /** The server didn't do what was asked. */
 export class ServerRefused extends Error {
-  /** @param {{error: string, status: number, sentence: string, why?: string | null, line?: string | null,
-   *   node?: string | null, path?: string | null}} answer */
+  /**
+   * @param {{error: string, status: number, sentence: string, why?: string | null, line?: string | null,
+   *   node?: string | null, path?: string | null}} answer
+   */
   constructor(answer) {
     super(`${answer.error}: ${answer.sentence}`);
     this.name = "ServerRefused";
@@ -23,7 +25,11 @@ export class ServerRefused extends Error {
   }
 }
 
-/** @param {string} path @param {RequestInit} [options] @returns {Promise<Response>} */
+/**
+ * @param {string} path
+ * @param {RequestInit} [options]
+ * @returns {Promise<Response>}
+ */
 async function ask(path, options) {
   let response;
   try {
@@ -47,18 +53,26 @@ export async function titles() {
   return (await (await ask("/titles")).json()).titles;
 }
 
-/** @param {string} title @returns {Promise<{html: string, etag: string}>} a page, and the name of this state of it */
+/**
+ * @param {string} title
+ * @returns {Promise<{html: string, etag: string}>} a page, and the name of this state of it
+ */
 export async function page(title) {
   const response = await ask(`/localhost/v3/page/html/${encodeURIComponent(title)}`);
   return { html: await response.text(), etag: response.headers.get("ETag") ?? "" };
 }
 
-/** @typedef {{etag: string, changed: boolean, diff: string, bytes_before: number, bytes_after: number}} Saved */
+/**
+ * @typedef {{etag: string, changed: boolean, diff: string, bytes_before: number, bytes_after: number}} Saved
+ */
 
 /**
  * Gives the edited page; it is stored unless `isPreview`.
- * @param {string} title @param {string} html @param {string} etag  of the page that was opened
- * @param {boolean} isPreview @returns {Promise<Saved>}
+ * @param {string} title
+ * @param {string} html
+ * @param {string} etag  of the page that was opened
+ * @param {boolean} isPreview
+ * @returns {Promise<Saved>}
  */
 export async function give(title, html, etag, isPreview) {
   const path = `/save/${encodeURIComponent(title)}${isPreview ? "?preview=1" : ""}`;

@@ -1,12 +1,31 @@
 // @ts-check
-/** What can't be edited in the text: each is one thing with a name, which can be selected and deleted as a whole. */
+/**
+ * What can't be edited in the text: each is one thing with a name, which can be selected and deleted as a
+ * whole.
+ */
 
 import { describe } from "../bughtiso.js";
 
-const THINGS = '[about], span[typeof^="mw:Extension/"], span[typeof="mw:Placeholder"], meta:not([typeof="mw:Skip"]), link, pre';
+const THINGS = [
+  "[about]",
+  'span[typeof^="mw:Extension/"]',
+  'span[typeof="mw:Placeholder"]',
+  'meta:not([typeof="mw:Skip"])',
+  "link",
+  "pre",
+].join(", ");
+
+/** Blocks in which white space is text. */
+const TEXT_BLOCKS = "p,h1,h2,h3,h4,h5,h6,li,dt,dd,td,th,caption";
 
 /** @type {Record<string, string>} */
-const EXTENSIONS = { ref: "Reference", references: "List of references", gallery: "Gallery", math: "Formula", pre: "Preformatted text" };
+const EXTENSIONS = {
+  ref: "Reference",
+  references: "List of references",
+  gallery: "Gallery",
+  math: "Formula",
+  pre: "Preformatted text",
+};
 
 /** @type {Record<string, (name: string) => string>} */
 const NAMES = {
@@ -19,11 +38,14 @@ const NAMES = {
   comment: () => "Comment",
   include: (name) => `Tag <${name}>`,
   switch: (name) => `Switch: ${name}`,
-  category: (name) => name.replace(/#.*$/, "").replace(/^(?!Category:)/, "Category: ").replace(/^Category:\s*/, "Category: "),
+  category: (name) => `Category: ${name.replace(/^Category:\s*|#.*$/g, "")}`,
   other: (name) => name || "Part of the page's source",
 };
 
-/** Shows the things below the root as such. @param {HTMLElement} root */
+/**
+ * Shows the things below the root as such.
+ * @param {HTMLElement} root
+ */
 export function nameThings(root) {
   let references = 0;
   for (const element of root.querySelectorAll(THINGS)) {
@@ -34,7 +56,8 @@ export function nameThings(root) {
     element.setAttribute("data-thing", isReference ? "reference" : thing?.kind ?? "other");
     if (element.hasAttribute("about") && !element.hasAttribute("data-mw")) continue;
     if (isReference) references += 1;
-    const name = thing === null ? "Preformatted text" : NAMES[thing.kind](thing.name) + (isReference ? ` ${references}` : "");
+    const kindName = thing === null ? "Preformatted text" : NAMES[thing.kind](thing.name);
+    const name = isReference ? `${kindName} ${references}` : kindName;
     element.setAttribute("data-name", name);
     element.setAttribute("data-label", isReference ? `[${references}]` : name);
     element.setAttribute("title", name);
@@ -46,24 +69,55 @@ export function nameThings(root) {
   }
 }
 
-/** @param {Node | null} node @param {HTMLElement} root @returns {HTMLElement | null} the thing that a node stands in */
+/**
+ * The elements of each thing that has an `id`.
+ * @param {HTMLElement} root
+ * @returns {Map<string, HTMLElement[]>}
+ */
+export function thingsById(root) {
+  /** @type {Map<string, HTMLElement[]>} */
+  const things = new Map();
+  /** @type {Map<string, HTMLElement[]>} */
+  const groups = new Map();
+  for (const element of /** @type {NodeListOf<HTMLElement>} */ (root.querySelectorAll("[data-thing]"))) {
+    const about = element.getAttribute("about") ?? "";
+    const elements = (about !== "" && groups.get(about)) || [];
+    elements.push(element);
+    if (about !== "") groups.set(about, elements);
+    if (element.id !== "") things.set(element.id, elements);
+  }
+  return things;
+}
+
+/**
+ * @param {Node | null} node
+ * @param {HTMLElement} root
+ * @returns {HTMLElement | null} the thing that a node stands in
+ */
 export function thingAt(node, root) {
   const element = node?.nodeType === 1 ? /** @type {Element} */ (node) : node?.parentElement ?? null;
   const thing = /** @type {HTMLElement | null} */ (element?.closest("[data-thing]") ?? null);
   return thing && root.contains(thing) ? thing : null;
 }
 
-/** All elements of a thing: of a group each that has its `about`. @param {HTMLElement} thing @param {HTMLElement} root
- * @returns {HTMLElement[]} */
+/**
+ * All elements of a thing: of a group each that has its `about`.
+ * @param {HTMLElement} thing
+ * @param {HTMLElement} root
+ * @returns {HTMLElement[]}
+ */
 export function elementsOf(thing, root) {
   const about = thing.getAttribute("about");
   if (about === null) return [thing];
-  return [.../** @type {NodeListOf<HTMLElement>} */ (root.querySelectorAll(`[about="${CSS.escape(about)}"]`))];
+  const all = root.querySelectorAll(`[about="${CSS.escape(about)}"]`);
+  return [.../** @type {NodeListOf<HTMLElement>} */ (all)];
 }
 
 /**
  * The thing directly beside the caret, which a press of Backspace or Delete would take.
- * @param {HTMLElement} root @param {boolean} isBefore @returns {HTMLElement | null}
+ * @param {HTMLElement} root
+ * @param {boolean} isBefore
+ * @returns {HTMLElement | null}
  */
 export function thingBeside(root, isBefore) {
   const selection = document.getSelection();
@@ -89,12 +143,20 @@ export function thingBeside(root, isBefore) {
   return null;
 }
 
-/** White space between blocks. @param {Text} text */
+/**
+ * White space between blocks.
+ * @param {Text} text
+ */
 function isPassedOver(text) {
-  return !/\S/.test(text.data) && (text.data === "" || !text.parentElement?.closest("p,h1,h2,h3,h4,h5,h6,li,dt,dd,td,th,caption"));
+  return text.data === "" || (!/\S/.test(text.data) && !text.parentElement?.closest(TEXT_BLOCKS));
 }
 
-/** The thing at a node's end or beginning. @param {Node} node @param {boolean} isBefore @param {HTMLElement} root */
+/**
+ * The thing at a node's end or beginning.
+ * @param {Node} node
+ * @param {boolean} isBefore
+ * @param {HTMLElement} root
+ */
 function edgeThing(node, isBefore, root) {
   /** @type {Node | null} */
   let at = node;
@@ -106,7 +168,47 @@ function edgeThing(node, isBefore, root) {
   return null;
 }
 
-/** Selects a thing as a whole. @param {HTMLElement} thing @param {HTMLElement} root */
+/**
+ * The thing that is selected by keys or by the pointer, and nothing beside it.
+ * @param {HTMLElement} root
+ * @returns {HTMLElement | null}
+ */
+export function selectedThing(root) {
+  const selection = document.getSelection();
+  if (!selection?.rangeCount || selection.isCollapsed || !root.contains(selection.anchorNode)) return null;
+  const { startContainer, startOffset, endContainer, endOffset } = selection.getRangeAt(0);
+  const first = thingAt(nodeBehind(startContainer, startOffset), root);
+  const last = thingAt(nodeBefore(endContainer, endOffset), root);
+  if (first === null || last === null) return null;
+  const [whole] = elementsOf(first, root);
+  return elementsOf(last, root)[0] === whole ? whole : null;
+}
+
+/**
+ * @param {Node} node
+ * @param {number} offset
+ * @returns {Node | null} what a place in a text or an element stands directly before; null in a text
+ */
+function nodeBehind(node, offset) {
+  if (node.nodeType !== 3) return node.childNodes[offset] ?? null;
+  return offset === /** @type {Text} */ (node).data.length ? node.nextSibling : null;
+}
+
+/**
+ * @param {Node} node
+ * @param {number} offset
+ * @returns {Node | null} what a place in a text or an element stands directly behind; null in a text
+ */
+function nodeBefore(node, offset) {
+  if (node.nodeType !== 3) return node.childNodes[offset - 1] ?? null;
+  return offset === 0 ? node.previousSibling : null;
+}
+
+/**
+ * Selects a thing as a whole.
+ * @param {HTMLElement} thing
+ * @param {HTMLElement} root
+ */
 export function selectThing(thing, root) {
   const elements = elementsOf(thing, root);
   const range = document.createRange();
@@ -117,7 +219,11 @@ export function selectThing(thing, root) {
   selection?.addRange(range);
 }
 
-/** Takes a thing out and puts the caret where it stood. @param {HTMLElement} thing @param {HTMLElement} root */
+/**
+ * Takes a thing out and puts the caret where it stood.
+ * @param {HTMLElement} thing
+ * @param {HTMLElement} root
+ */
 export function deleteThing(thing, root) {
   const elements = elementsOf(thing, root);
   const range = document.createRange();
@@ -129,7 +235,11 @@ export function deleteThing(thing, root) {
   selection?.addRange(range);
 }
 
-/** Takes out what is left of groups of which a part was deleted. @param {HTMLElement} root @param {Map<string, number>} sizes */
+/**
+ * Takes out what is left of groups of which a part was deleted.
+ * @param {HTMLElement} root
+ * @param {Map<string, number>} sizes
+ */
 export function deleteRests(root, sizes) {
   const now = groupSizes(root);
   for (const [about, size] of now) {
@@ -138,7 +248,11 @@ export function deleteRests(root, sizes) {
   }
 }
 
-/** How many elements each group has. @param {HTMLElement} root @returns {Map<string, number>} */
+/**
+ * How many elements each group has.
+ * @param {HTMLElement} root
+ * @returns {Map<string, number>}
+ */
 export function groupSizes(root) {
   /** @type {Map<string, number>} */
   const sizes = new Map();

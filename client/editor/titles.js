@@ -1,8 +1,12 @@
 // @ts-check
 /** The search over titles. */
 
-/** The titles that hold a text, without regard to case; those that begin with it come first.
- * @param {string[]} titles @param {string} text @returns {string[]} */
+/**
+ * The titles that hold a text, without regard to case; those that begin with it come first.
+ * @param {string[]} titles
+ * @param {string} text
+ * @returns {string[]}
+ */
 export function matching(titles, text) {
   const wanted = folded(text);
   if (wanted === "") return titles;

@@ -5,8 +5,8 @@ import { Part } from "./markup.js";
 
 /** The attributes that the program writes. */
 export const ATTRIBUTES = new Set([
-  "about", "typeof", "property", "rel", "href", "class", "colspan", "rowspan", "scope", "lang", "dir", "id", "data-mw",
-  "data-parsoid",
+  "about", "typeof", "property", "rel", "href", "class", "colspan", "rowspan", "scope", "lang", "dir", "id",
+  "data-mw", "data-parsoid",
 ]);
 
 /** Those that a new part of a table may have. */
@@ -20,18 +20,23 @@ export const CELLS = new Set(["td", "th", "caption"]);
 /** Blocks that hold a line or lines of text. */
 export const LINES = new Set(["p", ...HEADINGS]);
 
-const BLOCKS = new Set([...LINES, ...LISTS, ...ITEMS, ...CELLS, "hr", "pre", "table", "tbody", "tr", "section"]);
+const OTHER_BLOCKS = ["hr", "pre", "table", "tbody", "tr", "section"];
+const BLOCKS = new Set([...LINES, ...LISTS, ...ITEMS, ...CELLS, ...OTHER_BLOCKS]);
 
-/** Elements of other documents that hold blocks, or are one: they stand for a paragraph where they hold text alone. */
+/**
+ * Elements of other documents that hold blocks, or are one: they stand for a paragraph where they hold text
+ * alone.
+ */
 const BOXES = new Set([
-  "div", "article", "aside", "main", "header", "footer", "nav", "figure", "figcaption", "blockquote", "center",
-  "address", "details", "summary", "form", "fieldset", "hgroup", "thead", "tfoot", "colgroup",
+  "div", "article", "aside", "main", "header", "footer", "nav", "figure", "figcaption", "blockquote",
+  "center", "address", "details", "summary", "form", "fieldset", "hgroup", "thead", "tfoot", "colgroup",
 ]);
 
 /** Elements of which nothing is kept. */
 const LEFT_OUT = new Set([
-  "script", "style", "noscript", "title", "head", "template", "img", "picture", "svg", "math", "canvas", "video", "audio",
-  "iframe", "object", "embed", "input", "button", "select", "textarea", "option", "base", "col", "wbr", "area", "map",
+  "script", "style", "noscript", "title", "head", "template", "img", "picture", "svg", "math", "canvas",
+  "video", "audio", "iframe", "object", "embed", "input", "button", "select", "textarea", "option", "base",
+  "col", "wbr", "area", "map",
 ]);
 
 /** What other editors write for ours. */
@@ -48,8 +53,11 @@ export function isBlock(part) {
   return BLOCKS.has(part.name);
 }
 
-/** Our name for an element; `box` where it is a box of another document, empty where nothing of it is kept.
- * @param {Element} element @returns {string} */
+/**
+ * Our name for an element; `box` where it is a box of another document, empty where nothing of it is kept.
+ * @param {Element} element
+ * @returns {string}
+ */
 export function nameOf(element) {
   const name = element.localName;
   if (name === "template") return element.getAttribute("data-wt-name") ?? "";
@@ -58,28 +66,42 @@ export function nameOf(element) {
   return SAME.get(name) ?? name;
 }
 
-/** @param {string} name @returns {boolean} whether an element with our name stands as a block */
+/**
+ * @param {string} name
+ * @returns {boolean} whether an element with our name stands as a block
+ */
 export function isBlockName(name) {
   return name === "box" || BLOCKS.has(name);
 }
 
-/** Comments, include tags, skips, switches, categories: they show nothing. @param {string} name */
+/**
+ * Comments, include tags, skips, switches, categories: they show nothing.
+ * @param {string} name
+ */
 export function isHiddenName(name) {
   return name === "meta" || name === "link";
 }
 
-/** @param {Part} part @returns {boolean} a comment, an include tag or a skip, which no edit of texts compares */
+/**
+ * @param {Part} part
+ * @returns {boolean} a comment, an include tag or a skip, which no edit of texts compares
+ */
 export function isMark(part) {
   return part.name === "meta" && /^mw:(?:Comment|Skip|Includes\/)/.test(part.value("typeof"));
 }
 
-/** An element that is one thing: a group, an extension, what is kept as it stands.
- * @param {(name: string) => string} value */
+/**
+ * An element that is one thing: a group, an extension, what is kept as it stands.
+ * @param {(name: string) => string} value
+ */
 export function isIsland(value) {
   return value("about") !== "" || /^mw:(?:Extension\/|Placeholder)/.test(value("typeof"));
 }
 
-/** Whether nothing but blanks and line breaks, also those that don't break, stands there. @param {string} text */
+/**
+ * Whether nothing but blanks and line breaks, also those that don't break, stands there.
+ * @param {string} text
+ */
 export function isBlank(text) {
   return /^[ \t\n\r\f\u00a0]*$/.test(text);
 }

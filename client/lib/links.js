@@ -2,27 +2,46 @@
 /** What a link leads to: a page of the wiki or an address. */
 
 /** Addresses of other kinds, which no wikitext of ours links to. */
-const OTHER_SCHEME = /^(?:\/\/|(?:javascript|vbscript|data|blob|about|file|mailto|tel|sms|chrome|view-source):)/i;
+const OTHER_SCHEME =
+  /^(?:\/\/|(?:javascript|vbscript|data|blob|about|file|mailto|tel|sms|chrome|view-source):)/i;
 
 /**
- * @param {string} href @param {string} rel  empty where the browser or another editor made the link
- * @returns {Map<string, string> | null} `rel` and `href` as the program takes them; null where it can be no link
+ * @param {string} href
+ * @param {string} rel  empty where the browser or another editor made the link
+ * @returns {Map<string, string> | null} `rel` and `href` as the program takes them; null where it can be no
+ *   link
  */
 export function linkTarget(href, rel) {
   const address = href.replace(/^[ \t\n\r]+|[ \t\n\r]+$/g, "");
-  if (rel === "mw:WikiLink") return new Map([["rel", rel], ["href", href]]);
-  if (/^(?:https?|ftp):\/\/./i.test(address)) return new Map([["rel", "mw:ExtLink"], ["href", escapedAddress(address)]]);
-  if (rel === "mw:ExtLink") return new Map([["rel", rel], ["href", href]]);
+  const isAddress = /^(?:https?|ftp):\/\/./i.test(address);
+  if (rel === "mw:WikiLink" || (rel === "mw:ExtLink" && !isAddress)) return attributes(rel, href);
+  if (isAddress) return attributes("mw:ExtLink", address.replace(/[\u0000- <>"[\]\u007f]/g, escaped));
   if (address === "" || OTHER_SCHEME.test(address)) return null;
-  return new Map([["rel", "mw:WikiLink"], ["href", address.startsWith("./") ? address : `./${address.replace(/[ \t\n\r]+/g, "_")}`]]);
+  const isOurs = address.startsWith("./");
+  return attributes("mw:WikiLink", isOurs ? address : `./${address.replace(/[ \t\n\r]+/g, "_")}`);
 }
 
-/** An address without the signs that would end it in wikitext. @param {string} address */
-function escapedAddress(address) {
-  return address.replace(/[\u0000- <>"[\]\u007f]/g, (sign) => `%${sign.charCodeAt(0).toString(16).toUpperCase().padStart(2, "0")}`);
+/**
+ * @param {string} rel
+ * @param {string} href
+ */
+function attributes(rel, href) {
+  return new Map([["rel", rel], ["href", href]]);
 }
 
-/** The link to a page, as the program writes it. @param {string} title @returns {string} */
+/**
+ * A sign that would end an address in wikitext.
+ * @param {string} sign
+ */
+function escaped(sign) {
+  return `%${sign.charCodeAt(0).toString(16).toUpperCase().padStart(2, "0")}`;
+}
+
+/**
+ * The link to a page, as the program writes it.
+ * @param {string} title
+ * @returns {string}
+ */
 export function hrefOf(title) {
   const [name, ...fragment] = title.split("#");
   const written = [name, ...(fragment.length > 0 ? [fragment.join("#")] : [])].map((part) =>

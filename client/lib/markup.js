@@ -1,7 +1,8 @@
 // @ts-check
 /**
- * The HTML that the program writes and reads: its reader, its writer, and the tree between them. The grammar is that of
- * "The HTML that is read" in docs/profile.md; a document as the program writes it comes back byte for byte.
+ * The HTML that the program writes and reads: its reader, its writer, and the tree between them. The grammar
+ * is that of "The HTML that is read" in docs/profile.md; a document as the program writes it comes back byte
+ * for byte.
  */
 
 /** An element without its own surroundings. */
@@ -19,13 +20,19 @@ export class Part {
     this.written = "";
   }
 
-  /** A copy, also of what stands in it, to be changed. @returns {Part} */
+  /**
+   * A copy, also of what stands in it, to be changed.
+   * @returns {Part}
+   */
   copy() {
     const children = this.children.map((child) => (typeof child === "string" ? child : child.copy()));
     return new Part(this.name, new Map(this.attributes), children);
   }
 
-  /** @param {string} name @returns {string} the attribute's value; empty where it isn't there */
+  /**
+   * @param {string} name
+   * @returns {string} the attribute's value; empty where it isn't there
+   */
   value(name) {
     return this.attributes.get(name) ?? "";
   }
@@ -35,7 +42,10 @@ export class Part {
     return numberOf(this.value("id"));
   }
 
-  /** All texts in it, one after the other. @returns {string} */
+  /**
+   * All texts in it, one after the other.
+   * @returns {string}
+   */
   get text() {
     return this.children.map((child) => (typeof child === "string" ? child : child.text)).join("");
   }
@@ -46,7 +56,11 @@ export class Part {
   }
 }
 
-/** The number in an `id` of the program, as `mw12`; 0 of any other. @param {string | null} id @returns {number} */
+/**
+ * The number in an `id` of the program, as `mw12`; 0 of any other.
+ * @param {string | null} id
+ * @returns {number}
+ */
 export function numberOf(id) {
   const found = /^mw([1-9][0-9]{0,9})$/.exec(id ?? "");
   const number = found ? Number(found[1]) : 0;
@@ -68,13 +82,18 @@ export class HtmlRefused extends Error {
 
 const VOID = new Set(["br", "hr", "meta", "link", "base"]);
 const DOCTYPE = /[ \t\r\n]*(?:<!doctype html>)?[ \t\r\n]*/iy;
-const START = /<([a-z][a-z0-9]*)((?:[ \t\r\n]+[a-z0-9:-]+[ \t\r\n]*=[ \t\r\n]*(?:"[^"]*"|'[^']*'))*)[ \t\r\n]*(\/?)>/y;
+const START =
+  /<([a-z][a-z0-9]*)((?:[ \t\r\n]+[a-z0-9:-]+[ \t\r\n]*=[ \t\r\n]*(?:"[^"]*"|'[^']*'))*)[ \t\r\n]*(\/?)>/y;
 const END = /<\/([a-z][a-z0-9]*)[ \t\r\n]*>/y;
 const ATTRIBUTE = /([a-z0-9:-]+)[ \t\r\n]*=[ \t\r\n]*(?:"([^"]*)"|'([^']*)')/g;
 const ESCAPE = /&(?:(amp|lt|gt|quot|apos|nbsp);|#([0-9]{1,7});|#x([0-9a-fA-F]{1,6});)?/g;
 const NAMED = { amp: "&", lt: "<", gt: ">", quot: '"', apos: "'", nbsp: "\u00a0" };
 
-/** @param {string} text @param {number} place @returns {string} */
+/**
+ * @param {string} text
+ * @param {number} place
+ * @returns {string}
+ */
 function unescaped(text, place) {
   if (!text.includes("&")) return text;
   return text.replace(ESCAPE, (all, name, decimal, hexadecimal, offset) => {
@@ -86,7 +105,10 @@ function unescaped(text, place) {
   });
 }
 
-/** @param {string} written  all attributes of a tag @param {number} place  the tag's */
+/**
+ * @param {string} written  all attributes of a tag
+ * @param {number} place  the tag's
+ */
 function readAttributes(written, place) {
   /** @type {Map<string, string>} */
   const attributes = new Map();
@@ -134,7 +156,8 @@ class Reader {
     END.lastIndex = this.place;
     const end = END.exec(this.html);
     if (end === null || this.parent === this.top) throw new HtmlRefused(this.place, "no end tag");
-    if (end[1] !== this.parent.name) throw new HtmlRefused(this.place, `the end of ${this.parent.name} is missing`);
+    const { name } = this.parent;
+    if (end[1] !== name) throw new HtmlRefused(this.place, `the end of ${name} is missing`);
     this.place = END.lastIndex;
     const part = /** @type {Part} */ (this.stack.pop());
     this.#close(part, /** @type {number} */ (this.starts.pop()));
@@ -157,7 +180,10 @@ class Reader {
     this.starts.push(begin);
   }
 
-  /** @param {Part} part  whose end was read @param {number} start */
+  /**
+   * @param {Part} part  whose end was read
+   * @param {number} start
+   */
   #close(part, start) {
     if (HOLD_BLOCKS.has(this.parent.name)) part.written = this.html.slice(start, this.place);
   }
@@ -182,7 +208,11 @@ export function read(html) {
   return root;
 }
 
-/** Reads a document and answers its body. @param {string} html @returns {Part} */
+/**
+ * Reads a document and answers its body.
+ * @param {string} html
+ * @returns {Part}
+ */
 export function readPage(html) {
   const root = read(html);
   const body = root.parts.find((part) => part.name === "body");
@@ -213,14 +243,20 @@ function escaped(text) {
   return TEXT_SIGNS.test(text) ? text.replace(TEXT_SIGN, escapedSign) : text;
 }
 
-/** @param {string} name @param {string} value */
+/**
+ * @param {string} name
+ * @param {string} value
+ */
 function attributeText(name, value) {
   return name === "data-mw" || name === "data-parsoid"
     ? ` ${name}='${escaped(value).replaceAll("'", "&#39;")}'`
     : ` ${name}="${escaped(value).replaceAll('"', "&quot;")}"`;
 }
 
-/** @param {Part | string} child @param {string[]} out */
+/**
+ * @param {Part | string} child
+ * @param {string[]} out
+ */
 function writeChild(child, out) {
   if (typeof child === "string") {
     out.push(escaped(child));
@@ -241,7 +277,11 @@ function writeChild(child, out) {
   out.push("</", child.name, ">");
 }
 
-/** Writes the document with this body. @param {Part} body @returns {string} */
+/**
+ * Writes the document with this body.
+ * @param {Part} body
+ * @returns {string}
+ */
 export function write(body) {
   const out = ['<!DOCTYPE html><html><head><meta charset="utf-8"/></head>'];
   writeChild(body, out);

@@ -1,18 +1,19 @@
 // @ts-check
 /**
- * From what an editor and a browser left in a DOM to a tree that the program reads. Nothing is changed in the DOM.
+ * From what an editor and a browser left in a DOM to a tree that the program reads. Nothing is changed in the
+ * DOM.
  *
- * Where a page is known as it was opened, an element is *kept* if it has the `id` of a node of the page and is of that
- * node's kind; any other is new.
+ * Where a page is known as it was opened, an element is *kept* if it has the `id` of a node of the page and
+ * is of that node's kind; any other is new.
  */
 
 import { Part, numberOf } from "./markup.js";
 import { Original, kindOf } from "./original.js";
 import { linkTarget } from "./links.js";
 import { putBack } from "./strays.js";
-import { append, isEmpty, isLineBreak, tidy } from "./texts.js";
+import { append, isBare, isEmpty, tidy } from "./texts.js";
 import {
-  ATTRIBUTES, CELLS, HEADINGS, ITEMS, LINES, LISTS, TABLE_ATTRIBUTES, TAGS, isBlank, isBlock, isBlockName, isHiddenName,
+  ATTRIBUTES, CELLS, ITEMS, LINES, LISTS, TABLE_ATTRIBUTES, TAGS, isBlank, isBlock, isBlockName, isHiddenName,
   isIsland, nameOf,
 } from "./kinds.js";
 
@@ -21,18 +22,27 @@ import {
 const ELEMENT = 1;
 const TEXT = 3;
 
-/** @param {Node} node @returns {string} the text of a text node */
+/**
+ * @param {Node} node
+ * @returns {string} the text of a text node
+ */
 function textOf(node) {
   return /** @type {Text} */ (node).data;
 }
 
-/** @param {Element} element @returns {(name: string) => string} */
+/**
+ * @param {Element} element
+ * @returns {(name: string) => string}
+ */
 function valuesOf(element) {
   return (name) => element.getAttribute(name) ?? "";
 }
 
 export class Mender {
-  /** Which element has a number, of several that have it. @type {Map<number, Element>} */
+  /**
+   * Which element has a number, of several that have it.
+   * @type {Map<number, Element>}
+   */
   #owners = new Map();
 
   /** Whether what is read stands in a link. */
@@ -43,7 +53,10 @@ export class Mender {
     this.original = original;
   }
 
-  /** @param {Element} root  the element whose inside is the page's @returns {Part} its body */
+  /**
+   * @param {Element} root  the element whose inside is the page's
+   * @returns {Part} its body
+   */
   page(root) {
     this.#claim(root);
     const attributes = this.original?.page.attributes ?? this.#attributes(root, "body", 0);
@@ -54,9 +67,12 @@ export class Mender {
 
   // ---- Numbers
 
-  /** Finds the owner of each number: of several elements of the right kind, as the halves of a paragraph that was split,
-   * the one that holds most of what can't be written anew; of those the first that shows something, else the first.
-   * @param {Element} root */
+  /**
+   * Finds the owner of each number: of several elements of the right kind, as the halves of a paragraph that
+   * was split, the one that holds most of what can't be written anew; of those the first that shows
+   * something, else the first.
+   * @param {Element} root
+   */
   #claim(root) {
     for (const element of root.querySelectorAll("[id]")) {
       const number = numberOf(element.getAttribute("id"));
@@ -66,7 +82,11 @@ export class Mender {
     }
   }
 
-  /** @param {Element} element @param {Element} owner  one that came before it @param {number} number  of both */
+  /**
+   * @param {Element} element
+   * @param {Element} owner  one that came before it
+   * @param {number} number  of both
+   */
   #isBetter(element, owner, number) {
     if (!this.#isOfKind(element, number)) return false;
     if (!this.#isOfKind(owner, number)) return true;
@@ -74,7 +94,11 @@ export class Mender {
     return more > less || (more === less && isHollow(owner) && !isHollow(element));
   }
 
-  /** Whether the element can be the page's node of this number. @param {Element} element @param {number} number */
+  /**
+   * Whether the element can be the page's node of this number.
+   * @param {Element} element
+   * @param {number} number
+   */
   #isOfKind(element, number) {
     if (this.original === undefined) return true;
     const kept = this.original.nodes.get(number);
@@ -83,24 +107,37 @@ export class Mender {
     return data === null || data === kept.part.value("data-parsoid");
   }
 
-  /** @param {Element} element @returns {number} its number, where it is the one that has it; else 0 */
+  /**
+   * @param {Element} element
+   * @returns {number} its number, where it is the one that has it; else 0
+   */
   #numberOf(element) {
     const number = numberOf(element.getAttribute("id"));
-    return number !== 0 && this.#owners.get(number) === element && this.#isOfKind(element, number) ? number : 0;
+    const isOwner = number !== 0 && this.#owners.get(number) === element;
+    return isOwner && this.#isOfKind(element, number) ? number : 0;
   }
 
-  /** The page's own block, where the element is as it was opened. @param {Element} element @returns {Part | undefined} */
+  /**
+   * The page's own block, where the element is as it was opened.
+   * @param {Element} element
+   * @returns {Part | undefined}
+   */
   #untouched(element) {
     const kept = this.#kept(numberOf(element.getAttribute("id")));
     return kept !== undefined && this.#isUntouched(element, kept.part) ? kept.part : undefined;
   }
 
-  /** @param {Element} element @param {Part} part @returns {boolean} */
+  /**
+   * @param {Element} element
+   * @param {Part} part
+   * @returns {boolean}
+   */
   #isUntouched(element, part) {
     if (element.localName !== part.name && element.getAttribute("data-wt-name") !== part.name) return false;
     for (const [name, value] of part.attributes) if (element.getAttribute(name) !== value) return false;
-    const number = part.number;
-    if (number === 0 ? element.hasAttribute("id") && !part.attributes.has("id") : this.#owners.get(number) !== element) return false;
+    const { number } = part;
+    if (number !== 0 && this.#owners.get(number) !== element) return false;
+    if (element.hasAttribute("id") && !part.attributes.has("id")) return false;
     const { childNodes } = element;
     if (childNodes.length !== part.children.length) return false;
     let at = 0;
@@ -121,8 +158,13 @@ export class Mender {
     return this.original?.nodes.get(number);
   }
 
-  /** The attributes that stay: of a kept element those that it had, of a new one those that its kind may have.
-   * @param {Element} element @param {string} name @param {number} number @returns {Map<string, string>} */
+  /**
+   * The attributes that stay: of a kept element those that it had, of a new one those that its kind may have.
+   * @param {Element} element
+   * @param {string} name
+   * @param {number} number
+   * @returns {Map<string, string>}
+   */
   #attributes(element, name, number) {
     const had = this.#kept(number)?.part.attributes;
     /** @type {Map<string, string>} */
@@ -135,16 +177,34 @@ export class Mender {
     return attributes;
   }
 
-  /** @param {Element} element @param {string} name @param {Pieces} children @returns {Part} */
+  /**
+   * @param {Element} element
+   * @param {string} name
+   * @param {Pieces} children
+   * @returns {Part}
+   */
   #part(element, name, children) {
     return new Part(name, this.#attributes(element, name, this.#numberOf(element)), children);
   }
 
+  /**
+   * A block with text, mended.
+   * @param {Element} element
+   * @param {string} name
+   * @param {Pieces} children
+   */
+  #tidied(element, name, children) {
+    return tidy(this.#part(element, name, children), this.original);
+  }
+
   // ---- Blocks
 
-  /** What stands in the body, in a section, in a box: blocks, and white space between them. Text and inline elements
-   * that stand there directly are a new paragraph.
-   * @param {Iterable<Node>} nodes @returns {Pieces} */
+  /**
+   * What stands in the body, in a section, in a box: blocks, and white space between them. Text and inline
+   * elements that stand there directly are a new paragraph.
+   * @param {Iterable<Node>} nodes
+   * @returns {Pieces}
+   */
   #blocks(nodes) {
     /** @type {Pieces} */
     const out = [];
@@ -174,16 +234,25 @@ export class Mender {
     return out;
   }
 
-  /** Whether an element directly in the body belongs there; else it stands in a paragraph whose own element is gone.
-   * @param {Element} element @param {string} name @param {boolean} isInLine  whether such a paragraph has begun */
+  /**
+   * Whether an element directly in the body belongs there; else it stands in a paragraph whose own element is
+   * gone.
+   * @param {Element} element
+   * @param {string} name
+   * @param {boolean} isInLine  whether such a paragraph has begun
+   */
   #standsInBody(element, name, isInLine) {
     if (!element.hasAttribute("about") && !isHiddenName(name)) return isBlockName(name);
     const kept = this.#kept(this.#numberOf(element));
-    if (kept !== undefined && (kept.parent === null || isInLine || !isHiddenName(name))) return kept.parent === null;
+    if (kept?.parent === null) return true;
+    if (kept !== undefined && (isInLine || !isHiddenName(name))) return false;
     return !isInLine || isBlockName(name);
   }
 
-  /** A paragraph or heading of which nothing is left. @param {Part | string} piece */
+  /**
+   * A paragraph or heading of which nothing is left.
+   * @param {Part | string} piece
+   */
   #hasVanished(piece) {
     if (typeof piece === "string" || !LINES.has(piece.name) || piece.attributes.has("about")) return false;
     if (this.original === undefined && piece.number !== 0) return false;
@@ -191,31 +260,44 @@ export class Mender {
     return isEmpty(piece.children) && (kept === undefined || !isEmpty(kept.part.children));
   }
 
-  /** @param {Node[]} nodes  texts and inline elements without a block @returns {Pieces} */
+  /**
+   * @param {Node[]} nodes  texts and inline elements without a block
+   * @returns {Pieces}
+   */
   #paragraphs(nodes) {
     return this.#lines(new Map(), "p", this.#inline(nodes)).filter((piece) => !this.#hasVanished(piece));
   }
 
-  /** @param {Element} element @param {string} name  our name for it @returns {Pieces} */
+  /**
+   * @param {Element} element
+   * @param {string} name  our name for it
+   * @returns {Pieces}
+   */
   #block(element, name) {
     const untouched = this.#untouched(element);
     if (untouched !== undefined) return [untouched];
     if (element.hasAttribute("about")) return [this.#asItStands(element, name)];
     if (isHiddenName(name)) return this.#hidden(element, name);
     if (LINES.has(name)) {
-      return this.#lines(this.#attributes(element, name, this.#numberOf(element)), name, this.#inline(element.childNodes));
+      const attributes = this.#attributes(element, name, this.#numberOf(element));
+      return this.#lines(attributes, name, this.#inline(element.childNodes));
     }
     if (LISTS.has(name)) return this.#list(element, name);
     if (name === "hr") return [this.#part(element, name, [])];
-    if (name === "pre") return [tidy(this.#part(element, name, this.#inline(element.childNodes)), this.original)];
+    if (name === "pre") return [this.#tidied(element, name, this.#inline(element.childNodes))];
     if (name === "section") return [this.#part(element, name, this.#blocks(element.childNodes))];
     if (name === "table" || name === "tbody" || name === "tr") return [this.#tablePart(element, name)];
     return this.#blocks(element.childNodes);
   }
 
-  /** A paragraph or heading; where blocks stand in it, it is split round them, and its first part that isn't empty
-   * stays what it was.
-   * @param {Map<string, string>} attributes @param {string} name @param {Pieces} content @returns {Pieces} */
+  /**
+   * A paragraph or heading; where blocks stand in it, it is split round them, and its first part that isn't
+   * empty stays what it was.
+   * @param {Map<string, string>} attributes
+   * @param {string} name
+   * @param {Pieces} content
+   * @returns {Pieces}
+   */
   #lines(attributes, name, content) {
     if (!content.some((piece) => typeof piece !== "string" && isBlock(piece))) {
       return [tidy(new Part(name, attributes, content), this.original)];
@@ -239,10 +321,17 @@ export class Mender {
       }
       append(line.children, piece);
     }
-    return out.map((piece) => (typeof piece !== "string" && LINES.has(piece.name) ? tidy(piece, this.original) : piece));
+    for (const piece of out) {
+      if (typeof piece !== "string" && LINES.has(piece.name)) tidy(piece, this.original);
+    }
+    return out;
   }
 
-  /** @param {Element} element @param {string} name @returns {Pieces} */
+  /**
+   * @param {Element} element
+   * @param {string} name
+   * @returns {Pieces}
+   */
   #list(element, name) {
     const list = this.#part(element, name, []);
     const itemName = name === "dl" ? "dd" : "li";
@@ -259,7 +348,11 @@ export class Mender {
     return hasItems || isEmpty(this.#kept(list.number)?.part.children ?? ["a"]) ? [list] : list.parts;
   }
 
-  /** @param {Part} list @param {Element} element  a child of it @param {string} itemName  what its items are */
+  /**
+   * @param {Part} list
+   * @param {Element} element  a child of it
+   * @param {string} itemName  what its items are
+   */
   #inList(list, element, itemName) {
     const name = nameOf(element);
     if (name === "") return;
@@ -269,7 +362,7 @@ export class Mender {
       const item = this.#item(element, name);
       if (item.number !== 0 || !isEmpty(item.children)) list.children.push(item);
     } else if (LISTS.has(name)) {
-      let last = list.parts.findLast((part) => ITEMS.has(part.name) && !part.attributes.has("about"));
+      let last = list.parts.filter((part) => ITEMS.has(part.name) && !part.attributes.has("about")).pop();
       if (last === undefined) list.children.push((last = new Part(itemName)));
       last.children.push(...this.#list(element, name));
     } else {
@@ -278,12 +371,23 @@ export class Mender {
     }
   }
 
-  /** @param {Element} element @param {string} name @returns {Part} */
+  /**
+   * @param {Element} element
+   * @param {string} name
+   * @returns {Part}
+   */
   #item(element, name) {
-    return tidy(this.#part(element, name, this.#flat(this.#inline(element.childNodes), isList)), this.original);
+    const content = this.#inline(element.childNodes);
+    const isLast = blocksBehindText(content);
+    const stays = (/** @type {Part} */ part) => isList(part) && (part.number !== 0 || isLast(part));
+    return this.#tidied(element, name, this.#flat(content, stays));
   }
 
-  /** @param {Element} element @param {string} name @returns {Part} */
+  /**
+   * @param {Element} element
+   * @param {string} name
+   * @returns {Part}
+   */
   #tablePart(element, name) {
     const part = this.#part(element, name, []);
     for (const node of element.childNodes) {
@@ -292,28 +396,38 @@ export class Mender {
       const child = /** @type {Element} */ (node);
       const childName = nameOf(child);
       if (childName === "") continue;
-      if (CELLS.has(childName) && !child.hasAttribute("about")) part.children.push(this.#cell(child, childName));
-      else if (isBlockName(childName) || isHiddenName(childName)) part.children.push(...this.#block(child, childName));
-      else part.children.push(...this.#inlineElement(child));
+      const isCell = CELLS.has(childName) && !child.hasAttribute("about");
+      const isBlock = isBlockName(childName) || isHiddenName(childName);
+      if (isCell) part.children.push(this.#cell(child, childName));
+      else part.children.push(...(isBlock ? this.#block(child, childName) : this.#inlineElement(child)));
     }
     return part;
   }
 
-  /** A cell or caption: new paragraphs in it, before any block of the page, are lines of its text.
-   * @param {Element} element @param {string} name @returns {Part} */
+  /**
+   * A cell or caption: new paragraphs in it, before any block of the page, are lines of its text.
+   * @param {Element} element
+   * @param {string} name
+   * @returns {Part}
+   */
   #cell(element, name) {
+    const content = this.#inline(element.childNodes);
+    const isLast = blocksBehindText(content);
     let isBehindBlock = false;
     const stays = (/** @type {Part} */ part) => {
-      const isNew = part.number === 0 && !part.attributes.has("about") && LINES.has(part.name);
-      isBehindBlock ||= !isNew;
+      const isNew = part.number === 0 && !part.attributes.has("about");
+      isBehindBlock ||= !isNew || (isLast(part) && !LINES.has(part.name));
       return isBehindBlock;
     };
-    return tidy(this.#part(element, name, this.#flat(this.#inline(element.childNodes), stays)), this.original);
+    return this.#tidied(element, name, this.#flat(content, stays));
   }
 
   // ---- What stands in a line
 
-  /** @param {Iterable<Node>} nodes @returns {Pieces} texts, inline elements, and the blocks that stand among them */
+  /**
+   * @param {Iterable<Node>} nodes
+   * @returns {Pieces} texts, inline elements, and the blocks that stand among them
+   */
   #inline(nodes) {
     /** @type {Pieces} */
     const out = [];
@@ -325,7 +439,10 @@ export class Mender {
     return out;
   }
 
-  /** @param {Element} element @returns {Pieces} */
+  /**
+   * @param {Element} element
+   * @returns {Pieces}
+   */
   #inlineElement(element) {
     const name = nameOf(element);
     if (name === "") return [];
@@ -342,42 +459,54 @@ export class Mender {
     return name === "span" || name === "font" ? this.#byStyle(element) : this.#inline(element.childNodes);
   }
 
-  /** Bold, italic, a pair of tags; it vanishes where its inside did. @param {Element} element @param {string} name */
+  /**
+   * Bold, italic, a pair of tags; it vanishes where its inside did.
+   * @param {Element} element
+   * @param {string} name
+   */
   #styled(element, name) {
     const children = this.#flat(this.#inline(element.childNodes), () => false);
-    const kept = this.#kept(this.#numberOf(element));
-    const isBare = children.every((piece) => piece === "" || (typeof piece !== "string" && isLineBreak(piece)));
-    if (isBare && !(kept !== undefined && isEmpty(kept.part.children)) && this.#mayVanish(element)) return children;
-    return [this.#part(element, name, children)];
+    return isBare(children) && this.#mayVanish(element) ? children : [this.#part(element, name, children)];
   }
 
-  /** Whether an element without an inside is what is left of one; of a page that isn't known only a new one is.
-   * @param {Element} element */
+  /**
+   * Whether an element without an inside is what is left of one: it is new, or the page's has an inside.
+   * @param {Element} element
+   */
   #mayVanish(element) {
-    return this.original !== undefined || this.#numberOf(element) === 0;
+    const number = this.#numberOf(element);
+    const kept = this.#kept(number);
+    return kept === undefined ? number === 0 : !isEmpty(kept.part.children);
   }
 
-  /** A `span` or `font` of another document: bold and italic by its style, else its inside. @param {Element} element */
+  /**
+   * A `span` or `font` of another document: bold and italic by its style, else its inside.
+   * @param {Element} element
+   */
   #byStyle(element) {
     const style = element.getAttribute("style") ?? "";
     let pieces = this.#inline(element.childNodes);
     if (isEmpty(pieces)) return pieces;
-    if (/font-style:\s*(?:italic|oblique)/i.test(style)) pieces = [new Part("i", new Map(), this.#flat(pieces, () => false))];
-    if (/font-weight:\s*(?:bold|[6-9]00)/i.test(style)) pieces = [new Part("b", new Map(), this.#flat(pieces, () => false))];
+    const isItalic = /font-style:\s*(?:italic|oblique)/i.test(style);
+    const isBold = /font-weight:\s*(?:bold|[6-9]00)/i.test(style);
+    if (isItalic) pieces = [new Part("i", new Map(), this.#flat(pieces, () => false))];
+    if (isBold) pieces = [new Part("b", new Map(), this.#flat(pieces, () => false))];
     return pieces;
   }
 
-  /** @param {Element} element  an `a` @returns {Pieces} */
+  /**
+   * @param {Element} element  an `a`
+   * @returns {Pieces}
+   */
   #link(element) {
     if (this.#inLink) return this.#inline(element.childNodes);
     this.#inLink = true;
     const content = this.#flat(this.#inline(element.childNodes), () => false);
     this.#inLink = false;
     const kept = this.#kept(this.#numberOf(element));
-    const target = linkTarget(element.getAttribute("href") ?? "", kept?.part.value("rel") ?? element.getAttribute("rel") ?? "");
-    if (target === null) return content;
-    const isBare = content.every((piece) => piece === "" || (typeof piece !== "string" && isLineBreak(piece)));
-    if (isBare && !(kept !== undefined && isEmpty(kept.part.children)) && this.#mayVanish(element)) return content;
+    const rel = kept?.part.value("rel") ?? element.getAttribute("rel") ?? "";
+    const target = linkTarget(element.getAttribute("href") ?? "", rel);
+    if (target === null || (isBare(content) && this.#mayVanish(element))) return content;
     const isNew = this.#numberOf(element) === 0;
     const link = isNew ? new Part("a", target, content) : this.#part(element, "a", content);
     for (const [name, value] of target) if (link.value(name) !== value) link.attributes.set(name, value);
@@ -385,7 +514,11 @@ export class Mender {
     return withEdgesOutside(link, kept?.part.text ?? "");
   }
 
-  /** A `span` with a `typeof`: an entity, a nowiki, an island. @param {Element} element @returns {Pieces} */
+  /**
+   * A `span` with a `typeof`: an entity, a nowiki, an island.
+   * @param {Element} element
+   * @returns {Pieces}
+   */
   #special(element) {
     const type = element.getAttribute("typeof") ?? "";
     const isKept = this.#numberOf(element) !== 0;
@@ -394,38 +527,45 @@ export class Mender {
     }
     if (!isKept || (type !== "mw:Entity" && type !== "mw:Nowiki")) return this.#inline(element.childNodes);
     const part = this.#part(element, "span", this.#inline(element.childNodes));
-    return type === "mw:Entity" ? this.#entity(part) : isEmpty(part.children) && !this.#wasEmpty(part) ? [] : [part];
+    if (type === "mw:Entity") return this.#entity(part);
+    if (!part.parts.every((child) => child.value("typeof") === "mw:Entity")) return part.children;
+    return isEmpty(part.children) && this.#mayVanish(element) ? [] : [part];
   }
 
-  /** @param {Part} part */
-  #wasEmpty(part) {
-    const kept = this.#kept(part.number);
-    return kept === undefined || isEmpty(kept.part.children);
-  }
-
-  /** What was typed at an entity's edge stands beside it. @param {Part} part @returns {Pieces} */
+  /**
+   * An entity holds its character alone: what was typed at its edges stands beside it, and an entity whose
+   * character was changed is text.
+   * @param {Part} part
+   * @returns {Pieces}
+   */
   #entity(part) {
     const was = this.#kept(part.number)?.part.text;
-    const now = part.text;
-    if (was === undefined || now === was) return [part];
-    if (now === "") return [];
-    if (isBlank(now) && isBlank(was)) return [new Part(part.name, part.attributes, [was])];
-    const isBefore = now.endsWith(was);
-    if (!isBefore && !now.startsWith(was)) return [part];
+    if (was === undefined || (part.children.length === 1 && part.children[0] === was)) return [part];
     const whole = new Part(part.name, part.attributes, [was]);
-    return isBefore ? [now.slice(0, now.length - was.length), whole] : [whole, now.slice(was.length)];
+    const now = part.text;
+    const isBlankStill = now !== "" && isBlank(now) && isBlank(was) && part.parts.length === 0;
+    return isBlankStill ? [whole] : withEntity(part.children, was, whole) ?? part.children;
   }
 
-  /** A comment, an include tag, a skip, a switch, a category: those of the page alone. @param {Element} element
-   * @param {string} name @returns {Pieces} */
+  /**
+   * A comment, an include tag, a skip, a switch, a category: those of the page alone.
+   * @param {Element} element
+   * @param {string} name
+   * @returns {Pieces}
+   */
   #hidden(element, name) {
     const values = valuesOf(element);
-    const isOurs = [values("typeof"), values("property"), values("rel")].some((value) => value.startsWith("mw:"));
+    const isOurs = ["typeof", "property", "rel"].some((name) => values(name).startsWith("mw:"));
     const isKept = this.original === undefined || this.#numberOf(element) !== 0;
     return isOurs && isKept ? [this.#part(element, name, [])] : [];
   }
 
-  /** A group or a part of one: nothing in it is mended. @param {Element} element @param {string} name @returns {Part} */
+  /**
+   * A group or a part of one: nothing in it is mended.
+   * @param {Element} element
+   * @param {string} name
+   * @returns {Part}
+   */
   #asItStands(element, name) {
     const number = this.#numberOf(element);
     const part = new Part(name === "box" ? element.localName : name);
@@ -438,13 +578,18 @@ export class Mender {
       if (node.nodeType !== ELEMENT) continue;
       const child = /** @type {Element} */ (node);
       const childName = nameOf(child);
-      if (childName !== "") part.children.push(this.#asItStands(child, child.localName === "template" ? childName : child.localName));
+      const own = child.localName === "template" ? childName : child.localName;
+      if (childName !== "") part.children.push(this.#asItStands(child, own));
     }
     return part;
   }
 
-  /** Blocks where none may stand become their inside, with a line break to what stands before and behind them.
-   * @param {Pieces} pieces @param {(block: Part) => boolean} stays  whether a block may stand there @returns {Pieces} */
+  /**
+   * Blocks where none may stand become their inside, with a line break to what stands before and behind them.
+   * @param {Pieces} pieces
+   * @param {(block: Part) => boolean} stays  whether a block may stand there
+   * @returns {Pieces}
+   */
   #flat(pieces, stays) {
     /** @type {Pieces} */
     const out = [];
@@ -467,18 +612,40 @@ function isList(part) {
   return LISTS.has(part.name);
 }
 
-/** Whether an element shows nothing, as the half of a split paragraph that keeps nothing but its `br`.
- * @param {Element} element */
+/**
+ * In an item or a cell blocks stand behind all text.
+ * @param {Pieces} pieces
+ * @returns {(block: Part) => boolean} whether one of them does
+ */
+function blocksBehindText(pieces) {
+  const isText = (/** @type {Part | string} */ piece) =>
+    typeof piece === "string" ? !isBlank(piece) : !isBlock(piece) && !isHiddenName(piece.name);
+  const end = pieces.map(isText).lastIndexOf(true);
+  const behind = new Set(pieces.slice(end + 1));
+  return (block) => behind.has(block);
+}
+
+/**
+ * Whether an element shows nothing, as the half of a split paragraph that keeps nothing but its `br`.
+ * @param {Element} element
+ */
 function isHollow(element) {
   return isBlank(element.textContent ?? "") && element.querySelector("[id]") === null;
 }
 
-/** How many groups, extensions and other islands stand in an element. @param {Element} element */
+/**
+ * How many groups, extensions and other islands stand in an element.
+ * @param {Element} element
+ */
 function thingsIn(element) {
   return [...element.querySelectorAll("[id]")].filter((inner) => isIsland(valuesOf(inner))).length;
 }
 
-/** Whether a new element may have an attribute. @param {string} name @param {string} attribute */
+/**
+ * Whether a new element may have an attribute.
+ * @param {string} name
+ * @param {string} attribute
+ */
 function mayHave(name, attribute) {
   switch (name) {
     case "table":
@@ -500,14 +667,48 @@ function mayHave(name, attribute) {
   }
 }
 
-/** Blanks at a link's edges that the page's link hadn't stand outside it. @param {Part} link @param {string} was */
+/**
+ * What stands in an entity, with the entity itself in place of its character.
+ * @param {Pieces} pieces
+ * @param {string} character
+ * @param {Part} entity
+ * @returns {Pieces | null} null where the character isn't there
+ */
+function withEntity(pieces, character, entity) {
+  for (const [at, piece] of pieces.entries()) {
+    const isText = typeof piece === "string";
+    const inside = isText ? cutAt(piece, character, entity) : withEntity(piece.children, character, entity);
+    if (inside === null) continue;
+    const put = isText ? inside : [new Part(piece.name, piece.attributes, inside)];
+    return [...pieces.slice(0, at), ...put, ...pieces.slice(at + 1)];
+  }
+  return null;
+}
+
+/**
+ * @param {string} text
+ * @param {string} character
+ * @param {Part} entity
+ * @returns {Pieces | null} the text with the entity for its character; null where that isn't there
+ */
+function cutAt(text, character, entity) {
+  const at = character === "" ? -1 : text.indexOf(character);
+  if (at < 0) return null;
+  return [text.slice(0, at), entity, text.slice(at + character.length)].filter((piece) => piece !== "");
+}
+
+/**
+ * Blanks at a link's edges that the page's link hadn't stand outside it.
+ * @param {Part} link
+ * @param {string} was
+ */
 function withEdgesOutside(link, was) {
   const first = link.children[0];
   const front = typeof first === "string" && !/^\s/.test(was) ? /^[ \t\n\u00a0]*/.exec(first)?.[0] ?? "" : "";
   if (front !== "") link.children[0] = /** @type {string} */ (first).slice(front.length);
   const last = link.children[link.children.length - 1];
   const back = typeof last === "string" && !/\s$/.test(was) ? /[ \t\n\u00a0]*$/.exec(last)?.[0] ?? "" : "";
-  if (back !== "") link.children[link.children.length - 1] = /** @type {string} */ (last).slice(0, last.length - back.length);
+  if (typeof last === "string") link.children.splice(-1, 1, last.slice(0, last.length - back.length));
   link.children = link.children.filter((piece) => piece !== "");
   return isEmpty(link.children) ? [front + back] : [front, link, back].filter((piece) => piece !== "");
 }

@@ -1,15 +1,18 @@
 // @ts-check
 /** Names for what an editor shows as one thing. */
 
-/** @typedef {{kind: "template" | "argument" | "extension" | "media" | "function" | "tag" | "comment" | "include" |
- *   "switch" | "category" | "other", name: string, source: string}} Description */
+/**
+ * @typedef {{kind: "template" | "argument" | "extension" | "media" | "function" | "tag" | "comment" |
+ *   "include" | "switch" | "category" | "other", name: string, source: string}} Description
+ */
 
 /**
- * What an element is that can't be edited: a group (what a template gave), an extension, what is kept as it stands, a
- * comment, an include tag, a switch, a category. Of a group ask its first element, the one with an `id`.
+ * What an element is that can't be edited: a group (what a template gave), an extension, what is kept as it
+ * stands, a comment, an include tag, a switch, a category. Of a group ask its first element, the one with an
+ * `id`.
  * @param {Element} element
- * @returns {Description | null} null where it is none of these. `name` is that of the template, of the extension, of
- *   the category; `source` is its wikitext, empty where the element doesn't tell.
+ * @returns {Description | null} null where it is none of these. `name` is that of the template, of the
+ *   extension, of the category; `source` is its wikitext, empty where the element doesn't tell.
  */
 export function describe(element) {
   const type = element.getAttribute("typeof") ?? "";
@@ -17,16 +20,22 @@ export function describe(element) {
   const property = element.getAttribute("property") ?? "";
   const source = sourceOf(element);
   if (element.hasAttribute("about")) return describeGroup(element, source);
-  if (type.startsWith("mw:Extension/")) return { kind: "extension", name: type.slice("mw:Extension/".length), source };
+  const [, , name = ""] = /^mw:(Extension|Includes|PageProp)\/(.*)$/.exec(type || property) ?? [];
+  if (type.startsWith("mw:Extension/")) return { kind: "extension", name, source };
+  if (type.startsWith("mw:Includes/")) return { kind: "include", name, source };
+  if (property.startsWith("mw:PageProp/")) return { kind: "switch", name, source };
   if (type === "mw:Placeholder") return describePlaceholder(source);
-  if (type === "mw:Comment") return { kind: "comment", name: source.replace(/^<!--\s*|\s*-->\s*$/g, ""), source };
-  if (type.startsWith("mw:Includes/")) return { kind: "include", name: type.slice("mw:Includes/".length), source };
-  if (property.startsWith("mw:PageProp/")) return { kind: "switch", name: property.slice("mw:PageProp/".length), source };
-  if (rel === "mw:PageProp/Category") return { kind: "category", name: titleOf(element.getAttribute("href") ?? ""), source };
-  return null;
+  if (type === "mw:Comment") {
+    return { kind: "comment", name: source.replace(/^<!--\s*|\s*-->\s*$/g, ""), source };
+  }
+  if (rel !== "mw:PageProp/Category") return null;
+  return { kind: "category", name: titleOf(element.getAttribute("href") ?? ""), source };
 }
 
-/** @param {Element} element @returns {string} */
+/**
+ * @param {Element} element
+ * @returns {string}
+ */
 function sourceOf(element) {
   try {
     const data = JSON.parse(element.getAttribute("data-parsoid") ?? "{}");
@@ -36,7 +45,11 @@ function sourceOf(element) {
   }
 }
 
-/** @param {Element} element @param {string} source @returns {Description} */
+/**
+ * @param {Element} element
+ * @param {string} source
+ * @returns {Description}
+ */
 function describeGroup(element, source) {
   /** @type {any[]} */
   let parts = [];
@@ -48,19 +61,28 @@ function describeGroup(element, source) {
   const names = parts.filter((part) => part.template).map((part) => part.template.target.wt.trim());
   if (names.length > 0) return { kind: "template", name: names.join(", "), source };
   const argument = parts.find((part) => part.param);
-  return argument ? { kind: "argument", name: argument.param.wt, source } : { kind: "other", name: "", source };
+  if (argument) return { kind: "argument", name: argument.param.wt, source };
+  return { kind: "other", name: "", source };
 }
 
-/** @param {string} source @returns {Description} */
+/**
+ * @param {string} source
+ * @returns {Description}
+ */
 function describePlaceholder(source) {
   const media = /^\[\[\s*(?:File|Image)\s*:\s*([^|\]]*)/i.exec(source);
   if (media) return { kind: "media", name: media[1].trim(), source };
-  if (source.startsWith("{{")) return { kind: "function", name: /^\{\{\s*(#?[^:|}]*)/.exec(source)?.[1] ?? "", source };
+  const call = /^\{\{\s*(#?[^:|}]*)/.exec(source);
+  if (call) return { kind: "function", name: call[1], source };
   if (source.startsWith("<")) return { kind: "tag", name: source, source };
   return { kind: "other", name: source, source };
 }
 
-/** The title that a link leads to, to be read. @param {string} href @returns {string} */
+/**
+ * The title that a link leads to, to be read.
+ * @param {string} href
+ * @returns {string}
+ */
 export function titleOf(href) {
   const text = href.replace(/^\.\//, "");
   try {

@@ -29,7 +29,10 @@ export class Offsets {
     this.units[byte] = unit;
   }
 
-  /** @param {number} byte  a place in the page, at a character's beginning @returns {number} the same in UTF-16 units */
+  /**
+   * @param {number} byte  a place in the page, at a character's beginning
+   * @returns {number} the same in UTF-16 units
+   */
   at(byte) {
     return this.isAscii ? byte : this.units[byte];
   }
@@ -39,8 +42,8 @@ export class Offsets {
  * Where an element stands in its page.
  * @param {Element} element  one with `data-parsoid`, as the program writes it
  * @param {Offsets} offsets  those of the page's wikitext
- * @returns {{start: number, end: number, open: number, close: number} | null} its range and the widths of its two
- *   delimiters, in UTF-16 units; null where the element doesn't tell
+ * @returns {{start: number, end: number, open: number, close: number} | null} its range and the widths of its
+ *   two delimiters, in UTF-16 units; null where the element doesn't tell
  */
 export function rangeOf(element, offsets) {
   const data = element.getAttribute("data-parsoid");
@@ -49,5 +52,6 @@ export function rangeOf(element, offsets) {
   const [start, end, open, close] = JSON.parse(data).dsr;
   const first = offsets.at(start);
   const last = offsets.at(end);
-  return { start: first, end: last, open: offsets.at(start + open) - first, close: last - offsets.at(end - close) };
+  const widths = { open: offsets.at(start + open) - first, close: last - offsets.at(end - close) };
+  return { start: first, end: last, ...widths };
 }

@@ -6,7 +6,11 @@ import { isBlock } from "./kinds.js";
 
 /** A node of the page as it was. */
 export class Kept {
-  /** @param {Part} part @param {Kept | null} parent  the node that it stands in, null in the body @param {number} at */
+  /**
+   * @param {Part} part
+   * @param {Kept | null} parent  the node that it stands in, null in the body
+   * @param {number} at
+   */
   constructor(part, parent, at) {
     this.part = part;
     this.parent = parent;
@@ -26,7 +30,8 @@ export class Kept {
 
 /**
  * What an element is, in one word: an `id` counts only on an element of the kind that it had.
- * @param {string} name @param {(name: string) => string} value
+ * @param {string} name
+ * @param {(name: string) => string} value
  */
 export function kindOf(name, value) {
   if (value("about") !== "") return "group";
@@ -46,7 +51,10 @@ export class Original {
     this.text = write(this.page);
   }
 
-  /** The nodes by number; read when they are first asked for. @returns {Map<number, Kept>} */
+  /**
+   * The nodes by number; read when they are first asked for.
+   * @returns {Map<number, Kept>}
+   */
   get nodes() {
     if (this.#nodes === null) {
       this.#nodes = new Map();
@@ -55,7 +63,11 @@ export class Original {
     return this.#nodes;
   }
 
-  /** @param {Part} part @param {Kept | null} parent @param {Map<number, Kept>} nodes */
+  /**
+   * @param {Part} part
+   * @param {Kept | null} parent
+   * @param {Map<number, Kept>} nodes
+   */
   #collect(part, parent, nodes) {
     part.children.forEach((child, at) => {
       if (typeof child === "string") return;

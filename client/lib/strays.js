@@ -1,7 +1,8 @@
 // @ts-check
 /**
- * Comments, include tags, skips, switches and categories that an editor moved out of the block that held them, as
- * VisualEditor does with those of a block that it changes: each goes back beside the neighbour that it had.
+ * Comments, include tags, skips, switches and categories that an editor moved out of the block that held
+ * them, as VisualEditor does with those of a block that it changes: each goes back beside the neighbour that
+ * it had.
  */
 
 import { Part } from "./markup.js";
@@ -17,7 +18,10 @@ const MOST_STRAYS = 200;
 
 /** @typedef {{part: Part, kept: Kept}} Stray */
 
-/** @param {Part} page  a mended body, changed in place @param {Original} original */
+/**
+ * @param {Part} page  a mended body, changed in place
+ * @param {Original} original
+ */
 export function putBack(page, original) {
   /** @type {Map<number, Part>} */
   const homes = new Map();
@@ -33,9 +37,14 @@ export function putBack(page, original) {
   }
 }
 
-/** Finds the elements that have a number, and the strays.
- * @param {Part} part @param {number} number  of the nearest kept element that it is or stands in, 0 for the body
- * @param {Original} original @param {Map<number, Part>} homes @param {Stray[]} strays */
+/**
+ * Finds the elements that have a number, and the strays.
+ * @param {Part} part
+ * @param {number} number  of the nearest kept element that it is or stands in, 0 for the body
+ * @param {Original} original
+ * @param {Map<number, Part>} homes
+ * @param {Stray[]} strays
+ */
 function find(part, number, original, homes, strays) {
   for (const child of part.parts) {
     const kept = original.nodes.get(child.number);
@@ -50,8 +59,13 @@ function find(part, number, original, homes, strays) {
   }
 }
 
-/** Takes parts out; texts on the two sides of one become one text, and a new paragraph that held nothing else goes.
- * @param {Part} part @param {Set<Part>} strays @returns {boolean} whether something was taken out */
+/**
+ * Takes parts out; texts on the two sides of one become one text, and a new paragraph that held nothing else
+ * goes.
+ * @param {Part} part
+ * @param {Set<Part>} strays
+ * @returns {boolean} whether something was taken out
+ */
 function remove(part, strays) {
   /** @type {(Part | string)[]} */
   const children = [];
@@ -69,8 +83,12 @@ function remove(part, strays) {
   return isChanged;
 }
 
-/** @param {Part} home @param {Part} stray @param {(Part | string)[]} siblings  what stood in the home in the page
- * @param {number} at  which of them the stray was */
+/**
+ * @param {Part} home
+ * @param {Part} stray
+ * @param {(Part | string)[]} siblings  what stood in the home in the page
+ * @param {number} at  which of them the stray was
+ */
 function insert(home, stray, siblings, at) {
   const before = siblings[at - 1];
   const behind = siblings[at + 1];
@@ -79,17 +97,27 @@ function insert(home, stray, siblings, at) {
   if (besideBefore >= 0) home.children.splice(besideBefore + 1, 0, stray);
   else if (besideBehind >= 0) home.children.splice(besideBehind, 0, stray);
   else if (before === undefined) home.children.unshift(stray);
-  else if (typeof before !== "string" || !insertIntoText(home, stray, before, behind)) home.children.push(stray);
+  else if (typeof before === "string" && insertIntoText(home, stray, before, behind)) return;
+  else home.children.push(stray);
 }
 
-/** @param {Part} home @param {Part | string | undefined} neighbour  as it stood in the page @returns {number} -1: not there */
+/**
+ * @param {Part} home
+ * @param {Part | string | undefined} neighbour  as it stood in the page
+ * @returns {number} -1: not there
+ */
 function indexOf(home, neighbour) {
   if (neighbour === undefined || typeof neighbour === "string" || neighbour.number === 0) return -1;
   return home.children.findIndex((child) => typeof child !== "string" && child.number === neighbour.number);
 }
 
-/** Puts a part between two texts that have become one: where their ends meet, or where one of them is.
- * @param {Part} home @param {Part} stray @param {string} before @param {Part | string | undefined} behind */
+/**
+ * Puts a part between two texts that have become one: where their ends meet, or where one of them is.
+ * @param {Part} home
+ * @param {Part} stray
+ * @param {string} before
+ * @param {Part | string | undefined} behind
+ */
 function insertIntoText(home, stray, before, behind) {
   const end = before.slice(-NEAR);
   const start = typeof behind === "string" ? behind.slice(0, NEAR) : "";
@@ -101,7 +129,8 @@ function insertIntoText(home, stray, before, behind) {
     if (found < 0) continue;
     const text = /** @type {string} */ (home.children[found]);
     const cut = text.indexOf(wanted) + offset;
-    home.children.splice(found, 1, ...[text.slice(0, cut), stray, text.slice(cut)].filter((piece) => piece !== ""));
+    const pieces = [text.slice(0, cut), stray, text.slice(cut)].filter((piece) => piece !== "");
+    home.children.splice(found, 1, ...pieces);
     return true;
   }
   return false;

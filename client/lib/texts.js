@@ -5,7 +5,11 @@ import { Part } from "./markup.js";
 import { Kept, Original } from "./original.js";
 import { ITEMS, isBlank, isBlock, isHiddenName, isIsland } from "./kinds.js";
 
-/** Puts a piece at the end; texts that meet become one. @param {(Part | string)[]} pieces @param {Part | string} piece */
+/**
+ * Puts a piece at the end; texts that meet become one.
+ * @param {(Part | string)[]} pieces
+ * @param {Part | string} piece
+ */
 export function append(pieces, piece) {
   if (piece === "") return;
   const last = pieces.length - 1;
@@ -13,21 +17,45 @@ export function append(pieces, piece) {
   else pieces.push(piece);
 }
 
-/** @param {Part | string} piece @returns {boolean} a line break that an editor made */
+/**
+ * @param {Part | string} piece
+ * @returns {boolean} a line break that an editor made
+ */
 export function isLineBreak(piece) {
   return typeof piece !== "string" && piece.name === "br" && piece.number === 0;
 }
 
-/** Whether nothing but white space and the line break that a browser puts into an empty block stands there.
- * @param {(Part | string)[]} pieces */
+/**
+ * Whether nothing but white space and the line break that a browser puts into an empty block stands there.
+ * @param {(Part | string)[]} pieces
+ */
 export function isEmpty(pieces) {
   return pieces.filter((piece) => !(typeof piece === "string" && isBlank(piece))).every(isLineBreak);
 }
 
 /**
- * Mends a block with text whose inside isn't that of the page: the line break at its end, which shows nothing; blanks
- * at its ends, no-break spaces, carriage returns and line breaks that the page hadn't there.
- * @param {Part} block @param {Original | undefined} original @returns {Part} the block
+ * Whether nothing but line breaks that an editor made stands there.
+ * @param {(Part | string)[]} pieces
+ */
+export function isBare(pieces) {
+  return pieces.every((piece) => piece === "" || isLineBreak(piece));
+}
+
+/**
+ * Whether nothing in it is mended.
+ * @param {Part} part
+ */
+function isLeaf(part) {
+  const value = (/** @type {string} */ name) => part.value(name);
+  return isHiddenName(part.name) || isIsland(value) || value("typeof") !== "";
+}
+
+/**
+ * Mends a block with text whose inside isn't that of the page: the line break at its end, which shows
+ * nothing; blanks at its ends, no-break spaces, carriage returns and line breaks that the page hadn't there.
+ * @param {Part} block
+ * @param {Original | undefined} original
+ * @returns {Part} the block
  */
 export function tidy(block, original) {
   const kept = original?.nodes.get(block.number);
@@ -43,7 +71,12 @@ export function tidy(block, original) {
   return block;
 }
 
-/** Whether two elements are the same, inside too. @param {Part} now @param {Part} was @returns {boolean} */
+/**
+ * Whether two elements are the same, inside too.
+ * @param {Part} now
+ * @param {Part} was
+ * @returns {boolean}
+ */
 export function isSame(now, was) {
   if (now.name !== was.name || now.children.length !== was.children.length) return false;
   for (const [name, value] of was.attributes) {
@@ -55,7 +88,10 @@ export function isSame(now, was) {
   });
 }
 
-/** @param {(Part | string)[]} lead  the pieces of a block before any block in it @param {boolean} isBeforeBlock */
+/**
+ * @param {(Part | string)[]} lead  the pieces of a block before any block in it
+ * @param {boolean} isBeforeBlock
+ */
 function dropLastBreak(lead, isBeforeBlock) {
   let last = lead.length - 1;
   while (last >= 0 && isBlankText(lead[last])) last -= 1;
@@ -69,8 +105,13 @@ function isBlankText(piece) {
   return typeof piece === "string" && isBlank(piece);
 }
 
-/** Takes blanks off a block's ends where the page's block has none there.
- * @param {Part} block @param {(Part | string)[]} lead @param {Kept | undefined} kept @param {string} was */
+/**
+ * Takes blanks off a block's ends where the page's block has none there.
+ * @param {Part} block
+ * @param {(Part | string)[]} lead
+ * @param {Kept | undefined} kept
+ * @param {string} was
+ */
 function trimEdges(block, lead, kept, was) {
   if (block.name === "pre") return;
   if (typeof lead[0] === "string" && !/^[ \t\n]/.test(was)) lead[0] = lead[0].replace(/^[ \t\n]+/, "");
@@ -82,11 +123,15 @@ function trimEdges(block, lead, kept, was) {
 }
 
 /**
- * The texts of a block beside those that the page has. Before and behind what was changed the page's white space is put
- * back: browsers put no-break spaces for blanks, and blanks for line breaks, next to what is typed.
+ * The texts of a block beside those that the page has. Before and behind what was changed the page's white
+ * space is put back: browsers put no-break spaces for blanks, and blanks for line breaks, next to what is
+ * typed.
  */
 class Texts {
-  /** @param {string} was @param {string} now */
+  /**
+   * @param {string} was
+   * @param {string} now
+   */
   constructor(was, now) {
     const most = Math.min(was.length, now.length);
     let back = 0;
@@ -105,7 +150,10 @@ class Texts {
     this.hasReturns = changed.includes("\r");
   }
 
-  /** @param {Part} block @param {(Part | string)[]} lead */
+  /**
+   * @param {Part} block
+   * @param {(Part | string)[]} lead
+   */
   mend(block, lead) {
     this.#pieces(lead, block.name === "p" || block.name === "pre", false);
     if (block.name !== "p") return;
@@ -119,14 +167,17 @@ class Texts {
     });
   }
 
-  /** @param {(Part | string)[]} pieces @param {boolean} isParagraph  whether line breaks may stand among them
-   * @param {boolean} isNew  whether they stand in a new element that holds no line breaks */
+  /**
+   * @param {(Part | string)[]} pieces
+   * @param {boolean} isParagraph  whether line breaks may stand among them
+   * @param {boolean} isNew  whether they stand in a new element that holds no line breaks
+   */
   #pieces(pieces, isParagraph, isNew) {
     pieces.forEach((piece, at) => {
       if (typeof piece === "string") {
         const mended = this.#text(piece, isParagraph);
         pieces[at] = isNew ? mended.replaceAll("\n", " ") : mended;
-      } else if (isHiddenName(piece.name) || isIsland((name) => piece.value(name)) || piece.value("typeof") !== "") {
+      } else if (isLeaf(piece)) {
         this.at += piece.text.length;
       } else {
         const isSplit = isParagraph && isNewStyle(piece);
@@ -135,7 +186,11 @@ class Texts {
     });
   }
 
-  /** @param {string} text @param {boolean} isParagraph @returns {string} */
+  /**
+   * @param {string} text
+   * @param {boolean} isParagraph
+   * @returns {string}
+   */
   #text(text, isParagraph) {
     const start = this.at;
     const end = (this.at += text.length);
@@ -146,7 +201,10 @@ class Texts {
     return front + this.#typed(text.slice(from - start, to - start), isParagraph) + back;
   }
 
-  /** @param {string} text  what was typed or pasted @param {boolean} isParagraph */
+  /**
+   * @param {string} text  what was typed or pasted
+   * @param {boolean} isParagraph
+   */
   #typed(text, isParagraph) {
     let mended = text.replace(/[\u200b\ufeff]/g, "").replace(/[\v\f]/g, " ");
     if (!this.hasReturns) mended = mended.replace(/\r\n?/g, "\n");
@@ -155,13 +213,20 @@ class Texts {
   }
 }
 
-/** @param {Part | string} piece @returns {boolean} bold or italic that an editor made */
+/**
+ * @param {Part | string} piece
+ * @returns {boolean} bold or italic that an editor made
+ */
 function isNewStyle(piece) {
   return typeof piece !== "string" && piece.number === 0 && (piece.name === "b" || piece.name === "i");
 }
 
-/** Bold and italic end with a line in wikitext: what an editor made over several lines of a paragraph begins anew on
- * each. @param {Part | string} piece @returns {(Part | string)[]} */
+/**
+ * Bold and italic end with a line in wikitext: what an editor made over several lines of a paragraph begins
+ * anew on each.
+ * @param {Part | string} piece
+ * @returns {(Part | string)[]}
+ */
 function splitAtLines(piece) {
   if (typeof piece === "string" || !isNewStyle(piece)) return [piece];
   const inner = piece.children.flatMap((child) =>
@@ -182,8 +247,11 @@ function splitAtLines(piece) {
   return out;
 }
 
-/** Whether a character of the page is the same now, or is white space for which a browser put a blank.
- * @param {string} was @param {string} now */
+/**
+ * Whether a character of the page is the same now, or is white space for which a browser put a blank.
+ * @param {string} was
+ * @param {string} now
+ */
 function isSameSign(was, now) {
   return was === now || ((now === " " || now === "\u00a0") && (was === " " || was === "\n" || was === "\t"));
 }

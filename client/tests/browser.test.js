@@ -26,7 +26,8 @@ before(async () => {
   server = createServer((request, response) => {
     const isModule = /^\/client\/(?:lib\/)?[a-z_]+\.js$/.test(request.url ?? "");
     response.writeHead(200, { "Content-Type": isModule ? "text/javascript" : "text/html" });
-    response.end(isModule ? readFileSync(join(REPOSITORY, request.url ?? "")) : "<!DOCTYPE html><title>test</title>");
+    const empty = "<!DOCTYPE html><title>test</title>";
+    response.end(isModule ? readFileSync(join(REPOSITORY, request.url ?? "")) : empty);
   });
   await new Promise((done) => server.listen(0, "127.0.0.1", () => done(undefined)));
   browser = new Browser(chromium);
@@ -41,16 +42,21 @@ after(async () => {
   server.close();
 });
 
-/** The places, in a list of documents, of those for which a function in the browser gives another text.
- * @param {string[]} documents @param {string} body  of a function of `html` @returns {Promise<number[]>} */
+/**
+ * The places, in a list of documents, of those for which a function in the browser gives another text.
+ * @param {string[]} documents
+ * @param {string} body  of a function of `html`
+ * @returns {Promise<number[]>}
+ */
 async function changed(documents, body) {
   /** @type {number[]} */
   const places = [];
   for (let from = 0; from < documents.length; from += AT_ONCE) {
     const some = documents.slice(from, from + AT_ONCE);
-    const answer = await tab.js(
-      `(() => { const back = (html) => { ${body} }; return ${JSON.stringify(some)}.flatMap((html, at) => back(html) === html ? [] : [at]); })()`,
-    );
+    const answer = await tab.js(`(() => {
+      const back = (html) => { ${body} };
+      return ${JSON.stringify(some)}.flatMap((html, at) => back(html) === html ? [] : [at]);
+    })()`);
     places.push(...answer.map((/** @type {number} */ at) => from + at));
   }
   return places;
@@ -71,12 +77,18 @@ function documents() {
   return [...own, ...outsideDocuments()];
 }
 
-/** A page of pieces in an order that the number decides. @param {number} number @returns {string} */
+/**
+ * A page of pieces in an order that the number decides.
+ * @param {number} number
+ * @returns {string}
+ */
 function madePage(number) {
   const pieces = [
-    "== h ==", "a '''b''' ''c'' [[d|e]]\nf", "* g\n** h\n*# i", "{|\n<!-- c -->\n|-\n| a || b\n|+ c\n|}", "; t : d", " p\n q",
-    "----", "{{lang|de|x}}", "{|\n{{lang|a|<!-- -->}}\n|}", "x <ref>y</ref> &nbsp; <nowiki>''z''</nowiki>", "<sup>s</sup> [http://a.b c]",
-    "__NOTOC__", "<includeonly>i</includeonly>", "[[File:A.png]]", "{{{n|m}}}", "\u{1F600}\u0301 \u0001", "<noinclude>\n* k</noinclude>",
+    "== h ==", "a '''b''' ''c'' [[d|e]]\nf", "* g\n** h\n*# i", "{|\n<!-- c -->\n|-\n| a || b\n|+ c\n|}",
+    "; t : d", " p\n q", "----", "{{lang|de|x}}", "{|\n{{lang|a|<!-- -->}}\n|}",
+    "<sup>s</sup> [http://a.b c]",
+    "x <ref>y</ref> &nbsp; <nowiki>''z''</nowiki>", "__NOTOC__", "<includeonly>i</includeonly>",
+    "[[File:A.png]]", "{{{n|m}}}", "\u{1F600}\u0301 \u0001", "<noinclude>\n* k</noinclude>",
   ];
   let state = number;
   const next = () => (state = (state * 48271) % 2147483647) % pieces.length;
@@ -87,7 +99,9 @@ test("pages come back from the DOM that open makes", { skip }, async (context) =
   const all = documents();
   if (all.length === 0) return context.skip("there are no pages here: build wtround, or name one in WTROUND");
   assert.deepEqual(await changed(all, "return module.save(module.open(html));"), []);
-  assert.deepEqual(await changed(all, "return module.save(module.open(html, { into: document.createElement('div') }), { marks: true });"), []);
+  const marked =
+    "return module.save(module.open(html, { into: document.createElement('div') }), { marks: true });";
+  assert.deepEqual(await changed(all, marked), []);
   context.diagnostic(`${all.length} pages`);
 });
 

@@ -35,9 +35,9 @@ export class Browser {
   constructor(path) {
     this.profile = mkdtempSync(join(tmpdir(), "bughtiso-chromium-"));
     const flags = [
-      "--headless=new", "--no-sandbox", "--disable-gpu", "--no-first-run", "--disable-extensions", "--hide-scrollbars",
-      "--disable-background-networking", "--disable-component-update", "--disable-sync", "--disable-dev-shm-usage",
-      `--user-data-dir=${this.profile}`, "--remote-debugging-pipe", "about:blank",
+      "--headless=new", "--no-sandbox", "--disable-gpu", "--no-first-run", "--disable-extensions",
+      "--hide-scrollbars", "--disable-background-networking", "--disable-component-update", "--disable-sync",
+      "--disable-dev-shm-usage", `--user-data-dir=${this.profile}`, "--remote-debugging-pipe", "about:blank",
     ];
     this.process = spawn(path, flags, { stdio: ["ignore", "ignore", "ignore", "pipe", "pipe"] });
     this.to = /** @type {import("node:stream").Writable} */ (this.process.stdio[3]);
@@ -70,7 +70,12 @@ export class Browser {
     else waiting.done(message.result);
   }
 
-  /** @param {string} method @param {object} [params] @param {string} [session] @returns {Promise<any>} */
+  /**
+   * @param {string} method
+   * @param {object} [params]
+   * @param {string} [session]
+   * @returns {Promise<any>}
+   */
   call(method, params = {}, session) {
     this.#number += 1;
     const id = this.#number;
@@ -78,7 +83,11 @@ export class Browser {
     return new Promise((done, failed) => this.#waiting.set(id, { done, failed }));
   }
 
-  /** @param {string} session @param {string} method @returns {Promise<any>} the next event of this name */
+  /**
+   * @param {string} session
+   * @param {string} method
+   * @returns {Promise<any>} the next event of this name
+   */
   next(session, method) {
     return new Promise((done) => {
       const listener = (/** @type {any} */ message) => {
@@ -112,7 +121,10 @@ export class Browser {
   }
 }
 
-/** Keys that are no characters: their codes, and the text that they type. */
+/**
+ * Keys that are no characters: their codes, and the text that they type.
+ * @type {Record<string, {code: number, text?: string}>}
+ */
 const KEYS = {
   Enter: { code: 13, text: "\r" },
   Backspace: { code: 8 },
@@ -126,15 +138,23 @@ const KEYS = {
   Home: { code: 36 },
   End: { code: 35 },
 };
+/** @type {Record<string, number>} */
 const MODIFIERS = { Alt: 1, Control: 2, Meta: 4, Shift: 8 };
 
 export class Tab {
-  /** @param {Browser} browser @param {string} session @param {string} target */
+  /**
+   * @param {Browser} browser
+   * @param {string} session
+   * @param {string} target
+   */
   constructor(browser, session, target) {
     this.browser = browser;
     this.session = session;
     this.target = target;
-    /** What scripts of the page threw and wrote to the console as errors. @type {string[]} */
+    /**
+     * What scripts of the page threw and wrote to the console as errors.
+     * @type {string[]}
+     */
     this.errors = [];
     browser.listen((message) => {
       if (message.sessionId !== session) return;
@@ -142,11 +162,17 @@ export class Tab {
         const { exceptionDetails } = message.params;
         this.errors.push(exceptionDetails.exception?.description ?? exceptionDetails.text);
       }
-      if (message.method === "Page.javascriptDialogOpening") this.call("Page.handleJavaScriptDialog", { accept: true });
+      if (message.method === "Page.javascriptDialogOpening") {
+        this.call("Page.handleJavaScriptDialog", { accept: true });
+      }
     });
   }
 
-  /** @param {string} method @param {object} [params] @returns {Promise<any>} */
+  /**
+   * @param {string} method
+   * @param {object} [params]
+   * @returns {Promise<any>}
+   */
   call(method, params) {
     return this.browser.call(method, params, this.session);
   }
@@ -158,14 +184,23 @@ export class Tab {
     await loaded;
   }
 
-  /** The value of an expression, or what its promise gives. @param {string} expression @returns {Promise<any>} */
+  /**
+   * The value of an expression, or what its promise gives.
+   * @param {string} expression
+   * @returns {Promise<any>}
+   */
   async js(expression) {
-    const answer = await this.call("Runtime.evaluate", { expression, awaitPromise: true, returnByValue: true });
-    if (answer.exceptionDetails) throw new Error(answer.exceptionDetails.exception?.description ?? "script failed");
-    return answer.result.value;
+    const how = { awaitPromise: true, returnByValue: true };
+    const { result, exceptionDetails } = await this.call("Runtime.evaluate", { expression, ...how });
+    if (exceptionDetails) throw new Error(exceptionDetails.exception?.description ?? "script failed");
+    return result.value;
   }
 
-  /** Waits until an expression is true. @param {string} expression @param {number} [milliseconds] */
+  /**
+   * Waits until an expression is true.
+   * @param {string} expression
+   * @param {number} [milliseconds]
+   */
   async until(expression, milliseconds = 60000) {
     const end = Date.now() + milliseconds;
     while (!(await this.js(`Boolean(${expression})`))) {
@@ -174,31 +209,43 @@ export class Tab {
     }
   }
 
-  /** Presses keys, each a character or a name, with modifiers before it: "Control+b". @param {...string} keys */
+  /**
+   * Presses keys, each a character or a name, with modifiers before it: "Control+b".
+   * @param {...string} keys
+   */
   async press(...keys) {
     for (const key of keys) {
       const names = key.length === 1 ? [key] : key.split("+");
       const last = /** @type {string} */ (names.pop());
-      const modifiers = names.reduce((sum, name) => sum + MODIFIERS[/** @type {keyof typeof MODIFIERS} */ (name)], 0);
-      const named = KEYS[/** @type {keyof typeof KEYS} */ (last)];
-      const text = modifiers & ~8 ? undefined : named ? /** @type {any} */ (named).text : last;
+      const modifiers = names.reduce((sum, name) => sum + MODIFIERS[name], 0);
+      const named = KEYS[last];
+      const text = modifiers & ~MODIFIERS.Shift ? undefined : named ? named.text : last;
+      const upper = last.toUpperCase();
       const event = {
         modifiers,
         key: last,
-        code: named ? last : /[a-z]/i.test(last) ? `Key${last.toUpperCase()}` : "",
-        windowsVirtualKeyCode: named?.code ?? (/[a-z0-9 ]/i.test(last) ? last.toUpperCase().charCodeAt(0) : 0),
+        code: named ? last : /[a-z]/i.test(last) ? `Key${upper}` : "",
+        windowsVirtualKeyCode: named?.code ?? (/[a-z0-9 ]/i.test(last) ? upper.charCodeAt(0) : 0),
       };
-      await this.call("Input.dispatchKeyEvent", { type: text === undefined ? "rawKeyDown" : "keyDown", text, ...event });
+      const type = text === undefined ? "rawKeyDown" : "keyDown";
+      await this.call("Input.dispatchKeyEvent", { type, text, ...event });
       await this.call("Input.dispatchKeyEvent", { type: "keyUp", ...event });
     }
   }
 
-  /** Types a text, a key event for each character. @param {string} text */
+  /**
+   * Types a text, a key event for each character.
+   * @param {string} text
+   */
   async type(text) {
     for (const character of text) await this.press(character);
   }
 
-  /** @param {number} width @param {number} height @param {boolean} [isPhone] */
+  /**
+   * @param {number} width
+   * @param {number} height
+   * @param {boolean} [isPhone]
+   */
   async size(width, height, isPhone = false) {
     await this.call("Emulation.setDeviceMetricsOverride", {
       width, height, deviceScaleFactor: isPhone ? 2 : 1, mobile: isPhone,

@@ -13,7 +13,10 @@ import { Wiki, examplePages, findProgram, outsideDocuments } from "./pages.js";
 const HEAD = '<!DOCTYPE html><html><head><meta charset="utf-8"/></head>';
 const program = findProgram();
 
-/** @param {string} body  what stands in it @returns {string} */
+/**
+ * @param {string} body  what stands in it
+ * @returns {string}
+ */
 function page(body) {
   return `${HEAD}<body data-parsoid='{"dsr":[0,9,0,0]}'>${body}</body></html>`;
 }
@@ -23,7 +26,10 @@ function opened(html) {
   return open(html, { document: new SmallDocument() });
 }
 
-/** A DOM as an editor left it: nothing is carried, `<comment>` becomes a comment. @param {string} body */
+/**
+ * A DOM as an editor left it: nothing is carried, `<comment>` becomes a comment.
+ * @param {string} body
+ */
 function edited(body) {
   const document = new SmallDocument();
   const put = (parent, part) => {
@@ -42,7 +48,12 @@ function edited(body) {
   return document.body;
 }
 
-/** What is saved of an edited body. @param {string} was @param {string} now @param {boolean} [marks] */
+/**
+ * What is saved of an edited body.
+ * @param {string} was
+ * @param {string} now
+ * @param {boolean} [marks]
+ */
 function saved(was, now, marks = false) {
   const html = save(edited(now), { original: page(was), marks });
   return html.slice(html.indexOf(">", html.indexOf("<body")) + 1, -"</body></html>".length);
@@ -55,7 +66,10 @@ test("a document comes back byte for byte", () => {
     page(""),
     page("<p>a &amp; b &lt;c&gt; \"d\" 'e'</p>"),
     page(`<p id="mw1" data-parsoid='{"o":"&#39;&amp;\\""}'>&#1;&#13;\u{1F600}\ud7ff</p>`),
-    page('<table id="mw1">\n<meta typeof="mw:Comment" id="mw2"/><tbody id="mw3"><tr id="mw4"><td id="mw5">a</td></tr></tbody></table>'),
+    page(
+      '<table id="mw1">\n<meta typeof="mw:Comment" id="mw2"/><tbody id="mw3"><tr id="mw4">' +
+        '<td id="mw5">a</td></tr></tbody></table>',
+    ),
     page('<section data-mw-section-id="1" id="x"><h2 id="mw1">a</h2>\n<p id="mw2">b</p></section>'),
   ];
   for (const html of documents) {
@@ -76,76 +90,267 @@ test("outside documents come back byte for byte", (context) => {
 });
 
 test("in tables carriers stand for what a parser of HTML would move out", () => {
-  const inTable = '<meta typeof="mw:Comment" id="mw2"/><link rel="mw:PageProp/Category" href="./Category:X" id="mw3"/>';
-  const html = page(`<table id="mw1">${inTable}<tbody id="mw4"><tr id="mw5"><span about="#mwt1" id="mw6"></span></tr></tbody></table>`);
+  const category = '<link rel="mw:PageProp/Category" href="./Category:X" id="mw3"/>';
+  const group = '<span about="#mwt1" id="mw6"></span>';
+  const rows = `<tbody id="mw4"><tr id="mw5">${group}</tr></tbody>`;
+  const html = page(`<table id="mw1"><meta typeof="mw:Comment" id="mw2"/>${category}${rows}</table>`);
   const root = opened(html);
-  assert.deepEqual(root.querySelectorAll("[data-wt-name]").map((element) => element.localName), ["template", "template", "template"]);
+  const carriers = root.querySelectorAll("[data-wt-name]").map((element) => element.localName);
+  assert.deepEqual(carriers, ["template", "template", "template"]);
   assert.equal(save(root), html);
 });
 
 test("what isn't the program's HTML is refused", () => {
-  for (const html of ["", "<p>a</p>", page("<p>a"), page("<p>a</b></p>"), page("<P>a</P>"), page("<p x>a</p>"), page("a & b"), page("&#xD800;")]) {
-    assert.throws(() => opened(html), HtmlRefused, html);
-  }
+  const bodies = ["<p>a", "<p>a</b></p>", "<P>a</P>", "<p x>a</p>", "a & b", "&#xD800;"];
+  const documents = ["", "<p>a</p>", ...bodies.map(page)];
+  for (const html of documents) assert.throws(() => opened(html), HtmlRefused, html);
 });
 
 const MENDS = [
-  ["strong and em become b and i", TEXT, '<p id="mw1">one <strong>x</strong> <em>y</em></p>', '<p id="mw1">one <b>x</b> <i>y</i></p>'],
-  ["font and span vanish, their style stays", "", '<p><font color="red">a</font><span>b</span><span style="font-weight:700">c</span></p>', "<p>ab<b>c</b></p>"],
-  ["comments, scripts and pictures are left out", "", "<p>a<comment>x</comment><script>y</script><img></img>b</p>", "<p>ab</p>"],
-  ["unknown attributes are left out", TEXT, '<p id="mw1" style="x" class="y" contenteditable="true">z</p>', '<p id="mw1">z</p>'],
-  ["the first of two equal ids stays", TEXT, '<p id="mw1">one</p><p id="mw1">two</p>', '<p id="mw1">one</p><p>two</p>'],
-  ["an empty first half leaves its id", TEXT, '<p id="mw1"><br/></p><p id="mw1">one</p>', '<p id="mw1">one</p>'],
-  ["an id on another kind is taken off", TEXT, '<p id="mw1">one <span id="mw2">two</span></p>', '<p id="mw1">one two</p>'],
+  [
+    "strong and em become b and i",
+    TEXT,
+    '<p id="mw1">one <strong>x</strong> <em>y</em></p>',
+    '<p id="mw1">one <b>x</b> <i>y</i></p>',
+  ],
+  [
+    "font and span vanish, their style stays",
+    "",
+    '<p><font color="red">a</font><span>b</span><span style="font-weight:700">c</span></p>',
+    "<p>ab<b>c</b></p>",
+  ],
+  [
+    "comments, scripts and pictures are left out",
+    "",
+    "<p>a<comment>x</comment><script>y</script><img></img>b</p>",
+    "<p>ab</p>",
+  ],
+  [
+    "unknown attributes are left out",
+    TEXT,
+    '<p id="mw1" style="x" class="y" contenteditable="true">z</p>',
+    '<p id="mw1">z</p>',
+  ],
+  [
+    "the first of two equal ids stays",
+    TEXT,
+    '<p id="mw1">one</p><p id="mw1">two</p>',
+    '<p id="mw1">one</p><p>two</p>',
+  ],
+  [
+    "an empty first half leaves its id",
+    TEXT,
+    '<p id="mw1"><br/></p><p id="mw1">one</p>',
+    '<p id="mw1">one</p>',
+  ],
+  [
+    "an id on another kind is taken off",
+    TEXT,
+    '<p id="mw1">one <span id="mw2">two</span></p>',
+    '<p id="mw1">one two</p>',
+  ],
   ["an unknown id is taken off", TEXT, '<p id="mw9">one</p>', "<p>one</p>"],
   ["a div is a paragraph", "", "<div>a</div><div><div>b</div>c</div>", "<p>a</p><p>b</p><p>c</p>"],
-  ["text directly in the body is a paragraph", TEXT, '<p id="mw1">a</p>b <b>c</b>', '<p id="mw1">a</p><p>b <b>c</b></p>'],
-  ["a list in a paragraph splits it", TEXT, '<p id="mw1">a<ul><li>b</li></ul>c</p>', '<p id="mw1">a</p><ul><li>b</li></ul><p>c</p>'],
+  [
+    "text directly in the body is a paragraph",
+    TEXT,
+    '<p id="mw1">a</p>b <b>c</b>',
+    '<p id="mw1">a</p><p>b <b>c</b></p>',
+  ],
+  [
+    "a list in a paragraph splits it",
+    TEXT,
+    '<p id="mw1">a<ul><li>b</li></ul>c</p>',
+    '<p id="mw1">a</p><ul><li>b</li></ul><p>c</p>',
+  ],
   ["the last line break of a block goes", TEXT, '<p id="mw1">one<br/></p>', '<p id="mw1">one</p>'],
   ["an emptied paragraph goes", TEXT, '<p id="mw1"><br/></p>', ""],
-  ["no-break spaces that a browser put are blanks", TEXT, '<p id="mw1">one\u00a0 <b id="mw2">two</b> three</p>', '<p id="mw1">one  <b id="mw2">two</b> three</p>'],
-  ["no-break spaces of the page stay", '<p id="mw1">a\u00a0b c</p>', '<p id="mw1">a\u00a0b cd</p>', '<p id="mw1">a\u00a0b cd</p>'],
-  ["line breaks of the page come back", '<p id="mw1">a b\nc d</p>', '<p id="mw1">a bx c d</p>', '<p id="mw1">a bx\nc d</p>'],
+  [
+    "no-break spaces that a browser put are blanks",
+    TEXT,
+    '<p id="mw1">one\u00a0 <b id="mw2">two</b> three</p>',
+    '<p id="mw1">one  <b id="mw2">two</b> three</p>',
+  ],
+  [
+    "no-break spaces of the page stay",
+    '<p id="mw1">a\u00a0b c</p>',
+    '<p id="mw1">a\u00a0b cd</p>',
+    '<p id="mw1">a\u00a0b cd</p>',
+  ],
+  [
+    "line breaks of the page come back",
+    '<p id="mw1">a b\nc d</p>',
+    '<p id="mw1">a bx c d</p>',
+    '<p id="mw1">a bx\nc d</p>',
+  ],
   ["carriage returns are line breaks", TEXT, '<p id="mw1">a&#13;\nb</p>', '<p id="mw1">a\nb</p>'],
   ["blanks at a block's ends go", TEXT, '<p id="mw1">\u00a0x </p>', '<p id="mw1">x</p>'],
-  ["a link without rel leads to a page", "", '<p><a href="Main Page">x</a></p>', '<p><a rel="mw:WikiLink" href="./Main_Page">x</a></p>'],
-  ["a link without rel leads to an address", "", '<p><a href="http://a.b/c d">x</a></p>', '<p><a rel="mw:ExtLink" href="http://a.b/c%20d">x</a></p>'],
+  [
+    "a link without rel leads to a page",
+    "",
+    '<p><a href="Main Page">x</a></p>',
+    '<p><a rel="mw:WikiLink" href="./Main_Page">x</a></p>',
+  ],
+  [
+    "a link without rel leads to an address",
+    "",
+    '<p><a href="http://a.b/c d">x</a></p>',
+    '<p><a rel="mw:ExtLink" href="http://a.b/c%20d">x</a></p>',
+  ],
   ["an address of another kind is no link", "", '<p><a href="javascript:x">y</a></p>', "<p>y</p>"],
-  ["blanks stand outside a link", "", '<p>x<a rel="mw:WikiLink" href="./Y"> y </a>z</p>', '<p>x <a rel="mw:WikiLink" href="./Y">y</a> z</p>'],
-  ["an emptied link goes", '<p id="mw1">a <a rel="mw:WikiLink" href="./X" id="mw2">b</a></p>', '<p id="mw1">a <a rel="mw:WikiLink" href="./X" id="mw2"></a></p>', '<p id="mw1">a</p>'],
-  ["what is typed at an entity stands beside it", '<p id="mw1">a<span typeof="mw:Entity" id="mw2">–</span></p>', '<p id="mw1">a<span typeof="mw:Entity" id="mw2">–b</span></p>', '<p id="mw1">a<span typeof="mw:Entity" id="mw2">–</span>b</p>'],
-  ["paragraphs in an item are its lines", '<ul id="mw1"><li id="mw2">a</li></ul>', '<ul id="mw1"><li id="mw2"><p>a</p><p>b</p></li></ul>', '<ul id="mw1"><li id="mw2">a<br/>b</li></ul>'],
-  ["an empty new item goes", '<ul id="mw1"><li id="mw2">a</li></ul>', '<ul id="mw1"><li id="mw2">a</li><li><br/></li></ul>', '<ul id="mw1"><li id="mw2">a</li></ul>'],
-  ["a carrier is undone", "", '<table><template data-wt-name="meta" typeof="mw:Comment"/></table>'.replace("/>", "></template>"), "<table></table>"],
-  ["a comment goes back into the block that held it", '<p id="mw1">one two<meta typeof="mw:Comment" id="mw2"/> three</p><p id="mw3">x</p>', '<p id="mw1">one more two threes</p><meta typeof="mw:Comment" id="mw2"/><p id="mw3">x</p>', '<p id="mw1">one more two<meta typeof="mw:Comment" id="mw2"/> threes</p><p id="mw3">x</p>'],
-  ["a skip goes back into the link that held it", '<p id="mw1"><a rel="mw:WikiLink" href="./A" id="mw2">a<meta typeof="mw:Skip" id="mw3"/>s</a> b</p>', '<p id="mw1"><meta typeof="mw:Skip" id="mw3"/><a rel="mw:WikiLink" href="./A" id="mw2">as</a> c</p>', '<p id="mw1"><a rel="mw:WikiLink" href="./A" id="mw2">a<meta typeof="mw:Skip" id="mw3"/>s</a> c</p>'],
-  ["new bold ends with its line", '<p id="mw1">a b\nc d</p>', '<p id="mw1">a <b>b\nc</b> d</p>', '<p id="mw1">a <b>b</b>\n<b>c</b> d</p>'],
+  [
+    "blanks stand outside a link",
+    "",
+    '<p>x<a rel="mw:WikiLink" href="./Y"> y </a>z</p>',
+    '<p>x <a rel="mw:WikiLink" href="./Y">y</a> z</p>',
+  ],
+  [
+    "an emptied link goes",
+    '<p id="mw1">a <a rel="mw:WikiLink" href="./X" id="mw2">b</a></p>',
+    '<p id="mw1">a <a rel="mw:WikiLink" href="./X" id="mw2"></a></p>',
+    '<p id="mw1">a</p>',
+  ],
+  [
+    "what is typed at an entity stands beside it",
+    '<p id="mw1">a<span typeof="mw:Entity" id="mw2">–</span></p>',
+    '<p id="mw1">a<span typeof="mw:Entity" id="mw2">–b</span></p>',
+    '<p id="mw1">a<span typeof="mw:Entity" id="mw2">–</span>b</p>',
+  ],
+  [
+    "a line break in an entity stands beside it",
+    '<p id="mw1">a<span typeof="mw:Entity" id="mw2">–</span>b</p>',
+    '<p id="mw1">a<span typeof="mw:Entity" id="mw2">–<br/>x</span>b</p>',
+    '<p id="mw1">a<span typeof="mw:Entity" id="mw2">–</span><br/>xb</p>',
+  ],
+  [
+    "an entity may be made bold",
+    '<p id="mw1">a<span typeof="mw:Entity" id="mw2">–</span>b</p>',
+    '<p id="mw1">a<span typeof="mw:Entity" id="mw2"><b>–x</b></span>b</p>',
+    '<p id="mw1">a<b><span typeof="mw:Entity" id="mw2">–</span>x</b>b</p>',
+  ],
+  [
+    "paragraphs in an item are its lines",
+    '<ul id="mw1"><li id="mw2">a</li></ul>',
+    '<ul id="mw1"><li id="mw2"><p>a</p><p>b</p></li></ul>',
+    '<ul id="mw1"><li id="mw2">a<br/>b</li></ul>',
+  ],
+  [
+    "a new list before text of an item is its lines",
+    '<ul id="mw1"><li id="mw2">ab</li></ul>',
+    '<ul id="mw1"><li id="mw2">a<ul><li>x</li><li>y</li></ul>b</li></ul>',
+    '<ul id="mw1"><li id="mw2">a<br/>x<br/>y<br/>b</li></ul>',
+  ],
+  [
+    "a new list behind the text of an item stays",
+    '<ul id="mw1"><li id="mw2">ab</li></ul>',
+    '<ul id="mw1"><li id="mw2">ab<ul><li>x</li></ul></li></ul>',
+    '<ul id="mw1"><li id="mw2">ab<ul><li>x</li></ul></li></ul>',
+  ],
+  [
+    "an empty new item goes",
+    '<ul id="mw1"><li id="mw2">a</li></ul>',
+    '<ul id="mw1"><li id="mw2">a</li><li><br/></li></ul>',
+    '<ul id="mw1"><li id="mw2">a</li></ul>',
+  ],
+  [
+    "a carrier is undone",
+    "",
+    '<table><template data-wt-name="meta" typeof="mw:Comment"/></table>'.replace("/>",
+    "></template>"),
+    "<table></table>",
+  ],
+  [
+    "a comment goes back into the block that held it",
+    '<p id="mw1">one two<meta typeof="mw:Comment" id="mw2"/> three</p><p id="mw3">x</p>',
+    '<p id="mw1">one more two threes</p><meta typeof="mw:Comment" id="mw2"/><p id="mw3">x</p>',
+    '<p id="mw1">one more two<meta typeof="mw:Comment" id="mw2"/> threes</p><p id="mw3">x</p>',
+  ],
+  [
+    "a skip goes back into the link that held it",
+    '<p id="mw1"><a rel="mw:WikiLink" href="./A" id="mw2">a<meta typeof="mw:Skip" id="mw3"/>s</a> b</p>',
+    '<p id="mw1"><meta typeof="mw:Skip" id="mw3"/><a rel="mw:WikiLink" href="./A" id="mw2">as</a> c</p>',
+    '<p id="mw1"><a rel="mw:WikiLink" href="./A" id="mw2">a<meta typeof="mw:Skip" id="mw3"/>s</a> c</p>',
+  ],
+  [
+    "new bold ends with its line",
+    '<p id="mw1">a b\nc d</p>',
+    '<p id="mw1">a <b>b\nc</b> d</p>',
+    '<p id="mw1">a <b>b</b>\n<b>c</b> d</p>',
+  ],
 ];
 
-for (const [name, was, now, wanted] of MENDS) test(`mend: ${name}`, () => assert.equal(saved(was, now), wanted));
+for (const [name, was, now, wanted] of MENDS) {
+  test(`mend: ${name}`, () => assert.equal(saved(was, now), wanted));
+}
 
 const MARKS = [
-  ["the changed block is marked", TEXT, '<p id="mw1">one <b id="mw2">2</b> three</p>\n\n<p id="mw3">four</p>',
-    '<p id="mw1" data-wt-edit="content">one <b id="mw2">2</b> three</p>\n\n<p id="mw3">four</p>'],
-  ["a split paragraph is a new one, with what can be written anew", TEXT, '<p id="mw1">one</p><p id="mw1"><b id="mw2">two</b> three</p>\n\n<p id="mw3">four</p>',
-    '<p id="mw1" data-wt-edit="content">one</p><p><b>two</b> three</p>\n\n<p id="mw3">four</p>'],
-  ["of elements that moved as few as can be are new", '<p id="mw1"><b id="mw2">a</b><i id="mw3">b</i><b id="mw4">c</b></p>', '<p id="mw1"><b id="mw4">c</b><b id="mw2">a</b><i id="mw3">b</i></p>',
-    '<p id="mw1" data-wt-edit="content"><b>c</b><b id="mw2">a</b><i id="mw3">b</i></p>'],
-  ["a reference keeps its number wherever it stands", '<p id="mw1">a<span typeof="mw:Extension/ref" id="mw2"></span></p><p id="mw3">b</p>', '<p id="mw1">a</p><p id="mw3">b<span typeof="mw:Extension/ref" id="mw2"></span></p>',
-    '<p id="mw1" data-wt-edit="content">a</p><p id="mw3" data-wt-edit="content">b<span typeof="mw:Extension/ref" id="mw2"></span></p>'],
-  ["of a split paragraph the half with a reference stays", '<p id="mw1">a b<span typeof="mw:Extension/ref" id="mw2" data-parsoid="x"></span></p>', '<p id="mw1">a</p><p id="mw1">b<span typeof="mw:Extension/ref" id="mw2" data-parsoid="x"></span></p>',
-    '<p>a</p><p id="mw1" data-wt-edit="content">b<span typeof="mw:Extension/ref" id="mw2" data-parsoid=\'x\'></span></p>'],
-  ["of joined paragraphs the one with a reference stays", '<p id="mw1">a</p><p id="mw2">b<span typeof="mw:Extension/ref" id="mw3"></span></p>', '<p id="mw1">ab<span typeof="mw:Extension/ref" id="mw3"></span></p>',
-    '<p id="mw2" data-wt-edit="content">ab<span typeof="mw:Extension/ref" id="mw3"></span></p>'],
-  ["a new item marks its list", '<ul id="mw1"><li id="mw2">a</li></ul>', '<ul id="mw1"><li id="mw2">a</li><li>b</li></ul>',
-    '<ul id="mw1" data-wt-edit="children"><li id="mw2">a</li><li>b</li></ul>'],
-  ["blanks at the end of a changed cell go", '<table id="mw1"><tbody id="mw2"><tr id="mw3"><td id="mw4">a </td></tr></tbody></table>', '<table id="mw1"><tbody id="mw2"><tr id="mw3"><td id="mw4">ab </td></tr></tbody></table>',
-    '<table id="mw1"><tbody id="mw2"><tr id="mw3"><td id="mw4" data-wt-edit="content">ab</td></tr></tbody></table>'],
+  [
+    "the changed block is marked",
+    TEXT,
+    '<p id="mw1">one <b id="mw2">2</b> three</p>\n\n<p id="mw3">four</p>',
+    '<p id="mw1" data-wt-edit="content">one <b id="mw2">2</b> three</p>\n\n<p id="mw3">four</p>',
+  ],
+  [
+    "a split paragraph is a new one, with what can be written anew",
+    TEXT,
+    '<p id="mw1">one</p><p id="mw1"><b id="mw2">two</b> three</p>\n\n<p id="mw3">four</p>',
+    '<p id="mw1" data-wt-edit="content">one</p><p><b>two</b> three</p>\n\n<p id="mw3">four</p>',
+  ],
+  [
+    "of elements that moved as few as can be are new",
+    '<p id="mw1"><b id="mw2">a</b><i id="mw3">b</i><b id="mw4">c</b></p>',
+    '<p id="mw1"><b id="mw4">c</b><b id="mw2">a</b><i id="mw3">b</i></p>',
+    '<p id="mw1" data-wt-edit="content"><b>c</b><b id="mw2">a</b><i id="mw3">b</i></p>',
+  ],
+  [
+    "a reference keeps its number wherever it stands",
+    '<p id="mw1">a<span typeof="mw:Extension/ref" id="mw2"></span></p><p id="mw3">b</p>',
+    '<p id="mw1">a</p><p id="mw3">b<span typeof="mw:Extension/ref" id="mw2"></span></p>',
+    '<p id="mw1" data-wt-edit="content">a</p><p id="mw3" data-wt-edit="content">b' +
+      '<span typeof="mw:Extension/ref" id="mw2"></span></p>',
+  ],
+  [
+    "of a split paragraph the half with a reference stays",
+    '<p id="mw1">a b<span typeof="mw:Extension/ref" id="mw2" data-parsoid="x"></span></p>',
+    '<p id="mw1">a</p><p id="mw1">b<span typeof="mw:Extension/ref" id="mw2" data-parsoid="x"></span></p>',
+    '<p>a</p><p id="mw1" data-wt-edit="content">b' +
+      '<span typeof="mw:Extension/ref" id="mw2" data-parsoid=\'x\'></span></p>',
+  ],
+  [
+    "of joined paragraphs the one with a reference stays",
+    '<p id="mw1">a</p><p id="mw2">b<span typeof="mw:Extension/ref" id="mw3"></span></p>',
+    '<p id="mw1">ab<span typeof="mw:Extension/ref" id="mw3"></span></p>',
+    '<p id="mw2" data-wt-edit="content">ab<span typeof="mw:Extension/ref" id="mw3"></span></p>',
+  ],
+  [
+    "a changed link has no skip",
+    '<p id="mw1"><a rel="mw:WikiLink" href="./A" id="mw2">a<meta typeof="mw:Skip" id="mw3"/>s</a></p>',
+    '<p id="mw1"><a rel="mw:WikiLink" href="./A" id="mw2">ab<meta typeof="mw:Skip" id="mw3"/>s</a></p>',
+    '<p id="mw1" data-wt-edit="content"><a rel="mw:WikiLink" href="./A" id="mw2">abs</a></p>',
+  ],
+  [
+    "a new item marks its list",
+    '<ul id="mw1"><li id="mw2">a</li></ul>',
+    '<ul id="mw1"><li id="mw2">a</li><li>b</li></ul>',
+    '<ul id="mw1" data-wt-edit="children"><li id="mw2">a</li><li>b</li></ul>',
+  ],
+  [
+    "blanks at the end of a changed cell go",
+    '<table id="mw1"><tbody id="mw2"><tr id="mw3"><td id="mw4">a </td></tr></tbody></table>',
+    '<table id="mw1"><tbody id="mw2"><tr id="mw3"><td id="mw4">ab </td></tr></tbody></table>',
+    '<table id="mw1"><tbody id="mw2"><tr id="mw3"><td id="mw4" data-wt-edit="content">ab</td></tr>' +
+      '</tbody></table>',
+  ],
 ];
 
-for (const [name, was, now, wanted] of MARKS) test(`marks: ${name}`, () => assert.equal(saved(was, now, true), wanted));
+for (const [name, was, now, wanted] of MARKS) {
+  test(`marks: ${name}`, () => assert.equal(saved(was, now, true), wanted));
+}
 
-/** @param {string} html @param {[string, string][]} replacements  one after the other, each of the first such text */
+/**
+ * @param {string} html
+ * @param {[string, string][]} replacements  one after the other, each of the first such text
+ */
 function replaced(html, replacements) {
   return replacements.reduce((text, [was, now]) => {
     assert.ok(text.includes(was), `there is no ${was}`);
@@ -153,12 +358,18 @@ function replaced(html, replacements) {
   }, html);
 }
 
-/** White space between blocks, which no edit compares. @param {string} html */
+/**
+ * White space between blocks, which no edit compares.
+ * @param {string} html
+ */
 function withoutSeparators(html) {
   return html.replace(/(<\/(?:p|h[1-6]|ul|ol|dl|table)>)[ \t\n]+/g, "$1");
 }
 
-/** jsdom, where it is installed; Debian's lies where NODE_PATH=/usr/share/nodejs finds it. @returns {any} */
+/**
+ * jsdom, where it is installed; Debian's lies where NODE_PATH=/usr/share/nodejs finds it.
+ * @returns {any}
+ */
 function findJsdom() {
   try {
     return createRequire(import.meta.url)("jsdom").JSDOM;
@@ -169,7 +380,8 @@ function findJsdom() {
 
 const documents = new URL("documents/", import.meta.url);
 const shared = readFileSync(new URL("page.html", documents), "utf8");
-for (const { name, edited: changes, wanted } of JSON.parse(readFileSync(new URL("cases.json", documents), "utf8"))) {
+const cases = JSON.parse(readFileSync(new URL("cases.json", documents), "utf8"));
+for (const { name, edited: changes, wanted } of cases) {
   test(`shared document: ${name}`, () => {
     const now = replaced(shared, changes).replace(/<!--(.*?)-->/gs, "<comment>$1</comment>");
     const body = now.slice(now.indexOf(">", now.indexOf("<body")) + 1, now.indexOf("</body>"));
@@ -181,14 +393,16 @@ for (const { name, edited: changes, wanted } of JSON.parse(readFileSync(new URL(
 test("outside documents come back from jsdom", (context) => {
   const JSDOM = findJsdom();
   const documents = outsideDocuments();
-  if (JSDOM === null || documents.length === 0) return context.skip("there is no jsdom or no outside documents here");
+  if (JSDOM === null) return context.skip("there is no jsdom here");
+  if (documents.length === 0) return context.skip("there are no outside documents here");
   const { document } = new JSDOM("").window;
   for (const html of documents) assert.equal(save(open(html, { document }), { marks: true }), html);
 });
 
 test("new and removed blocks mark the body", () => {
   for (const now of ['<p id="mw1">one <b id="mw2">two</b> three</p>', `${TEXT}<h2>x</h2>`]) {
-    assert.match(save(edited(now), { original: page(TEXT), marks: true }), /<body data-parsoid='[^']*' data-wt-edit="children">/);
+    const html = save(edited(now), { original: page(TEXT), marks: true });
+    assert.match(html, /<body data-parsoid='[^']*' data-wt-edit="children">/);
   }
 });
 
@@ -200,7 +414,8 @@ test("saving leaves the DOM as it is", () => {
 });
 
 test("many blocks in another order take time in proportion", () => {
-  const blocks = Array.from({ length: 20000 }, (_, at) => `<p id="mw${2 * at + 1}">a <b id="mw${2 * at + 2}">b</b></p>`);
+  const block = (/** @type {number} */ at) => `<p id="mw${2 * at + 1}">a <b id="mw${2 * at + 2}">b</b></p>`;
+  const blocks = Array.from({ length: 20000 }, (_, at) => block(at));
   const root = opened(page(blocks.join("\n")));
   root.replaceChildren(...root.childNodes.reverse());
   const start = process.cpuUsage();
@@ -212,17 +427,20 @@ test("many blocks in another order take time in proportion", () => {
 test("places in UTF-16 units", () => {
   const source = "ä\u{1F600}'''b'''";
   const offsets = new Offsets(source);
-  const root = opened(page(`<b id="mw1" data-parsoid='{"c":"&#39;&#39;&#39;","dsr":[6,13,3,3],"o":"&#39;&#39;&#39;"}'>b</b>`));
+  const root = opened(page(`<b id="mw1" data-parsoid='{"dsr":[6,13,3,3]}'>b</b>`));
   assert.deepEqual(rangeOf(root.children[0], offsets), { start: 3, end: 10, open: 3, close: 3 });
   assert.equal(source.slice(3, 10), "'''b'''");
   assert.equal(rangeOf(edited("<b>b</b>").children[0], offsets), null);
 });
 
 test("names of what can't be edited", () => {
-  const root = opened(page(
-    `<span about="#mwt1" data-mw='{"parts":[{"template":{"i":0,"params":{},"target":{"wt":"Infobox town\\n"}}}]}' data-parsoid='{"src":"{{Infobox town}}"}'>x</span>` +
-    `<span typeof="mw:Extension/ref"></span><span typeof="mw:Placeholder" data-parsoid='{"src":"[[File:A b.jpg|thumb]]"}'></span><b>y</b>`,
-  ));
+  const call = '{"parts":[{"template":{"i":0,"params":{},"target":{"wt":"Infobox town\\n"}}}]}';
+  const html = page(
+    `<span about="#mwt1" data-mw='${call}' data-parsoid='{"src":"{{Infobox town}}"}'>x</span>` +
+      '<span typeof="mw:Extension/ref"></span>' +
+      `<span typeof="mw:Placeholder" data-parsoid='{"src":"[[File:A b.jpg|thumb]]"}'></span><b>y</b>`,
+  );
+  const root = opened(html);
   const [group, reference, media, bold] = root.children.map(describe);
   assert.deepEqual(group, { kind: "template", name: "Infobox town", source: "{{Infobox town}}" });
   assert.deepEqual(reference, { kind: "extension", name: "ref", source: "" });
@@ -245,7 +463,8 @@ test("the program takes what is saved", (context) => {
       assert.deepEqual(wiki.run(["edit", title], save(opened(html), { marks: true })).out, wiki.read(title));
     }
     const root = opened(wiki.html("Opava"));
-    const text = root.querySelectorAll('[id="mw3"]')[0].childNodes.find((node) => node.data?.includes("is a town"));
+    const { childNodes } = root.querySelector('[id="mw3"]');
+    const text = childNodes.find((node) => node.data?.includes("is a town"));
     text.data = text.data.replace("is a town", "is an old\u00a0 town");
     const { status, out } = wiki.run(["edit", "Opava"], save(root, { marks: true }));
     assert.equal(status, 0);

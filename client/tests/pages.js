@@ -2,7 +2,8 @@
 /** Pages for tests, the program, and the server of the repository. */
 
 import { spawn, spawnSync } from "node:child_process";
-import { accessSync, constants, existsSync, mkdtempSync, mkdirSync, readFileSync, readdirSync, rmSync, writeFileSync } from "node:fs";
+import { accessSync, constants, existsSync, mkdtempSync, mkdirSync, readFileSync } from "node:fs";
+import { readdirSync, rmSync, writeFileSync } from "node:fs";
 import { tmpdir } from "node:os";
 import { dirname, join } from "node:path";
 import { fileURLToPath } from "node:url";
@@ -22,7 +23,10 @@ export function findProgram() {
 
 /** A folder with pages, and the program over it. */
 export class Wiki {
-  /** @param {string} program @param {Record<string, string>} pages  texts by title */
+  /**
+   * @param {string} program
+   * @param {Record<string, string>} pages  texts by title
+   */
   constructor(program, pages) {
     this.program = program;
     this.folder = mkdtempSync(join(tmpdir(), "bughtiso-wiki-"));
@@ -32,27 +36,42 @@ export class Wiki {
 
   /** @param {string} title */
   #path(title) {
-    const escaped = encodeURIComponent(title.replaceAll(" ", "_")).replace(/[!'()*~]/g, (sign) => `%${sign.charCodeAt(0).toString(16).toUpperCase()}`);
-    return join(this.folder, "pages", `${escaped}.wiki`);
+    const escaped = (/** @type {string} */ sign) => `%${sign.charCodeAt(0).toString(16).toUpperCase()}`;
+    const name = encodeURIComponent(title.replaceAll(" ", "_")).replace(/[!'()*~]/g, escaped);
+    return join(this.folder, "pages", `${name}.wiki`);
   }
 
-  /** @param {string} title @param {string} text */
+  /**
+   * @param {string} title
+   * @param {string} text
+   */
   write(title, text) {
     writeFileSync(this.#path(title), text);
   }
 
-  /** @param {string} title @returns {string} */
+  /**
+   * @param {string} title
+   * @returns {string}
+   */
   read(title) {
     return readFileSync(this.#path(title), "utf8");
   }
 
-  /** @param {string[]} words @param {string} [input] @returns {{status: number | null, out: string, line: string}} */
+  /**
+   * @param {string[]} words
+   * @param {string} [input]
+   * @returns {{status: number | null, out: string, line: string}}
+   */
   run(words, input = "") {
-    const { status, stdout, stderr } = spawnSync(this.program, words, { cwd: this.folder, input, maxBuffer: 1 << 30 });
+    const how = { cwd: this.folder, input, maxBuffer: 1 << 30 };
+    const { status, stdout, stderr } = spawnSync(this.program, words, how);
     return { status, out: stdout.toString(), line: stderr.toString().trim() };
   }
 
-  /** @param {string} title @returns {string} its HTML */
+  /**
+   * @param {string} title
+   * @returns {string} its HTML
+   */
   html(title) {
     const { status, out, line } = this.run(["html", title]);
     if (status !== 0) throw new Error(line);
@@ -66,9 +85,13 @@ export class Wiki {
 
 /** The server of the repository over a wiki. */
 export class Server {
-  /** @param {Wiki} wiki @returns {Promise<Server>} */
+  /**
+   * @param {Wiki} wiki
+   * @returns {Promise<Server>}
+   */
   static async start(wiki) {
-    const words = [join(REPOSITORY, "tools/serve"), join(wiki.folder, "pages"), "--port", "0", "--program", wiki.program, "--quiet"];
+    const options = ["--port", "0", "--program", wiki.program, "--quiet"];
+    const words = [join(REPOSITORY, "tools/serve"), join(wiki.folder, "pages"), ...options];
     const child = spawn("python3", words, { stdio: ["ignore", "pipe", "inherit"] });
     const url = await new Promise((done, failed) => {
       let said = "";
@@ -82,7 +105,10 @@ export class Server {
     return new Server(child, url);
   }
 
-  /** @param {import("node:child_process").ChildProcess} child @param {string} url */
+  /**
+   * @param {import("node:child_process").ChildProcess} child
+   * @param {string} url
+   */
   constructor(child, url) {
     this.child = child;
     this.url = url;
@@ -96,8 +122,16 @@ export class Server {
   }
 }
 
-/** The HTML of outside pages, where they are beside the repository or in the folder $BUGHTISO_CASES: what `html` answers in each case that is answered.
- * @returns {string[]} */
+/** @param {string} name  a file's */
+function titleOfFile(name) {
+  return decodeURIComponent(name.slice(0, -".wiki".length)).replaceAll("_", " ");
+}
+
+/**
+ * The HTML of outside pages, where they are beside the repository or in the folder $BUGHTISO_CASES: what
+ * `html` answers in each case that is answered.
+ * @returns {string[]}
+ */
 export function outsideDocuments() {
   const folder = process.env.BUGHTISO_CASES ?? join(REPOSITORY, "../shared/vectors");
   if (!existsSync(folder)) return [];
@@ -115,6 +149,6 @@ export function examplePages() {
   return Object.fromEntries(
     readdirSync(folder)
       .filter((name) => name.endsWith(".wiki"))
-      .map((name) => [decodeURIComponent(name.slice(0, -".wiki".length)).replaceAll("_", " "), readFileSync(join(folder, name), "utf8")]),
+      .map((name) => [titleOfFile(name), readFileSync(join(folder, name), "utf8")]),
   );
 }

@@ -2,7 +2,10 @@
 /** As much of a DOM as `open` and `save` need, so that the module's tests run where no other DOM is. */
 
 class SmallNode {
-  /** @param {SmallDocument} ownerDocument @param {number} nodeType */
+  /**
+   * @param {SmallDocument} ownerDocument
+   * @param {number} nodeType
+   */
   constructor(ownerDocument, nodeType) {
     this.ownerDocument = ownerDocument;
     this.nodeType = nodeType;

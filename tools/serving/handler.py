@@ -8,6 +8,7 @@ from contextlib import contextmanager
 from email.utils import formatdate
 from http.server import BaseHTTPRequestHandler, ThreadingHTTPServer
 from ipaddress import ip_address
+from socketserver import TCPServer
 from typing import Any, Dict, Iterator, Optional, Set
 from urllib.parse import parse_qsl, unquote
 
@@ -20,6 +21,7 @@ CONNECTIONS = 64
 DRAINED_BYTES = 2 * BODY_BYTES  # of a refused body that are thrown away, so that its client sees the answer
 
 SAFE = {
+    "Cache-Control": "no-cache",
     "X-Content-Type-Options": "nosniff",
     "Referrer-Policy": "no-referrer",
     "Cross-Origin-Resource-Policy": "same-origin",
@@ -59,6 +61,11 @@ class Server(ThreadingHTTPServer):
             super().process_request_thread(request, client_address)
         finally:
             self._room.release()
+
+    def server_bind(self) -> None:
+        """Without asking for the name of the address, which may take long where there is no network."""
+        TCPServer.server_bind(self)
+        self.server_name, self.server_port = self.server_address[:2]
 
     @contextmanager
     def answering(self) -> Iterator[None]:

@@ -34,6 +34,7 @@ WIKITEXT_TYPE = f'text/plain; charset=utf-8; profile="{SPECIFICATION}/wikitext/1
 JSON_TYPE = "application/json; charset=utf-8"
 PAGE_TYPE = "text/html; charset=utf-8"
 
+MENDED_BYTES = 16_777_216  # of HTML that is mended, which takes much more time and memory than wtround
 MARK = re.compile(rb"<[a-z][a-z0-9]*\s(?:[^<>\"']|\"[^\"]*\"|'[^']*')*?\bdata-wt-edit\s*=")
 STALE = "The page, or a template that it takes, was changed since you opened it: open it again, and edit that."
 
@@ -98,7 +99,7 @@ class Site:
         name = full_name(title)
         page, document, tag = self._taken(name)
         self._check_revision(page, wanted)
-        headers = {"ETag": tag, "Vary": "Accept", "Cache-Control": "no-cache"}
+        headers = {"ETag": tag, "Vary": "Accept"}
         if names_tag(request.headers.get("if-none-match", ""), tag):
             return Answer(b"", HTML_TYPE, 304, headers)
         return Answer(shaped(document, page, request.query), HTML_TYPE, 200, headers)
@@ -114,8 +115,7 @@ class Site:
         page = self.folder.read(full_name(title))
         self._check_revision(page, wanted)
         check_text(page)
-        headers = {"ETag": f'W/"{revision(page)}"', "Cache-Control": "no-cache"}
-        return Answer(page, WIKITEXT_TYPE, 200, headers)
+        return Answer(page, WIKITEXT_TYPE, 200, {"ETag": f'W/"{revision(page)}"'})
 
     def _check_revision(self, page: bytes, wanted: Optional[str]) -> None:
         if wanted and wanted != str(revision(page)):
@@ -131,10 +131,9 @@ class Site:
             return Answer(self._page_of(document), WIKITEXT_TYPE)
         name = full_name(title)
         fields = request.fields()
-        document = bodies.encoded(bodies.text_field(fields, "html"))
         if "if-match" not in request.headers:  # which says more than the number
             self._check_revision(self.folder.read(name), wanted)
-        return Answer(self._edited(request, name, document)[1], WIKITEXT_TYPE)
+        return Answer(self._edited(request, name, fields)[1], WIKITEXT_TYPE)
 
     def _page_of(self, document: bytes) -> bytes:
         """The page that an HTML is, as it is written, or else as it is when it is mended."""
@@ -143,6 +142,7 @@ class Site:
         except Refusal as refusal:
             if refusal.error not in ("HtmlRefused", "ElementDoesNotFit"):
                 raise
+        check_length(document)
         return self.program.wikitext(mended(document.decode()).encode())
 
     def to_html(self, request: Request, title: str = "", wanted: Optional[str] = None) -> Answer:
@@ -165,8 +165,7 @@ class Site:
             sentence = "Send the ETag that came with the HTML as If-Match, so that no other change is lost."
             raise Refusal(428, "NoIfMatch", sentence)
         is_preview = bodies.flag(request.query.get("preview"))
-        document = bodies.encoded(bodies.text_field(request.fields(json_alone=True), "html"))
-        page, new = self._edited(request, name, document)
+        page, new = self._edited(request, name, request.fields(json_alone=True))
         found = {
             "changed": new != page,
             "diff": unified(page.decode(), new.decode(), titles.file_name(name)),
@@ -182,15 +181,22 @@ class Site:
                 self.folder.replace(name, new)  # behind it nothing is left but to send the answer
         return answer
 
-    def _edited(self, request: Request, name: str, document: bytes) -> Tuple[bytes, bytes]:
+    def _edited(self, request: Request, name: str, fields: Dict[str, object]) -> Tuple[bytes, bytes]:
         """The page, and the new page of an edit. HTML that bears a mark was made for `edit`, and is given on
         as it is while the page's tag is looked at; other HTML is mended and marked first."""
+        document = bodies.encoded(bodies.text_field(fields, "html"))
         with ThreadPoolExecutor(1) as pool:
             early = pool.submit(self.program.edit, name, document) if MARK.search(document) else None
             page, original, tag = self._taken(name)
             self._check_tag(request, tag)
             if early is not None:
                 return page, early.result()
+        check_length(document)
+        if b"data-parsoid" in document:
+            unit = request.query.get("offsetType") or fields.get("offsetType")
+            original = documents.with_offsets(original, page, str(unit or "byte"))
+        else:
+            original = documents.without_data_parsoid(original)
         return page, self.program.edit(name, marked(document.decode(), original.decode()).encode())
 
     def _tag_then(self, request: Request, name: str, new: Optional[bytes]) -> str:
@@ -222,8 +228,7 @@ class Site:
             return self._client_file("editor/pages.html", PAGE_TYPE)
         links = ((f"/editor/{quote(title, safe='')}", title) for title in self.folder.titles())
         items = (f'<li><a href="{address}">{escape(title)}</a></li>' for address, title in links)
-        text = LIST.format(folder=escape(self.folder.path), items="\n".join(items))
-        return Answer(text.encode("utf-8", "surrogateescape"), PAGE_TYPE)
+        return Answer(LIST.format(items="\n".join(items)).encode(), PAGE_TYPE)
 
     def editor(self, _: Request, title: str) -> Answer:
         full_name(title)
@@ -240,7 +245,7 @@ class Site:
             data = (CLIENT / name).read_bytes()
         except OSError:
             raise Refusal(404, "NoSuchRoute", "The client has no such file.") from None
-        return Answer(data, content_type, 200, {"Cache-Control": "no-cache"})
+        return Answer(data, content_type)
 
 
 LIST = """<!DOCTYPE html>
@@ -253,7 +258,6 @@ LIST = """<!DOCTYPE html>
 </head>
 <body>
 <h1>Pages</h1>
-<p>Of the folder {folder}:</p>
 <ul>
 {items}
 </ul>
@@ -333,6 +337,12 @@ def check_accepted(field: str) -> None:
     if not takes_any and HTML_VERSION.split(".")[0] not in wanted:
         sentence = f"The HTML is of version {HTML_VERSION}: ask for that, or for none."
         raise Refusal(406, "NotAcceptable", sentence)
+
+
+def check_length(document: bytes) -> None:
+    if len(document) > MENDED_BYTES:
+        sentence = f"HTML without marks may have {MENDED_BYTES:,} bytes: leave data-parsoid out, or mark what changed."
+        raise Refusal(413, "TooLongToMend", sentence)
 
 
 def check_text(page: bytes) -> None:

@@ -53,11 +53,15 @@ class ServingCase(unittest.TestCase):
         self.addCleanup(server.shutdown)
         return server
 
-    def ask(self, method: str, path: str, body: Optional[bytes] = None, port: Optional[int] = None, **headers: str) -> Reply:
+    def ask(
+        self, method: str, path: str, body: Optional[bytes] = None, port: Optional[int] = None, **headers: str
+    ) -> Reply:
         """Names of headers are written with `_` for `-`."""
         connection = http.client.HTTPConnection("127.0.0.1", port or self.port, timeout=SECONDS)
         try:
-            connection.request(method, path, body, {name.replace("_", "-"): value for name, value in headers.items()})
+            connection.request(
+                method, path, body, {name.replace("_", "-"): value for name, value in headers.items()}
+            )
             answer = connection.getresponse()
             return answer.status, {name.lower(): value for name, value in answer.getheaders()}, answer.read()
         finally:
@@ -85,11 +89,15 @@ class ServingCase(unittest.TestCase):
 
     def html(self, title: str, query: str = "", port: Optional[int] = None) -> Tuple[str, str]:
         """The HTML of a page and its tag."""
-        status, headers, body = self.ask("GET", f"/localhost/v3/page/html/{quote(title, safe='')}{query}", port=port)
+        status, headers, body = self.ask(
+            "GET", f"/localhost/v3/page/html/{quote(title, safe='')}{query}", port=port
+        )
         self.assertEqual(status, 200, body[:500])
         return body.decode(), headers["etag"]
 
-    def save(self, title: str, html: str, tag: Optional[str], query: str = "", port: Optional[int] = None) -> Tuple[int, dict]:
+    def save(
+        self, title: str, html: str, tag: Optional[str], query: str = "", port: Optional[int] = None
+    ) -> Tuple[int, dict]:
         headers = {"Content_Type": "application/json", **({"If_Match": tag} if tag is not None else {})}
         body = json.dumps({"html": html}).encode()
         status, _, answer = self.ask("POST", f"/save/{quote(title, safe='')}{query}", body, port, **headers)
@@ -104,9 +112,13 @@ class ServingCase(unittest.TestCase):
 
 def edited(html: str) -> str:
     """The example with one word more, marked."""
-    return html.replace('<p id="mw3"', '<p data-wt-edit="content" id="mw3"').replace("is a town in", "is an old town in")
+    return html.replace('<p id="mw3"', '<p data-wt-edit="content" id="mw3"').replace(
+        "is a town in", "is an old town in"
+    )
 
 
 def run_program(words: list, given: bytes, folder: Path) -> bytes:
     assert PROGRAM is not None
-    return subprocess.run([PROGRAM, *words], cwd=folder, input=given, stdout=subprocess.PIPE, check=True).stdout
+    return subprocess.run(
+        [PROGRAM, *words], cwd=folder, input=given, stdout=subprocess.PIPE, check=True
+    ).stdout

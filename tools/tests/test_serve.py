@@ -1,11 +1,13 @@
 """The routes of serve, over the example pages."""
 import json
 import os
+import socket
 import subprocess
 import sys
 import unittest
 from html.parser import HTMLParser
 from urllib.parse import urlencode
+from urllib.request import urlopen
 
 from loading import REPOSITORY, TOOLS
 from serving_case import PROGRAM, ServingCase, edited, run_program
@@ -32,7 +34,9 @@ class Pages(ServingCase):
         inside, _ = self.html("Opava", "?body_only=true")
         start = whole.index(">", whole.index("<body")) + 1
         self.assertEqual(inside, whole[start : whole.index("</body>")])
-        self.assertIn('"dsr":[0,958,0,0]', self.html("Opava", "?offsetType=char")[0].replace("[0,955,", "[0,958,"))
+        characters = f'"dsr":[0,{len(self.page())},0,0]'
+        self.assertIn(characters, self.html("Opava", "?offsetType=char")[0])
+        self.assertNotIn(characters, whole)
 
     def test_wikitext(self) -> None:
         status, headers, body = self.ask("GET", "/localhost/v3/page/wikitext/Opava")
@@ -55,7 +59,9 @@ class Pages(ServingCase):
 
     def test_not_modified(self) -> None:
         tag = self.html("Opava")[1]
-        self.assertEqual(self.ask("GET", "/x/v3/page/html/Opava", If_None_Match=f'"other", {tag}')[::2], (304, b""))
+        self.assertEqual(
+            self.ask("GET", "/x/v3/page/html/Opava", If_None_Match=f'"other", {tag}')[::2], (304, b"")
+        )
         self.assertEqual(self.ask("GET", "/x/v3/page/html/Opava", If_None_Match='"other"')[0], 200)
 
     def test_head(self) -> None:
@@ -87,7 +93,8 @@ class Pages(ServingCase):
             ("html", "Long", 422, "PageTooLong"), ("wikitext", "Long", 422, "PageTooLong"),
             ("html", "Deep", 422, "BracesTooDeep"), ("html", "Bad", 422, "TemplateNotUtf8"),
             ("html", "Nowhere", 404, "NoSuchPage"), ("wikitext", "Nowhere", 404, "NoSuchPage"),
-            ("html", "%D0%B6" * 60, 404, "NoSuchPage"), ("html", "a%5Bb", 404, "BadTitle"), ("html", "Opava%23History", 404, "BadTitle"),
+            ("html", "%D0%B6" * 60, 404, "NoSuchPage"), ("html", "a%5Bb", 404, "BadTitle"),
+            ("html", "Opava%23History", 404, "BadTitle"),
         ]:  # fmt: skip
             with self.subTest(kind=kind, title=title):
                 came, headers, body = self.ask("GET", f"/x/v3/page/{kind}/{title}")
@@ -108,38 +115,71 @@ class Pages(ServingCase):
 class Transforms(ServingCase):
     def test_bodies_as_parsoid_takes_them(self) -> None:
         html = self.html("Opava")[0]
-        parts = b'--x\r\nContent-Disposition: form-data; name="html"\r\n\r\n' + html.replace("\n", "\r\n").encode() + b"\r\n--x--\r\n"
+        head = '--x\r\nContent-Disposition: form-data; name="html"\r\n\r\n'
+        parts = f"{head}{html}\n--x--\n".replace("\r\n", "\n").replace("\n", "\r\n").encode()
         for kind, body in [
             ("application/json", json.dumps({"html": html}).encode()),
             ("application/json; charset=utf-8", json.dumps({"html": {"body": html, "headers": {}}}).encode()),
-            ("application/x-www-form-urlencoded", urlencode({"html": html, "scrub_wikitext": "true"}).encode()),
+            (
+                "application/x-www-form-urlencoded",
+                urlencode({"html": html, "scrub_wikitext": "true"}).encode(),
+            ),
             ("multipart/form-data; boundary=x", parts),
         ]:
             for title in ("", "/Opava", "/Opava/"):
                 with self.subTest(kind=kind, title=title):
-                    status, headers, answer = self.ask("POST", f"{TRANSFORM}html/to/wikitext{title}", body, Content_Type=kind)
-                    self.assertEqual((status, headers["content-type"], answer.decode()), (200, WIKITEXT, self.page()))
+                    status, headers, answer = self.ask(
+                        "POST", f"{TRANSFORM}html/to/wikitext{title}", body, Content_Type=kind
+                    )
+                    self.assertEqual(
+                        (status, headers["content-type"], answer.decode()), (200, WIKITEXT, self.page())
+                    )
 
     def test_an_edit_is_answered_and_not_stored(self) -> None:
         html, tag = self.html("Opava", "?data_parsoid=false")
         for document in (edited(html), html.replace("is a town in", "is an old town in")):
             body = json.dumps({"html": document}).encode()
-            status, _, answer = self.ask(
-                "POST", f"{TRANSFORM}html/to/wikitext/Opava", body, Content_Type="application/json", If_Match=tag
+            path = f"{TRANSFORM}html/to/wikitext/Opava"
+            status, _, answer = self.ask("POST", path, body, Content_Type="application/json", If_Match=tag)
+            self.assertEqual(
+                (status, answer.decode()), (200, self.page().replace("is a town in", "is an old town in"))
             )
-            self.assertEqual((status, answer.decode()), (200, self.page().replace("is a town in", "is an old town in")))
         self.assertEqual(self.page(), (REPOSITORY / "examples/pages/Opava.wiki").read_text())
+
+    def test_an_edit_of_each_shape(self) -> None:
+        """Whatever parameters the page was taken with, its edit comes back."""
+        (self.pages / "Opava.wiki").write_text(self.page().replace("The lead", "\U0001f600 The lead"))
+        for query in (
+            "", "?body_only=1", "?data_parsoid=0", "?offsetType=ucs2", "?offsetType=char&body_only=1"
+        ):
+            html, tag = self.html("Opava", query)
+            document = html.replace("is a town in", "is an old town in").replace("<h2", "<!-- x --><h2")
+            unit = query.partition("offsetType=")[2].partition("&")[0]
+            for fields, also in [({"offsetType": unit} if unit else {}, ""), ({}, query)]:
+                with self.subTest(query=query, fields=fields):
+                    body = json.dumps({"html": document, **fields}).encode()
+                    path = f"{TRANSFORM}html/to/wikitext/Opava{also}"
+                    status, _, answer = self.ask(
+                        "POST", path, body, Content_Type="application/json", If_Match=tag
+                    )
+                    self.assertEqual(
+                        (status, answer.decode()), (200, self.page().replace("is a town", "is an old town"))
+                    )
 
     def test_a_stale_edit(self) -> None:
         html, tag = self.html("Opava")
         (self.pages / "Opava.wiki").write_text(self.page() + "more")
         body = json.dumps({"html": edited(html)}).encode()
-        reply = self.ask("POST", f"{TRANSFORM}html/to/wikitext/Opava", body, Content_Type="application/json", If_Match=tag)
+        reply = self.ask(
+            "POST", f"{TRANSFORM}html/to/wikitext/Opava", body, Content_Type="application/json", If_Match=tag
+        )
         self.assertEqual((reply[0], json.loads(reply[2])["error"]), (412, "Stale"))
 
     def test_html_without_sources_is_refused(self) -> None:
         body = json.dumps({"html": "<p>new</p>"}).encode()
-        status, _, answer = self.ask("POST", f"{TRANSFORM}html/to/wikitext", body, Content_Type="application/json")
+        status, _, answer = self.ask(
+            "POST", f"{TRANSFORM}html/to/wikitext", body, Content_Type="application/json"
+        )
         self.assertEqual((status, json.loads(answer)["error"]), (422, "ElementHasNoSource"))
 
     def test_wikitext_to_html(self) -> None:
@@ -149,21 +189,28 @@ class Transforms(ServingCase):
             (self.root / "one/pages" / path.name).write_bytes(path.read_bytes())
         (self.root / "one/pages/Text.wiki").write_text(text)
         wanted = run_program(["html", "Text"], b"", self.root / "one")
-        for fields, title in [({}, ""), ({}, "/Opava"), ({"body_only": True}, ""), ({"offsetType": "ucs2"}, "")]:
+        for fields, title in [
+            ({}, ""), ({}, "/Opava"), ({"body_only": True}, ""), ({"offsetType": "ucs2"}, "")
+        ]:
             body = json.dumps({"wikitext": text, **fields}).encode()
-            status, headers, answer = self.ask("POST", f"{TRANSFORM}wikitext/to/html{title}", body, Content_Type="application/json")
+            status, headers, answer = self.ask(
+                "POST", f"{TRANSFORM}wikitext/to/html{title}", body, Content_Type="application/json"
+            )
             self.assertEqual((status, headers["content-type"]), (200, HTML))
             if not fields:
                 self.assertEqual(answer, wanted)
-        self.assertEqual(sorted(p.name for p in self.pages.iterdir()), sorted(p.name for p in (REPOSITORY / "examples/pages").iterdir()))
+        self.assertEqual(
+            sorted(p.name for p in self.pages.iterdir()),
+            sorted(p.name for p in (REPOSITORY / "examples/pages").iterdir()),
+        )
 
     def test_a_new_template_is_seen(self) -> None:
         body = json.dumps({"wikitext": "{{New}}"}).encode()
         for wanted in (b"Template:New", b"now here", b"Template:New"):
             path = self.pages / "Template%3ANew.wiki"
             path.write_text("now here") if wanted == b"now here" else path.unlink() if path.exists() else None
-            answer = self.ask("POST", f"{TRANSFORM}wikitext/to/html", body, Content_Type="application/json")[2]
-            self.assertIn(b">" + (wanted if wanted == b"now here" else b"Template:New<"), answer)
+            reply = self.ask("POST", f"{TRANSFORM}wikitext/to/html", body, Content_Type="application/json")
+            self.assertIn(b">" + (wanted if wanted == b"now here" else b"Template:New<"), reply[2])
 
 
 class Saving(ServingCase):
@@ -175,8 +222,13 @@ class Saving(ServingCase):
         after = before.replace("is a town in", "is an old town in")
         self.assertEqual((status, self.page()), (200, after))
         self.assertEqual(os.stat(self.pages / "Opava.wiki").st_mode & 0o777, 0o640)
-        self.assertEqual((told["changed"], told["bytes_before"], told["bytes_after"]), (True, len(before.encode()), len(after.encode())))
-        lines = [line for line in told["diff"].splitlines() if line[:1] in "+-" and line[:3] not in ("+++", "---")]
+        self.assertEqual(
+            (told["changed"], told["bytes_before"], told["bytes_after"]),
+            (True, len(before.encode()), len(after.encode())),
+        )
+        lines = [
+            line for line in told["diff"].splitlines() if line[:1] in "+-" and line[:3] not in ("+++", "---")
+        ]
         self.assertEqual([line[0] for line in lines], ["-", "+"])
         self.assertEqual(self.html("Opava")[1], told["etag"])
         status, told = self.save("Opava", self.html("Opava")[0], told["etag"])
@@ -191,7 +243,9 @@ class Saving(ServingCase):
     def test_tags_are_asked_for(self) -> None:
         html, tag = self.html("Opava")
         before = self.stored()
-        for given, status in [(None, 428), ("*", 412), ('"1"', 412), (tag.strip('W/"'), 412), (f'"a", {tag}', 200)]:
+        for given, status in [
+            (None, 428), ("*", 412), ('"1"', 412), (tag.strip('W/"'), 412), (f'"a", {tag}', 200)
+        ]:
             with self.subTest(given=given):
                 self.assertEqual(self.save("Opava", html, given)[0], status)
         self.assertEqual(self.stored(), before)
@@ -201,7 +255,8 @@ class Saving(ServingCase):
         name is made."""
         lang = self.pages / "Template%3ALang.wiki"
         for name, text in {
-            "Main": "{{outer|x}} {{absent}} {{{{{1|made}}}}}", "Template%3AOuter": "{{Inner}}", "Template%3AInner": "one",
+            "Main": "{{outer|x}} {{absent}} {{{{{1|made}}}}}", "Template%3AOuter": "{{Inner}}",
+            "Template%3AInner": "one",
             "Template%3AMade": "m", "Other": "page",
         }.items():  # fmt: skip
             (self.pages / f"{name}.wiki").write_text(text)
@@ -225,12 +280,27 @@ class Saving(ServingCase):
         html, tag = self.html("Opava")
         before = self.stored()
         cases = [
-            (html.replace("is a town", "is a big town").replace("<body ", '<body data-wt-edit="other" '), "NotEditable", None, None),
+            (
+                html.replace("is a town", "is a big town").replace("<body ", '<body data-wt-edit="other" '),
+                "NotEditable",
+                None,
+                None,
+            ),
             (edited(html).replace("Troppau</i>", "Trop</i>"), "InTemplate", "mw5", None),
-            (edited(html).replace("the river", '<a href="./x">the river</a>', 1), "ElementDoesNotFit", None, "Element"),
+            (
+                edited(html).replace("the river", '<a href="./x">the river</a>', 1),
+                "ElementDoesNotFit",
+                None,
+                "Element",
+            ),
             (edited(html).replace("</b>", "</i>", 1), "HtmlRefused", "mw4", "EndTag"),
             (edited(html).replace('href="./Czech_Silesia"', 'href="./a[b"'), "BadContent", "mw3", "Href"),
-            (edited(html).replace("It was the seat", "<u>It</u> was the seat"), "BadContent", "mw3", "Element"),
+            (
+                edited(html).replace("It was the seat", "<u>It</u> was the seat"),
+                "BadContent",
+                "mw3",
+                "Element",
+            ),
         ]
         for document, error, node, why in cases:
             with self.subTest(error=error):
@@ -239,26 +309,34 @@ class Saving(ServingCase):
                 self.assertTrue(told["line"] and told["sentence"])
                 if node is not None:
                     self.assertEqual(told["node"], node)
-                self.assertEqual(element_at(document, told["element"]).get("id", told["path"]), told["node"] if node else told["path"])
+                self.assertEqual(
+                    element_at(document, told["element"]).get("id", told["path"]),
+                    told["node"] if node else told["path"],
+                )
         self.assertEqual(self.stored(), before)
 
     def test_json_alone_is_saved(self) -> None:
         html, tag = self.html("Opava")
-        for kind in ("application/x-www-form-urlencoded", "text/plain", "multipart/form-data; boundary=x", ""):
-            status = self.ask("POST", "/save/Opava", urlencode({"html": html}).encode(), Content_Type=kind, If_Match=tag)[0]
+        for kind in (
+            "application/x-www-form-urlencoded", "text/plain", "multipart/form-data; boundary=x", ""
+        ):
+            status = self.ask(
+                "POST", "/save/Opava", urlencode({"html": html}).encode(), Content_Type=kind, If_Match=tag
+            )[0]
             self.assertEqual(status, 415)
 
     def test_origins(self) -> None:
         html, tag = self.html("Opava")
         body = json.dumps({"html": html}).encode()
         for origin, fetch, status in [
-            (f"http://127.0.0.1:{self.port}", "same-origin", 200), ("http://evil.example", "cross-site", 403), ("null", "none", 403),
-            (f"http://127.0.0.1:{self.port}.evil.example", "same-origin", 403), (f"http://localhost:{self.port}", "same-site", 403),
+            (f"http://127.0.0.1:{self.port}", "same-origin", 200), ("http://evil.example", "cross-site", 403),
+            ("null", "none", 403),
+            (f"http://127.0.0.1:{self.port}.evil.example", "same-origin", 403),
+            (f"http://localhost:{self.port}", "same-site", 403),
         ]:  # fmt: skip
             with self.subTest(origin=origin):
-                reply = self.ask(
-                    "POST", "/save/Opava", body, Origin=origin, Sec_Fetch_Site=fetch, If_Match=tag, Content_Type="application/json"
-                )
+                about = {"Origin": origin, "Sec_Fetch_Site": fetch, "If_Match": tag}
+                reply = self.ask("POST", "/save/Opava", body, Content_Type="application/json", **about)
                 self.assertEqual(reply[0], status)
 
 
@@ -286,7 +364,9 @@ class Editor(ServingCase):
         (self.pages / "no page.wiki").touch()
         (self.pages / "other.txt").touch()
         _, headers, body = self.ask("GET", "/titles")
-        self.assertEqual(json.loads(body), {"titles": ["A/B", "Opava", "Template:Infobox town", "Template:Lang"]})
+        self.assertEqual(
+            json.loads(body), {"titles": ["A/B", "Opava", "Template:Infobox town", "Template:Lang"]}
+        )
         self.assertEqual(headers["content-type"], "application/json; charset=utf-8")
 
     def test_lists(self) -> None:
@@ -297,7 +377,15 @@ class Editor(ServingCase):
 
     def test_client_files(self) -> None:
         client = REPOSITORY / "client"
-        for path in ("tests/x.js", "package.json", "..%2Ftools%2Fserve", "../tools/serve", "README.md", ".hidden.js", "editor/index.html"):
+        for path in (
+            "tests/x.js",
+            "package.json",
+            "..%2Ftools%2Fserve",
+            "../tools/serve",
+            "README.md",
+            ".hidden.js",
+            "editor/index.html",
+        ):
             with self.subTest(path=path):
                 self.assertEqual(self.ask("GET", f"/client/{path}")[0], 404)
         if not (client / "bughtiso.js").is_file():
@@ -309,13 +397,33 @@ class Editor(ServingCase):
         self.assertEqual(self.ask("GET", "/editor/a%5Bb")[0], 404)
 
     def test_methods(self) -> None:
-        for method, path, allowed in [("POST", "/titles", "GET"), ("GET", "/save/Opava", "POST"), ("PUT", "/save/Opava", "POST")]:
+        for method, path, allowed in [
+            ("POST", "/titles", "GET"), ("GET", "/save/Opava", "POST"), ("PUT", "/save/Opava", "POST")
+        ]:
             status, headers, _ = self.ask(method, path, b"" if method != "GET" else None)
             self.assertEqual((status, headers["allow"]), (405, allowed))
 
 
 @unittest.skipIf(PROGRAM is None, "wtround is not built here (WTROUND=FILE names another)")
 class Command(unittest.TestCase):
+    def test_an_address_of_ipv6(self) -> None:
+        if not socket.has_ipv6:
+            self.skipTest("there is no IPv6")
+        command = [
+            sys.executable, str(TOOLS / "serve"), str(REPOSITORY / "examples/pages"), "--address", "::1"
+        ]
+        with subprocess.Popen(
+            [*command, "--port", "0", "--program", PROGRAM, "-q"], stdout=subprocess.PIPE
+        ) as process:
+            address = process.stdout.readline().decode().strip()
+            try:
+                if not address:
+                    self.skipTest("this machine has no address of IPv6")
+                with urlopen(address + "titles", timeout=120) as answer:
+                    self.assertEqual(len(json.load(answer)["titles"]), 3)
+            finally:
+                process.terminate()
+
     def run_tool(self, *words: str) -> subprocess.CompletedProcess:
         command = [sys.executable, str(TOOLS / "serve"), *words]
         return subprocess.run(command, stdout=subprocess.PIPE, stderr=subprocess.PIPE, timeout=120)
@@ -323,13 +431,17 @@ class Command(unittest.TestCase):
     def test_what_cannot_start(self) -> None:
         pages = str(REPOSITORY / "examples/pages")
         for words, status in [
-            (["nowhere", "--program", PROGRAM], 1), ([pages, "--program", "/nowhere"], 1), ([pages, "--program", "true"], 1),
-            ([pages, "--program", PROGRAM, "--port", "99999"], 1), ([pages, "--program", PROGRAM, "--address", "x y"], 1), (["--port", "x"], 2),
+            (["nowhere", "--program", PROGRAM], 1), ([pages, "--program", "/nowhere"], 1),
+            ([pages, "--program", "true"], 1),
+            ([pages, "--program", PROGRAM, "--port", "99999"], 1),
+            ([pages, "--program", PROGRAM, "--address", "x y"], 1), (["--port", "x"], 2),
         ]:  # fmt: skip
             with self.subTest(words=words):
                 done = self.run_tool(*words)
                 self.assertEqual(done.returncode, status, done.stderr)
-                self.assertTrue(done.stderr.startswith(b"serve: " if status == 1 else b"usage: "), done.stderr)
+                self.assertTrue(
+                    done.stderr.startswith(b"serve: " if status == 1 else b"usage: "), done.stderr
+                )
                 self.assertNotIn(b"Traceback", done.stderr)
 
 

@@ -68,7 +68,8 @@ class Offsets(ServingCase):
 
     def test_pages_of_many_scripts(self) -> None:
         texts = [
-            "== 😀 ==\n'''é''' [[日本|𝄞 x]] &nbsp;\n* ß {{lang|de|ä}} <!-- 😀 -->\n", "😀" * 50 + " ''x''", "plain ''x''",
+            "== 😀 ==\n'''é''' [[日本|𝄞 x]] &nbsp;\n* ß {{lang|de|ä}} <!-- 😀 -->\n", "😀" * 50 + " ''x''",
+            "plain ''x''",
             'a "dsr":[1,2,3,4] <nowiki>é "dsr":[1,2,3,4]</nowiki> \'\'b\'\'',
         ]  # fmt: skip
         for k, text in enumerate(texts):
@@ -107,10 +108,14 @@ class Offsets(ServingCase):
 
 def as_browsers_write(part: Element) -> str:
     """As `outerHTML` writes it."""
-    head = f"<{part.name}" + "".join(f' {name}="{in_value(value)}"' for name, value in part.attributes.items()) + ">"
+    head = f"<{part.name}" + "".join(
+        f' {name}="{in_value(value)}"' for name, value in part.attributes.items()
+    ) + ">"
     if part.name in ("br", "hr", "meta", "link"):
         return head
-    inside = (in_text(child) if isinstance(child, str) else as_browsers_write(child) for child in part.children)
+    inside = (
+        in_text(child) if isinstance(child, str) else as_browsers_write(child) for child in part.children
+    )
     return f"{head}{''.join(inside)}</{part.name}>"
 
 
@@ -158,21 +163,30 @@ class Mending(unittest.TestCase):
         """What VisualEditor moves out of a block that it changes."""
         page = (
             '<!DOCTYPE html><html><head><meta charset="utf-8"/></head><body>'
-            '<p id="mw1">one <meta typeof="mw:Comment" id="mw2"/>two <b id="mw3">x</b><meta typeof="mw:Comment" id="mw4"/></p>\n'
+            '<p id="mw1">one <meta typeof="mw:Comment" id="mw2"/>two <b id="mw3">x</b>'
+            '<meta typeof="mw:Comment" id="mw4"/></p>\n'
             '<p id="mw5">a</p></body></html>'
         )
         for edited in (
-            page.replace('one <meta typeof="mw:Comment" id="mw2"/>two', "one two").replace('<p id="mw1">', '<meta typeof="mw:Comment" id="mw2"/><p id="mw1">'),
-            page.replace('<meta typeof="mw:Comment" id="mw4"/></p>', '</p><meta typeof="mw:Comment" id="mw4"/>'),
+            page.replace('one <meta typeof="mw:Comment" id="mw2"/>two', "one two").replace(
+                '<p id="mw1">', '<meta typeof="mw:Comment" id="mw2"/><p id="mw1">'
+            ),
+            page.replace(
+                '<meta typeof="mw:Comment" id="mw4"/></p>', '</p><meta typeof="mw:Comment" id="mw4"/>'
+            ),
         ):
             self.assertEqual(marked(edited, page), page)
             changed = marked(edited.replace("one ", "One "), page)
-            self.assertEqual(changed, page.replace("one ", "One ").replace('<p id="mw1"', '<p id="mw1" data-wt-edit="content"'))
+            self.assertEqual(
+                changed,
+                page.replace("one ", "One ").replace('<p id="mw1"', '<p id="mw1" data-wt-edit="content"'),
+            )
 
     def test_other_serialisations(self) -> None:
         wanted = mended("<p>a <b>b</b> é&lt;</p>")
         for text in (
-            "\ufeff<!DOCTYPE html>\r\n<HTML><HEAD><TITLE>x</TITLE></HEAD><BODY><P>a <B>b</B> &eacute;&LT;</P></BODY></HTML>",
+            "\ufeff<!DOCTYPE html>\r\n<HTML><HEAD><TITLE>x</TITLE></HEAD><BODY><P>a <B>b</B> &eacute;&LT;</P>"
+            "</BODY></HTML>",
             '<?xml version="1.0"?><html><head/><body><p>a <b>b</b> <![CDATA[é<]]></p></body></html>',
             "<p hidden contenteditable=true>a <!-- c --><strong style=x>b</strong> &#xE9;&lt;",
             "<div><script>if (a < b) '</p>'</script><font color=red>a</font> <b>b</b> &#233;&lt;</div>",
@@ -183,8 +197,10 @@ class Mending(unittest.TestCase):
     def test_time_grows_with_the_length_alone(self) -> None:
         """Of what makes readers of HTML slow."""
         pieces = [
-            "<", "<b>x</b>", "&", "&amp", "</b>", "<!---->", "<b a=b>x</b>", "<p>", "<li>", "<b " + "a=b " * 40 + ">x</b>", "<template></template>",
-            "<p id=mw1>x</p>", "<table><tr><td>x", "<br>", "\n \n", "<a href=./x>x </a>", "<?x>", "&#x41;", "<ul><li>a</ul>", "x <!-- c -->",
+            "<", "<b>x</b>", "&", "&amp", "</b>", "<!---->", "<b a=b>x</b>", "<p>", "<li>",
+            "<b " + "a=b " * 40 + ">x</b>", "<template></template>",
+            "<p id=mw1>x</p>", "<table><tr><td>x", "<br>", "\n \n", "<a href=./x>x </a>", "<?x>", "&#x41;",
+            "<ul><li>a</ul>", "x <!-- c -->",
         ]  # fmt: skip
         for piece in pieces:
             with self.subTest(piece=piece):
@@ -242,7 +258,10 @@ class Diffs(unittest.TestCase):
         self.assertEqual(differences.unified("".join(lines), "".join(changed), "x"), wanted)
 
     def test_the_last_line_break(self) -> None:
-        self.assertEqual(differences.unified("a", "b", "x"), "--- x\n+++ x\n@@ -1 +1 @@\n-a\n\\ No newline at end of file\n+b\n\\ No newline at end of file\n")
+        self.assertEqual(
+            differences.unified("a", "b", "x"),
+            "--- x\n+++ x\n@@ -1 +1 @@\n-a\n\\ No newline at end of file\n+b\n\\ No newline at end of file\n",
+        )
         self.assertEqual(differences.unified("", "b\n", "x"), "--- x\n+++ x\n@@ -0,0 +1 @@\n+b\n")
         self.assertEqual(differences.unified("a\n", "a\n", "x"), "")
 
@@ -261,14 +280,17 @@ class Calls(unittest.TestCase):
             "{{a}} {{ A | b }} {{a_b\n|x}}": ("Template:A", "Template:A b"),
             "{{:a}} {{user:x}} {{{1}}} {{{{{1}}}}}": ("A", "User:X", "Template:1"),
             "{{#if:x|{{t}}}} {{a[b}} {{a#b}} {{}}": ("Template:T",),
-            "{{a<!-- {{x}} -->b}} {{<includeonly>subst:</includeonly>c}} {{&eacute;}}": ("Template:Ab", "Template:Subst:c", "Template:é"),
+            "{{a<!-- {{x}} -->b}} {{<includeonly>subst:</includeonly>c}} {{&eacute;}}": (
+                "Template:Ab", "Template:Subst:c", "Template:é"
+            ),
         }.items():
             with self.subTest(text=text):
                 self.assertEqual(fingerprints.names_in(text.encode()), names)
 
     def test_tags(self) -> None:
         for field, tags in {
-            'W/"1/a"': ["1/a"], '"a", W/"b"': ["a", "b"], '"a" "b"': [], "a": [], "*": [], "": [], '"a",': ["a"], '"a"x': [],
+            'W/"1/a"': ["1/a"], '"a", W/"b"': ["a", "b"], '"a" "b"': [], "a": [], "*": [], "": [],
+            '"a",': ["a"], '"a"x': [],
         }.items():  # fmt: skip
             self.assertEqual(fingerprints.tags_of(field), tags)
 

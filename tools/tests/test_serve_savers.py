@@ -22,7 +22,9 @@ KILLS = 12
 
 def with_word(html: str, word: str) -> str:
     """The example with one word more at the end of its first paragraph, marked."""
-    html = html.replace(" data-wt-edit=\"content\"", "").replace('<p id="mw3"', '<p data-wt-edit="content" id="mw3"')
+    html = html.replace(" data-wt-edit=\"content\"", "").replace(
+        '<p id="mw3"', '<p data-wt-edit="content" id="mw3"'
+    )
     return html.replace("live there today.", f"live there today. {word}", 1)
 
 
@@ -36,7 +38,9 @@ class SaversAtOnce(ServingCase):
                 word = f"w{saver}x{k}"
                 for _ in range(1000):
                     html, tag = self.html("Opava", port=ports[saver % len(ports)])
-                    status, told = self.save("Opava", with_word(html, word), tag, port=ports[saver % len(ports)])
+                    status, told = self.save(
+                        "Opava", with_word(html, word), tag, port=ports[saver % len(ports)]
+                    )
                     if status == 200:
                         stored.append(word)
                         break
@@ -50,7 +54,9 @@ class SaversAtOnce(ServingCase):
         self.assertEqual(len(stored), SAVERS * ROUNDS)
         words = re.findall("w[0-9]x[0-9]", self.page())
         self.assertEqual(sorted(words), sorted(stored))
-        self.assertEqual(re.sub(" w[0-9]x[0-9]", "", self.page()), (REPOSITORY / "examples/pages/Opava.wiki").read_text())
+        self.assertEqual(
+            re.sub(" w[0-9]x[0-9]", "", self.page()), (REPOSITORY / "examples/pages/Opava.wiki").read_text()
+        )
         self.assertEqual([p.name for p in self.pages.iterdir() if not p.name.endswith(".wiki")], [])
 
     def test_over_one_server(self) -> None:
@@ -63,7 +69,9 @@ class SaversAtOnce(ServingCase):
         html, tag = self.html("Opava")
         results = []
         threads = [
-            threading.Thread(target=lambda k=k: results.append((k, self.save("Opava", with_word(html, f"k{k}"), tag)[0])))
+            threading.Thread(
+                target=lambda k=k: results.append((k, self.save("Opava", with_word(html, f"k{k}"), tag)[0]))
+            )
             for k in range(6)
         ]
         for thread in threads:
@@ -106,7 +114,16 @@ class SaversAtOnce(ServingCase):
 
 class Kills(ServingCase):
     def start_process(self) -> "tuple[subprocess.Popen, int]":
-        command = [sys.executable, str(TOOLS / "serve"), str(self.pages), "--port", "0", "--program", str(PROGRAM), "--quiet"]
+        command = [
+            sys.executable,
+            str(TOOLS / "serve"),
+            str(self.pages),
+            "--port",
+            "0",
+            "--program",
+            str(PROGRAM),
+            "--quiet",
+        ]
         process = subprocess.Popen(command, stdout=subprocess.PIPE, start_new_session=True)
         self.addCleanup(process.stdout.close)
         self.addCleanup(process.wait)
@@ -148,7 +165,10 @@ class Kills(ServingCase):
                 self.assertEqual(found, after)
             elif found == after:
                 unanswered += 1
-        print(f"kills: {answered} of {KILLS} saves answered, {unanswered} stored and the answer cut off", file=sys.stderr)
+        print(
+            f"kills: {answered} of {KILLS} saves answered, {unanswered} stored and the answer cut off",
+            file=sys.stderr,
+        )
         process, port = self.start_process()
         self.assertEqual([p.name for p in self.pages.iterdir() if not p.name.endswith(".wiki")], [])
 

@@ -7,7 +7,6 @@ from .marks import add_marks
 from .markup import read_body, written
 from .mender import Mender
 from .original import Original
-from .strays import put_back
 
 __all__ = ["marked", "mended"]
 
@@ -16,9 +15,7 @@ def marked(document: str, page: str) -> str:
     """The document of an edited page, mended, with the marks that `edit` asks for. `page` is its HTML as
     wtround wrote it. Raises Refusal."""
     original = Original(read_body(page))
-    edited = read_body(document)
-    put_back(edited, original)
-    body = Mender(original).page(edited)
+    body = Mender(original).page(read_body(document))
     add_marks(body, original)
     return written(body)
 

@@ -15,6 +15,9 @@ WRITABLE = HEADINGS | frozenset("b i a br p hr li".split())
 
 def add_marks(page: Element, original: Original) -> None:
     """`page` is a mended body."""
+    present = {part.number for part in page.walk()}
+    for block in page.elements():
+        adopt(block, original, present)
     settle(page, 0, original)
     if child_numbers(page) != child_numbers(original.page):
         mark(page, "children")
@@ -72,6 +75,27 @@ def child_numbers(part: Element) -> List[int]:
 
 
 # ---------------------------------------------------------------- nodes that moved
+
+
+def adopt(block: Element, original: Original, present: Set[int]) -> None:
+    """A paragraph, heading or item in which something stands that can't be written anew, all of it from one other
+    block, which is gone, becomes that block: so two blocks that were joined are saved as the second one without the
+    first. `present` has the numbers that stand in the page."""
+    if block.name in ("section", "ul", "ol"):
+        for inner in block.elements():
+            adopt(inner, original, present)
+        return
+    if block.name not in LINES and block.name != "li":
+        return
+    parents = {parent_of(part, original) for part in nearest_kept(block) if not can_be_anew(part)}
+    if len(parents) != 1:
+        return
+    number = parents.pop()
+    gone = original.nodes.get(number)
+    if number == block.number or number in present or gone is None or gone.part.name != block.name:
+        return
+    block.attributes = dict(gone.part.attributes)
+    present.add(number)
 
 
 def settle(parent: Element, number: int, original: Original) -> None:

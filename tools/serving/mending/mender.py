@@ -15,6 +15,7 @@ from .kinds import (
 from .links import link_target
 from .markup import Child, Element
 from .original import Kept, Original, kind_of
+from .strays import put_back
 from .texts import append, is_empty, is_line_break, tidy
 
 Pieces = List[Child]
@@ -38,19 +39,23 @@ class Mender:
         """The body of the page that stands in this element."""
         self._claim(root)
         attributes = self.original.page.attributes if self.original else self._attributes(root, "body", 0)
-        return Element("body", dict(attributes), self._blocks(root.children))
+        page = Element("body", dict(attributes), self._blocks(root.children))
+        if self.original is not None:
+            put_back(page, self.original)
+        return page
 
     # ------------------------------------------------------------ numbers
 
     def _claim(self, root: Element) -> None:
-        """Finds the owner of each number: the first element of the right kind that shows something, else the
-        first."""
+        """Finds the owner of each number: of several elements of the right kind, as the halves of a paragraph that
+        was split, the one that holds most of what can't be written anew; of those the first that shows something,
+        else the first."""
         for element in root.walk():
             number = element.number
             if number == 0 or not self._is_of_kind(element, number):
                 continue
             owner = self._owners.get(number)
-            if owner is None or (is_hollow(owner) and not is_hollow(element)):
+            if owner is None or is_better(element, owner):
                 self._owners[number] = element
 
     def _is_of_kind(self, element: Element, number: int) -> bool:
@@ -67,6 +72,30 @@ class Mender:
         """Its number, where it is the one that has it; else 0."""
         number = element.number
         return number if number != 0 and self._owners.get(number) is element else 0
+
+    def _untouched(self, element: Element) -> Optional[Element]:
+        """A copy of the page's own block, where the element is as it was opened."""
+        kept = self._kept(element.number)
+        return copied(kept.part) if kept is not None and self._is_untouched(element, kept.part) else None
+
+    def _is_untouched(self, element: Element, part: Element) -> bool:
+        if element.name != part.name and element.get("data-wt-name") != part.name:
+            return False
+        if any(element.attributes.get(name) != value for name, value in part.attributes.items()):
+            return False
+        if part.number != 0:
+            if self._owners.get(part.number) is not element:
+                return False
+        elif "id" in element.attributes and "id" not in part.attributes:
+            return False
+        if len(element.children) != len(part.children):
+            return False
+        return all(
+            child == other
+            if isinstance(child, str) or isinstance(other, str)
+            else self._is_untouched(child, other)
+            for child, other in zip(element.children, part.children)
+        )
 
     def _kept(self, number: int) -> Optional[Kept]:
         return self.original.nodes.get(number) if self.original is not None else None
@@ -119,7 +148,7 @@ class Mender:
         if "about" not in element.attributes and not is_hidden_name(name):
             return is_block_name(name)
         kept = self._kept(self._number_of(element))
-        if kept is not None:
+        if kept is not None and (kept.parent is None or is_in_line or not is_hidden_name(name)):
             return kept.parent is None
         return not is_in_line or is_block_name(name)
 
@@ -140,6 +169,9 @@ class Mender:
 
     def _block(self, element: Element, name: str) -> Pieces:
         """`name` is our name for the element."""
+        untouched = self._untouched(element)
+        if untouched is not None:
+            return [untouched]
         if "about" in element.attributes:
             return [self._as_it_stands(element, name)]
         if is_hidden_name(name):
@@ -228,6 +260,11 @@ class Mender:
         for node in element.children:
             if isinstance(node, str):
                 append(part.children, node)
+                continue
+            child_name = name_of(node)
+            is_cell = child_name in CELLS and "about" not in node.attributes
+            if not is_cell and (is_block_name(child_name) or is_hidden_name(child_name)):
+                part.children += self._block(node, child_name)
             else:
                 part.children += self._inline_element(node)
         return part
@@ -350,10 +387,10 @@ class Mender:
         was, now = kept.part.text() if kept is not None else None, part.text()
         if was is None or now == was:
             return [part]
-        if is_blank(now) and is_blank(was):
-            return [Element(part.name, part.attributes, [was])]
         if now == "":
             return []
+        if is_blank(now) and is_blank(was):
+            return [Element(part.name, part.attributes, [was])]
         is_before = now.endswith(was)
         if not is_before and not now.startswith(was):
             return [part]
@@ -403,12 +440,28 @@ class Mender:
         return out
 
 
+def copied(part: Element) -> Element:
+    children = [child if isinstance(child, str) else copied(child) for child in part.children]
+    return Element(part.name, dict(part.attributes), children)
+
+
 def never(_: Element) -> bool:
     return False
 
 
 def is_list(part: Element) -> bool:
     return part.name in LISTS
+
+
+def is_better(element: Element, owner: Element) -> bool:
+    """Whether an element rather has a number than the one before it that has it too."""
+    more, less = things_in(element), things_in(owner)
+    return more > less or (more == less and is_hollow(owner) and not is_hollow(element))
+
+
+def things_in(element: Element) -> int:
+    """How many groups, extensions and other islands stand in an element."""
+    return sum("id" in inner.attributes and is_island(inner.get) for inner in element.walk())
 
 
 def is_hollow(element: Element) -> bool:

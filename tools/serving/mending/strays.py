@@ -4,7 +4,7 @@ from __future__ import annotations
 
 from typing import Dict, List, Optional, Set, Tuple
 
-from .kinds import is_hidden_name, name_of
+from .kinds import is_hidden_name
 from .markup import Child, Element
 from .original import Kept, Original
 from .texts import append
@@ -13,45 +13,56 @@ NEAR = 24  # characters of text on each side by which a place is found again
 MOST_STRAYS = 200  # more stay where they are, and the edit is refused by name
 
 
-def put_back(edited: Element, original: Original) -> None:
-    """Puts each stray back into the element that it stood in, beside the neighbour that it had there."""
+def put_back(page: Element, original: Original) -> None:
+    """Puts each stray back into the element that it stood in, beside the neighbour that it had there. `page` is a
+    mended body."""
     homes: Dict[int, Element] = {}
     strays: List[Tuple[Element, Kept]] = []
-    find(edited, 0, original, homes, strays)
-    strays = [(element, kept) for element, kept in strays if kept.parent and kept.parent.part.number in homes]
+    find(page, 0, original, homes, strays)
+    strays = [(part, kept) for part, kept in strays if kept.parent and kept.parent.part.number in homes]
     if not 0 < len(strays) <= MOST_STRAYS:
         return
-    remove(edited, {id(element) for element, _ in strays})
-    for element, kept in strays:
+    remove(page, {id(part) for part, _ in strays})
+    for part, kept in strays:
         assert kept.parent is not None
-        insert(homes[kept.parent.part.number], element, kept)
+        insert(homes[kept.parent.part.number], part, kept)
 
 
-def find(part: Element, number: int, original: Original, homes: Dict[int, Element], strays: list) -> None:
-    """Finds the elements that have a number, and the strays. `number` is that of the nearest such element
-    round it."""
+def find(
+    part: Element, number: int, original: Original, homes: Dict[int, Element], strays: List[Tuple[Element, Kept]]
+) -> None:
+    """Finds the elements that have a number, and the strays. `number` is that of the nearest kept element that it is
+    or stands in, 0 for the body."""
     for child in part.elements():
-        own = child.number
-        kept = original.nodes.get(own)
-        if kept is not None and is_hidden_name(name_of(child)) and "about" not in child.attributes:
+        if "about" in child.attributes:
+            continue
+        kept = original.nodes.get(child.number)
+        if kept is not None and is_hidden_name(child.name):
             if (kept.parent.part.number if kept.parent is not None else 0) != number:
                 strays.append((child, kept))
-        elif "about" not in child.attributes:
-            if kept is not None:
-                homes.setdefault(own, child)
-            find(child, own if kept is not None else number, original, homes, strays)
+            continue
+        if kept is not None:
+            homes.setdefault(child.number, child)
+        find(child, number if kept is None else child.number, original, homes, strays)
 
 
-def remove(part: Element, strays: Set[int]) -> None:
-    """Takes elements out, by their `id()`; texts on the two sides of one become one text."""
+def remove(part: Element, strays: Set[int]) -> bool:
+    """Takes parts out, by their `id()`; texts on the two sides of one become one text, and a new element that held
+    nothing else goes. Answers whether something was taken out."""
     children: List[Child] = []
+    is_changed = False
     for child in part.children:
         if isinstance(child, str):
             append(children, child)
-        elif id(child) not in strays:
-            remove(child, strays)
+        elif id(child) in strays:
+            is_changed = True
+        elif remove(child, strays) and child.number == 0 and not child.children:
+            is_changed = True
+        else:
             children.append(child)
-    part.children = children
+    if is_changed:
+        part.children = children
+    return is_changed
 
 
 def insert(home: Element, element: Element, kept: Kept) -> None:
