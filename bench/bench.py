@@ -2,7 +2,8 @@
 """Measures the proved `wtround`: `html` on pages of 64 KiB, 512 KiB and 2 MiB, `wikitext` on HTML of 512 KiB,
 8 MiB and 64 MiB less a page's frame, of the HTML of pages with comments and entities, and of what `html` answers
 for pages of links, URLs, styles and tags (a third of the size for apostrophes); `html` on pages of lists and tables, and of templates; `expand` on pages of
-calls; `lint` on pages that are doubtful all over; `gen` of 100, 1,000 and 10,000 sections; `edit` on pages of which one word or a word of each paragraph was changed.
+calls; `lint` on pages that are doubtful all over; `gen` of 100, 1,000 and 10,000 sections; `edit` on pages of which one word or a word of each paragraph was changed,
+and of which paragraphs and items come and go.
 
   bench/bench.py PROGRAM [OTHER]
 
@@ -95,6 +96,33 @@ def each_paragraph(html):
     return html.replace(b"<p id=", b'<p data-wt-edit="content" id=').replace(b"river runs", b"brook runs")
 
 
+def taking_blocks(html):
+    """The body marked as one whose blocks come and go."""
+    return html.replace(b"<body ", b'<body data-wt-edit="children" ', 1)
+
+
+def new_behind_each(html):
+    """A new paragraph behind each one."""
+    return taking_blocks(html).replace(b"</p>", b"</p><p>new</p>")
+
+
+def every_second_removed(html):
+    """Every second paragraph taken out."""
+    parts = taking_blocks(html).split(b"<p ")
+    kept = [b"<p " + it if k % 2 else it.partition(b"</p>")[2] for k, it in enumerate(parts[1:], 1)]
+    return parts[0] + b"".join(kept)
+
+
+def new_items(html):
+    """A new item behind each one of a list."""
+    return html.replace(b"<ul ", b'<ul data-wt-edit="children" ', 1).replace(b"</li>", b"</li><li>new</li>")
+
+
+def below(of):
+    """Pages that have room for what comes."""
+    return lambda size: of(size * 3 // 4)
+
+
 # The templates of a section of an article that has some two calls for each KiB.
 WITH_CALLS = {
     "Template%3ABox": b"{|\n! {{{name}}}\n|-\n| {{{1|}}} || {{lang|de|{{{name}}}}}\n|}",
@@ -125,6 +153,9 @@ EDIT_KINDS = {
     "one word of an article": (lines(article), one_word, {}),
     "a word of each paragraph": (lines(lambda k: (WORDS + "\n") * 3 + "\n"), each_paragraph, {}),
     "one word of an article with templates": (lines(called_article), one_word, WITH_CALLS),
+    "a new paragraph behind each": (below(lines(lambda k: WORDS + "\n\n")), new_behind_each, {}),
+    "every second paragraph removed": (lines(lambda k: WORDS + "\n\n"), every_second_removed, {}),
+    "a new item behind each": (below(whole("* a river\n")), new_items, {}),
 }
 
 
