@@ -431,13 +431,23 @@ test("typing and deleting is undone and done again", { skip }, async () => {
 test("what is typed while the server is asked changes nothing", { skip }, async () => {
   await select("Third", 5);
   await tab.type("ly");
-  await tab.press("Control+s", "x", "Backspace", "Enter");
+  await tab.js(`(() => {
+    const ask = fetch;
+    globalThis.fetch = async (...words) => {
+      while (globalThis.isHeld) await new Promise((done) => setTimeout(done, 10));
+      return ask(...words);
+    };
+    globalThis.isHeld = true;
+  })()`);
+  await tab.press("Control+s", "x", "Backspace", "Enter", "Control+z");
+  assert.equal(await shown(), SHOWN.replace("Third", "Thirdly"));
+  await tab.js(`void (isHeld = false)`);
   await tab.until(`document.getElementById("changes").open`);
-  assert.equal(await shown(), SHOWN.replace("Third", "Thirdly"));
-  await tab.js(`document.getElementById("changes-save").click()`);
+  await tab.js(`isHeld = true; document.getElementById("changes-save").click()`);
   await tab.press("x", "Enter");
-  await tab.until(`document.getElementById("status").textContent === "The page is saved."`);
   assert.equal(await shown(), SHOWN.replace("Third", "Thirdly"));
+  await tab.js(`void (isHeld = false)`);
+  await tab.until(`document.getElementById("status").textContent === "The page is saved."`);
   assert.equal(wiki.read("A page"), PAGE.replace("Third", "Thirdly"));
 });
 
