@@ -42,6 +42,8 @@ def mark_in(part: Element, original: Original) -> None:
             mark(part, "content")
             if part.name != "p":
                 drop_last_blanks(part)
+            for child in part.elements():
+                drop_skips(child, original)
         return
     is_top_list = part.name in ("ul", "ol") and kept.parent is None
     if is_top_list and child_numbers(part) != child_numbers(kept.part):
@@ -62,6 +64,18 @@ def drop_last_blanks(part: Element) -> None:
         part.children.pop()
 
 
+def drop_skips(part: Element, original: Original) -> None:
+    """The letters that joined a link (`[[dog]]s`) stand behind a skip in it, which covers its `]]`; `edit`
+    writes a changed link with all its text between its brackets, so the skip goes. `part` stands in a marked
+    block."""
+    kept = original.nodes.get(part.number)
+    is_link = part.name == "a" and "about" not in part.attributes
+    if is_link and kept is not None and not is_same(part, kept.part):
+        part.children = [c for c in part.children if isinstance(c, str) or c.get("typeof") != "mw:Skip"]
+    for child in part.elements():
+        drop_skips(child, original)
+
+
 def child_numbers(part: Element) -> List[int]:
     """The numbers of the children, 0 for a new one; those of sections count as the body's. What belongs to a
     group beside its first element isn't counted."""
@@ -78,9 +92,9 @@ def child_numbers(part: Element) -> List[int]:
 
 
 def adopt(block: Element, original: Original, present: Set[int]) -> None:
-    """A paragraph, heading or item in which something stands that can't be written anew, all of it from one other
-    block, which is gone, becomes that block: so two blocks that were joined are saved as the second one without the
-    first. `present` has the numbers that stand in the page."""
+    """A paragraph, heading or item in which something stands that can't be written anew, all of it from one
+    other block, which is gone, becomes that block: so two blocks that were joined are saved as the second one
+    without the first. `present` has the numbers that stand in the page."""
     if block.name in ("section", "ul", "ol"):
         for inner in block.elements():
             adopt(inner, original, present)

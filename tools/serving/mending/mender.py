@@ -6,7 +6,7 @@ of that node's kind; any other is new.
 from __future__ import annotations
 
 import re
-from typing import Callable, Dict, Iterable, List, Optional
+from typing import Callable, Dict, Iterable, List, Optional, Set
 
 from .kinds import (
     ATTRIBUTES, CELLS, ITEMS, LINES, LISTS, TABLE_ATTRIBUTES, TAGS, is_blank, is_block, is_block_name,
@@ -47,9 +47,9 @@ class Mender:
     # ------------------------------------------------------------ numbers
 
     def _claim(self, root: Element) -> None:
-        """Finds the owner of each number: of several elements of the right kind, as the halves of a paragraph that
-        was split, the one that holds most of what can't be written anew; of those the first that shows something,
-        else the first."""
+        """Finds the owner of each number: of several elements of the right kind, as the halves of a paragraph
+        that was split, the one that holds most of what can't be written anew; of those the first that shows
+        something, else the first."""
         for element in root.walk():
             number = element.number
             if number == 0 or not self._is_of_kind(element, number):
@@ -83,10 +83,9 @@ class Mender:
             return False
         if any(element.attributes.get(name) != value for name, value in part.attributes.items()):
             return False
-        if part.number != 0:
-            if self._owners.get(part.number) is not element:
-                return False
-        elif "id" in element.attributes and "id" not in part.attributes:
+        if part.number != 0 and self._owners.get(part.number) is not element:
+            return False
+        if "id" in element.attributes and "id" not in part.attributes:
             return False
         if len(element.children) != len(part.children):
             return False
@@ -252,8 +251,13 @@ class Mender:
                 made.children.append(item)
 
     def _item(self, element: Element, name: str) -> Element:
-        content = self._flat(self._inline(element.children), is_list)
-        return tidy(self._part(element, name, content), self.original)
+        content = self._inline(element.children)
+        last = blocks_behind_text(content)
+
+        def stays(part: Element) -> bool:
+            return is_list(part) and (part.number != 0 or id(part) in last)
+
+        return tidy(self._part(element, name, self._flat(content, stays)), self.original)
 
     def _table_part(self, element: Element, name: str) -> Element:
         part = self._part(element, name, [])
@@ -270,17 +274,20 @@ class Mender:
         return part
 
     def _cell(self, element: Element, name: str) -> Element:
-        """A cell or caption: new paragraphs in it, before any block of the page, are lines of its text."""
+        """A cell or caption: new paragraphs in it, before any block of the page, are lines of its text, and
+        so are other new blocks before text."""
+        content = self._inline(element.children)
+        last = blocks_behind_text(content)
         is_behind_block = False
 
         def stays(part: Element) -> bool:
             nonlocal is_behind_block
-            is_new = part.number == 0 and "about" not in part.attributes and part.name in LINES
-            is_behind_block = is_behind_block or not is_new
+            is_new = part.number == 0 and "about" not in part.attributes
+            is_last = id(part) in last and part.name not in LINES
+            is_behind_block = is_behind_block or not is_new or is_last
             return is_behind_block
 
-        content = self._flat(self._inline(element.children), stays)
-        return tidy(self._part(element, name, content), self.original)
+        return tidy(self._part(element, name, self._flat(content, stays)), self.original)
 
     # ------------------------------------------------------------ what stands in a line
 
@@ -375,6 +382,8 @@ class Mender:
         part = self._part(element, "span", self._inline(element.children))
         if kind == "mw:Entity":
             return self._entity(part)
+        if any(child.get("typeof") != "mw:Entity" for child in part.elements()):
+            return part.children
         return [] if is_empty(part.children) and not self._was_empty(part) else [part]
 
     def _was_empty(self, part: Element) -> bool:
@@ -382,20 +391,19 @@ class Mender:
         return kept is None or is_empty(kept.part.children)
 
     def _entity(self, part: Element) -> Pieces:
-        """What was typed at an entity's edge stands beside it."""
+        """An entity holds its character alone: what was typed in it stands beside it."""
         kept = self._kept(part.number)
-        was, now = kept.part.text() if kept is not None else None, part.text()
-        if was is None or now == was:
+        if kept is None:
             return [part]
-        if now == "":
-            return []
-        if is_blank(now) and is_blank(was):
-            return [Element(part.name, part.attributes, [was])]
-        is_before = now.endswith(was)
-        if not is_before and not now.startswith(was):
+        was, now = kept.part.text(), part.text()
+        if part.children == [was]:
             return [part]
         whole = Element(part.name, part.attributes, [was])
-        return [now[: len(now) - len(was)], whole] if is_before else [whole, now[len(was) :]]
+        is_blank_still = now != "" and is_blank(now) and is_blank(was) and not any(part.elements())
+        if is_blank_still:
+            return [whole]
+        found = with_entity(part.children, was, whole)
+        return part.children if found is None else found
 
     def _hidden(self, element: Element, name: str) -> Pieces:
         """A comment, an include tag, a skip, a switch, a category: those of the page alone."""
@@ -464,6 +472,16 @@ def things_in(element: Element) -> int:
     return sum("id" in inner.attributes and is_island(inner.get) for inner in element.walk())
 
 
+def blocks_behind_text(pieces: Pieces) -> Set[int]:
+    """The pieces behind the last text or inline element, by their `id()`."""
+    last = -1
+    for at, piece in enumerate(pieces):
+        is_text = not is_blank(piece) if isinstance(piece, str) else not is_hidden_name(piece.name)
+        if is_text and not is_block(piece):
+            last = at
+    return {id(piece) for piece in pieces[last + 1 :]}
+
+
 def is_hollow(element: Element) -> bool:
     """Whether an element shows nothing, as the half of a split paragraph that keeps nothing but its `br`."""
     return is_blank(element.text()) and not any("id" in inner.attributes for inner in element.walk())
@@ -480,6 +498,29 @@ def may_have(name: str, attribute: str) -> bool:
     if name == "section":
         return bool(SECTION_ATTRIBUTE.fullmatch(attribute)) and attribute != "data-wt-edit"
     return name == "body" and attribute == "data-parsoid"
+
+
+def with_entity(pieces: Pieces, character: str, entity: Element) -> Optional[Pieces]:
+    """What stands in an entity, with the entity itself in place of its character; nothing where that isn't
+    there."""
+    for at, piece in enumerate(pieces):
+        if isinstance(piece, str):
+            put = cut_at(piece, character, entity)
+        else:
+            inside = with_entity(piece.children, character, entity)
+            put = None if inside is None else [Element(piece.name, piece.attributes, inside)]
+        if put is not None:
+            return [*pieces[:at], *put, *pieces[at + 1 :]]
+    return None
+
+
+def cut_at(text: str, character: str, entity: Element) -> Optional[Pieces]:
+    """The text with the entity for its character; nothing where that isn't there."""
+    before, found, behind = text.partition(character) if character else (text, "", "")
+    if not found:
+        return None
+    pieces: Pieces = [before, entity, behind]
+    return [piece for piece in pieces if piece != ""]
 
 
 def with_edges_outside(link: Element, was: str) -> Pieces:

@@ -14,8 +14,8 @@ MOST_STRAYS = 200  # more stay where they are, and the edit is refused by name
 
 
 def put_back(page: Element, original: Original) -> None:
-    """Puts each stray back into the element that it stood in, beside the neighbour that it had there. `page` is a
-    mended body."""
+    """Puts each stray back into the element that it stood in, beside the neighbour that it had there. `page`
+    is a mended body."""
     homes: Dict[int, Element] = {}
     strays: List[Tuple[Element, Kept]] = []
     find(page, 0, original, homes, strays)
@@ -29,10 +29,14 @@ def put_back(page: Element, original: Original) -> None:
 
 
 def find(
-    part: Element, number: int, original: Original, homes: Dict[int, Element], strays: List[Tuple[Element, Kept]]
+    part: Element,
+    number: int,
+    original: Original,
+    homes: Dict[int, Element],
+    strays: List[Tuple[Element, Kept]],
 ) -> None:
-    """Finds the elements that have a number, and the strays. `number` is that of the nearest kept element that it is
-    or stands in, 0 for the body."""
+    """Finds the elements that have a number, and the strays. `number` is that of the nearest kept element
+    that it is or stands in, 0 for the body."""
     for child in part.elements():
         if "about" in child.attributes:
             continue
@@ -47,8 +51,8 @@ def find(
 
 
 def remove(part: Element, strays: Set[int]) -> bool:
-    """Takes parts out, by their `id()`; texts on the two sides of one become one text, and a new element that held
-    nothing else goes. Answers whether something was taken out."""
+    """Takes parts out, by their `id()`; texts on the two sides of one become one text, and a new element that
+    held nothing else goes. Answers whether something was taken out."""
     children: List[Child] = []
     is_changed = False
     for child in part.children:
