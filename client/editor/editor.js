@@ -60,7 +60,23 @@ class Editor {
     byId("title").textContent = this.title;
   }
 
+  /** While the server is asked nothing in the text changes. */
+  #lockWhileBusy() {
+    const stop = (/** @type {Event} */ event) => {
+      const isLeaving = event instanceof KeyboardEvent && event.key === "Tab";
+      if (!this.saving.isBusy || isLeaving) return;
+      event.preventDefault();
+      event.stopImmediatePropagation();
+    };
+    for (const name of ["keydown", "beforeinput", "cut", "paste", "drop"]) {
+      this.root.addEventListener(name, stop, { capture: true });
+    }
+    const tools = /** @type {Element} */ (document.querySelector(".tools"));
+    for (const name of ["click", "change"]) tools.addEventListener(name, stop, { capture: true });
+  }
+
   #listen() {
+    this.#lockWhileBusy();
     this.root.addEventListener("keydown", (event) => this.#key(event));
     this.root.addEventListener("beforeinput", (event) => this.#beforeInput(event));
     this.root.addEventListener("paste", (event) => this.#paste(event));
@@ -73,7 +89,7 @@ class Editor {
         this.saving.preview();
       }
     });
-    byId("thing-delete").addEventListener("click", () => this.#deleteThing());
+    byId("thing-delete").addEventListener("click", () => this.saving.isBusy || this.#deleteThing());
     byId("thing-close").addEventListener("click", () => (this.#showThing(null), this.commands.focus()));
     window.addEventListener("beforeunload", (event) => {
       if (this.history.canUndo && isChanged(this.root)) event.preventDefault();

@@ -110,7 +110,6 @@ export class Saving {
   #setBusy(isBusy) {
     this.isBusy = isBusy;
     this.button.disabled = isBusy;
-    this.page.root.inert = isBusy;
   }
 
   /** @param {ServerRefused} refused */

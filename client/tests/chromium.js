@@ -203,7 +203,12 @@ export class Tab {
    */
   async until(expression, milliseconds = 60000) {
     const end = Date.now() + milliseconds;
-    while (!(await this.js(`Boolean(${expression})`))) {
+    // While a page goes and another comes there is nothing to ask.
+    const isTrue = () => this.js(`Boolean(${expression})`).catch((error) => {
+      if (!/navigated|context/i.test(String(error))) throw error;
+      return false;
+    });
+    while (!(await isTrue())) {
       if (Date.now() > end) throw new Error(`not true within ${milliseconds} ms: ${expression}`);
       await new Promise((done) => setTimeout(done, 20));
     }

@@ -428,6 +428,29 @@ test("typing and deleting is undone and done again", { skip }, async () => {
   assert.equal(await stored(), PAGE.replace("Third", "Fourth"));
 });
 
+test("what is typed while the server is asked changes nothing", { skip }, async () => {
+  await select("Third", 5);
+  await tab.type("ly");
+  await tab.js(`(() => {
+    const ask = fetch;
+    globalThis.fetch = async (...words) => {
+      while (globalThis.isHeld) await new Promise((done) => setTimeout(done, 10));
+      return ask(...words);
+    };
+    globalThis.isHeld = true;
+  })()`);
+  await tab.press("Control+s", "x", "Backspace", "Enter", "Control+z");
+  assert.equal(await shown(), SHOWN.replace("Third", "Thirdly"));
+  await tab.js(`void (isHeld = false)`);
+  await tab.until(`document.getElementById("changes").open`);
+  await tab.js(`isHeld = true; document.getElementById("changes-save").click()`);
+  await tab.press("x", "Enter");
+  assert.equal(await shown(), SHOWN.replace("Third", "Thirdly"));
+  await tab.js(`void (isHeld = false)`);
+  await tab.until(`document.getElementById("status").textContent === "The page is saved."`);
+  assert.equal(wiki.read("A page"), PAGE.replace("Third", "Thirdly"));
+});
+
 test("a stale page is refused, and the text stays", { skip }, async () => {
   await select("Third", 5);
   await tab.type("ly");
@@ -477,7 +500,7 @@ test("a click on Save does what the key does; the list of pages leads to the edi
     search.dispatchEvent(new Event("input"));
   })()`);
   assert.equal(await tab.js(`document.querySelector("#pages a").textContent`), "A page");
-  await tab.js(`document.querySelector("#pages a").click()`);
+  await tab.js(`void setTimeout(() => document.querySelector("#pages a").click())`);
   await tab.until(`document.getElementById("page")?.isContentEditable`);
   await select("Third", 5);
   await tab.type("!");
