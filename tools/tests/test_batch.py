@@ -171,7 +171,7 @@ class TwoThousandPages(BatchCase):
 
     def test_killed_in_the_middle_and_gone_on(self) -> None:
         self.make()
-        running = self.start("wikitext", "--json", "lines")
+        running = self.start("wikitext", "--json", "lines", "-j", "1")
         state = self.root / "wtround-batch.sqlite"
         self.wait_for(lambda: state.exists() and self.stored(state) >= 50)
         running.kill()
@@ -219,7 +219,7 @@ class TwoThousandPages(BatchCase):
 
     def test_interrupted_and_gone_on(self) -> None:
         self.make()
-        running = self.start("wikitext", "--report", "report.html")
+        running = self.start("wikitext", "--report", "report.html", "-j", "1")
         self.wait_for(lambda: self.stored(self.root / "wtround-batch.sqlite") >= 50)
         running.send_signal(signal.SIGINT)
         told = running.communicate()[1].decode()
@@ -234,7 +234,7 @@ class TwoThousandPages(BatchCase):
 
     def test_two_runs_at_once(self) -> None:
         self.make()
-        first = self.start("wikitext")
+        first = self.start("wikitext", "-j", "1")
         self.wait_for(lambda: self.stored(self.root / "wtround-batch.sqlite") >= 1)
         _, told = self.run_tool("wikitext", status=1)
         self.assertIn(f"another run (process {first.pid}) is at work with this file of results", told)
@@ -586,7 +586,7 @@ class Limits(BatchCase):
         """All pages are answered, though workers are ended again and again."""
         self.program = PROGRAM
         for k in range(2000):
-            self.write(f"P{k}", "text")
+            self.write(f"P{k}", "some words\n" * 500)
         running = self.start("wikitext", "--report", "report.html", "-j", "2")
         ended = 0
         while ended < 3 and running.poll() is None:

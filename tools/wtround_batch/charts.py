@@ -64,14 +64,7 @@ def histogram(
     most = max((count for _, count in columns), default=0) or 1
     room, floor = WIDTH - left - right, top + PLOT_HEIGHT
     step = room / max(len(columns), 1)
-    parts = []
-    for share in (0.25, 0.5, 0.75, 1):
-        y = floor - PLOT_HEIGHT * share
-        parts.append(f'<line class="grid" x1="{left}" x2="{WIDTH - right}" y1="{y:.1f}" y2="{y:.1f}"/>')
-        if most >= 4 or share == 1:
-            parts.append(
-                f'<text class="tick" x="{left - 8}" y="{y:.1f}" text-anchor="end">{most * share:,.0f}</text>'
-            )
+    parts = [grid(most, left, WIDTH - right, floor)]
     for k, (label, count) in enumerate(columns):
         height = max(1.5, PLOT_HEIGHT * count / most) if count else 0.0
         x = left + k * step
@@ -100,6 +93,18 @@ def histogram(
             f"{escaped(word)}</text>"
         )
     return drawing("".join(parts), floor + bottom, title)
+
+
+def grid(most: int, left: int, right: int, floor: int) -> str:
+    """Four lines across, with the counts that they stand for."""
+    parts = []
+    for share in (0.25, 0.5, 0.75, 1):
+        y = floor - PLOT_HEIGHT * share
+        parts.append(f'<line class="grid" x1="{left}" x2="{right}" y1="{y:.1f}" y2="{y:.1f}"/>')
+        if most >= 4 or share == 1:
+            count = f"{most * share:,.0f}"
+            parts.append(f'<text class="tick" x="{left - 8}" y="{y:.1f}" text-anchor="end">{count}</text>')
+    return "".join(parts)
 
 
 def drawing(content: str, height: int, title: str) -> str:

@@ -62,9 +62,6 @@ class Figures:
     findings: "dict[str, KindOfFinding]" = field(default_factory=dict)
     seconds: float = 0.0  # of processor time, of all answers
 
-    def of(self, outcome: str) -> int:
-        return sum(counts[outcome] for counts in self.outcomes.values())
-
 
 @dataclass(frozen=True)
 class Failure:
@@ -184,8 +181,21 @@ class Report:
 
 def write_json(report: Report, file: TextIO) -> None:
     """Writes the report as JSON, its long lists page by page."""
+    text = json.dumps(head_as_json(report), ensure_ascii=False, indent=1)
+    file.write(text[: text.rindex("\n}")])
+    write_list(
+        file,
+        "failures",
+        (failure_as_json(f) for reason in report.figures.reasons for f in report.failures(reason)),
+    )
+    write_list(file, "skipped", ({"title": title, "why": why} for title, why in report.skipped()))
+    file.write("\n}\n")
+
+
+def head_as_json(report: Report) -> dict:
+    """What a report says beside its long lists."""
     about, figures = report.about, report.figures
-    head = {
+    return {
         "source": about.source,
         "commands": about.commands,
         "program": about.program,
@@ -225,15 +235,6 @@ def write_json(report: Report, file: TextIO) -> None:
             name: findings_as_json(report, kind) for name, kind in sorted(figures.findings.items())
         },
     }
-    text = json.dumps(head, ensure_ascii=False, indent=1)
-    file.write(text[: text.rindex("\n}")])
-    write_list(
-        file,
-        "failures",
-        (failure_as_json(f) for reason in figures.reasons for f in report.failures(reason)),
-    )
-    write_list(file, "skipped", ({"title": title, "why": why} for title, why in report.skipped()))
-    file.write("\n}\n")
 
 
 def write_list(file: TextIO, name: str, entries: "Iterator[dict]") -> None:
