@@ -115,12 +115,14 @@ pub fn run<S: Source, F: Folder, W: Sink, E: Sink>(
         → IfSome (S.left input.old)
         (λ bytes. WroteSource bytes (S.left input.new) (W.taken out.old) (W.taken out.new)) }
 
-    // `edit`, when it is done, read the input to its end and wrote the new page: the page with the inside of
-    // each marked node, and nothing else, replaced by its spelling; every byte outside these insides stands
-    // in the new page, in its order. No check refuses the edited tree: nothing that is compared was changed
-    // without a mark (of comments, include tags, skips and separators not all are compared; the new page has
-    // the page's). The plain view of the new page's tree is that of the edited tree, in which a kept group
-    // is what the page's group of its number holds.
+    // `edit`, when it is done, read the input to its end and wrote the new page: the page with these slices,
+    // and no others, replaced: the inside of each node marked `content` by its spelling; in a body or list
+    // marked `children` what of the page is missing, and the places of what is new. Every byte outside these
+    // slices stands in the new page, in its order. No check refuses the edited tree: nothing that is
+    // compared was changed without a mark (of comments, include tags, skips and separators not all are
+    // compared; but for those between the children of a node marked `children`, the new page has the
+    // page's). The plain view of the new page's tree is that of the edited tree, in which a kept group is
+    // what the page's group of its number holds.
     ensures edit { (title : List ℕ) → command_of words.now ≡ Some (Command.Edit title)
         → result ≡ code Status.Done
         → IfSome (F.pages folder.old) (λ pages. IfSome (S.left input.old)
