@@ -35,6 +35,12 @@ JSON_TYPE = "application/json; charset=utf-8"
 PAGE_TYPE = "text/html; charset=utf-8"
 
 MENDED_BYTES = 16_777_216  # of HTML that is mended, which takes much more time and memory than wtround
+# An element's name and number, where it has one.
+NUMBERED = re.compile(
+    rb"<([a-z][a-z0-9]*)\s(?:[^<>\"']|\"[^\"]*\"|'[^']*')*?"
+    rb"\bid\s*=\s*[\"']?(mw[1-9][0-9]*)\b",
+    re.IGNORECASE,
+)
 MARK = re.compile(rb"<[a-z][a-z0-9]*\s(?:[^<>\"']|\"[^\"]*\"|'[^']*')*?\bdata-wt-edit\s*=")
 STALE = "The page, or a template that it takes, was changed since you opened it: open it again, and edit that."
 
@@ -192,6 +198,7 @@ class Site:
             if early is not None:
                 return page, early.result()
         check_length(document)
+        check_kept(document, original)
         if b"data-parsoid" in document:
             unit = request.query.get("offsetType") or fields.get("offsetType")
             original = documents.with_offsets(original, page, str(unit or "byte"))
@@ -231,7 +238,7 @@ class Site:
         return Answer(LIST.format(items="\n".join(items)).encode(), PAGE_TYPE)
 
     def editor(self, _: Request, title: str) -> Answer:
-        full_name(title)
+        self.folder.read(full_name(title))  # refuses what is no page
         return self._client_file("editor/index.html", PAGE_TYPE)
 
     def static(self, _: Request, *names: str) -> Answer:
@@ -337,6 +344,15 @@ def check_accepted(field: str) -> None:
     if not takes_any and HTML_VERSION.split(".")[0] not in wanted:
         sentence = f"The HTML is of version {HTML_VERSION}: ask for that, or for none."
         raise Refusal(406, "NotAcceptable", sentence)
+
+
+def check_kept(document: bytes, original: bytes) -> None:
+    """Refuses HTML without a mark in which no element of the page is left, as a fragment that a client sent
+    for the whole: it would take out all that the page has."""
+    kept = set(NUMBERED.findall(original))
+    if kept and kept.isdisjoint(NUMBERED.findall(document)):
+        sentence = "Nothing of the page is left in this HTML: send the whole document, or mark what is to go."
+        raise Refusal(422, "NothingKept", sentence)
 
 
 def check_length(document: bytes) -> None:
