@@ -51,7 +51,7 @@ class Answer:
 
 
 def find_program(given: "str | None") -> str:
-    """The path of `wtround_cases`: that given, that beside the tools, the clone's, or that on the PATH."""
+    """The path of `wtround_cases`: that given, the clone's, that beside the tools, or that on the PATH."""
     if given is not None:
         if not os.access(given, os.X_OK) or os.path.isdir(given):
             raise ProgramError(f"{given} is no program that can be run")
@@ -59,7 +59,7 @@ def find_program(given: "str | None") -> str:
     clone = os.path.join(
         siblings.PACKAGE_PARENT, os.pardir, "crates", "wtround_cases", "out", "wtround_cases"
     )
-    for path in (siblings.find("wtround_cases"), clone, shutil.which("wtround_cases")):
+    for path in (clone, siblings.find("wtround_cases"), shutil.which("wtround_cases")):
         if path is not None and os.access(path, os.X_OK):
             return os.path.realpath(path)
     raise ProgramError("there is no wtround_cases beside this tool or on the PATH; --program names one")
