@@ -511,7 +511,7 @@ test("a click on Save does what the key does; the list of pages leads to the edi
   assert.equal(wiki.read("A page"), PAGE.replace("Third", "Third!"));
 });
 
-test("a page of 1 MiB is opened and saved without a long wait", { skip }, async (context) => {
+test("a page of 1 MiB is opened, and its changes are shown, without much work of the browser", { skip }, async (context) => {
   const lines = [];
   for (let bytes = 0, at = 0; bytes < 1 << 20; at += 1) {
     const line = `Paragraph ${at} of a '''long''' page with [[Main Page|links]], ''words'' and a reference.`;
