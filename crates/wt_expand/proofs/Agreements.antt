@@ -13,10 +13,12 @@ use Rattle.wt_names.specs.Namespace.{full_name_of}
 use Rattle.wt_braces.specs.PartMembers.{PartMembers, part_members}
 use Rattle.wt_expand.specs.Agreement.{AgreeOn}
 use Rattle.wt_expand.specs.Texts.{name_text}
-use Rattle.wt_expand.specs.Targets.{Called, argument, function, page, text, called, called_by, title_of_target, is_function}
+use Rattle.wt_functions.specs.declared.function.Function.{Function}
+use Rattle.wt_functions.specs.Functions.{function_of}
+use Rattle.wt_expand.specs.Targets.{Called, argument, choice, function, page, text, called, called_function, called_by, title_of_target, is_function}
 use Rattle.wt_expand.specs.Templates.{template_text}
 use Rattle.wt_expand.specs.Work.{Pages, Entry, entered, begun, fetched, ended, fetched_by, fetches, is_among}
-use Rattle.wt_expand.specs.Expansion.{Output, just, joined, given, with_break, chars, loop_text, PartOutput, member_count, part_by, part_outputs, target_part, later_parts, Frame, value_of, values_from, parts_work, Reading, default_output, if_value, argument_output, page_output, text_output, called_output, output_of, outputs_of, text_members, text_given, fetched_output, template_output, most_templates, page_reading, page_work}
+use Rattle.wt_expand.specs.Expansion.{Output, just, joined, given, with_break, chars, loop_text, PartOutput, member_count, part_by, part_outputs, target_part, later_parts, Frame, value_of, values_from, parts_work, Reading, default_output, if_value, argument_output, page_output, function_output, text_output, called_output, output_of, outputs_of, text_members, text_given, fetched_output, template_output, most_templates, page_reading, page_work}
 use Rattle.wt_expand.specs.PageCalls.{Stretch, call_stretches, stretches_of, all_stretches, numbered, outer_calls, text_spans, page_stretches, expanded_page}
 
 -- ---- work in parts
@@ -175,11 +177,19 @@ page_same p q m v f g start t xs ys same s h =
     page_by : Output → List PartOutput → Output → Output
     page_by n zs u = given n.work (parts_work zs ++ u.work) (with_break start u.items)
 
+-- a function whose told parts and whose given part fetch what both folders have alike
+function_same : (p q : Pages) (c : Function) (n : ℕ) (start : Bool) (xs ys : List PartOutput) → PartsSame p q xs ys
+    → AgreeOn p q (function_output c n start xs).work → function_output c n start xs ≡ function_output c n start ys
+function_same p q c n start xs ys parts h = ?
+
 text_same : (p q : Pages) (k : ℕ) (source : List ℕ) (os us : List Output) → AllSame p q os us → AgreeOn p q (text_output k source os).work → os ≡ us
 text_same p q k source os us s h = all_equal p q os us s (agree_left p q (joined os).work [] h)
 
+abbrev kind_by : Bool → Bool → Option (Function × ℕ) → Option Title → Called
+kind_by t u w o = if t then argument else (if u then called_function w else called_by o)
+
 pub called_is : (k : ℕ) (source : List ℕ) (target : List Item)
-    → called k source target ≡ (if k == 3 then argument else (if is_function source then function else called_by (title_of_target target)))
+    → called k source target ≡ kind_by (k == 3) (is_function source) (function_of (drop 2 source)) (title_of_target target)
 unfolding called
 called_is k source target = refl
 
@@ -188,9 +198,6 @@ record CallSame (p q : Pages) (r s : Reading) (start : Bool) (k : ℕ) (source :
     (os us : List Output) : Type 0 where
   pub kinds : c ≡ d
   pub outputs : called_output c r start k source xs os ≡ called_output d s start k source ys us
-
-abbrev kind_by : Bool → Bool → Option Title → Called
-kind_by t u o = if t then argument else (if u then function else called_by o)
 
 abbrev title_by : List PartOutput → Option Title
 title_by xs = title_of_target (target_part xs).items
@@ -217,12 +224,13 @@ title_same p q m v f g start k source xs ys os us (Some t) same s parts whole e 
     }
 
 tests_same : (p q : Pages) (m : Mode) (v : Frame) (f g : Title → Frame → Output) (start : Bool) (k : ℕ) (source : List ℕ)
-    (xs ys : List PartOutput) (os us : List Output) (t u : Bool) → TemplatesSame p q f g → AllSame p q os us
-    → PartsSame p q xs ys → (os ≡ us → xs ≡ ys) → AgreeOn p q (called_output (kind_by t u (title_by xs)) (reading m v f) start k source xs os).work
-    → CallSame p q (reading m v f) (reading m v g) start k source (kind_by t u (title_by xs)) (kind_by t u (title_by ys)) xs ys os us
-tests_same p q m v f g start k source xs ys os us true u same s parts whole h = record { kinds = refl; outputs = argument_same p q v xs ys parts h }
-tests_same p q m v f g start k source xs ys os us false true same s parts whole h = record { kinds = refl; outputs = refl }
-tests_same p q m v f g start k source xs ys os us false false same s parts whole h =
+    (xs ys : List PartOutput) (os us : List Output) (t u : Bool) (w : Option (Function × ℕ)) → TemplatesSame p q f g → AllSame p q os us
+    → PartsSame p q xs ys → (os ≡ us → xs ≡ ys) → AgreeOn p q (called_output (kind_by t u w (title_by xs)) (reading m v f) start k source xs os).work
+    → CallSame p q (reading m v f) (reading m v g) start k source (kind_by t u w (title_by xs)) (kind_by t u w (title_by ys)) xs ys os us
+tests_same p q m v f g start k source xs ys os us true u w same s parts whole h = record { kinds = refl; outputs = argument_same p q v xs ys parts h }
+tests_same p q m v f g start k source xs ys os us false true None same s parts whole h = record { kinds = refl; outputs = refl }
+tests_same p q m v f g start k source xs ys os us false true (Some (c, n)) same s parts whole h = record { kinds = refl; outputs = function_same p q c n start xs ys parts h }
+tests_same p q m v f g start k source xs ys os us false false w same s parts whole h =
     title_same p q m v f g start k source xs ys os us (title_by xs) same s parts whole refl h
 
 call_same : (p q : Pages) (m : Mode) (v : Frame) (f g : Title → Frame → Output) (start : Bool) (k : ℕ) (source : List ℕ)
@@ -232,14 +240,14 @@ call_same : (p q : Pages) (m : Mode) (v : Frame) (f g : Title → Frame → Outp
 call_same p q m v f g start k source parts os us xs ys e d same s h =
     let r = reading m v f in
     let A : Called → Type 0 = λ c. AgreeOn p q (called_output c r start k source xs os).work in
-    let P : Called → Type 0 = λ c. CallSame p q r (reading m v g) start k source c (kind_by (k == 3) (is_function source) (title_by ys)) xs ys os us in
+    let P : Called → Type 0 = λ c. CallSame p q r (reading m v g) start k source c (kind_by (k == 3) (is_function source) (function_of (drop 2 source)) (title_by ys)) xs ys os us in
     let Q : Called → Type 0 = λ c. CallSame p q r (reading m v g) start k source (called k source (target_part xs).items) c xs ys os us in
     let R : List PartOutput → Type 0 = λ zs. PartsSame p q zs ys in
     let S : List PartOutput → Type 0 = λ zs. PartsSame p q (part_outputs parts os) zs in
     let whole : os ≡ us → xs ≡ ys = λ z. sym e ∙ ap (part_outputs parts) z ∙ d in
     subst Q (sym (called_is k source (target_part ys).items))
     (subst P (sym (called_is k source (target_part xs).items))
-    (tests_same p q m v f g start k source xs ys os us (k == 3) (is_function source) same s
+    (tests_same p q m v f g start k source xs ys os us (k == 3) (is_function source) (function_of (drop 2 source)) same s
     (subst R e (subst S d (parts_same p q parts os us s))) whole (subst A (called_is k source (target_part xs).items) h)))
 
 -- ---- texts
@@ -309,6 +317,7 @@ template_same p q (suc n) open_titles t v h =
 inside_same : (d : Called) (at k : ℕ) (source : List ℕ) (ms : Members) (xs : List Item) (inside others : List Stretch)
     → (d ≡ text → inside ≡ others) → call_stretches d at k source ms xs inside ≡ call_stretches d at k source ms xs others
 inside_same argument at k source ms xs inside others f = refl
+inside_same (choice c n) at k source ms xs inside others f = refl
 inside_same function at k source ms xs inside others f = refl
 inside_same (page t) at k source ms xs inside others f = refl
 inside_same text at k source ms xs inside others f = ap (call_stretches text at k source ms xs) (f refl)

@@ -1,4 +1,5 @@
 mod Cases
+mod ChoiceCases
 mod ExpansionCases
 pub mod MadePieces
 pub mod PageLaws
