@@ -10,6 +10,8 @@ use Rattle.std.specs.BTreeMap.{insert_entry}
 use Rattle.wt_tree.specs.declared.node.Part.{Part}
 use Rattle.wt_tree.specs.declared.node.Part.TheVariants as part
 use Rattle.wt_span.specs.Origins.{Span, OuterCall}
+use Rattle.wt_functions.specs.declared.function.Function.{Function}
+use Rattle.wt_functions.specs.Functions.{name_of, function_of}
 
 -- ---- texts of a call
 
@@ -68,8 +70,17 @@ abbrev pub target_by : OuterCall → List Span → List ℕ
 target_by c [] = []
 target_by c ((from, to) ∷ ps) = source_slice c from to
 
+-- the function that a call names behind its two braces
+abbrev pub function_named : OuterCall → Option (Function × ℕ)
+function_named c = function_of (drop 2 c.source)
+
+-- a call of two braces: a parser function, or a page with its link
+abbrev pub braces_part : OuterCall → ℕ → Option (Function × ℕ) → Part
+braces_part c i None = part.Template (target_by c c.parts) (text_or_none c.href) (params_of c) i
+braces_part c i (Some (f, n)) = part.Function (name_of f) (target_by c c.parts) (params_of c) i
+
 unfoldable pub call_part : OuterCall → ℕ → Part
-call_part c i = if c.argument then part.Param c.source else part.Template (target_by c c.parts) (text_or_none c.href) (params_of c) i
+call_part c i = if c.argument then part.Param c.source else braces_part c i (function_named c)
 
 abbrev pub next_call : OuterCall → ℕ → ℕ
 next_call c i = if c.argument then i else i + 1

@@ -1,5 +1,5 @@
 //! The walk over the page: its own pieces, its outermost calls and its text calls.
-ghost use Rattle.std.specs.Prelude.{◌≡◌, ◌+◌, ◌≤◌, ◌<◌, ◌∷◌, [], ℕ, List, Bool, None, Some, false, true, IfOk, OnOk, drop, length, slice_get, slice_range};
+ghost use Rattle.std.specs.Prelude.{◌≡◌, ◌+◌, ◌≤◌, ◌<◌, ◌∷◌, [], ℕ, List, Bool, None, Some, false, true, IfOk, OnOk, drop, length, is_some, slice_get, slice_range};
 ghost use Rattle.wt_span.specs.declared.form.Mode.TheVariants as text_mode;
 ghost use Rattle.wt_span.specs.Braces.{Member as TextMember, members};
 ghost use Rattle.wt_span.specs.Items.{items_by};
@@ -12,6 +12,7 @@ ghost use Rattle.wt_transclusion.specs.Answers.{IsCounted};
 ghost use Rattle.wt_transclusion.specs.Asked.{Asks};
 ghost use Rattle.wt_transclusion.specs.Steps.{IsStretchOf, given_from};
 ghost use Rattle.wt_transclusion.specs.Stores.{Concerns, Grows};
+ghost use Rattle.wt_functions.specs.Functions.{function_of};
 ghost use Rattle.wt_levels.specs.Calls.{first_end};
 ghost use Rattle.wt_levels.specs.Ledgers.{ledger};
 ghost use Rattle.wt_levels.specs.Readers.{IsReading};
@@ -25,7 +26,9 @@ use wt_levels::{Expansion, Reader};
 use wt_names::{Title, href_of};
 use wt_outer::Folder;
 use wt_span::{Form, LexKind, Mode, NoMemory};
-use wt_transclusion::{Braces, ExpandRefusal, Next, Values, is_function, title_of_target};
+use wt_transclusion::{
+    Braces, ExpandRefusal, Next, Values, function_named, is_function, title_of_target,
+};
 
 /// More calls than may lie one inside another on a page, whose limit is `NESTED_BRACES` of `wt_braces`.
 pub const MOST_NESTED: u32 = 101;
@@ -90,6 +93,14 @@ fn begins_function(reader: Reader<'_>, call: Braces<'_>) -> Result<bool, NoMemor
 {
     let source = reader.slice(call.at.start, call.at.end)?;
     Ok(is_function(source.as_str().as_bytes()))
+}
+
+/// Whether a call is a function by text.
+fn begins_choice(reader: Reader<'_>, call: Braces<'_>) -> Result<bool, NoMemory>
+    ensures { IfOk result (λ b. b ≡ is_some (function_of (drop 2 (slice_range reader.entry.text.text.now call.entry.at.start call.entry.at.end)))) }
+{
+    let source = reader.slice(call.at.start, call.at.end)?;
+    Ok(function_named(source.as_str().as_bytes()).is_some())
 }
 
 impl<'a> Walk<'a> {
@@ -203,6 +214,9 @@ impl<'a> Walk<'a> {
         }
         let function = begins_function(reader, call)?;
         if function {
+            if begins_choice(reader, call)? {
+                return self.argument(folder, reader, call);
+            }
             push_slice(
                 &mut self.found,
                 reader,

@@ -21,6 +21,12 @@ word_of If = codes "#if:"
 word_of IfEq = codes "#ifeq:"
 word_of Switch = codes "#switch:"
 
+-- its name
+abbrev pub name_of : Function → List ℕ
+name_of If = codes "if"
+name_of IfEq = codes "ifeq"
+name_of Switch = codes "switch"
+
 -- a text begins with a function's word, in any case
 unfoldable pub begins_with : Function → List ℕ → Bool
 begins_with f bs = bytes_eq (lower (take (length (word_of f)) bs)) (word_of f)

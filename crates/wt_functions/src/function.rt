@@ -1,8 +1,8 @@
 //! Which function a call's target names: it begins, past blanks and line breaks, with the function's
 //! word in any case.
-ghost use Rattle.std.specs.Prelude.{◌≡◌, ◌≤◌, drop, length};
+ghost use Rattle.std.specs.Prelude.{◌≡◌, ◌≤◌, ◌<◌, ◌^◌, drop, length};
 ghost use Rattle.std.specs.List.{prefix_len};
-ghost use Rattle.wt_functions.specs.Functions.{is_space, space_len, word_of, begins_with, named, function_of};
+ghost use Rattle.wt_functions.specs.Functions.{is_space, name_of, space_len, word_of, begins_with, named, function_of};
 
 use wt_span::{PAGE_BYTES, front_of};
 
@@ -17,6 +17,17 @@ pub enum Function {
 }
 
 impl Function {
+    /// Its name, in lower case, as the data of a group has it.
+    pub fn name(self) -> &'static str
+        ensures { result.now ≡ name_of self }
+    {
+        match self {
+            Function::If => "if",
+            Function::IfEq => "ifeq",
+            Function::Switch => "switch",
+        }
+    }
+
     /// Its word in a target: `#`, its name and a colon, in lower case.
     pub fn word(self) -> &'static [u8]
         ensures { result.now ≡ word_of self }
@@ -73,16 +84,23 @@ fn named(bytes: &[u8]) -> Option<Function>
     }
 }
 
+/// The same of a target's bytes.
+#[tactic(auto, unfolding(crate::specs::Functions::function_of))]
+pub fn function_in(target: &[u8]) -> Option<(Function, u32)>
+    requires { length target.now < 2 ^ 32 }
+    ensures { result ≡ function_of target.now }
+{
+    let space = space_len(target);
+    let function = named(&target[space..])?;
+    Some((function, (space + function.word().len()) as u32))
+}
+
 /// The function that a call's target names, and the place of the byte behind its colon, in bytes from
 /// the target's start: there part 0 begins. `None` where no function is named; such a call is an
 /// ordinary one, or, where the target begins with `#`, kept as it stands.
-#[tactic(auto, unfolding(crate::specs::Functions::function_of))]
 pub fn function_of(target: &str) -> Option<(Function, u32)>
     requires { length target.now ≤ PAGE_BYTES }
     ensures { result ≡ function_of target.now }
 {
-    let bytes = target.as_bytes();
-    let space = space_len(bytes);
-    let function = named(&bytes[space..])?;
-    Some((function, (space + function.word().len()) as u32))
+    function_in(target.as_bytes())
 }

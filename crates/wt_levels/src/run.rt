@@ -15,14 +15,16 @@ ghost use Rattle.wt_levels.specs.Rests.{after_page, ended_with, next_number};
 ghost use Rattle.wt_levels.specs.Runs.{AnswersGoing, AnswersTurn, BeginsCall, BeginsLevel, HandsParts, HasEnded, Holds, IsRunning, Returns, TakesChunk, TakesPart};
 ghost use Rattle.wt_levels.specs.declared.level.Task.TheVariants as tasks;
 
-use crate::level::{Handing, Level, Levels, Task};
+use crate::level::{Choosing, Handing, Level, Levels, Task};
 use crate::reader::{MOST_BYTES, Reader};
 use std::alloc::Global;
 use wt_braces::PartAt;
+use wt_functions::Ask;
 use wt_span::{Form, LexKind, List, Mode, NoMemory, Piece, Text};
 use wt_transclusion::{
-    Braces, ExpandRefusal, Handed, Next, ReadText, Values, byte_count, charge, is_function,
-    lexeme_piece, name_text, piece_of, spelled, title_of_target, with_break,
+    Braces, ExpandRefusal, Handed, Next, ReadText, Values, byte_count, charge, function_named,
+    is_function, lexeme_piece, name_text, piece_of, spelled, title_of_target, trimmed_items,
+    with_break,
 };
 
 /// What came of a step.
@@ -214,10 +216,32 @@ impl<'a> TextRun<'a> {
         }
         let source = self.reader.slice(call.at.start, call.at.end)?;
         if is_function(source.as_str().as_bytes()) {
-            self.push_function(call, source, level)?;
-            return Ok(());
+            return self.begin_function(call, source, level, spent);
         }
         self.begin_target(call, level)?;
+        Ok(())
+    }
+
+    /// A function begins: one by text, or another, which stands for itself.
+    fn begin_function(
+        &mut self,
+        call: Braces<'a>,
+        source: Text<'a>,
+        level: Level<'a>,
+        spent: &mut u64,
+    ) -> Result<(), ExpandRefusal> {
+        let Some((function, part_0)) = function_named(source.as_str().as_bytes()) else {
+            self.push_function(call, source, level)?;
+            return Ok(());
+        };
+        charge(spent, 1)?;
+        let choosing = Choosing::start(self.alloc, call, function, self.reader)?;
+        let target = first_part(call)?;
+        let Some(at) = target.at.start.checked_add(part_0) else {
+            return Err(ExpandRefusal::NoMemory);
+        };
+        self.levels.push(level)?;
+        self.begin_level(at, target.at.end, Task::Told { choosing })?;
         Ok(())
     }
 
@@ -320,6 +344,14 @@ impl<'a> TextRun<'a> {
                 Ok(Turn::Went)
             }
             Task::Target { call, at_start } => self.end_target(call, at_start, out, spent),
+            Task::Told { choosing } => {
+                self.end_told(choosing, out, spent)?;
+                Ok(Turn::Went)
+            }
+            Task::Given { call, at_start } => {
+                self.end_given(call, at_start, out, spent)?;
+                Ok(Turn::Went)
+            }
             Task::Name { handing, end } => {
                 self.end_name(handing, end, out)?;
                 Ok(Turn::Went)
@@ -382,6 +414,46 @@ impl<'a> TextRun<'a> {
         }
         let own = spelled(self.alloc, out.as_slice())?;
         self.give(call.at.end, own.as_slice(), spent)
+    }
+
+    /// A part of a function is told: the next one is read, or the one that is given.
+    fn end_told(
+        &mut self,
+        choosing: Choosing<'a>,
+        out: List<Piece<'a>>,
+        spent: &mut u64,
+    ) -> Result<(), ExpandRefusal> {
+        let text = name_text(self.alloc, out.as_slice())?;
+        let mut choosing = choosing;
+        choosing.chooser.told(text.as_str())?;
+        match choosing.chooser.ask() {
+            Ask::Tell(part) => {
+                let at = choosing.told_of(part)?;
+                self.begin_level(at.start, at.end, Task::Told { choosing })?;
+                Ok(())
+            }
+            Ask::Give(part) => {
+                let at = choosing.given_of(part)?;
+                self.reader = choosing.begun;
+                let (call, at_start) = (choosing.call, choosing.at_start);
+                self.begin_level(at.start, at.end, Task::Given { call, at_start })?;
+                Ok(())
+            }
+            Ask::Nothing => self.give(choosing.call.at.end, &[], spent),
+        }
+    }
+
+    /// The part that a function gives is read.
+    fn end_given(
+        &mut self,
+        call: Braces<'a>,
+        at_start: bool,
+        out: List<Piece<'a>>,
+        spent: &mut u64,
+    ) -> Result<(), ExpandRefusal> {
+        let out = trimmed_items(self.alloc, out.as_slice())?;
+        let out = with_break(self.alloc, at_start, out)?;
+        self.give(call.at.end, out.as_slice(), spent)
     }
 
     /// The target of a call is read: a page is called, or the call is text.
