@@ -4,7 +4,7 @@ ghost use Rattle.std.specs.Prelude.{◌≡◌, ◌≤◌, ◌<◌, ◌^◌, drop
 ghost use Rattle.std.specs.List.{prefix_len};
 ghost use Rattle.wt_functions.specs.Functions.{is_space, name_of, space_len, word_of, begins_with, named, function_of};
 
-use wt_span::{PAGE_BYTES, front_of};
+use wt_span::{PAGE_BYTES, front_of, rest_of};
 
 /// A parser function. `If` gives its part 1 or 2 by whether the text of part 0 isn't empty, `IfEq` its
 /// part 2 or 3 by whether those of parts 0 and 1 are equal, `Switch` a part that is found by the text
@@ -91,7 +91,7 @@ pub fn function_in(target: &[u8]) -> Option<(Function, u32)>
     ensures { result ≡ function_of target.now }
 {
     let space = space_len(target);
-    let function = named(&target[space..])?;
+    let function = named(rest_of(target, space))?;
     Some((function, (space + function.word().len()) as u32))
 }
 
