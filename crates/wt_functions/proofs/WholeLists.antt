@@ -88,3 +88,25 @@ asks_along f es xs all m most =
     let l : m ≤ length xs = omega (arith, count_within f es xs all) in
     let len : length (take m xs) ≡ m = length-take m xs ∙ (let q : min m (length xs) ≡ m = omega arith in q) in
     along_by f es xs m (nat_lt (length (take m xs)) (told_count f es (take m xs))) all most l len refl
+
+-- lists of texts that begin alike, as far as the first tells, are told and given alike
+pub told_alike : (f : Function) (es : List Bool) (xs ys : List (List ℕ)) → length xs ≡ length es + 1 → length ys ≡ length es + 1
+    → take (told_count f es xs) xs ≡ take (told_count f es xs) ys → Alike f es xs ys
+told_alike f es xs ys all every e =
+    let n : ℕ = told_count f es xs in
+    let l : n ≤ length xs = count_within f es xs all in
+    let len : length (take n xs) ≡ n = length-take n xs ∙ (let q : min n (length xs) ≡ n = omega arith in q) in
+    let enough : told_count f es (take n xs) ≤ length (take n xs) = enough_by f es xs n all l len (nat_lt n (told_count f es (take n xs))) refl refl in
+    let a : Alike f es (take n xs) xs = beginning f es xs (take n xs) (drop n xs) (take-append-drop n xs) enough all in
+    let b : Alike f es (take n xs) ys = beginning f es ys (take n xs) (drop n ys) (ap (λ ts. ts ++ drop n ys) e ∙ take-append-drop n ys) enough every in
+    record { count = b.count ∙ sym a.count; part = b.part ∙ sym a.part }
+  where
+    beginning : (f : Function) (es : List Bool) (all ts more : List (List ℕ)) → ts ++ more ≡ all → told_count f es ts ≤ length ts → length all ≡ length es + 1 → Alike f es ts all
+    beginning f es all ts more e h l = subst (λ us. Alike f es ts us) e (alike f es ts more h (rw e (omega arith)))
+
+    enough_by : (f : Function) (es : List Bool) (xs : List (List ℕ)) (n : ℕ) → length xs ≡ length es + 1 → n ≤ length xs → length (take n xs) ≡ n
+        → (b : Bool) → nat_lt n (told_count f es (take n xs)) ≡ b → n ≡ told_count f es xs → told_count f es (take n xs) ≤ length (take n xs)
+    enough_by f es xs n all l len true e h =
+        let below : n < told_count f es xs = still_open f es xs n all l len (ltb-true n (told_count f es (take n xs)) e) in absurd (omega arith)
+    enough_by f es xs n all l len false e h =
+        let below : told_count f es (take n xs) ≤ n = ltb-false n (told_count f es (take n xs)) e in omega arith
