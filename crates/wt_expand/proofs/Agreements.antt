@@ -292,10 +292,10 @@ function_same p q c n start xs ys parts h =
     let part : Option ℕ = chosen c es (texts_of told) in
     let inside = agree_inside p q [] ((joined (take count told)).work ++ (chosen_output c part xs).work) _ h in
     let tells : take count told ≡ take count others =
-        all_equal p q (take count told) (take count others) (take_same p q count told others (tells_same p q c n xs ys parts))
-        (agree_left p q (joined (take count told)).work (chosen_output c part xs).work inside) in
+    all_equal p q (take count told) (take count others) (take_same p q count told others (tells_same p q c n xs ys parts))
+    (agree_left p q (joined (take count told)).work (chosen_output c part xs).work inside) in
     let gives : chosen_output c part xs ≡ chosen_output c part ys =
-        chosen_same p q c part xs ys parts (agree_right p q (joined (take count told)).work (chosen_output c part xs).work inside) in
+    chosen_same p q c part xs ys parts (agree_right p q (joined (take count told)).work (chosen_output c part xs).work inside) in
     let texts : take count (texts_of told) ≡ take count (texts_of others) = take_texts count told ∙ ap texts_of tells ∙ sym (take_texts count others) in
     let every : length (texts_of others) ≡ length es + 1 = tell_count c n ys ∙ ap (λ bs. length bs + 1) (sym names) in
     let a : Alike c es (texts_of told) (texts_of others) = told_alike c es (texts_of told) (texts_of others) (tell_count c n xs) every texts in

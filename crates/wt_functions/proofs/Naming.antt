@@ -46,7 +46,7 @@ named_word bs f h = first_by (λ g. lower (take (length (word_of g)) bs) ≡ wor
 pub named_fits : (bs : List ℕ) (f : Function) → named bs ≡ Some f → length (word_of f) ≤ length bs
 named_fits bs f h =
     let e : length (take (length (word_of f)) bs) ≡ length (word_of f) =
-        sym (length_lower (take (length (word_of f)) bs)) ∙ ap length (named_word bs f h) in
+    sym (length_lower (take (length (word_of f)) bs)) ∙ ap length (named_word bs f h) in
     omega (arith, length-take (length (word_of f)) bs)
 
 abbrev pair_at : List ℕ → Function → Function × ℕ
