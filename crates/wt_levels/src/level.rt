@@ -138,7 +138,12 @@ pub enum Task<'a> {
         call: Braces<'a>,
         at_start: bool,
     },
-    /// A part of a function that is told.
+    /// The target of a function, which has its part 0 behind so many bytes.
+    First {
+        choosing: Choosing<'a>,
+        part_0: u32,
+    },
+    /// A later part of a function that is told.
     Told {
         choosing: Choosing<'a>,
     },

@@ -22,9 +22,9 @@ use wt_braces::PartAt;
 use wt_functions::Ask;
 use wt_span::{Form, LexKind, List, Mode, NoMemory, Piece, Text};
 use wt_transclusion::{
-    Braces, ExpandRefusal, Handed, Next, ReadText, Values, byte_count, charge, function_named,
-    is_function, lexeme_piece, name_text, piece_of, spelled, title_of_target, trimmed_items,
-    with_break,
+    Braces, ExpandRefusal, Handed, Next, ReadText, Values, behind_items, byte_count, charge,
+    function_named, is_function, lexeme_piece, name_text, piece_of, spelled, title_of_target,
+    trimmed_items, with_break,
 };
 
 /// What came of a step.
@@ -237,11 +237,8 @@ impl<'a> TextRun<'a> {
         charge(spent, 1)?;
         let choosing = Choosing::start(self.alloc, call, function, self.reader)?;
         let target = first_part(call)?;
-        let Some(at) = target.at.start.checked_add(part_0) else {
-            return Err(ExpandRefusal::NoMemory);
-        };
         self.levels.push(level)?;
-        self.begin_level(at, target.at.end, Task::Told { choosing })?;
+        self.begin_within(target, Task::First { choosing, part_0 })?;
         Ok(())
     }
 
@@ -344,6 +341,11 @@ impl<'a> TextRun<'a> {
                 Ok(Turn::Went)
             }
             Task::Target { call, at_start } => self.end_target(call, at_start, out, spent),
+            Task::First { choosing, part_0 } => {
+                let out = behind_items(self.alloc, out.as_slice(), part_0)?;
+                self.end_told(choosing, out, spent)?;
+                Ok(Turn::Went)
+            }
             Task::Told { choosing } => {
                 self.end_told(choosing, out, spent)?;
                 Ok(Turn::Went)

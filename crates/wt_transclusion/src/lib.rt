@@ -31,5 +31,5 @@ pub use refusal::ExpandRefusal;
 pub use store::Store;
 pub use target::{function_named, is_function, title_of_target};
 pub use templates::{Taken, take};
-pub use trim::trimmed_items;
+pub use trim::{behind_items, trimmed_items};
 pub use values::Values;
