@@ -262,13 +262,13 @@ chosen_same : (p q : Pages) (c : Function) (part : Option ℕ) (xs ys : List Par
 chosen_same p q c None xs ys s h = refl
 chosen_same p q c (Some k) xs ys s h = first_same p q c (drop k xs) (drop k ys) (parts_drop p q k xs ys s) h
 
-abbrev texts_of : List Output → List (List ℕ)
+abbrev pub texts_of : List Output → List (List ℕ)
 texts_of os = map (λ o. name_text o.items) os
 
 take_texts : (n : ℕ) (os : List Output) → take n (texts_of os) ≡ texts_of (take n os)
 take_texts n os = take-map (λ (o : Output). name_text o.items) n os
 
-tell_count : (c : Function) (n : ℕ) (xs : List PartOutput) → length (texts_of (told_outputs c n xs)) ≡ length (map (λ x. is_some x.name) (later_parts xs)) + 1
+pub tell_count : (c : Function) (n : ℕ) (xs : List PartOutput) → length (texts_of (told_outputs c n xs)) ≡ length (map (λ x. is_some x.name) (later_parts xs)) + 1
 tell_count c n xs = counts (later_parts xs)
   where
     counts : (ps : List PartOutput) → suc (length (texts_of (map (λ x. told_by c x.name x.all) ps))) ≡ length (map (λ x. is_some x.name) ps) + 1

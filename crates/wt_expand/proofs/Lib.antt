@@ -12,3 +12,4 @@ pub mod Absent
 pub mod Names
 pub mod ShownPieces
 pub mod TextLaws
+pub mod Turns

@@ -11,3 +11,4 @@ pub mod Templates
 pub mod Texts
 pub mod Trimmed
 pub mod Work
+pub mod Asking

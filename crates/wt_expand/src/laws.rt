@@ -8,9 +8,12 @@ ghost use Rattle.wt_span.specs.Origins.{AreItems, OuterCall, Span, once, span_of
 ghost use Rattle.wt_span.specs.declared.form.Piece.{Piece as PieceAt};
 ghost use Rattle.wt_names.specs.declared.title.Title.{Title as TitleOf};
 ghost use Rattle.wt_names.specs.Namespace.{full_name_of};
+ghost use Rattle.std.specs.Prelude.{Bool as BoolOf};
+ghost use Rattle.wt_functions.specs.declared.function.Function.{Function as FunctionOf};
+ghost use Rattle.wt_expand.specs.Asking.{AsksInTurn};
 ghost use Rattle.wt_expand.specs.Agreement.{AgreeOn};
 ghost use Rattle.wt_expand.specs.Asked.{AreArguments, AreOnce, IsLonger};
-ghost use Rattle.wt_expand.specs.Expansion.{Frame, value_of, absent_text, chars, page_reading, page_work, template_output, text_given, text_members};
+ghost use Rattle.wt_expand.specs.Expansion.{Frame, PartOutput, value_of, absent_text, chars, page_reading, page_work, template_output, text_given, text_members};
 ghost use Rattle.wt_expand.specs.PageCalls.{expanded_page};
 ghost use Rattle.wt_expand.specs.PageItems.{page_items};
 ghost use Rattle.wt_expand.specs.PiecePlaces.{BeginFrom, end_of_spans};
@@ -84,6 +87,12 @@ pub fn arguments_fetch_nothing()
 pub fn trimmed_ends()
     ensures texts { (text : List ℕ) → IsTrimmed is_space text (trimmed text) }
     ensures items { (xs : List Item) → IsTrimmed (is_char_in is_space) xs (trimmed_items xs) }
+{}
+
+/// A function begins, asks for its parts one after the other, each decided by the texts before it, and
+/// ends with the part that is given. So only what is asked for is in its work, in this order.
+pub fn functions_ask_in_turn()
+    ensures { (f : FunctionOf) (n : ℕ) (at_start : BoolOf) (ps : List PartOutput) → AsksInTurn f n at_start ps }
 {}
 
 /// Of several values of a name the last one counts.

@@ -73,7 +73,7 @@ along_by f es xs m false all most l len e =
     ∙ ap given (sym part)
     ∙ sym (give_when (nat_lt m (told_count f es xs)) m (chosen f es xs) (le-ltb m (told_count f es xs) (omega arith)))
 
-count_within : (f : Function) (es : List Bool) (xs : List (List ℕ)) → length xs ≡ length es + 1 → told_count f es xs ≤ length xs
+pub count_within : (f : Function) (es : List Bool) (xs : List (List ℕ)) → length xs ≡ length es + 1 → told_count f es xs ≤ length xs
 unfolding told_count
 count_within If es xs h = omega arith
 count_within IfEq es xs h = let m : min 1 (length es) ≤ length es = omega arith in omega arith
