@@ -10,8 +10,8 @@ use Rattle.std.specs.BTreeMap.{insert_entry}
 use Rattle.wt_tree.specs.declared.node.Part.{Part}
 use Rattle.wt_tree.specs.declared.node.Part.TheVariants as part
 use Rattle.wt_span.specs.Origins.{Span, OuterCall}
-use Rattle.wt_functions.specs.declared.function.Function.{Function}
-use Rattle.wt_functions.specs.Functions.{name_of, function_of}
+use Rattle.wt_span.specs.declared.function.Function.{Function}
+use Rattle.wt_span.specs.Functions.{name_of, function_of}
 
 -- ---- texts of a call
 

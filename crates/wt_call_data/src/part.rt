@@ -7,7 +7,7 @@ ghost use Rattle.wt_call_data.specs.CallData.{call_part, function_named, next_ca
 use crate::call_text::source_slice;
 use crate::param::params;
 use std::alloc::Global;
-use wt_functions::{Function, function_in};
+use wt_functions::function_in;
 use wt_span::{NoMemory, Outer, Str, rest_of};
 use wt_tree::Part;
 

@@ -14,10 +14,10 @@ use Rattle.wt_names.specs.Namespace.{full_name_of}
 use Rattle.wt_braces.specs.PartMembers.{PartMembers, part_members}
 use Rattle.wt_expand.specs.Agreement.{AgreeOn}
 use Rattle.wt_expand.specs.Texts.{name_text, trimmed_items}
-use Rattle.wt_functions.specs.declared.function.Function.{Function}
-use Rattle.wt_functions.specs.declared.function.Function.TheVariants.{If, IfEq, Switch}
+use Rattle.wt_span.specs.declared.function.Function.{Function}
+use Rattle.wt_span.specs.declared.function.Function.TheVariants.{If, IfEq, Switch}
 use Rattle.wt_functions.specs.Choice.{told_count, chosen}
-use Rattle.wt_functions.specs.Functions.{function_of}
+use Rattle.wt_span.specs.Functions.{function_of}
 use Rattle.wt_functions.proofs.ChoiceLaws.{Alike}
 use Rattle.wt_functions.proofs.WholeLists.{told_alike}
 use Rattle.wt_expand.specs.Targets.{Called, argument, choice, function, page, text, called, called_function, called_by, title_of_target, is_function}

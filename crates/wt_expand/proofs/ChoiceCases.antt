@@ -14,7 +14,7 @@ use Rattle.wt_names.specs.Good.{is_forbidden, is_allowed, has_signature, is_step
 use Rattle.wt_names.specs.Namespace.{name_of, image, is_called, namespace_named, prefix_of, full_name_of}
 use Rattle.wt_names.specs.Reading.{whole_in, cut_namespace, title_in}
 use Rattle.wt_names.specs.Written.{link_text, link_to, stays_in_link}
-use Rattle.wt_functions.specs.Functions.{function_of, begins_with}
+use Rattle.wt_span.specs.Functions.{function_of, begins_with}
 use Rattle.wt_functions.specs.Choice.{told_count, chosen, equal_part, last_whole}
 use Rattle.wt_expand.specs.PageCalls.{page_stretches, expanded_page}
 use Rattle.wt_expand.specs.Texts.{trimmed, trimmed_items, name_text, shown_text}

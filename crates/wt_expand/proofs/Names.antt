@@ -10,7 +10,7 @@ use Rattle.wt_span.specs.Braces.{Member, Members, lexeme, call, none, more, widt
 use Rattle.wt_braces.specs.PartMembers.{PartMembers, part_members}
 use Rattle.wt_expand.specs.Asked.{AreOnce, IsLonger, IsArgument, AreArguments}
 use Rattle.wt_expand.specs.Texts.{name_text}
-use Rattle.wt_functions.specs.Functions.{function_of}
+use Rattle.wt_span.specs.Functions.{function_of}
 use Rattle.wt_expand.specs.Targets.{Called, argument, function, called, called_function, called_by, title_of_target, is_function}
 use Rattle.wt_expand.specs.Work.{Pages, Entry, ended, fetches, is_among, firsts_after, names_asked}
 use Rattle.wt_expand.specs.Expansion.{Output, joined, PartOutput, member_count, part_by, part_outputs, target_part, later_parts, value_of, Reading, default_output, if_value, argument_output, called_output, output_of, outputs_of, text_members, page_reading, page_work}

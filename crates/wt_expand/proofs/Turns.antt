@@ -3,7 +3,7 @@ use Rattle.std.proofs.Common.{◌≡◌, refl, sym, ◌∙◌, ap, subst, ℕ, z
 use Rattle.std.proofs.lemmas.Bool.{le-ltb, lt-ltb}
 use Rattle.std.proofs.lemmas.List.{length-map}
 use Rattle.std.specs.Prelude.{is_some}
-use Rattle.wt_functions.specs.declared.function.Function.{Function}
+use Rattle.wt_span.specs.declared.function.Function.{Function}
 use Rattle.wt_functions.specs.declared.chooser.Ask.{Ask}
 use Rattle.wt_functions.specs.declared.chooser.Ask.TheVariants.{Tell, Give, Nothing}
 use Rattle.wt_functions.specs.Choice.{asked, chosen, told_count, given as gives}

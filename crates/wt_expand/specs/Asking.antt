@@ -1,6 +1,6 @@
 -- What a function gives, told part after part.
 use Rattle.std.specs.Prelude.{◌≡◌, ℕ, Bool, Option, Some, None, List, [], ◌∷◌, ◌++◌, map, take, is_some}
-use Rattle.wt_functions.specs.declared.function.Function.{Function}
+use Rattle.wt_span.specs.declared.function.Function.{Function}
 use Rattle.wt_functions.specs.declared.chooser.Ask.{Ask}
 use Rattle.wt_functions.specs.declared.chooser.Ask.TheVariants.{Tell, Give, Nothing}
 use Rattle.wt_functions.specs.Choice.{asked}

@@ -15,8 +15,8 @@ use Rattle.wt_span.specs.Braces.{Member, Members, lexeme, call, none, more, memb
 use Rattle.wt_names.specs.declared.title.Title.{Title}
 use Rattle.wt_names.specs.Namespace.{full_name_of}
 use Rattle.wt_braces.specs.PartMembers.{PartMembers, part_members}
-use Rattle.wt_functions.specs.declared.function.Function.{Function}
-use Rattle.wt_functions.specs.declared.function.Function.TheVariants.{If, IfEq, Switch}
+use Rattle.wt_span.specs.declared.function.Function.{Function}
+use Rattle.wt_span.specs.declared.function.Function.TheVariants.{If, IfEq, Switch}
 use Rattle.wt_functions.specs.Choice.{chosen, told_count}
 use Rattle.wt_expand.specs.PageItems.{form_of}
 use Rattle.wt_expand.specs.Texts.{trimmed_items, name_text}

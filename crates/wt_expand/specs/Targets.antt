@@ -6,8 +6,8 @@ use Rattle.wt_names.specs.declared.namespace.Ns.{Ns}
 use Rattle.wt_names.specs.declared.namespace.Ns.TheVariants as ns
 use Rattle.wt_names.specs.declared.title.Title.{Title}
 use Rattle.wt_names.specs.Good.{is_good, read_text}
-use Rattle.wt_functions.specs.declared.function.Function.{Function}
-use Rattle.wt_functions.specs.Functions.{function_of}
+use Rattle.wt_span.specs.declared.function.Function.{Function}
+use Rattle.wt_span.specs.Functions.{function_of}
 use Rattle.wt_expand.specs.Texts.{is_space, without_front, trimmed, target_text}
 
 abbrev pub is_main : Ns → Bool

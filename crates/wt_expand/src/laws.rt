@@ -9,7 +9,7 @@ ghost use Rattle.wt_span.specs.declared.form.Piece.{Piece as PieceAt};
 ghost use Rattle.wt_names.specs.declared.title.Title.{Title as TitleOf};
 ghost use Rattle.wt_names.specs.Namespace.{full_name_of};
 ghost use Rattle.std.specs.Prelude.{Bool as BoolOf};
-ghost use Rattle.wt_functions.specs.declared.function.Function.{Function as FunctionOf};
+ghost use Rattle.wt_span.specs.declared.function.Function.{Function as FunctionOf};
 ghost use Rattle.wt_expand.specs.Asking.{AsksInTurn};
 ghost use Rattle.wt_expand.specs.Agreement.{AgreeOn};
 ghost use Rattle.wt_expand.specs.Asked.{AreArguments, AreOnce, IsLonger};

@@ -12,7 +12,7 @@ ghost use Rattle.wt_transclusion.specs.Answers.{IsCounted};
 ghost use Rattle.wt_transclusion.specs.Asked.{Asks};
 ghost use Rattle.wt_transclusion.specs.Steps.{IsStretchOf, given_from};
 ghost use Rattle.wt_transclusion.specs.Stores.{Concerns, Grows};
-ghost use Rattle.wt_functions.specs.Functions.{function_of};
+ghost use Rattle.wt_span.specs.Functions.{function_of};
 ghost use Rattle.wt_levels.specs.Calls.{first_end};
 ghost use Rattle.wt_levels.specs.Ledgers.{ledger};
 ghost use Rattle.wt_levels.specs.Readers.{IsReading};

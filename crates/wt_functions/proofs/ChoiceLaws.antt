@@ -8,8 +8,8 @@ use Rattle.std.proofs.lemmas.Slice.Eq.{bytes_eq-Decides}
 use Rattle.std.specs.List.{position}
 use Rattle.std.specs.Option.{option_map, option_or, option_and_then, is_some, unwrap_or}
 use Rattle.std.specs.Str.{bytes_eq}
-use Rattle.wt_functions.specs.declared.function.Function.{Function}
-use Rattle.wt_functions.specs.declared.function.Function.TheVariants.{If, IfEq, Switch}
+use Rattle.wt_span.specs.declared.function.Function.{Function}
+use Rattle.wt_span.specs.declared.function.Function.TheVariants.{If, IfEq, Switch}
 use Rattle.wt_functions.specs.declared.chooser.Ask.TheVariants.{Tell, Give}
 use Rattle.wt_functions.specs.Choice.{Telling, text_at, if_there, equal_part, value_from, last_whole, is_default, last_default, chosen, told_count, given, asked}
 use Rattle.wt_functions.specs.Laws.{IsNeeded, with_more}

@@ -11,9 +11,9 @@ use Rattle.std.specs.List.{AllPass}
 use Rattle.std.specs.Option.{option_map}
 use Rattle.std.specs.Str.{bytes_eq}
 use Rattle.wt_span.specs.Bytes.{lower}
-use Rattle.wt_functions.specs.declared.function.Function.{Function}
-use Rattle.wt_functions.specs.declared.function.Function.TheVariants.{If, IfEq, Switch}
-use Rattle.wt_functions.specs.Functions.{is_space, space_len, word_of, begins_with, named, function_of}
+use Rattle.wt_span.specs.declared.function.Function.{Function}
+use Rattle.wt_span.specs.declared.function.Function.TheVariants.{If, IfEq, Switch}
+use Rattle.wt_span.specs.Functions.{is_space, space_len, word_of, begins_with, named, function_of}
 use Rattle.wt_functions.specs.Laws.{Names}
 
 -- ---- a function that is named has its word there

@@ -2,10 +2,10 @@
 use Rattle.std.specs.Prelude.{Bool, ◌≡◌, ℕ, ◌+◌, ◌<◌, ◌≤◌, List, ◌++◌, length, take, nat_lt, if◌then◌else◌}
 use Rattle.wt_span.specs.Bytes.{lower}
 use Rattle.std.specs.List.{AllPass}
-use Rattle.wt_functions.specs.declared.function.Function.{Function}
-use Rattle.wt_functions.specs.declared.function.Function.TheVariants.{If, IfEq, Switch}
+use Rattle.wt_span.specs.declared.function.Function.{Function}
+use Rattle.wt_span.specs.declared.function.Function.TheVariants.{If, IfEq, Switch}
 use Rattle.wt_functions.specs.declared.chooser.Ask.TheVariants.{Tell, Give}
-use Rattle.wt_functions.specs.Functions.{is_space, word_of}
+use Rattle.wt_span.specs.Functions.{is_space, word_of}
 use Rattle.wt_functions.specs.Choice.{Telling, text_at, told_count, chosen, given, asked}
 
 -- A target that names a function: blanks and line breaks, the function's word in any case, and anything; part 0 begins behind

@@ -2,43 +2,9 @@
 //! word in any case.
 ghost use Rattle.std.specs.Prelude.{◌≡◌, ◌≤◌, ◌<◌, ◌^◌, drop, length};
 ghost use Rattle.std.specs.List.{prefix_len};
-ghost use Rattle.wt_functions.specs.Functions.{is_space, name_of, space_len, word_of, begins_with, named, function_of};
+ghost use Rattle.wt_span.specs.Functions.{is_space, space_len, begins_with, named, function_of};
 
-use wt_span::{PAGE_BYTES, front_of, rest_of};
-
-/// A parser function. `If` gives its part 1 or 2 by whether the text of part 0 isn't empty, `IfEq` its
-/// part 2 or 3 by whether those of parts 0 and 1 are equal, `Switch` a part that is found by the text
-/// of part 0.
-#[derive(Clone, Copy, Debug, PartialEq, Eq)]
-pub enum Function {
-    If,
-    IfEq,
-    Switch,
-}
-
-impl Function {
-    /// Its name, in lower case, as the data of a group has it.
-    pub fn name(self) -> &'static str
-        ensures { result.now ≡ name_of self }
-    {
-        match self {
-            Function::If => "if",
-            Function::IfEq => "ifeq",
-            Function::Switch => "switch",
-        }
-    }
-
-    /// Its word in a target: `#`, its name and a colon, in lower case.
-    pub fn word(self) -> &'static [u8]
-        ensures { result.now ≡ word_of self }
-    {
-        match self {
-            Function::If => b"#if:",
-            Function::IfEq => b"#ifeq:",
-            Function::Switch => b"#switch:",
-        }
-    }
-}
+use wt_span::{Function, PAGE_BYTES, front_of, rest_of};
 
 /// A space, a tab or a line break.
 fn is_space(byte: u8) -> bool
@@ -61,7 +27,7 @@ fn space_len(bytes: &[u8]) -> usize
 }
 
 /// Whether a text begins with the word of a function.
-#[tactic(auto, using(std::proofs::lemmas::List::take_min), unfolding(crate::specs::Functions::begins_with))]
+#[tactic(auto, using(std::proofs::lemmas::List::take_min), unfolding(wt_span::specs::Functions::begins_with))]
 fn begins_with(function: Function, bytes: &[u8]) -> bool
     ensures { result ≡ begins_with function bytes.now }
 {
@@ -85,7 +51,7 @@ fn named(bytes: &[u8]) -> Option<Function>
 }
 
 /// The same of a target's bytes.
-#[tactic(auto, unfolding(crate::specs::Functions::function_of))]
+#[tactic(auto, unfolding(wt_span::specs::Functions::function_of))]
 pub fn function_in(target: &[u8]) -> Option<(Function, u32)>
     requires { length target.now < 2 ^ 32 }
     ensures { result ≡ function_of target.now }

@@ -1,7 +1,7 @@
 //! What holds of every function call, for whoever calls these functions.
 ghost use Rattle.std.specs.Prelude.{◌≡◌, ◌+◌, ℕ, Bool, List, Some, length, ◌↔◌};
-ghost use Rattle.wt_functions.specs.declared.function.Function.{Function};
-ghost use Rattle.wt_functions.specs.Functions.{function_of};
+ghost use Rattle.wt_span.specs.declared.function.Function.{Function};
+ghost use Rattle.wt_span.specs.Functions.{function_of};
 ghost use Rattle.wt_functions.specs.Laws.{Names, TellsInOrder, GivesAPart, TellsWhatIsNeeded, IsForGood, AsksAlong};
 
 use crate::chooser::Chooser;

@@ -6,12 +6,12 @@ ghost use Rattle.wt_names.specs.declared.namespace.Ns.TheVariants as spaces;
 ghost use Rattle.wt_span.specs.Items.{items, items_of};
 ghost use Rattle.wt_expand.specs.Texts.{target_of_form, target_text, both};
 ghost use Rattle.wt_expand.specs.Targets.{as_template, if_good, is_function, is_main, is_template, placed_title, title_behind, title_in_target, title_of_target, without_fragment};
-ghost use Rattle.wt_functions.specs.Functions.{function_of};
+ghost use Rattle.wt_span.specs.Functions.{function_of};
 ghost use Rattle.wt_transclusion.specs.Target.{PushesTarget, is_that_template};
 
 use crate::blanks::{behind, front_len, trimmed};
 use std::alloc::Global;
-use wt_functions::{Function, function_in};
+use wt_functions::function_in;
 use wt_names::{Ns, Title, read_title};
 use wt_span::{Form, NoMemory, Piece, Str, rest_of};
 

@@ -1,5 +1,5 @@
 use Rattle.std.proofs.Common.{◌≡◌, sym, ◌∙◌, ap, rules, arith, ◌≤◌, ◌+◌, ◌-◌, ℕ, List, Some, length, drop, length-drop}
-use Rattle.wt_functions.specs.Functions.{word_of, named}
+use Rattle.wt_span.specs.Functions.{word_of, named}
 use Rattle.wt_functions.proofs.Naming.{named_fits}
 use Rattle.wt_functions.proofs.function.function_in.Goals as goal
 
