@@ -8,7 +8,7 @@ use crate::call_text::source_slice;
 use crate::param::params;
 use std::alloc::Global;
 use wt_functions::function_in;
-use wt_span::{NoMemory, Outer, Str, rest_of};
+use wt_span::{Function, NoMemory, Outer, Str, rest_of};
 use wt_tree::Part;
 
 /// The target of a call, as it is written.

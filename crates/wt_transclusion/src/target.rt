@@ -13,7 +13,7 @@ use crate::blanks::{behind, front_len, trimmed};
 use std::alloc::Global;
 use wt_functions::function_in;
 use wt_names::{Ns, Title, read_title};
-use wt_span::{Form, NoMemory, Piece, Str, rest_of};
+use wt_span::{Form, Function, NoMemory, Piece, Str, rest_of};
 
 /// Appends what a piece says in a target: characters, an entity's character, nothing for marks. It
 /// answers false where the piece can't stand in one.
