@@ -75,12 +75,12 @@ along_by f es ps all m left (o ∷ os) d long same most e next =
     let count : ℕ = told_count f es (texts_of all) in
     let c : Option ℕ = chosen f es (texts_of all) in
     let tell : asked (record { function = f; equals = es; texts = take m (texts_of all) }) ≡ Tell m =
-        asks_along f es (texts_of all) long m (omega arith) ∙ by_told (nat_lt m count) m c (lt-ltb m count (omega arith)) in
+    asks_along f es (texts_of all) long m (omega arith) ∙ by_told (nat_lt m count) m c (lt-ltb m count (omega arith)) in
     let texts : take m (texts_of all) ++ name_text o.items ∷ [] ≡ take (suc m) (texts_of all) = more_texts m all o os d in
     let after : drop (suc m) all ≡ os = behind m all o os d in
     let here : asking f es ps (take m (texts_of all) ++ name_text o.items ∷ []) os ≡ behind_work (joined (take left os)).work (chosen_output f c ps) =
-        ap (λ ts. asking f es ps ts os) texts ∙ ap (asking f es ps (take (suc m) (texts_of all))) (sym after) ∙ next
-        ∙ ap (λ us. behind_work (joined (take left us)).work (chosen_output f c ps)) after in
+    ap (λ ts. asking f es ps ts os) texts ∙ ap (asking f es ps (take (suc m) (texts_of all))) (sym after) ∙ next
+    ∙ ap (λ us. behind_work (joined (take left us)).work (chosen_output f c ps)) after in
     ap (λ a. next_of a f ps o (asking f es ps (take m (texts_of all) ++ name_text o.items ∷ []) os)) tell
     ∙ ap (λ (u : Output). record { items = u.items; work = o.work ++ u.work }) here
     ∙ ap (λ (es : List Entry). record { items = (chosen_output f c ps).items; work = es }) (sym (append_assoc o.work (joined (take left os)).work (chosen_output f c ps).work))
@@ -90,8 +90,8 @@ along : (f : Function) (es : List Bool) (ps : List PartOutput) (all : List Outpu
 along f es ps all m zero long same most e =
     let count : ℕ = told_count f es (texts_of all) in
     let stop : asked (record { function = f; equals = es; texts = take m (texts_of all) }) ≡ gives (chosen f es (texts_of all)) =
-        asks_along f es (texts_of all) long m (omega arith)
-        ∙ by_asked (nat_lt m count) m m (chosen f es (texts_of all)) (le-ltb m count (omega arith)) in
+    asks_along f es (texts_of all) long m (omega arith)
+    ∙ by_asked (nat_lt m count) m m (chosen f es (texts_of all)) (le-ltb m count (omega arith)) in
     ends_here f es ps (take m (texts_of all)) (chosen f es (texts_of all)) (drop m all) stop
 along f es ps all m (suc left) long same most e =
     let q : suc m + left ≡ told_count f es (texts_of all) = omega arith in

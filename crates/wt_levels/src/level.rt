@@ -7,9 +7,8 @@ use crate::reader::Reader;
 use std::alloc::Global;
 use wt_braces::PartAt;
 use wt_functions::Chooser;
-use wt_span::Function;
 use wt_names::Title;
-use wt_span::{List, NoMemory, Piece, Range};
+use wt_span::{Function, List, NoMemory, Piece, Range};
 use wt_transclusion::{Braces, Handed};
 
 /// A call of a page whose values are being read.
