@@ -102,6 +102,6 @@ asks_in_turn f n at_start ps =
     let all : List Output = told_outputs f n ps in
     let es : List Bool = have_names ps in
     let long : length (texts_of all) ≡ length es + 1 = tell_count f n ps in
-    let same : length all ≡ length (texts_of all) = sym (length-map (λ (o : Output). name_text o.items) all) in
+    let same : length all ≡ length (texts_of all) = sym (length-map all (λ (o : Output). name_text o.items)) in
     let most : told_count f es (texts_of all) ≤ length all = let w : told_count f es (texts_of all) ≤ length (texts_of all) = count_within f es (texts_of all) long in omega arith in
     ap (λ (o : Output). given [] o.work (with_break at_start (trimmed_items o.items))) (sym (along f es ps all 0 (told_count f es (texts_of all)) long same most (let q : 0 + told_count f es (texts_of all) ≡ told_count f es (texts_of all) = omega arith in q)))
