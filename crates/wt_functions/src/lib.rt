@@ -13,3 +13,4 @@ pub use function::{function_in, function_of};
 pub use laws::{
     asks_along, given_for_good, named_by_its_word, nothing_behind_equal, parts_in_order,
 };
+pub use wt_span::Function;
