@@ -1,4 +1,5 @@
 pub mod AskedLaws
+pub mod Behind
 pub mod ChunkLaws
 pub mod Chunks
 pub mod Counts

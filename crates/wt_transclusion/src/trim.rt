@@ -1,5 +1,5 @@
 //! Values without the blanks and line breaks at their ends.
-ghost use Rattle.std.specs.Prelude.{◌≡◌, ◌++◌, ◌∷◌, [], IfOk, drop};
+ghost use Rattle.std.specs.Prelude.{◌≡◌, ◌<◌, ◌++◌, ◌∷◌, [], IfOk, drop, length};
 ghost use Rattle.wt_span.specs.Items.{is_char_in, items, items_of};
 ghost use Rattle.wt_expand.specs.Texts.{is_space, without_front, trimmed_items};
 ghost use Rattle.wt_transclusion.specs.Ends.{without_back, is_chars, IsLeft};
@@ -129,7 +129,9 @@ pub fn trimmed_items<'a>(alloc: Global, pieces: &[Piece<'a>]) -> Result<List<Pie
 }
 
 /// How many items a piece is: each byte of characters is one.
-fn item_count(piece: Piece<'_>) -> usize {
+fn item_count(piece: Piece<'_>) -> usize
+    ensures { result ≡ length (items_of piece.entry) }
+{
     if is_chars(piece.form) {
         piece.text.as_str().len()
     } else {
@@ -137,13 +139,17 @@ fn item_count(piece: Piece<'_>) -> usize {
     }
 }
 
-/// A piece of characters behind its first bytes.
-fn behind_bytes(piece: Piece<'_>, count: usize) -> Result<Piece<'_>, NoMemory> {
+/// A piece behind its first items, of which it has more. Characters that would be cut are answered as
+/// want of memory.
+fn behind_bytes(piece: Piece<'_>, count: usize) -> Result<Piece<'_>, NoMemory>
+    requires { count < length (items_of piece) }
+    ensures { IfOk result (λ rest. items_of rest ≡ drop count (items_of piece.entry)) }
+{
     if count == 0 {
         return Ok(piece);
     }
     let text = piece.text.as_str();
-    if count > text.len() || !text.is_char_boundary(count) {
+    if !text.is_char_boundary(count) {
         return Err(NoMemory);
     }
     let (_, rest) = piece.text.split_at(piece.text.range().start + count as u32);
