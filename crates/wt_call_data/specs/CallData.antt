@@ -1,5 +1,6 @@
 -- What the element of a group carries of an outermost call: a transclusion with its target as it is written, the link to its
--- title and its parameters, numbered among the calls of its group; or an argument by its whole source.
+-- title and its parameters, numbered among the calls of its group; a call of a parser function likewise, with the name of the
+-- function in place of the link; or an argument by its whole source.
 use Rattle.std.specs.Prelude.{ℕ, ◌+◌, ◌-◌, ◌==◌, ◌||◌, Bool, true, false, Option, Some, None, List, [], ◌∷◌, length, take, drop, reverse, decimal, fold, slice_range, if◌then◌else◌}
 use Rattle.std.specs.List.{prefix_len}
 use Rattle.std.specs.Map.{lookup}

@@ -32,6 +32,7 @@ fn link(alloc: Global, href: &Option<Str>) -> Result<Str, NoMemory>
 }
 
 /// The function that a call names behind its two braces.
+#[tactic(auto, using(crate::proofs::ShortCalls::short_names_none))]
 fn function_named(outer: &Outer<'_>) -> Option<(Function, u32)>
     ensures { result ≡ function_named (outer_call outer.now) }
 {
