@@ -1,7 +1,9 @@
 pub mod CallLaws
 pub mod CallSteps
+pub mod ChoiceSteps
 pub mod LedgerLaws
 pub mod LevelLaws
+pub mod NumberedParts
 pub mod PageLaws
 pub mod PartSteps
 pub mod RestLaws

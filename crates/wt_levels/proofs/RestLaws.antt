@@ -1,17 +1,19 @@
 -- Work that comes before what is left of a call comes before all that is left; and what it costs.
-use Rattle.std.proofs.Common.{◌≡◌, ℕ, ◌+◌, ◌<◌, ◌≤◌, Bool, true, false, Option, Some, None, List, [], ◌∷◌, ◌++◌, length, refl, sym, ap, ◌∙◌, subst, arith, append_assoc, min}
+use Rattle.std.proofs.Common.{◌≡◌, ℕ, ◌+◌, ◌<◌, ◌≤◌, Bool, true, false, Option, Some, None, List, [], ◌∷◌, ◌++◌, length, drop, refl, sym, ap, ◌∙◌, subst, arith, append_assoc, min}
 use Rattle.std.specs.Prelude.{nat_lt, if◌then◌else◌}
 use Rattle.std.specs.Option.{option_or}
 use Rattle.std.proofs.lemmas.Bool.Decides.{nat_tests}
 use Rattle.wt_span.specs.Items.{Item, sources}
 use Rattle.wt_names.specs.declared.title.Title.{Title}
-use Rattle.wt_expand.specs.Texts.{name_text}
+use Rattle.wt_functions.specs.Choice.{Telling}
+use Rattle.wt_expand.specs.Asking.{asking}
+use Rattle.wt_expand.specs.Texts.{name_text, trimmed_items}
 use Rattle.wt_expand.specs.Targets.{title_of_target}
 use Rattle.wt_expand.specs.Work.{Pages, Refused, too_large, Entry, begun, ended, most_cost, refusal_from}
-use Rattle.wt_expand.specs.Expansion.{Output, Reading, PartOutput, Frame, just, then_output, chars, value_of, values_from, parts_work, default_output, if_value, back_braces, front_braces}
+use Rattle.wt_expand.specs.Expansion.{Output, Reading, PartOutput, Frame, just, then_output, chars, value_of, values_from, parts_work, default_output, if_value, with_break, back_braces, front_braces}
 use Rattle.wt_transclusion.specs.declared.refusal.ExpandRefusal.{ExpandRefusal}
 use Rattle.wt_transclusion.specs.declared.refusal.ExpandRefusal.TheVariants as answer
-use Rattle.wt_levels.specs.Rests.{with_work, ended_with, after_argument, after_page, after_values, next_number, after_value, after_name, after_text, after_target_by, after_target}
+use Rattle.wt_levels.specs.Rests.{with_work, ended_with, after_argument, after_page, after_values, next_number, after_value, after_name, after_text, after_target_by, after_target, after_given, later_told, after_told}
 use Rattle.wt_levels.specs.Runs.{Spends, RefusesCost}
 
 abbrev out : List Item → List Entry → Output
@@ -66,6 +68,15 @@ target_by_work (Some t) r s k source later behind w o =
 pub target_work : (r : Reading) (s : Bool) (k : ℕ) (source : List ℕ) (later : List PartOutput) (behind : Output) (w : List Entry) (o : Output)
     → after_target r s k source later behind (with_work w o) ≡ with_work w (after_target r s k source later behind o)
 target_work r s k source later behind w o = target_by_work (title_of_target o.items) r s k source later behind w o
+
+pub given_work : (s : Bool) (w : List Entry) (o : Output) → after_given s (with_work w o) ≡ with_work w (after_given s o)
+given_work s w o = ended_work w (out (with_break s (trimmed_items o.items)) o.work)
+
+pub told_work : (s : Bool) (told : Telling) (ps : List PartOutput) (w : List Entry) (o : Output)
+    → after_told s told ps (with_work w o) ≡ with_work w (after_told s told ps o)
+told_work s told ps w o =
+    let os = drop (length told.texts) (later_told told.function ps) in
+    let x = after_given s (asking told.function told.equals ps (told.texts ++ name_text o.items ∷ []) os) in ap (out x.items) (append_assoc w o.work x.work)
 
 -- what is given after other pieces
 pub between_work : (w : List Entry) (xs : List Item) (g o : Output)

@@ -15,7 +15,9 @@ use Rattle.wt_braces.specs.declared.call.PartAt.{PartAt as PartOf}
 use Rattle.wt_braces.specs.PartMembers.{PartMembers, joined, rejoined, part_members, width_of}
 use Rattle.wt_braces.specs.Views.{part_of}
 use Rattle.wt_braces.proofs.Rejoins.{parts_join}
-use Rattle.wt_expand.specs.Targets.{argument, function, called, called_by, is_function, title_of_target}
+use Rattle.wt_span.specs.declared.function.Function.{Function}
+use Rattle.wt_span.specs.Functions.{function_of}
+use Rattle.wt_expand.specs.Targets.{argument, choice, function, called, called_by, called_function, is_function, title_of_target}
 use Rattle.wt_expand.specs.Work.{Entry, begun, ended}
 use Rattle.wt_expand.specs.Expansion.{Output, Reading, PartOutput, just, then_output, lexeme_items, chars, values_from, part_outputs, target_part, later_parts, parts_work, called_output, front_braces, back_braces, outputs_of, text_given, text_members}
 use Rattle.wt_expand.specs.Expansion as outputs
@@ -184,9 +186,19 @@ called_argument : (k : ℕ) (source : List ℕ) (target : List Item) → (k == 3
 unfolding called
 called_argument k source target e = if_true (k == 3) argument _ e
 
-called_function : (k : ℕ) (source : List ℕ) (target : List Item) → (k == 3) ≡ false → is_function source ≡ true → called k source target ≡ function
+by_word : (k : ℕ) (source : List ℕ) (target : List Item) (w : Option (Function × ℕ)) → (k == 3) ≡ false → is_function source ≡ true
+    → function_of (drop 2 source) ≡ w → called k source target ≡ called_function w
 unfolding called
-called_function k source target e f = if_false (k == 3) argument _ e ∙ if_true (is_function source) function _ f
+by_word k source target w e f is =
+    if_false (k == 3) argument _ e ∙ if_true (is_function source) (called_function (function_of (drop 2 source))) _ f ∙ ap called_function is
+
+pub called_choice : (k : ℕ) (source : List ℕ) (target : List Item) (f : Function) (n : ℕ) → (k == 3) ≡ false → is_function source ≡ true
+    → function_of (drop 2 source) ≡ Some (f, n) → called k source target ≡ choice f n
+called_choice k source target f n e i w = by_word k source target (Some (f, n)) e i w
+
+called_kept : (k : ℕ) (source : List ℕ) (target : List Item) → (k == 3) ≡ false → is_function source ≡ true → function_of (drop 2 source) ≡ None
+    → called k source target ≡ function
+called_kept k source target e i w = by_word k source target None e i w
 
 called_title : (k : ℕ) (source : List ℕ) (target : List Item) → (k == 3) ≡ false → is_function source ≡ false
     → called k source target ≡ called_by (title_of_target target)
@@ -200,16 +212,16 @@ source_is m t b c =
 
 pub function_begins : (r : Reading) (t : List ℕ) (run : TextRun) (l : Level) (ls : List Level) (b : Braces) (total : Output) (source : List ℕ) (ps : List Piece)
     → BeginsCall r t run (l ∷ ls) b total → b.argument ≡ false → source ≡ slice_range t b.at.start b.at.end → is_function source ≡ true
-    → items ps ≡ items l.out ++ whole form.Function None source ∷ []
+    → function_of (drop 2 source) ≡ None → items ps ≡ items l.out ++ whole form.Function None source ∷ []
     → Resumes r t b.at.end (starts t b.at.end) (just []) (record { end = l.end; out = ps; task = l.task } ∷ ls) total
-function_begins r t run l ls b total source ps h k e f is =
+function_begins r t run l ls b total source ps h k e f w is =
     let c = h.call in
     let same = e ∙ source_is r.mode t b c in
     let ps0 = parts_of_call r t b c in
     let src = source_of r.mode t b c in
     let fn : is_function src ≡ true = ap is_function (sym same) ∙ f in
     let gives = ap (λ d. called_output d r h.at_start c.braces src ps0 (outs_of_call r t b c))
-    (called_function c.braces src (target_part ps0).items (sym c.kind_is ∙ k) fn) in
+    (called_kept c.braces src (target_part ps0).items (sym c.kind_is ∙ k) fn (ap (λ bs. function_of (drop 2 bs)) (sym same) ∙ w)) in
     pieces_given r t b.at.end (starts t b.at.end) l ls total (whole form.Function None source ∷ []) ps
     (subst (λ o. Resumes r t b.at.end (starts t b.at.end) o (l ∷ ls) total) (gives
     ∙ ap (λ bs. just (whole form.Function None bs ∷ [])) (sym same)) h.resumes) is

@@ -1,5 +1,5 @@
 -- Levels of a text as they stand, and what they give in all.
-use Rattle.std.specs.Prelude.{◌≡◌, ◌≤◌, ℕ, ◌+◌, Bool, Option, Some, None, List, [], ◌∷◌, map, length, drop, slice_get, String, string_bytes}
+use Rattle.std.specs.Prelude.{◌≡◌, ◌≤◌, ℕ, suc, ◌+◌, Bool, Option, Some, None, List, [], ◌∷◌, map, length, drop, slice_get, String, string_bytes}
 use Rattle.std.specs.declared.alloc.Global.{Global}
 use Rattle.wt_span.specs.Items.{items}
 use Rattle.wt_span.specs.Braces.{Member}
@@ -102,7 +102,7 @@ pub record TextWaits (r : Reading) (t : List ℕ) (e : ℕ) (b : Braces) (back :
 -- a part that is told to a function is read up to `e`, and the next one begins there or behind it
 pub record ToldWaits (r : Reading) (t : List ℕ) (e : ℕ) (c : Choosing) (back : Back) (o : Output) : Type 0 where
   pub choosing : IsChoosing r t c
-  pub before : (next : PartAt) → slice_get c.call.parts.now (length c.chooser.texts + 1) ≡ Some next → e ≤ next.at.start
+  pub before : (next : PartAt) → slice_get c.call.parts.now (suc (length c.chooser.texts)) ≡ Some next → e ≤ next.at.start
   pub within : e ≤ c.call.at.end
   pub gives : back c.call.at.end (after_told c.at_start c.chooser (parts_of_call r t c.call choosing.call) o)
 
