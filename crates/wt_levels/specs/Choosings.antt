@@ -3,7 +3,7 @@ use Rattle.std.specs.Prelude.{◌≡◌, ℕ, Bool, List, [], ◌∷◌, ◌++�
 use Rattle.wt_span.specs.declared.function.Function.{Function}
 use Rattle.wt_functions.specs.Choice.{Telling}
 use Rattle.wt_transclusion.specs.declared.read.Braces.{Braces}
-use Rattle.wt_levels.specs.declared.level.Choosing.{Choosing}
+use Rattle.wt_levels.specs.declared.choosing.Choosing.{Choosing}
 use Rattle.wt_levels.specs.declared.reader.Reader.{Reader}
 use Rattle.wt_levels.specs.ToldParts.{have_equals}
 

@@ -1,8 +1,7 @@
 -- Which bytes of a function's part are told and which are given.
-use Rattle.std.specs.Prelude.{◌≡◌, ℕ, ◌+◌, Bool, Option, Some, None, List, map, drop, is_some, slice_get}
+use Rattle.std.specs.Prelude.{ℕ, ◌+◌, Bool, Option, Some, None, List, map, drop, is_some}
 use Rattle.wt_span.specs.declared.function.Function.{Function}
 use Rattle.wt_span.specs.declared.function.Function.TheVariants.{If, IfEq, Switch}
-use Rattle.wt_span.specs.declared.range.Range.{Range}
 use Rattle.wt_braces.specs.declared.call.PartAt.{PartAt}
 
 -- where the name of a part ends by its `=`; of `#switch` alone parts have names
@@ -30,17 +29,3 @@ given_start f p = start_by (name_end f p.equals) p.at.start
 -- which parts behind the target have a `=`
 abbrev pub have_equals : List PartAt → List Bool
 have_equals ps = map (λ p. is_some p.equals) (drop 1 ps)
-
--- what is told of the part of a number
-pub record IsToldPart (f : Function) (parts : List PartAt) (number : ℕ) (at : Range) : Type 0 where
-  pub part : PartAt
-  pub there : slice_get parts number ≡ Some part
-  pub start_is : at.start ≡ part.at.start
-  pub end_is : at.end ≡ told_end f part
-
--- what is given of the part of a number
-pub record IsGivenPart (f : Function) (parts : List PartAt) (number : ℕ) (at : Range) : Type 0 where
-  pub part : PartAt
-  pub there : slice_get parts number ≡ Some part
-  pub start_is : at.start ≡ given_start f part
-  pub end_is : at.end ≡ part.at.end

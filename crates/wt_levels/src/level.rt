@@ -3,12 +3,10 @@ ghost use Rattle.std.specs.Prelude.{◌≡◌, ◌∷◌, [], OnOk};
 ghost use Rattle.wt_transclusion.specs.Frames.{AreValues};
 ghost use Rattle.wt_levels.specs.Stacks.{TakesLevel, stack};
 
-use crate::reader::Reader;
+use crate::choosing::Choosing;
 use std::alloc::Global;
-use wt_braces::PartAt;
-use wt_functions::Chooser;
 use wt_names::Title;
-use wt_span::{Function, List, NoMemory, Piece, Range};
+use wt_span::{List, NoMemory, Piece};
 use wt_transclusion::{Braces, Handed};
 
 /// A call of a page whose values are being read.
@@ -41,83 +39,6 @@ impl<'a> Handing<'a> {
             handed: Handed::new(alloc),
         }
     }
-}
-
-/// A function by text whose parts are being told.
-#[derive(Drop)]
-pub struct Choosing<'a> {
-    pub call: Braces<'a>,
-    /// Whether the call stands at the start of a line.
-    pub at_start: bool,
-    pub function: Function,
-    pub chooser: Chooser,
-    /// The text where the call begins: a part may be given that was told before.
-    pub begun: Reader<'a>,
-}
-
-impl<'a> Choosing<'a> {
-    /// A call of which nothing is told. The reader stands where it begins.
-    pub fn start(
-        alloc: Global,
-        call: Braces<'a>,
-        function: Function,
-        begun: Reader<'a>,
-    ) -> Result<Choosing<'a>, NoMemory> {
-        Ok(Choosing {
-            call,
-            at_start: begun.cursor.at_start,
-            function,
-            chooser: Chooser::start(alloc, function, &have_equals(alloc, call)?)?,
-            begun,
-        })
-    }
-
-    /// Where a part ends a name by its `=`, if names count.
-    fn name_end(&self, part: PartAt) -> Option<u32> {
-        match self.function {
-            Function::If | Function::IfEq => None,
-            Function::Switch => part.equals,
-        }
-    }
-
-    /// What is told of a part: its name, or all of it.
-    pub fn told_of(&self, part: u32) -> Result<Range, NoMemory> {
-        let part = part_at(self.call, part)?;
-        Ok(Range {
-            start: part.at.start,
-            end: self.name_end(part).unwrap_or(part.at.end),
-        })
-    }
-
-    /// What is given of a part: its value, or all of it.
-    pub fn given_of(&self, part: u32) -> Result<Range, NoMemory> {
-        let part = part_at(self.call, part)?;
-        let start = match self.name_end(part) {
-            Some(equals) => equals + 1,
-            None => part.at.start,
-        };
-        Ok(Range {
-            start,
-            end: part.at.end,
-        })
-    }
-}
-
-/// The part of a number.
-fn part_at(call: Braces<'_>, part: u32) -> Result<PartAt, NoMemory> {
-    match call.parts.get(part as usize) {
-        Some(part) => Ok(*part),
-        None => Err(NoMemory),
-    }
-}
-
-/// Which parts behind the target have a `=`.
-fn have_equals(alloc: Global, call: Braces<'_>) -> Result<List<bool>, NoMemory> {
-    let mut equals = List::new(alloc);
-    for part in call.parts.iter().skip(1) {
-        equals.push(part.equals.is_some())?;
-    }
-    Ok(equals)
 }
 
 /// What is done where a level ends.

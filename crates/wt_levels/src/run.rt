@@ -15,7 +15,8 @@ ghost use Rattle.wt_levels.specs.Rests.{after_page, ended_with, next_number};
 ghost use Rattle.wt_levels.specs.Runs.{AnswersGoing, AnswersTurn, BeginsCall, BeginsLevel, HandsParts, HasEnded, Holds, IsRunning, Returns, TakesChunk, TakesPart};
 ghost use Rattle.wt_levels.specs.declared.level.Task.TheVariants as tasks;
 
-use crate::level::{Choosing, Handing, Level, Levels, Task};
+use crate::choosing::{Choosing, given_start, part_at, told_end};
+use crate::level::{Handing, Level, Levels, Task};
 use crate::reader::{MOST_BYTES, Reader};
 use std::alloc::Global;
 use wt_braces::PartAt;
@@ -229,7 +230,12 @@ impl<'a> TextRun<'a> {
         source: Text<'a>,
         level: Level<'a>,
         spent: &mut u64,
-    ) -> Result<(), ExpandRefusal> {
+    ) -> Result<(), ExpandRefusal>
+        ensures answer { (r : Reading) (t : List ℕ) (total : Gives) → BeginsCall r t self.old (level.entry ∷ (stack self.old.levels)) call.entry total
+            → call.entry.argument ≡ false → bytes_of source.entry ≡ slice_range t call.entry.at.start call.entry.at.end
+            → is_function (bytes_of source.entry) ≡ true → AnswersGoing r t spent.old total self.new spent.new result }
+        ensures fault { IfErr result IsNoFault }
+    {
         let Some((function, part_0)) = function_named(source.as_str().as_bytes()) else {
             self.push_function(call, source, level)?;
             return Ok(());
@@ -424,24 +430,43 @@ impl<'a> TextRun<'a> {
         choosing: Choosing<'a>,
         out: List<Piece<'a>>,
         spent: &mut u64,
-    ) -> Result<(), ExpandRefusal> {
+    ) -> Result<(), ExpandRefusal>
+        ensures answer { (r : Reading) (t : List ℕ) (total : Gives) → HasEnded r t self.old (tasks.Told choosing.entry) out.entry total
+            → AnswersGoing r t spent.old total self.new spent.new result }
+        ensures fault { IfErr result IsNoFault }
+    {
         let text = name_text(self.alloc, out.as_slice())?;
-        let mut choosing = choosing;
-        choosing.chooser.told(text.as_str())?;
-        match choosing.chooser.ask() {
-            Ask::Tell(part) => {
-                let at = choosing.told_of(part)?;
-                self.begin_level(at.start, at.end, Task::Told { choosing })?;
+        let Choosing {
+            call,
+            at_start,
+            function,
+            chooser,
+            begun,
+        } = choosing;
+        let mut chooser = chooser;
+        chooser.told(text.as_str())?;
+        match chooser.ask() {
+            Ask::Tell(number) => {
+                let part = part_at(call, number)?;
+                let next = Choosing {
+                    call,
+                    at_start,
+                    function,
+                    chooser,
+                    begun,
+                };
+                let end = told_end(function, part);
+                self.begin_level(part.at.start, end, Task::Told { choosing: next })?;
                 Ok(())
             }
-            Ask::Give(part) => {
-                let at = choosing.given_of(part)?;
-                self.reader = choosing.begun;
-                let (call, at_start) = (choosing.call, choosing.at_start);
-                self.begin_level(at.start, at.end, Task::Given { call, at_start })?;
+            Ask::Give(number) => {
+                let part = part_at(call, number)?;
+                let start = given_start(function, part)?;
+                self.reader = begun;
+                self.begin_level(start, part.at.end, Task::Given { call, at_start })?;
                 Ok(())
             }
-            Ask::Nothing => self.give(choosing.call.at.end, &[], spent),
+            Ask::Nothing => self.give(call.at.end, &[], spent),
         }
     }
 
@@ -452,7 +477,11 @@ impl<'a> TextRun<'a> {
         at_start: bool,
         out: List<Piece<'a>>,
         spent: &mut u64,
-    ) -> Result<(), ExpandRefusal> {
+    ) -> Result<(), ExpandRefusal>
+        ensures answer { (r : Reading) (t : List ℕ) (total : Gives) → HasEnded r t self.old (tasks.Given call.entry at_start) out.entry total
+            → AnswersGoing r t spent.old total self.new spent.new result }
+        ensures fault { IfErr result IsNoFault }
+    {
         let out = trimmed_items(self.alloc, out.as_slice())?;
         let out = with_break(self.alloc, at_start, out)?;
         self.give(call.at.end, out.as_slice(), spent)
