@@ -7,7 +7,6 @@ use Rattle.std.proofs.lemmas.List.{length-append}
 use Rattle.wt_span.specs.declared.function.Function.{Function}
 use Rattle.wt_span.specs.declared.function.Function.TheVariants.{If, IfEq, Switch}
 use Rattle.wt_span.specs.declared.form.Piece.{Piece}
-use Rattle.wt_span.specs.declared.range.Range.{Range}
 use Rattle.wt_span.specs.Functions.{function_of}
 use Rattle.wt_span.specs.Items.{Item, items}
 use Rattle.wt_braces.specs.declared.call.PartAt.{PartAt as PartOf}
@@ -38,7 +37,7 @@ use Rattle.wt_levels.specs.Readers.{IsReading}
 use Rattle.wt_levels.specs.Rests.{with_work, ended_with, after_given, behind_word, later_told, after_told}
 use Rattle.wt_levels.specs.Runs.{HasEnded, Returns, BeginsLevel, BeginsCall}
 use Rattle.wt_levels.specs.Stacks.{stack}
-use Rattle.wt_levels.specs.ToldParts.{given_start, IsToldPart, IsGivenPart}
+use Rattle.wt_levels.specs.ToldParts.{told_end, given_start}
 use Rattle.wt_levels.proofs.CallLaws.{second_of}
 use Rattle.wt_levels.proofs.LevelLaws.{strip}
 use Rattle.wt_levels.proofs.NumberedParts.{StretchGives, drop_more, part_told, part_of_value, have_names_is, part_get}
@@ -221,10 +220,11 @@ after_more : (texts : List (List ℕ)) (text : List ℕ) → length (texts ++ te
 after_more texts text = let z = length-append texts (text ∷ []) in omega (arith, z)
 
 -- the next part is told
-pub told_begins : (r : Reading) (t : List ℕ) (run : TextRun) (c next : Choosing) (ps : List Piece) (text : List ℕ) (k : ℕ) (at : Range) (total : Output)
-    → HasEnded r t run (task.Told c) ps total → text ≡ name_text (items ps) → IsToldMore c text next → asked next.chooser ≡ Tell k
-    → IsToldPart c.function c.call.parts.now k at → BeginsLevel r t run at.start (starts t at.start) at.end (task.Told next) total
-told_begins r t run c next ps text k at total h is more e told =
+pub told_begins : (r : Reading) (t : List ℕ) (run : TextRun) (c next : Choosing) (ps : List Piece) (text : List ℕ) (k : ℕ) (part : PartOf) (end : ℕ)
+    (total : Output) → HasEnded r t run (task.Told c) ps total → text ≡ name_text (items ps) → IsToldMore c text next → asked next.chooser ≡ Tell k
+    → slice_get c.call.parts.now k ≡ Some part → end ≡ told_end c.function part
+    → BeginsLevel r t run part.at.start (starts t part.at.start) end (task.Told next) total
+told_begins r t run c next ps text k part end total h is more e there end_is =
     let b = c.call in
     let w = h.ends in
     let call = w.choosing.call in
@@ -236,16 +236,15 @@ told_begins r t run c next ps text k at total h is more e told =
     let k_is : k ≡ suc n = (told_in_order after k asks).0 ∙ long in
     let f = c.chooser.function in
     let es = c.chooser.equals in
-    let there = subst (λ g. IsToldPart g b.parts.now k at) (sym w.choosing.function_is) told in
-    let end = there.end_is in
-    let start = there.start_is in
-    let x = part_told f r t b call n there.part (ap (slice_get b.parts.now) (sym k_is) ∙ there.there) in
+    let numbered : slice_get b.parts.now (suc n) ≡ Some part = ap (slice_get b.parts.now) (sym k_is) ∙ there in
+    let ends : end ≡ told_end f part = end_is ∙ ap (λ g. told_end g part) (sym w.choosing.function_is) in
+    let x = part_told f r t b call n part numbered in
     let s = c.at_start in
     let to = b.at.end in
     let later = later_told f outs in
-    let low = w.before there.part (ap (slice_get b.parts.now) (sym k_is) ∙ there.there) in
+    let low = w.before part numbered in
     let most = x.within in
-    let left = subst (λ q. StretchGives r t q at.end x.output) (sym start) (subst (λ q. StretchGives r t there.part.at.start q x.output) (sym end) x.stretch) in
+    let left = subst (λ q. StretchGives r t part.at.start q x.output) (sym ends) x.stretch in
     let turn : after_told s c.chooser outs (just (items ps)) ≡ after_told s after outs x.output =
     ap (λ y. after_given s (asking f es outs (c.chooser.texts ++ y ∷ []) (drop n later))) (sym is)
     ∙ ap (λ os. after_given s (asking f es outs after.texts os)) x.outputs_are
@@ -254,17 +253,17 @@ told_begins r t run c next ps text k at total h is more e told =
       place = h.place;
       at_start = h.at_start;
       running = h.running;
-      before = omega (arith, low, start);
+      before = low;
       left = left.left;
       stretch = left.stretch;
-      ends = moved r t at.end b s c.function after c.begun (λ q y. Resumes r t q (starts t q) y (stack run.levels) total)
-          (given_from r (starts t at.start) t at.start left.left) next more.call_is more.at_start_is more.function_is more.chooser_is more.begun_is (record {
+      ends = moved r t end b s c.function after c.begun (λ q y. Resumes r t q (starts t q) y (stack run.levels) total)
+          (given_from r (starts t part.at.start) t part.at.start left.left) next more.call_is more.at_start_is more.function_is more.chooser_is more.begun_is (record {
             call = call;
             begun_is = w.choosing.begun;
             function_is = w.choosing.function_is;
             equals_are = w.choosing.equals_are;
-            before = λ y g. let q = x.next y (ap (λ m. slice_get b.parts.now (suc m)) (sym long) ∙ g) in omega (arith, q, end);
-            within = omega (arith, most, end);
+            before = λ y g. let q = x.next y (ap (λ m. slice_get b.parts.now (suc m)) (sym long) ∙ g) in omega (arith, q, ends);
+            within = omega (arith, most, ends);
             gives = subst (λ o. Resumes r t to (starts t to) (after_told s after outs o) (stack run.levels) total) left.gives
                 (subst (λ o. Resumes r t to (starts t to) o (stack run.levels) total) turn w.gives);
           });
@@ -280,43 +279,41 @@ turned c s outs ps text o is more =
     ap (λ y. after_given s (asking c.function c.equals outs (c.texts ++ y ∷ []) os)) (sym is) ∙ ap (after_given s) (more os)
 
 -- the part that is chosen is read, from where the call begins
-pub given_begins : (r : Reading) (t : List ℕ) (run next : TextRun) (c : Choosing) (ps : List Piece) (text : List ℕ) (k : ℕ) (at : Range) (total : Output)
-    → HasEnded r t run (task.Told c) ps total → text ≡ name_text (items ps) → asked (with_text c.chooser text) ≡ Give k
-    → IsGivenPart c.function c.call.parts.now k at → next.reader ≡ c.begun → next.mode ≡ run.mode → stack next.levels ≡ stack run.levels
-    → BeginsLevel r t next at.start (starts t at.start) at.end (task.Given c.call c.at_start) total
-given_begins r t run next c ps text k at total h is e given rd md lv = by_number k e given
+pub given_begins : (r : Reading) (t : List ℕ) (run next : TextRun) (c : Choosing) (ps : List Piece) (text : List ℕ) (k : ℕ) (part : PartOf) (start : ℕ)
+    (total : Output) → HasEnded r t run (task.Told c) ps total → text ≡ name_text (items ps) → asked (with_text c.chooser text) ≡ Give k
+    → slice_get c.call.parts.now k ≡ Some part → start ≡ given_start c.function part → next.reader ≡ c.begun → next.mode ≡ run.mode → stack next.levels ≡ stack run.levels
+    → BeginsLevel r t next start (starts t start) part.at.end (task.Given c.call c.at_start) total
+given_begins r t run next c ps text k part start total h is e there start_is rd md lv = by_number k e there
   where
-    by_number : (n : ℕ) → asked (with_text c.chooser text) ≡ Give n → IsGivenPart c.function c.call.parts.now n at
-        → BeginsLevel r t next at.start (starts t at.start) at.end (task.Given c.call c.at_start) total
-    by_number zero asks part = absurd (let z = (given_there (with_text c.chooser text) zero asks).0 in omega (arith, z))
-    by_number (suc n) asks part =
+    by_number : (n : ℕ) → asked (with_text c.chooser text) ≡ Give n → slice_get c.call.parts.now n ≡ Some part
+        → BeginsLevel r t next start (starts t start) part.at.end (task.Given c.call c.at_start) total
+    by_number zero asks numbered = absurd (let z = (given_there (with_text c.chooser text) zero asks).0 in omega (arith, z))
+    by_number (suc n) asks numbered =
         let b = c.call in
         let w = h.ends in
         let call = w.choosing.call in
         let outs = parts_of_call r t b call in
         let f = c.chooser.function in
-        let there = subst (λ g. IsGivenPart g b.parts.now (suc n) at) (sym w.choosing.function_is) part in
-        let end = there.end_is in
-        let start = there.start_is in
-        let x = part_of_value f r t b call n there.part there.there in
+        let begins : start ≡ given_start f part = start_is ∙ ap (λ g. given_start g part) (sym w.choosing.function_is) in
+        let x = part_of_value f r t b call n part numbered in
         let low = x.behind in
         let most = x.within in
         let s = c.at_start in
         let to = b.at.end in
-        let left = subst (λ q. StretchGives r t q at.end x.output) (sym start) (subst (λ q. StretchGives r t (given_start f there.part) q x.output) (sym end) x.stretch) in
-        let turn : after_told s c.chooser outs (just (items ps)) ≡ after_given s (given_from r (starts t at.start) t at.start left.left) =
-        turned c.chooser s outs ps text (given_from r (starts t at.start) t at.start left.left) is
+        let left = subst (λ q. StretchGives r t q part.at.end x.output) (sym begins) x.stretch in
+        let turn : after_told s c.chooser outs (just (items ps)) ≡ after_given s (given_from r (starts t start) t start left.left) =
+        turned c.chooser s outs ps text (given_from r (starts t start) t start left.left) is
         (λ os. given_next (with_text c.chooser text) outs os (suc n) asks ∙ x.output_is ∙ left.gives) in
         record {
           place = call.at;
           at_start = s;
           running = record { reading = subst (λ y. IsReading r.mode t y call.at s) (sym rd) w.choosing.begun; mode_is = md ∙ h.running.mode_is };
-          before = omega (arith, low, start);
+          before = omega (arith, low, begins);
           left = left.left;
           stretch = left.stretch;
           ends = (
-            omega (arith, most, end),
-            subst (λ ks. Resumes r t to (starts t to) (after_given s (given_from r (starts t at.start) t at.start left.left)) ks total) (sym lv)
+            most,
+            subst (λ ks. Resumes r t to (starts t to) (after_given s (given_from r (starts t start) t start left.left)) ks total) (sym lv)
                 (subst (λ o. Resumes r t to (starts t to) o (stack run.levels) total) turn w.gives),
           );
         }

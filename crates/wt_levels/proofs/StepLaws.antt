@@ -203,7 +203,7 @@ called_kept k source target e i w = by_word k source target None e i w
 called_title : (k : ℕ) (source : List ℕ) (target : List Item) → (k == 3) ≡ false → is_function source ≡ false
     → called k source target ≡ called_by (title_of_target target)
 unfolding called
-called_title k source target e f = if_false (k == 3) argument _ e ∙ if_false (is_function source) function _ f
+called_title k source target e f = if_false (k == 3) argument _ e ∙ if_false (is_function source) (called_function (function_of (drop 2 source))) _ f
 
 pub source_is : (m : Mode) (t : List ℕ) (b : Braces) → (c : IsCallOf m t b) → slice_range t b.at.start b.at.end ≡ source_of m t b c
 source_is m t b c =
