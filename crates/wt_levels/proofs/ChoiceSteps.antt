@@ -25,7 +25,7 @@ use Rattle.wt_expand.proofs.Turns.{asks_in_turn}
 use Rattle.wt_transclusion.specs.declared.read.Braces.{Braces}
 use Rattle.wt_transclusion.specs.Cursors.{starts}
 use Rattle.wt_transclusion.specs.Steps.{IsStretchOf, given_from}
-use Rattle.wt_levels.specs.declared.level.Choosing.{Choosing}
+use Rattle.wt_levels.specs.declared.choosing.Choosing.{Choosing}
 use Rattle.wt_levels.specs.declared.level.Level.{Level}
 use Rattle.wt_levels.specs.declared.level.Task.TheVariants as task
 use Rattle.wt_levels.specs.declared.reader.Reader.{Reader}

@@ -6,7 +6,7 @@ use Rattle.wt_expand.specs.Expansion.{Output, Reading, just, then_output, later_
 use Rattle.wt_transclusion.specs.Cursors.{starts}
 use Rattle.wt_transclusion.specs.Parts.{parts_given}
 use Rattle.wt_transclusion.specs.Steps.{given_from}
-use Rattle.wt_levels.specs.declared.level.Choosing.{Choosing}
+use Rattle.wt_levels.specs.declared.choosing.Choosing.{Choosing}
 use Rattle.wt_levels.specs.declared.level.Level.{Level}
 use Rattle.wt_levels.specs.declared.level.Task.{Task}
 use Rattle.wt_levels.specs.declared.level.Task.TheVariants as task

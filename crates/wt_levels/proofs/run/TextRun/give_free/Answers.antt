@@ -1,7 +1,6 @@
 use Rattle.wt_span.specs.Items.{items}
 use Rattle.wt_levels.specs.Stacks.{stack}
 use Rattle.wt_levels.proofs.StepLaws.{level_given}
-use Rattle.wt_levels.proofs.ChoiceSteps.{given_returns}
 use Rattle.wt_levels.proofs.run.TextRun.give_free.Goals as goal
 
 pub returns : goal.returns
