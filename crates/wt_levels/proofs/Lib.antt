@@ -1,6 +1,7 @@
 pub mod CallLaws
 pub mod CallSteps
 pub mod ChoiceSteps
+pub mod FirstAsked
 pub mod LedgerLaws
 pub mod LevelLaws
 pub mod NumberedParts

@@ -7,7 +7,7 @@ use crate::reader::{MOST_BYTES, Reader};
 use std::alloc::Global;
 use wt_braces::PartAt;
 use wt_functions::Chooser;
-use wt_span::{Function, List, NoMemory};
+use wt_span::{Function, List, NoMemory, rest_of};
 use wt_transclusion::Braces;
 
 /// A function by text of which a part is being told.
@@ -54,7 +54,11 @@ fn have_equals(alloc: Global, parts: &[PartAt]) -> Result<List<bool>, NoMemory>
     ensures { IfOk result (λ equals. equals ≡ have_equals parts.now) }
 {
     let mut equals = List::new(alloc);
-    for part in parts.iter().skip(1) {
+    if parts.is_empty() {
+        return Ok(equals);
+    }
+    let later = rest_of(parts, 1);
+    for part in later {
         equals.push(part.equals.is_some())?;
     }
     Ok(equals)
