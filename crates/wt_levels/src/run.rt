@@ -1,7 +1,8 @@
 //! One text as it is expanded, with levels in place of calls within calls.
-ghost use Rattle.std.specs.Prelude.{◌≡◌, ◌<◌, ◌≤◌, ◌∷◌, ◌++◌, [], ℕ, List, Option, Some, None, Bool, true, false, IfErr, IfOk, OnOk, length, slice_get, slice_range};
+ghost use Rattle.std.specs.Prelude.{◌≡◌, ◌<◌, ◌≤◌, ◌∷◌, ◌++◌, [], ℕ, List, Option, Some, None, Bool, true, false, IfErr, IfOk, OnOk, drop, length, slice_get, slice_range};
 ghost use Rattle.wt_span.specs.Items.{items, items_of};
 ghost use Rattle.wt_span.specs.Slice.{bytes_of};
+ghost use Rattle.wt_span.specs.Functions.{function_of};
 ghost use Rattle.wt_expand.specs.Targets.{is_function, title_of_target};
 ghost use Rattle.wt_transclusion.specs.Cursors.{starts};
 ghost use Rattle.wt_expand.specs.Expansion.{Frame, Output as Gives, Reading, just, text_given, values_from};
@@ -257,7 +258,8 @@ impl<'a> TextRun<'a> {
     ) -> Result<(), NoMemory>
         ensures { OnOk result ((r : Reading) (t : List ℕ) (total : Gives) → BeginsCall r t self.old (level.entry ∷ (stack self.old.levels)) call.entry total
             → call.entry.argument ≡ false → bytes_of source.entry ≡ slice_range t call.entry.at.start call.entry.at.end
-            → is_function (bytes_of source.entry) ≡ true → Holds r t self.new (stack self.new.levels) total) }
+            → is_function (bytes_of source.entry) ≡ true → function_of (drop 2 (bytes_of source.entry)) ≡ None
+            → Holds r t self.new (stack self.new.levels) total) }
     {
         let mut level = level;
         push_piece(&mut level.out, piece_of(source, Form::Function))?;
