@@ -39,27 +39,14 @@ use Rattle.wt_levels.specs.Runs.{HasEnded, Returns, BeginsLevel, BeginsCall}
 use Rattle.wt_levels.specs.Stacks.{stack}
 use Rattle.wt_levels.specs.ToldParts.{told_end, given_start}
 use Rattle.wt_levels.proofs.CallLaws.{second_of}
+use Rattle.wt_levels.proofs.CallSteps.{part_get}
+use Rattle.wt_levels.proofs.FirstAsked.{first_asked}
 use Rattle.wt_levels.proofs.LevelLaws.{strip}
-use Rattle.wt_levels.proofs.NumberedParts.{StretchGives, drop_more, part_told, part_of_value, have_names_is, part_get}
+use Rattle.wt_levels.proofs.NumberedParts.{StretchGives, drop_more, part_told, part_of_value, have_names_is}
 use Rattle.wt_levels.proofs.RestLaws.{given_work}
 use Rattle.wt_levels.proofs.StepLaws.{drop_none, called_choice, source_is, first_part}
 
 -- ---- what a function gives, part after part
-
-told_some : (f : Function) (names : List Bool) → 0 < told_count f names []
-unfolding told_count
-told_some If names = omega arith
-told_some IfEq names = omega arith
-told_some Switch names = omega arith
-
-tells_by : (b : Bool) (n : ℕ) (a : Ask) → b ≡ true → cond b (Tell n) a ≡ Tell n
-tells_by true n a h = refl
-tells_by false n a h = cc
-
--- part 0 is asked for first
-pub first_asked : (f : Function) (names : List Bool) → asked (record { function = f; equals = names; texts = [] }) ≡ Tell 0
-unfolding asked
-first_asked f names = tells_by _ 0 _ (lt-ltb 0 (told_count f names []) (told_some f names))
 
 -- a part that is asked for is told, and then the others
 told_next : (s : Bool) (c : Telling) (ps : List PartOutput) (o : Output) (os : List Output) (k : ℕ) → asked c ≡ Tell k
@@ -193,7 +180,7 @@ choice_begins r t run ls b total source f n part h k e i w there =
               begun_is = h.running.reading;
               function_is = refl;
               equals_are = refl;
-              before = λ y g. let q = (second_of r t b.at.end (c.at + c.braces) false (part_members 0 c.inside) (part_of y) (part_get r t b c 1 y g) c.parts_stand).behind in
+              before = λ y g. let q = (second_of r t b.at.end (c.at + c.braces) false (part_members 0 c.inside) (part_of y) (part_get r t b c 1 (Some y) g) c.parts_stand).behind in
                   omega (arith, to, q);
               within = omega (arith, to, low);
               gives = subst (λ ks. Resumes r t b.at.end (starts t b.at.end) (after_told h.at_start (untold f ps) ps (behind_word n target)) ks z.left) (sym lv)

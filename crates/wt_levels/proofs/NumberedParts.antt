@@ -21,6 +21,7 @@ use Rattle.wt_levels.specs.Calls.{IsPartAt, next_place, ArePartsAt, IsCallOf, pa
 use Rattle.wt_levels.specs.Rests.{later_told}
 use Rattle.wt_levels.specs.ToldParts.{name_end, end_by, start_by, told_end, given_start, have_equals}
 use Rattle.wt_levels.proofs.CallLaws.{some_is, joined_width}
+use Rattle.wt_levels.proofs.CallSteps.{part_get}
 use Rattle.wt_levels.proofs.StepLaws.{drop_none}
 
 -- ---- lists
@@ -113,10 +114,6 @@ pub record LaterPart (r : Reading) (t : List ℕ) (b : Braces) (c : IsCallOf r.m
   pub given : drop (suc n) (parts_of_call r t b c) ≡ part_given r (starts t place) t place p.name p.value ∷ others
   pub next : (x : PartOf) → slice_get b.parts.now (suc (suc n)) ≡ Some x → part.at.end ≤ x.at.start
 
-pub part_get : (r : Reading) (t : List ℕ) (b : Braces) → (c : IsCallOf r.mode t b) → (n : ℕ) (part : PartOf) → slice_get b.parts.now n ≡ Some part
-    → slice_get (placed (c.at + c.braces) (part_members 0 c.inside)) n ≡ Some (part_of part)
-part_get r t b c n part e = ap (λ ps. slice_get ps n) (sym c.parts_are) ∙ slice_get-map part_of b.parts.now n ∙ ap (option_map part_of) e
-
 -- places that begin behind one
 first_place : (q : ℕ) (ps : List PartMembers) (x : PartAt) (xs : List PartAt) → placed q ps ≡ x ∷ xs → x.from ≡ q
 first_place q [] x xs e = no_first x xs (sym e)
@@ -124,7 +121,7 @@ first_place q (p ∷ ps) x xs e = ap (λ y. y.from) (sym (first_is _ x _ xs e))
 
 pub later_part : (r : Reading) (t : List ℕ) (b : Braces) (c : IsCallOf r.mode t b) (n : ℕ) (part : PartOf) → slice_get b.parts.now (suc n) ≡ Some part
     → LaterPart r t b c n part
-later_part r t b c n part e = by_parts (part_members 0 c.inside) (part_get r t b c (suc n) part e) (part_get r t b c (suc (suc n))) c.parts_stand refl
+later_part r t b c n part e = by_parts (part_members 0 c.inside) (part_get r t b c (suc n) (Some part) e) (λ x. part_get r t b c (suc (suc n)) (Some x)) c.parts_stand refl
   where
     by_parts : (pm : List PartMembers) → slice_get (placed (c.at + c.braces) pm) (suc n) ≡ Some (part_of part)
         → ((x : PartOf) → slice_get b.parts.now (suc (suc n)) ≡ Some x → slice_get (placed (c.at + c.braces) pm) (suc (suc n)) ≡ Some (part_of x))
@@ -133,7 +130,6 @@ later_part r t b c n part e = by_parts (part_members 0 c.inside) (part_get r t b
     by_parts (p ∷ ps) there more stand gives =
         let at = c.at + c.braces in
         let next = next_place at p in
-        let same = drop_none _ ∙ sym (drop_none _) ∙ places_behind at p ps in
         let z = part_of_number r t b.at.end next ps n (part_of part) (ap (λ xs. slice_get xs n) (sym (places_behind at p ps) ∙ drop_none _) ∙ there) stand.1 in
         let behind = z.behind in
         let to = z.to_is in
