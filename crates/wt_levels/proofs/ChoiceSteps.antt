@@ -1,26 +1,22 @@
 -- What is done where a function by text begins, where a part of it is told, and where it has given one.
-use Rattle.std.proofs.Common.{◌≡◌, ℕ, zero, suc, ◌+◌, ◌<◌, ◌≤◌, Bool, true, false, cond, Option, Some, None, List, [], ◌∷◌, ◌++◌, length, min, take, drop, nat_lt, refl, sym, ap, ◌∙◌, subst, arith}
-use Rattle.std.specs.Prelude.{slice_get, slice_range, ◌==◌}
-use Rattle.std.specs.Option.{unwrap_or}
-use Rattle.std.proofs.lemmas.Bool.{lt-ltb}
+use Rattle.std.proofs.Common.{◌≡◌, ℕ, zero, suc, ◌+◌, ◌≤◌, Bool, true, false, Some, List, [], ◌∷◌, ◌++◌, length, drop, refl, sym, ap, ◌∙◌, subst, arith}
+use Rattle.std.specs.Prelude.{slice_get, slice_range}
 use Rattle.std.proofs.lemmas.List.{length-append}
 use Rattle.wt_span.specs.declared.function.Function.{Function}
-use Rattle.wt_span.specs.declared.function.Function.TheVariants.{If, IfEq, Switch}
 use Rattle.wt_span.specs.declared.form.Piece.{Piece}
 use Rattle.wt_span.specs.Functions.{function_of}
 use Rattle.wt_span.specs.Items.{Item, items}
 use Rattle.wt_braces.specs.declared.call.PartAt.{PartAt as PartOf}
 use Rattle.wt_braces.specs.PartMembers.{part_members}
 use Rattle.wt_braces.specs.Views.{part_of}
-use Rattle.wt_functions.specs.declared.chooser.Ask.{Ask}
 use Rattle.wt_functions.specs.declared.chooser.Ask.TheVariants.{Tell, Give, Nothing}
-use Rattle.wt_functions.specs.Choice.{Telling, asked, told_count, equal_part, chosen, given as asks_for}
+use Rattle.wt_functions.specs.Choice.{Telling, asked}
 use Rattle.wt_functions.proofs.ChoiceLaws.{told_in_order, given_there}
 use Rattle.wt_expand.specs.Asking.{have_names, answer_of, next_of, asking}
 use Rattle.wt_expand.specs.Texts.{name_text, trimmed_items}
 use Rattle.wt_expand.specs.Targets.{is_function}
 use Rattle.wt_expand.specs.Work.{begun}
-use Rattle.wt_expand.specs.Expansion.{Output, Reading, PartOutput, just, with_break, later_parts, target_part, first_given, chosen_output, function_output, called_output}
+use Rattle.wt_expand.specs.Expansion.{Output, Reading, PartOutput, just, with_break, target_part, chosen_output, function_output, called_output}
 use Rattle.wt_expand.proofs.Turns.{asks_in_turn}
 use Rattle.wt_transclusion.specs.declared.read.Braces.{Braces}
 use Rattle.wt_transclusion.specs.Cursors.{starts}

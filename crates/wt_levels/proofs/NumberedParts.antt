@@ -1,8 +1,7 @@
 -- The part of a number, with what is told and what is given of it.
-use Rattle.std.proofs.Common.{◌≡◌, ℕ, zero, suc, ◌+◌, ◌≤◌, Bool, false, Option, Some, None, option_map, List, [], ◌∷◌, ◌++◌, length, map, drop, refl, sym, ap, ◌∙◌, subst, arith}
+use Rattle.std.proofs.Common.{◌≡◌, ℕ, zero, suc, ◌+◌, ◌≤◌, Bool, false, Option, Some, None, List, [], ◌∷◌, map, drop, refl, sym, ap, ◌∙◌, subst, arith}
 use Rattle.std.specs.Prelude.{slice_get, is_some}
 use Rattle.std.proofs.lemmas.List.{drop-map}
-use Rattle.std.proofs.lemmas.Option.{slice_get-map}
 use Rattle.wt_span.specs.declared.function.Function.{Function}
 use Rattle.wt_span.specs.declared.function.Function.TheVariants.{If, IfEq, Switch}
 use Rattle.wt_span.specs.declared.form.LexKind.TheVariants as lex
@@ -19,7 +18,7 @@ use Rattle.wt_transclusion.specs.Steps.{IsStretchOf, given_from}
 use Rattle.wt_transclusion.proofs.StretchLaws.{width_append}
 use Rattle.wt_levels.specs.Calls.{IsPartAt, next_place, ArePartsAt, IsCallOf, parts_of_call}
 use Rattle.wt_levels.specs.Rests.{later_told}
-use Rattle.wt_levels.specs.ToldParts.{name_end, end_by, start_by, told_end, given_start, have_equals}
+use Rattle.wt_levels.specs.ToldParts.{end_by, start_by, told_end, given_start, have_equals}
 use Rattle.wt_levels.proofs.CallLaws.{some_is, joined_width}
 use Rattle.wt_levels.proofs.CallSteps.{part_get}
 use Rattle.wt_levels.proofs.StepLaws.{drop_none}

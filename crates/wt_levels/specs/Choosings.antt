@@ -1,5 +1,5 @@
 -- Functions whose parts are told one after the other.
-use Rattle.std.specs.Prelude.{◌≡◌, ℕ, Bool, List, [], ◌∷◌, ◌++◌}
+use Rattle.std.specs.Prelude.{◌≡◌, ℕ, List, [], ◌∷◌, ◌++◌}
 use Rattle.wt_span.specs.declared.function.Function.{Function}
 use Rattle.wt_functions.specs.Choice.{Telling}
 use Rattle.wt_transclusion.specs.declared.read.Braces.{Braces}

@@ -77,7 +77,7 @@ pub returns-in_err-end_told-in-First-clause-answer : goal.returns-in_err-end_tol
 returns-in_err-end_told-in-First-clause-answer c = λ r t total h v.
     let w = subst (λ (k : Task). HasEnded r t c.args.self.now k c.args.out total) c.in-First.is h in
     let e : c.from_residual-in_err-end_told-in-First.result ≡ Err c.in_err-end_told-in-First.field-0.0 = search rules in
-    subst (λ x. AnswersTurn r t c.args.spent.now total c.end_told-in-First.new.self c.end_told-in-First.new.spent x) (sym e)
+    subst (λ x. AnswersTurn r t c.args.spent.now total c.end_told.new.self c.end_told.new.spent x) (sym e)
     (c.in_err-end_told-in-First.ensures.answer r t total
     (first_ends r t c.args.self.now c.in-First.choosing c.in-First.part_0 c.args.out c.in_ok-out-in-First.out total w
     (c.in_ok-out-in-First.ensures ∙ ap (λ ps. drop c.in-First.part_0 (items ps)) c.as_slice-in-First.ensures)))
