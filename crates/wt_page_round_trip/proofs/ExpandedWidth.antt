@@ -14,7 +14,7 @@ use Rattle.wt_expand.specs.Stretches.{page_bytes}
 use Rattle.wt_expand.specs.Texts.{name_text}
 use Rattle.wt_expand.specs.Targets.{Called, argument, choice, function, page, text, called}
 use Rattle.wt_expand.specs.Work.{Pages, Entry, entered, begun, fetched, ended, too_large, most_cost, cost_of, if_large, entry_refusal, refusal_from, first_refusal}
-use Rattle.wt_expand.specs.Expansion.{Output, joined, chars, PartOutput, part_outputs, target_part, later_parts, value_of, values_from, parts_work, default_output, if_value, with_break, told_outputs, chosen_output, function_output, Reading, back_braces, called_output, output_of, outputs_of, text_members, page_reading, page_work}
+use Rattle.wt_expand.specs.Expansion.{Output, joined, chars, PartOutput, part_outputs, target_part, later_parts, value_of, values_from, parts_work, default_output, if_value, with_break, function_output, Reading, back_braces, called_output, output_of, outputs_of, text_members, page_reading, page_work}
 use Rattle.wt_expand.specs.PageCalls.{Stretch, own, outer, text_call, call_stretches, stretches_of, all_stretches, from_call, outer_items, numbered, page_stretches, expanded_page}
 use Rattle.wt_expand.proofs.Given.{stretches_join}
 
