@@ -16,7 +16,7 @@ ghost use Rattle.wt_selser.specs.Views.{changes_view, parted_ends, step_view, st
 
 use crate::change::{Change, push_insides};
 use crate::list::{end_of, push_at, push_list, sign_of};
-use crate::steps::Step;
+use crate::steps::{Step, lent};
 use std::alloc::Global;
 use wt_checks::{Visit, is_children, original};
 use wt_content::{has_break, is_mark, is_separator, is_space};
@@ -405,7 +405,8 @@ fn push_list_at<'t, 'a>(
         Some(visit) => {
             let list = visit.node;
             let sign = sign_of(list.kind);
-            push_list(alloc, found, index, sign, list.children.as_slice(), new)?;
+            let old = lent(alloc, list.children.as_slice())?;
+            push_list(alloc, found, index, sign, old.as_slice(), new)?;
             Ok(())
         }
     }

@@ -1,6 +1,6 @@
 //! The slices of a list whose items come and go.
 
-ghost use Rattle.std.specs.Prelude.{◌≡◌, ◌≤◌, ◌++◌, ◌∷◌, [], Bool, List, drop, length, IfOk, OnOk};
+ghost use Rattle.std.specs.Prelude.{◌≡◌, ◌≤◌, ◌++◌, ◌∷◌, [], Bool, List, drop, length, IfOk, OnOk, map};
 ghost use Rattle.wt_tree.specs.Tiling.{end_of};
 ghost use Rattle.wt_tree.specs.Tree.{Tree};
 ghost use Rattle.wt_tree.specs.View.{view, views};
@@ -148,8 +148,8 @@ fn push_all_new_before(
 }
 
 /// Where the first item of the page begins that stands before the one with this number.
-fn first_removed(number: u32, nodes: &[Node<'_>]) -> Option<u32>
-    ensures { result ≡ first_removed number (views nodes.now) }
+fn first_removed(number: u32, nodes: &[&Node<'_>]) -> Option<u32>
+    ensures { result ≡ first_removed number (views (map (λ n. n.now) nodes.now)) }
 {
     for node in nodes {
         if node.id == number {
@@ -251,8 +251,8 @@ fn push_items(
 
 // ---- a list
 
-fn first_start(nodes: &[Node<'_>]) -> u32
-    ensures { result ≡ first_start (views nodes.now) }
+fn first_start(nodes: &[&Node<'_>]) -> u32
+    ensures { result ≡ first_start (views (map (λ n. n.now) nodes.now)) }
 {
     match nodes.first() {
         None => 0,
@@ -266,11 +266,11 @@ pub fn push_list<'t, 'a>(
     found: &mut Vec<Change>,
     index: &[Visit<'t, 'a>],
     sign: char,
-    old: &'t [Node<'a>],
+    old: &[&'t Node<'a>],
     new: &'t [Node<'a>],
 ) -> Result<(), NoMemory>
     ensures { (same : Tree → Tree → Bool) → TellsSame same → OnOk result (changes_view found.new.items
-        ≡ changes_view found.old.items ++ list_slices same (indexed index.now) sign (views old.now) (views new.now)) }
+        ≡ changes_view found.old.items ++ list_slices same (indexed index.now) sign (views (map (λ n. n.now) old.now)) (views new.now)) }
 {
     let kept = &new[first_kept(new)..];
     let Some(first) = kept.first() else {

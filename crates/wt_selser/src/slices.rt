@@ -1,6 +1,6 @@
 //! The slices of the page that an edit replaces, in the order of the page: a walk over the edited tree.
 
-ghost use Rattle.std.specs.Prelude.{◌≡◌, ◌++◌, Bool, IfOk, OnOk};
+ghost use Rattle.std.specs.Prelude.{◌≡◌, ◌++◌, Bool, IfOk, OnOk, map};
 ghost use Rattle.wt_tree.specs.Tree.{Tree};
 ghost use Rattle.wt_tree.specs.View.{view, views};
 ghost use Rattle.wt_kept.specs.Page.{TellsSame};
@@ -16,7 +16,7 @@ use std::alloc::Global;
 use wt_checks::{Visit, is_children};
 use wt_content::Holder;
 use wt_span::NoMemory;
-use wt_tree::Node;
+use wt_tree::{Node, opened_children};
 
 /// Appends the slices of the children of a body that keeps all of them.
 fn push_children<'t, 'a>(
@@ -39,11 +39,11 @@ fn push_slices<'t, 'a>(
     alloc: Global,
     found: &mut Vec<Change>,
     index: &[Visit<'t, 'a>],
-    old: &'t [Node<'a>],
+    old: &[&'t Node<'a>],
     edited: &'t Node<'a>,
 ) -> Result<(), NoMemory>
     ensures { (same : Tree → Tree → Bool) → TellsSame same → OnOk result (changes_view found.new.items
-        ≡ changes_view found.old.items ++ slices_of same (indexed index.now) (views old.now) (view edited.now)) }
+        ≡ changes_view found.old.items ++ slices_of same (indexed index.now) (views (map (λ n. n.now) old.now)) (view edited.now)) }
 {
     let new = edited.children.as_slice();
     if !is_children(edited.mark) {
@@ -67,7 +67,8 @@ pub fn slices<'t, 'a>(
     ensures { (same : Tree → Tree → Bool) → TellsSame same
         → IfOk result (λ cs. changes_view cs.items ≡ slices same (view page.now) (view edited.now)) }
 {
+    let old = opened_children(alloc, page)?;
     let mut found = Vec::new(alloc);
-    push_slices(alloc, &mut found, index, page.children.as_slice(), edited)?;
+    push_slices(alloc, &mut found, index, old.as_slice(), edited)?;
     Ok(found)
 }
