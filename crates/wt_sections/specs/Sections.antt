@@ -51,24 +51,31 @@ pub record Part : Type 0 where
 abbrev pub level_of : Tree → Option ℕ
 level_of t = (spelling (label t).kind).level
 
--- a section of this level or a smaller one
-abbrev pub ends : ℕ → Option ℕ → Bool
-ends level None = false
-ends level (Some n) = nat_le n level
+-- a level that isn't larger than this one, and any level
+abbrev pub at_most : ℕ → ℕ → Bool
+at_most level n = nat_le n level
 
--- the parts up to the first section of this level or a smaller one, as trees, and the parts from there on
-abbrev pub before : ℕ → List Part → Trees
-before level [] = none
-before level (p ∷ ps) = if ends level p.level then none else more p.tree (before level ps)
+abbrev pub any : ℕ → Bool
+any n = true
 
-abbrev pub from : ℕ → List Part → List Part
-from level [] = []
-from level (p ∷ ps) = if ends level p.level then p ∷ ps else from level ps
+-- a section of such a level
+abbrev pub is_of : (ℕ → Bool) → Option ℕ → Bool
+is_of such None = false
+is_of such (Some n) = such n
+
+-- the parts up to the first section of such a level, as trees, and the parts from there on
+abbrev pub before : (ℕ → Bool) → List Part → Trees
+before such [] = none
+before such (p ∷ ps) = if is_of such p.level then none else more p.tree (before such ps)
+
+abbrev pub from : (ℕ → Bool) → List Part → List Part
+from such [] = []
+from such (p ∷ ps) = if is_of such p.level then p ∷ ps else from such ps
 
 -- A child before parts: a heading opens a section of this number, any other child stands by itself.
 abbrev pub put : ℕ → Option ℕ → Tree → List Part → List Part
 put n None t ps = record { level = None; tree = t } ∷ ps
-put n (Some level) t ps = record { level = Some level; tree = section n t (before level ps) } ∷ from level ps
+put n (Some level) t ps = record { level = Some level; tree = section n t (before (at_most level) ps) } ∷ from (at_most level) ps
 
 abbrev pub next : ℕ → Option ℕ → ℕ
 next n None = n
@@ -85,17 +92,13 @@ abbrev pub part_trees : List Part → Trees
 part_trees [] = none
 part_trees (p ∷ ps) = more p.tree (part_trees ps)
 
--- the largest level of a heading
-abbrev pub most_level : ℕ
-most_level = 6
-
 -- the section of what stands before all others, if anything does
 abbrev pub lead_if_any : Trees → Trees → Trees
 lead_if_any none rest = rest
 lead_if_any (more t ts) rest = more (section 0 t ts) rest
 
 abbrev pub with_lead : List Part → Trees
-with_lead ps = lead_if_any (before most_level ps) (part_trees (from most_level ps))
+with_lead ps = lead_if_any (before any ps) (part_trees (from any ps))
 
 -- the children of a body in sections, and the tree of a body with its sections
 abbrev pub gathered : Trees → Trees

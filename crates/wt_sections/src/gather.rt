@@ -5,8 +5,8 @@ use std::alloc::Global;
 use wt_span::{List, NoMemory};
 use wt_tree::Node;
 
-/// Above the level of every heading.
-const LEAD: u8 = 7;
+/// The level of the lead, which every heading ends.
+const LEAD: u8 = u8::MAX;
 
 /// What is gathered so far: the sections that have ended and stand in no other one, and those that may go
 /// on, each inside the one before it, whose levels rise.

@@ -5,7 +5,7 @@ use wt_span::{List, NoMemory, Str};
 use wt_tree::{Kind, Mark, Node, Ranges};
 
 /// A section that may go on: its number, the level of the heading that opened it, and what it holds so
-/// far. Every heading ends the lead, which has the number 0 and a level above all of theirs.
+/// far. The lead has the number 0 and the largest level, so that every heading ends it.
 #[derive(Drop)]
 pub struct OpenSection<'a> {
     pub number: u32,
