@@ -1,2 +1,3 @@
 mod Cases
-mod Opened
+pub mod Opened
+pub mod Tiles

@@ -1,12 +1,12 @@
 -- What the laws of sections speak of.
-use Rattle.std.specs.Prelude.{◌≡◌, ℕ, Bool, true, false, is_some, Option, Some, None, List, [], ◌∷◌, ◌++◌, if◌then◌else◌}
+use Rattle.std.specs.Prelude.{◌≡◌, ℕ, ◌+◌, Bool, true, false, is_some, Option, Some, None, List, [], ◌∷◌, ◌++◌, if◌then◌else◌}
 use Rattle.std.specs.List.{AllByRecursion}
 use Rattle.wt_tree.specs.declared.kind.Kind.{Kind}
 use Rattle.wt_tree.specs.declared.kind.Kind.TheVariants as kind
 use Rattle.wt_tree.specs.Kinds.{is_section}
 use Rattle.wt_tree.specs.Opened.{opened}
 use Rattle.wt_tree.specs.Tree.{Tree, tree, Trees, none, more, label, listed}
-use Rattle.wt_sections.specs.Sections.{at_most, is_of, level_of, next}
+use Rattle.wt_sections.specs.Sections.{ends, level_of, opens}
 
 -- none of these trees is a section
 abbrev pub NoneIsSection : Trees → Type 0
@@ -51,7 +51,7 @@ opening_by n (Some level) t = (kind.Section n, more t none) ∷ []
 -- each heading of these children, in their order, opens one section, with numbers from this one on
 abbrev pub openings : ℕ → Trees → List (Kind × Trees)
 openings n none = []
-openings n (more t ts) = opening_by n (level_of t) t ++ openings (next n (level_of t)) ts
+openings n (more t ts) = opening_by n (level_of t) t ++ openings (n + opens (level_of t)) ts
 
 -- the first child opens the lead, where no heading is the first
 abbrev pub lead_opening : Trees → List (Kind × Trees)
@@ -60,10 +60,9 @@ lead_opening (more t ts) = (kind.Section 0, more t none) ∷ []
 
 -- ---- how far a section goes
 
--- no heading of the same or a smaller level than this one; where there is none, as in the lead, no heading at all
+-- no heading of this level or a smaller one; no heading at all, where no level is said, as in the lead
 abbrev pub IsDeeper : Option ℕ → Tree → Type 0
-IsDeeper None t = level_of t ≡ None
-IsDeeper (Some level) t = is_of (at_most level) (level_of t) ≡ false
+IsDeeper limit t = ends limit (level_of t) ≡ false
 
 -- behind what a section begins with stands in it no heading of the same or a smaller level
 abbrev pub IsDeep : Tree → Type 0

@@ -51,40 +51,35 @@ pub record Part : Type 0 where
 abbrev pub level_of : Tree → Option ℕ
 level_of t = (spelling (label t).kind).level
 
--- a level that isn't larger than this one, and any level
-abbrev pub at_most : ℕ → ℕ → Bool
-at_most level n = nat_le n level
+-- a section of this level or a smaller one; any section, where no level is said
+abbrev pub ends : Option ℕ → Option ℕ → Bool
+ends limit None = false
+ends None (Some level) = true
+ends (Some n) (Some level) = nat_le level n
 
-abbrev pub any : ℕ → Bool
-any n = true
+-- the parts up to the first such section, as trees, and the parts from there on
+abbrev pub before : Option ℕ → List Part → Trees
+before limit [] = none
+before limit (p ∷ ps) = if ends limit p.level then none else more p.tree (before limit ps)
 
--- a section of such a level
-abbrev pub is_of : (ℕ → Bool) → Option ℕ → Bool
-is_of such None = false
-is_of such (Some n) = such n
-
--- the parts up to the first section of such a level, as trees, and the parts from there on
-abbrev pub before : (ℕ → Bool) → List Part → Trees
-before such [] = none
-before such (p ∷ ps) = if is_of such p.level then none else more p.tree (before such ps)
-
-abbrev pub from : (ℕ → Bool) → List Part → List Part
-from such [] = []
-from such (p ∷ ps) = if is_of such p.level then p ∷ ps else from such ps
+abbrev pub from : Option ℕ → List Part → List Part
+from limit [] = []
+from limit (p ∷ ps) = if ends limit p.level then p ∷ ps else from limit ps
 
 -- A child before parts: a heading opens a section of this number, any other child stands by itself.
 abbrev pub put : ℕ → Option ℕ → Tree → List Part → List Part
 put n None t ps = record { level = None; tree = t } ∷ ps
-put n (Some level) t ps = record { level = Some level; tree = section n t (before (at_most level) ps) } ∷ from (at_most level) ps
+put n (Some level) t ps = record { level = Some level; tree = section n t (before (Some level) ps) } ∷ from (Some level) ps
 
-abbrev pub next : ℕ → Option ℕ → ℕ
-next n None = n
-next n (Some level) = n + 1
+-- how many sections a child opens
+abbrev pub opens : Option ℕ → ℕ
+opens None = 0
+opens (Some level) = 1
 
 -- the parts of these children, whose first heading opens the section of this number
 abbrev pub parts : ℕ → Trees → List Part
 parts n none = []
-parts n (more t ts) = put n (level_of t) t (parts (next n (level_of t)) ts)
+parts n (more t ts) = put n (level_of t) t (parts (n + opens (level_of t)) ts)
 
 -- ---- the lead
 
@@ -98,7 +93,7 @@ lead_if_any none rest = rest
 lead_if_any (more t ts) rest = more (section 0 t ts) rest
 
 abbrev pub with_lead : List Part → Trees
-with_lead ps = lead_if_any (before any ps) (part_trees (from any ps))
+with_lead ps = lead_if_any (before None ps) (part_trees (from None ps))
 
 -- the children of a body in sections, and the tree of a body with its sections
 abbrev pub gathered : Trees → Trees

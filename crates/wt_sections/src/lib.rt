@@ -3,6 +3,8 @@
 #![tactic(auto)]
 
 mod gather;
+mod laws;
 mod section;
 
 pub use gather::gather_sections;
+pub use laws::{headings_open_sections, lead_stands_before, sections_open_again, sections_tile};

@@ -1,69 +1,55 @@
 //! A section round what it holds.
 
+ghost use Rattle.std.specs.Prelude.{◌≡◌};
+ghost use Rattle.wt_tree.specs.View.{view, views};
+ghost use Rattle.wt_sections.specs.Gathering.{section_of, span_of};
+ghost use Rattle.wt_sections.specs.Sections.{spanned};
+
 use std::alloc::Global;
-use wt_span::{List, NoMemory, Str};
+use wt_span::{List, Str};
 use wt_tree::{Kind, Mark, Node, Ranges};
 
-/// A section that may go on: its number, the level of the heading that opened it, and what it holds so
-/// far. The lead has the number 0 and the largest level, so that every heading ends it.
-#[derive(Drop)]
-pub struct OpenSection<'a> {
-    pub number: u32,
-    pub level: u8,
-    pub nodes: Vec<Node<'a>>,
-}
-
-impl<'a> OpenSection<'a> {
-    /// The section that begins with this node.
-    pub fn from(
-        alloc: Global,
-        number: u32,
-        level: u8,
-        node: Node<'a>,
-    ) -> Result<OpenSection<'a>, NoMemory> {
-        let nodes = Vec::from_array(alloc, [node])?;
-        Ok(OpenSection {
-            number,
-            level,
-            nodes,
-        })
-    }
-
-    /// Ends the section.
-    pub fn into_node(self, alloc: Global) -> Node<'a> {
-        let ranges = spanned(self.nodes.as_slice());
-        Node {
-            kind: Kind::Section(self.number),
-            id: 0,
-            ranges,
-            opening: List::new(alloc),
-            closing: List::new(alloc),
-            own: List::new(alloc),
-            shown: Str::new(alloc),
-            attrs: List::new(alloc),
-            origin: None,
-            mark: Mark::Nothing,
-            mw: None,
-            children: List::from_vec(self.nodes),
-        }
+fn joined(first: Option<Ranges>, last: Option<Ranges>) -> Option<Ranges>
+    ensures { result ≡ spanned first last }
+{
+    match (first, last) {
+        (Some(first), Some(last)) => Some(Ranges {
+            start: first.start,
+            end: last.end,
+            open_w: 0,
+            close_w: 0,
+        }),
+        _ => None,
     }
 }
 
 /// From where the first node begins to where the last one ends.
-fn spanned(nodes: &[Node<'_>]) -> Option<Ranges> {
-    let Some(first) = nodes.first() else {
-        return None;
-    };
-    let Some(last) = nodes.last() else {
-        return None;
-    };
-    let (Some(from), Some(to)) = (first.ranges, last.ranges) else {
-        return None;
-    };
-    Some(Ranges {
-        start: from.start,
-        end: to.end,
-        open_w: 0,
-        close_w: 0,
-    })
+fn span_of(nodes: &[Node<'_>]) -> Option<Ranges>
+    ensures { result ≡ span_of (views nodes.now) }
+{
+    match (nodes.first(), nodes.last()) {
+        (Some(first), Some(last)) => joined(first.ranges, last.ranges),
+        _ => None,
+    }
+}
+
+/// The section of this number that holds these nodes.
+pub fn section_of<'a>(alloc: Global, number: u32, nodes: Vec<Node<'a>>) -> Node<'a>
+    ensures { view result ≡ section_of number (views nodes.items) }
+{
+    let ranges = span_of(nodes.as_slice());
+    Node {
+        kind: Kind::Section(number),
+        id: 0,
+        ranges,
+        opening: List::new(alloc),
+        closing: List::new(alloc),
+        own: List::new(alloc),
+        shown: Str::new(alloc),
+        attrs: List::new(alloc),
+        origin: None,
+        mark: Mark::Nothing,
+        mw: None,
+        children: List::from_vec(nodes),
+    }
 }
