@@ -1,3 +1,4 @@
 mod Cases
+pub mod Gathers
 pub mod Opened
 pub mod Tiles

@@ -27,11 +27,13 @@ all_in_order (more t ts) a m h =
 -- the last of trees that follow one another ends where they end
 last_by : (ts : Trees) (r : Ranges) (m : ℕ) → TiledFrom ts r.end m → (s : Ranges) × (last_ranges (Some r) ts ≡ Some s) × (s.end ≡ m)
 last_by none r m h = (r, refl, h)
-last_by (more t ts) r m h = by_ranges (label t).ranges h.0 h.2
+last_by (more t ts) r m h = by_ranges (label t).ranges h.0 h.2 (λ q g. last_by ts q m g)
   where
-    by_ranges : (o : Option Ranges) → BeginsAt r.end o → TiledFrom ts (end_of o) m → (s : Ranges) × (last_ranges o ts ≡ Some s) × (s.end ≡ m)
-    by_ranges None b g = absurd b
-    by_ranges (Some q) b g = last_by ts q m g
+    by_ranges : (o : Option Ranges) → BeginsAt r.end o → TiledFrom ts (end_of o) m
+        → ((q : Ranges) → TiledFrom ts q.end m → (s : Ranges) × (last_ranges (Some q) ts ≡ Some s) × (s.end ≡ m))
+        → (s : Ranges) × (last_ranges o ts ≡ Some s) × (s.end ≡ m)
+    by_ranges None b g f = absurd b
+    by_ranges (Some q) b g f = f q g
 
 -- ---- a section
 
@@ -66,13 +68,13 @@ section_tiled n t us vs a m b h g =
 cut_tiled : (limit : Option ℕ) (ps : List Part) (a b : ℕ) → TiledFrom (part_trees ps) a b
     → (m : ℕ) × TiledFrom (before limit ps) a m × TiledFrom (part_trees (from limit ps)) m b
 cut_tiled limit [] a b h = (a, refl, h)
-cut_tiled limit (p ∷ ps) a b h = by_test (ends limit p.level)
+cut_tiled limit (p ∷ ps) a b h = by_test (ends limit p.level) (cut_tiled limit ps (end_of (label p.tree).ranges) b h.2)
   where
-    by_test : (v : Bool) → (m : ℕ) × TiledFrom (cond v none (more p.tree (before limit ps))) a m × TiledFrom (part_trees (cond v (p ∷ ps) (from limit ps))) m b
-    by_test true = (a, refl, h)
-    by_test false =
-        let rest = cut_tiled limit ps (end_of (label p.tree).ranges) b h.2 in
-        (rest.0, (h.0, h.1, rest.1), rest.2)
+    by_test : (v : Bool)
+        → ((m : ℕ) × TiledFrom (before limit ps) (end_of (label p.tree).ranges) m × TiledFrom (part_trees (from limit ps)) m b)
+        → (m : ℕ) × TiledFrom (cond v none (more p.tree (before limit ps))) a m × TiledFrom (part_trees (cond v (p ∷ ps) (from limit ps))) m b
+    by_test true rest = (a, refl, h)
+    by_test false rest = (rest.0, (h.0, h.1, rest.1), rest.2)
 
 put_tiled : (o : Option ℕ) (n : ℕ) (t : Tree) (ps : List Part) (a b : ℕ) → TiledFrom (more t (part_trees ps)) a b → TiledFrom (part_trees (put n o t ps)) a b
 put_tiled None n t ps a b h = h

@@ -1,11 +1,10 @@
 //! A body's children, gathered into sections from the last one on.
 
-ghost use Rattle.std.specs.Prelude.{◌≡◌, ◌+◌, ◌∷◌, ◌<◌, [], is_some, reverse, map, IfOk, OnOk};
+ghost use Rattle.std.specs.Prelude.{◌≡◌, ◌∷◌, [], IfOk, OnOk};
 ghost use Rattle.wt_tree.specs.Recutting.{appended};
-ghost use Rattle.wt_tree.specs.Tree.{more, none};
 ghost use Rattle.wt_tree.specs.View.{view, views};
-ghost use Rattle.wt_sections.specs.Gathering.{heading_count, opens, parts_view, section_if_any};
-ghost use Rattle.wt_sections.specs.Sections.{before, ends, from, gathered, level_of, part_trees, parts, put, with_lead, with_sections};
+ghost use Rattle.wt_sections.specs.Gathering.{heading_count, parts_view, section_if_any};
+ghost use Rattle.wt_sections.specs.Sections.{before, ends, from, gathered, level_of, opens, part_trees, parts, put, with_lead, with_sections};
 
 use crate::section::section_of;
 use std::alloc::Global;
@@ -90,10 +89,14 @@ fn put<'a>(
     }
 }
 
-fn is_heading(node: &Node<'_>) -> bool
-    ensures { result ≡ is_some (level_of (view node.now)) }
+/// How many sections a node opens.
+fn opens(node: &Node<'_>) -> u32
+    ensures { result ≡ opens (level_of (view node.now)) }
 {
-    node.kind.level().is_some()
+    match node.kind.level() {
+        None => 0,
+        Some(_) => 1,
+    }
 }
 
 /// How many of these nodes are headings. More than there are numbers don't fit into memory.
@@ -102,29 +105,26 @@ fn heading_count(nodes: &[Node<'_>]) -> Result<u32, NoMemory>
 {
     let mut count = 0;
     for node in nodes {
-        if is_heading(node) {
-            if count == u32::MAX {
-                return Err(NoMemory);
-            }
-            count += 1;
+        let opens = opens(node);
+        if count > u32::MAX - opens {
+            return Err(NoMemory);
         }
+        count += opens;
     }
     Ok(count)
 }
 
 /// The parts of a body with these children, of which the last stands first.
 fn parts_of<'a>(alloc: Global, nodes: Vec<Node<'a>>) -> Result<Vec<Part<'a>>, NoMemory>
-    ensures { IfOk result (λ ps. parts_view ps.items ≡ parts 1 (views nodes.items)) }
+    ensures { IfOk result (λ ps. parts_view ps.items ≡ parts 1 (views nodes.entry.items)) }
 {
     let mut number = heading_count(nodes.as_slice())?;
     let mut left = nodes;
     let mut parts = Vec::new(alloc);
     while let Some(node) = left.pop() {
-        let is_heading = is_heading(&node);
+        let opens = opens(&node);
         put(alloc, &mut parts, number, node)?;
-        if is_heading {
-            number -= 1;
-        }
+        number -= opens;
     }
     Ok(parts)
 }
@@ -135,7 +135,7 @@ fn push_lead<'a>(
     out: &mut Vec<Node<'a>>,
     nodes: Vec<Node<'a>>,
 ) -> Result<(), NoMemory>
-    ensures { OnOk result (views out.new.items ≡ appended (views out.old.items) (section_if_any (views nodes.items))) }
+    ensures { OnOk result (views out.new.items ≡ appended (views out.old.items) (section_if_any (views nodes.entry.items))) }
 {
     if nodes.is_empty() {
         return Ok(());
@@ -146,7 +146,7 @@ fn push_lead<'a>(
 
 /// Puts parts, of which the last stands first, behind what stands there.
 fn push_parts<'a>(out: &mut Vec<Node<'a>>, parts: Vec<Part<'a>>) -> Result<(), NoMemory>
-    ensures { OnOk result (views out.new.items ≡ appended (views out.old.items) (part_trees (parts_view parts.items))) }
+    ensures { OnOk result (views out.new.items ≡ appended (views out.old.items) (part_trees (parts_view parts.entry.items))) }
 {
     let mut left = parts;
     while let Some(part) = left.pop() {
