@@ -1,5 +1,5 @@
 use Rattle.std.proofs.Common.{◌≡◌, ◌<◌, length, arith}
-use Rattle.std.proofs.lemmas.Grind.{nat_tests}
+use Rattle.std.proofs.lemmas.Bool.Decides.{nat_tests}
 use Rattle.wt_tree.specs.View.{views}
 use Rattle.wt_sections.proofs.Gathers.{no_lead, lead_pushed}
 use Rattle.wt_sections.proofs.gather.push_lead.Goals as goal
