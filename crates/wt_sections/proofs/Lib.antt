@@ -1,4 +1,5 @@
 mod Cases
 pub mod Gathers
+pub mod Kept
 pub mod Opened
 pub mod Tiles

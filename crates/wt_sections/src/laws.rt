@@ -2,7 +2,9 @@
 
 ghost use Rattle.std.specs.Prelude.{◌≡◌, ◌++◌, map};
 ghost use Rattle.wt_tree.specs.Opened.{opened};
-ghost use Rattle.wt_tree.specs.Tiling.{Tiled};
+ghost use Rattle.wt_tree.specs.Plain.{plain};
+ghost use Rattle.wt_tree.specs.Source.{flat};
+ghost use Rattle.wt_tree.specs.Tiling.{InPreorder, Tiled};
 ghost use Rattle.wt_tree.specs.Tree.{Tree, Trees};
 ghost use Rattle.wt_sections.specs.Sections.{gathered, lead_if_any, with_sections};
 ghost use Rattle.wt_sections.specs.SectionLaws.{NoneIsSection, from_heading, lead_opening, opening, openings, sections_in_all, up_to_heading};
@@ -28,4 +30,12 @@ pub fn lead_stands_before()
 /// The ranges of a tree that tile it do so with its sections, too: sections tile the body.
 pub fn sections_tile()
     ensures { (t : Tree) → Tiled t → Tiled (with_sections t) }
+{}
+
+/// With its sections a tree has the source and the plain view that it has without, and its numbers stay in
+/// preorder: sections have none.
+pub fn sections_leave_the_page()
+    ensures source { (t : Tree) → flat (with_sections t) ≡ flat t }
+    ensures shown { (t : Tree) → plain (with_sections t) ≡ plain t }
+    ensures numbers { (t : Tree) → InPreorder t → InPreorder (with_sections t) }
 {}

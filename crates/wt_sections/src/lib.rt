@@ -7,4 +7,7 @@ mod laws;
 mod section;
 
 pub use gather::gather_sections;
-pub use laws::{headings_open_sections, lead_stands_before, sections_open_again, sections_tile};
+pub use laws::{
+    headings_open_sections, lead_stands_before, sections_leave_the_page, sections_open_again,
+    sections_tile,
+};
