@@ -69,6 +69,8 @@ pub mod ExpandedItems
 pub mod ExpandedWidth
 pub mod ExpandedPages
 pub mod OpenedPages
+pub mod SectionSlices
+pub mod Sectioned
 pub mod PageTrees
 pub mod HeldPages
 pub mod Pages

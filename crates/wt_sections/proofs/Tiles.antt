@@ -17,7 +17,7 @@ order_by false (Some r) inside a b h = omega (arith, b, h.0)
 in_order : (t : Tree) (a : ℕ) → BeginsAt a (label t).ranges → Tiled t → a ≤ end_of (label t).ranges
 in_order (tree l ts) a b h = order_by (is_leaf l.kind) l.ranges (λ from to. TiledFrom ts from to) a b h
 
-all_in_order : (ts : Trees) (a m : ℕ) → TiledFrom ts a m → a ≤ m
+pub all_in_order : (ts : Trees) (a m : ℕ) → TiledFrom ts a m → a ≤ m
 all_in_order none a m h = omega (arith, h)
 all_in_order (more t ts) a m h =
     let first : a ≤ end_of (label t).ranges = in_order t a h.0 h.1 in
@@ -44,10 +44,10 @@ span_tiled r s ts a m b e o h =
     let to_is : m ≡ s.end - 0 = omega (arith, e) in
     (omega (arith, b, e, o), subst (λ (x : ℕ). TiledFrom ts x (s.end - 0)) from_is (subst (λ (y : ℕ). TiledFrom ts a y) to_is h))
 
-abbrev Spans : Option Ranges → Trees → ℕ → ℕ → Type 0
+abbrev pub Spans : Option Ranges → Trees → ℕ → ℕ → Type 0
 Spans q ts a m = BeginsAt a q × TiledBy false q (λ from to. TiledFrom ts from to) × (end_of q ≡ m)
 
-spans : (o : Option Ranges) (us ts : Trees) (a m : ℕ) → BeginsAt a o → TiledFrom us (end_of o) m → a ≤ m → TiledFrom ts a m
+pub spans : (o : Option Ranges) (us ts : Trees) (a m : ℕ) → BeginsAt a o → TiledFrom us (end_of o) m → a ≤ m → TiledFrom ts a m
     → Spans (spanned o (last_ranges o us)) ts a m
 spans None us ts a m b h o g = absurd b
 spans (Some r) us ts a m b h o g =
@@ -65,7 +65,7 @@ section_tiled n t us vs a m b h g =
 -- ---- parts
 
 -- where the parts are cut, the trees before end and those behind begin
-cut_tiled : (limit : Option ℕ) (ps : List Part) (a b : ℕ) → TiledFrom (part_trees ps) a b
+pub cut_tiled : (limit : Option ℕ) (ps : List Part) (a b : ℕ) → TiledFrom (part_trees ps) a b
     → (m : ℕ) × TiledFrom (before limit ps) a m × TiledFrom (part_trees (from limit ps)) m b
 cut_tiled limit [] a b h = (a, refl, h)
 cut_tiled limit (p ∷ ps) a b h = by_test (ends limit p.level) (cut_tiled limit ps (end_of (label p.tree).ranges) b h.2)
@@ -82,7 +82,7 @@ put_tiled (Some level) n t ps a b h =
     let cut = cut_tiled (Some level) ps (end_of (label t).ranges) b h.2 in
     section_tiled n t (before (Some level) ps) (part_trees (from (Some level) ps)) a cut.0 b (h.0, h.1, cut.1) cut.2
 
-parts_tiled : (ts : Trees) (n a b : ℕ) → TiledFrom ts a b → TiledFrom (part_trees (parts n ts)) a b
+pub parts_tiled : (ts : Trees) (n a b : ℕ) → TiledFrom ts a b → TiledFrom (part_trees (parts n ts)) a b
 parts_tiled none n a b h = h
 parts_tiled (more t ts) n a b h =
     put_tiled (level_of t) n t (parts (n + opens (level_of t)) ts) a b
