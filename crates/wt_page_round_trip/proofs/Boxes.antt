@@ -59,6 +59,7 @@ box_label q r attrs opening own closing b =
     let inner_node : is_leaf q ≡ false = ap (λ (y : Shape). y.is_leaf) r.shape_is in
     let no_data : is_extension_label l ≡ false = extends in
     record {
+      element = ap (λ (y : Shape). is_class y.class SectionClass) r.shape_is ∙ r.block;
       level = r.level;
       source = subst (λ v. HasSource v l) (sym inner_node)
           (record { own = refl; opening = page_utf8 opening b.opening; closing = page_utf8 closing b.closing });

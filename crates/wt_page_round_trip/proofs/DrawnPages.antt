@@ -216,6 +216,7 @@ walked_body calls ts = walked calls (group_data calls) None 0 None (body_of ts)
 body_label : (at : ℕ) (source : List ℕ) → IsShownLabel (kept_label false (plain kind.Body) at source [] [])
 unfolding spelling
 body_label at source = record {
+  element = refl;
   level = refl;
   source = record { own = refl; opening = IsUtf8-nil; closing = IsUtf8-nil };
   shown = refl;

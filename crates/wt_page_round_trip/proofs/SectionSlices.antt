@@ -41,13 +41,13 @@ run_stands : (page : List ℕ) (ts : Trees) (a m : ℕ) → a ≤ length page �
 run_stands page none a m w h g = (omega (arith, h), omega (arith, w, h), ap (slice page a) (sym h) ∙ nothing_between page a)
 run_stands page (more (tree l us) ts) a m w h g =
     let s = split (IsSlice page) (reached (tree l us)) (reached_in_all ts) g in
-    by_ranges l.ranges h.0 h.2 s.0.0 s.1
+    by_ranges l.ranges h.0 h.2 s.0.0 (λ b v k. run_stands page ts b m v k s.1)
   where
     by_ranges : (o : Option Ranges) → BeginsAt a o → TiledFrom ts (end_of o) m → StandsIn page o (flat (tree l us)) (opening_of l) l.closing
-        → AllSlices page ts → HasSources page (more (tree l us) ts) a m
+        → ((b : ℕ) → b ≤ length page → TiledFrom ts b m → HasSources page ts b m) → HasSources page (more (tree l us) ts) a m
     by_ranges None b k s i = absurd b
     by_ranges (Some r) b k s i =
-        let rest : HasSources page ts r.end m = run_stands page ts r.end m s.within k i in
+        let rest : HasSources page ts r.end m = i r.end s.within k in
         let begins : a ≤ r.end = omega (arith, b, s.ordered) in
         let first : slice page a r.end ≡ flat (tree l us) = ap (λ x. slice page x r.end) (sym b) ∙ s.stands in
         (
@@ -96,13 +96,15 @@ section_slices page n t us vs a m h g i =
 cut_slices : (page : List ℕ) (limit : Option ℕ) (ps : List Part) → AllSlices page (part_trees ps)
     → AllSlices page (before limit ps) × AllSlices page (part_trees (from limit ps))
 cut_slices page limit [] h = (tt, tt)
-cut_slices page limit (p ∷ ps) h = by_test (ends limit p.level)
+cut_slices page limit (p ∷ ps) h = by_test (ends limit p.level) (cut_slices page limit ps)
   where
-    by_test : (v : Bool) → AllSlices page (cond v none (more p.tree (before limit ps))) × AllSlices page (part_trees (cond v (p ∷ ps) (from limit ps)))
-    by_test true = (tt, h)
-    by_test false =
+    by_test : (v : Bool)
+        → (AllSlices page (part_trees ps) → AllSlices page (before limit ps) × AllSlices page (part_trees (from limit ps)))
+        → AllSlices page (cond v none (more p.tree (before limit ps))) × AllSlices page (part_trees (cond v (p ∷ ps) (from limit ps)))
+    by_test true again = (tt, h)
+    by_test false again =
         let s = split (IsSlice page) (reached p.tree) (reached_in_all (part_trees ps)) h in
-        let r = cut_slices page limit ps s.1 in
+        let r = again s.1 in
         (both (IsSlice page) (reached p.tree) (reached_in_all (before limit ps)) s.0 r.0, r.1)
 
 put_slices : (page : List ℕ) (o : Option ℕ) (n : ℕ) (t : Tree) (ps : List Part) (a b : ℕ) → TiledFrom (more t (part_trees ps)) a b

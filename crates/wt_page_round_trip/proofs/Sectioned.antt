@@ -68,21 +68,22 @@ begins_before b limit (p ∷ ps) e = by_test (ends limit p.level)
 
 from_stands : (limit : Option ℕ) (ps : List Part) → AllMayStand ps → AllMayStand (from limit ps)
 from_stands limit [] h = tt
-from_stands limit (p ∷ ps) h = by_test (ends limit p.level)
+from_stands limit (p ∷ ps) h = by_test (ends limit p.level) (from_stands limit ps h.2)
   where
-    by_test : (v : Bool) → AllMayStand (cond v (p ∷ ps) (from limit ps))
-    by_test true = h
-    by_test false = from_stands limit ps h.2
+    by_test : (v : Bool) → AllMayStand (from limit ps) → AllMayStand (cond v (p ∷ ps) (from limit ps))
+    by_test true g = h
+    by_test false g = g
 
 -- what stands before the cut, in a section
 before_stands : (limit : Option ℕ) (ps : List Part) (k : ℕ) → AllMayStand ps → ((o : Option ℕ) → ends limit o ≡ false → k ≤ deepest o)
     → PartsIn k (kind.Section 0) (before limit ps)
 before_stands limit [] k h le = tt
-before_stands limit (p ∷ ps) k h le = by_test (ends limit p.level) refl
+before_stands limit (p ∷ ps) k h le = by_test (ends limit p.level) refl (before_stands limit ps k h.2 le)
   where
-    by_test : (v : Bool) → ends limit p.level ≡ v → PartsIn k (kind.Section 0) (cond v none (more p.tree (before limit ps)))
-    by_test true e = tt
-    by_test false e = (h.0.in_section k (le p.level e), begins_before (is_text p.tree) limit ps h.1, before_stands limit ps k h.2 le)
+    by_test : (v : Bool) → ends limit p.level ≡ v → PartsIn k (kind.Section 0) (before limit ps)
+        → PartsIn k (kind.Section 0) (cond v none (more p.tree (before limit ps)))
+    by_test true e g = tt
+    by_test false e g = (h.0.in_section k (le p.level e), begins_before (is_text p.tree) limit ps h.1, g)
 
 parts_stand : (ps : List Part) → AllMayStand ps → PartsIn 2 kind.Body (part_trees ps)
 parts_stand [] h = tt

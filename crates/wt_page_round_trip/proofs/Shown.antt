@@ -14,7 +14,7 @@ use Rattle.wt_tree.specs.declared.row.Holding.TheVariants as holding
 use Rattle.wt_tree.specs.declared.row.Texts.{Texts}
 use Rattle.wt_tree.specs.declared.row.Texts.TheVariants.{Separators, Page, Bordered, OwnCharacter}
 use Rattle.wt_tree.specs.declared.row.Writing.{Writing}
-use Rattle.wt_tree.specs.declared.row.Writing.TheVariants.{AsText, AsVoid, RoundCharacter, RoundChildren, Unwritten}
+use Rattle.wt_tree.specs.declared.row.Writing.TheVariants.{AsText, AsVoid, RoundCharacter, RoundChildren, AsSection, Unwritten}
 use Rattle.wt_html_grammar.proofs.Steps.{if_false}
 use Rattle.wt_tree.specs.Elements.{span, as_elements, or_empty_span}
 use Rattle.wt_tree.specs.Kinds.{shape, writing, is_leaf, showing, texts_of_kind, admits, is_anywhere, may_hold, is_block, is_inline, may_follow}
@@ -154,6 +154,7 @@ element_by AsText k q l childless inside e h = absurd cc
 element_by AsVoid k q l childless inside e h = h
 element_by RoundCharacter k q l childless inside e h = h
 element_by RoundChildren k q l childless inside e h = h
+element_by (AsSection n) k q l childless inside e h = absurd h
 element_by Unwritten k q l childless inside e h = absurd cc
 
 group_writing : (k : Kind) → is_group k ≡ true → writing k ≡ Unwritten
@@ -180,6 +181,7 @@ character_by AsText k q l childless inside e s h = text_shown q l h.0 s
 character_by AsVoid k q l childless inside e s h = entity_shown q l s (ap is_element e) h.1 h.2.shown
 character_by RoundCharacter k q l childless inside e s h = entity_shown q l s (ap is_element e) h.1 h.2.shown
 character_by RoundChildren k q l childless inside e s h = entity_shown q l s (ap is_element e) h.1 h.2.shown
+character_by (AsSection n) k q l childless inside e s h = absurd h
 character_by Unwritten k q l childless inside e s h = absurd (empty_shows l.kind h.0 s)
 
 nowiki_kind : (k : Kind) → showing k ≡ Inside → is_group k ≡ false → k ≡ kind.Nowiki
@@ -206,7 +208,7 @@ nowiki_element kind.Switch e f = (refl, refl)
 nowiki_element k e f = absurd cc
 
 face_is : (l : Label) → showing l.kind ≡ Element → IsShownLabel l → IsFace (face l)
-face_is l e h = record { level = h.level; attrs = h.attrs; shows = shown_element l.kind e }
+face_is l e h = record { element = h.element; level = h.level; attrs = h.attrs; shows = shown_element l.kind e }
 
 abbrev InsideOf : ℕ → Label → Trees → Type 0
 InsideOf k l ts = IsOrdered (texts_of_kind l.kind) ts × AreShownIn (suc k) l.kind ts

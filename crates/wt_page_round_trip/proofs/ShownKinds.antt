@@ -130,4 +130,4 @@ leaf_ended false (more t ts) h = absurd cc
 
 pub span_is : IsFace span
 unfolding spelling
-span_is = record { level = refl; attrs = inr (refl, inr (refl, inr (refl, inr (refl, inr (refl, inr (refl, refl)))))); shows = refl }
+span_is = record { element = refl; level = refl; attrs = inr (refl, inr (refl, inr (refl, inr (refl, inr (refl, inr (refl, refl)))))); shows = refl }

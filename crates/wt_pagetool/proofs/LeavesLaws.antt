@@ -7,7 +7,7 @@ use Rattle.std.specs.List.{AllByRecursion}
 use Rattle.wt_tree.specs.declared.kind.Kind.{Kind}
 use Rattle.wt_tree.specs.declared.kind.Kind.TheVariants as kind
 use Rattle.wt_tree.specs.declared.row.Writing.{Writing}
-use Rattle.wt_tree.specs.declared.row.Writing.TheVariants.{AsText, AsVoid, RoundCharacter, RoundChildren, Unwritten}
+use Rattle.wt_tree.specs.declared.row.Writing.TheVariants.{AsText, AsVoid, RoundCharacter, RoundChildren, AsSection, Unwritten}
 use Rattle.wt_tree.specs.Kinds.{is_leaf, is_numbered, writing, texts_of_kind}
 use Rattle.wt_checks.specs.Places.{is_body}
 use Rattle.wt_round_trip.proofs.Rows.{held}
@@ -61,6 +61,7 @@ leaf_childless AsText k parent l childless inside group h g e = h.1
 leaf_childless AsVoid k parent l childless inside group h g e = by_leaf (is_leaf l.kind) childless h.3 e
 leaf_childless RoundCharacter k parent l childless inside group h g e = by_leaf (is_leaf l.kind) childless h.3 e
 leaf_childless RoundChildren k parent l childless inside group h g e = by_leaf (is_leaf l.kind) childless h.3 e
+leaf_childless (AsSection n) k parent l childless inside group h g e = absurd h
 leaf_childless Unwritten k parent l childless inside group h g e = absurd (g h)
 
 -- what a node holds is written, or it holds nothing
@@ -71,6 +72,7 @@ below AsText k parent l ts inside group h g f = none_below ts h.1
 below AsVoid k parent l ts inside group h g f = f h.4
 below RoundCharacter k parent l ts inside group h g f = f h.4
 below RoundChildren k parent l ts inside group h g f = f h.4
+below (AsSection n) k parent l ts inside group h g f = absurd h
 below Unwritten k parent l ts inside group h g f = absurd (g h)
 
 no_group : (k : ℕ) (parent : Kind) (l : Label) (ts : Trees) → is_group l.kind ≡ false → IsWrittenGroup k parent l ts → ⊥
@@ -131,9 +133,10 @@ text_no_body k e = refl
 stands : (w : Writing) (k : ℕ) (parent : Kind) (l : Label) (ts : Trees) (childless : Bool) (inside : Type 0) → writing l.kind ≡ w
     → NodeIsWritten w k parent l childless inside (IsWrittenGroup k parent l ts) → is_body l.kind ≡ false
 stands AsText k parent l ts childless inside e h = text_no_body l.kind e
-stands AsVoid k parent l ts childless inside e h = no_body l.kind (held parent l.kind h.1)
-stands RoundCharacter k parent l ts childless inside e h = no_body l.kind (held parent l.kind h.1)
-stands RoundChildren k parent l ts childless inside e h = no_body l.kind (held parent l.kind h.1)
+stands AsVoid k parent l ts childless inside e h = no_body l.kind (held parent l.kind h.1 h.2.element)
+stands RoundCharacter k parent l ts childless inside e h = no_body l.kind (held parent l.kind h.1 h.2.element)
+stands RoundChildren k parent l ts childless inside e h = no_body l.kind (held parent l.kind h.1 h.2.element)
+stands (AsSection n) k parent l ts childless inside e h = absurd h
 stands Unwritten k parent l ts childless inside e h = ap is_body h.label.kind
 
 none_body : (ts : Trees) → is_childless ts ≡ true → NoneIsBody ts
@@ -147,6 +150,7 @@ holds AsText k parent l ts inside h f = λ e. none_body ts h.1
 holds AsVoid k parent l ts inside h f = λ e. f h.4
 holds RoundCharacter k parent l ts inside h f = λ e. f h.4
 holds RoundChildren k parent l ts inside h f = λ e. f h.4
+holds (AsSection n) k parent l ts inside h f = absurd h
 holds Unwritten k parent l ts inside h f = λ e. let g : true ≡ false = sym (ap is_leaf h.label.kind) ∙ e in cc
 
 mutual

@@ -10,7 +10,7 @@ use Rattle.wt_tree.specs.declared.kind.Mark.TheVariants as mark
 use Rattle.wt_tree.specs.declared.kind.Showing.{Showing}
 use Rattle.wt_tree.specs.declared.kind.Showing.TheVariants.{Characters, Inside, Nothing, Element}
 use Rattle.wt_tree.specs.declared.row.Writing.{Writing}
-use Rattle.wt_tree.specs.declared.row.Writing.TheVariants.{AsText, AsVoid, RoundCharacter, RoundChildren, Unwritten}
+use Rattle.wt_tree.specs.declared.row.Writing.TheVariants.{AsText, AsVoid, RoundCharacter, RoundChildren, AsSection, Unwritten}
 use Rattle.wt_tree.specs.Kinds.{showing, writing}
 use Rattle.wt_tree.specs.Plain.{Plains, ended, shown_before, plain_before, plains_before}
 use Rattle.wt_tree.specs.Tiling.{is_group, InPreorder}
@@ -69,6 +69,7 @@ inside_written AsText l ts k parent Cut g h = childless_written ts (suc k) l.kin
 inside_written AsVoid l ts k parent Cut g h = h.4.1
 inside_written RoundCharacter l ts k parent Cut g h = h.4.1
 inside_written RoundChildren l ts k parent Cut g h = h.4.1
+inside_written (AsSection n) l ts k parent Cut g h = absurd h
 inside_written Unwritten l ts k parent Cut g h = absurd (true_is (is_group l.kind) g (ap is_group h.label.kind))
 
 written_group : (l : Label) (ts : Trees) (k : ℕ) (parent : Kind) (Content : Type 0) → is_group l.kind ≡ true

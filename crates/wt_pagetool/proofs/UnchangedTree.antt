@@ -7,7 +7,7 @@ use Rattle.wt_tree.specs.declared.kind.Kind.TheVariants as kind
 use Rattle.wt_tree.specs.declared.kind.Mark.{Mark}
 use Rattle.wt_tree.specs.declared.kind.Mark.TheVariants as mark
 use Rattle.wt_tree.specs.declared.row.Writing.{Writing}
-use Rattle.wt_tree.specs.declared.row.Writing.TheVariants.{AsText, AsVoid, RoundCharacter, RoundChildren, Unwritten}
+use Rattle.wt_tree.specs.declared.row.Writing.TheVariants.{AsText, AsVoid, RoundCharacter, RoundChildren, AsSection, Unwritten}
 use Rattle.wt_tree.specs.Kinds.{shape, showing, writing, is_numbered}
 use Rattle.wt_tree.specs.Tiling.{is_group, ids, ids_of_all, others, others_of_all, InPreorder}
 use Rattle.wt_tree.specs.Tree.{Label, Tree, tree, Trees, none, more, label}
@@ -72,6 +72,7 @@ entry_read AsText l = refl
 entry_read AsVoid l = refl
 entry_read RoundCharacter l = refl
 entry_read RoundChildren l = refl
+entry_read (AsSection n) l = refl
 entry_read Unwritten l = refl
 
 entries_read : (ts : Trees) → entries (unranged_all ts) ≡ entries ts
@@ -183,9 +184,10 @@ node_by : (w : Writing) (l : Label) (ts : Trees) (k : ℕ) (parent : Kind) (page
     → (Inside → AllByRecursion (IsAgain page) (all_placed (parent_below n l.id) (within || is_content l.mark) (unranged_all ts)))
     → AllByRecursion (IsAgain page) (placed n within (unranged (tree l ts)))
 node_by AsText l ts k parent page n within Cut Inside e h s f = text_again l ts parent page n within e h
-node_by AsVoid l ts k parent page n within Cut Inside e h s f = element_again l ts page n within (held parent l.kind h.1) h.2 s (f h.4.1)
-node_by RoundCharacter l ts k parent page n within Cut Inside e h s f = element_again l ts page n within (held parent l.kind h.1) h.2 s (f h.4.1)
-node_by RoundChildren l ts k parent page n within Cut Inside e h s f = element_again l ts page n within (held parent l.kind h.1) h.2 s (f h.4.1)
+node_by AsVoid l ts k parent page n within Cut Inside e h s f = element_again l ts page n within (held parent l.kind h.1 h.2.element) h.2 s (f h.4.1)
+node_by RoundCharacter l ts k parent page n within Cut Inside e h s f = element_again l ts page n within (held parent l.kind h.1 h.2.element) h.2 s (f h.4.1)
+node_by RoundChildren l ts k parent page n within Cut Inside e h s f = element_again l ts page n within (held parent l.kind h.1 h.2.element) h.2 s (f h.4.1)
+node_by (AsSection s) l ts k parent page n within Cut Inside e h r f = absurd h
 node_by Unwritten l ts k parent page n within Cut Inside e h s f = group_again l ts k parent page n within h s
 
 mutual
