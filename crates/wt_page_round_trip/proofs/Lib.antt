@@ -57,6 +57,9 @@ pub mod KeptNodes
 pub mod DrawnRuns
 pub mod NumbersFew
 pub mod GroupCounts
+pub mod SectionSlices
+pub mod SectionGroups
+pub mod Sectioned
 pub mod DrawnPages
 pub mod OwnItems
 pub mod PageCalls
@@ -69,8 +72,6 @@ pub mod ExpandedItems
 pub mod ExpandedWidth
 pub mod ExpandedPages
 pub mod OpenedPages
-pub mod SectionSlices
-pub mod Sectioned
 pub mod PageTrees
 pub mod HeldPages
 pub mod Pages
