@@ -25,6 +25,7 @@ use Rattle.wt_checks.proofs.Lookups.{each_join}
 face_read : (k : Kind) (s : Showing) (l : Label) (inside rest : Plains) → is_somewhere (shape k).class ≡ true → shows_text k ≡ false
     → read_by (writing k) s l inside rest ≡ along (element (face l) inside) rest
 face_read kind.Entity s l inside rest e t = absurd cc
+face_read (kind.Section n) s l inside rest e t = absurd cc
 face_read kind.Sep s l inside rest e t = absurd cc
 face_read kind.Text s l inside rest e t = absurd cc
 face_read k s l inside rest e t = refl
@@ -34,7 +35,7 @@ mutual
       → read_before (inner_node p) rest ≡ along (bare p) rest
   inner_read (text bs) k parent rest h = refl
   inner_read (element f qs) k parent rest h =
-      face_read f.kind (showing f.kind) (element_label f) (all_read (inner_nodes qs)) rest (held parent f.kind h.0) h.1.1.shows
+      face_read f.kind (showing f.kind) (element_label f) (all_read (inner_nodes qs)) rest (held parent f.kind h.0 h.1.1.element) h.1.1.shows
       ∙ ap (λ x. along (element (face (element_label f)) x) rest) (inners_read qs (suc k) f.kind h.1.3.1)
 
   inners_read : (ps : Plains) (k : ℕ) (parent : Kind) → PlainsIn k parent ps → all_read (inner_nodes ps) ≡ all_bare ps
@@ -91,7 +92,7 @@ mutual
       → AllByRecursion IsNew (placed n within (inner_node p))
   inner_new (text bs) k parent n within h = (record { unkept = refl; other = refl; unmarked = refl }, tt)
   inner_new (element f qs) k parent n within h = (
-    record { unkept = refl; other = no_body f.kind (held parent f.kind h.0); unmarked = refl },
+    record { unkept = refl; other = no_body f.kind (held parent f.kind h.0 h.1.1.element); unmarked = refl },
     inners_new qs (suc k) f.kind (parent_below n 0) (within || is_content mark.Nothing) h.1.3.1,
   )
 
