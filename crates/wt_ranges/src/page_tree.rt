@@ -97,7 +97,7 @@ pub fn group<'a>(
     ensures tree { IfOk result (λ a. view a.tree.body ≡ with_sections (annotated items.entry.outer (group_data items.entry.outer) (item_tree tree.entry))) }
     ensures items { IfOk result (λ a. a.items ≡ items.entry) }
 {
-    let body = group_tree(alloc, sound_calls(&items), tree)?;
-    let body = gather_sections(alloc, body)?;
+    let grouped = group_tree(alloc, sound_calls(&items), tree)?;
+    let body = gather_sections(alloc, grouped)?;
     Ok(Annotated::of(body, items))
 }
