@@ -105,9 +105,10 @@ put_deep (Some level) n t ps e f h g =
     let inside : List Tree = sections_in_all (before (Some level) ps) in
     let behind : List Tree = sections_in_all (part_trees (from (Some level) ps)) in
     let all : (sections_in t ++ inside) ++ behind ≡ sections_in_all (part_trees ps) =
-    ap (λ xs. (xs ++ inside) ++ behind) (no_sections t f) ∙ cut_sections (Some level) ps in
-    (subst (λ (o : Option ℕ). AreDeeper o (listed (opened (before (Some level) ps)))) (sym e) (before_deeper (Some level) ps h),
-    subst (λ (ts : List Tree). AreDeep ts) (sym all) g)
+    ap (λ xs. (xs ++ inside) ++ behind) (no_sections t f) ∙ cut_sections (Some level) ps in (
+      subst (λ (o : Option ℕ). AreDeeper o (listed (opened (before (Some level) ps)))) (sym e) (before_deeper (Some level) ps h),
+      subst (λ (ts : List Tree). AreDeep ts) (sym all) g,
+    )
 
 parts_deep : (ts : Trees) (n : ℕ) → NoneIsSection ts → AreDeep (sections_in_all (part_trees (parts n ts)))
 parts_deep none n h = tt
@@ -121,9 +122,10 @@ lead_deep none vs h e f g = g
 lead_deep (more t us) vs h e f g =
     let split : listed (opened (more t us)) ≡ t ∷ listed (opened us) = listed_opened t us ∙ ap (λ ts. ts ++ listed (opened us)) (alone_listed t f.0) in
     let deeper : AreDeeper None (t ∷ listed (opened us)) = subst (λ (ts : List Tree). AreDeeper None ts) split h in
-    let no_level : level_of t ≡ None = none_by (level_of t) deeper.0 in
-    (subst (λ (o : Option ℕ). AreDeeper o (listed (opened us))) (sym no_level) deeper.1,
-    subst (λ (ts : List Tree). AreDeep (ts ++ sections_in_all vs)) (sym e) g)
+    let no_level : level_of t ≡ None = none_by (level_of t) deeper.0 in (
+      subst (λ (o : Option ℕ). AreDeeper o (listed (opened us))) (sym no_level) deeper.1,
+      subst (λ (ts : List Tree). AreDeep (ts ++ sections_in_all vs)) (sym e) g,
+    )
   where
     none_by : (o : Option ℕ) → ends None o ≡ false → o ≡ None
     none_by None k = refl
