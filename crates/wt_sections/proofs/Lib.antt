@@ -1,4 +1,5 @@
 mod Cases
+pub mod Deep
 pub mod Gathers
 pub mod Kept
 pub mod Opened

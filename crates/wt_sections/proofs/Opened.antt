@@ -52,7 +52,7 @@ gathered_opened ts h =
 
 -- ---- the sections among parts
 
-cut_sections : (limit : Option ℕ) (ps : List Part)
+pub cut_sections : (limit : Option ℕ) (ps : List Part)
     → sections_in_all (before limit ps) ++ sections_in_all (part_trees (from limit ps)) ≡ sections_in_all (part_trees ps)
 cut_sections limit [] = refl
 cut_sections limit (p ∷ ps) = by_test (ends limit p.level) (cut_sections limit ps)
@@ -66,7 +66,7 @@ cut_sections limit (p ∷ ps) = by_test (ends limit p.level) (cut_sections limit
         append_assoc (sections_in p.tree) (sections_in_all (before limit ps)) (sections_in_all (part_trees (from limit ps)))
         ∙ ap (λ xs. sections_in p.tree ++ xs) h
 
-no_sections : (t : Tree) → is_section (label t).kind ≡ false → sections_in t ≡ []
+pub no_sections : (t : Tree) → is_section (label t).kind ≡ false → sections_in t ≡ []
 no_sections (tree l ts) e = ap (λ v. cond v (tree l ts ∷ sections_in_all ts) []) e
 
 put_openings : (o : Option ℕ) (n : ℕ) (t : Tree) (ps : List Part) → is_section (label t).kind ≡ false
@@ -91,7 +91,7 @@ before_by : (o : Option ℕ) (n : ℕ) (t : Tree) (ps : List Part) → before No
 before_by None n t ps = refl
 before_by (Some level) n t ps = refl
 
-before_heading : (ts : Trees) (n : ℕ) → before None (parts n ts) ≡ up_to_heading ts
+pub before_heading : (ts : Trees) (n : ℕ) → before None (parts n ts) ≡ up_to_heading ts
 before_heading none n = refl
 before_heading (more t ts) n =
     before_by (level_of t) n t (parts (n + opens (level_of t)) ts)
@@ -138,7 +138,7 @@ lead_before ts =
 
 -- ---- the sections of a body
 
-none_before : (ts : Trees) → NoneIsSection ts → sections_in_all (up_to_heading ts) ≡ []
+pub none_before : (ts : Trees) → NoneIsSection ts → sections_in_all (up_to_heading ts) ≡ []
 none_before none h = refl
 none_before (more t ts) h = by_test (is_some (level_of t)) (none_before ts h.1)
   where

@@ -1,13 +1,14 @@
 //! What holds of the sections of any body.
 
 ghost use Rattle.std.specs.Prelude.{◌≡◌, ◌++◌, map};
+ghost use Rattle.std.specs.List.{AllByRecursion};
 ghost use Rattle.wt_tree.specs.Opened.{opened};
 ghost use Rattle.wt_tree.specs.Plain.{plain};
 ghost use Rattle.wt_tree.specs.Source.{flat};
 ghost use Rattle.wt_tree.specs.Tiling.{InPreorder, Tiled};
 ghost use Rattle.wt_tree.specs.Tree.{Tree, Trees};
 ghost use Rattle.wt_sections.specs.Sections.{gathered, lead_if_any, with_sections};
-ghost use Rattle.wt_sections.specs.SectionLaws.{NoneIsSection, from_heading, lead_opening, opening, openings, sections_in_all, up_to_heading};
+ghost use Rattle.wt_sections.specs.SectionLaws.{IsDeep, NoneIsSection, from_heading, lead_opening, opening, openings, sections_in_all, up_to_heading};
 
 /// Sections change nothing but where children stand: opened again, they give the children that were
 /// gathered, in their order.
@@ -38,4 +39,10 @@ pub fn sections_leave_the_page()
     ensures source { (t : Tree) → flat (with_sections t) ≡ flat t }
     ensures shown { (t : Tree) → plain (with_sections t) ≡ plain t }
     ensures numbers { (t : Tree) → InPreorder t → InPreorder (with_sections t) }
+{}
+
+/// Behind the heading that opens a section stands in it no heading of the same or a smaller level, and in the
+/// lead stands none.
+pub fn sections_are_deep()
+    ensures { (ts : Trees) → NoneIsSection ts → AllByRecursion IsDeep (sections_in_all (gathered ts)) }
 {}

@@ -8,6 +8,6 @@ mod section;
 
 pub use gather::gather_sections;
 pub use laws::{
-    headings_open_sections, lead_stands_before, sections_leave_the_page, sections_open_again,
-    sections_tile,
+    headings_open_sections, lead_stands_before, sections_are_deep, sections_leave_the_page,
+    sections_open_again, sections_tile,
 };

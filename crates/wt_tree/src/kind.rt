@@ -32,8 +32,8 @@ pub enum TagName {
 }
 
 /// What a node is. A `Section` has its number: 0 where it is the lead, else the place of its heading among
-/// those that open one, from 1. A `Heading` has its level, from 1 to 6. An `Island` is a part of the page that is
-/// kept and not read into: an extension, or a tag, media or function; its `typeof` tells which.
+/// those that open one, from 1. A `Heading` has its level, from 1 to 6. An `Island` is a part of the page
+/// that is kept and not read into: an extension, or a tag, media or function; its `typeof` tells which.
 /// `Empty` is the mark of a call without output, and stands inside groups alone.
 #[derive(Clone, Copy, Debug, PartialEq, Eq)]
 pub enum Kind {

@@ -13,9 +13,9 @@ pub enum Writing {
     Unwritten,
 }
 
-/// Where an element may stand. A `Section` stands in the body and in sections. `Anywhere` is anywhere below the body, and so are comments and include
-/// tags (`Mark`). `Nowhere` is what stands in no other element by a row of its own: the body, texts,
-/// separators and groups.
+/// Where an element may stand. A `Section` stands in the body and in sections. `Anywhere` is anywhere below
+/// the body, and so are comments and include tags (`Mark`). `Nowhere` is what stands in no other element by
+/// a row of its own: the body, texts, separators and groups.
 #[derive(Clone, Copy, Debug)]
 pub enum Class {
     Nowhere,
@@ -33,8 +33,8 @@ pub enum Class {
     Section,
 }
 
-/// Which elements an element holds beside those that may stand anywhere. With blocks sections stand, too. Those of an item, a cell or
-/// a caption have an order: the inline ones come first.
+/// Which elements an element holds beside those that may stand anywhere. Where blocks stand, sections do,
+/// too. Those of an item, a cell or a caption have an order: the inline ones come first.
 #[derive(Clone, Copy, Debug)]
 pub enum Holding {
     NoElements,
