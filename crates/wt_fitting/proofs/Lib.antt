@@ -3,3 +3,4 @@ pub mod Cases
 pub mod FirstMisfits
 pub mod FirstUnsourced
 pub mod SectionRows
+pub mod SectionNames
