@@ -167,13 +167,13 @@ and_follow true b e = (refl, e)
 and_follow false b e = absurd (cc e)
 
 -- a text alone, before what begins with none
-text_alone : (n : ℕ) (parent : Kind) (b : Bool) (own : List ℕ) (ms : Markups) (vs : Trees) → shows_text parent ≡ false
+pub text_alone : (n : ℕ) (parent : Kind) (b : Bool) (own : List ℕ) (ms : Markups) (vs : Trees) → shows_text parent ≡ false
     → ((n : ℕ) → fit_nodes n (spot parent false b None) ms ≡ Ok (ungathered vs))
     → fit_nodes n (spot parent false b None) (more (text own) ms) ≡ Ok (ungathered (one_more (leaf_of parent own) vs))
 text_alone n parent b own ms vs p g =
     text_step n parent false b own ms (ungathered vs) p g ∙ ap Ok (sym (if_false (is_group (leaf_kind parent)) _ _ (leaf_other parent)))
 
-before_none : (own : List ℕ) → is_empty own ≡ false → text_before own empty ≡ more (text own) empty
+pub before_none : (own : List ℕ) → is_empty own ≡ false → text_before own empty ≡ more (text own) empty
 before_none [] e = absurd (cc e)
 before_none (b ∷ bs) e = refl
 
@@ -187,7 +187,7 @@ some_append [] cs e = absurd (cc e)
 some_append (b ∷ bs) cs e = refl
 
 -- what is written of an element or a group begins with no text
-before_other : (w : Writing) (own : List ℕ) (k : ℕ) (parent : Kind) (l : Label) (childless : Bool) (H : Type 0) (ts : Trees) (i : ℕ) (m ms : Markups)
+pub before_other : (w : Writing) (own : List ℕ) (k : ℕ) (parent : Kind) (l : Label) (childless : Bool) (H : Type 0) (ts : Trees) (i : ℕ) (m ms : Markups)
     → is_as_text w ≡ false → NodeIsWritten w k parent l childless H (IsWrittenGroup k parent l ts) → is_empty own ≡ false
     → text_before own (marked_up w l m (group_markups true i l (elements_for ts) ms) ms)
     ≡ more (text own) (marked_up w l m (group_markups true i l (elements_for ts) ms) ms)
@@ -198,7 +198,7 @@ before_other RoundChildren own k parent l childless H ts i m ms a h e = before_c
 before_other (AsSection n) own k parent l childless H ts i m ms a h e = absurd h
 before_other Unwritten own k parent l childless H ts i m ms a h e = before_group own (elements_for ts) k parent i l ms e (elements_some ts) h.elements
 
-text_facts : (w : Writing) (k : ℕ) (parent : Kind) (l : Label) (childless : Bool) (H G : Type 0) → is_as_text w ≡ true
+pub text_facts : (w : Writing) (k : ℕ) (parent : Kind) (l : Label) (childless : Bool) (H G : Type 0) → is_as_text w ≡ true
     → NodeIsWritten w k parent l childless H G → is_empty l.own ≡ false
 text_facts AsText k parent l childless H G a h = h.0.some
 text_facts AsVoid k parent l childless H G a h = absurd (cc a)
@@ -207,7 +207,7 @@ text_facts RoundChildren k parent l childless H G a h = absurd (cc a)
 text_facts (AsSection n) k parent l childless H G a h = absurd (cc a)
 text_facts Unwritten k parent l childless H G a h = absurd (cc a)
 
-text_markup : (w : Writing) (l : Label) (m g ms : Markups) → is_as_text w ≡ true → marked_up w l m g ms ≡ text_before l.own ms
+pub text_markup : (w : Writing) (l : Label) (m g ms : Markups) → is_as_text w ≡ true → marked_up w l m g ms ≡ text_before l.own ms
 text_markup AsText l m g ms a = refl
 text_markup AsVoid l m g ms a = absurd (cc a)
 text_markup RoundCharacter l m g ms a = absurd (cc a)
@@ -280,7 +280,7 @@ group_read k parent b l us vs rest n i small h o x g =
         else single (tree (label_read l) (if y then group_nodes us else unranged_all us)) ∷ ungathered vs
 
 -- an element or a group, by what stands in it and what follows it
-other_fit : (k : ℕ) (parent : Kind) (b : Bool) (l : Label) (us vs : Trees) (rest : Markups) (i : ℕ) → is_as_text (writing l.kind) ≡ false
+pub other_fit : (k : ℕ) (parent : Kind) (b : Bool) (l : Label) (us vs : Trees) (rest : Markups) (i : ℕ) → is_as_text (writing l.kind) ≡ false
     → WrittenIn k parent (tree l us) → goes_behind b (tree l us) ≡ true → i + groups (tree l us) < 2 ^ 64 → Fresh rest
     → (writing l.kind ≡ RoundChildren → shows_text l.kind ≡ false → AllWrittenIn (suc k) l.kind us → are_ordered false us ≡ true → (m : ℕ)
     → fit_nodes m (within l.kind false) (markups_of i us) ≡ Ok (ungathered (merged l.kind (unranged_all us))))
@@ -324,7 +324,7 @@ fresh_by RoundChildren k parent l childless H ts m rest i h b x = fresh_node par
 fresh_by (AsSection n) k parent l childless H ts m rest i h b x = absurd h
 fresh_by Unwritten k parent l childless H ts m rest i h b x = group_fresh (elements_for ts) k parent (suc i) l rest (b h) h.label (elements_some ts) h.elements
 
-fresh_one : (t : Tree) (k : ℕ) (parent : Kind) (i : ℕ) (rest : Markups) → WrittenIn k parent t → i + groups t < 2 ^ 64 → Fresh rest
+pub fresh_one : (t : Tree) (k : ℕ) (parent : Kind) (i : ℕ) (rest : Markups) → WrittenIn k parent t → i + groups t < 2 ^ 64 → Fresh rest
     → Fresh (markup_before i t rest)
 fresh_one (tree l ts) k parent i rest h b x =
     fresh_by (writing l.kind) k parent l (is_childless ts) (Inside k l.kind ts) ts (markups_of i ts) rest i h (λ g. group_number i l ts b g.label.kind) x

@@ -62,13 +62,13 @@ is_bordered Bordered = true
 is_bordered OwnCharacter = false
 
 -- where a text and a separator don't stand beside each other, each is read as it is
-text_label : (parent : Kind) (l : Label) → l.kind ≡ leaf_kind parent → IsTextIn parent l
+pub text_label : (parent : Kind) (l : Label) → l.kind ≡ leaf_kind parent → IsTextIn parent l
     → leaf_label (leaf_kind parent) None l.own (shown_of (leaf_kind parent) l.own) ≡ label_read l
 text_label parent l e h =
     let w : writing l.kind ≡ AsText = ap writing e ∙ leaf_as_text parent in
     rw (w, h.shown, e, h.id, h.opening, h.closing, h.attrs, h.origin, h.mark, h.mw)
 
-plain_kind : (x : Texts) (j k : Kind) → is_bordered x ≡ false → HasLeafKind x j k → k ≡ j
+pub plain_kind : (x : Texts) (j k : Kind) → is_bordered x ≡ false → HasLeafKind x j k → k ≡ j
 plain_kind Separators j k e h = h
 plain_kind Page j k e h = h
 plain_kind Bordered j k e h = absurd (cc e)

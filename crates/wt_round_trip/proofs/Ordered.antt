@@ -60,7 +60,7 @@ blank_by RoundChildren k parent l childless H G inside group rest e h f g = f
 blank_by (AsSection n) k parent l childless H G inside group rest e h f g = f
 blank_by Unwritten k parent l childless H G inside group rest e h f g = g
 
-blank_before : (t : Tree) (k : ℕ) (parent : Kind) (i : ℕ) (rest : Markups) → holds_text parent ≡ false → WrittenIn k parent t
+pub blank_before : (t : Tree) (k : ℕ) (parent : Kind) (i : ℕ) (rest : Markups) → holds_text parent ≡ false → WrittenIn k parent t
     → are_blank rest ≡ true → are_blank (markup_before i t rest) ≡ true
 blank_before (tree l ts) k parent i rest e h f =
     blank_by (writing l.kind) k parent l (is_childless ts) (Inside k l.kind ts) (IsWrittenGroup k parent l ts) (markups_of i ts)
@@ -140,7 +140,7 @@ unmixed kind.Th e = absurd cc
 unmixed k e = inr refl
 
 -- a group stands among blocks alone, or among none
-not_and : (b c : Bool) → c ≡ false → not (b && c) ≡ true
+pub not_and : (b c : Bool) → c ≡ false → not (b && c) ≡ true
 not_and true c e = ap not e
 not_and false c e = refl
 
@@ -233,7 +233,7 @@ none_by Unwritten k parent l childless H ts e b h =
     let r = no_block_among (elements_for ts) k parent b h.elements in
     (group_goes false l ts h.label.kind ∙ r.0, group_shows l ts h.label.kind ∙ sym h.blocks ∙ r.1)
 
-goes : (t : Tree) (k : ℕ) (parent : Kind) (behind : Bool) → (shape parent).holding ≡ holding.Blocks → WrittenIn k parent t → goes_behind behind t ≡ true
+pub goes : (t : Tree) (k : ℕ) (parent : Kind) (behind : Bool) → (shape parent).holding ≡ holding.Blocks → WrittenIn k parent t → goes_behind behind t ≡ true
 goes (tree l ts) k parent behind b h = goes_by (writing l.kind) k parent l (is_childless ts) (Inside k l.kind ts) ts behind refl b h
 
 none_block : (t : Tree) (k : ℕ) (parent : Kind) → holds_blocks (shape parent).holding ≡ false → WrittenIn k parent t
