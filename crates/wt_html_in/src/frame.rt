@@ -169,7 +169,8 @@ fn find_body(alloc: Global, root: Content) -> Result<Option<Found>, NoMemory>
         } => {
             if is_root(name.as_slice(), attributes.as_slice()) {
                 let elements = elements_in(alloc, contents)?;
-                body_in(alloc, elements)
+                let found = body_in(alloc, elements)?;
+                Ok(found)
             } else {
                 Ok(None)
             }
