@@ -23,5 +23,6 @@ pub mod SectionItems
 pub mod SectionBared
 pub mod SectionFits
 pub mod Whole
+pub mod Shallower
 pub mod ShownAgain
 pub mod Again
