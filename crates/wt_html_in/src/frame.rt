@@ -6,7 +6,7 @@ ghost use Rattle.wt_html_in.specs.Frame.{found_of, found_if_any, is_element, num
 
 use crate::edited::Edited;
 use crate::nodes::node_of;
-use crate::sections::{all_bared, opened};
+use crate::sections::{all_bared, without_sections};
 use crate::walk::{Walk, nodes};
 use bumpalo::Bump;
 use std::alloc::Global;
@@ -169,7 +169,8 @@ fn find_body(alloc: Global, root: Content) -> Result<Option<Found>, NoMemory>
         } => {
             if is_root(name.as_slice(), attributes.as_slice()) {
                 let elements = elements_in(alloc, contents)?;
-                body_in(alloc, elements)
+                let found = body_in(alloc, elements)?;
+                Ok(found)
             } else {
                 Ok(None)
             }
@@ -210,8 +211,8 @@ fn edited<'a>(
     let head = body_head(alloc, number, attributes.as_slice(), contents.as_slice())?;
     let mut walk = walk_in(number, attributes);
     let children = nodes(alloc, arena, &mut walk, Kind::Body, false, contents)?;
-    let children = opened(alloc, children)?;
-    let body = node_of(alloc, arena, false, head, children)?;
+    let sectioned = node_of(alloc, arena, false, head, children)?;
+    let body = without_sections(alloc, sectioned)?;
     Ok(Edited::of(body, walk.unsourced))
 }
 

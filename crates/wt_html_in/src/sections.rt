@@ -1,14 +1,12 @@
 //! Sections of an edited page: of their attributes the mark of an edit alone counts, and what they hold
 //! stands in their place.
 
-ghost use Rattle.std.specs.Prelude.{◌≡◌, ◌++◌, [], ◌∷◌, IfOk, OnOk};
-ghost use Rattle.std.specs.Prelude.{filter};
-ghost use Rattle.wt_tree.specs.Opened.{opened};
+ghost use Rattle.std.specs.Prelude.{◌≡◌, filter, IfOk, OnOk};
+ghost use Rattle.wt_tree.specs.Opened.{opened, opened_before, without_sections};
 ghost use Rattle.wt_tree.specs.Recutting.{appended};
 ghost use Rattle.wt_tree.specs.Tree.{none as no_trees};
-ghost use Rattle.wt_tree.specs.Opened.{opened_before};
 ghost use Rattle.wt_tree.specs.View.{view, views as trees};
-ghost use Rattle.wt_html_elements.specs.Built.{pairs, view_content, views};
+ghost use Rattle.wt_html_elements.specs.Built.{pair, pairs, view_content, views};
 ghost use Rattle.wt_fitting.specs.Sections.{all_bared, bared, is_mark_pair};
 
 use std::alloc::Global;
@@ -19,13 +17,20 @@ use wt_tree::Node;
 
 // ---- attributes
 
+/// Whether it is the mark of an edit.
+fn is_mark(attribute: &Attribute) -> bool
+    ensures { result ≡ is_mark_pair (pair attribute.now) }
+{
+    attribute.name.as_slice() == b"data-wt-edit".as_slice()
+}
+
 /// The marks of an edit among attributes.
 fn marks_in(alloc: Global, attributes: Vec<Attribute>) -> Result<Vec<Attribute>, NoMemory>
     ensures { IfOk result (λ v. pairs v.items ≡ filter is_mark_pair (pairs attributes.items)) }
 {
     let mut marks = Vec::new(alloc);
     for attribute in attributes {
-        if attribute.name.as_slice() == b"data-wt-edit".as_slice() {
+        if is_mark(&attribute) {
             marks.push(attribute)?;
         }
     }
@@ -77,7 +82,9 @@ pub fn all_bared(alloc: Global, contents: Vec<Content>) -> Result<Vec<Content>, 
 
 // ---- nodes
 
+/// Appends a node, or of a section what it holds.
 #[cycle(opening)]
+#[tactic(auto, using(crate::proofs::Pieces::views_push))]
 fn push_opened<'a>(out: &mut Vec<Node<'a>>, node: Node<'a>) -> Result<(), NoMemory>
     ensures { OnOk result (trees out.new.items ≡ appended (trees out.old.items) (opened_before (view node.entry) no_trees)) }
 {
@@ -99,10 +106,18 @@ fn push_all_opened<'a>(out: &mut Vec<Node<'a>>, nodes: List<Node<'a>>) -> Result
 }
 
 /// What stands in a body, where what sections hold stands in their place.
-pub fn opened<'a>(alloc: Global, nodes: List<Node<'a>>) -> Result<List<Node<'a>>, NoMemory>
+fn opened<'a>(alloc: Global, nodes: List<Node<'a>>) -> Result<List<Node<'a>>, NoMemory>
     ensures { IfOk result (λ l. trees l ≡ opened (trees nodes.entry)) }
 {
     let mut out = Vec::with_capacity(alloc, nodes.len())?;
     push_all_opened(&mut out, nodes)?;
     Ok(List::from_vec(out))
+}
+
+/// The tree of a body without its sections.
+pub fn without_sections<'a>(alloc: Global, body: Node<'a>) -> Result<Node<'a>, NoMemory>
+    ensures { IfOk result (λ n. view n ≡ without_sections (view body.entry)) }
+{
+    let children = opened(alloc, body.children)?;
+    Ok(Node { children, ..body })
 }
