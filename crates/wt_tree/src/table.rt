@@ -35,7 +35,8 @@ ghost use Rattle.wt_tree.specs.Kinds.{
 use crate::kind::Showing::{Characters, Element, Inside, Nothing};
 use crate::kind::{AttrName, Kind, Showing, TagName};
 use crate::row::Class::{
-    Anywhere, Block, Cell, Character, Inline, Item, List, Mark, Nowhere, Section, TablePart, TableRow, Term,
+    Anywhere, Block, Cell, Character, Inline, Item, List, Mark, Nowhere, Section, TablePart,
+    TableRow, Term,
 };
 use crate::row::Holding::{
     Blocks, Cells, Entities, Inlines, InlinesThenBlocks, InlinesThenLists, Items, NoElements,
