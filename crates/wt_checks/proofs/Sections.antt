@@ -69,7 +69,7 @@ mutual
   kept_before : (parent : ℕ) (within : Bool) (t : Tree) (us : Trees) → IsBareSection t
       → kept_of (all_placed parent within (opened_before t us)) ≡ kept_of (placed parent within t) ++ kept_of (all_placed parent within us)
   kept_before parent within (tree l ts) us h =
-      by_section (is_section l.kind) refl (λ e. all_kept_before parent within ts us (h e).1.1)
+      by_section (is_section l.kind) refl (λ e. all_kept_before parent within ts us (h e).2)
     where
       by_section : (v : Bool) → is_section l.kind ≡ v
           → (is_section l.kind ≡ true → kept_of (all_placed parent within (all_opened_before ts us))
@@ -77,7 +77,7 @@ mutual
           → kept_of (all_placed parent within (if v then all_opened_before ts us else more (tree l ts) us))
           ≡ kept_of (placed parent within (tree l ts)) ++ kept_of (all_placed parent within us)
       by_section true e f =
-          f e ∙ ap (λ ps. ps ++ kept_of (all_placed parent within us)) (sym (section_kept parent within l ts (h e).0 (h e).1.0))
+          f e ∙ ap (λ ps. ps ++ kept_of (all_placed parent within us)) (sym (section_kept parent within l ts (h e).0 (h e).1))
       by_section false e f = filter-append is_kept (placed parent within (tree l ts)) (all_placed parent within us)
 
   all_kept_before : (parent : ℕ) (within : Bool) (ts us : Trees) → AreBareSections ts
@@ -141,7 +141,7 @@ is_false false e = refl
 zero_is : (n : ℕ) → (n == 0) ≡ true → n ≡ 0
 zero_is n e = grind (arith, nat_tests)
 
-kept_found : (page other : Page) (p : Place) → AreAlike page other → is_kept p ≡ true → page (number p) ≡ other (number p)
+pub kept_found : (page other : Page) (p : Place) → AreAlike page other → is_kept p ≡ true → page (number p) ≡ other (number p)
 kept_found page other p h k = h.each (number p) (is_false (number p == 0) k)
 
 other_same : (page other : Page) (n : ℕ) (u : Tree) → AreAlike page other → is_other (page n) u ≡ is_other (other n) u
