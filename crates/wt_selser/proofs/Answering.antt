@@ -9,6 +9,7 @@ use Rattle.wt_tree.specs.declared.kind.Mark.{Mark}
 use Rattle.wt_tree.specs.declared.kind.Mark.TheVariants as marks
 use Rattle.wt_tree.specs.declared.node.Node.{Node, out-Node}
 use Rattle.wt_span.specs.Origins.{Expanded}
+use Rattle.wt_tree.specs.Opened.{opened}
 use Rattle.wt_tree.specs.Tree.{Tree, tree, Trees, none, more, label}
 use Rattle.wt_tree.specs.View.{label_of, view, views}
 use Rattle.wt_tree.proofs.Views.{view_out}
@@ -262,7 +263,7 @@ no_children same page (more u us) e =
 no_slices : (same : Tree → Tree → Bool) (t u : Tree) → has_mark u ≡ false → slices same t u ≡ []
 no_slices same t (tree l us) e =
     let n = or_none (is_marked l.mark) (have_mark us) e in
-    ap (λ b. if b then body_slices same (page_of t) start (steps holder.Body (children t) us) else all_child_slices same (page_of t) us) (no_mark l.mark n.0).1
+    ap (λ b. if b then body_slices same (page_of t) start (steps holder.Body (opened (children t)) us) else all_child_slices same (page_of t) us) (no_mark l.mark n.0).1
     ∙ no_children same (page_of t) us n.1
 
 pub unmarked_stands : (same : Tree → Tree → Bool) (items : Expanded) (page : List ℕ) (t u : Tree) → has_mark u ≡ false → checked false t u ≡ None

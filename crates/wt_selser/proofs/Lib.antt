@@ -8,6 +8,7 @@ pub mod ListWalk
 pub mod BodyWalk
 pub mod Contents
 pub mod Pushing
+pub mod Sections
 pub mod Spliced
 pub mod StepWalk
 pub mod Answering

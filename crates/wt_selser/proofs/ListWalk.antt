@@ -1,5 +1,5 @@
 -- How the code finds the slices of a list, item by item.
-use Rattle.std.proofs.Common.{arith, ◌≡◌, ◌<◌, ◌≤◌, ℕ, zero, suc, ◌+◌, ◌-◌, Bool, true, false, None, Some, List, [], ◌∷◌, ◌++◌, length, take, drop, get_or, length-drop, refl, sym, ap, ◌∙◌, append_assoc, append-nil}
+use Rattle.std.proofs.Common.{arith, ◌≡◌, ◌<◌, ◌≤◌, ℕ, zero, suc, ◌+◌, ◌-◌, Bool, true, false, None, Some, List, [], ◌∷◌, ◌++◌, length, take, drop, get_or, Bor, length-drop, refl, sym, ap, ◌∙◌, append_assoc, append-nil}
 use Rattle.std.specs.Prelude.{◌==◌, if◌then◌else◌, nat_lt}
 use Rattle.std.proofs.lemmas.List.{drop_more, drop_all, take_all}
 use Rattle.wt_tree.specs.declared.node.Node.{Node, out-Node}
@@ -19,6 +19,7 @@ use Rattle.wt_selser.specs.Splice.{Change}
 use Rattle.wt_selser.specs.Steps.{Step, stays, goes, kept, comes, from_number, steps}
 use Rattle.wt_selser.specs.Views.{steps_view, step_view}
 use Rattle.wt_selser.proofs.Spliced.{kind_seen, ranges_seen}
+use Rattle.wt_selser.proofs.StepWalk.{lent_views, from_place}
 
 id_seen : (n : Node) → (label (view n)).id ≡ (out-Node n).id
 id_seen n = rw (view_out n)
@@ -32,7 +33,7 @@ some_there zero e = absurd (cc)
 some_there (suc n) e = omega arith
 
 -- a slice from a place up to the end
-pub rest_is : (ns : List Node) (i : ℕ) → take (length ns - i) (drop i ns) ≡ drop i ns
+pub rest_is : {X : Type 0} (ns : List X) (i : ℕ) → take (length ns - i) (drop i ns) ≡ drop i ns
 rest_is ns i = take_all (length ns - i) (drop i ns) (omega (arith, length-drop i ns))
 
 pub nodes_end : (ns : List Node) (i : ℕ) → length ns ≤ i → views (drop i ns) ≡ none
@@ -112,45 +113,52 @@ all_new same sign place ns i cs ds inv l =
 
 -- ---- the items that are missing before it
 
-removed_turn : (number : ℕ) (ns : List Node) (i : ℕ) (n : Node) (d : Bool) → i < length ns → n ≡ get_or ns i n → d ≡ is_child holder.List (out-Node n).kind
-    → first_removed number (views (drop i ns)) ≡ (if (out-Node n).id == number then None else
-    (if d then Some (start_of (out-Node n).ranges) else first_removed number (views (drop (i + 1) ns))))
-removed_turn number ns i n d l is e =
-    let rest = first_removed number (views (drop (i + 1) ns)) in
-    ap (first_removed number) (nodes_turn ns i n l is)
-    ∙ ap (λ (k : ℕ). if k == number then None else (if is_item (view n) then Some (start_of (label (view n)).ranges) else rest)) (id_seen n)
-    ∙ ap (λ r. if (out-Node n).id == number then None else (if is_item (view n) then Some (start_of r) else rest)) (ranges_seen n)
-    ∙ ap (λ (c : Bool). if (out-Node n).id == number then None else (if c then Some (start_of (out-Node n).ranges) else rest)) (sym (item_is n d e))
+lent_turn : (ns : List (Bor Node)) (i : ℕ) (n : Bor Node) → i < length ns → n ≡ get_or ns i n
+    → lent_views (drop i ns) ≡ more (view n.now) (lent_views (drop (i + 1) ns))
+lent_turn ns i n l is = ap lent_views (from_place ns i n l is)
 
-pub removed_none : (number : ℕ) (ns : List Node) (i : ℕ) (n : Node) → first_removed number (views ns) ≡ first_removed number (views (drop i ns))
-    → i < length ns → n ≡ get_or ns i n → (out-Node n).id ≡ number → None ≡ first_removed number (views ns)
+lent_end : (ns : List (Bor Node)) (i : ℕ) → length ns ≤ i → lent_views (drop i ns) ≡ none
+lent_end ns i l = ap lent_views (drop_all i ns l)
+
+removed_turn : (number : ℕ) (ns : List (Bor Node)) (i : ℕ) (n : Bor Node) (d : Bool) → i < length ns → n ≡ get_or ns i n → d ≡ is_child holder.List (out-Node n.now).kind
+    → first_removed number (lent_views (drop i ns)) ≡ (if (out-Node n.now).id == number then None else
+    (if d then Some (start_of (out-Node n.now).ranges) else first_removed number (lent_views (drop (i + 1) ns))))
+removed_turn number ns i n d l is e =
+    let rest = first_removed number (lent_views (drop (i + 1) ns)) in
+    ap (first_removed number) (lent_turn ns i n l is)
+    ∙ ap (λ (k : ℕ). if k == number then None else (if is_item (view n.now) then Some (start_of (label (view n.now)).ranges) else rest)) (id_seen n.now)
+    ∙ ap (λ r. if (out-Node n.now).id == number then None else (if is_item (view n.now) then Some (start_of r) else rest)) (ranges_seen n.now)
+    ∙ ap (λ (c : Bool). if (out-Node n.now).id == number then None else (if c then Some (start_of (out-Node n.now).ranges) else rest)) (sym (item_is n.now d e))
+
+pub removed_none : (number : ℕ) (ns : List (Bor Node)) (i : ℕ) (n : Bor Node) → first_removed number (lent_views ns) ≡ first_removed number (lent_views (drop i ns))
+    → i < length ns → n ≡ get_or ns i n → (out-Node n.now).id ≡ number → None ≡ first_removed number (lent_views ns)
 removed_none number ns i n inv l is t =
-    let d = is_child holder.List (out-Node n).kind in
-    let rest = first_removed number (views (drop (i + 1) ns)) in
-    ap (λ (c : Bool). if c then None else (if d then Some (start_of (out-Node n).ranges) else rest)) (sym (test_equal (out-Node n).id number t))
+    let d = is_child holder.List (out-Node n.now).kind in
+    let rest = first_removed number (lent_views (drop (i + 1) ns)) in
+    ap (λ (c : Bool). if c then None else (if d then Some (start_of (out-Node n.now).ranges) else rest)) (sym (test_equal (out-Node n.now).id number t))
     ∙ sym (removed_turn number ns i n d l is refl) ∙ sym inv
 
-pub removed_here : (number start : ℕ) (ns : List Node) (i : ℕ) (n : Node) (d : Bool)
-    → first_removed number (views ns) ≡ first_removed number (views (drop i ns)) → i < length ns → n ≡ get_or ns i n → ((out-Node n).id ≡ number → ⊥)
-    → d ≡ is_child holder.List (out-Node n).kind → d ≡ true → start ≡ start_of (out-Node n).ranges → Some start ≡ first_removed number (views ns)
+pub removed_here : (number start : ℕ) (ns : List (Bor Node)) (i : ℕ) (n : Bor Node) (d : Bool)
+    → first_removed number (lent_views ns) ≡ first_removed number (lent_views (drop i ns)) → i < length ns → n ≡ get_or ns i n → ((out-Node n.now).id ≡ number → ⊥)
+    → d ≡ is_child holder.List (out-Node n.now).kind → d ≡ true → start ≡ start_of (out-Node n.now).ranges → Some start ≡ first_removed number (lent_views ns)
 removed_here number start ns i n d inv l is t e u s =
-    let rest = first_removed number (views (drop (i + 1) ns)) in
-    ap (λ (k : ℕ). Some k) s ∙ ap (λ (c : Bool). if c then Some (start_of (out-Node n).ranges) else rest) (sym u)
-    ∙ ap (λ (c : Bool). if c then None else (if d then Some (start_of (out-Node n).ranges) else rest)) (sym (test_other (out-Node n).id number t))
+    let rest = first_removed number (lent_views (drop (i + 1) ns)) in
+    ap (λ (k : ℕ). Some k) s ∙ ap (λ (c : Bool). if c then Some (start_of (out-Node n.now).ranges) else rest) (sym u)
+    ∙ ap (λ (c : Bool). if c then None else (if d then Some (start_of (out-Node n.now).ranges) else rest)) (sym (test_other (out-Node n.now).id number t))
     ∙ sym (removed_turn number ns i n d l is e) ∙ sym inv
 
-pub removed_later : (number : ℕ) (ns : List Node) (i : ℕ) (n : Node) (d : Bool)
-    → first_removed number (views ns) ≡ first_removed number (views (drop i ns)) → i < length ns → n ≡ get_or ns i n → ((out-Node n).id ≡ number → ⊥)
-    → d ≡ is_child holder.List (out-Node n).kind → d ≡ false → first_removed number (views ns) ≡ first_removed number (views (drop (i + 1) ns))
+pub removed_later : (number : ℕ) (ns : List (Bor Node)) (i : ℕ) (n : Bor Node) (d : Bool)
+    → first_removed number (lent_views ns) ≡ first_removed number (lent_views (drop i ns)) → i < length ns → n ≡ get_or ns i n → ((out-Node n.now).id ≡ number → ⊥)
+    → d ≡ is_child holder.List (out-Node n.now).kind → d ≡ false → first_removed number (lent_views ns) ≡ first_removed number (lent_views (drop (i + 1) ns))
 removed_later number ns i n d inv l is t e u =
-    let rest = first_removed number (views (drop (i + 1) ns)) in
+    let rest = first_removed number (lent_views (drop (i + 1) ns)) in
     inv ∙ removed_turn number ns i n d l is e
-    ∙ ap (λ (c : Bool). if c then None else (if d then Some (start_of (out-Node n).ranges) else rest)) (test_other (out-Node n).id number t)
-    ∙ ap (λ (c : Bool). if c then Some (start_of (out-Node n).ranges) else rest) u
+    ∙ ap (λ (c : Bool). if c then None else (if d then Some (start_of (out-Node n.now).ranges) else rest)) (test_other (out-Node n.now).id number t)
+    ∙ ap (λ (c : Bool). if c then Some (start_of (out-Node n.now).ranges) else rest) u
 
-pub removed_nowhere : (number : ℕ) (ns : List Node) (i : ℕ) → first_removed number (views ns) ≡ first_removed number (views (drop i ns)) → length ns ≤ i
-    → None ≡ first_removed number (views ns)
-removed_nowhere number ns i inv l = ap (first_removed number) (sym (nodes_end ns i l)) ∙ sym inv
+pub removed_nowhere : (number : ℕ) (ns : List (Bor Node)) (i : ℕ) → first_removed number (lent_views ns) ≡ first_removed number (lent_views (drop i ns)) → length ns ≤ i
+    → None ≡ first_removed number (lent_views ns)
+removed_nowhere number ns i inv l = ap (first_removed number) (sym (lent_end ns i l)) ∙ sym inv
 
 -- ---- from the first kept item on
 

@@ -17,7 +17,7 @@ pub use differing::first_differing;
 pub use editing::edit;
 pub use laws::{
     contents_alone, edit_is_a_splice, groups_alone_tangle, nothing_changes, outside_stands,
-    unmarked_edit_is_the_page,
+    sections_make_no_difference, unmarked_edit_is_the_page,
 };
 pub use refusal::EditRefusal;
 pub use wt_content::ContentWhy;
