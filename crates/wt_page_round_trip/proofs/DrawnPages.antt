@@ -54,7 +54,7 @@ use Rattle.wt_page_round_trip.proofs.KeptNodes.{clean_own, leaf_source, opening_
 use Rattle.wt_page_round_trip.proofs.GroupCounts.{few_groups}
 use Rattle.wt_page_round_trip.proofs.NumbersFew.{children_light, nodes_light}
 use Rattle.wt_page_round_trip.proofs.SectionGroups.{groups_stay}
-use Rattle.wt_page_round_trip.proofs.Sectioned.{with_sections_written, headings_few, headings_numbered}
+use Rattle.wt_page_round_trip.proofs.Sectioned.{IsWrittenBody, sections_written, headings_few, headings_numbered}
 use Rattle.wt_page_round_trip.proofs.DrawnRuns.{kind_of, IsNear, IsFree, MayGroup, runs_drawn, order_drawn}
 
 -- ---- a kept node
@@ -236,13 +236,6 @@ body_label at source = record {
 
 -- ---- the whole body
 
--- a body whose children may stand within eight elements, with fewer headings than there are numbers of sections
-abbrev IsWrittenBody : Tree → Type 0
-IsWrittenBody (tree l ts) = (l.kind ≡ kind.Body) × IsElementLabel l × AllWrittenIn 8 kind.Body ts × (1 + heading_count ts ≤ 2 ^ 32)
-
-sections_written : (t : Tree) → IsWrittenBody t → IsWritten (with_sections t)
-sections_written (tree l ts) h = with_sections_written l ts h.0 h.1 h.2 h.3
-
 headings_cut : (ts : Trees) → heading_count (all_cut_texts ts) ≡ heading_count ts
 headings_cut none = refl
 headings_cut (more (tree l us) ts) = ap (λ k. opens (spelling l.kind).level + k) (headings_cut ts)
@@ -285,23 +278,21 @@ annotated_body calls ts =
     ap (λ (u : Tree). cut_texts (with_numbers 1 u)) (walk_all calls (group_data calls) t)
     ∙ cut_numbered 1 (placed calls (group_data calls) (tree_items t) g) (placed_bare calls (group_data calls) (tree_items t) g)
 
--- The annotated tree of a body whose nodes are shown and parted, and cut between characters, in sections.
-pub grouped_written : (calls : List OuterCall) (ts : ItemTrees) → ArePageCalls calls → AreShownIn 9 kind.Body (all_unplaced ts) → AreParted ts
+-- The annotated tree of a body whose nodes are shown and parted, and cut between characters.
+pub grouped_body : (calls : List OuterCall) (ts : ItemTrees) → ArePageCalls calls → AreShownIn 9 kind.Body (all_unplaced ts) → AreParted ts
     → AllHoldTexts ts → length (page_of calls (tree_items (body_of ts))) < 2 ^ 32
     → numbered_in_all ts + width (held_by_all ts) < 2 ^ 32
-    → IsWritten (with_sections (annotated calls (group_data calls) (body_of ts)))
-grouped_written calls ts c shown n holds room small =
+    → IsWrittenBody (annotated calls (group_data calls) (body_of ts))
+grouped_body calls ts c shown n holds room small =
     let t : ItemTree = body_of ts in
     let page : List ℕ = page_of calls (tree_items t) in
     let same : walked_body calls ts ≡ placed calls (group_data calls) (tree_items t) (grouped (tree_items t) 0 t) = walk_all calls (group_data calls) t in
     let clean : is_clean (tree_items t) 0 t ≡ true = body_clean ts in
     let few : 1 + count (walked_body calls ts) ≤ 2 ^ 32 =
     omega (arith, children_light calls None 0 None ts, nodes_light 9 kind.Body ts shown, small) in
-    let w : IsWrittenBody (cut_texts (with_numbers 1 (walked_body calls ts))) =
-    whole_body page calls ts room (subst (AreReachedSlices page) (sym same) (placed_slices calls t clean))
-    (subst (OfGroups IsAlmost) (sym same) (annotated_almost calls t c (refl, IsUtf8-nil, holds, IsUtf8-nil))) few shown n in
-    subst (λ (u : Tree). IsWritten (with_sections u)) (annotated_body calls ts)
-    (sections_written (cut_texts (with_numbers 1 (walked_body calls ts))) w)
+    subst IsWrittenBody (annotated_body calls ts)
+    (whole_body page calls ts room (subst (AreReachedSlices page) (sym same) (placed_slices calls t clean))
+    (subst (OfGroups IsAlmost) (sym same) (annotated_almost calls t c (refl, IsUtf8-nil, holds, IsUtf8-nil))) few shown n)
 
 -- ---- without its sections it is what it was
 
@@ -326,19 +317,18 @@ none_cut : (ts : Trees) → NoneIsSection ts → NoneIsSection (all_cut_texts ts
 none_cut none h = tt
 none_cut (more (tree l us) ts) h = (h.0, none_cut ts h.1)
 
-abbrev HoldsNoSection : Tree → Type 0
+abbrev pub HoldsNoSection : Tree → Type 0
 HoldsNoSection (tree l ts) = NoneIsSection ts
 
-opened_again : (t : Tree) → HoldsNoSection t → without_sections (with_sections t) ≡ t
+pub opened_again : (t : Tree) → HoldsNoSection t → without_sections (with_sections t) ≡ t
 opened_again (tree l ts) h = ap (λ us. tree l us) (gathered_opened ts h)
 
-pub grouped_opened : (calls : List OuterCall) (ts : ItemTrees) → AreShownIn 9 kind.Body (all_unplaced ts) → AreParted ts
-    → without_sections (with_sections (annotated calls (group_data calls) (body_of ts))) ≡ annotated calls (group_data calls) (body_of ts)
-grouped_opened calls ts shown n =
+pub grouped_none : (calls : List OuterCall) (ts : ItemTrees) → AreShownIn 9 kind.Body (all_unplaced ts) → AreParted ts
+    → HoldsNoSection (annotated calls (group_data calls) (body_of ts))
+grouped_none calls ts shown n =
     let vs : Trees = trees (near_runs calls (group_data calls) (near calls (group_data calls) None 0 None ts)) in
-    subst (λ (u : Tree). without_sections (with_sections u) ≡ u) (annotated_body calls ts)
-    (opened_again (cut_texts (with_numbers 1 (walked_body calls ts)))
-    (none_cut (all_with_numbers 1 vs) (none_numbered 1 vs (none_section 8 kind.Body vs (drawn_body calls ts shown n)))))
+    subst HoldsNoSection (annotated_body calls ts)
+    (none_cut (all_with_numbers 1 vs) (none_numbered 1 vs (none_section 8 kind.Body vs (drawn_body calls ts shown n))))
 
 -- ---- its numbers and groups
 

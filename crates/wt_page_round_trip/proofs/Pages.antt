@@ -26,7 +26,7 @@ use Rattle.wt_sections.proofs.Kept.{source}
 use Rattle.wt_page_round_trip.specs.GroupTexts.{ArePageCalls}
 use Rattle.wt_page_round_trip.specs.PageTree.{page_tree}
 use Rattle.wt_page_round_trip.proofs.Counts.{page_few}
-use Rattle.wt_page_round_trip.proofs.DrawnPages.{grouped_written, grouped_opened, few_groups_in}
+use Rattle.wt_page_round_trip.proofs.DrawnPages.{HoldsNoSection, opened_again, grouped_body, grouped_none, few_groups_in}
 use Rattle.wt_page_round_trip.proofs.ExpandedItems.{expanded_items}
 use Rattle.wt_page_round_trip.proofs.ExpandedWidth.{expanded_short}
 use Rattle.wt_page_round_trip.proofs.HeldPages.{its_page}
@@ -35,6 +35,7 @@ use Rattle.wt_page_round_trip.proofs.OwnItems.{nodes_hold, nodes_parted}
 use Rattle.wt_page_round_trip.proofs.PageCalls.{page_calls}
 use Rattle.wt_page_round_trip.proofs.PageShown.{body_nodes, page_shown}
 use Rattle.wt_page_round_trip.proofs.PageTrees.{ungathered, flat_page}
+use Rattle.wt_page_round_trip.proofs.Sectioned.{IsWrittenBody, sections_written}
 
 -- ---- numbers
 
@@ -52,12 +53,12 @@ body_few xs h room =
 
 -- the tree of items with these calls
 pub items_written : (calls : List OuterCall) (xs : List Item) → ArePageCalls calls → ArePageItems xs → length (page_of calls (tree_items (meaning xs))) < 2 ^ 32
-    → 3 * width xs < 2 ^ 32 → IsWritten (with_sections (annotated calls (group_data calls) (meaning xs)))
+    → 3 * width xs < 2 ^ 32 → IsWrittenBody (annotated calls (group_data calls) (meaning xs))
 unfolding meaning
 items_written calls xs c h room wide =
     let ts : ItemTrees = body_nodes xs in
     let s = page_shown xs h in
-    grouped_written calls ts c s.0 (nodes_parted ts s.1) (nodes_hold ts s.1) room (body_few xs h wide)
+    grouped_body calls ts c s.0 (nodes_parted ts s.1) (nodes_hold ts s.1) room (body_few xs h wide)
 
 items_groups : (calls : List OuterCall) (xs : List Item) → ArePageItems xs → 3 * width xs < 2 ^ 32
     → groups (with_sections (annotated calls (group_data calls) (meaning xs))) < 2 ^ 64
@@ -71,13 +72,19 @@ page_width : (pages : Pages) (page : List ℕ) → length page < 2 ^ 30 → firs
     → 3 * width (expanded_page pages page).items < 2 ^ 32
 page_width pages page room e = let short = expanded_short pages page e in omega (arith, short, room)
 
-pub page_written : (pages : Pages) (page : List ℕ) → IsUtf8 page → length page < 2 ^ 30 → first_refusal pages page (page_work pages page) ≡ None
-    → IsWritten (page_tree pages page)
-page_written pages page u room e =
+-- the tree before its body's children are gathered
+pub body_written : (pages : Pages) (page : List ℕ) → IsUtf8 page → length page < 2 ^ 30 → first_refusal pages page (page_work pages page) ≡ None
+    → IsWrittenBody (ungathered (expanded_page pages page).outer (expanded_page pages page).items)
+body_written pages page u room e =
     let its : length (page_of (expanded_page pages page).outer (tree_items (meaning (expanded_page pages page).items))) ≡ length page =
     ap length (its_page pages page u e) in
     items_written (expanded_page pages page).outer (expanded_page pages page).items (page_calls pages page u (omega (arith, room)))
     (expanded_items pages page u e) (omega (arith, its, room)) (page_width pages page room e)
+
+pub page_written : (pages : Pages) (page : List ℕ) → IsUtf8 page → length page < 2 ^ 30 → first_refusal pages page (page_work pages page) ≡ None
+    → IsWritten (page_tree pages page)
+page_written pages page u room e =
+    sections_written (ungathered (expanded_page pages page).outer (expanded_page pages page).items) (body_written pages page u room e)
 
 pub page_is_read : (pages : Pages) (page : List ℕ) → IsUtf8 page → length page < 2 ^ 30 → first_refusal pages page (page_work pages page) ≡ None
     → read (html_text (page_tree pages page)) ≡ read_page (unranged (without_sections (page_tree pages page))) None
@@ -85,18 +92,23 @@ page_is_read pages page u room e =
     written_read (page_tree pages page) (page_written pages page u room e)
     (items_groups (expanded_page pages page).outer (expanded_page pages page).items (expanded_items pages page u e) (page_width pages page room e))
 
-items_opened : (calls : List OuterCall) (xs : List Item) → ArePageItems xs
-    → without_sections (with_sections (annotated calls (group_data calls) (meaning xs))) ≡ annotated calls (group_data calls) (meaning xs)
+items_none : (calls : List OuterCall) (xs : List Item) → ArePageItems xs → HoldsNoSection (annotated calls (group_data calls) (meaning xs))
 unfolding meaning
-items_opened calls xs h =
+items_none calls xs h =
     let ts : ItemTrees = body_nodes xs in
     let s = page_shown xs h in
-    grouped_opened calls ts s.0 (nodes_parted ts s.1)
+    grouped_none calls ts s.0 (nodes_parted ts s.1)
+
+-- before its body's children are gathered the page's tree holds no section
+pub page_none : (pages : Pages) (page : List ℕ) → IsUtf8 page → first_refusal pages page (page_work pages page) ≡ None
+    → HoldsNoSection (ungathered (expanded_page pages page).outer (expanded_page pages page).items)
+page_none pages page u e = items_none (expanded_page pages page).outer (expanded_page pages page).items (expanded_items pages page u e)
 
 -- the page's tree without its sections is the annotated tree of its items
 pub page_opened : (pages : Pages) (page : List ℕ) → IsUtf8 page → first_refusal pages page (page_work pages page) ≡ None
     → without_sections (page_tree pages page) ≡ ungathered (expanded_page pages page).outer (expanded_page pages page).items
-page_opened pages page u e = items_opened (expanded_page pages page).outer (expanded_page pages page).items (expanded_items pages page u e)
+page_opened pages page u e =
+    opened_again (ungathered (expanded_page pages page).outer (expanded_page pages page).items) (page_none pages page u e)
 
 pub same_page : (pages : Pages) (page : List ℕ) → IsUtf8 page → first_refusal pages page (page_work pages page) ≡ None
     → flat (unranged (without_sections (page_tree pages page))) ≡ page

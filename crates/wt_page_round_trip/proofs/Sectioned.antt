@@ -160,10 +160,13 @@ gathered_stand ts room h =
     lead_stands (before None (parts 1 ts)) (part_trees (from None (parts 1 ts))) (before_stands None (parts 1 ts) 3 g no_level)
     (parts_stand (from None (parts 1 ts)) (from_stands None (parts 1 ts) g))
 
--- The tree of a body whose children may stand within eight elements may be written with its sections.
-pub with_sections_written : (l : Label) (ts : Trees) → l.kind ≡ kind.Body → IsElementLabel l → AllWrittenIn 8 kind.Body ts
-    → 1 + heading_count ts ≤ 2 ^ 32 → IsWritten (with_sections (tree l ts))
-with_sections_written l ts e i h room = (e, i, gathered_stand ts room h)
+-- a body whose children may stand within eight elements, with fewer headings than there are numbers of sections
+abbrev pub IsWrittenBody : Tree → Type 0
+IsWrittenBody (tree l ts) = (l.kind ≡ kind.Body) × IsElementLabel l × AllWrittenIn 8 kind.Body ts × (1 + heading_count ts ≤ 2 ^ 32)
+
+-- it may be written with its sections
+pub sections_written : (t : Tree) → IsWrittenBody t → IsWritten (with_sections t)
+sections_written (tree l ts) h = (h.0, h.1, gathered_stand ts h.3 h.2)
 
 -- ---- how many sections
 
