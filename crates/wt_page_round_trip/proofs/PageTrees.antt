@@ -49,7 +49,7 @@ flat_page pages page h =
     let xs = (expanded_page pages page).items in
     source (ungathered calls xs) ∙ annotated_source calls (group_data calls) (meaning xs) (clean_meaning xs) ∙ h
 
-ungathered_tiled : (calls : List OuterCall) (xs : List Item) → Tiled (ungathered calls xs)
+pub ungathered_tiled : (calls : List OuterCall) (xs : List Item) → Tiled (ungathered calls xs)
 ungathered_tiled calls xs = annotated_tiles calls (group_data calls) (meaning xs) (clean_meaning xs)
 
 pub page_tiled : (pages : Pages) (page : List ℕ) → Tiled (page_tree pages page)
@@ -58,7 +58,7 @@ page_tiled pages page =
     let xs = (expanded_page pages page).items in
     tiled (ungathered calls xs) (ungathered_tiled calls xs)
 
-covers_width : (calls : List OuterCall) (xs : List Item) → Covers (length (page_of calls (tree_items (meaning xs)))) (ungathered calls xs)
+pub covers_width : (calls : List OuterCall) (xs : List Item) → Covers (length (page_of calls (tree_items (meaning xs)))) (ungathered calls xs)
 unfolding meaning
 covers_width calls xs = annotated_covers calls (group_data calls) (forest (children (body_parts (rows xs))))
 
@@ -81,11 +81,14 @@ page_reached pages page h =
     (sections_sliced (page_of calls (tree_items (meaning xs))) (ungathered calls xs) (body_no_leaf calls xs) (ungathered_tiled calls xs)
     (annotated_slices calls (group_data calls) (meaning xs) (clean_meaning xs)))
 
+pub ungathered_numbered : (calls : List OuterCall) (xs : List Item) → InPreorder (ungathered calls xs)
+ungathered_numbered calls xs = annotated_numbered calls (group_data calls) (meaning xs)
+
 pub page_numbered : (pages : Pages) (page : List ℕ) → InPreorder (page_tree pages page)
 page_numbered pages page =
     let calls = (expanded_page pages page).outer in
     let xs = (expanded_page pages page).items in
-    preorder (ungathered calls xs) (annotated_numbered calls (group_data calls) (meaning xs))
+    preorder (ungathered calls xs) (ungathered_numbered calls xs)
 
 -- ---- where no group stands, every node is reached
 

@@ -199,6 +199,7 @@ nowiki_kind (kind.Section n) e g s = absurd cc
 nowiki_kind k e g s = absurd cc
 
 shown_written : (k : Kind) → showing k ≡ Element → is_element (writing k) ≡ true
+shown_written (kind.Section n) e = absurd cc
 shown_written kind.Sep e = absurd cc
 shown_written kind.Text e = absurd cc
 shown_written kind.Group e = absurd cc

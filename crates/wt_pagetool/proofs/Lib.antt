@@ -7,6 +7,7 @@ pub mod ExpandLaws
 pub mod GenLaws
 pub mod GivenBackLaws
 pub mod LeavesLaws
+pub mod PageSections
 pub mod PageLaws
 pub mod ReadGroups
 pub mod RefusalLines

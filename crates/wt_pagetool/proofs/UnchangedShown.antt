@@ -16,7 +16,8 @@ use Rattle.wt_tree.specs.Plain.{Plains, ended, shown_before, plain_before, plain
 use Rattle.wt_tree.specs.Tiling.{is_group, InPreorder}
 use Rattle.wt_tree.specs.Tree.{Label, Tree, tree, Trees, none, more, label}
 use Rattle.wt_round_trip.specs.GroupNodes.{group_nodes}
-use Rattle.wt_round_trip.specs.Written.{label_read, unranged, unranged_all, is_childless, IsWrittenGroup, NodeIsWritten, WrittenIn, AllWrittenIn, IsWritten}
+use Rattle.wt_round_trip.specs.Written.{label_read, unranged, unranged_all, is_childless, IsWrittenGroup, NodeIsWritten, WrittenIn, AllWrittenIn}
+use Rattle.wt_page_round_trip.proofs.Sectioned.{IsWrittenBody}
 use Rattle.wt_checks.specs.Groups.{is_marked, has_mark, have_mark}
 use Rattle.wt_checks.specs.Places.{Place, placed, all_placed, places, is_content, Page, page_of, parent_below}
 use Rattle.wt_checks.proofs.Found.{Itself, each_itself}
@@ -40,7 +41,7 @@ mutual
       let s = each_split (IsAgain page) (placed m w u) (all_placed m w us) h in
       ap (λ b. b || have_mark us) (none_marked page m w u s.0) ∙ none_marked_in page m w us s.1
 
-pub unchanged_unmarked : (t : Tree) → IsWritten t → InPreorder t → has_mark (unranged t) ≡ false
+pub unchanged_unmarked : (t : Tree) → IsWrittenBody t → InPreorder t → has_mark (unranged t) ≡ false
 unchanged_unmarked t w i = none_marked (page_of t) 0 false (unranged t) (page_again t w i)
 
 -- ---- what is shown
@@ -112,8 +113,8 @@ mutual
       same_shown t k parent page n within h.0 a.0 (plains_before (all_restored page (unranged_all ts)) rest)
       ∙ ap (plain_before t) (all_same_shown ts k parent page n within h.2 a.1 rest)
 
-pub unchanged_shown : (t : Tree) → IsWritten t → InPreorder t → shown_children (restored_from t (unranged t)) ≡ shown_children t
+pub unchanged_shown : (t : Tree) → IsWrittenBody t → InPreorder t → shown_children (restored_from t (unranged t)) ≡ shown_children t
 unchanged_shown (tree l ts) w i =
     let s : AllByRecursion (Itself (page_of (tree l ts))) (places (tree l ts)) = each_itself (places (tree l ts)) (increasing (tree l ts) w.0 i) in
     ap listed (held_shown (is_group l.kind) (page_of (tree l ts)) l.id ts (λ g. absurd (true_is (is_group l.kind) (ap is_group w.0) g))
-    (λ g r. all_same_shown ts 2 kind.Body (page_of (tree l ts)) (parent_below 0 l.id) (is_content l.mark) w.2 s.1 r) ended)
+    (λ g r. all_same_shown ts 8 kind.Body (page_of (tree l ts)) (parent_below 0 l.id) (is_content l.mark) w.2 s.1 r) ended)

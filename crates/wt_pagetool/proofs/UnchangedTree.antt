@@ -13,9 +13,10 @@ use Rattle.wt_tree.specs.Tiling.{is_group, ids, ids_of_all, others, others_of_al
 use Rattle.wt_tree.specs.Tree.{Label, Tree, tree, Trees, none, more, label}
 use Rattle.wt_round_trip.specs.GroupNodes.{elements_for, group_nodes, inner_node, inner_nodes}
 use Rattle.wt_tree.specs.Plain.{Plain, text, element, Plains, ended, along}
-use Rattle.wt_round_trip.specs.Written.{label_read, unranged, unranged_all, is_childless, IsTextIn, IsElementLabel, IsWrittenGroup, NodeIsWritten, WrittenIn, AllWrittenIn, IsWritten}
+use Rattle.wt_round_trip.specs.Written.{label_read, unranged, unranged_all, is_childless, IsTextIn, IsElementLabel, IsWrittenGroup, NodeIsWritten, WrittenIn, AllWrittenIn}
 use Rattle.wt_round_trip.proofs.Bare.{others_read}
 use Rattle.wt_round_trip.proofs.Rows.{is_somewhere, held}
+use Rattle.wt_page_round_trip.proofs.Sectioned.{IsWrittenBody}
 use Rattle.wt_checks.specs.Checked.{checked}
 use Rattle.wt_checks.specs.Elements.{signs_in}
 use Rattle.wt_checks.specs.Groups.{is_marked, have_mark}
@@ -220,13 +221,13 @@ found_root : (l : Label) (ts : Trees) → l.id ≡ 0 → page_of (tree l ts) 0 �
 found_root l ts e =
     ap (λ b. if b then Some (place_of 0 false l ts) else numbered 0 (all_placed (parent_below 0 l.id) (is_content l.mark) ts)) (test_equal l.id 0 e)
 
-pub page_again : (t : Tree) → IsWritten t → InPreorder t → AllByRecursion (IsAgain (page_of t)) (places (unranged t))
+pub page_again : (t : Tree) → IsWrittenBody t → InPreorder t → AllByRecursion (IsAgain (page_of t)) (places (unranged t))
 page_again (tree l ts) w i =
     let s : AllByRecursion (Itself (page_of (tree l ts))) (places (tree l ts)) = each_itself (places (tree l ts)) (increasing (tree l ts) w.0 i) in
     let z : l.id ≡ 0 = (all_page_numbers (tree l ts) w.0 i).root in
     others_again l ts (page_of (tree l ts)) 0 false (ap is_group w.0)
     (root_again l ts (page_of (tree l ts)) w.0 w.1 z (found_root l ts z))
-    (nodes_again ts 2 kind.Body (page_of (tree l ts)) (parent_below 0 l.id) (is_content l.mark) w.2 s.1)
+    (nodes_again ts 8 kind.Body (page_of (tree l ts)) (parent_below 0 l.id) (is_content l.mark) w.2 s.1)
 
 -- ---- kept nodes in their order
 
@@ -316,10 +317,10 @@ marks_of page (p ∷ ps) h = (
   marks_of page ps h.1,
 )
 
-body_kind : (t : Tree) → IsWritten t → (label t).kind ≡ kind.Body
+body_kind : (t : Tree) → IsWrittenBody t → (label t).kind ≡ kind.Body
 body_kind (tree l ts) w = w.0
 
-unchanged_kept : (t : Tree) → IsWritten t → InPreorder t → Kept false t (unranged t)
+unchanged_kept : (t : Tree) → IsWrittenBody t → InPreorder t → Kept false t (unranged t)
 unchanged_kept t w i =
     let a = page_again t w i in
     record {
@@ -331,5 +332,5 @@ unchanged_kept t w i =
     }
 
 -- the checks find nothing
-pub unchanged_checked : (t : Tree) → IsWritten t → InPreorder t → checked false t (unranged t) ≡ None
+pub unchanged_checked : (t : Tree) → IsWrittenBody t → InPreorder t → checked false t (unranged t) ≡ None
 unchanged_checked t w i = unrefused false t (unranged t) (body_kind t w) i (unchanged_kept t w i)
