@@ -63,7 +63,7 @@ childless_written : (ts : Trees) (k : ℕ) (parent : Kind) → is_childless ts �
 childless_written none k parent e = tt
 childless_written (more t ts) k parent e = absurd (cc)
 
-inside_written : (w : Writing) (l : Label) (ts : Trees) (k : ℕ) (parent : Kind) (Cut : Type 0) → is_group l.kind ≡ false
+pub inside_written : (w : Writing) (l : Label) (ts : Trees) (k : ℕ) (parent : Kind) (Cut : Type 0) → is_group l.kind ≡ false
     → NodeIsWritten w k parent l (is_childless ts) (Cut × AllWrittenIn (suc k) l.kind ts) (IsWrittenGroup k parent l ts)
     → AllWrittenIn (suc k) l.kind ts
 inside_written AsText l ts k parent Cut g h = childless_written ts (suc k) l.kind h.1
@@ -73,7 +73,7 @@ inside_written RoundChildren l ts k parent Cut g h = h.4.1
 inside_written (AsSection n) l ts k parent Cut g h = absurd h
 inside_written Unwritten l ts k parent Cut g h = absurd (true_is (is_group l.kind) g (ap is_group h.label.kind))
 
-written_group : (l : Label) (ts : Trees) (k : ℕ) (parent : Kind) (Content : Type 0) → is_group l.kind ≡ true
+pub written_group : (l : Label) (ts : Trees) (k : ℕ) (parent : Kind) (Content : Type 0) → is_group l.kind ≡ true
     → NodeIsWritten (writing l.kind) k parent l (is_childless ts) Content (IsWrittenGroup k parent l ts) → IsWrittenGroup k parent l ts
 written_group l ts k parent Content g h =
     subst (λ w. NodeIsWritten w k parent l (is_childless ts) Content (IsWrittenGroup k parent l ts)) (group_unwritten l.kind g) h

@@ -61,7 +61,7 @@ plains_are : (ts : Trees) (rest : Plains) → plains_before ts rest ≡ all_befo
 plains_are none rest = refl
 plains_are (more t ts) rest = ap (plain_before t) (plains_are ts rest)
 
-plains_stay : (ts : Trees) (rest : Plains) → plains_before (gathered ts) rest ≡ plains_before ts rest
+pub plains_stay : (ts : Trees) (rest : Plains) → plains_before (gathered ts) rest ≡ plains_before ts rest
 plains_stay ts rest =
     plains_are (gathered ts) rest
     ∙ all_stay plain_before (λ n t us ps. ap (plain_before t) (plains_are us ps)) ts rest
