@@ -1,5 +1,5 @@
 -- How the code finds the slices of a body, step by step.
-use Rattle.std.proofs.Common.{arith, ◌≡◌, ◌<◌, ◌≤◌, ℕ, zero, suc, ◌+◌, ◌-◌, Bool, true, false, Option, None, Some, List, [], ◌∷◌, ◌++◌, length, drop, get_or, map, Bor, refl, sym, ap, ◌∙◌, subst, length-append, append_assoc, append-nil}
+use Rattle.std.proofs.Common.{arith, ◌≡◌, ◌<◌, ◌≤◌, ℕ, zero, suc, ◌+◌, ◌-◌, Bool, true, false, Option, None, Some, List, [], ◌∷◌, ◌++◌, length, drop, get_or, refl, sym, ap, ◌∙◌, subst, length-append, append_assoc, append-nil}
 use Rattle.std.specs.Prelude.{◌&&◌, ◌||◌, if◌then◌else◌, nat_eq, Result, Ok, Err, IfOk, option_map}
 use Rattle.std.specs.List.{ends_with, flat_map}
 use Rattle.std.proofs.lemmas.List.{drop_more, drop_all}
@@ -7,7 +7,7 @@ use Rattle.wt_tree.specs.declared.node.Node.{Node, out-Node}
 use Rattle.wt_tree.specs.Opened.{opened}
 use Rattle.wt_tree.specs.Source.{flat}
 use Rattle.wt_tree.specs.Tiling.{end_of}
-use Rattle.wt_tree.specs.Tree.{Tree, Trees, none, more, trees, label, listed}
+use Rattle.wt_tree.specs.Tree.{Tree, Trees, label}
 use Rattle.wt_tree.specs.View.{view, views}
 use Rattle.wt_tree.proofs.Views.{view_out}
 use Rattle.wt_checks.specs.declared.visit.Visit.{Visit}
@@ -30,7 +30,6 @@ use Rattle.wt_selser.specs.Steps.{Step, stays, goes, kept, comes, steps}
 use Rattle.wt_selser.specs.Views.{parted_ends, steps_view, step_view}
 use Rattle.wt_selser.proofs.ListWalk.{steps_end, steps_turn}
 use Rattle.wt_selser.proofs.Spliced.{kind_seen, ranges_seen}
-use Rattle.wt_selser.proofs.StepWalk.{lent_views}
 
 pub if_ok : {A E : Type 0} (r : Result A E) (P Q : A → Type 0) → ((x : A) → P x → Q x) → IfOk r P → IfOk r Q
 if_ok (Ok x) P Q f h = f x h
@@ -224,14 +223,12 @@ blank_nowhere ss i f z inv l = sym (ap (leaves_blank f) (steps_end ss i l)) ∙ 
 
 -- ---- the walk
 
-pub list_pushed : (same : Tree → Tree → Bool) (page : Page) (v : Visit) (ts : Trees) (ns ms : List Node) (sign : ℕ) (xs ys : List Change)
-    → sign ≡ sign_of (out-Node v.node.now).kind → ns ≡ (out-Node v.node.now).children → ts ≡ views ns
-    → ys ≡ xs ++ list_slices same page sign ts (views ms)
+pub list_pushed : (same : Tree → Tree → Bool) (page : Page) (v : Visit) (ts : Trees) (ms : List Node) (sign : ℕ) (xs ys : List Change)
+    → sign ≡ sign_of (out-Node v.node.now).kind → ts ≡ views (out-Node v.node.now).children → ys ≡ xs ++ list_slices same page sign ts (views ms)
     → ys ≡ xs ++ list_at same page (Some (seen v)) (views ms)
-list_pushed same page v ts ns ms sign xs ys e are lent f =
-    f ∙ ap (λ (us : Trees). xs ++ list_slices same page sign us (views ms)) lent
-    ∙ ap (λ (k : ℕ). xs ++ list_slices same page k (views ns) (views ms)) (e ∙ ap sign_of (sym (kind_seen v.node.now)))
-    ∙ ap (λ (ks : List Node). xs ++ list_slices same page (sign_of (label (view v.node.now)).kind) (views ks) (views ms)) are
+list_pushed same page v ts ms sign xs ys e are f =
+    f ∙ ap (λ (k : ℕ). xs ++ list_slices same page k ts (views ms)) (e ∙ ap sign_of (sym (kind_seen v.node.now)))
+    ∙ ap (λ (us : Trees). xs ++ list_slices same page (sign_of (label (view v.node.now)).kind) us (views ms)) are
     ∙ ap (λ (t : Tree). xs ++ list_slices same page (sign_of (label (view v.node.now)).kind) (children t) (views ms)) (sym (view_out v.node.now))
 
 child_out : (same : Tree → Tree → Bool) (page : Page) (n : Node) → child_slices same page (view n)
@@ -341,15 +338,3 @@ page_sliced same look page n u ts cs ds e none are k =
     ∙ ap (λ (p : Page). slices_of same p ts u) e
     ∙ ap (λ (us : Trees). slices_of same page us u) are
     ∙ ap (λ (t : Tree). slices_of same page (opened (children t)) u) (sym (view_out n))
-
--- the trees of nodes that are lent, one by one
-pub lent_trees : (ns : List (Bor Node)) (ts : Trees) → map (λ n. view n.now) ns ≡ listed ts → lent_views ns ≡ ts
-lent_trees ns ts e = lent_seen ns ∙ ap trees e ∙ trees_listed ts
-  where
-    lent_seen : (ns : List (Bor Node)) → lent_views ns ≡ trees (map (λ n. view n.now) ns)
-    lent_seen [] = refl
-    lent_seen (n ∷ ns) = ap (λ us. more (view n.now) us) (lent_seen ns)
-
-    trees_listed : (ts : Trees) → trees (listed ts) ≡ ts
-    trees_listed none = refl
-    trees_listed (more t ts) = ap (λ us. more t us) (trees_listed ts)

@@ -43,6 +43,22 @@ first_missing : (same : Tree → Tree → Bool) → slices same paragraphs (kept
     ≡ record { start = 0; end = 1; by = [] } ∷ []
 first_missing same = refl
 
+-- the same lines in sections
+abbrev in_sections : Tree
+in_sections = node kind.Body 0 (at 0 4 0 0) [] marks.Nothing
+    (more (node (kind.Section 0) 0 (at 0 3 0 0) [] marks.Nothing
+    (more (node kind.Para 1 (at 0 1 0 0) [] marks.Nothing none) (more (node kind.Sep 0 (at 1 3 0 0) (codes "\n\n") marks.Nothing none) none)))
+    (more (node (kind.Section 1) 0 (at 3 4 0 0) [] marks.Nothing (more (node kind.Para 2 (at 3 4 0 0) [] marks.Nothing none) none)) none))
+
+heading_between : (same : Tree → Tree → Bool) → slices same in_sections (kept kind.Body 0 marks.Children
+    (more (kept kind.Para 1 marks.Nothing none) (more (new (kind.Heading 2)) (more (kept kind.Para 2 marks.Nothing none) none))))
+    ≡ at_place 1 (10 ∷ 10 ∷ (block_spelling same (new (kind.Heading 2)) 42 ++ 10 ∷ [])) ∷ []
+heading_between same = refl
+
+lead_missing : (same : Tree → Tree → Bool) → slices same in_sections (kept kind.Body 0 marks.Children (more (kept kind.Para 2 marks.Nothing none) none))
+    ≡ record { start = 0; end = 1; by = [] } ∷ []
+lead_missing same = refl
+
 -- ---- the line `* x`, and `* x`, `* y`
 
 abbrev one_item : Tree

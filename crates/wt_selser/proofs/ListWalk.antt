@@ -1,5 +1,5 @@
 -- How the code finds the slices of a list, item by item.
-use Rattle.std.proofs.Common.{arith, ◌≡◌, ◌<◌, ◌≤◌, ℕ, zero, suc, ◌+◌, ◌-◌, Bool, true, false, None, Some, List, [], ◌∷◌, ◌++◌, length, take, drop, get_or, Bor, length-drop, refl, sym, ap, ◌∙◌, append_assoc, append-nil}
+use Rattle.std.proofs.Common.{arith, ◌≡◌, ◌<◌, ◌≤◌, ℕ, zero, suc, ◌+◌, ◌-◌, Bool, true, false, None, Some, List, [], ◌∷◌, ◌++◌, length, take, drop, get_or, length-drop, refl, sym, ap, ◌∙◌, append_assoc, append-nil}
 use Rattle.std.specs.Prelude.{◌==◌, if◌then◌else◌, nat_lt}
 use Rattle.std.proofs.lemmas.List.{drop_more, drop_all, take_all}
 use Rattle.wt_tree.specs.declared.node.Node.{Node, out-Node}
@@ -17,9 +17,10 @@ use Rattle.wt_selser.specs.Changes.{insides}
 use Rattle.wt_selser.specs.ListSlices.{at_place, first_removed, first_start, from_kept, is_item, is_kept_item, item_slices, list_from, list_slices, new_before, new_one_before, removed_before, start_of}
 use Rattle.wt_selser.specs.Splice.{Change}
 use Rattle.wt_selser.specs.Steps.{Step, stays, goes, kept, comes, from_number, steps}
-use Rattle.wt_selser.specs.Views.{steps_view, step_view}
+use Rattle.wt_selser.specs.declared.child.Child.{Child}
+use Rattle.wt_selser.specs.Views.{child_views, steps_view, step_view}
 use Rattle.wt_selser.proofs.Spliced.{kind_seen, ranges_seen}
-use Rattle.wt_selser.proofs.StepWalk.{lent_views, from_place}
+use Rattle.wt_selser.proofs.StepWalk.{from_place}
 
 id_seen : (n : Node) → (label (view n)).id ≡ (out-Node n).id
 id_seen n = rw (view_out n)
@@ -113,51 +114,51 @@ all_new same sign place ns i cs ds inv l =
 
 -- ---- the items that are missing before it
 
-lent_turn : (ns : List (Bor Node)) (i : ℕ) (n : Bor Node) → i < length ns → n ≡ get_or ns i n
-    → lent_views (drop i ns) ≡ more (view n.now) (lent_views (drop (i + 1) ns))
-lent_turn ns i n l is = ap lent_views (from_place ns i n l is)
+lent_turn : (ns : List Child) (i : ℕ) (n : Child) → i < length ns → n ≡ get_or ns i n
+    → child_views (drop i ns) ≡ more (view n.node.now) (child_views (drop (i + 1) ns))
+lent_turn ns i n l is = ap child_views (from_place ns i n l is)
 
-lent_end : (ns : List (Bor Node)) (i : ℕ) → length ns ≤ i → lent_views (drop i ns) ≡ none
-lent_end ns i l = ap lent_views (drop_all i ns l)
+lent_end : (ns : List Child) (i : ℕ) → length ns ≤ i → child_views (drop i ns) ≡ none
+lent_end ns i l = ap child_views (drop_all i ns l)
 
-removed_turn : (number : ℕ) (ns : List (Bor Node)) (i : ℕ) (n : Bor Node) (d : Bool) → i < length ns → n ≡ get_or ns i n → d ≡ is_child holder.List (out-Node n.now).kind
-    → first_removed number (lent_views (drop i ns)) ≡ (if (out-Node n.now).id == number then None else
-    (if d then Some (start_of (out-Node n.now).ranges) else first_removed number (lent_views (drop (i + 1) ns))))
+removed_turn : (number : ℕ) (ns : List Child) (i : ℕ) (n : Child) (d : Bool) → i < length ns → n ≡ get_or ns i n → d ≡ is_child holder.List (out-Node n.node.now).kind
+    → first_removed number (child_views (drop i ns)) ≡ (if (out-Node n.node.now).id == number then None else
+    (if d then Some (start_of (out-Node n.node.now).ranges) else first_removed number (child_views (drop (i + 1) ns))))
 removed_turn number ns i n d l is e =
-    let rest = first_removed number (lent_views (drop (i + 1) ns)) in
+    let rest = first_removed number (child_views (drop (i + 1) ns)) in
     ap (first_removed number) (lent_turn ns i n l is)
-    ∙ ap (λ (k : ℕ). if k == number then None else (if is_item (view n.now) then Some (start_of (label (view n.now)).ranges) else rest)) (id_seen n.now)
-    ∙ ap (λ r. if (out-Node n.now).id == number then None else (if is_item (view n.now) then Some (start_of r) else rest)) (ranges_seen n.now)
-    ∙ ap (λ (c : Bool). if (out-Node n.now).id == number then None else (if c then Some (start_of (out-Node n.now).ranges) else rest)) (sym (item_is n.now d e))
+    ∙ ap (λ (k : ℕ). if k == number then None else (if is_item (view n.node.now) then Some (start_of (label (view n.node.now)).ranges) else rest)) (id_seen n.node.now)
+    ∙ ap (λ r. if (out-Node n.node.now).id == number then None else (if is_item (view n.node.now) then Some (start_of r) else rest)) (ranges_seen n.node.now)
+    ∙ ap (λ (c : Bool). if (out-Node n.node.now).id == number then None else (if c then Some (start_of (out-Node n.node.now).ranges) else rest)) (sym (item_is n.node.now d e))
 
-pub removed_none : (number : ℕ) (ns : List (Bor Node)) (i : ℕ) (n : Bor Node) → first_removed number (lent_views ns) ≡ first_removed number (lent_views (drop i ns))
-    → i < length ns → n ≡ get_or ns i n → (out-Node n.now).id ≡ number → None ≡ first_removed number (lent_views ns)
+pub removed_none : (number : ℕ) (ns : List Child) (i : ℕ) (n : Child) → first_removed number (child_views ns) ≡ first_removed number (child_views (drop i ns))
+    → i < length ns → n ≡ get_or ns i n → (out-Node n.node.now).id ≡ number → None ≡ first_removed number (child_views ns)
 removed_none number ns i n inv l is t =
-    let d = is_child holder.List (out-Node n.now).kind in
-    let rest = first_removed number (lent_views (drop (i + 1) ns)) in
-    ap (λ (c : Bool). if c then None else (if d then Some (start_of (out-Node n.now).ranges) else rest)) (sym (test_equal (out-Node n.now).id number t))
+    let d = is_child holder.List (out-Node n.node.now).kind in
+    let rest = first_removed number (child_views (drop (i + 1) ns)) in
+    ap (λ (c : Bool). if c then None else (if d then Some (start_of (out-Node n.node.now).ranges) else rest)) (sym (test_equal (out-Node n.node.now).id number t))
     ∙ sym (removed_turn number ns i n d l is refl) ∙ sym inv
 
-pub removed_here : (number start : ℕ) (ns : List (Bor Node)) (i : ℕ) (n : Bor Node) (d : Bool)
-    → first_removed number (lent_views ns) ≡ first_removed number (lent_views (drop i ns)) → i < length ns → n ≡ get_or ns i n → ((out-Node n.now).id ≡ number → ⊥)
-    → d ≡ is_child holder.List (out-Node n.now).kind → d ≡ true → start ≡ start_of (out-Node n.now).ranges → Some start ≡ first_removed number (lent_views ns)
+pub removed_here : (number start : ℕ) (ns : List Child) (i : ℕ) (n : Child) (d : Bool)
+    → first_removed number (child_views ns) ≡ first_removed number (child_views (drop i ns)) → i < length ns → n ≡ get_or ns i n → ((out-Node n.node.now).id ≡ number → ⊥)
+    → d ≡ is_child holder.List (out-Node n.node.now).kind → d ≡ true → start ≡ start_of (out-Node n.node.now).ranges → Some start ≡ first_removed number (child_views ns)
 removed_here number start ns i n d inv l is t e u s =
-    let rest = first_removed number (lent_views (drop (i + 1) ns)) in
-    ap (λ (k : ℕ). Some k) s ∙ ap (λ (c : Bool). if c then Some (start_of (out-Node n.now).ranges) else rest) (sym u)
-    ∙ ap (λ (c : Bool). if c then None else (if d then Some (start_of (out-Node n.now).ranges) else rest)) (sym (test_other (out-Node n.now).id number t))
+    let rest = first_removed number (child_views (drop (i + 1) ns)) in
+    ap (λ (k : ℕ). Some k) s ∙ ap (λ (c : Bool). if c then Some (start_of (out-Node n.node.now).ranges) else rest) (sym u)
+    ∙ ap (λ (c : Bool). if c then None else (if d then Some (start_of (out-Node n.node.now).ranges) else rest)) (sym (test_other (out-Node n.node.now).id number t))
     ∙ sym (removed_turn number ns i n d l is e) ∙ sym inv
 
-pub removed_later : (number : ℕ) (ns : List (Bor Node)) (i : ℕ) (n : Bor Node) (d : Bool)
-    → first_removed number (lent_views ns) ≡ first_removed number (lent_views (drop i ns)) → i < length ns → n ≡ get_or ns i n → ((out-Node n.now).id ≡ number → ⊥)
-    → d ≡ is_child holder.List (out-Node n.now).kind → d ≡ false → first_removed number (lent_views ns) ≡ first_removed number (lent_views (drop (i + 1) ns))
+pub removed_later : (number : ℕ) (ns : List Child) (i : ℕ) (n : Child) (d : Bool)
+    → first_removed number (child_views ns) ≡ first_removed number (child_views (drop i ns)) → i < length ns → n ≡ get_or ns i n → ((out-Node n.node.now).id ≡ number → ⊥)
+    → d ≡ is_child holder.List (out-Node n.node.now).kind → d ≡ false → first_removed number (child_views ns) ≡ first_removed number (child_views (drop (i + 1) ns))
 removed_later number ns i n d inv l is t e u =
-    let rest = first_removed number (lent_views (drop (i + 1) ns)) in
+    let rest = first_removed number (child_views (drop (i + 1) ns)) in
     inv ∙ removed_turn number ns i n d l is e
-    ∙ ap (λ (c : Bool). if c then None else (if d then Some (start_of (out-Node n.now).ranges) else rest)) (test_other (out-Node n.now).id number t)
-    ∙ ap (λ (c : Bool). if c then Some (start_of (out-Node n.now).ranges) else rest) u
+    ∙ ap (λ (c : Bool). if c then None else (if d then Some (start_of (out-Node n.node.now).ranges) else rest)) (test_other (out-Node n.node.now).id number t)
+    ∙ ap (λ (c : Bool). if c then Some (start_of (out-Node n.node.now).ranges) else rest) u
 
-pub removed_nowhere : (number : ℕ) (ns : List (Bor Node)) (i : ℕ) → first_removed number (lent_views ns) ≡ first_removed number (lent_views (drop i ns)) → length ns ≤ i
-    → None ≡ first_removed number (lent_views ns)
+pub removed_nowhere : (number : ℕ) (ns : List Child) (i : ℕ) → first_removed number (child_views ns) ≡ first_removed number (child_views (drop i ns)) → length ns ≤ i
+    → None ≡ first_removed number (child_views ns)
 removed_nowhere number ns i inv l = ap (first_removed number) (sym (lent_end ns i l)) ∙ sym inv
 
 -- ---- from the first kept item on

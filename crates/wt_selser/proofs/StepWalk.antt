@@ -1,5 +1,5 @@
 -- How the code finds its steps along children: nodes that are passed one by one.
-use Rattle.std.proofs.Common.{arith, ◌≡◌, ◌<◌, ◌≤◌, ℕ, ◌+◌, ◌-◌, Bool, true, false, List, [], ◌∷◌, ◌++◌, length, take, drop, get_or, map, Bor, refl, sym, ap, ◌∙◌, nat_eq, ◌≢◌, inl, inr, if◌then◌else◌, append_assoc, append-nil}
+use Rattle.std.proofs.Common.{arith, ◌≡◌, ◌<◌, ◌≤◌, ℕ, ◌+◌, ◌-◌, Bool, true, false, List, [], ◌∷◌, ◌++◌, length, take, drop, get_or, refl, sym, ap, ◌∙◌, nat_eq, ◌≢◌, inl, inr, if◌then◌else◌, append_assoc, append-nil}
 use Rattle.std.specs.Prelude.{◌==◌, not}
 use Rattle.std.proofs.lemmas.Bool.Decides.{eqb_tells}
 use Rattle.std.proofs.lemmas.List.{drop_more, take_more, drop_all, take_all, drop-drop, length-drop}
@@ -9,14 +9,12 @@ use Rattle.wt_tree.specs.View.{view, views}
 use Rattle.wt_tree.proofs.Views.{view_out}
 use Rattle.wt_content.specs.declared.children.Holder.{Holder}
 use Rattle.wt_content.specs.Children.{is_child}
+use Rattle.wt_selser.specs.declared.child.Child.{Child}
+use Rattle.wt_selser.specs.Views.{child_views}
 use Rattle.wt_selser.specs.Steps.{Step, kept, comes, passed, passed_one, passed_up_to, from_number, behind_first, kept_first, steps}
 
 pub id_seen : (n : Node) → (label (view n)).id ≡ (out-Node n).id
 id_seen n = rw (view_out n)
-
--- the trees of nodes that are lent
-abbrev pub lent_views : List (Bor Node) → Trees
-lent_views ns = views (map (λ n. n.now) ns)
 
 -- ---- the nodes before the first one with a number
 
@@ -24,100 +22,100 @@ differs : (b c : ℕ) → b ≢ c → nat_eq b c ≡ false
 differs b c n = elim (eqb_tells b c) [ inl e ↦ absurd (n e.1) | inr e ↦ e.0 ]
 
 -- none of the nodes before a place has this number
-abbrev pub NoneBefore : ℕ → List (Bor Node) → ℕ → Type 0
+abbrev pub NoneBefore : ℕ → List Child → ℕ → Type 0
 NoneBefore number nodes at =
-    (from_number number (lent_views nodes) ≡ from_number number (lent_views (drop at nodes)))
-    × ((h : Holder) → passed_up_to h number (lent_views nodes) ≡ passed h (lent_views (take at nodes)) ++ passed_up_to h number (lent_views (drop at nodes)))
+    (from_number number (child_views nodes) ≡ from_number number (child_views (drop at nodes)))
+    × ((h : Holder) → passed_up_to h number (child_views nodes) ≡ passed h (child_views (take at nodes)) ++ passed_up_to h number (child_views (drop at nodes)))
 
-pub passed_more : (h : Holder) (xs ys : List (Bor Node)) → passed h (lent_views (xs ++ ys)) ≡ passed h (lent_views xs) ++ passed h (lent_views ys)
+pub passed_more : (h : Holder) (xs ys : List Child) → passed h (child_views (xs ++ ys)) ≡ passed h (child_views xs) ++ passed h (child_views ys)
 passed_more h [] ys = refl
-passed_more h (x ∷ xs) ys = ap (λ (ss : List Step). passed_one h (view x.now) ∷ ss) (passed_more h xs ys)
+passed_more h (x ∷ xs) ys = ap (λ (ss : List Step). passed_one h (view x.node.now) ∷ ss) (passed_more h xs ys)
 
 -- the nodes from a place on begin with the one at it
 pub from_place : {X : Type 0} (nodes : List X) (i : ℕ) (n : X) → i < length nodes → n ≡ get_or nodes i n → drop i nodes ≡ n ∷ drop (i + 1) nodes
 from_place {X} nodes i n lt is = drop_more nodes i n lt ∙ ap (λ (x : X). x ∷ drop (i + 1) nodes) (sym is)
 
-pub up_to_place : (nodes : List (Bor Node)) (i : ℕ) (n : Bor Node) → i < length nodes → n ≡ get_or nodes i n → take (i + 1) nodes ≡ take i nodes ++ n ∷ []
-up_to_place nodes i n lt is = take_more nodes i n lt ∙ ap (λ (x : Bor Node). take i nodes ++ x ∷ []) (sym is)
+pub up_to_place : (nodes : List Child) (i : ℕ) (n : Child) → i < length nodes → n ≡ get_or nodes i n → take (i + 1) nodes ≡ take i nodes ++ n ∷ []
+up_to_place nodes i n lt is = take_more nodes i n lt ∙ ap (λ (x : Child). take i nodes ++ x ∷ []) (sym is)
 
-other_number : (number : ℕ) (n : Bor Node) → (out-Node n.now).id ≢ number → nat_eq (label (view n.now)).id number ≡ false
-other_number number n e = ap (λ (k : ℕ). nat_eq k number) (id_seen n.now) ∙ differs (out-Node n.now).id number e
+other_number : (number : ℕ) (n : Child) → (out-Node n.node.now).id ≢ number → nat_eq (label (view n.node.now)).id number ≡ false
+other_number number n e = ap (λ (k : ℕ). nat_eq k number) (id_seen n.node.now) ∙ differs (out-Node n.node.now).id number e
 
-pub passed_other : (number : ℕ) (n : Bor Node) (ns : List (Bor Node)) → (out-Node n.now).id ≢ number
-    → from_number number (lent_views (n ∷ ns)) ≡ from_number number (lent_views ns)
-passed_other number n ns e = ap (λ (b : Bool). if b then more (view n.now) (lent_views ns) else from_number number (lent_views ns)) (other_number number n e)
+pub passed_other : (number : ℕ) (n : Child) (ns : List Child) → (out-Node n.node.now).id ≢ number
+    → from_number number (child_views (n ∷ ns)) ≡ from_number number (child_views ns)
+passed_other number n ns e = ap (λ (b : Bool). if b then more (view n.node.now) (child_views ns) else from_number number (child_views ns)) (other_number number n e)
 
-pub up_to_other : (h : Holder) (number : ℕ) (n : Bor Node) (ns : List (Bor Node)) → (out-Node n.now).id ≢ number
-    → passed_up_to h number (lent_views (n ∷ ns)) ≡ passed_one h (view n.now) ∷ passed_up_to h number (lent_views ns)
+pub up_to_other : (h : Holder) (number : ℕ) (n : Child) (ns : List Child) → (out-Node n.node.now).id ≢ number
+    → passed_up_to h number (child_views (n ∷ ns)) ≡ passed_one h (view n.node.now) ∷ passed_up_to h number (child_views ns)
 up_to_other h number n ns e =
-    ap (λ (b : Bool). if b then [] else passed_one h (view n.now) ∷ passed_up_to h number (lent_views ns)) (other_number number n e)
+    ap (λ (b : Bool). if b then [] else passed_one h (view n.node.now) ∷ passed_up_to h number (child_views ns)) (other_number number n e)
 
-pub none_more : (number : ℕ) (nodes : List (Bor Node)) (i : ℕ) (n : Bor Node) → i < length nodes → n ≡ get_or nodes i n
-    → (out-Node n.now).id ≢ number → NoneBefore number nodes i → NoneBefore number nodes (i + 1)
+pub none_more : (number : ℕ) (nodes : List Child) (i : ℕ) (n : Child) → i < length nodes → n ≡ get_or nodes i n
+    → (out-Node n.node.now).id ≢ number → NoneBefore number nodes i → NoneBefore number nodes (i + 1)
 none_more number nodes i n lt is other before =
     let rest = drop (i + 1) nodes in
     let here = from_place nodes i n lt is in (
-      before.0 ∙ ap (λ (xs : List (Bor Node)). from_number number (lent_views xs)) here ∙ passed_other number n rest other,
+      before.0 ∙ ap (λ (xs : List Child). from_number number (child_views xs)) here ∙ passed_other number n rest other,
       λ h. before.1 h
-          ∙ ap (λ (xs : List (Bor Node)). passed h (lent_views (take i nodes)) ++ passed_up_to h number (lent_views xs)) here
-          ∙ ap (λ (ss : List Step). passed h (lent_views (take i nodes)) ++ ss) (up_to_other h number n rest other)
-          ∙ sym (append_assoc (passed h (lent_views (take i nodes))) (passed_one h (view n.now) ∷ []) (passed_up_to h number (lent_views rest)))
-          ∙ ap (λ (ss : List Step). ss ++ passed_up_to h number (lent_views rest)) (sym (passed_more h (take i nodes) (n ∷ [])))
-          ∙ ap (λ (xs : List (Bor Node)). passed h (lent_views xs) ++ passed_up_to h number (lent_views rest)) (sym (up_to_place nodes i n lt is)),
+          ∙ ap (λ (xs : List Child). passed h (child_views (take i nodes)) ++ passed_up_to h number (child_views xs)) here
+          ∙ ap (λ (ss : List Step). passed h (child_views (take i nodes)) ++ ss) (up_to_other h number n rest other)
+          ∙ sym (append_assoc (passed h (child_views (take i nodes))) (passed_one h (view n.node.now) ∷ []) (passed_up_to h number (child_views rest)))
+          ∙ ap (λ (ss : List Step). ss ++ passed_up_to h number (child_views rest)) (sym (passed_more h (take i nodes) (n ∷ [])))
+          ∙ ap (λ (xs : List Child). passed h (child_views xs) ++ passed_up_to h number (child_views rest)) (sym (up_to_place nodes i n lt is)),
     )
 
 -- ---- passing nodes
 
-pub passed_turn : (h : Holder) (nodes : List (Bor Node)) (i : ℕ) (n : Bor Node) (xs ys zs : List Step) → i < length nodes → n ≡ get_or nodes i n
-    → ys ≡ xs ++ passed_one h (view n.now) ∷ [] → xs ++ passed h (lent_views (drop i nodes)) ≡ zs → ys ++ passed h (lent_views (drop (i + 1) nodes)) ≡ zs
+pub passed_turn : (h : Holder) (nodes : List Child) (i : ℕ) (n : Child) (xs ys zs : List Step) → i < length nodes → n ≡ get_or nodes i n
+    → ys ≡ xs ++ passed_one h (view n.node.now) ∷ [] → xs ++ passed h (child_views (drop i nodes)) ≡ zs → ys ++ passed h (child_views (drop (i + 1) nodes)) ≡ zs
 passed_turn h nodes i n xs ys zs lt is e inv =
-    let rest = passed h (lent_views (drop (i + 1) nodes)) in
-    let joined : (xs ++ passed_one h (view n.now) ∷ []) ++ rest ≡ xs ++ passed_one h (view n.now) ∷ rest = simp append_assoc in
-    ap (λ (ss : List Step). ss ++ rest) e ∙ joined ∙ sym (ap (λ (ns : List (Bor Node)). xs ++ passed h (lent_views ns)) (from_place nodes i n lt is)) ∙ inv
+    let rest = passed h (child_views (drop (i + 1) nodes)) in
+    let joined : (xs ++ passed_one h (view n.node.now) ∷ []) ++ rest ≡ xs ++ passed_one h (view n.node.now) ∷ rest = simp append_assoc in
+    ap (λ (ss : List Step). ss ++ rest) e ∙ joined ∙ sym (ap (λ (ns : List Child). xs ++ passed h (child_views ns)) (from_place nodes i n lt is)) ∙ inv
 
-pub passed_end : (h : Holder) (nodes : List (Bor Node)) (i : ℕ) (xs zs : List Step) → length nodes ≤ i → xs ++ passed h (lent_views (drop i nodes)) ≡ zs → xs ≡ zs
+pub passed_end : (h : Holder) (nodes : List Child) (i : ℕ) (xs zs : List Step) → length nodes ≤ i → xs ++ passed h (child_views (drop i nodes)) ≡ zs → xs ≡ zs
 passed_end h nodes i xs zs l inv =
     let empty : xs ++ [] ≡ xs = simp append-nil in
-    sym empty ∙ sym (ap (λ (ns : List (Bor Node)). xs ++ passed h (lent_views ns)) (drop_all i nodes l)) ∙ inv
+    sym empty ∙ sym (ap (λ (ns : List Child). xs ++ passed h (child_views ns)) (drop_all i nodes l)) ∙ inv
 
 -- ---- a kept child
 
 -- the page has no node left
-pub none_left : (nodes : List (Bor Node)) (at number : ℕ) → length nodes ≤ at → lent_views (drop at nodes) ≡ from_number number (lent_views nodes)
-    → from_number number (lent_views nodes) ≡ none
-none_left nodes at number l e = sym e ∙ ap lent_views (drop_all at nodes l)
+pub none_left : (nodes : List Child) (at number : ℕ) → length nodes ≤ at → child_views (drop at nodes) ≡ from_number number (child_views nodes)
+    → from_number number (child_views nodes) ≡ none
+none_left nodes at number l e = sym e ∙ ap child_views (drop_all at nodes l)
 
 -- or the one that is kept, and those behind it
-pub one_left : (nodes : List (Bor Node)) (at number : ℕ) (n : Bor Node) → at < length nodes → n ≡ get_or nodes at n
-    → lent_views (drop at nodes) ≡ from_number number (lent_views nodes) → from_number number (lent_views nodes) ≡ more (view n.now) (lent_views (drop (at + 1) nodes))
-one_left nodes at number n l is e = sym e ∙ ap lent_views (from_place nodes at n l is)
+pub one_left : (nodes : List Child) (at number : ℕ) (n : Child) → at < length nodes → n ≡ get_or nodes at n
+    → child_views (drop at nodes) ≡ from_number number (child_views nodes) → from_number number (child_views nodes) ≡ more (view n.node.now) (child_views (drop (at + 1) nodes))
+one_left nodes at number n l is e = sym e ∙ ap child_views (from_place nodes at n l is)
 
-pub behind_none : (nodes : List (Bor Node)) (at number : ℕ) → length nodes ≤ at → lent_views (drop at nodes) ≡ from_number number (lent_views nodes)
-    → lent_views (drop at nodes) ≡ behind_first (from_number number (lent_views nodes))
+pub behind_none : (nodes : List Child) (at number : ℕ) → length nodes ≤ at → child_views (drop at nodes) ≡ from_number number (child_views nodes)
+    → child_views (drop at nodes) ≡ behind_first (from_number number (child_views nodes))
 behind_none nodes at number l e = e ∙ none_left nodes at number l e ∙ sym (ap behind_first (none_left nodes at number l e))
 
-pub behind_one : (nodes : List (Bor Node)) (at number : ℕ) (n : Bor Node) → at < length nodes → n ≡ get_or nodes at n
-    → lent_views (drop at nodes) ≡ from_number number (lent_views nodes) → lent_views (drop (at + 1) nodes) ≡ behind_first (from_number number (lent_views nodes))
+pub behind_one : (nodes : List Child) (at number : ℕ) (n : Child) → at < length nodes → n ≡ get_or nodes at n
+    → child_views (drop at nodes) ≡ from_number number (child_views nodes) → child_views (drop (at + 1) nodes) ≡ behind_first (from_number number (child_views nodes))
 behind_one nodes at number n l is e = sym (ap behind_first (one_left nodes at number n l is e))
 
-pub pushed_none : (h : Holder) (nodes : List (Bor Node)) (at number : ℕ) (u : Tree) (xs ys : List Step) → length nodes ≤ at
-    → lent_views (drop at nodes) ≡ from_number number (lent_views nodes) → passed h (lent_views (take at nodes)) ≡ passed_up_to h number (lent_views nodes)
-    → ys ≡ xs ++ passed h (lent_views (take at nodes))
-    → ys ≡ xs ++ (passed_up_to h number (lent_views nodes) ++ kept_first (from_number number (lent_views nodes)) u)
+pub pushed_none : (h : Holder) (nodes : List Child) (at number : ℕ) (u : Tree) (xs ys : List Step) → length nodes ≤ at
+    → child_views (drop at nodes) ≡ from_number number (child_views nodes) → passed h (child_views (take at nodes)) ≡ passed_up_to h number (child_views nodes)
+    → ys ≡ xs ++ passed h (child_views (take at nodes))
+    → ys ≡ xs ++ (passed_up_to h number (child_views nodes) ++ kept_first (from_number number (child_views nodes)) u)
 pushed_none h nodes at number u xs ys l e p d =
-    let empty : passed_up_to h number (lent_views nodes) ++ [] ≡ passed_up_to h number (lent_views nodes) = simp append-nil in
+    let empty : passed_up_to h number (child_views nodes) ++ [] ≡ passed_up_to h number (child_views nodes) = simp append-nil in
     d ∙ ap (λ (ss : List Step). xs ++ ss) (p ∙ sym empty)
-    ∙ ap (λ (ts : Trees). xs ++ (passed_up_to h number (lent_views nodes) ++ kept_first ts u)) (sym (none_left nodes at number l e))
+    ∙ ap (λ (ts : Trees). xs ++ (passed_up_to h number (child_views nodes) ++ kept_first ts u)) (sym (none_left nodes at number l e))
 
-pub pushed_one : (h : Holder) (nodes : List (Bor Node)) (at number : ℕ) (n : Bor Node) (u : Tree) (xs ys zs : List Step) → at < length nodes → n ≡ get_or nodes at n
-    → lent_views (drop at nodes) ≡ from_number number (lent_views nodes) → passed h (lent_views (take at nodes)) ≡ passed_up_to h number (lent_views nodes)
-    → ys ≡ xs ++ passed h (lent_views (take at nodes)) → zs ≡ ys ++ kept (view n.now) u ∷ []
-    → zs ≡ xs ++ (passed_up_to h number (lent_views nodes) ++ kept_first (from_number number (lent_views nodes)) u)
+pub pushed_one : (h : Holder) (nodes : List Child) (at number : ℕ) (n : Child) (u : Tree) (xs ys zs : List Step) → at < length nodes → n ≡ get_or nodes at n
+    → child_views (drop at nodes) ≡ from_number number (child_views nodes) → passed h (child_views (take at nodes)) ≡ passed_up_to h number (child_views nodes)
+    → ys ≡ xs ++ passed h (child_views (take at nodes)) → zs ≡ ys ++ kept (view n.node.now) u ∷ []
+    → zs ≡ xs ++ (passed_up_to h number (child_views nodes) ++ kept_first (from_number number (child_views nodes)) u)
 pushed_one h nodes at number n u xs ys zs l is e p d f =
-    let joined : (xs ++ passed_up_to h number (lent_views nodes)) ++ kept (view n.now) u ∷ [] ≡ xs ++ (passed_up_to h number (lent_views nodes) ++ kept (view n.now) u ∷ []) =
+    let joined : (xs ++ passed_up_to h number (child_views nodes)) ++ kept (view n.node.now) u ∷ [] ≡ xs ++ (passed_up_to h number (child_views nodes) ++ kept (view n.node.now) u ∷ []) =
     simp append_assoc in
-    f ∙ ap (λ (ss : List Step). ss ++ kept (view n.now) u ∷ []) (d ∙ ap (λ (ss : List Step). xs ++ ss) p) ∙ joined
-    ∙ ap (λ (ts : Trees). xs ++ (passed_up_to h number (lent_views nodes) ++ kept_first ts u)) (sym (one_left nodes at number n l is e))
+    f ∙ ap (λ (ss : List Step). ss ++ kept (view n.node.now) u ∷ []) (d ∙ ap (λ (ss : List Step). xs ++ ss) p) ∙ joined
+    ∙ ap (λ (ts : Trees). xs ++ (passed_up_to h number (child_views nodes) ++ kept_first ts u)) (sym (one_left nodes at number n l is e))
 
 -- ---- a child of the edited tree
 
@@ -155,25 +153,25 @@ rest_of nodes from f =
     let width : length (drop from nodes) ≡ length nodes - from = length-drop from nodes in
     take_all (length nodes - from) (drop from nodes) (omega (arith, width))
 
-pub step_taken : (h : Holder) (old : List (Bor Node)) (new : List Node) (from n i : ℕ) (u : Node) (xs ys zs : List Step) → from ≤ length old
+pub step_taken : (h : Holder) (old : List Child) (new : List Node) (from n i : ℕ) (u : Node) (xs ys zs : List Step) → from ≤ length old
     → n ≤ length (take (length old - from) (drop from old)) → i < length new → u ≡ get_or new i u
-    → xs ++ steps h (lent_views (drop from old)) (views (drop i new)) ≡ zs
-    → ((us : Trees) → ys ++ steps h (lent_views (drop n (take (length old - from) (drop from old)))) us
-    ≡ xs ++ steps h (lent_views (take (length old - from) (drop from old))) (more (view u) us))
-    → (from + n ≤ length old) × (ys ++ steps h (lent_views (drop (from + n) old)) (views (drop (i + 1) new)) ≡ zs)
+    → xs ++ steps h (child_views (drop from old)) (views (drop i new)) ≡ zs
+    → ((us : Trees) → ys ++ steps h (child_views (drop n (take (length old - from) (drop from old)))) us
+    ≡ xs ++ steps h (child_views (take (length old - from) (drop from old))) (more (view u) us))
+    → (from + n ≤ length old) × (ys ++ steps h (child_views (drop (from + n) old)) (views (drop (i + 1) new)) ≡ zs)
 step_taken h old new from n i u xs ys zs f l lt is inv goes =
     let rest = rest_of old from f in
     let width : length (drop from old) ≡ length old - from = length-drop from old in
     let same : length (take (length old - from) (drop from old)) ≡ length (drop from old) = ap length rest in (
       omega (arith, f, l, width, same),
-      ap (λ (ns : List (Bor Node)). ys ++ steps h (lent_views ns) (views (drop (i + 1) new))) (sym (drop-drop n from old) ∙ ap (drop n) (sym rest))
+      ap (λ (ns : List Child). ys ++ steps h (child_views ns) (views (drop (i + 1) new))) (sym (drop-drop n from old) ∙ ap (drop n) (sym rest))
           ∙ goes (views (drop (i + 1) new))
-          ∙ ap (λ (ns : List (Bor Node)). xs ++ steps h (lent_views ns) (more (view u) (views (drop (i + 1) new)))) rest
-          ∙ ap (λ (ns : List Node). xs ++ steps h (lent_views (drop from old)) (views ns)) (sym (from_place new i u lt is)) ∙ inv,
+          ∙ ap (λ (ns : List Child). xs ++ steps h (child_views ns) (more (view u) (views (drop (i + 1) new)))) rest
+          ∙ ap (λ (ns : List Node). xs ++ steps h (child_views (drop from old)) (views ns)) (sym (from_place new i u lt is)) ∙ inv,
     )
 
-pub all_taken : (h : Holder) (old : List (Bor Node)) (new : List Node) (from i : ℕ) (xs ys zs : List Step) → from ≤ length old → length new ≤ i
-    → xs ++ steps h (lent_views (drop from old)) (views (drop i new)) ≡ zs → ys ≡ xs ++ passed h (lent_views (take (length old - from) (drop from old))) → ys ≡ zs
+pub all_taken : (h : Holder) (old : List Child) (new : List Node) (from i : ℕ) (xs ys zs : List Step) → from ≤ length old → length new ≤ i
+    → xs ++ steps h (child_views (drop from old)) (views (drop i new)) ≡ zs → ys ≡ xs ++ passed h (child_views (take (length old - from) (drop from old))) → ys ≡ zs
 all_taken h old new from i xs ys zs f l inv e =
-    e ∙ ap (λ (ns : List (Bor Node)). xs ++ passed h (lent_views ns)) (rest_of old from f)
-    ∙ sym (ap (λ (ns : List Node). xs ++ steps h (lent_views (drop from old)) (views ns)) (drop_all i new l)) ∙ inv
+    e ∙ ap (λ (ns : List Child). xs ++ passed h (child_views ns)) (rest_of old from f)
+    ∙ sym (ap (λ (ns : List Node). xs ++ steps h (child_views (drop from old)) (views ns)) (drop_all i new l)) ∙ inv

@@ -15,8 +15,9 @@ ghost use Rattle.wt_selser.specs.Steps.{Step as Taken};
 ghost use Rattle.wt_selser.specs.Views.{changes_view, parted_ends, step_view, steps_view};
 
 use crate::change::{Change, push_insides};
+use crate::child::children_of;
 use crate::list::{end_of, push_at, push_list, sign_of};
-use crate::steps::{Step, lent};
+use crate::steps::Step;
 use std::alloc::Global;
 use wt_checks::{Visit, is_children, original};
 use wt_content::{has_break, is_mark, is_separator, is_space};
@@ -405,7 +406,7 @@ fn push_list_at<'t, 'a>(
         Some(visit) => {
             let list = visit.node;
             let sign = sign_of(list.kind);
-            let old = lent(alloc, list.children.as_slice())?;
+            let old = children_of(alloc, list)?;
             push_list(alloc, found, index, sign, old.as_slice(), new)?;
             Ok(())
         }

@@ -4,6 +4,7 @@
 
 mod body;
 mod change;
+mod child;
 mod differing;
 mod editing;
 mod group_fault;

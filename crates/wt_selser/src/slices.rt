@@ -1,22 +1,23 @@
 //! The slices of the page that an edit replaces, in the order of the page: a walk over the edited tree.
 
-ghost use Rattle.std.specs.Prelude.{◌≡◌, ◌++◌, Bool, IfOk, OnOk, map};
+ghost use Rattle.std.specs.Prelude.{◌≡◌, ◌++◌, Bool, IfOk, OnOk};
 ghost use Rattle.wt_tree.specs.Tree.{Tree};
 ghost use Rattle.wt_tree.specs.View.{view, views};
 ghost use Rattle.wt_kept.specs.Page.{TellsSame};
 ghost use Rattle.wt_checks.specs.View.{indexed};
 ghost use Rattle.wt_checks.specs.Places.{page_of};
 ghost use Rattle.wt_selser.specs.BodySlices.{all_child_slices, slices, slices_of};
-ghost use Rattle.wt_selser.specs.Views.{changes_view};
+ghost use Rattle.wt_selser.specs.Views.{child_views, changes_view};
 
 use crate::body::{push_body, push_child};
 use crate::change::Change;
+use crate::child::{Child, opened_children};
 use crate::steps::steps_along;
 use std::alloc::Global;
 use wt_checks::{Visit, is_children};
 use wt_content::Holder;
 use wt_span::NoMemory;
-use wt_tree::{Node, opened_children};
+use wt_tree::Node;
 
 /// Appends the slices of the children of a body that keeps all of them.
 fn push_children<'t, 'a>(
@@ -39,11 +40,11 @@ fn push_slices<'t, 'a>(
     alloc: Global,
     found: &mut Vec<Change>,
     index: &[Visit<'t, 'a>],
-    old: &[&'t Node<'a>],
+    old: &[Child<'t, 'a>],
     edited: &'t Node<'a>,
 ) -> Result<(), NoMemory>
     ensures { (same : Tree → Tree → Bool) → TellsSame same → OnOk result (changes_view found.new.items
-        ≡ changes_view found.old.items ++ slices_of same (indexed index.now) (views (map (λ n. n.now) old.now)) (view edited.now)) }
+        ≡ changes_view found.old.items ++ slices_of same (indexed index.now) (child_views old.now) (view edited.now)) }
 {
     let new = edited.children.as_slice();
     if !is_children(edited.mark) {

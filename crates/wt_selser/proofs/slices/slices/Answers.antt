@@ -1,16 +1,13 @@
 use Rattle.std.proofs.Common.{[], ap}
-use Rattle.wt_tree.specs.Opened.{opened}
-use Rattle.wt_tree.specs.View.{view, views}
-use Rattle.wt_tree.specs.declared.node.Node.{out-Node}
+use Rattle.wt_tree.specs.View.{view}
 use Rattle.wt_checks.specs.Places.{page_of}
 use Rattle.wt_checks.specs.View.{indexed}
-use Rattle.wt_selser.specs.Views.{changes_view}
-use Rattle.wt_selser.proofs.BodyWalk.{page_sliced, lent_trees}
-use Rattle.wt_selser.proofs.StepWalk.{lent_views}
+use Rattle.wt_selser.specs.Views.{child_views, changes_view}
+use Rattle.wt_selser.proofs.BodyWalk.{page_sliced}
 use Rattle.wt_selser.proofs.slices.slices.Goals as goal
 
 pub returns : goal.returns
 returns c = λ same tells.
-    page_sliced same (indexed c.args.index.now) (page_of (view c.args.page.now)) c.args.page.now (view c.args.edited.now) (lent_views c.in_ok-old.old.items)
+    page_sliced same (indexed c.args.index.now) (page_of (view c.args.page.now)) c.args.page.now (view c.args.edited.now) (child_views c.in_ok-old.old.items)
     (changes_view c.new-found.result.items) (changes_view c.push_slices.new.found.items) c.requires (ap changes_view c.new-found.ensures.items)
-    (lent_trees c.in_ok-old.old.items (opened (views (out-Node c.args.page.now).children)) c.in_ok-old.ensures) (c.in_ok-push_slices.ensures same tells)
+    c.in_ok-old.ensures (c.in_ok-push_slices.ensures same tells)
