@@ -19,7 +19,9 @@ use bumpalo::Bump;
 use std::alloc::Global;
 use wt_fitting::Standing;
 use wt_html_elements::{Attribute, Content};
-use wt_html_heads::{FitFault, Head, Headed, Spot, headed_by, is_grouped, is_section_name, is_unsourced};
+use wt_html_heads::{
+    FitFault, Head, Headed, Spot, headed_by, is_grouped, is_section_name, is_unsourced,
+};
 use wt_span::{List, NoMemory};
 use wt_tree::{Kind, Node};
 
@@ -44,12 +46,7 @@ fn is_asked(inside: bool, standing: Standing) -> bool
 }
 
 /// Whether an element is asked for its source and has none. A section isn't asked.
-fn lacks_source(
-    inside: bool,
-    standing: Standing,
-    name: &[u8],
-    attributes: &[Attribute],
-) -> bool
+fn lacks_source(inside: bool, standing: Standing, name: &[u8], attributes: &[Attribute]) -> bool
     ensures { result ≡ (is_asked inside standing && lacks_source name.now (pairs attributes.now)) }
 {
     is_asked(inside, standing) && (!is_section_name(name) && is_unsourced(attributes))
