@@ -1,12 +1,15 @@
 -- What sections hold is put in their place, node by node.
-use Rattle.std.proofs.Common.{◌≡◌, Bool, true, false, List, [], ◌∷◌, refl, sym, ap, ◌∙◌}
+use Rattle.std.proofs.Common.{◌≡◌, Bool, true, false, List, [], ◌∷◌, ◌++◌, refl, sym, ap, ◌∙◌}
 use Rattle.std.specs.Prelude.{if◌then◌else◌}
 use Rattle.wt_tree.specs.Kinds.{is_section}
 use Rattle.wt_tree.specs.Opened.{opened_before, all_opened_before, opened}
 use Rattle.wt_tree.specs.Recutting.{appended}
 use Rattle.wt_tree.specs.Tree.{Label, Tree, tree, Trees, none, more}
 use Rattle.wt_tree.specs.View.{view, views}
-use Rattle.wt_tree.specs.declared.node.Node.{Node}
+use Rattle.wt_tree.specs.declared.node.Node.{Node, out-Node}
+use Rattle.wt_tree.proofs.Views.{view_out}
+use Rattle.wt_html_grammar.proofs.Steps.{if_false}
+use Rattle.wt_html_in.proofs.Pieces.{views_push}
 
 appended_twice : (ts us vs : Trees) → appended (appended ts us) vs ≡ appended ts (appended us vs)
 appended_twice none us vs = refl
@@ -41,3 +44,13 @@ opened_on vs ws n xs ys all e f h =
 
 pub opened_end : (vs xs : List Node) (all : Trees) → xs ≡ [] → appended (views vs) (opened (views xs)) ≡ all → views vs ≡ all
 opened_end vs xs all e h = sym (appended_none (views vs)) ∙ ap (λ zs. appended (views vs) (opened (views zs))) (sym e) ∙ h
+
+-- a node that is no section
+kept : (n : Node) → is_section (out-Node n).kind ≡ false → opened_before (view n) none ≡ more (view n) none
+kept n e =
+    ap (λ t. opened_before t none) (view_out n)
+    ∙ if_false (is_section (out-Node n).kind) _ _ e ∙ ap (λ t. more t none) (sym (view_out n))
+
+pub opened_node : (vs ws : List Node) (n : Node) (b : Bool) → ws ≡ vs ++ n ∷ [] → b ≡ is_section (out-Node n).kind → b ≡ false
+    → views ws ≡ appended (views vs) (opened_before (view n) none)
+opened_node vs ws n b e f g = ap views e ∙ views_push vs n ∙ ap (appended (views vs)) (sym (kept n (sym f ∙ g)))

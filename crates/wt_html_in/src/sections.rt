@@ -84,7 +84,6 @@ pub fn all_bared(alloc: Global, contents: Vec<Content>) -> Result<Vec<Content>, 
 
 /// Appends a node, or of a section what it holds.
 #[cycle(opening)]
-#[tactic(auto, using(crate::proofs::Pieces::views_push))]
 fn push_opened<'a>(out: &mut Vec<Node<'a>>, node: Node<'a>) -> Result<(), NoMemory>
     ensures { OnOk result (trees out.new.items ≡ appended (trees out.old.items) (opened_before (view node.entry) no_trees)) }
 {

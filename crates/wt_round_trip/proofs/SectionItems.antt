@@ -66,8 +66,34 @@ section_good n k inside small h i = (
   (
     (
       (refl, tt),
-      (refl, (refl, (refl, (refl, (refl, (refl, (refl, (refl, (refl,
-      (refl, (refl, (refl, (refl, (refl, (refl, (refl, (refl, (refl, tt)))))))))))))))))),
+      (
+        refl,
+        (
+          refl,
+          (
+            refl,
+            (
+              refl,
+              (
+                refl,
+                (
+                  refl,
+                  (
+                    refl,
+                    (
+                      refl,
+                      (
+                        refl,
+                        (refl, (refl, (refl, (refl, (refl, (refl, (refl, (refl, (refl, tt))))))))),
+                      ),
+                    ),
+                  ),
+                ),
+              ),
+            ),
+          ),
+        ),
+      ),
       pieces_good _ _ _ spells_double (decimal n) (number_utf8 n small),
       refl,
       tt,

@@ -66,24 +66,23 @@ tops_in_section (along (face_of f qs) ps) k h = (h.0, tops_in_section ps k h.1)
 
 node_in_section : (w : Writing) (k : ℕ) (l : Label) (childless : Bool) (H G F : Type 0) → (G → F)
     → NodeIsWritten w k kind.Body l childless H G → NodeIsWritten w k (kind.Section 0) l childless H F
-node_in_section AsText k l childless H G F f h =
-    (
-      record {
-        kind = h.0.kind;
-        characters = h.0.characters;
-        some = h.0.some;
-        stands = h.0.stands;
-        shown = h.0.shown;
-        id = h.0.id;
-        opening = h.0.opening;
-        closing = h.0.closing;
-        attrs = h.0.attrs;
-        origin = h.0.origin;
-        mark = h.0.mark;
-        mw = h.0.mw;
-      },
-      h.1,
-    )
+node_in_section AsText k l childless H G F f h = (
+  record {
+    kind = h.0.kind;
+    characters = h.0.characters;
+    some = h.0.some;
+    stands = h.0.stands;
+    shown = h.0.shown;
+    id = h.0.id;
+    opening = h.0.opening;
+    closing = h.0.closing;
+    attrs = h.0.attrs;
+    origin = h.0.origin;
+    mark = h.0.mark;
+    mw = h.0.mw;
+  },
+  h.1,
+)
 node_in_section AsVoid k l childless H G F f h = h
 node_in_section RoundCharacter k l childless H G F f h = h
 node_in_section RoundChildren k l childless H G F f h = h

@@ -4,8 +4,13 @@ use Rattle.wt_tree.specs.Opened.{opened}
 use Rattle.wt_tree.specs.Recutting.{appended}
 use Rattle.wt_tree.specs.View.{views}
 use Rattle.wt_html_in.proofs.Walking.{no_items}
-use Rattle.wt_html_in.proofs.Opened.{opened_on, opened_end}
+use Rattle.wt_html_in.proofs.Opened.{opened_node, opened_on, opened_end}
 use Rattle.wt_html_in.proofs.sections.+opening.Goals as goal
+
+pub push_opened-returns : goal.push_opened-returns
+push_opened-returns t c =
+    opened_node c.args.out.now.items c.push.new.self.items c.args.node c.is_section.result c.in_ok-push.ensures.items c.is_section.ensures
+    c.if-is_section.false
 
 pub push_all_opened-loop-node-preserved : goal.push_all_opened-loop-node-preserved
 push_all_opened-loop-node-preserved t c =
