@@ -3,7 +3,7 @@ use Rattle.std.proofs.Common.{◌≡◌, ℕ, ◌≤◌, List, length, refl, sym
 use Rattle.std.specs.Prelude.{Option, Some, None, IfSome, Result, Ok}
 use Rattle.wt_span.specs.Origins.{Expanded}
 use Rattle.wt_tree.specs.Opened.{without_sections}
-use Rattle.wt_tree.specs.Plain.{Plain, ended}
+use Rattle.wt_tree.specs.Plain.{Plain, ended as nothing_more}
 use Rattle.wt_tree.specs.Tiling.{InPreorder}
 use Rattle.wt_tree.specs.Tree.{Tree, tree, label}
 use Rattle.wt_fitting.specs.Read.{page as as_page, read}
@@ -72,7 +72,7 @@ edited_read pages page u o = refl
 
 -- with its sections a body shows what it shows without
 shown_gathered : (t : Tree) → shown_children (with_sections t) ≡ shown_children t
-shown_gathered (tree l ts) = ap listed (plains_stay ts ended)
+shown_gathered (tree l ts) = ap listed (plains_stay ts nothing_more)
 
 body_number : (pages : Pages) (page : List ℕ) → (label (ungathered (expanded_page pages page).outer (expanded_page pages page).items)).id ≡ 0
 unfolding meaning annotated
