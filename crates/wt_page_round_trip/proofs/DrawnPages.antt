@@ -20,7 +20,7 @@ use Rattle.wt_span.specs.Items.{Item, sources}
 use Rattle.wt_span.specs.Origins.{OuterCall}
 use Rattle.wt_span.specs.Runs.{runs}
 use Rattle.wt_span.proofs.RunLaws.{runs_are}
-use Rattle.wt_round_trip.specs.Written.{HasPlaces, is_childless, IsElementLabel, AllWrittenIn, IsWritten}
+use Rattle.wt_round_trip.specs.Written.{HasPlaces, is_childless}
 use Rattle.wt_inline.specs.ItemTree.{Head, plain, ItemTree, inner, ItemTrees, nothing, further, tree_items, held_by_all}
 use Rattle.wt_annotated.specs.Annotated.{kept_label, unplaced, all_unplaced, placed, annotated}
 use Rattle.wt_annotated.specs.Clean.{is_page, own_by, is_clean}
@@ -54,7 +54,7 @@ use Rattle.wt_page_round_trip.proofs.KeptNodes.{clean_own, leaf_source, opening_
 use Rattle.wt_page_round_trip.proofs.GroupCounts.{few_groups}
 use Rattle.wt_page_round_trip.proofs.NumbersFew.{children_light, nodes_light}
 use Rattle.wt_page_round_trip.proofs.SectionGroups.{groups_stay}
-use Rattle.wt_page_round_trip.proofs.Sectioned.{IsWrittenBody, sections_written, headings_few, headings_numbered}
+use Rattle.wt_page_round_trip.proofs.Sectioned.{IsWrittenBody, headings_few, headings_numbered}
 use Rattle.wt_page_round_trip.proofs.DrawnRuns.{kind_of, IsNear, IsFree, MayGroup, runs_drawn, order_drawn}
 
 -- ---- a kept node
@@ -303,11 +303,10 @@ drawn_no_section j k q l childless group inside h = refl
 
 none_section : (k : ℕ) (q : Kind) (ts : Trees) → AreDrawnIn k q ts → NoneIsSection ts
 none_section k q none h = tt
-none_section k q (more (tree l us) ts) h =
-    (
-      drawn_no_section l.kind k q l (is_childless us) (IsDrawnGroup k q us) (IsInOrder (texts_of_kind l.kind) us × AreDrawnIn (suc k) l.kind us) h.0,
-      none_section k q ts h.2,
-    )
+none_section k q (more (tree l us) ts) h = (
+  drawn_no_section l.kind k q l (is_childless us) (IsDrawnGroup k q us) (IsInOrder (texts_of_kind l.kind) us × AreDrawnIn (suc k) l.kind us) h.0,
+  none_section k q ts h.2,
+)
 
 none_numbered : (n : ℕ) (ts : Trees) → NoneIsSection ts → NoneIsSection (all_with_numbers n ts)
 none_numbered n none h = tt

@@ -1,12 +1,12 @@
 -- The range of a section is a slice of the page, where the ranges of what it holds are.
-use Rattle.std.proofs.Common.{◌≡◌, ℕ, zero, suc, ◌+◌, ◌-◌, ◌≤◌, Bool, true, false, Option, Some, None, List, [], ◌∷◌, ◌++◌, length, take, drop, refl, sym, ap, ap₂, ◌∙◌, subst, arith, cond, append-nil}
+use Rattle.std.proofs.Common.{◌≡◌, ℕ, zero, suc, ◌+◌, ◌-◌, ◌≤◌, Bool, true, false, Option, Some, None, List, [], ◌∷◌, ◌++◌, length, refl, sym, ap, ap₂, ◌∙◌, subst, arith, cond, append-nil}
 use Rattle.std.specs.List.{AllByRecursion}
 use Rattle.wt_tree.specs.declared.kind.Ranges.{Ranges}
 use Rattle.wt_tree.specs.Kinds.{is_leaf}
 use Rattle.wt_tree.specs.Source.{flat, flat_of_all}
 use Rattle.wt_tree.specs.Tiling.{BeginsAt, end_of, TiledBy, Tiled, TiledFrom, is_group}
 use Rattle.wt_tree.specs.Tree.{Tree, tree, Trees, none, more, label}
-use Rattle.wt_annotated.specs.Slices.{slice, opening_of, StandsAt, StandsIn, IsSlice}
+use Rattle.wt_annotated.specs.Slices.{slice, opening_of, StandsIn, IsSlice}
 use Rattle.wt_annotated.specs.Reached.{reached, reached_in_all, AreReachedSlices}
 use Rattle.wt_annotated.proofs.PageSlices.{slice_join}
 use Rattle.wt_sections.specs.Sections.{Part, last_ranges, spanned, section, level_of, ends, opens, before, from, put, parts, part_trees, lead_if_any, gathered, with_sections}
@@ -49,8 +49,7 @@ run_stands page (more (tree l us) ts) a m w h g =
     by_ranges (Some r) b k s i =
         let rest : HasSources page ts r.end m = i r.end s.within k in
         let begins : a ≤ r.end = omega (arith, b, s.ordered) in
-        let first : slice page a r.end ≡ flat (tree l us) = ap (λ x. slice page x r.end) (sym b) ∙ s.stands in
-        (
+        let first : slice page a r.end ≡ flat (tree l us) = ap (λ x. slice page x r.end) (sym b) ∙ s.stands in (
           omega (arith, begins, rest.0),
           rest.1,
           slice_join page a r.end m begins rest.0 rest.1 ∙ ap₂ (λ (xs ys : List ℕ). xs ++ ys) first rest.2,
@@ -144,8 +143,7 @@ below page true (Some r) ts h g = tt
 below page false (Some r) ts h g = gathered_slices page ts (r.start + r.open_w) (r.end - r.close_w) h.1 g
 
 pub sections_sliced : (page : List ℕ) (t : Tree) → is_leaf (label t).kind ≡ false → Tiled t → AreReachedSlices page t → AreReachedSlices page (with_sections t)
-sections_sliced page (tree l ts) e h g =
-    (
-      subst (λ (bs : List ℕ). StandsIn page l.ranges bs (opening_of l) l.closing) (sym (source (tree l ts))) g.0,
-      below page (is_group l.kind) l.ranges ts (subst (λ (v : Bool). TiledBy v l.ranges (λ from to. TiledFrom ts from to)) e h) g.1,
-    )
+sections_sliced page (tree l ts) e h g = (
+  subst (λ (bs : List ℕ). StandsIn page l.ranges bs (opening_of l) l.closing) (sym (source (tree l ts))) g.0,
+  below page (is_group l.kind) l.ranges ts (subst (λ (v : Bool). TiledBy v l.ranges (λ from to. TiledFrom ts from to)) e h) g.1,
+)

@@ -1,6 +1,6 @@
 -- Where nodes may be written in the body within so many elements, they may be in its sections: sections nest no
 -- deeper than the levels of headings.
-use Rattle.std.proofs.Common.{◌≡◌, ℕ, suc, ◌+◌, ◌<◌, ◌≤◌, ◌^◌, Bool, true, false, Option, Some, None, List, [], ◌∷◌, refl, sym, ap, ◌∙◌, subst, arith, cond}
+use Rattle.std.proofs.Common.{◌≡◌, ℕ, suc, ◌+◌, ◌<◌, ◌≤◌, ◌^◌, Bool, true, false, Option, Some, None, List, [], ◌∷◌, refl, ap, subst, arith, cond}
 use Rattle.std.proofs.lemmas.Bool.Decides.{nat_tests}
 use Rattle.std.specs.Prelude.{◌&&◌, nat_le, if◌then◌else◌}
 use Rattle.wt_tree.specs.declared.kind.Kind.{Kind}
@@ -8,7 +8,6 @@ use Rattle.wt_tree.specs.declared.kind.Kind.TheVariants as kind
 use Rattle.wt_tree.specs.Kinds.{is_numbered, spelling, texts_of_kind, writing}
 use Rattle.wt_tree.specs.Cutting.{begins_with_text}
 use Rattle.wt_tree.specs.Recut.{is_text}
-use Rattle.wt_tree.specs.Tiling.{is_group}
 use Rattle.wt_tree.specs.Tree.{Label, Tree, tree, Trees, none, more}
 use Rattle.wt_annotated.specs.Numbering.{count, count_all, all_with_numbers}
 use Rattle.wt_sections.specs.Gathering.{heading_count}
@@ -109,12 +108,11 @@ child_stands t h = record {
 -- what a section of this level holds
 held_stands : (level : ℕ) (t : Tree) (ps : List Part) (k : ℕ) → level ≤ 6 → k ≤ suc (suc level) → WrittenIn 8 kind.Body t
     → (is_text t && begins_with_text (part_trees ps)) ≡ false → AllMayStand ps → PartsIn k (kind.Section 0) (more t (before (Some level) ps))
-held_stands level t ps k six le h a g =
-    (
-      node_is_part t k (kind.Section 0) (written_in_section t k (written_shallower t 8 k kind.Body (omega (arith, six, le)) h)),
-      begins_before (is_text t) (Some level) ps a,
-      before_stands (Some level) ps k g (deeper_levels level k six le),
-    )
+held_stands level t ps k six le h a g = (
+  node_is_part t k (kind.Section 0) (written_in_section t k (written_shallower t 8 k kind.Body (omega (arith, six, le)) h)),
+  begins_before (is_text t) (Some level) ps a,
+  before_stands (Some level) ps k g (deeper_levels level k six le),
+)
 
 section_stands : (n level : ℕ) (t : Tree) (ps : List Part) → n < 2 ^ 32 → 1 ≤ level → level ≤ 6 → WrittenIn 8 kind.Body t
     → (is_text t && begins_with_text (part_trees ps)) ≡ false → AllMayStand ps

@@ -1,13 +1,12 @@
 -- A page in sections, for an edit: its sections have neither numbers nor marks, and what is put back from it is what is put back from the
 -- page without them.
 use Rattle.std.proofs.Common.{◌≡◌, ℕ, ◌+◌, Bool, true, false, Option, Some, None, List, [], ◌∷◌, refl, sym, ap, ap₂, ◌∙◌, cond}
-use Rattle.std.specs.Prelude.{◌==◌, if◌then◌else◌, IsUtf8}
+use Rattle.std.specs.Prelude.{◌==◌, if◌then◌else◌}
 use Rattle.wt_tree.specs.Kinds.{is_section}
 use Rattle.wt_tree.specs.Opened.{without_sections}
-use Rattle.wt_tree.specs.Plain.{plains_before, ended}
 use Rattle.wt_tree.specs.Tiling.{is_group}
 use Rattle.wt_tree.specs.Tree.{Tree, tree, Trees, none, more, label}
-use Rattle.wt_sections.specs.Sections.{Part, section, level_of, ends, opens, before, from, put, parts, part_trees, lead_if_any, gathered, with_sections}
+use Rattle.wt_sections.specs.Sections.{Part, section, level_of, ends, opens, before, from, put, parts, part_trees, lead_if_any, with_sections}
 use Rattle.wt_sections.specs.SectionLaws.{NoneIsSection}
 use Rattle.wt_checks.specs.BareSections.{IsBareSection, AreBareSections, HasBareSections}
 use Rattle.wt_checks.specs.Places.{Page}

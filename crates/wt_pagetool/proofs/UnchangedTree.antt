@@ -92,12 +92,11 @@ no_section j k parent l childless inside group h = refl
 
 none_section : (ts : Trees) (k : ℕ) (parent : Kind) → AllWrittenIn k parent ts → NoneIsSection ts
 none_section none k parent h = tt
-none_section (more (tree l us) ts) k parent h =
-    (
-      no_section l.kind k parent l (is_childless us) (IsCutIn (texts_of_kind l.kind) us × AllWrittenIn (suc k) l.kind us)
+none_section (more (tree l us) ts) k parent h = (
+  no_section l.kind k parent l (is_childless us) (IsCutIn (texts_of_kind l.kind) us × AllWrittenIn (suc k) l.kind us)
       (IsWrittenGroup k parent l us) h.0,
-      none_section ts k parent h.2,
-    )
+  none_section ts k parent h.2,
+)
 
 none_opened : (ts : Trees) → NoneIsSection ts → opened ts ≡ ts
 none_opened none h = refl
