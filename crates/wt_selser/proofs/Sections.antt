@@ -51,8 +51,8 @@ use Rattle.wt_checks.proofs.InOrder.{nowhere}
 
 -- both pages have the same for the number of a marked place
 pub record AsksAlike (page other : Page) (p : Place) : Type 0 where
-  pub content : is_content (label p.node).mark ≡ true → page (number p) ≡ other (number p)
-  pub children : is_children (label p.node).mark ≡ true → is_body (kind_at p) ≡ false → page (number p) ≡ other (number p)
+  pub content_found : is_content (label p.node).mark ≡ true → page (number p) ≡ other (number p)
+  pub children_found : is_children (label p.node).mark ≡ true → is_body (kind_at p) ≡ false → page (number p) ≡ other (number p)
 
 content_marked : (m : Mark) → is_content m ≡ true → is_marked m ≡ true
 content_marked marks.Content e = refl
@@ -79,9 +79,9 @@ asks_alike : (page other : Page) (ps : List Place) → AreAlike page other → A
 asks_alike page other [] h m = tt
 asks_alike page other (p ∷ ps) h m = (
   record {
-    content = λ e. let w = m.0 (content_marked (label p.node).mark e) in
+    content_found = λ e. let w = m.0 (content_marked (label p.node).mark e) in
         kept_found page other p h (content_kept (is_kept p) (kind_at p) (label p.node).mark (page (number p)) e w.old w.allowed);
-    children = λ e b. let w = m.0 (children_marked (label p.node).mark e) in
+    children_found = λ e b. let w = m.0 (children_marked (label p.node).mark e) in
         kept_found page other p h (children_kept (is_kept p) (is_body (kind_at p)) w.old b);
   },
   asks_alike page other ps h m.1,
@@ -100,7 +100,7 @@ mutual
   insides_same : (same : Tree → Tree → Bool) (page other : Page) (m : ℕ) (w : Bool) (u : Tree) → AllByRecursion (AsksAlike page other) (placed m w u)
       → insides same page u ≡ insides same other u
   insides_same same page other m w (tree l us) h =
-      inside_by same page other (is_content l.mark) l us refl h.0.content
+      inside_by same page other (is_content l.mark) l us refl h.0.content_found
       (all_insides_same same page other (parent_below m l.id) (w || is_content l.mark) us h.1)
 
   all_insides_same : (same : Tree → Tree → Bool) (page other : Page) (m : ℕ) (w : Bool) (us : Trees)
@@ -235,7 +235,7 @@ children_same same page other m w (more (tree l vs) us) h b =
     let s = each_split (AsksAlike page other) (placed m w (tree l vs)) (all_placed m w us) h in
     let c = or_false (is_frame l.kind || have_frame vs) (have_frame us) b in
     let d = or_false (is_frame l.kind) (have_frame vs) c.0 in (
-      child_by same page other (is_children l.mark) l vs refl (λ e. s.0.0.children e (no_frame l.kind d.0).0)
+      child_by same page other (is_children l.mark) l vs refl (λ e. s.0.0.children_found e (no_frame l.kind d.0).0)
           (each_inside same page other (parent_below m l.id) (w || is_content l.mark) vs s.0.1) (insides_same same page other m w (tree l vs) s.0),
       children_same same page other m w us s.1 c.1,
     )
@@ -320,7 +320,7 @@ pair_same f page other p a h k = by_mark (is_content (label p.node).mark) (is_ch
     by_mark : (c d : Bool) → is_content (label p.node).mark ≡ c → is_children (label p.node).mark ≡ d
         → first_of f (if c || d then pair_with (page (number p)) p.node else [])
         ≡ first_of f (if c || d then pair_with (other (number p)) p.node else [])
-    by_mark true d i j = ap (λ o. first_of f (pair_with o p.node)) (k.content i)
+    by_mark true d i j = ap (λ o. first_of f (pair_with o p.node)) (k.content_found i)
     by_mark false true i j = found_pair f (page (number p)) (other (number p)) p.node a j (h (number p))
     by_mark false false i j = refl
 

@@ -44,8 +44,8 @@ pub fn sections_make_no_difference()
 
 /// The slices of an edit (the insides of nodes marked `content`, the ranges of missing children with their
 /// separators, and the empty places of new ones) stand in the page one after the other, where the page's
-/// tree tiles it, has its numbers in preorder and holds no body and no section in its body, and the checks refuse nothing.
-/// So every byte of the page outside them stands in the new page, in its order.
+/// tree tiles it, has its numbers in preorder and holds no body and no section in its body, and the checks
+/// refuse nothing. So every byte of the page outside them stands in the new page, in its order.
 pub fn edit_is_a_splice()
     ensures apart { (same : Tree → Tree → Bool) (page : List ℕ) (tree edited : Tree) → (label tree).kind ≡ kind.Body → HoldsNoFrame tree → InPreorder tree → Tiled tree
         → Covers (length page) tree → LeavesHoldNoNumber tree → is_body (label edited).kind ≡ true → checked false tree edited ≡ None
