@@ -141,11 +141,12 @@ all_passed R h (more t ts) = (one_passed R h t, all_passed R h ts)
 
 up_to_passed : (R : Tree → Type 0) (h : Holder) (n : ℕ) (ts : Trees) → AllByRecursion (OfKept R) (passed_up_to h n ts)
 up_to_passed R h n none = tt
-up_to_passed R h n (more t ts) = by_number ((label t).id == n)
+up_to_passed R h n (more t ts) = by_number ((label t).id == n) (up_to_passed R h n ts)
   where
-    by_number : (b : Bool) → AllByRecursion (OfKept R) (if b then [] else passed_one h t ∷ passed_up_to h n ts)
-    by_number true = tt
-    by_number false = (one_passed R h t, up_to_passed R h n ts)
+    by_number : (b : Bool) → AllByRecursion (OfKept R) (passed_up_to h n ts)
+        → AllByRecursion (OfKept R) (if b then [] else passed_one h t ∷ passed_up_to h n ts)
+    by_number true k = tt
+    by_number false k = (one_passed R h t, k)
 
 first_has : (R : Tree → Type 0) (ts : Trees) (u : Tree) → R u → AllByRecursion (OfKept R) (kept_first ts u)
 first_has R none u r = tt

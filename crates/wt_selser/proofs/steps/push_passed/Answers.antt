@@ -1,6 +1,6 @@
 use Rattle.std.proofs.Common.{arith, ◌++◌}
 use Rattle.wt_selser.specs.Steps.{passed}
-use Rattle.wt_selser.specs.Views.{steps_view}
+use Rattle.wt_selser.specs.Views.{child_views, steps_view}
 use Rattle.wt_selser.proofs.StepWalk.{passed_turn, passed_end}
 use Rattle.wt_selser.proofs.steps.push_passed.Goals as goal
 

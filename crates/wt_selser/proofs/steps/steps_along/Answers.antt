@@ -1,7 +1,7 @@
 use Rattle.std.proofs.Common.{arith}
 use Rattle.wt_tree.specs.View.{views}
 use Rattle.wt_selser.specs.Steps.{steps}
-use Rattle.wt_selser.specs.Views.{steps_view}
+use Rattle.wt_selser.specs.Views.{child_views, steps_view}
 use Rattle.wt_selser.proofs.StepWalk.{step_taken, all_taken}
 use Rattle.wt_selser.proofs.steps.steps_along.Goals as goal
 
