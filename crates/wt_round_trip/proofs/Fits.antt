@@ -6,10 +6,9 @@ use Rattle.wt_tree.specs.declared.kind.Kind.{Kind}
 use Rattle.wt_tree.specs.declared.kind.Kind.TheVariants as kind
 use Rattle.wt_tree.specs.Kinds.{is_leaf, is_section, may_follow, may_hold, texts_of_kind, writing, element_name}
 use Rattle.wt_tree.specs.Plain.{Plains}
-use Rattle.wt_tree.specs.Tree.{Label, Tree, tree, Trees, none as no_trees, more as one_more, label}
+use Rattle.wt_tree.specs.Tree.{Label, Tree, tree, Trees, none as no_trees, more as one_more}
 use Rattle.wt_tree.specs.Tiling.{is_group}
 use Rattle.wt_tree.specs.Recut.{is_as_text, shows_block}
-use Rattle.wt_tree.specs.declared.row.Holding.TheVariants as holding
 use Rattle.wt_tree.specs.declared.row.Texts.{Texts}
 use Rattle.wt_tree.specs.declared.row.Texts.TheVariants.{Separators, Page, Bordered, OwnCharacter}
 use Rattle.wt_tree.specs.declared.row.Writing.{Writing}

@@ -3,18 +3,15 @@ use Rattle.std.proofs.Common.{◌≡◌, ℕ, Bool, true, false, None, List, [],
 use Rattle.std.specs.Prelude.{◌&&◌, if◌then◌else◌}
 use Rattle.std.proofs.lemmas.Bool.{true≢false}
 use Rattle.wt_tree.specs.declared.kind.Kind.{Kind}
-use Rattle.wt_tree.specs.declared.kind.Kind.TheVariants as kind
 use Rattle.wt_tree.specs.Kinds.{texts_of_kind, writing}
 use Rattle.wt_tree.specs.Tree.{Label, Tree, tree, Trees, none as no_trees, more as one_more, label}
 use Rattle.wt_tree.specs.Recut.{leaf_label, sep_leaf, is_as_text, is_text, text_onto, onto, joined_texts, cut_from, recut}
 use Rattle.wt_tree.specs.Cutting.{begins_with_text}
-use Rattle.wt_tree.specs.declared.row.Holding.TheVariants as holding
 use Rattle.wt_tree.specs.declared.row.Texts.{Texts}
 use Rattle.wt_tree.specs.declared.row.Texts.TheVariants.{Separators, Page, Bordered, OwnCharacter}
 use Rattle.wt_tree.specs.declared.row.Writing.{Writing}
 use Rattle.wt_tree.specs.declared.row.Writing.TheVariants.{AsText, AsVoid, RoundCharacter, RoundChildren, AsSection, Unwritten}
 use Rattle.wt_html_grammar.proofs.Steps.{if_true, if_false}
-use Rattle.wt_fitting.specs.declared.standing.Standing.TheVariants as stands
 use Rattle.wt_fitting.specs.Fit.{held_as}
 use Rattle.wt_round_trip.specs.Written.{ranges_read, label_read, unranged, unranged_all, shown_of, leaf_kind, HasLeafKind, IsTextIn, joins, IsCutIn, IsWrittenGroup, is_childless, NodeIsWritten, WrittenIn, AllWrittenIn}
 use Rattle.wt_round_trip.proofs.Bare.{SameBlocks, AllSame, others_read, recut_same}

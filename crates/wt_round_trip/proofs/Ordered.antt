@@ -5,7 +5,7 @@ use Rattle.wt_tree.specs.declared.kind.Kind.{Kind}
 use Rattle.wt_tree.specs.declared.kind.Kind.TheVariants as kind
 use Rattle.wt_tree.specs.Kinds.{shape, is_class, is_anywhere, admits, is_block, is_inline, may_follow, may_hold, texts_of_kind, writing}
 use Rattle.wt_tree.specs.Plain.{text as characters, element as face_of, Plains, ended, along}
-use Rattle.wt_tree.specs.Tree.{Label, Tree, tree, Trees, none as no_trees, more as one_more, label}
+use Rattle.wt_tree.specs.Tree.{Label, Tree, tree, Trees, none as no_trees, more as one_more}
 use Rattle.wt_tree.specs.Tiling.{is_group}
 use Rattle.wt_tree.specs.Recut.{is_white, is_blank, is_as_text, shows_block, any_shows_block}
 use Rattle.wt_tree.specs.declared.row.Class.{Class}
@@ -20,11 +20,10 @@ use Rattle.wt_markup.specs.Html.{groups}
 use Rattle.wt_html_grammar.specs.Markup.{Markups, text, node, empty, more}
 use Rattle.wt_html_grammar.proofs.Steps.{if_false}
 use Rattle.wt_html_grammar.proofs.Reading.{and_true}
-use Rattle.wt_fitting.specs.declared.standing.Standing.TheVariants as stands
 use Rattle.wt_fitting.specs.Rows.{holds_text}
 use Rattle.wt_fitting.specs.Groups.{is_span}
 use Rattle.std.proofs.lemmas.List.Folds.{list_all-append}
-use Rattle.wt_fitting.specs.Fit.{elements, are_blank, text_fits}
+use Rattle.wt_fitting.specs.Fit.{are_blank, text_fits}
 use Rattle.wt_round_trip.specs.GroupNodes.{elements_for, inner_nodes, is_ended, is_empty_span, all_follow}
 use Rattle.wt_round_trip.specs.Written.{goes_behind, are_ordered, IsCutIn, IsWrittenGroup, TopsIn, is_childless, NodeIsWritten, WrittenIn, AllWrittenIn}
 use Rattle.wt_round_trip.proofs.Faces.{or_held}

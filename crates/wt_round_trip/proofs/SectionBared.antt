@@ -1,5 +1,5 @@
 -- What stands for the body or for a section is bared: sections lose their numbers, and nothing else changes.
-use Rattle.std.proofs.Common.{◌≡◌, ℕ, suc, ◌+◌, ◌<◌, ◌^◌, Bool, true, false, Option, Some, None, List, [], ◌∷◌, ◌++◌, refl, sym, ap, ◌∙◌, subst, arith, codes}
+use Rattle.std.proofs.Common.{◌≡◌, ℕ, suc, ◌+◌, ◌<◌, ◌^◌, Bool, true, false, List, [], ◌∷◌, ◌++◌, refl, sym, ap, ◌∙◌, subst, arith, codes}
 use Rattle.std.specs.Prelude.{filter, if◌then◌else◌}
 use Rattle.wt_tree.specs.declared.kind.AttrName.{AttrName}
 use Rattle.wt_tree.specs.declared.kind.Kind.{Kind}
@@ -8,7 +8,6 @@ use Rattle.wt_tree.specs.declared.row.Writing.{Writing}
 use Rattle.wt_tree.specs.declared.row.Writing.TheVariants.{AsText, AsVoid, RoundCharacter, RoundChildren, AsSection, Unwritten}
 use Rattle.wt_tree.specs.Kinds.{writing, may_hold, fixed_attributes, element_name}
 use Rattle.wt_tree.specs.Plain.{Face, text as characters, element as face_of, Plains, ended, along}
-use Rattle.wt_tree.specs.Recut.{is_as_text}
 use Rattle.wt_tree.specs.Cutting.{begins_with_text}
 use Rattle.wt_tree.specs.Tree.{Label, Tree, tree, Trees, none as no_trees, more as one_more}
 use Rattle.wt_markup.specs.Html.{groups, groups_of_all}
@@ -17,7 +16,7 @@ use Rattle.wt_html_grammar.proofs.Steps.{if_false}
 use Rattle.wt_fitting.specs.Data.{is_empty}
 use Rattle.wt_fitting.specs.Fit.{are_blank}
 use Rattle.wt_fitting.specs.Rows.{holds_text}
-use Rattle.wt_fitting.specs.Sections.{is_section_name, is_mark_pair, bared, all_bared}
+use Rattle.wt_fitting.specs.Sections.{is_section_name, is_mark_pair, all_bared}
 use Rattle.wt_fitting.proofs.SectionNames.{no_section}
 use Rattle.wt_round_trip.specs.GroupNodes.{elements_for, is_ended}
 use Rattle.wt_round_trip.specs.Written.{value_at, IsElementLabel, IsWrittenGroup, is_childless, NodeIsWritten, TopIn, TopsIn, WrittenIn, PartIn, PartsIn}
@@ -31,7 +30,7 @@ use Rattle.wt_round_trip.proofs.Elements.{Inside, marked_up, markup_before, mark
 use Rattle.wt_round_trip.proofs.Steps.{Fresh}
 use Rattle.wt_round_trip.proofs.Ordered.{blank_before}
 use Rattle.wt_round_trip.proofs.Fits.{before_none, before_other, fresh_one}
-use Rattle.wt_round_trip.proofs.SectionItems.{by_part, section_number}
+use Rattle.wt_round_trip.proofs.SectionItems.{by_part}
 
 -- ---- a text, an element and a group stay as they are
 

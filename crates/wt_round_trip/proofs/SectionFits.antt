@@ -1,6 +1,6 @@
 -- What stands for the body or for a section fits, with each section as a node of its own; opened, it is what the
 -- tree without its sections stands for.
-use Rattle.std.proofs.Common.{◌≡◌, ℕ, suc, ◌+◌, ◌<◌, ◌^◌, Bool, true, false, Option, Some, None, List, [], ◌∷◌, ◌++◌, refl, sym, ap, ap₂, ◌∙◌, arith, codes}
+use Rattle.std.proofs.Common.{◌≡◌, ℕ, suc, ◌+◌, ◌<◌, ◌^◌, Bool, true, false, None, List, [], ◌∷◌, refl, sym, ap, ap₂, ◌∙◌, arith, codes}
 use Rattle.std.specs.Prelude.{Ok, ◌||◌, ◌&&◌, if◌then◌else◌}
 use Rattle.std.specs.Option.{option_or}
 use Rattle.wt_tree.specs.declared.kind.Kind.{Kind}
@@ -15,17 +15,17 @@ use Rattle.wt_tree.specs.Cutting.{begins_with_text}
 use Rattle.wt_tree.specs.Tiling.{is_group}
 use Rattle.wt_tree.specs.Tree.{Label, Tree, tree, Trees, none as no_trees, more as one_more}
 use Rattle.wt_markup.specs.Html.{groups, groups_of_all}
-use Rattle.wt_html_grammar.specs.Markup.{Markups, text, node, empty, more}
+use Rattle.wt_html_grammar.specs.Markup.{Markups, text, more}
 use Rattle.wt_html_grammar.proofs.Reading.{and_true}
 use Rattle.wt_fitting.specs.declared.standing.Standing.TheVariants as stands
 use Rattle.wt_fitting.specs.Rows.{holds_text, shows_text}
 use Rattle.wt_fitting.specs.Data.{is_empty, no_data}
-use Rattle.wt_fitting.specs.Groups.{is_span, is_none, Piece, single}
-use Rattle.wt_fitting.specs.Fit.{label_for, are_blank, elements, within, fit_nodes}
+use Rattle.wt_fitting.specs.Groups.{is_span, is_none, single}
+use Rattle.wt_fitting.specs.Fit.{label_for, are_blank, elements, fit_nodes}
 use Rattle.wt_fitting.specs.Unsourced.{unsourced_nodes}
 use Rattle.wt_fitting.specs.Sections.{all_bared}
 use Rattle.wt_round_trip.specs.GroupNodes.{elements_for, group_nodes}
-use Rattle.wt_round_trip.specs.Written.{label_read, unranged, unranged_all, leaf_kind, IsWrittenGroup, is_childless, NodeIsWritten, WrittenIn, PartIn, PartsIn}
+use Rattle.wt_round_trip.specs.Written.{unranged, unranged_all, leaf_kind, IsWrittenGroup, is_childless, NodeIsWritten, WrittenIn, PartIn, PartsIn}
 use Rattle.wt_round_trip.proofs.Bare.{others_read}
 use Rattle.wt_round_trip.proofs.Tags.{text_before}
 use Rattle.wt_round_trip.proofs.GroupItems.{group_markups}

@@ -1,7 +1,6 @@
 -- Sections as the grammar has them, and all that stands in the body or in a section: how it is spelled, that it
 -- is good, and what it stands for.
 use Rattle.std.proofs.Common.{◌≡◌, ℕ, suc, ◌+◌, ◌<◌, ◌^◌, Bool, true, false, List, [], ◌∷◌, ◌++◌, map, decimal, chars, IsUtf8, refl, sym, ap, ap₂, ◌∙◌, subst, arith, codes}
-use Rattle.std.specs.Prelude.{if◌then◌else◌}
 use Rattle.std.proofs.lemmas.Fmt.{decimal_is_IsNumeral, IsAscii-decimal}
 use Rattle.std.proofs.lemmas.Str.{IsUtf8-from_ascii}
 use Rattle.wt_tree.specs.declared.kind.Kind.{Kind}
@@ -13,8 +12,8 @@ use Rattle.wt_tree.specs.Tiling.{is_group}
 use Rattle.wt_tree.specs.Tree.{Label, Tree, tree, Trees, none as no_trees, more as one_more}
 use Rattle.wt_markup.specs.Html.{section_start, end_tag, written, groups_by, groups, groups_of_all, html, html_of_all}
 use Rattle.wt_html_grammar.specs.declared.limits.TheConstants.{NESTED_ELEMENTS}
-use Rattle.wt_html_grammar.specs.Grammar.{spell_pieces, Items, none, child, spell, spell_items, IsElement, AreItems}
-use Rattle.wt_html_grammar.specs.Markup.{Markups, node, empty, more, flush, meaning, contents}
+use Rattle.wt_html_grammar.specs.Grammar.{spell_pieces, Items, spell, spell_items, IsElement, AreItems}
+use Rattle.wt_html_grammar.specs.Markup.{Markups, node, more, flush, meaning, contents}
 use Rattle.wt_html_grammar.proofs.Steps.{if_false}
 use Rattle.wt_round_trip.specs.GroupNodes.{elements_for}
 use Rattle.wt_round_trip.specs.Written.{WrittenIn, PartIsWritten, PartIn, PartsIn}

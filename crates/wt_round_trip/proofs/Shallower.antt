@@ -1,6 +1,6 @@
 -- A node that may be written within some elements may be written within fewer; one that the body may hold may
 -- stand in a section; and a node is a part of the body or of a section.
-use Rattle.std.proofs.Common.{◌≡◌, ℕ, suc, ◌≤◌, Bool, arith}
+use Rattle.std.proofs.Common.{ℕ, suc, ◌≤◌, Bool, arith}
 use Rattle.wt_tree.specs.declared.kind.Kind.{Kind}
 use Rattle.wt_tree.specs.declared.kind.Kind.TheVariants as kind
 use Rattle.wt_tree.specs.declared.row.Writing.{Writing}

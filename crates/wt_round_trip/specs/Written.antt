@@ -13,7 +13,7 @@ use Rattle.wt_tree.specs.declared.row.Texts.{Texts}
 use Rattle.wt_tree.specs.declared.row.Texts.TheVariants.{Separators, Page, Bordered, OwnCharacter}
 use Rattle.wt_tree.specs.Kinds.{writing, is_leaf, is_numbered, is_section, may_hold, may_follow, order, spelling, fixed_attributes, texts_of_kind}
 use Rattle.wt_tree.specs.Values.{passes, is_needed}
-use Rattle.wt_tree.specs.Tree.{Label, Tree, tree, Trees, none, more, label}
+use Rattle.wt_tree.specs.Tree.{Label, Tree, tree, Trees, none, more}
 use Rattle.wt_tree.specs.declared.row.Writing.{Writing}
 use Rattle.wt_tree.specs.declared.row.Writing.TheVariants.{AsText, AsVoid, RoundCharacter, RoundChildren, AsSection, Unwritten}
 use Rattle.wt_fitting.specs.Data.{is_empty, is_extension_of}
