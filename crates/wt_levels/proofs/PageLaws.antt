@@ -13,7 +13,7 @@ use Rattle.wt_transclusion.specs.declared.refusal.ExpandRefusal.{ExpandRefusal}
 use Rattle.wt_transclusion.specs.declared.refusal.ExpandRefusal.TheVariants as answer
 use Rattle.wt_transclusion.specs.declared.store.Store.{Store}
 use Rattle.wt_transclusion.specs.Stops.{Stops, told_with}
-use Rattle.wt_transclusion.proofs.StopLaws.{stops_after, stops_memory, stops_there, told_none}
+use Rattle.wt_transclusion.proofs.StopLaws.{stops_after, stops_there, told_none}
 use Rattle.wt_levels.specs.Ledgers.{AnswersOutput, Comes, Ledger, Refuses, ledger, reading_of}
 use Rattle.wt_levels.proofs.LedgerLaws.{comes_refused, memory_refused}
 
@@ -76,10 +76,6 @@ pub page_stops_deep : (pages : Pages) (page : List ℕ) (place : ℕ) (met : Lis
 page_stops_deep pages page place met answered e =
     stops_there pages page 0 met (page_work pages page) answered (answer.BracesTooDeep None place)
     (subst (NextRefuses pages page 0 (braces_too_deep None place)) (sym (work_is pages page)) (ap (option_map (braces_too_deep None)) e))
-
-pub page_stops_memory : (pages : Pages) (page : List ℕ) (met : List (List ℕ)) (answered : Option (List (List ℕ)))
-    → Stops pages page 0 met (page_work pages page) answered answered answer.NoMemory
-page_stops_memory pages page met answered = stops_memory pages page 0 met (page_work pages page) answered
 
 -- memory is missing where all of its work is done
 pub page_stops_end : (pages : Pages) (page : List ℕ) (answered told : Option (List (List ℕ))) (met : List (List ℕ)) (now : ℕ)
