@@ -60,14 +60,20 @@ page_front : (pages : Pages) (page : List ℕ) → deep_place mode.Page page ≡
 page_front pages page e = record { whole = work_is pages page; allowed = or_deep (deep_place mode.Page page) None e }
 
 -- the page's work stops where its text's does
+pub text_stops : (pages : Pages) (page : List ℕ) (met : List (List ℕ)) (before now : Option (List (List ℕ))) (e : ExpandRefusal)
+    → deep_place mode.Page page ≡ None → Stops pages page 0 met (text_given (page_reading pages) page).work before now e
+    → Stops pages page 0 met (page_work pages page) before now e
+text_stops pages page met before now e d h =
+    let w = (text_given (page_reading pages) page).work in
+    stops_after pages page 0 met (page_work pages page) (entered None ∷ []) w before now e (page_front pages page d)
+    (subst (λ (a : Option (List (List ℕ))). Stops pages page 0 met w a now e) (sym (told_none before)) h)
+
 pub page_stopped : (pages : Pages) (page : List ℕ) (answered told : Option (List (List ℕ))) (x : ExpandRefusal) → deep_place mode.Page page ≡ None
     → Refuses pages page (at_first answered) (text_given (reading_of pages mode.Page [] 40 []) page).work told x
     → Stops pages page 0 [] (page_work pages page) answered told x
 page_stopped pages page answered told x e h =
-    let w = (text_given (page_reading pages) page).work in
-    let own = subst (λ (r : Reading). Refuses pages page (at_first answered) (text_given r page).work told x) (reading_is pages) h in
-    stops_after pages page 0 [] (page_work pages page) (entered None ∷ []) w answered told x (page_front pages page e)
-    (subst (λ (a : Option (List (List ℕ))). Stops pages page 0 [] w a told x) (sym (told_none answered)) own)
+    text_stops pages page [] answered told x e
+    (subst (λ (r : Reading). Refuses pages page (at_first answered) (text_given r page).work told x) (reading_is pages) h)
 
 -- it stops at its first entry where the page is nested too deep
 pub page_stops_deep : (pages : Pages) (page : List ℕ) (place : ℕ) (met : List (List ℕ)) (answered : Option (List (List ℕ)))

@@ -28,9 +28,13 @@ pub record Ledger : Type 0 where
   pub met : List (List ℕ)
   pub answered : Option (List (List ℕ))
 
+-- the names answered in all, where this work is still to be done
+abbrev pub answered_with : Ledger → List Entry → Option (List (List ℕ))
+answered_with l es = told_with l.met es l.answered
+
 -- once this work is done
 abbrev pub ledger_after : Ledger → List Entry → Ledger
-ledger_after l done = record { spent = l.spent + cost_of_all done; met = known_after l.met (fetches done); answered = told_with l.met done l.answered }
+ledger_after l done = record { spent = l.spent + cost_of_all done; met = known_after l.met (fetches done); answered = answered_with l done }
 
 -- a front of some work is done, and this is left
 pub record Comes (pages : Pages) (page : List ℕ) (before : Ledger) (work : List Entry) (now : Ledger) (left : List Entry) : Type 0 where
