@@ -117,7 +117,16 @@ behind_target-returns-clause-given g t c = λ pages page met s n concerns free f
     (c.in_ok-push_slice.ensures.adds page n.is.at s n.reading (omega (arith, place, closes, two)))
 
 pub walk_call-returns-then-call-clause-given : goal.walk_call-returns-then-call-clause-given
-walk_call-returns-then-call-clause-given g t c = λ pages page met s n concerns free. c.argument.ensures.given pages page met s n concerns free c.if-call.true
+walk_call-returns-then-call-clause-given g t c = λ pages page met s n concerns free.
+    let source = slice_range c.args.reader.text.text.now c.args.call.at.start c.args.call.at.end in
+    c.without_target.ensures.given pages page met s n concerns free
+    (ap (λ a. a || is_some (function_of (drop 2 source))) c.if-call.true)
+
+pub walk_call-returns-then-begins_choice-then-function-clause-given : goal.walk_call-returns-then-begins_choice-then-function-clause-given
+walk_call-returns-then-begins_choice-then-function-clause-given g t c = λ pages page met s n concerns free.
+    let source = slice_range c.args.reader.text.text.now c.args.call.at.start c.args.call.at.end in
+    c.without_target.ensures.given pages page met s n concerns free
+    (ap (λ a. a || is_some (function_of (drop 2 source))) c.if-call.false ∙ (sym c.in_ok-begins_choice.ensures ∙ c.if-begins_choice.true))
 
 pub walk_call-returns-then-function-clause-given : goal.walk_call-returns-then-function-clause-given
 walk_call-returns-then-function-clause-given g t c = λ pages page met s n concerns free.
@@ -126,7 +135,8 @@ walk_call-returns-then-function-clause-given g t c = λ pages page met s n conce
     let closes = n.is.end_is in
     let two = n.is.two in
     function_walked pages page met self.expansion.spent (g.F.Folder.answered c.args.folder.now) c.args.call c.args.reader s n self.found c.push_slice.new.found
-    self.expansion.store c.if-call.false (sym c.in_ok-function.ensures ∙ c.if-function.true) free.stored
+    self.expansion.store c.if-call.false (sym c.in_ok-function.ensures ∙ c.if-function.true)
+    (sym c.in_ok-begins_choice.ensures ∙ c.if-begins_choice.false) free.stored
     (c.in_ok-push_slice.ensures.adds page n.is.at s n.reading (omega (arith, start, closes, two)))
 
 pub walk_call-returns-clause-given : goal.walk_call-returns-clause-given
