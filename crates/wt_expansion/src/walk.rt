@@ -212,11 +212,12 @@ impl<'a> Walk<'a> {
         if call.argument {
             return self.without_target(folder, reader, call);
         }
+        let choice = begins_choice(reader, call)?;
+        if choice {
+            return self.without_target(folder, reader, call);
+        }
         let function = begins_function(reader, call)?;
         if function {
-            if begins_choice(reader, call)? {
-                return self.without_target(folder, reader, call);
-            }
             push_slice(
                 &mut self.found,
                 reader,
