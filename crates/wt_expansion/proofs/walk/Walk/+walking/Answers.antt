@@ -126,7 +126,7 @@ walk_call-returns-then-call-clause-given g t c = λ pages page met s n concerns 
 pub walk_call-returns-then-choice-clause-given : goal.walk_call-returns-then-choice-clause-given
 walk_call-returns-then-choice-clause-given g t c = λ pages page met s n concerns free.
     let source = slice_range c.args.reader.text.text.now c.args.call.at.start c.args.call.at.end in
-    c.without_target.ensures.given pages page met s n concerns free
+    c.without_target-then-choice.ensures.given pages page met s n concerns free
     (ap (λ a. a || is_some (function_of (drop 2 source))) c.if-call.false ∙ (sym c.in_ok-choice.ensures ∙ c.if-choice.true))
 
 pub walk_call-returns-then-function-clause-given : goal.walk_call-returns-then-function-clause-given
