@@ -14,14 +14,15 @@ use Rattle.std.specs.HashMap.{get_by_text}
 use Rattle.wt_transclusion.specs.declared.read.ReadText.{ReadText}
 use Rattle.wt_transclusion.specs.declared.store.Store.{Store}
 use Rattle.wt_transclusion.specs.Answers.{IsFetched, IsRefused}
-use Rattle.wt_transclusion.specs.Asked.{AreFirst}
+use Rattle.wt_transclusion.specs.Stops.{Stops}
 use Rattle.wt_transclusion.specs.Steps.{given_from}
 use Rattle.wt_transclusion.specs.Stores.{Agrees, IsKept, IsKnown, IsStore}
-use Rattle.wt_transclusion.proofs.AskedLaws.{first_some}
 use Rattle.wt_transclusion.proofs.GrowthLaws.{agrees_before}
+use Rattle.wt_transclusion.proofs.StopLaws.{stops_page}
 use Rattle.wt_levels.specs.declared.expansion.Expansion.{Expansion}
 use Rattle.wt_levels.specs.Ledgers.{Comes, Refuses, ledger}
-use Rattle.wt_levels.proofs.PageLaws.{entered_first, page_refused, reading_is}
+use Rattle.wt_levels.proofs.LedgerLaws.{comes_names, comes_refusal}
+use Rattle.wt_levels.proofs.PageLaws.{entered_first, reading_is, text_stops}
 use Rattle.wt_expansion.specs.declared.found.Found.{Found}
 use Rattle.wt_expansion.specs.Known.{HoldsPages, KnowsMore}
 use Rattle.wt_expansion.specs.Walks.{IsFree, Walked, at_page}
@@ -58,12 +59,12 @@ page_is_found pages page met spent answered told to old new x ps cs ts utf8 fits
     (subst (λ (n : ℕ). Comes pages page (ledger n met answered) walked (ledger x.spent known told) []) free h.works.comes)) in
     record {
       found = page_found pages page old new to ps cs ts utf8 a b c h.finds p q r;
-      allowed = entered_first pages page fits ∙ ap (refusal_from pages page 0) (sym (append-nil w)) ∙ comes.refusal [];
+      allowed = entered_first pages page fits ∙ ap (refusal_from pages page 0) (sym (append-nil w)) ∙ comes_refusal pages page (ledger 0 met answered) w (ledger x.spent known told) [] comes [];
       more = record {
         known = known;
         free = record { stored = h.works.stored; names = names };
         names = λ rest. ap (λ (es : List Entry). option_map (λ ns. ns ++ firsts_after met (fetches (es ++ rest))) answered) (page_work_is pages page)
-            ∙ comes.names rest;
+            ∙ comes_names pages page (ledger 0 met answered) w (ledger x.spent known told) [] comes rest;
       };
     }
 
@@ -74,38 +75,25 @@ RefusesFrom pages page met spent answered told e =
     Refuses pages page (ledger spent met answered)
     (given_from (at_page pages) true page 0 (page_members page)).work told e
 
+-- where the walk stops the page's work does
+pub found_stops : (pages : Pages) (page : List ℕ) (met : List (List ℕ)) (spent : ℕ)
+    (answered told : Option (List (List ℕ))) (e : ExpandRefusal)
+    → deep_place mode.Page page ≡ None → spent ≡ 0 → RefusesFrom pages page met spent answered told e
+    → Stops pages page 0 met (page_work pages page) answered told e
+found_stops pages page met spent answered told e fits free h =
+    let work = (given_from (at_page pages) true page 0 (page_members page)).work in
+    let own = subst (λ (es : List Entry). Stops pages page 0 met es answered told e) (work_is pages page)
+    (subst (λ (n : ℕ). Stops pages page n met work answered told e) free h) in
+    let text = subst (λ (y : Reading). Stops pages page 0 met (text_given y page).work answered told e) (reading_is pages) own in
+    text_stops pages page met answered told e fits text
+
 -- a refusal of the walk is the first one of the page
 pub found_refused : (pages : Pages) (page : List ℕ) (met : List (List ℕ)) (spent : ℕ)
     (answered told : Option (List (List ℕ))) (e : ExpandRefusal)
     → deep_place mode.Page page ≡ None → spent ≡ 0 → RefusesFrom pages page met spent answered told e
     → IsRefused (first_refusal pages page (page_work pages page)) e
 found_refused pages page met spent answered told e fits free h =
-    let work = (given_from (at_page pages) true page 0 (page_members page)).work in
-    let own = subst (λ (es : List Entry). Refuses pages page (ledger 0 met answered) es told e) (work_is pages page)
-    (subst (λ (n : ℕ). Refuses pages page (ledger n met answered) work told e) free h) in
-    page_refused pages page e fits (λ rest. (own rest).0)
-
--- the names that all of this work asks for, and what follows it, where some were known and some were answered
-abbrev pub told_with : List (List ℕ) → Option (List (List ℕ)) → List Entry → List Entry
-    → Option (List (List ℕ))
-told_with met answered es rest = option_map (λ ns. ns ++ firsts_after met (fetches (es ++ rest))) answered
-
--- the names that are answered where the walk is refused are the first of those that the page's work asks for
-pub found_stops : (pages : Pages) (page : List ℕ) (met : List (List ℕ)) (spent : ℕ)
-    (answered told : Option (List (List ℕ))) (e : ExpandRefusal) (rest : List Entry)
-    → RefusesFrom pages page met spent answered told e
-    → AreFirst told (told_with met answered (page_work pages page) rest)
-found_stops pages page met spent answered told e rest h =
-    let first : List Entry → Type 0 = λ es. AreFirst told (told_with met answered es rest) in
-    subst first (sym (page_work_is pages page))
-    (subst (λ (y : Reading). first (text_given y page).work) (reading_is pages)
-    (subst first (work_is pages page) (h rest).1))
-
--- nothing is asked for where the page isn't read
-pub unread_stops : (pages : Pages) (page : List ℕ) (met : List (List ℕ)) (answered : Option (List (List ℕ)))
-    (rest : List Entry) → AreFirst answered (told_with met answered (page_work pages page) rest)
-unread_stops pages page met answered rest =
-    first_some answered (firsts_after met (fetches (page_work pages page ++ rest)))
+    stops_page pages page met (page_work pages page) answered told e (found_stops pages page met spent answered told e fits free h)
 
 -- an expansion whose costs are counted anew
 pub free_still : (pages : Pages) (met : List (List ℕ)) (old x : Expansion) → x.store ≡ old.store → x.names ≡ old.names → IsFree pages met old
@@ -144,14 +132,6 @@ names_end (Some ns) = ap Some (append-nil ns)
 asked_are : (es : List Entry) → names_asked es ≡ firsts_after [] (fetches es)
 unfolding names_asked
 asked_are es = refl
-
--- where nothing was known before, and no work follows
-pub stops_at_first : (work : List Entry) (answered told : Option (List (List ℕ)))
-    → AreFirst told (told_with [] answered work []) → AreFirst told (option_map (λ ns. ns ++ names_asked work) answered)
-stops_at_first work answered told h =
-    subst (λ ns. AreFirst told (option_map (λ xs. xs ++ ns) answered)) (sym (asked_are work))
-    (subst (λ (es : List Entry). AreFirst told (option_map (λ xs. xs ++ firsts_after [] (fetches es)) answered))
-    (append-nil work) h)
 
 -- where nothing was known before, the folder answered the names that the work asks for
 pub asked_at_first : (pages : Pages) (work : List Entry) (x : Expansion) (answered told : Option (List (List ℕ)))
