@@ -4,7 +4,8 @@ use Rattle.wt_span.specs.declared.form.Mode.TheVariants as mode
 use Rattle.wt_span.specs.Items.{items}
 use Rattle.wt_span.specs.Origins.{Expanded, outer_call, span_of}
 use Rattle.wt_expand.specs.Expansion.{page_work}
-use Rattle.wt_expand.specs.Work.{first_refusal}
+use Rattle.wt_expand.specs.Fronts.{known_after}
+use Rattle.wt_expand.specs.Work.{fetches, first_refusal}
 use Rattle.wt_transclusion.specs.Answers.{IsRefused}
 use Rattle.wt_transclusion.specs.Stops.{Stops}
 use Rattle.wt_transclusion.proofs.GrowthLaws.{agrees_known, has_known}
@@ -223,4 +224,4 @@ returns-clause-known g c =
     c.from_vec-pieces.result c.from_vec-outer.result c.from_vec-text_calls.result c.utf8.page c.in_ok-text.ensures.fits spent
     c.new-walk.ensures.pieces c.new-walk.ensures.outer c.new-walk.ensures.text_calls (c.in_ok-stretch.ensures.names ∙ free.names) walked
     c.from_vec-pieces.ensures c.from_vec-outer.ensures c.from_vec-text_calls.ensures in
-    (pages, found.more.known, found.more.free)
+    (pages, known_after met (fetches (page_work pages bytes)), found.more.free)
