@@ -83,9 +83,9 @@ pub stops_after : (pages : Pages) (page : List ℕ) (spent : ℕ) (met : List (L
     → Stops pages page spent met work before now e
 stops_after pages page spent met work done left before now e f s =
     let cost : (spent + cost_of_all done) + cost_of_all s.done ≡ spent + cost_of_all (done ++ s.done) =
-        (let c = cost_append done s.done in omega (arith, c)) in
+    (let c = cost_append done s.done in omega (arith, c)) in
     let known : known_after (known_after met (fetches done)) (fetches s.done) ≡ known_after met (fetches (done ++ s.done)) =
-        sym (ap (known_after met) (fetches_append done s.done) ∙ known_append met (fetches done) (fetches s.done)) in
+    sym (ap (known_after met) (fetches_append done s.done) ∙ known_append met (fetches done) (fetches s.done)) in
     record {
       done = done ++ s.done;
       left = s.left;
