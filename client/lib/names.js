@@ -7,13 +7,13 @@
  */
 
 /**
- * What an element is that can't be edited: a group (what a template or a function gave), an extension, what is
- * kept as it stands, a comment, an include tag, a switch, a category. Of a group ask its first element, the one
- * with an `id`.
+ * What an element is that can't be edited: a group (what a template or a function gave), an extension,
+ * what is kept as it stands, a comment, an include tag, a switch, a category. Of a group ask its first
+ * element, the one with an `id`.
  * @param {Element} element
- * @returns {Description | null} null where it is none of these. `name` is that of the template, of the function
- *   with its `#`, of the extension, of the category; `source` is its wikitext, empty where the element doesn't
- *   tell.
+ * @returns {Description | null} null where it is none of these. `name` is that of the template, of the
+ *   function with its `#`, of the extension, of the category; `source` is its wikitext, empty where the
+ *   element doesn't tell.
  */
 export function describe(element) {
   const type = element.getAttribute("typeof") ?? "";

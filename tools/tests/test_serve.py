@@ -421,7 +421,7 @@ class Command(unittest.TestCase):
                 if not address:
                     self.skipTest("this machine has no address of IPv6")
                 with urlopen(address + "titles", timeout=120) as answer:
-                    self.assertEqual(len(json.load(answer)["titles"]), 3)
+                    self.assertEqual(len(json.load(answer)["titles"]), 4)
             finally:
                 process.terminate()
 
