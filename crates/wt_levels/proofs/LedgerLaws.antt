@@ -228,9 +228,10 @@ title_entered pages left names t frame r shut h = by_page (pages (full_name_of t
         → (w : List Entry) × ((template_output pages (suc left) names t frame).work ≡ fetched (full_name_of t) ∷ (entered (Some (full_name_of t)) ∷ w))
     by_page None is g = absurd (no_some _ g)
     by_page (Some bytes) is g =
-        let full = full_name_of t in
-        ((text_given (reading_of pages mode.Template frame left (full ∷ names)) (template_text bytes)).work,
-        ap (λ (o : Output). o.work) (page_gives pages left names t frame bytes shut is))
+        let full = full_name_of t in (
+          (text_given (reading_of pages mode.Template frame left (full ∷ names)) (template_text bytes)).work,
+          ap (λ (o : Output). o.work) (page_gives pages left names t frame bytes shut is),
+        )
 
 -- work whose first entry is the fetch of a page stops behind it
 stops_fetched : (pages : Pages) (page : List ℕ) (l : Ledger) (full : List ℕ) (w : List Entry) (told : Option (List (List ℕ))) (e : ExpandRefusal)
