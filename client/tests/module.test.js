@@ -435,14 +435,17 @@ test("places in UTF-16 units", () => {
 
 test("names of what can't be edited", () => {
   const call = '{"parts":[{"template":{"i":0,"params":{},"target":{"wt":"Infobox town\\n"}}}]}';
+  const choice = '{"parts":[{"template":{"i":0,"params":{},"target":{"function":"if","wt":"#If: {{{a|}}}"}}}]}';
   const html = page(
     `<span about="#mwt1" data-mw='${call}' data-parsoid='{"src":"{{Infobox town}}"}'>x</span>` +
+      `<span about="#mwt2" data-mw='${choice}' data-parsoid='{"src":"{{#If: {{{a|}}}}}"}'>x</span>` +
       '<span typeof="mw:Extension/ref"></span>' +
       `<span typeof="mw:Placeholder" data-parsoid='{"src":"[[File:A b.jpg|thumb]]"}'></span><b>y</b>`,
   );
   const root = opened(html);
-  const [group, reference, media, bold] = root.children.map(describe);
+  const [group, func, reference, media, bold] = root.children.map(describe);
   assert.deepEqual(group, { kind: "template", name: "Infobox town", source: "{{Infobox town}}" });
+  assert.deepEqual(func, { kind: "function", name: "#if", source: "{{#If: {{{a|}}}}}" });
   assert.deepEqual(reference, { kind: "extension", name: "ref", source: "" });
   assert.equal(media?.name, "A b.jpg");
   assert.equal(bold, null);

@@ -365,7 +365,8 @@ class Editor(ServingCase):
         (self.pages / "other.txt").touch()
         _, headers, body = self.ask("GET", "/titles")
         self.assertEqual(
-            json.loads(body), {"titles": ["A/B", "Opava", "Template:Infobox town", "Template:Lang"]}
+            json.loads(body),
+            {"titles": ["A/B", "Opava", "Template:Infobox row", "Template:Infobox town", "Template:Lang"]},
         )
         self.assertEqual(headers["content-type"], "application/json; charset=utf-8")
 

@@ -16,7 +16,7 @@ ghost use Rattle.wt_span.specs.Functions.{function_of};
 ghost use Rattle.wt_levels.specs.Calls.{first_end};
 ghost use Rattle.wt_levels.specs.Ledgers.{ledger};
 ghost use Rattle.wt_levels.specs.Readers.{IsReading};
-ghost use Rattle.wt_expansion.specs.Walks.{Adds, AnswersStep, AnswersTarget, AnswersWalk, IsCallNext, IsFree, at_page, behind_stretches, behind_work, call_stretches_at, call_work, page_stretch, page_work_at};
+ghost use Rattle.wt_expansion.specs.Walks.{Adds, AnswersStep, AnswersTarget, AnswersWalk, IsCallNext, IsFree, at_page, behind_stretches, behind_work, call_stretches_at, call_work, is_by_source, page_stretch, page_work_at};
 
 use crate::found::Found;
 use std::alloc::Global;
@@ -210,13 +210,14 @@ impl<'a> Walk<'a> {
         ensures names { OnOk result (self.new.expansion.names ≡ self.old.expansion.names) }
     {
         if call.argument {
-            return self.argument(folder, reader, call);
+            return self.without_target(folder, reader, call);
+        }
+        let choice = begins_choice(reader, call)?;
+        if choice {
+            return self.without_target(folder, reader, call);
         }
         let function = begins_function(reader, call)?;
         if function {
-            if begins_choice(reader, call)? {
-                return self.argument(folder, reader, call);
-            }
             push_slice(
                 &mut self.found,
                 reader,
@@ -229,8 +230,8 @@ impl<'a> Walk<'a> {
         self.with_target(folder, reader, call, nested)
     }
 
-    /// An argument is an outermost call.
-    fn argument<F: Folder>(
+    /// An argument or a function by text is an outermost call without a link.
+    fn without_target<F: Folder>(
         &mut self,
         folder: &mut F,
         reader: Reader<'a>,
@@ -238,7 +239,7 @@ impl<'a> Walk<'a> {
     ) -> Result<(), ExpandRefusal>
         ensures given { (pages : Pages) (page : List ℕ) (met : List (List ℕ)) (s : Bool) (n : IsCallNext page call.entry reader.entry s)
             → Concerns (F.pages folder.old) pages self.new.expansion.store result → IsFree pages met self.old.expansion
-            → call.entry.argument ≡ true
+            → is_by_source call.entry.argument (slice_range reader.entry.text.text.now call.entry.at.start call.entry.at.end) ≡ true
             → AnswersWalk pages page (ledger self.old.expansion.spent met (F.answered folder.old))
             (call_stretches_at pages page call.entry n.is s) (call_work pages page call.entry n.is s) n.is.at call.entry.at.end
             self.old.found self.new.found self.new.expansion.store self.new.expansion.spent (F.answered folder.new) result }

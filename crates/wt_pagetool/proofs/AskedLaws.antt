@@ -9,7 +9,13 @@ use Rattle.wt_utf8.specs.Places.{not_utf8_place}
 use Rattle.wt_expand.specs.Expansion.{page_work}
 use Rattle.wt_expand.specs.Work.{Entry, fetches, firsts_after, names_asked}
 use Rattle.wt_transclusion.specs.Asked.{AreFirst}
+use Rattle.wt_expand.specs.Fronts.{known_after}
+use Rattle.wt_expand.proofs.Agreements.{fetches_append}
+use Rattle.wt_expand.proofs.FrontLaws.{firsts_append}
+use Rattle.wt_transclusion.specs.declared.refusal.ExpandRefusal.{ExpandRefusal}
+use Rattle.wt_transclusion.specs.Stops.{Stops}
 use Rattle.wt_transclusion.proofs.AskedLaws.{first_all, first_some, first_then}
+use Rattle.wt_transclusion.proofs.StopLaws.{stops_before, stops_first}
 use Rattle.wt_levels.specs.declared.expansion.Expansion.{Expansion}
 use Rattle.wt_expansion.specs.Known.{KnowsMore}
 use Rattle.wt_fitting.specs.Read.{Read, read}
@@ -195,13 +201,22 @@ asked_are : (es : List Entry) → names_asked es ≡ firsts_after [] (fetches es
 unfolding names_asked
 asked_are es = refl
 
+-- the names of work and of more that follows
+more_names : (met : List (List ℕ)) (work rest : List Entry)
+    → firsts_after met (fetches (work ++ rest))
+    ≡ firsts_after met (fetches work) ++ firsts_after (known_after met (fetches work)) (fetches rest)
+more_names met work rest =
+    ap (firsts_after met) (fetches_append work rest) ∙ firsts_append met (fetches work) (fetches rest)
+
 -- the page was expanded, and then what the new page asks for
 pub new_names : {T R : Type 0} (pages : Pages) (work rest : List Entry) (x : Expansion) (before middle after : Option (List (List ℕ)))
-    (result : Result T R) (k : KnowsMore pages [] work x before middle)
-    → AsksNames (firsts_after k.known (fetches rest)) middle after result → AsksNames (names_asked (work ++ rest)) before after result
+    (result : Result T R) → KnowsMore pages [] work x before middle
+    → AsksNames (firsts_after (known_after [] (fetches work)) (fetches rest)) middle after result → AsksNames (names_asked (work ++ rest)) before after result
 new_names pages work rest x before middle after result k names =
-    named_left (firsts_after k.known (fetches rest)) (names_asked (work ++ rest)) before middle after result
-    (sym (ap (followed_by before) (asked_are (work ++ rest)) ∙ k.names rest)) names
+    let left = firsts_after (known_after [] (fetches work)) (fetches rest) in
+    named_left left (names_asked (work ++ rest)) before middle after result
+    (ap (λ m. followed_by m left) k.told_is ∙ joined before (firsts_after [] (fetches work)) left
+    ∙ ap (followed_by before) (sym (asked_are (work ++ rest) ∙ more_names [] work rest))) names
 
 -- the page's expansion is refused, whatever work follows
 pub stopped_names : {T R : Type 0} (work : List Entry) (before after : Option (List (List ℕ))) (result : Result T R) (P : R → Type 0)
@@ -211,15 +226,10 @@ stopped_names work before after result P is h =
     named_first (names_asked work) before after result P is
     (subst (λ ns. AreFirst after (followed_by before ns)) (sym (asked_are work)) h)
 
-names_end : (a : Option (List (List ℕ))) → followed_by a [] ≡ a
-names_end None = refl
-names_end (Some ns) = ap Some (append-nil ns)
-
 -- a new page was expanded
 pub asked_new : (pages : Pages) (met : List (List ℕ)) (work : List Entry) (x : Expansion) (before after : Option (List (List ℕ)))
     → KnowsMore pages met work x before after → after ≡ followed_by before (firsts_after met (fetches work))
-asked_new pages met work x before after k =
-    sym (ap (λ es. followed_by before (firsts_after met (fetches es))) (sym (append-nil work)) ∙ k.names [] ∙ names_end after)
+asked_new pages met work x before after k = k.told_is
 
 -- ---- `edit` waits
 
@@ -312,4 +322,15 @@ on_err (Err reason) x = x
 -- so much of the page's work was done
 pub known_first : (pages : Pages) (met : List (List ℕ)) (work rest : List Entry) (x : Expansion) (before after : Option (List (List ℕ)))
     → KnowsMore pages met work x before after → AreFirst after (followed_by before (firsts_after met (fetches (work ++ rest))))
-known_first pages met work rest x before after k = (firsts_after k.known (fetches rest), k.names rest)
+known_first pages met work rest x before after k =
+    let more = firsts_after (known_after met (fetches work)) (fetches rest) in (
+      more,
+      ap (followed_by before) (more_names met work rest) ∙ sym (joined before (firsts_after met (fetches work)) more)
+          ∙ ap (λ m. followed_by m more) (sym k.told_is),
+    )
+
+-- its expansion stopped, whatever work follows
+pub stopped_first : (pages : Pages) (page : List ℕ) (met : List (List ℕ)) (work rest : List Entry) (before after : Option (List (List ℕ)))
+    (e : ExpandRefusal) → Stops pages page 0 met work before after e → AreFirst after (followed_by before (firsts_after met (fetches (work ++ rest))))
+stopped_first pages page met work rest before after e s =
+    stops_first pages page 0 met (work ++ rest) before after e (stops_before pages page 0 met work rest before after e s)

@@ -1,5 +1,5 @@
 -- Where an expansion stops, and why.
-use Rattle.std.specs.Prelude.{◌≡◌, ℕ, ◌+◌, Option, option_map, List, ◌++◌}
+use Rattle.std.specs.Prelude.{◌≡◌, ℕ, ◌+◌, Option, option_map, List, ◌∷◌, ◌++◌}
 use Rattle.wt_expand.specs.Work.{Pages, Entry, braces_too_deep, too_large, not_utf8, too_long, fetches, firsts_after}
 use Rattle.wt_expand.specs.Fronts.{Front, NextRefuses, NextFetches, cost_of_all, known_after}
 use Rattle.wt_transclusion.specs.declared.refusal.ExpandRefusal.{ExpandRefusal}
@@ -28,3 +28,22 @@ pub record Stops (pages : Pages) (page : List ℕ) (spent : ℕ) (met : List (Li
   pub front : Front pages page spent work done left
   pub cause : IsCause pages page (spent + cost_of_all done) (known_after met (fetches done)) left e
   pub told : now ≡ told_with met done before
+
+-- ---- what follows of it
+
+-- a refusal of the page itself or of a template's: no fault of the folder, and no want of memory
+abbrev pub IsOfPages : ExpandRefusal → Type 0
+IsOfPages (answer.BracesTooDeep title place) = Unit {0}
+IsOfPages answer.TooLarge = Unit {0}
+IsOfPages answer.FolderFault = ⊥
+IsOfPages (answer.TemplateNotUtf8 title place) = Unit {0}
+IsOfPages (answer.TemplateTooLong title) = Unit {0}
+IsOfPages answer.NoMemory = ⊥
+
+-- some of these names were answered since, and the next of them wasn't
+pub record AnswersFewer (names : List (List ℕ)) (before now : Option (List (List ℕ))) : Type 0 where
+  pub told : List (List ℕ)
+  pub title : List ℕ
+  pub more : List (List ℕ)
+  pub now_is : now ≡ option_map (λ ns. ns ++ told) before
+  pub names_are : names ≡ told ++ title ∷ more

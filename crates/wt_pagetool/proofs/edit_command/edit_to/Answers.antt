@@ -6,6 +6,7 @@ use Rattle.wt_pagetool.proofs.EditLaws.{edit_expanded}
 use Rattle.wt_pagetool.proofs.EditedLaws.{edit_unexpanded}
 use Rattle.wt_pagetool.proofs.ShownLaws.{page_body}
 use Rattle.wt_expand.specs.Expansion.{page_work}
+use Rattle.wt_expand.specs.Fronts.{known_after}
 use Rattle.wt_expand.specs.Work.{fetches, firsts_after}
 use Rattle.wt_pagetool.specs.Answers.{answer_of_edit}
 use Rattle.wt_pagetool.specs.Asked.{new_work, AsksNames}
@@ -35,7 +36,7 @@ returns-clause-answered g c = λ pages told.
     edit_expanded pages c.args.page.now found.annotated.items (view found.annotated.tree.body) (view c.args.edited.now) c.new_page.result
     (c.in_ok-found.ensures.whole pages [] told free) (c.in_ok-found.ensures.items pages [] told free)
     (c.in_ok-found.ensures.tree pages [] told free)
-    (c.new_page.ensures.answered pages more.known (c.in_ok-found.ensures.kept ∙ told) more.free)
+    (c.new_page.ensures.answered pages (known_after [] (fetches (page_work pages c.args.page.now))) (c.in_ok-found.ensures.kept ∙ told) more.free)
 
 pub returns-in_err-found-clause-asked : goal.returns-in_err-found-clause-asked
 returns-in_err-found-clause-asked g c = λ pages told.
@@ -56,10 +57,10 @@ returns-clause-asked g c = λ pages told.
     let after = d.answered c.new_page.new.folder in
     new_names pages (page_work pages page) (new_work pages (answer_of_edit pages page edited)) found.expansion (d.answered c.args.folder.now)
     (d.answered c.known_page.new.folder) after c.new_page.result more
-    (subst (λ es. AsksNames (firsts_after more.known (fetches es)) (d.answered c.known_page.new.folder) after c.new_page.result)
+    (subst (λ es. AsksNames (firsts_after (known_after [] (fetches (page_work pages page))) (fetches es)) (d.answered c.known_page.new.folder) after c.new_page.result)
     (edit_is pages page found.annotated.items (view found.annotated.tree.body) edited (c.in_ok-found.ensures.items pages [] told free)
     (c.in_ok-found.ensures.tree pages [] told free))
-    (c.new_page.ensures.asked pages more.known (c.in_ok-found.ensures.kept ∙ told) more.free))
+    (c.new_page.ensures.asked pages (known_after [] (fetches (page_work pages c.args.page.now))) (c.in_ok-found.ensures.kept ∙ told) more.free))
 
 pub returns-clause-asks : goal.returns-clause-asks
 returns-clause-asks g c =

@@ -5,7 +5,7 @@ use Rattle.wt_transclusion.specs.Answers.{IsRefused}
 use Rattle.wt_pagetool.specs.Answers.{refusal_of_page}
 use Rattle.wt_pagetool.proofs.ExpandLaws.{page_small, tree_expanded}
 use Rattle.wt_expand.specs.Expansion.{page_work}
-use Rattle.wt_pagetool.proofs.AskedLaws.{known_first, on_err}
+use Rattle.wt_pagetool.proofs.AskedLaws.{known_first, on_err, stopped_first}
 use Rattle.wt_pagetool.proofs.known_page.known_page.Goals as goal
 
 pub annotated_of_items-requires : goal.annotated_of_items-requires
@@ -32,7 +32,10 @@ returns-clause-whole g c = λ pages met told free. c.in_ok-expanded.ensures.whol
 
 pub returns-in_err-expanded-clause-stops : goal.returns-in_err-expanded-clause-stops
 returns-in_err-expanded-clause-stops g c = λ pages met rest told free.
-    on_err c.from_residual.result (c.in_err-expanded.ensures.stops pages met rest told free)
+    let d = g.F.Folder in
+    on_err c.from_residual.result
+    (stopped_first pages c.args.page.now met (page_work pages c.args.page.now) rest (d.answered c.args.folder.now)
+    (d.answered c.expand_knowing.new.folder) c.in_err-expanded.field-0.0 (c.in_err-expanded.ensures.stops pages met told free))
 
 pub returns-in_err-annotated-clause-stops : goal.returns-in_err-annotated-clause-stops
 returns-in_err-annotated-clause-stops g c = λ pages met rest told free.

@@ -1,7 +1,9 @@
+use Rattle.std.proofs.Common.{[]}
 use Rattle.wt_tree.specs.View.{view}
 use Rattle.wt_expand.specs.Expansion.{page_work}
 use Rattle.wt_expand.specs.Work.{names_asked}
-use Rattle.wt_pagetool.proofs.AskedLaws.{named_all, named_first}
+use Rattle.wt_transclusion.proofs.StopLaws.{stops_first}
+use Rattle.wt_pagetool.proofs.AskedLaws.{named_all, stopped_names}
 use Rattle.wt_pagetool.proofs.ExpandLaws.{page_small, tree_expanded, tree_sliced}
 use Rattle.wt_pagetool.proofs.page.annotated_of_text.Goals as goal
 
@@ -13,8 +15,10 @@ annotated_of_items-requires g c =
 pub returns-in_err-items-clause-asked : goal.returns-in_err-items-clause-asked
 returns-in_err-items-clause-asked g c = λ pages told.
     let d = g.F.Folder in
-    named_first (names_asked (page_work pages c.args.page.now)) (d.answered c.args.folder.now) (d.answered c.expand.new.folder)
-    c.from_residual.result _ c.from_residual.ensures.1 (c.in_err-items.ensures.stops pages told)
+    stopped_names (page_work pages c.args.page.now) (d.answered c.args.folder.now) (d.answered c.expand.new.folder)
+    c.from_residual.result _ c.from_residual.ensures.1
+    (stops_first pages c.args.page.now 0 [] (page_work pages c.args.page.now) (d.answered c.args.folder.now) (d.answered c.expand.new.folder)
+    c.in_err-items.field-0.0 (c.in_err-items.ensures.stops pages told))
 
 pub returns-in_err-tree-clause-asked : goal.returns-in_err-tree-clause-asked
 returns-in_err-tree-clause-asked g c = λ pages told.
