@@ -28,7 +28,7 @@ use Rattle.wt_transclusion.specs.Stops.{IsCause, told_with}
 use Rattle.wt_transclusion.specs.Stores.{IsStore, met_with, named_with}
 use Rattle.wt_transclusion.specs.Takings.{AnswersTaking, IsAsked, IsNamed, IsNamedErr, names_taking, taking_refusal}
 use Rattle.wt_transclusion.proofs.StopLaws.{stops_after, stops_before, stops_memory, stops_there, told_none, told_then}
-use Rattle.wt_levels.specs.Ledgers.{Ledger, ledger, answered_with, ledger_after, Comes, Refuses, reading_of, AnswersOutput, Progress, Calling, TakesStep}
+use Rattle.wt_levels.specs.Ledgers.{Ledger, ledger, ledger_after, Comes, Refuses, reading_of, AnswersOutput, Progress, Calling, TakesStep}
 use Rattle.wt_levels.specs.Rests.{with_work, after_page}
 use Rattle.wt_levels.specs.Runs.{Spends, Holds, Calls, Returns, RefusesCost, Goes, TakesPart, TakesTurn}
 use Rattle.wt_levels.specs.Stacks.{stack}
@@ -86,7 +86,7 @@ comes_before pages page a b w v f = record {
   now_is = f.now_is;
 }
 
--- what is left comes to the same refusal and to the same names as all of the work, whatever follows
+-- what is left comes to the same refusal as all of the work, whatever follows
 pub comes_refusal : (pages : Pages) (page : List ℕ) (before : Ledger) (work : List Entry) (now : Ledger) (left : List Entry)
     → Comes pages page before work now left
     → (rest : List Entry) → refusal_from pages page before.spent (work ++ rest) ≡ refusal_from pages page now.spent (left ++ rest)
@@ -94,13 +94,6 @@ comes_refusal pages page before work now left f rest =
     front_refusal pages page before.spent (work ++ rest) f.done (left ++ rest)
     (front_before pages page before.spent work f.done left rest f.front)
     ∙ ap (λ (l : Ledger). refusal_from pages page l.spent (left ++ rest)) (sym f.now_is)
-
-pub comes_names : (pages : Pages) (page : List ℕ) (before : Ledger) (work : List Entry) (now : Ledger) (left : List Entry)
-    → Comes pages page before work now left → (rest : List Entry) → answered_with before (work ++ rest) ≡ answered_with now (left ++ rest)
-comes_names pages page before work now left f rest =
-    ap (answered_with before) (front_before pages page before.spent work f.done left rest f.front).whole
-    ∙ sym (told_then before.met f.done (left ++ rest) before.answered)
-    ∙ ap (λ (l : Ledger). answered_with l (left ++ rest)) (sym f.now_is)
 
 -- ---- work that is refused
 
@@ -228,9 +221,10 @@ title_entered pages left names t frame r shut h = by_page (pages (full_name_of t
         → (w : List Entry) × ((template_output pages (suc left) names t frame).work ≡ fetched (full_name_of t) ∷ (entered (Some (full_name_of t)) ∷ w))
     by_page None is g = absurd (no_some _ g)
     by_page (Some bytes) is g =
-        let full = full_name_of t in
-        ((text_given (reading_of pages mode.Template frame left (full ∷ names)) (template_text bytes)).work,
-        ap (λ (o : Output). o.work) (page_gives pages left names t frame bytes shut is))
+        let full = full_name_of t in (
+          (text_given (reading_of pages mode.Template frame left (full ∷ names)) (template_text bytes)).work,
+          ap (λ (o : Output). o.work) (page_gives pages left names t frame bytes shut is),
+        )
 
 -- work whose first entry is the fetch of a page stops behind it
 stops_fetched : (pages : Pages) (page : List ℕ) (l : Ledger) (full : List ℕ) (w : List Entry) (told : Option (List (List ℕ))) (e : ExpandRefusal)

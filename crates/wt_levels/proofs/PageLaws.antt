@@ -144,4 +144,3 @@ page_shown pages page answered told store now ps e given = record {
   items_are = given.0 ∙ ap (λ (r : Reading). (text_given r page).items) (reading_is pages);
   worked = page_worked pages page answered told given.1 now e given.3;
 }
-
