@@ -74,7 +74,7 @@ page_is_found pages page met spent answered told to old new x ps cs ts utf8 fits
     (subst (λ (n : ℕ). Comes pages page (ledger n met answered) walked (ledger x.spent known told) []) free h.works.comes)) in
     let whole = whole_by pages page met known w answered told x.spent comes in
     let same : known ≡ known_after met (fetches (page_work pages page)) =
-        whole.known_is ∙ ap (λ (es : List Entry). known_after met (fetches es)) (sym (page_work_is pages page)) in
+    whole.known_is ∙ ap (λ (es : List Entry). known_after met (fetches es)) (sym (page_work_is pages page)) in
     record {
       found = page_found pages page old new to ps cs ts utf8 a b c h.finds p q r;
       allowed = entered_first pages page fits ∙ ap (refusal_from pages page 0) (sym (append-nil w))
