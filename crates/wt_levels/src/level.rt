@@ -127,4 +127,30 @@ impl<'a> Levels<'a> {
     {
         self.items.pop()
     }
+
+    /// Where the innermost level ends.
+    pub fn end(&self) -> Option<u32> {
+        match self.items.last() {
+            Some(level) => Some(level.end),
+            None => None,
+        }
+    }
+
+    /// Appends a piece to what the innermost level has given.
+    pub fn give(&mut self, piece: Piece<'a>) -> Result<(), NoMemory> {
+        let count = self.items.len();
+        if count == 0 {
+            return Err(NoMemory);
+        }
+        self.items[count - 1].out.push(piece)
+    }
+
+    /// Appends pieces to what the innermost level has given.
+    pub fn give_all(&mut self, pieces: &[Piece<'a>]) -> Result<(), NoMemory> {
+        let count = self.items.len();
+        if count == 0 {
+            return Err(NoMemory);
+        }
+        self.items[count - 1].out.extend_from_slice(pieces)
+    }
 }
