@@ -7,11 +7,10 @@ ghost use Rattle.wt_expand.specs.Targets.{is_function, title_of_target};
 ghost use Rattle.wt_transclusion.specs.Cursors.{starts};
 ghost use Rattle.wt_expand.specs.Expansion.{Frame, Output as Gives, Reading, just, text_given, values_from};
 ghost use Rattle.wt_transclusion.specs.Answers.{IsNoFault};
-ghost use Rattle.wt_transclusion.specs.Given.{option_items};
 ghost use Rattle.wt_transclusion.specs.Frames.{AreValues};
 ghost use Rattle.wt_transclusion.specs.Reads.{IsRead};
 ghost use Rattle.wt_levels.specs.Levels.{IsNamedBy, Resumes};
-ghost use Rattle.wt_levels.specs.Stacks.{stack, whole_level};
+ghost use Rattle.wt_levels.specs.Stacks.{innermost_end, stack, whole_level};
 ghost use Rattle.wt_levels.specs.Rests.{after_page, ended_with, next_number};
 ghost use Rattle.wt_levels.specs.Runs.{AnswersGoing, AnswersTurn, BeginsCall, BeginsLevel, HandsParts, HasEnded, Holds, IsRunning, Returns, TakesChunk, TakesPart};
 ghost use Rattle.wt_levels.specs.declared.level.Task.TheVariants as tasks;
@@ -140,7 +139,10 @@ impl<'a> TextRun<'a> {
             → AnswersTurn r t spent.old total self.new spent.new result }
         ensures fault { IfErr result IsNoFault }
     {
-        if let Some(end) = self.levels.end() && self.reader.cursor.at < end {
+        let Some(end) = self.levels.end() else {
+            return Err(ExpandRefusal::NoMemory);
+        };
+        if self.reader.cursor.at < end {
             self.read(end, spent)?;
             return Ok(Turn::Went);
         }
@@ -155,7 +157,7 @@ impl<'a> TextRun<'a> {
     fn read(&mut self, end: u32, spent: &mut u64) -> Result<(), ExpandRefusal>
         requires { self.old.reader.cursor.at < end }
         ensures answer { (r : Reading) (t : List ℕ) (total : Gives) → Holds r t self.old (stack self.old.levels) total
-            → first_end (stack self.old.levels) ≡ Some end → AnswersGoing r t spent.old total self.new spent.new result }
+            → innermost_end (stack self.old.levels) ≡ Some end → AnswersGoing r t spent.old total self.new spent.new result }
         ensures fault { IfErr result IsNoFault }
     {
         match self.reader.next(end) {
@@ -176,9 +178,16 @@ impl<'a> TextRun<'a> {
             → Holds r t self.new (stack self.new.levels) total) }
     {
         let text = self.reader.slice(self.reader.cursor.at, to)?;
-        if let Some(piece) = lexeme_piece(self.mode, kind, text) {
-            self.levels.give(piece)?;
-        }
+        self.levels.give_some(lexeme_piece(self.mode, kind, text))?;
+        self.resume(to)?;
+        Ok(())
+    }
+
+    /// The innermost level is read on from a place.
+    fn resume(&mut self, to: u32) -> Result<(), NoMemory>
+        ensures { OnOk result ((r : Reading) (t : List ℕ) (total : Gives) (p : ℕ) (s : Bool) → IsRunning r t self.old p s → p ≤ to
+            → Resumes r t to (starts t to) (just []) (stack self.old.levels) total → Holds r t self.new (stack self.new.levels) total) }
+    {
         self.reader = self.reader.seek(to)?;
         Ok(())
     }
@@ -238,8 +247,8 @@ impl<'a> TextRun<'a> {
             → is_function (bytes_of source.entry) ≡ true → function_of (drop 2 (bytes_of source.entry)) ≡ None
             → Holds r t self.new (stack self.new.levels) total) }
     {
-        self.levels.give(piece_of(source, Form::Function))?;
-        self.reader = self.reader.seek(call.at.end)?;
+        self.levels.give_one(piece_of(source, Form::Function))?;
+        self.resume(call.at.end)?;
         Ok(())
     }
 
@@ -355,8 +364,8 @@ impl<'a> TextRun<'a> {
         ensures { OnOk result ((r : Reading) (t : List ℕ) (total : Gives) → Returns r t self.old to (just (items out.now)) total
             → Holds r t self.new (stack self.new.levels) total) }
     {
-        self.levels.give_all(out)?;
-        self.reader = self.reader.seek(to)?;
+        self.levels.give(out)?;
+        self.resume(to)?;
         Ok(())
     }
 
