@@ -6,7 +6,7 @@ use Rattle.wt_span.specs.Items.{items}
 use Rattle.wt_span.specs.Braces.{Member}
 use Rattle.wt_braces.specs.PartMembers.{PartMembers}
 use Rattle.wt_expand.specs.Work.{Pages, Entry, begun, fetches, refusal_from, too_large}
-use Rattle.wt_expand.specs.Expansion.{Output, Reading, Frame, just, then_output, lexeme_items, called_output, later_parts, target_part}
+use Rattle.wt_expand.specs.Expansion.{Output, Reading, Frame, just, lexeme_items, called_output, later_parts, target_part}
 use Rattle.wt_expand.specs.Targets.{called}
 use Rattle.wt_names.specs.declared.title.Title.{Title}
 use Rattle.wt_transclusion.specs.declared.refusal.ExpandRefusal.{ExpandRefusal}

@@ -193,11 +193,7 @@ impl<'a> TextRun<'a> {
     }
 
     /// A call that stands next in a level.
-    fn begin(
-        &mut self,
-        call: Braces<'a>,
-        spent: &mut u64,
-    ) -> Result<(), ExpandRefusal>
+    fn begin(&mut self, call: Braces<'a>, spent: &mut u64) -> Result<(), ExpandRefusal>
         ensures answer { (r : Reading) (t : List ℕ) (total : Gives) → BeginsCall r t self.old (stack self.old.levels) call.entry total
             → AnswersGoing r t spent.old total self.new spent.new result }
         ensures fault { IfErr result IsNoFault }
@@ -237,11 +233,7 @@ impl<'a> TextRun<'a> {
     }
 
     /// A function stands for itself.
-    fn push_function(
-        &mut self,
-        call: Braces<'a>,
-        source: Text<'a>,
-    ) -> Result<(), NoMemory>
+    fn push_function(&mut self, call: Braces<'a>, source: Text<'a>) -> Result<(), NoMemory>
         ensures { OnOk result ((r : Reading) (t : List ℕ) (total : Gives) → BeginsCall r t self.old (stack self.old.levels) call.entry total
             → call.entry.argument ≡ false → bytes_of source.entry ≡ slice_range t call.entry.at.start call.entry.at.end
             → is_function (bytes_of source.entry) ≡ true → function_of (drop 2 (bytes_of source.entry)) ≡ None
@@ -253,11 +245,7 @@ impl<'a> TextRun<'a> {
     }
 
     /// An argument begins, and its name is read.
-    fn begin_argument(
-        &mut self,
-        call: Braces<'a>,
-        spent: &mut u64,
-    ) -> Result<(), ExpandRefusal>
+    fn begin_argument(&mut self, call: Braces<'a>, spent: &mut u64) -> Result<(), ExpandRefusal>
         ensures answer { (r : Reading) (t : List ℕ) (total : Gives) → BeginsCall r t self.old (stack self.old.levels) call.entry total
             → call.entry.argument ≡ true → AnswersGoing r t spent.old total self.new spent.new result }
         ensures fault { IfErr result IsNoFault }

@@ -1,4 +1,4 @@
-use Rattle.std.proofs.Common.{◌≡◌, ◌∷◌, Err, refl, rules, subst, sym}
+use Rattle.std.proofs.Common.{◌≡◌, Err, refl, rules, subst, sym}
 use Rattle.wt_levels.specs.Runs.{AnswersGoing}
 use Rattle.wt_levels.specs.Stacks.{stack}
 use Rattle.wt_levels.proofs.RestLaws.{begun_spent, begun_refused}

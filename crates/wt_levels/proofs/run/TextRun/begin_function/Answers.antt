@@ -1,4 +1,4 @@
-use Rattle.std.proofs.Common.{◌≡◌, ◌∷◌, ◌∙◌, Some, None, Err, drop, ap, refl, rules, subst, sym}
+use Rattle.std.proofs.Common.{◌≡◌, ◌∙◌, Some, Err, drop, ap, refl, rules, subst, sym}
 use Rattle.wt_span.specs.Functions.{function_of}
 use Rattle.wt_span.specs.Slice.{bytes_of}
 use Rattle.wt_levels.specs.Runs.{AnswersGoing}
