@@ -1,11 +1,12 @@
 -- What the steps of a text that is expanded answer.
-use Rattle.std.specs.Prelude.{◌≡◌, ◌≤◌, ℕ, Bool, Some, List, [], ◌∷◌, ◌++◌, Result, Ok, Err, take, drop, ◌-◌}
+use Rattle.std.specs.Prelude.{◌≡◌, ◌≤◌, ℕ, ◌+◌, Bool, List, [], ◌∷◌, Result, Ok, Err, take, drop, ◌-◌}
 use Rattle.wt_span.specs.declared.form.LexKind.{LexKind}
 use Rattle.wt_span.specs.declared.form.Piece.{Piece}
 use Rattle.wt_span.specs.Items.{items}
 use Rattle.wt_span.specs.Braces.{Member}
 use Rattle.wt_braces.specs.PartMembers.{PartMembers}
-use Rattle.wt_expand.specs.Work.{Pages, Entry, begun, fetches, refusal_from, too_large}
+use Rattle.wt_expand.specs.Fronts.{Front, NextRefuses, cost_of_all}
+use Rattle.wt_expand.specs.Work.{Pages, Entry, begun, fetches, too_large}
 use Rattle.wt_expand.specs.Expansion.{Output, Reading, Frame, just, lexeme_items, called_output, later_parts, target_part}
 use Rattle.wt_expand.specs.Targets.{called}
 use Rattle.wt_names.specs.declared.title.Title.{Title}
@@ -119,15 +120,15 @@ TakesPart r t total run (turn.Called h) = Calls r t run h total
 -- what was to be given and done is what was done with this cost, and what is left; no page was fetched
 pub record Spends (spent : ℕ) (total : Output) (now : ℕ) (left : Output) : Type 0 where
   pub items : total.items ≡ left.items
-  pub refusal : (pages : Pages) (page : List ℕ) (rest : List Entry)
-      → refusal_from pages page spent (total.work ++ rest) ≡ refusal_from pages page now (left.work ++ rest)
-  pub fetches : (rest : List Entry) → fetches (total.work ++ rest) ≡ fetches (left.work ++ rest)
+  pub done : List Entry
+  pub front : (pages : Pages) (page : List ℕ) → Front pages page spent total.work done left.work
+  pub costs : now ≡ spent + cost_of_all done
+  pub unfetched : fetches done ≡ []
 
 -- the expansion is refused for its cost, or memory is missing
 abbrev pub RefusesCost : ℕ → Output → ExpandRefusal → Type 0
 RefusesCost spent total (answer.BracesTooDeep title place) = ⊥
-RefusesCost spent total answer.TooLarge = (pages : Pages) (page : List ℕ) (rest : List Entry)
-    → refusal_from pages page spent (total.work ++ rest) ≡ Some too_large
+RefusesCost spent total answer.TooLarge = (pages : Pages) (page : List ℕ) → NextRefuses pages page spent too_large total.work
 RefusesCost spent total answer.FolderFault = ⊥
 RefusesCost spent total (answer.TemplateNotUtf8 title place) = ⊥
 RefusesCost spent total (answer.TemplateTooLong title) = ⊥
