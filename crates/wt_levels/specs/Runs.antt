@@ -7,7 +7,7 @@ use Rattle.wt_span.specs.Braces.{Member}
 use Rattle.wt_braces.specs.PartMembers.{PartMembers}
 use Rattle.wt_expand.specs.Fronts.{Front, NextRefuses, cost_of_all}
 use Rattle.wt_expand.specs.Work.{Pages, Entry, begun, fetches, too_large}
-use Rattle.wt_expand.specs.Expansion.{Output, Reading, Frame, just, then_output, lexeme_items, called_output, later_parts, target_part}
+use Rattle.wt_expand.specs.Expansion.{Output, Reading, Frame, just, lexeme_items, called_output, later_parts, target_part}
 use Rattle.wt_expand.specs.Targets.{called}
 use Rattle.wt_names.specs.declared.title.Title.{Title}
 use Rattle.wt_transclusion.specs.declared.refusal.ExpandRefusal.{ExpandRefusal}
@@ -58,17 +58,13 @@ pub record Returns (r : Reading) (t : List ℕ) (run : TextRun) (to : ℕ) (g to
   pub before : place ≤ to
   pub resumes : Resumes r t to (starts t to) g (stack run.levels) total
 
--- bytes of a lexeme stand next, and then others, in a level
-pub record TakesChunk (r : Reading) (t : List ℕ) (run : TextRun) (l : Level) (kind : LexKind) (to : ℕ) (total : Output) : Type 0 where
+-- bytes of a lexeme stand next, and then others, in the innermost of these levels
+pub record TakesChunk (r : Reading) (t : List ℕ) (run : TextRun) (ls : List Level) (kind : LexKind) (to : ℕ) (total : Output) : Type 0 where
   pub place : ℕ
   pub at_start : Bool
   pub running : IsRunning r t run place at_start
   pub before : place ≤ to
-  pub left : List Member
-  pub stretch : IsStretchOf r.mode t to l.end left
-  pub ends : Ends r t l.end l.task (stack run.levels)
-      (then_output (just (items l.out)) (then_output (just (lexeme_items r.mode kind (take (to - place) (drop place t))))
-      (given_from r (starts t to) t to left))) total
+  pub resumes : Resumes r t to (starts t to) (just (lexeme_items r.mode kind (take (to - place) (drop place t)))) ls total
 
 -- a level with this task begins at a place, behind what is read
 pub record BeginsLevel (r : Reading) (t : List ℕ) (run : TextRun) (at : ℕ) (s : Bool) (to : ℕ) (k : Task) (total : Output) : Type 0 where
