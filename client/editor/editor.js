@@ -1,7 +1,7 @@
 // @ts-check
 /** The editor of one page: it reads the page from the server, lets it be edited, and gives it back. */
 
-import { isChanged, open } from "../bughtiso.js";
+import { isChanged, open, renew } from "../bughtiso.js";
 import { Commands } from "./commands.js";
 import { History } from "./history.js";
 import { pasted } from "./paste.js";
@@ -52,7 +52,7 @@ class Editor {
       html: () => this.html,
       etag: () => this.etag,
       say: (text) => this.say(text),
-      saved: () => this.read(),
+      saved: (state) => this.#renew(state),
       bookmark: () => this.commands.bookmark(),
     });
     this.#listen();
@@ -99,30 +99,50 @@ class Editor {
   /** Reads the page from the server and shows it. */
   async read() {
     try {
-      const { html, etag } = await readPage(this.title);
-      const scrolled = window.scrollY;
-      const caret = caretIn(this.root);
-      this.html = html;
-      this.etag = etag;
-      open(html, { into: this.root });
-      this.root.classList.toggle("long", this.root.childElementCount > MANY_BLOCKS);
-      nameThings(this.root);
-      this.sizes = groupSizes(this.root);
-      this.things = thingsById(this.root);
-      this.history.forget();
+      const state = await readPage(this.title);
+      open(state.html, { into: this.root });
+      this.#take(state);
       this.root.contentEditable = "true";
       document.execCommand("defaultParagraphSeparator", false, "p");
       document.execCommand("styleWithCSS", false, "false");
       byId("save").removeAttribute("disabled");
       byId("waiting").hidden = true;
-      window.scrollTo(0, scrolled);
-      if (caret !== null) putCaret(this.root, caret);
+      this.history.forget();
     } catch (error) {
       byId("waiting").textContent = error instanceof ServerRefused ? error.sentence : String(error);
       byId("waiting").hidden = false;
     } finally {
       this.root.setAttribute("aria-busy", "false");
     }
+  }
+
+  /**
+   * Shows the page as it was stored. The caret stands where it stood; it is put there before anything looks
+   * at it, since the browser takes seconds for a caret that stands in no text of a long page.
+   * @param {{html: string, etag: string}} state
+   */
+  #renew(state) {
+    const scrolled = window.scrollY;
+    const caret = caretIn(this.root);
+    document.getSelection()?.removeAllRanges();
+    renew(this.root, state.html);
+    this.#take(state);
+    window.scrollTo(0, scrolled);
+    if (caret !== null) putCaret(this.root, caret);
+    this.history.forget();
+  }
+
+  /**
+   * Takes the page that the text shows now as the one that is edited.
+   * @param {{html: string, etag: string}} state
+   */
+  #take({ html, etag }) {
+    this.html = html;
+    this.etag = etag;
+    this.root.classList.toggle("long", this.root.childElementCount > MANY_BLOCKS);
+    nameThings(this.root);
+    this.sizes = groupSizes(this.root);
+    this.things = thingsById(this.root);
   }
 
   /** @param {string} text */
