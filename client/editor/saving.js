@@ -125,7 +125,7 @@ export class Saving {
     } catch (error) {
       this.page.say("");
       if (!(error instanceof ServerRefused)) throw error;
-      if (error.status !== 0) this.unanswered = null;
+      if (error.status >= 400 && error.status < 500) this.unanswered = null;
       this.#setBusy(false);
       this.#showRefusal(error);
     } finally {

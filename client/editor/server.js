@@ -26,19 +26,28 @@ export class ServerRefused extends Error {
 }
 
 /**
- * @param {string} path
- * @param {RequestInit} [options]
- * @returns {Promise<Response>}
+ * @template T
+ * @param {Promise<T>} coming
+ * @returns {Promise<T>}
  */
-async function ask(path, options) {
-  let response;
+async function reached(coming) {
   try {
-    response = await fetch(path, { cache: "no-store", ...options });
+    return await coming;
   } catch {
     const sentence = "The server can't be reached. Your text is still here: try again when it runs.";
     throw new ServerRefused({ error: "Unreachable", status: 0, sentence });
   }
-  if (response.ok) return response;
+}
+
+/**
+ * @param {string} path
+ * @param {RequestInit} [options]
+ * @returns {Promise<{text: string, etag: string}>} the answer, whole
+ */
+async function ask(path, options) {
+  const response = await reached(fetch(path, { cache: "no-store", ...options }));
+  const etag = response.headers.get("ETag") ?? "";
+  if (response.ok) return { text: await reached(response.text()), etag };
   const answer = await response.json().catch(() => ({}));
   throw new ServerRefused({
     error: `Status ${response.status}`,
@@ -50,7 +59,7 @@ async function ask(path, options) {
 
 /** @returns {Promise<string[]>} the titles of the folder's pages */
 export async function titles() {
-  return (await (await ask("/titles")).json()).titles;
+  return JSON.parse((await ask("/titles")).text).titles;
 }
 
 /** Of the places of elements, which the editor doesn't need, its HTML has those alone that tell a source. */
@@ -61,8 +70,8 @@ const SHAPE = "data_parsoid=sources";
  * @returns {Promise<{html: string, etag: string}>} a page, and the name of this state of it
  */
 export async function page(title) {
-  const response = await ask(`/localhost/v3/page/html/${encodeURIComponent(title)}?${SHAPE}`);
-  return { html: await response.text(), etag: response.headers.get("ETag") ?? "" };
+  const { text, etag } = await ask(`/localhost/v3/page/html/${encodeURIComponent(title)}?${SHAPE}`);
+  return { html: text, etag };
 }
 
 /**
@@ -75,7 +84,7 @@ export async function page(title) {
 async function give(title, query, etag, body) {
   const headers = { "Content-Type": "application/json", "If-Match": etag };
   const path = `/save/${encodeURIComponent(title)}?${query}`;
-  return (await ask(path, { method: "POST", headers, body: JSON.stringify(body) })).json();
+  return JSON.parse((await ask(path, { method: "POST", headers, body: JSON.stringify(body) })).text);
 }
 
 /**
