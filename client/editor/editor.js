@@ -235,8 +235,31 @@ class Editor {
 
   // ---- What is typed and pasted
 
+  /**
+   * Takes out the whole text, where it is selected and long: the browser would take out block by block, each
+   * in time in proportion to their number, and a page of 1 MiB would take minutes. Undo puts the caret at the
+   * text's start, since to select it all takes as long.
+   * @returns {boolean} whether it did
+   */
+  #emptiesAll() {
+    if (!this.root.classList.contains("long") || !isAllSelected(this.root)) return false;
+    document.getSelection()?.collapseToStart();
+    this.history.step(() => {
+      const paragraph = document.createElement("p");
+      paragraph.append(document.createElement("br"));
+      this.root.replaceChildren(paragraph);
+      document.getSelection()?.collapse(paragraph, 0);
+    });
+    return true;
+  }
+
   /** @param {InputEvent} event */
   #beforeInput(event) {
+    const takesSelection = event.cancelable && /^(?:delete|insert(?:Text|Paragraph)$)/.test(event.inputType);
+    if (takesSelection && this.#emptiesAll()) {
+      if (event.inputType.startsWith("delete")) event.preventDefault();
+      return;
+    }
     // Keyboards of phones send no key for these.
     const [, direction] = /^deleteContent(Backward|Forward)$/.exec(event.inputType) ?? [];
     if (direction && event.cancelable && this.#takesThing(direction === "Backward")) event.preventDefault();
@@ -249,6 +272,7 @@ class Editor {
     event.preventDefault();
     if (event.clipboardData === null) return;
     const { html, leftOut } = pasted(event.clipboardData, this.root, this.things);
+    if (html !== "") this.#emptiesAll();
     if (html !== "") this.history.step(() => document.execCommand("insertHTML", false, html));
     if (leftOut > 0) this.say("Templates and references can't be copied: they were left out.");
   }
@@ -258,6 +282,22 @@ class Editor {
     event.preventDefault();
     this.say("Text can't be dragged here: cut and paste it.");
   }
+}
+
+/**
+ * Whether nothing that is written stands before or behind the selection.
+ * @param {HTMLElement} root
+ */
+function isAllSelected(root) {
+  const selection = document.getSelection();
+  if (!selection?.rangeCount || selection.isCollapsed || !root.contains(selection.anchorNode)) return false;
+  const selected = selection.getRangeAt(0);
+  const [before, behind] = [selected.cloneRange(), selected.cloneRange()];
+  before.collapse(true);
+  before.setStart(root, 0);
+  behind.collapse(false);
+  behind.setEnd(root, root.childNodes.length);
+  return [before, behind].every((range) => range.toString().trim() === "");
 }
 
 /**

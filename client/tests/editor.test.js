@@ -634,6 +634,12 @@ test("a page of 1 MiB is opened, shows its changes, and is stored in two seconds
   });
   assert.equal(wiki.read("A page"), page);
   assert.equal(await save(), "Nothing was changed.");
+  const emptied = await measured(tab, server, () => tab.press("Control+a", "Backspace"));
+  context.diagnostic(`deleting all: ${emptied.clock.toFixed(2)} s, of work ${emptied.page.toFixed(2)} s`);
+  assert.equal(await shown(), "");
+  assert.ok(emptied.page < 2 * MOST_WORK);
+  await tab.press("Control+z");
+  assert.equal(await save(), "Nothing was changed.");
 });
 
 test("no script of the pages failed", { skip }, () => assert.deepEqual(tab.errors, []));
