@@ -56,8 +56,8 @@ export function open(html, options = {}) {
  * Puts a newer state of the page into a root that holds it, as after a save: the numbers and places of its
  * elements are others then, and what was typed is the page's. Afterwards `save` compares with this state.
  *
- * Nodes that hold the same stay, also in the blocks beside what was changed, with what the editor put on them.
- * A block in which anything differs is made anew, so a selection in it is lost.
+ * Nodes that hold the same stay, with what the editor put on them. A block in which anything differs is made
+ * anew, so a selection in it is lost.
  * @param {Element} root  the root that `open` answered
  * @param {string} html  what `wtround html TITLE` wrote
  * @throws {HtmlRefused} as `open`; the root is as it was

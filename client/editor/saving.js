@@ -17,8 +17,8 @@ const WAITING = "The server is asked…";
 
 /**
  * @typedef {{title: string, root: HTMLElement, html: () => string, etag: () => string, say: (text: string) =>
- *   void, saved: (state: {html: string, etag: string}) => void, bookmark: () => () => void}} Page  `html`: the
- *   page as it was opened, `etag`: the name of this state of it, `saved`: takes the state that is stored
+ *   void, saved: (state: {html: string, etag: string}) => void, bookmark: () => () => void}} Page  `html`:
+ *   the page as it was opened, `etag`: the name of this state of it, `saved`: takes the state that is stored
  */
 
 export class Saving {

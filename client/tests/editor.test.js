@@ -514,7 +514,7 @@ test("a click on Save does what the key does; the list of pages leads to the edi
 
 /**
  * Makes what is to be cut off between the server and the page.
- * @param {string} body  of a function of `path` and `options` that answers with `ask(path, options)` or throws
+ * @param {string} body  of a function of `path` and `options` that answers for `ask(path, options)`
  */
 async function intercept(body) {
   await tab.js(`(() => {
@@ -581,15 +581,15 @@ test("what the server no longer keeps is sent again", { skip }, async () => {
   assert.deepEqual(await tab.js("bodies"), ["html", "prepared", "html"]);
 });
 
-/** What the clock may show at most for each step with a page of 1 MiB, where the machine does nothing else. */
+/** What each step with a page of 1 MiB may take on the clock of a machine that does nothing else. */
 const MOST_SECONDS = 2;
 
 /** The same of processor time, of the page and the server together: other work makes it longer, too. */
 const MOST_WORK = 5;
 
 /**
- * Does something until it took no more time than it may, at most three times: what else the machine does comes
- * and goes.
+ * Does something until it took no more time than it may, at most three times: what else the machine does
+ * comes and goes.
  * @param {string} name
  * @param {import("node:test").TestContext} context
  * @param {() => Promise<unknown>} prepare
@@ -599,14 +599,15 @@ async function takesSeconds(name, context, prepare, action) {
   for (let left = 3; ; left -= 1) {
     await prepare();
     const { clock, stretch, page, server: programs } = await measured(tab, server, action);
-    const text = `${clock.toFixed(2)} s, of work ${page.toFixed(2)} s here and ${programs.toFixed(2)} s there`;
+    const seconds = [clock, page, programs].map((time) => `${time.toFixed(2)} s`);
+    const text = `${seconds[0]}, of work ${seconds[1]} here and ${seconds[2]} there`;
     context.diagnostic(`${name}: ${text}; the machine stretches time by ${stretch.toFixed(1)}`);
     if (clock <= MOST_SECONDS * stretch && page + programs <= MOST_WORK) return;
     assert.ok(left > 1, `${name} takes too long: ${text}`);
   }
 }
 
-test("a page of 1 MiB is opened, shows its changes, and is stored in two seconds each", { skip }, async (context) => {
+test("a page of 1 MiB is opened, shows its changes, is stored", { skip }, async (context) => {
   const lines = [];
   for (let bytes = 0, at = 0; bytes < 1 << 20; at += 1) {
     const line = `Paragraph ${at} of a '''long''' page with [[Main Page|links]], ''words'' and a reference.`;

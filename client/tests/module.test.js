@@ -5,7 +5,8 @@ import { test } from "node:test";
 import assert from "node:assert/strict";
 import { createRequire } from "node:module";
 import { readFileSync } from "node:fs";
-import { HtmlRefused, Offsets, describe, hrefOf, isChanged, open, rangeOf, renew, save } from "../bughtiso.js";
+import { HtmlRefused, Offsets, describe, hrefOf, isChanged, open } from "../bughtiso.js";
+import { rangeOf, renew, save } from "../bughtiso.js";
 import { read } from "../lib/markup.js";
 import { SmallDocument } from "./small_dom.js";
 import { Wiki, examplePages, findProgram, outsideDocuments } from "./pages.js";
@@ -437,7 +438,7 @@ test("a page is renewed whatever an editor left in its place", () => {
   const now = page(TEXT);
   const left = [
     "", "text", "<div>one</div>", '<p id="mw1">one <b id="mw2">two</b> three</p><p id="mw1">four</p>',
-    '<p id="mw9" class="c" lang="de" data-mw="{}">one <b>two</b> three</p>\n\n<comment>x</comment><p>four</p>',
+    '<p id="mw9" class="c" data-mw="{}">one <b>two</b> three</p>\n\n<comment>x</comment><p>four</p>',
     '<p id="mw3">four</p>\n\n<p id="mw1">one <b id="mw2">two</b> three</p>',
     '<p about="#mwt1" id="mw1">one <b id="mw2">two</b> three</p>\n\n<p id="mw3"><i>four</i></p>',
   ];

@@ -1,5 +1,5 @@
 // @ts-check
-/** As much of a DOM as `open`, `renew` and `save` need, so that the module's tests run where no other DOM is. */
+/** As much of a DOM as `open`, `renew` and `save` need: the module's tests run where no other DOM is. */
 
 class SmallNode {
   /**

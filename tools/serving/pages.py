@@ -120,9 +120,9 @@ class PageFolder:
         try:
             sync_directory(self.path)
         except OSError as error:
-            if error.errno in (errno.EINVAL, errno.ENOTSUP, errno.ENOSYS):  # this file system has no such call
+            if error.errno in (errno.EINVAL, errno.ENOTSUP, errno.ENOSYS):  # the file system can't
                 return
-            sentence = f"The page is written, but the disk didn't confirm it: {error.strerror}. Open it again."
+            sentence = f"The page is written; the disk didn't confirm it: {error.strerror}. Open it again."
             raise Refusal(500, "NotConfirmed", sentence) from None
 
     def remove_unfinished(self) -> None:
