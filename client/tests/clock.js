@@ -15,7 +15,7 @@ const WORK = `
   console.log((performance.now() - began) / worked());
 `;
 
-/** @returns {Promise<number>} by how much other work on the machine stretches time on the clock; 1: not at all */
+/** @returns {Promise<number>} how many times as long work takes, for what else the machine does; 1: as long */
 export async function stretch() {
   const found = await Promise.all(Array.from({ length: AT_ONCE }, stretchOfOne));
   return Math.max(1, ...found);
