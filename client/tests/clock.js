@@ -15,7 +15,7 @@ const WORK = `
   console.log((performance.now() - began) / worked());
 `;
 
-/** @returns {Promise<number>} how many times as long work takes, for what else the machine does; 1: as long */
+/** @returns {Promise<number>} how much longer work takes for what else the machine does; 1: no longer */
 export async function stretch() {
   const found = await Promise.all(Array.from({ length: AT_ONCE }, stretchOfOne));
   return Math.max(1, ...found);
