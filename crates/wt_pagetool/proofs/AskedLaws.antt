@@ -365,7 +365,7 @@ names_done pages page before after e h = h ∙ ap (λ es. followed_by before (na
 -- ---- an edit
 
 -- where the input is told as well
-both_told : {T R : Type 0} (told : Option Pages) (left : Option (List ℕ)) (title : List ℕ) (before after : Option (List (List ℕ)))
+both_told : {T : Type 0} (told : Option Pages) (left : Option (List ℕ)) (title : List ℕ) (before after : Option (List (List ℕ)))
     (result : Result T Refusal)
     → ((bytes : List ℕ) → left ≡ Some bytes
     → IfSome told (λ pages. AsksNames (names_of title (edit_work pages (pages title) bytes)) before after result))
