@@ -49,3 +49,6 @@ returns-in_err-annotated-clause-stops g c = λ pages met told free.
     (sym e)
     (stops_behind pages page met (d.answered c.args.folder.now) (d.answered c.expand_knowing.new.folder) c.in_ok-expanded.expanded.expansion
     (c.in_ok-expanded.ensures.whole pages met told free) (c.in_ok-expanded.ensures.named pages met told free))
+
+pub returns-clause-named : goal.returns-clause-named
+returns-clause-named g c = λ pages met told free. c.in_ok-expanded.ensures.named pages met told free
