@@ -173,7 +173,6 @@ work_under stands page made fetched text =
     let m = title_made page page any (text any) in
     ap (λ o. title_work o made) (h.1 ∙ ap Some d) ∙ short_work page made m.within m.text
 
-
 -- the page was fetched, and then what its work asks for
 pub names_under : {T : Type 0} (told : Option Pages) (title page text : List ℕ) (made : Pages → List ℕ → List Entry)
     (before middle after : Option (List (List ℕ))) (result : Result T Refusal)

@@ -71,15 +71,15 @@ fn find_answer<S: Source, F: Folder>(
 /// (`Status::code`).
 ///
 /// `html TITLE` writes to `out` the HTML of the page that stands in `folder` under the title, with its
-/// templates expanded, whose pages stand in `folder`, too; `ranges TITLE` a line for each of its nodes that
-/// has a number, `mwN KIND START END OPEN CLOSE`, in bytes; `lint TITLE` a line for each doubtful place,
-/// `KIND LINE COLUMN START END`; `expand TITLE` the items of the expanded page. `gen N` makes a page of N
-/// sections and its HTML, reads this back and writes what it counted. `wikitext` reads the HTML of `input`
-/// to its end and writes to `out` the source of the page for which it stands. `edit TITLE` reads the HTML
-/// of `input`, in which some elements of the page's HTML are marked as edited, and writes the new page: the
-/// inside of each marked block is written anew, blocks and items come and go where their parent is marked
-/// so, and nothing else is changed. Nothing goes to `out` before the whole answer is known, and each refusal
-/// has its one line on `err`.
+/// templates, whose pages stand in `folder`, too, and its functions expanded; `ranges TITLE` a line for each
+/// of its nodes that has a number, `mwN KIND START END OPEN CLOSE`, in bytes; `lint TITLE` a line for each
+/// doubtful place, `KIND LINE COLUMN START END`; `expand TITLE` the items of the expanded page. `gen N` makes
+/// a page of N sections and its HTML, reads this back and writes what it counted. `wikitext` reads the HTML
+/// of `input` to its end and writes to `out` the source of the page for which it stands. `edit TITLE` reads
+/// the HTML of `input`, in which some elements of the page's HTML are marked as edited, and writes the new
+/// page: the inside of each marked block is written anew, blocks and items come and go where their parent is
+/// marked so, and nothing else is changed. Nothing goes to `out` before the whole answer is known, and each
+/// refusal has its one line on `err`.
 ///
 /// A title stands here for its full name. What is said of a device's pages or bytes holds where the device
 /// tells them (`IfSome`), as those in memory do; the directory and the standard streams of the program tell
