@@ -1,0 +1,136 @@
+-- The children of a node, by its parts: which of them are separators, and that each is tight.
+use Rattle.std.proofs.Common.{◌≡◌, Bool, true, false, List, [], ◌∷◌, ◌++◌, map, refl, sym, ap, ◌∙◌, subst}
+use Rattle.std.specs.List.{AllByRecursion}
+use Rattle.std.proofs.lemmas.List.{map-append}
+use Rattle.wt_span.specs.Runs.{runs, IsRun, AreRuns}
+use Rattle.wt_span.proofs.RunLaws.{runs_are}
+use Rattle.wt_inline.specs.declared.loose.Loose.{Loose}
+use Rattle.wt_inline.specs.declared.loose.Loose.TheVariants.{Text, Sep}
+use Rattle.wt_inline.specs.ItemTree.{ItemTree, inner, forest}
+use Rattle.wt_inline.specs.Parts.{Part, loose, node, one_leaf, child, children}
+use Rattle.wt_body_laws.specs.Roles.{Role, separator, other, role_of, is_separator}
+use Rattle.wt_body_laws.specs.Ends.{IsTightBy, separators, first_is, last_is, HasNone, IsTight, AreTight}
+use Rattle.wt_body_laws.proofs.Alls.{all_both}
+use Rattle.wt_body_laws.proofs.LineWords.{IsWord, AreWords}
+
+-- ---- which are separators
+
+abbrev pub role_of_loose : Loose → Role
+role_of_loose Text = other
+role_of_loose Sep = separator
+
+abbrev pub is_gap_part : Part → Bool
+is_gap_part (loose k o b) = is_separator (role_of_loose k)
+is_gap_part (node t) = is_separator (role_of t)
+
+abbrev pub gap_parts : List Part → List Bool
+gap_parts ps = map is_gap_part ps
+
+child_is : (p : Part) (ps : List Part) → is_separator (role_of (child (p ∷ ps))) ≡ is_gap_part p
+child_is (loose Text o b) ps = refl
+child_is (loose Sep o b) ps = refl
+child_is (node t) ps = refl
+
+pub last_append : (b : Bool) (xs ys : List Bool) → last_is b (xs ++ ys) ≡ last_is (last_is b xs) ys
+last_append b [] ys = refl
+last_append b (x ∷ xs) ys = last_append x xs ys
+
+same_part : (p q : Part) → one_leaf p q ≡ true → is_gap_part p ≡ is_gap_part q
+same_part (loose Text o b) (loose Text j c) e = refl
+same_part (loose Text o b) (loose Sep j c) e = cc
+same_part (loose Sep o b) (loose Text j c) e = cc
+same_part (loose Sep o b) (loose Sep j c) e = refl
+same_part (loose k o b) (node t) e = cc
+same_part (node t) q e = cc
+
+run_last : (b : Bool) (p : Part) (ps others : List Part) → IsRun one_leaf (p ∷ ps) others → last_is b (gap_parts (p ∷ ps)) ≡ is_gap_part p
+run_last b p [] others h = refl
+run_last b p (q ∷ ps) others h = run_last (is_gap_part p) q ps others h.1 ∙ sym (same_part p q h.0)
+
+runs_last : (b : Bool) (rs : List (List Part)) (ps : List Part) → AreRuns one_leaf rs ps → last_is b (separators (forest (map child rs))) ≡ last_is b (gap_parts ps)
+runs_last b [] ps h = sym (ap (λ qs. last_is b (gap_parts qs)) h)
+runs_last b ([] ∷ rs) ps h = absurd h.2
+runs_last b ((p ∷ r) ∷ rs) ps h =
+    ap (λ c. last_is c (separators (forest (map child rs)))) (child_is p r)
+    ∙ runs_last (is_gap_part p) rs h.0 h.3
+    ∙ ap (λ c. last_is c (gap_parts h.0)) (sym (run_last b p r h.0 h.2))
+    ∙ sym (ap (λ qs. last_is b (gap_parts qs)) h.1 ∙ ap (last_is b) (map-append is_gap_part (p ∷ r) h.0) ∙ last_append b (gap_parts (p ∷ r)) (gap_parts h.0))
+
+pub children_last : (ps : List Part) → last_is false (separators (forest (children ps))) ≡ last_is false (gap_parts ps)
+unfolding children
+children_last ps = runs_last false (runs one_leaf ps) ps (runs_are one_leaf ps)
+
+runs_first : (rs : List (List Part)) (ps : List Part) → AreRuns one_leaf rs ps → first_is (separators (forest (map child rs))) ≡ first_is (gap_parts ps)
+runs_first [] ps h = sym (ap (λ qs. first_is (gap_parts qs)) h)
+runs_first ([] ∷ rs) ps h = absurd h.2
+runs_first ((p ∷ r) ∷ rs) ps h = child_is p r ∙ sym (ap (λ qs. first_is (gap_parts qs)) h.1)
+
+pub children_first : (ps : List Part) → first_is (separators (forest (children ps))) ≡ first_is (gap_parts ps)
+unfolding children
+children_first ps = runs_first (runs one_leaf ps) ps (runs_are one_leaf ps)
+
+-- ---- words are none
+
+pub word_is : (p : Part) → IsWord p → is_gap_part p ≡ false
+word_is (loose k o b) h = ap (λ j. is_separator (role_of_loose j)) h
+word_is (node t) h = ap is_separator h
+
+runs_none : (rs : List (List Part)) (ps : List Part) → AreRuns one_leaf rs ps → AreWords ps → HasNone (forest (map child rs))
+runs_none [] ps h w = tt
+runs_none ([] ∷ rs) ps h w = absurd h.2
+runs_none ((p ∷ r) ∷ rs) ps h w =
+    let v : AreWords ((p ∷ r) ++ h.0) = subst AreWords h.1 w in
+    (child_is p r ∙ word_is p v.0, runs_none rs h.0 h.3 (words_behind r h.0 v.1))
+  where
+    words_behind : (qs os : List Part) → AreWords (qs ++ os) → AreWords os
+    words_behind [] os v = v
+    words_behind (q ∷ qs) os v = words_behind qs os v.1
+
+pub words_none : (ps : List Part) → AreWords ps → HasNone (forest (children ps))
+unfolding children
+words_none ps w = runs_none (runs one_leaf ps) ps (runs_are one_leaf ps) w
+
+-- behind words the last isn't one
+pub words_last : (ps : List Part) → AreWords ps → last_is false (gap_parts ps) ≡ false
+words_last ps w = by ps false refl w
+  where
+    by : (qs : List Part) (b : Bool) → b ≡ false → AreWords qs → last_is b (gap_parts qs) ≡ false
+    by [] b e v = e
+    by (q ∷ qs) b e v = by qs (is_gap_part q) (word_is q v.0) v.1
+
+-- ---- tight children
+
+abbrev pub IsTightPart : Part → Type 0
+IsTightPart (loose k o b) = Unit {0}
+IsTightPart (node t) = IsTight t
+
+abbrev pub AreTightParts : List Part → Type 0
+AreTightParts ps = AllByRecursion IsTightPart ps
+
+pub other_tight : (t : ItemTree) → role_of t ≡ other → IsTight t
+other_tight (inner h opening ts closing) e = subst (λ r. IsTightBy r ts (AreTight ts)) (sym e) tt
+
+pub words_tight : (ps : List Part) → AreWords ps → AreTightParts ps
+words_tight [] w = tt
+words_tight (loose k o b ∷ ps) w = (tt, words_tight ps w.1)
+words_tight (node t ∷ ps) w = (other_tight t w.0, words_tight ps w.1)
+
+tight_child : (p : Part) (ps : List Part) → IsTightPart p → IsTight (child (p ∷ ps))
+tight_child (loose Text o b) ps h = tt
+tight_child (loose Sep o b) ps h = tt
+tight_child (node t) ps h = h
+
+tight_runs : (rs : List (List Part)) (ps : List Part) → AreRuns one_leaf rs ps → AreTightParts ps → AreTight (forest (map child rs))
+tight_runs [] ps h w = tt
+tight_runs ([] ∷ rs) ps h w = absurd h.2
+tight_runs ((p ∷ r) ∷ rs) ps h w =
+    let v : AreTightParts ((p ∷ r) ++ h.0) = subst AreTightParts h.1 w in
+    (tight_child p r v.0, tight_runs rs h.0 h.3 (tight_behind r h.0 v.1))
+  where
+    tight_behind : (qs os : List Part) → AreTightParts (qs ++ os) → AreTightParts os
+    tight_behind [] os v = v
+    tight_behind (q ∷ qs) os v = tight_behind qs os v.1
+
+pub tight_children : (ps : List Part) → AreTightParts ps → AreTight (forest (children ps))
+unfolding children
+tight_children ps w = tight_runs (runs one_leaf ps) ps (runs_are one_leaf ps) w

@@ -1,0 +1,3 @@
+pub mod Roles
+pub mod Ends
+pub mod ListNodes

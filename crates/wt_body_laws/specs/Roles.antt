@@ -1,0 +1,84 @@
+-- What a node is among lists, tables and lines.
+use Rattle.std.specs.Prelude.{Bool, true, false}
+use Rattle.wt_tree.specs.declared.kind.Kind.{Kind}
+use Rattle.wt_tree.specs.declared.kind.Kind.TheVariants as kind
+use Rattle.wt_inline.specs.ItemTree.{Head, ItemTree, inner}
+
+-- The body and a table have separators at their ends; lines are what stands in a paragraph, a heading or preformatted text; `other` is
+-- what stands on a line, and marks.
+pub data Role : Type 0 where
+  outer : Role
+  lines : Role
+  list : Role
+  item : Role
+  rows : Role
+  row : Role
+  cell : Role
+  separator : Role
+  other : Role
+
+abbrev pub role : Kind → Role
+role kind.Body = outer
+role kind.Para = lines
+role (kind.Heading n) = lines
+role kind.Rule = lines
+role kind.Ul = list
+role kind.Ol = list
+role kind.Dl = list
+role kind.Li = item
+role kind.Dt = item
+role kind.Dd = item
+role kind.Pre = lines
+role kind.Table = outer
+role kind.Tbody = rows
+role kind.Tr = row
+role kind.Caption = cell
+role kind.Td = cell
+role kind.Th = cell
+role kind.Bold = other
+role kind.Italic = other
+role kind.WikiLink = other
+role kind.ExtLink = other
+role kind.Category = other
+role (kind.Tag t) = other
+role kind.Br = other
+role kind.Entity = other
+role kind.Nowiki = other
+role kind.Island = other
+role kind.Switch = other
+role kind.Comment = other
+role kind.Include = other
+role kind.Skip = other
+role kind.Sep = separator
+role kind.Text = other
+role kind.Group = other
+role kind.Empty = other
+
+abbrev pub head_of : ItemTree → Head
+head_of (inner h opening ts closing) = h
+
+abbrev pub role_of : ItemTree → Role
+role_of t = role (head_of t).kind
+
+abbrev pub is_separator : Role → Bool
+is_separator outer = false
+is_separator lines = false
+is_separator list = false
+is_separator item = false
+is_separator rows = false
+is_separator row = false
+is_separator cell = false
+is_separator separator = true
+is_separator other = false
+
+-- a list or an item
+abbrev pub is_of_list : Role → Bool
+is_of_list outer = false
+is_of_list lines = false
+is_of_list list = true
+is_of_list item = true
+is_of_list rows = false
+is_of_list row = false
+is_of_list cell = false
+is_of_list separator = false
+is_of_list other = false
