@@ -5,3 +5,4 @@ pub mod EndGaps
 pub mod TightNodes
 pub mod TightBlocks
 pub mod TightBody
+pub mod Named
