@@ -75,20 +75,27 @@ pub word_is : (p : Part) → IsWord p → is_gap_part p ≡ false
 word_is (loose k o b) h = ap (λ j. is_separator (role_of_loose j)) h
 word_is (node t) h = ap is_separator h
 
-runs_none : (rs : List (List Part)) (ps : List Part) → AreRuns one_leaf rs ps → AreWords ps → HasNone (forest (map child rs))
+abbrev pub AreNoGaps : List Part → Type 0
+AreNoGaps ps = AllByRecursion (λ p. is_gap_part p ≡ false) ps
+
+pub words_no_gaps : (ps : List Part) → AreWords ps → AreNoGaps ps
+words_no_gaps [] w = tt
+words_no_gaps (p ∷ ps) w = (word_is p w.0, words_no_gaps ps w.1)
+
+runs_none : (rs : List (List Part)) (ps : List Part) → AreRuns one_leaf rs ps → AreNoGaps ps → HasNone (forest (map child rs))
 runs_none [] ps h w = tt
 runs_none ([] ∷ rs) ps h w = absurd h.2
 runs_none ((p ∷ r) ∷ rs) ps h w =
-    let v : AreWords ((p ∷ r) ++ h.0) = subst AreWords h.1 w in
-    (child_is p r ∙ word_is p v.0, runs_none rs h.0 h.3 (words_behind r h.0 v.1))
+    let v : AreNoGaps ((p ∷ r) ++ h.0) = subst AreNoGaps h.1 w in
+    (child_is p r ∙ v.0, runs_none rs h.0 h.3 (behind r h.0 v.1))
   where
-    words_behind : (qs os : List Part) → AreWords (qs ++ os) → AreWords os
-    words_behind [] os v = v
-    words_behind (q ∷ qs) os v = words_behind qs os v.1
+    behind : (qs os : List Part) → AreNoGaps (qs ++ os) → AreNoGaps os
+    behind [] os v = v
+    behind (q ∷ qs) os v = behind qs os v.1
 
-pub words_none : (ps : List Part) → AreWords ps → HasNone (forest (children ps))
+pub none_among : (ps : List Part) → AreNoGaps ps → HasNone (forest (children ps))
 unfolding children
-words_none ps w = runs_none (runs one_leaf ps) ps (runs_are one_leaf ps) w
+none_among ps w = runs_none (runs one_leaf ps) ps (runs_are one_leaf ps) w
 
 -- behind words the last isn't one
 pub words_last : (ps : List Part) → AreWords ps → last_is false (gap_parts ps) ≡ false

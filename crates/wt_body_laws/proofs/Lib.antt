@@ -5,4 +5,5 @@ pub mod EndGaps
 pub mod TightNodes
 pub mod TightBlocks
 pub mod TightBody
+pub mod Told
 pub mod Named

@@ -14,7 +14,7 @@ use Rattle.wt_blocks.specs.Nesting.{IsPrefix, numbered, nested}
 use Rattle.wt_blocks.specs.Starts.{Row as Start, rows as starts, rows_of_all as all_starts, begun}
 use Rattle.wt_blocks.proofs.Begun.{nested_begun}
 use Rattle.wt_inline.specs.declared.loose.Loose.TheVariants.{Text, Sep}
-use Rattle.wt_inline.specs.ItemTree.{Head, ItemTree, inner, plain, forest}
+use Rattle.wt_inline.specs.ItemTree.{Head, ItemTree, inner, ItemTrees, nothing, further, plain, forest}
 use Rattle.wt_inline.specs.Parts.{Part, loose, node, parts, one_leaf, child, children}
 use Rattle.wt_context.specs.Line.{line_parts}
 use Rattle.wt_body.specs.Rows.{Row}
@@ -22,7 +22,9 @@ use Rattle.wt_body.specs.Stretches.{Stretch, gap, block, stretch_parts, stretche
 use Rattle.wt_body.specs.Lists.{colon_at, with_blanks, item_opening_len, term_len, item_kind, list_kind, term, item_by, line_item, begins_at, row_at, list_stretches, all_lists, prefixes, lists}
 use Rattle.wt_body_laws.specs.Roles.{Role, other, role, role_of, is_of_list}
 use Rattle.wt_body_laws.specs.ListNodes.{list_nodes, list_nodes_of_all, list_name, item_name, name, IsNamed, AreNamed}
-use Rattle.wt_body_laws.proofs.LineWords.{AreWords, whole_role, line_words}
+use Rattle.wt_body_laws.specs.Members.{of_each}
+use Rattle.wt_body_laws.proofs.LineWords.{line_words}
+use Rattle.wt_body_laws.proofs.Told.{TellsNone, parts_told, told_in, children_told, words_told, in_both, behind_gap, gaps_told, behind_line, of_opened}
 use Rattle.wt_body_laws.proofs.EndGaps.{AreGaps, front_are_gaps, end_are_gaps}
 
 abbrev Named : Type 0
@@ -33,99 +35,48 @@ Named = List (ℕ × Kind)
 abbrev nodes_by : Bool → Named → Named
 nodes_by b ns = if b then ns else []
 
-abbrev pub part_nodes : ℕ → Part → Named
-part_nodes d (loose k o b) = []
-part_nodes d (node t) = list_nodes d t
+none_told : (d : ℕ) → TellsNone (list_nodes d)
+none_told d (inner h opening ts closing) (inl e) = ap (λ r. nodes_by (is_of_list r) ((d, h.kind) ∷ list_nodes_of_all (suc d) ts)) e
+none_told d (inner h opening ts closing) (inr e) = ap (λ r. nodes_by (is_of_list r) ((d, h.kind) ∷ list_nodes_of_all (suc d) ts)) e
 
-abbrev pub nodes_of_parts : ℕ → List Part → Named
-nodes_of_parts d ps = flat_map (part_nodes d) ps
+of_all : (d : ℕ) (ts : ItemTrees) → list_nodes_of_all d ts ≡ of_each (list_nodes d) ts
+of_all d nothing = refl
+of_all d (further t ts) = ap (λ ns. list_nodes d t ++ ns) (of_all d ts)
 
-loose_run : (d : ℕ) (p : Part) (ps others : List Part) → IsRun one_leaf (p ∷ ps) others → part_nodes d p ≡ [] → nodes_of_parts d (p ∷ ps) ≡ []
-loose_run d p [] others h e = append-nil (part_nodes d p) ∙ e
-loose_run d (loose k o b) (loose j i c ∷ ps) others h e = loose_run d (loose j i c) ps others h.1 refl
-loose_run d (loose k o b) (node t ∷ ps) others h e = absurd (let no = h.0 in cc)
-loose_run d (node t) (q ∷ ps) others h e = absurd (let no = h.0 in cc)
-
-run_nodes : (d : ℕ) (p : Part) (ps others : List Part) → IsRun one_leaf (p ∷ ps) others → list_nodes d (child (p ∷ ps)) ≡ nodes_of_parts d (p ∷ ps)
-run_nodes d (loose Text o b) ps others h = sym (loose_run d (loose Text o b) ps others h refl)
-run_nodes d (loose Sep o b) ps others h = sym (loose_run d (loose Sep o b) ps others h refl)
-run_nodes d (node t) [] others h = sym (append-nil (list_nodes d t))
-run_nodes d (node t) (q ∷ ps) others h = absurd (let no = h.0 in cc)
-
-runs_nodes : (d : ℕ) (rs : List (List Part)) (ps : List Part) → AreRuns one_leaf rs ps → list_nodes_of_all d (forest (map child rs)) ≡ nodes_of_parts d ps
-runs_nodes d [] ps h = sym (ap (nodes_of_parts d) h)
-runs_nodes d ([] ∷ rs) ps h = absurd h.2
-runs_nodes d ((p ∷ r) ∷ rs) ps h =
-    ap (λ ns. ns ++ list_nodes_of_all d (forest (map child rs))) (run_nodes d p r h.0 h.2)
-    ∙ ap (λ ns. nodes_of_parts d (p ∷ r) ++ ns) (runs_nodes d rs h.0 h.3)
-    ∙ sym (ap (nodes_of_parts d) h.1 ∙ flat_map-append (part_nodes d) (p ∷ r) h.0)
-
-children_nodes : (d : ℕ) (ps : List Part) → list_nodes_of_all d (forest (children ps)) ≡ nodes_of_parts d ps
-unfolding children
-children_nodes d ps = runs_nodes d (runs one_leaf ps) ps (runs_are one_leaf ps)
-
--- ---- what stands on a line, and gaps, hold none
-
-other_none : (d : ℕ) (t : ItemTree) → role_of t ≡ other → list_nodes d t ≡ []
-other_none d (inner h opening ts closing) e = ap (λ r. nodes_by (is_of_list r) ((d, h.kind) ∷ list_nodes_of_all (suc d) ts)) e
-
-words_none : (d : ℕ) (ps : List Part) → AreWords ps → nodes_of_parts d ps ≡ []
-words_none d [] w = refl
-words_none d (loose k o b ∷ ps) w = words_none d ps w.1
-words_none d (node t ∷ ps) w = ap (λ ns. ns ++ nodes_of_parts d ps) (other_none d t w.0) ∙ words_none d ps w.1
-
-gap_none : (d : ℕ) (xs : List Item) → nodes_of_parts d (parts Sep xs) ≡ []
-gap_none d [] = refl
-gap_none d (char o b ∷ xs) = gap_none d xs
-gap_none d (whole f o bs ∷ xs) = ap (λ ns. ns ++ nodes_of_parts d (parts Sep xs)) (other_none d _ (whole_role f o bs)) ∙ gap_none d xs
+children_nodes : (d : ℕ) (ps : List Part) → list_nodes_of_all d (forest (children ps)) ≡ parts_told (list_nodes d) ps
+children_nodes d ps = of_all d (forest (children ps)) ∙ children_told (list_nodes d) (none_told d) ps
 
 -- ---- in stretches
 
 abbrev nodes_in : ℕ → List Stretch → Named
-nodes_in d ss = nodes_of_parts d (stretches_parts ss)
-
-in_both : (d : ℕ) (ss ts : List Stretch) → nodes_in d (ss ++ ts) ≡ nodes_in d ss ++ nodes_in d ts
-in_both d ss ts = ap (nodes_of_parts d) (flat_map-append stretch_parts ss ts) ∙ flat_map-append (part_nodes d) (stretches_parts ss) (stretches_parts ts)
-
-behind_gap : (d : ℕ) (xs : List Item) (ss : List Stretch) → nodes_in d (gap xs ∷ ss) ≡ nodes_in d ss
-behind_gap d xs ss = flat_map-append (part_nodes d) (parts Sep xs) (stretches_parts ss) ∙ ap (λ ns. ns ++ nodes_in d ss) (gap_none d xs)
-
-gaps_none : (d : ℕ) (ss : List Stretch) → AreGaps ss → nodes_in d ss ≡ []
-gaps_none d [] g = refl
-gaps_none d (gap xs ∷ ss) g = behind_gap d xs ss ∙ gaps_none d ss g.1
-gaps_none d (block ps ∷ ss) g = absurd (let e = g.0 in cc)
-
-behind_line : (d : ℕ) (xs : List Item) (ss : List Stretch) → nodes_in d (block (line_parts xs) ∷ ss) ≡ nodes_in d ss
-behind_line d xs ss =
-    flat_map-append (part_nodes d) (line_parts xs) (stretches_parts ss) ∙ ap (λ ns. ns ++ nodes_in d ss) (words_none d (line_parts xs) (line_words xs))
+nodes_in d ss = told_in (list_nodes d) ss
 
 in_node : (d : ℕ) (h : Head) (opening : List Item) (ps : List Part) (closing : List Item) → is_of_list (role h.kind) ≡ true
-    → list_nodes d (inner h opening (forest (children ps)) closing) ≡ (d, h.kind) ∷ nodes_of_parts (suc d) ps
+    → list_nodes d (inner h opening (forest (children ps)) closing) ≡ (d, h.kind) ∷ parts_told (list_nodes (suc d)) ps
 in_node d h opening ps closing e =
     ap (λ b. nodes_by b ((d, h.kind) ∷ list_nodes_of_all (suc d) (forest (children ps)))) e ∙ ap (λ ns. (d, h.kind) ∷ ns) (children_nodes (suc d) ps)
 
 in_front : (d : ℕ) (ss : List Stretch) → nodes_in d (before_end ss) ≡ nodes_in d ss
 in_front d ss =
-    sym (ap (nodes_in d) (sym (take-append-drop (block_len ss) ss)) ∙ in_both d (before_end ss) (end_gaps ss)
-    ∙ ap (λ ns. nodes_in d (before_end ss) ++ ns) (gaps_none d (end_gaps ss) (end_are_gaps ss)) ∙ append-nil (nodes_in d (before_end ss)))
+    sym (ap (nodes_in d) (sym (take-append-drop (block_len ss) ss)) ∙ in_both (list_nodes d) (before_end ss) (end_gaps ss)
+    ∙ ap (λ ns. nodes_in d (before_end ss) ++ ns) (gaps_told (list_nodes d) (none_told d) (end_gaps ss) (end_are_gaps ss)) ∙ append-nil (nodes_in d (before_end ss)))
 
 in_past : (d : ℕ) (ss : List Stretch) → nodes_in d (past_front ss) ≡ nodes_in d ss
 in_past d ss =
-    sym (ap (nodes_in d) (sym (take-append-drop (front_len ss) ss)) ∙ in_both d (front_gaps ss) (past_front ss)
-    ∙ ap (λ ns. ns ++ nodes_in d (past_front ss)) (gaps_none d (front_gaps ss) (front_are_gaps ss)))
+    sym (ap (nodes_in d) (sym (take-append-drop (front_len ss) ss)) ∙ in_both (list_nodes d) (front_gaps ss) (past_front ss)
+    ∙ ap (λ ns. ns ++ nodes_in d (past_front ss)) (gaps_told (list_nodes d) (none_told d) (front_gaps ss) (front_are_gaps ss)))
 
 in_opened : (d : ℕ) (h : Head) (opening : List Item) (ss : List Stretch) → is_of_list (role h.kind) ≡ true
     → nodes_in d (opened_by h opening ss) ≡ (d, h.kind) ∷ nodes_in (suc d) ss
 in_opened d h opening ss e =
-    ap (λ ns. list_nodes d (node_of h opening (before_end ss) []) ++ ns) (gaps_none d (end_gaps ss) (end_are_gaps ss))
-    ∙ append-nil (list_nodes d (node_of h opening (before_end ss) []))
+    of_opened (list_nodes d) (none_told d) h opening ss
     ∙ in_node d h opening (stretches_parts (before_end ss)) [] e
     ∙ ap (λ ns. (d, h.kind) ∷ ns) (in_front (suc d) ss)
 
 in_enclosed : (d : ℕ) (h : Head) (ss : List Stretch) → is_of_list (role h.kind) ≡ true → nodes_in d (enclosed h ss) ≡ (d, h.kind) ∷ nodes_in (suc d) ss
 in_enclosed d h ss e =
-    in_both d (front_gaps ss) (opened_by h [] (past_front ss))
-    ∙ ap (λ ns. ns ++ nodes_in d (opened_by h [] (past_front ss))) (gaps_none d (front_gaps ss) (front_are_gaps ss))
+    in_both (list_nodes d) (front_gaps ss) (opened_by h [] (past_front ss))
+    ∙ ap (λ ns. ns ++ nodes_in d (opened_by h [] (past_front ss))) (gaps_told (list_nodes d) (none_told d) (front_gaps ss) (front_are_gaps ss))
     ∙ in_opened d h [] (past_front ss) e ∙ ap (λ ns. (d, h.kind) ∷ ns) (in_past (suc d) ss)
 
 -- ---- names
@@ -170,17 +121,17 @@ item_named : (d sign line : ℕ) (n : Option ℕ) (opening xs : List Item) (ss :
     → IsNamed (start d true sign line) (nodes_in (suc d) ss) (nodes_in d (item_by sign n opening xs ss))
 item_named d sign line None opening xs ss e =
     inl (in_opened d (plain (item_kind sign)) opening (block (line_parts xs) ∷ ss) (item_role sign)
-    ∙ ap (λ ns. (d, item_kind sign) ∷ ns) (behind_line (suc d) xs ss))
+    ∙ ap (λ ns. (d, item_kind sign) ∷ ns) (behind_line (list_nodes (suc d)) (none_told (suc d)) xs ss))
 item_named d sign line (Some n) opening xs ss e =
     let rest = drop n xs in
     let colon = with_blanks 1 rest in
     let first : list_nodes d (term opening (take n xs)) ≡ (d, kind.Dt) ∷ [] =
     in_node d (plain kind.Dt) opening (line_parts (take n xs)) [] refl
-    ∙ ap (λ ns. (d, kind.Dt) ∷ ns) (words_none (suc d) (line_parts (take n xs)) (line_words (take n xs))) in
+    ∙ ap (λ ns. (d, kind.Dt) ∷ ns) (words_told (list_nodes (suc d)) (none_told (suc d)) (line_parts (take n xs)) (line_words (take n xs))) in
     inr (term_sign sign xs n e,
     ap (λ ns. ns ++ nodes_in d (opened_by (plain kind.Dd) (take colon rest) (block (line_parts (drop colon rest)) ∷ ss))) first
     ∙ ap (λ ns. (d, kind.Dt) ∷ ns) (in_opened d (plain kind.Dd) (take colon rest) (block (line_parts (drop colon rest)) ∷ ss) refl
-    ∙ ap (λ ns. (d, kind.Dd) ∷ ns) (behind_line (suc d) (drop colon rest) ss)))
+    ∙ ap (λ ns. (d, kind.Dd) ∷ ns) (behind_line (list_nodes (suc d)) (none_told (suc d)) (drop colon rest) ss)))
 
 line_named : (d sign line : ℕ) (r : Row) (ss : List Stretch) → IsNamed (start d true sign line) (nodes_in (suc d) ss) (nodes_in d (line_item sign r ss))
 unfolding line_item
@@ -188,8 +139,8 @@ line_named d sign line r ss =
     let n = item_opening_len r.items in
     let xs = drop n r.items in
     let made = item_by sign (term_len sign xs) (take n r.items) xs (gap r.ending ∷ ss) in
-    subst (λ ns. IsNamed (start d true sign line) (nodes_in (suc d) ss) ns) (sym (behind_gap d r.lead made))
-    (subst (λ ns. IsNamed (start d true sign line) ns (nodes_in d made)) (behind_gap (suc d) r.ending ss)
+    subst (λ ns. IsNamed (start d true sign line) (nodes_in (suc d) ss) ns) (sym (behind_gap (list_nodes d) (none_told d) r.lead made))
+    (subst (λ ns. IsNamed (start d true sign line) ns (nodes_in d made)) (behind_gap (list_nodes (suc d)) (none_told (suc d)) r.ending ss)
     (item_named d sign line (term_len sign xs) (take n r.items) xs (gap r.ending ∷ ss) refl))
 
 own_named : (own : Bool) (d sign line : ℕ) (r : Row) (ss : List Stretch)
@@ -207,7 +158,7 @@ mutual
   trees_named : (rs : List Row) (d : ℕ) (ts : ListTrees) → AreNamed (all_starts d ts) (nodes_in d (all_lists rs ts))
   trees_named rs d none = refl
   trees_named rs d (more t ts) =
-      subst (AreNamed (starts d t ++ all_starts d ts)) (sym (in_both d (list_stretches rs t) (all_lists rs ts)))
+      subst (AreNamed (starts d t ++ all_starts d ts)) (sym (in_both (list_nodes d) (list_stretches rs t) (all_lists rs ts)))
       (names_both (starts d t) (all_starts d ts) (nodes_in d (list_stretches rs t)) (nodes_in d (all_lists rs ts)) (tree_named rs d t) (trees_named rs d ts))
 
 pub lists_named : (rs : List Row) → All IsPrefix (prefixes rs)

@@ -20,7 +20,7 @@ use Rattle.wt_body_laws.specs.Roles.{role, role_of, is_separator}
 use Rattle.wt_body_laws.specs.Ends.{IsTight}
 use Rattle.wt_body_laws.proofs.Alls.{all_both, all_taken, all_dropped}
 use Rattle.wt_body_laws.proofs.LineWords.{IsWord, AreWords, text_words, line_words}
-use Rattle.wt_body_laws.proofs.Children.{children_last, words_last, words_none, words_tight, tight_children}
+use Rattle.wt_body_laws.proofs.Children.{is_gap_part, AreNoGaps, words_no_gaps, none_among, children_last, words_last, words_tight, tight_children}
 use Rattle.wt_body_laws.proofs.TightNodes.{IsSolid, AreSolid, asks_end, asks_both, line_opened, row_opened, enclosed_solid}
 
 -- ---- lines
@@ -28,34 +28,44 @@ use Rattle.wt_body_laws.proofs.TightNodes.{IsSolid, AreSolid, asks_end, asks_bot
 pub with_separators_solid : (t : ItemTree) (rs : List Row) → IsTight t → is_separator (role_of t) ≡ false → AreSolid (with_separators t rs)
 with_separators_solid t rs h s = (tt, ((h, s), (tt, tt)))
 
-later_words : (read : Row → List Part) → ((r : Row) → AreWords (read r)) → (break : List Item) (rs : List Row) → AreWords (later_parts read break rs)
-later_words read h break [] = tt
-later_words read h break (r ∷ rs) =
-    all_both IsWord (parts Text break) (read r ++ later_parts read r.ending rs) (text_words break)
-    (all_both IsWord (read r) (later_parts read r.ending rs) (h r) (later_words read h r.ending rs))
+abbrev Is : Part → Type 0
+Is p = is_gap_part p ≡ false
 
-para_words : (rs : List Row) → AreWords (para_parts rs)
-para_words [] = tt
-para_words (r ∷ rs) =
-    all_both IsWord (line_parts r.items) (later_parts later_line r.ending rs) (line_words r.items)
-    (later_words later_line (λ s. line_words (s.lead ++ s.items)) r.ending rs)
+line_no_gaps : (xs : List Item) → AreNoGaps (line_parts xs)
+line_no_gaps xs = words_no_gaps (line_parts xs) (line_words xs)
+
+text_no_gaps : (xs : List Item) → AreNoGaps (parts Text xs)
+text_no_gaps xs = words_no_gaps (parts Text xs) (text_words xs)
+
+later_no_gaps : (read : Row → List Part) → ((r : Row) → AreNoGaps (read r)) → (break : List Item) (rs : List Row) → AreNoGaps (later_parts read break rs)
+later_no_gaps read h break [] = tt
+later_no_gaps read h break (r ∷ rs) =
+    all_both Is (parts Text break) (read r ++ later_parts read r.ending rs) (text_no_gaps break)
+    (all_both Is (read r) (later_parts read r.ending rs) (h r) (later_no_gaps read h r.ending rs))
+
+para_no_gaps : (rs : List Row) → AreNoGaps (para_parts rs)
+para_no_gaps [] = tt
+para_no_gaps (r ∷ rs) =
+    all_both Is (line_parts r.items) (later_parts later_line r.ending rs) (line_no_gaps r.items)
+    (later_no_gaps later_line (λ s. line_no_gaps (s.lead ++ s.items)) r.ending rs)
 
 pub para_tight : (rs : List Row) → AreSolid (with_separators (para rs) rs)
 unfolding para
-para_tight rs = with_separators_solid (para rs) rs (words_none (para_parts rs) (para_words rs)) refl
+para_tight rs = with_separators_solid (para rs) rs (none_among (para_parts rs) (para_no_gaps rs)) refl
 
-later_pre_words : (r : Row) → AreWords (later_pre r)
-later_pre_words r = all_both IsWord (parts Text r.lead) (node (skipped r) ∷ line_parts (drop 1 r.items)) (text_words r.lead) (refl, line_words (drop 1 r.items))
+later_pre_no_gaps : (r : Row) → AreNoGaps (later_pre r)
+later_pre_no_gaps r =
+    all_both Is (parts Text r.lead) (node (skipped r) ∷ line_parts (drop 1 r.items)) (text_no_gaps r.lead) (refl, line_no_gaps (drop 1 r.items))
 
-pre_words : (rs : List Row) → AreWords (pre_parts rs)
-pre_words [] = tt
-pre_words (r ∷ rs) =
-    all_both IsWord (line_parts (drop 1 r.items)) (later_parts later_pre r.ending rs) (line_words (drop 1 r.items))
-    (later_words later_pre later_pre_words r.ending rs)
+pre_no_gaps : (rs : List Row) → AreNoGaps (pre_parts rs)
+pre_no_gaps [] = tt
+pre_no_gaps (r ∷ rs) =
+    all_both Is (line_parts (drop 1 r.items)) (later_parts later_pre r.ending rs) (line_no_gaps (drop 1 r.items))
+    (later_no_gaps later_pre later_pre_no_gaps r.ending rs)
 
 pub pre_tight : (rs : List Row) → AreSolid (with_separators (pre rs) rs)
 unfolding pre
-pre_tight rs = with_separators_solid (pre rs) rs (words_none (pre_parts rs) (pre_words rs)) refl
+pre_tight rs = with_separators_solid (pre rs) rs (none_among (pre_parts rs) (pre_no_gaps rs)) refl
 
 pub rule_tight : (r : Row) → AreSolid (with_separators (rule r.items) (r ∷ []))
 unfolding rule
@@ -63,7 +73,7 @@ rule_tight r = with_separators_solid (rule r.items) (r ∷ []) tt refl
 
 pub heading_tight : (r : Row) → AreSolid (with_separators (heading r.items) (r ∷ []))
 unfolding heading line_trees
-heading_tight r = with_separators_solid (heading r.items) (r ∷ []) (words_none (line_parts (inside r.items)) (line_words (inside r.items))) refl
+heading_tight r = with_separators_solid (heading r.items) (r ∷ []) (none_among (line_parts (inside r.items)) (line_no_gaps (inside r.items))) refl
 
 -- ---- items
 

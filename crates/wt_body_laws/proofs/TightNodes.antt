@@ -10,7 +10,7 @@ use Rattle.wt_inline.specs.ItemTree.{Head, ItemTree, ItemTrees, inner, forest}
 use Rattle.wt_inline.specs.Parts.{Part, loose, node, parts, children}
 use Rattle.wt_context.specs.Line.{line_parts}
 use Rattle.wt_body.specs.Stretches.{Stretch, gap, block, is_gap, stretches_parts, front_len, front_gaps, past_front, block_len, before_end, end_gaps, tree_block, node_of, opened_by, enclosed}
-use Rattle.wt_body_laws.specs.Roles.{Role, outer, lines, list, item, rows, row, cell, separator, other, role, role_of, is_separator}
+use Rattle.wt_body_laws.specs.Roles.{Role, outer, lines, list, item, rows, row, cell, separator, skipped, other, role, role_of, is_separator}
 use Rattle.wt_body_laws.specs.Ends.{separators, first_is, last_is, BeginsWithOther, EndsWithOther, IsTightBy, IsTight, AreTight}
 use Rattle.wt_body_laws.proofs.Alls.{all_both, all_taken, all_dropped}
 use Rattle.wt_body_laws.proofs.LineWords.{whole_role, line_words}
@@ -95,6 +95,7 @@ asks_end rows = false
 asks_end row = true
 asks_end cell = true
 asks_end separator = false
+asks_end skipped = false
 asks_end other = false
 
 abbrev pub asks_both : Role → Bool
@@ -106,6 +107,7 @@ asks_both rows = true
 asks_both row = true
 asks_both cell = false
 asks_both separator = false
+asks_both skipped = false
 asks_both other = false
 
 by_end : (r : Role) (ts : ItemTrees) (inside : Type 0) → asks_end r ≡ true → EndsWithOther ts → inside → IsTightBy r ts inside
@@ -117,6 +119,7 @@ by_end lines ts inside e l t = cc
 by_end list ts inside e l t = cc
 by_end rows ts inside e l t = cc
 by_end separator ts inside e l t = cc
+by_end skipped ts inside e l t = cc
 by_end other ts inside e l t = cc
 
 by_both : (r : Role) (ts : ItemTrees) (inside : Type 0) → asks_both r ≡ true → BeginsWithOther ts → EndsWithOther ts → inside → IsTightBy r ts inside
@@ -128,6 +131,7 @@ by_both cell ts inside e f l t = cc
 by_both outer ts inside e f l t = cc
 by_both lines ts inside e f l t = cc
 by_both separator ts inside e f l t = cc
+by_both skipped ts inside e f l t = cc
 by_both other ts inside e f l t = cc
 
 not_separator : (r : Role) → (asks_end r || asks_both r) ≡ true → is_separator r ≡ false
@@ -139,6 +143,7 @@ not_separator rows e = refl
 not_separator outer e = refl
 not_separator lines e = refl
 not_separator separator e = cc
+not_separator skipped e = refl
 not_separator other e = refl
 
 or_last : (a b : Bool) → b ≡ true → (a || b) ≡ true

@@ -3,7 +3,7 @@
 use Rattle.std.specs.Prelude.{◌≡◌, Bool, false, List, [], ◌∷◌}
 use Rattle.std.specs.List.{AllByRecursion}
 use Rattle.wt_inline.specs.ItemTree.{ItemTree, inner, ItemTrees, nothing, further}
-use Rattle.wt_body_laws.specs.Roles.{Role, outer, lines, list, item, rows, row, cell, separator, other, role, role_of, is_separator}
+use Rattle.wt_body_laws.specs.Roles.{Role, outer, lines, list, item, rows, row, cell, separator, skipped, other, role, role_of, is_separator}
 
 -- of each child whether it is a separator
 abbrev pub separators : ItemTrees → List Bool
@@ -39,6 +39,7 @@ IsTightBy rows ts inside = BeginsWithOther ts × EndsWithOther ts × inside
 IsTightBy row ts inside = EndsWithOther ts × inside
 IsTightBy cell ts inside = EndsWithOther ts × inside
 IsTightBy separator ts inside = Unit {0}
+IsTightBy skipped ts inside = Unit {0}
 IsTightBy other ts inside = Unit {0}
 
 -- No list and no body of a table begins or ends with a separator, no item, row or cell ends with one, and none stands in a

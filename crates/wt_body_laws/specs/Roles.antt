@@ -15,6 +15,7 @@ pub data Role : Type 0 where
   row : Role
   cell : Role
   separator : Role
+  skipped : Role
   other : Role
 
 abbrev pub role : Kind → Role
@@ -48,7 +49,7 @@ role kind.Island = other
 role kind.Switch = other
 role kind.Comment = other
 role kind.Include = other
-role kind.Skip = other
+role kind.Skip = skipped
 role kind.Sep = separator
 role kind.Text = other
 role kind.Group = other
@@ -69,6 +70,7 @@ is_separator rows = false
 is_separator row = false
 is_separator cell = false
 is_separator separator = true
+is_separator skipped = false
 is_separator other = false
 
 -- a list or an item
@@ -81,4 +83,31 @@ is_of_list rows = false
 is_of_list row = false
 is_of_list cell = false
 is_of_list separator = false
+is_of_list skipped = false
 is_of_list other = false
+
+-- a cell or a caption
+abbrev pub is_cell : Role → Bool
+is_cell outer = false
+is_cell lines = false
+is_cell list = false
+is_cell item = false
+is_cell rows = false
+is_cell row = false
+is_cell cell = true
+is_cell separator = false
+is_cell skipped = false
+is_cell other = false
+
+-- a space that is read over
+abbrev pub is_skipped : Role → Bool
+is_skipped outer = false
+is_skipped lines = false
+is_skipped list = false
+is_skipped item = false
+is_skipped rows = false
+is_skipped row = false
+is_skipped cell = false
+is_skipped separator = false
+is_skipped skipped = true
+is_skipped other = false
