@@ -7,3 +7,5 @@ pub mod TightBlocks
 pub mod TightBody
 pub mod Told
 pub mod Named
+pub mod CellNames
+pub mod PreSpaces

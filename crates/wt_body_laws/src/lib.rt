@@ -1,18 +1,23 @@
 //! Laws of bodies, lists and tables (`wt_body`), in other words than their definitions.
 #![tactic(auto)]
 
-ghost use Rattle.std.specs.Prelude.{◌≡◌, List, [], All};
-ghost use Rattle.wt_span.specs.Items.{Item};
+ghost use Rattle.std.specs.Prelude.{◌≡◌, Bool, List, [], ◌∷◌, All, codes, length, map, replicate, take};
+ghost use Rattle.wt_span.specs.Bytes.{begins};
+ghost use Rattle.wt_span.specs.Items.{Item, sign};
 ghost use Rattle.wt_blocks.specs.Nesting.{IsPrefix, numbered};
 ghost use Rattle.wt_blocks.specs.Starts.{begun};
+ghost use Rattle.wt_tables.specs.Cells.{cells_from};
 ghost use Rattle.wt_inline.specs.ItemTree.{forest};
 ghost use Rattle.wt_inline.specs.Parts.{children};
 ghost use Rattle.wt_body.specs.Rows.{Row};
 ghost use Rattle.wt_body.specs.Stretches.{stretches_parts};
 ghost use Rattle.wt_body.specs.Lists.{prefixes, lists};
+ghost use Rattle.wt_body.specs.Tables.{Reading, cell_stretches};
+ghost use Rattle.wt_body.specs.Texts.{pre};
 ghost use Rattle.wt_body.specs.Body.{meaning};
 ghost use Rattle.wt_body_laws.specs.Ends.{IsTight};
 ghost use Rattle.wt_body_laws.specs.ListNodes.{list_nodes_of_all, AreNamed};
+ghost use Rattle.wt_body_laws.specs.Members.{cells_among, cell_name, skipped_among, children_of, opening_of};
 
 /// No list and no body of a table begins or ends with a separator, no item, row or cell ends with
 /// one, and none stands in a paragraph, a heading or preformatted text.
@@ -28,4 +33,19 @@ pub fn separators_stand_between()
 pub fn lists_are_named_by_signs()
     ensures { (rs : List Row) → All IsPrefix (prefixes rs) → AreNamed (begun 0 [] (numbered 0 (prefixes rs)))
         (list_nodes_of_all 0 (forest (children (stretches_parts (lists rs))))) }
+{}
+
+/// The cells of a line, whatever follows them, are as many as the line is cut into, and all of one
+/// kind: `caption` of a caption, else `th` where the line begins with `!`, and else `td`.
+pub fn cells_are_named_by_their_line()
+    ensures { (read : Reading) (caption : Bool) (r : Row) (rs : List Row)
+        → cells_among (forest (children (stretches_parts (cell_stretches read caption (r ∷ rs)))))
+        ≡ replicate (length (cells_from caption r.items)) (cell_name caption (begins (codes "!") (map sign r.items))) }
+{}
+
+/// The first item of each line of preformatted text, which is a space, is no text of it: that of the
+/// first line is the open delimiter, and that of each later line a leaf by itself that is skipped.
+pub fn spaces_are_skipped()
+    ensures first { (r : Row) (rs : List Row) → opening_of (pre (r ∷ rs)) ≡ take 1 r.items }
+    ensures later { (r : Row) (rs : List Row) → skipped_among (children_of (pre (r ∷ rs))) ≡ map (λ (s : Row). take 1 s.items) rs }
 {}
