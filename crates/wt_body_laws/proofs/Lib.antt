@@ -9,3 +9,4 @@ pub mod Told
 pub mod Named
 pub mod CellNames
 pub mod PreSpaces
+pub mod TermEnds

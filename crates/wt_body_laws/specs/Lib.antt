@@ -2,3 +2,4 @@ pub mod Roles
 pub mod Ends
 pub mod ListNodes
 pub mod Members
+pub mod Terms

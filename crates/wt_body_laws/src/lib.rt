@@ -1,23 +1,27 @@
 //! Laws of bodies, lists and tables (`wt_body`), in other words than their definitions.
 #![tactic(auto)]
 
-ghost use Rattle.std.specs.Prelude.{◌≡◌, Bool, List, [], ◌∷◌, All, codes, length, map, replicate, take};
+ghost use Rattle.std.specs.Prelude.{◌≡◌, ◌==◌, ℕ, Bool, false, Some, None, List, [], ◌∷◌, All, codes, length, map, replicate, take};
+ghost use Rattle.std.specs.List.{AllByRecursion};
 ghost use Rattle.wt_span.specs.Bytes.{begins};
 ghost use Rattle.wt_span.specs.Items.{Item, sign};
 ghost use Rattle.wt_blocks.specs.Nesting.{IsPrefix, numbered};
 ghost use Rattle.wt_blocks.specs.Starts.{begun};
 ghost use Rattle.wt_tables.specs.Cells.{cells_from};
+ghost use Rattle.wt_tiles.specs.Contexts.{in_line};
+ghost use Rattle.wt_tiles.specs.Tiles.{tiles};
 ghost use Rattle.wt_inline.specs.ItemTree.{forest};
 ghost use Rattle.wt_inline.specs.Parts.{children};
 ghost use Rattle.wt_body.specs.Rows.{Row};
 ghost use Rattle.wt_body.specs.Stretches.{stretches_parts};
-ghost use Rattle.wt_body.specs.Lists.{prefixes, lists};
+ghost use Rattle.wt_body.specs.Lists.{term_len, prefixes, lists};
 ghost use Rattle.wt_body.specs.Tables.{Reading, cell_stretches};
 ghost use Rattle.wt_body.specs.Texts.{pre};
 ghost use Rattle.wt_body.specs.Body.{meaning};
 ghost use Rattle.wt_body_laws.specs.Ends.{IsTight};
 ghost use Rattle.wt_body_laws.specs.ListNodes.{list_nodes_of_all, AreNamed};
 ghost use Rattle.wt_body_laws.specs.Members.{cells_among, cell_name, skipped_among, children_of, opening_of};
+ghost use Rattle.wt_body_laws.specs.Terms.{HidesColons, IsFirstColon};
 
 /// No list and no body of a table begins or ends with a separator, no item, row or cell ends with
 /// one, and none stands in a paragraph, a heading or preformatted text.
@@ -48,4 +52,13 @@ pub fn cells_are_named_by_their_line()
 pub fn spaces_are_skipped()
     ensures first { (r : Row) (rs : List Row) → opening_of (pre (r ∷ rs)) ≡ take 1 r.items }
     ensures later { (r : Row) (rs : List Row) → skipped_among (children_of (pre (r ∷ rs))) ≡ map (λ (s : Row). take 1 s.items) rs }
+{}
+
+/// A term ends at the first `:` among the characters of its line: before it stand other characters,
+/// and tiles (links, tags, atoms, marks) with whatever colons in them. Where there is none among
+/// characters it doesn't end, and nor does anything behind another sign than `;`.
+pub fn terms_end_at_the_first_colon()
+    ensures first { (xs : List Item) (n : ℕ) → term_len 59 xs ≡ Some n → IsFirstColon n (tiles in_line xs) }
+    ensures none { (xs : List Item) → term_len 59 xs ≡ None → AllByRecursion HidesColons (tiles in_line xs) }
+    ensures others { (s : ℕ) (xs : List Item) → (s == 59) ≡ false → term_len s xs ≡ None }
 {}
