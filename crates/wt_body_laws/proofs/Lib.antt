@@ -10,3 +10,4 @@ pub mod Named
 pub mod CellNames
 pub mod PreSpaces
 pub mod TermEnds
+mod Cases
