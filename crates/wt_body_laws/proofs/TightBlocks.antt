@@ -16,20 +16,20 @@ use Rattle.wt_body.specs.Rows.{Row, first_lead, last_ending}
 use Rattle.wt_body.specs.Stretches.{Stretch, gap, block, tree_block, front_len, front_gaps, past_front, opened_by, enclosed}
 use Rattle.wt_body.specs.Texts.{with_separators, later_parts, later_line, para_parts, para, skipped, later_pre, pre_parts, pre, rule}
 use Rattle.wt_body.specs.Lists.{with_blanks, item_opening_len, term_len, item_kind, list_kind, term, item_by, line_item, begins_at, row_at, list_stretches, all_lists, prefixes, lists}
-use Rattle.wt_body_laws.specs.Roles.{role, role_of, is_separator}
+use Rattle.wt_body_laws.specs.Roles.{role, role_of, is_separator, is_between}
 use Rattle.wt_body_laws.specs.Ends.{IsTight}
 use Rattle.wt_body_laws.proofs.Alls.{all_both, all_taken, all_dropped}
 use Rattle.wt_body_laws.proofs.LineWords.{IsWord, AreWords, text_words, line_words}
-use Rattle.wt_body_laws.proofs.Children.{is_gap_part, AreNoGaps, words_no_gaps, none_among, children_last, words_last, words_tight, tight_children}
-use Rattle.wt_body_laws.proofs.TightNodes.{IsSolid, AreSolid, asks_end, asks_both, line_opened, row_opened, enclosed_solid}
+use Rattle.wt_body_laws.proofs.Children.{part_passes, AreNoGaps, words_no_gaps, none_among, children_last, words_last, words_tight, tight_children}
+use Rattle.wt_body_laws.proofs.TightNodes.{IsSolid, AreSolid, asks_end, asks_both, line_opened, item_opened, enclosed_solid}
 
 -- ---- lines
 
-pub with_separators_solid : (t : ItemTree) (rs : List Row) → IsTight t → is_separator (role_of t) ≡ false → AreSolid (with_separators t rs)
+pub with_separators_solid : (t : ItemTree) (rs : List Row) → IsTight t → is_between (role_of t) ≡ false → AreSolid (with_separators t rs)
 with_separators_solid t rs h s = (tt, ((h, s), (tt, tt)))
 
 abbrev Is : Part → Type 0
-Is p = is_gap_part p ≡ false
+Is p = part_passes is_separator p ≡ false
 
 line_no_gaps : (xs : List Item) → AreNoGaps (line_parts xs)
 line_no_gaps xs = words_no_gaps (line_parts xs) (line_words xs)
@@ -97,7 +97,7 @@ term_tight : (opening xs : List Item) → IsTight (term opening xs)
 term_tight opening xs =
     let ps : List Part = line_parts xs in
     let w = line_words xs in
-    (children_last ps ∙ words_last ps w, tight_children ps (words_tight ps w))
+    (children_last is_separator ps ∙ words_last ps w, tight_children ps (words_tight ps w))
 
 item_solid : (sign : ℕ) (n : Option ℕ) (opening xs : List Item) (ss : List Stretch) → AreSolid ss → AreSolid (item_by sign n opening xs ss)
 item_solid sign None opening xs ss h = line_opened (plain (item_kind sign)) opening xs ss (item_end sign) h
@@ -118,7 +118,7 @@ line_item_solid sign r ss h =
 item_enclosed : (sign : ℕ) (ss : List Stretch) → AreSolid ss → AreSolid (enclosed (plain (item_kind sign)) ss)
 item_enclosed sign ss h =
     all_both IsSolid (front_gaps ss) (opened_by (plain (item_kind sign)) [] (past_front ss)) (all_taken IsSolid (front_len ss) ss h)
-    (row_opened (plain (item_kind sign)) [] (past_front ss) (item_end sign) (all_dropped IsSolid (front_len ss) ss h))
+    (item_opened (plain (item_kind sign)) (past_front ss) (item_end sign) (all_dropped IsSolid (front_len ss) ss h))
 
 item_by_own : (own : Bool) (rs : List Row) (sign line : ℕ) (ss : List Stretch) → AreSolid ss
     → AreSolid (if own then enclosed (plain (item_kind sign)) ss else line_item sign (row_at rs line) ss)

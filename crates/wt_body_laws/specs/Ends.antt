@@ -3,12 +3,12 @@
 use Rattle.std.specs.Prelude.{◌≡◌, Bool, false, List, [], ◌∷◌}
 use Rattle.std.specs.List.{AllByRecursion}
 use Rattle.wt_inline.specs.ItemTree.{ItemTree, inner, ItemTrees, nothing, further}
-use Rattle.wt_body_laws.specs.Roles.{Role, outer, lines, list, item, rows, row, cell, separator, skipped, other, role, role_of, is_separator}
+use Rattle.wt_body_laws.specs.Roles.{Role, outer, lines, list, item, rows, row, cell, separator, skipped, other, role, role_of, is_separator, is_between}
 
--- of each child whether it is a separator
-abbrev pub separators : ItemTrees → List Bool
-separators nothing = []
-separators (further t ts) = is_separator (role_of t) ∷ separators ts
+-- of each child whether its role passes a test
+abbrev pub tested : (Role → Bool) → ItemTrees → List Bool
+tested test nothing = []
+tested test (further t ts) = test (role_of t) ∷ tested test ts
 
 -- the first and the last of several; of none that they are not
 abbrev pub first_is : List Bool → Bool
@@ -19,31 +19,36 @@ abbrev pub last_is : Bool → List Bool → Bool
 last_is b [] = b
 last_is b (c ∷ bs) = last_is c bs
 
-abbrev pub EndsWithOther : ItemTrees → Type 0
-EndsWithOther ts = last_is false (separators ts) ≡ false
+abbrev pub BeginsWithMember : ItemTrees → Type 0
+BeginsWithMember ts = first_is (tested is_between ts) ≡ false
 
-abbrev pub BeginsWithOther : ItemTrees → Type 0
-BeginsWithOther ts = first_is (separators ts) ≡ false
+abbrev pub EndsWithMember : ItemTrees → Type 0
+EndsWithMember ts = last_is false (tested is_between ts) ≡ false
+
+-- the last child is no separator
+abbrev pub EndsWithNone : ItemTrees → Type 0
+EndsWithNone ts = last_is false (tested is_separator ts) ≡ false
 
 -- no child is one
 abbrev pub HasNone : ItemTrees → Type 0
-HasNone ts = AllByRecursion (λ b. b ≡ false) (separators ts)
+HasNone ts = AllByRecursion (λ b. b ≡ false) (tested is_separator ts)
 
--- by what a node is, where its children are so: what stands on a line is not looked into
+-- By what a node is, where its children are so. What stands on a line is not looked into. (A mark may end the line of an item or a
+-- cell, and so the item or the cell.)
 abbrev pub IsTightBy : Role → ItemTrees → Type 0 → Type 0
 IsTightBy outer ts inside = inside
 IsTightBy lines ts inside = HasNone ts
-IsTightBy list ts inside = BeginsWithOther ts × EndsWithOther ts × inside
-IsTightBy item ts inside = EndsWithOther ts × inside
-IsTightBy rows ts inside = BeginsWithOther ts × EndsWithOther ts × inside
-IsTightBy row ts inside = EndsWithOther ts × inside
-IsTightBy cell ts inside = EndsWithOther ts × inside
+IsTightBy list ts inside = BeginsWithMember ts × EndsWithMember ts × inside
+IsTightBy item ts inside = EndsWithNone ts × inside
+IsTightBy rows ts inside = BeginsWithMember ts × EndsWithMember ts × inside
+IsTightBy row ts inside = EndsWithMember ts × inside
+IsTightBy cell ts inside = EndsWithNone ts × inside
 IsTightBy separator ts inside = Unit {0}
 IsTightBy skipped ts inside = Unit {0}
 IsTightBy other ts inside = Unit {0}
 
--- No list and no body of a table begins or ends with a separator, no item, row or cell ends with one, and none stands in a
--- paragraph, a heading or preformatted text.
+-- No list and no body of a table begins or ends with a separator or a mark, no row ends with one, no item or cell ends with a
+-- separator, and none stands in a paragraph, a heading or preformatted text.
 abbrev mutual
   pub IsTight : ItemTree → Type 0
   IsTight (inner h opening ts closing) = IsTightBy (role h.kind) ts (AreTight ts)

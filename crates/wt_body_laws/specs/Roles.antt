@@ -111,3 +111,16 @@ is_skipped cell = false
 is_skipped separator = false
 is_skipped skipped = true
 is_skipped other = false
+
+-- what stands between the members of a list or a table: separators, and marks
+abbrev pub is_between : Role → Bool
+is_between outer = false
+is_between lines = false
+is_between list = false
+is_between item = false
+is_between rows = false
+is_between row = false
+is_between cell = false
+is_between separator = true
+is_between skipped = false
+is_between other = true

@@ -23,9 +23,9 @@ ghost use Rattle.wt_body_laws.specs.ListNodes.{list_nodes_of_all, AreNamed};
 ghost use Rattle.wt_body_laws.specs.Members.{cells_among, cell_name, skipped_among, children_of, opening_of};
 ghost use Rattle.wt_body_laws.specs.Terms.{HidesColons, IsFirstColon};
 
-/// No list and no body of a table begins or ends with a separator, no item, row or cell ends with
-/// one, and none stands in a paragraph, a heading or preformatted text.
-
+/// No list and no body of a table begins or ends with a separator or a mark, no row of one ends with
+/// them, no item or cell ends with a separator, and none stands in a paragraph, a heading or
+/// preformatted text.
 pub fn separators_stand_between()
     ensures { (xs : List Item) → IsTight (meaning xs) }
 {}
