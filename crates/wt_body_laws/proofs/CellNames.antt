@@ -44,7 +44,7 @@ onto_some : (x : Item) (ps : List (List Item)) → (p : List Item) × (qs : List
 onto_some x [] = (x ∷ [], [], refl)
 onto_some x (p ∷ ps) = (x ∷ p, ps, refl)
 
-cuts_some : (by : Splits) (n : ℕ) (xs : List Item) → (p : List Item) × (qs : List (List Item)) × (line_cuts by n xs ≡ p ∷ qs)
+pub cuts_some : (by : Splits) (n : ℕ) (xs : List Item) → (p : List Item) × (qs : List (List Item)) × (line_cuts by n xs ≡ p ∷ qs)
 cuts_some by n [] = ([], [], refl)
 cuts_some by (suc n) (x ∷ xs) = onto_some x (line_cuts by n xs)
 cuts_some by zero (x ∷ xs) = choose (splits_at by (x ∷ xs))

@@ -11,3 +11,6 @@ pub mod CellNames
 pub mod PreSpaces
 pub mod TermEnds
 mod Cases
+pub mod HousedNodes
+pub mod HousedLists
+pub mod HousedBody

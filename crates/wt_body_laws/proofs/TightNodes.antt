@@ -10,7 +10,7 @@ use Rattle.wt_inline.specs.ItemTree.{Head, ItemTree, ItemTrees, inner, forest}
 use Rattle.wt_inline.specs.Parts.{Part, loose, node, parts, children}
 use Rattle.wt_context.specs.Line.{line_parts}
 use Rattle.wt_body.specs.Stretches.{Stretch, gap, block, is_gap, stretches_parts, front_len, front_gaps, past_front, block_len, before_end, end_gaps, tree_block, node_of, opened_by, enclosed}
-use Rattle.wt_body_laws.specs.Roles.{Role, outer, lines, list, item, rows, row, cell, separator, skipped, other, role, role_of, is_separator, is_between}
+use Rattle.wt_body_laws.specs.Roles.{Role, outer, lines, list, item, rows, table, row, cell, caption, separator, skipped, other, role, role_of, is_separator, is_between}
 use Rattle.wt_body_laws.specs.Ends.{tested, first_is, last_is, BeginsWithMember, EndsWithMember, EndsWithNone, IsTightBy, IsTight, AreTight}
 use Rattle.wt_body_laws.proofs.Alls.{all_both, all_taken, all_dropped}
 use Rattle.wt_body_laws.proofs.LineWords.{whole_role, line_words}
@@ -66,7 +66,9 @@ separating list e = refl
 separating item e = refl
 separating rows e = refl
 separating row e = refl
+separating table e = refl
 separating cell e = refl
+separating caption e = refl
 separating skipped e = refl
 separating other e = refl
 
@@ -116,7 +118,9 @@ asks_end list = false
 asks_end item = true
 asks_end rows = false
 asks_end row = false
+asks_end table = false
 asks_end cell = true
+asks_end caption = true
 asks_end separator = false
 asks_end skipped = false
 asks_end other = false
@@ -128,7 +132,9 @@ asks_both list = true
 asks_both item = false
 asks_both rows = true
 asks_both row = true
+asks_both table = false
 asks_both cell = false
+asks_both caption = false
 asks_both separator = false
 asks_both skipped = false
 asks_both other = false
@@ -136,7 +142,9 @@ asks_both other = false
 by_end : (r : Role) (ts : ItemTrees) (inside : Type 0) → asks_end r ≡ true → EndsWithNone ts → inside → IsTightBy r ts inside
 by_end item ts inside e l t = (l, t)
 by_end row ts inside e l t = cc
+by_end table ts inside e l t = cc
 by_end cell ts inside e l t = (l, t)
+by_end caption ts inside e l t = (l, t)
 by_end outer ts inside e l t = cc
 by_end lines ts inside e l t = cc
 by_end list ts inside e l t = cc
@@ -149,8 +157,10 @@ by_both : (r : Role) (ts : ItemTrees) (inside : Type 0) → asks_both r ≡ true
 by_both list ts inside e f l t = (f, l, t)
 by_both rows ts inside e f l t = (f, l, t)
 by_both row ts inside e f l t = (l, t)
+by_both table ts inside e f l t = cc
 by_both item ts inside e f l t = cc
 by_both cell ts inside e f l t = cc
+by_both caption ts inside e f l t = cc
 by_both outer ts inside e f l t = cc
 by_both lines ts inside e f l t = cc
 by_both separator ts inside e f l t = cc
@@ -160,7 +170,9 @@ by_both other ts inside e f l t = cc
 is_member : (r : Role) → (asks_end r || asks_both r) ≡ true → is_between r ≡ false
 is_member item e = refl
 is_member row e = refl
+is_member table e = refl
 is_member cell e = refl
+is_member caption e = refl
 is_member list e = refl
 is_member rows e = refl
 is_member outer e = refl

@@ -3,7 +3,7 @@
 use Rattle.std.specs.Prelude.{◌≡◌, Bool, false, List, [], ◌∷◌}
 use Rattle.std.specs.List.{AllByRecursion}
 use Rattle.wt_inline.specs.ItemTree.{ItemTree, inner, ItemTrees, nothing, further}
-use Rattle.wt_body_laws.specs.Roles.{Role, outer, lines, list, item, rows, row, cell, separator, skipped, other, role, role_of, is_separator, is_between}
+use Rattle.wt_body_laws.specs.Roles.{Role, outer, lines, list, item, rows, table, row, cell, caption, separator, skipped, other, role, role_of, is_separator, is_between}
 
 -- of each child whether its role passes a test
 abbrev pub tested : (Role → Bool) → ItemTrees → List Bool
@@ -42,7 +42,9 @@ IsTightBy list ts inside = BeginsWithMember ts × EndsWithMember ts × inside
 IsTightBy item ts inside = EndsWithNone ts × inside
 IsTightBy rows ts inside = BeginsWithMember ts × EndsWithMember ts × inside
 IsTightBy row ts inside = EndsWithMember ts × inside
+IsTightBy table ts inside = inside
 IsTightBy cell ts inside = EndsWithNone ts × inside
+IsTightBy caption ts inside = EndsWithNone ts × inside
 IsTightBy separator ts inside = Unit {0}
 IsTightBy skipped ts inside = Unit {0}
 IsTightBy other ts inside = Unit {0}

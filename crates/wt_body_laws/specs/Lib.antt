@@ -3,3 +3,4 @@ pub mod Ends
 pub mod ListNodes
 pub mod Members
 pub mod Terms
+pub mod Places

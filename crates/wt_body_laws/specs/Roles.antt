@@ -4,16 +4,18 @@ use Rattle.wt_tree.specs.declared.kind.Kind.{Kind}
 use Rattle.wt_tree.specs.declared.kind.Kind.TheVariants as kind
 use Rattle.wt_inline.specs.ItemTree.{Head, ItemTree, inner}
 
--- The body and a table have separators at their ends; lines are what stands in a paragraph, a heading or preformatted text; `other` is
--- what stands on a line, and marks.
+-- `outer` is the body, `lines` a paragraph, a heading, preformatted text or a rule, `rows` the body of a table, `skipped` a space that is
+-- read over, and `other` what stands on a line, and marks.
 pub data Role : Type 0 where
   outer : Role
   lines : Role
   list : Role
   item : Role
   rows : Role
+  table : Role
   row : Role
   cell : Role
+  caption : Role
   separator : Role
   skipped : Role
   other : Role
@@ -30,10 +32,10 @@ role kind.Li = item
 role kind.Dt = item
 role kind.Dd = item
 role kind.Pre = lines
-role kind.Table = outer
+role kind.Table = table
 role kind.Tbody = rows
 role kind.Tr = row
-role kind.Caption = cell
+role kind.Caption = caption
 role kind.Td = cell
 role kind.Th = cell
 role kind.Bold = other
@@ -68,7 +70,9 @@ is_separator list = false
 is_separator item = false
 is_separator rows = false
 is_separator row = false
+is_separator table = false
 is_separator cell = false
+is_separator caption = false
 is_separator separator = true
 is_separator skipped = false
 is_separator other = false
@@ -81,7 +85,9 @@ is_of_list list = true
 is_of_list item = true
 is_of_list rows = false
 is_of_list row = false
+is_of_list table = false
 is_of_list cell = false
+is_of_list caption = false
 is_of_list separator = false
 is_of_list skipped = false
 is_of_list other = false
@@ -94,7 +100,9 @@ is_cell list = false
 is_cell item = false
 is_cell rows = false
 is_cell row = false
+is_cell table = false
 is_cell cell = true
+is_cell caption = true
 is_cell separator = false
 is_cell skipped = false
 is_cell other = false
@@ -107,7 +115,9 @@ is_skipped list = false
 is_skipped item = false
 is_skipped rows = false
 is_skipped row = false
+is_skipped table = false
 is_skipped cell = false
+is_skipped caption = false
 is_skipped separator = false
 is_skipped skipped = true
 is_skipped other = false
@@ -120,7 +130,9 @@ is_between list = false
 is_between item = false
 is_between rows = false
 is_between row = false
+is_between table = false
 is_between cell = false
+is_between caption = false
 is_between separator = true
 is_between skipped = false
 is_between other = true

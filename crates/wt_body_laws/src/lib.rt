@@ -21,6 +21,7 @@ ghost use Rattle.wt_body.specs.Body.{meaning};
 ghost use Rattle.wt_body_laws.specs.Ends.{IsTight};
 ghost use Rattle.wt_body_laws.specs.ListNodes.{list_nodes_of_all, AreNamed};
 ghost use Rattle.wt_body_laws.specs.Members.{cells_among, cell_name, skipped_among, children_of, opening_of};
+ghost use Rattle.wt_body_laws.specs.Places.{IsHoused};
 ghost use Rattle.wt_body_laws.specs.Terms.{HidesColons, IsFirstColon};
 
 /// No list and no body of a table begins or ends with a separator or a mark, no row of one ends with
@@ -61,4 +62,12 @@ pub fn terms_end_at_the_first_colon()
     ensures first { (xs : List Item) (n : ℕ) → term_len 59 xs ≡ Some n → IsFirstColon n (tiles in_line xs) }
     ensures none { (xs : List Item) → term_len 59 xs ≡ None → AllByRecursion HidesColons (tiles in_line xs) }
     ensures others { (s : ℕ) (xs : List Item) → (s == 59) ≡ false → term_len s xs ≡ None }
+{}
+
+/// Each node of a list or a table stands where it belongs: items in lists alone, and lists in items,
+/// cells, captions and the body; rows in a body of a table, cells in rows, captions and such bodies in
+/// a table; and paragraphs, headings and the like, lists and tables in the body, cells and captions.
+/// Separators, marks and what stands on a line may stand beside them.
+pub fn members_stand_in_their_own()
+    ensures { (xs : List Item) → IsHoused (meaning xs) }
 {}
