@@ -108,3 +108,29 @@ header_and_cells : read (codes "{|" ++ ((10 ∷ []) ++ (codes "! x !! y" ++ ((10
     ∷ sep (10 ∷ []) ∷ []) (codes "|}") ∷ [])
 unfolding context_parts line_trees segments bare_url nested_tree placeholder target_size target link_head key_after key category_head ext_link_head bare_url_head name_end attribute_items pair_head switch_names switch_property switch_head with_styles chunks loose_segments children nowiki placeholder_typeof style_tree_of turn_at is_bold_outside_at effect_on bold_ends_later next since toggles_of toggle_at place_of attributes attribute_at assigned past_blanks value_at bare quoted name_at begins_any_case link_to link_text stays_in_link tiles shapes closed form_at link_or_url tag_tile switch_at switch_words bare_url_at kept_len is_dropped ext_link_at is_url_char scheme_len link_at link_in target_of bracket_turn tag_at closing_tag opening_tag tag_after raw_opening_tag raw_closing_tag raw_tag_after tag_name_of live_name is_island_name is_style_name is_phrase_name is_block_name is_list_name is_table_name is_include_name read_text is_good is_allowed is_forbidden has_signature is_step begins_with_step holds_step ends_with_step title_in cut_namespace whole_in namespace_named is_called name_of image namespace_prefix full_name_of is_utf8 chars_of lib.Utf8.encode meaning blocks rows kind_of_signs nested inner_len single_at bar_at cell_of table_attributes row_attributes para pre rule colon_at line_item lists cell_stretches row_stretches table_by
 header_and_cells = refl
+
+-- a term without a colon, and a definition without a term
+terms_alone : read (codes "; a" ++ ((10 ∷ []) ++ (codes ": b")))
+    ≡ body (opened kind.Dl [] (opened kind.Dt (codes "; ") (text (codes "a") ∷ []) ∷ sep (10 ∷ []) ∷ opened kind.Dd (codes ": ") (text (codes "b") ∷ []) ∷ []) ∷ [])
+unfolding context_parts line_trees segments bare_url nested_tree placeholder target_size target link_head key_after key category_head ext_link_head bare_url_head name_end attribute_items pair_head switch_names switch_property switch_head with_styles chunks loose_segments children nowiki placeholder_typeof style_tree_of turn_at is_bold_outside_at effect_on bold_ends_later next since toggles_of toggle_at place_of attributes attribute_at assigned past_blanks value_at bare quoted name_at begins_any_case link_to link_text stays_in_link tiles shapes closed form_at link_or_url tag_tile switch_at switch_words bare_url_at kept_len is_dropped ext_link_at is_url_char scheme_len link_at link_in target_of bracket_turn tag_at closing_tag opening_tag tag_after raw_opening_tag raw_closing_tag raw_tag_after tag_name_of live_name is_island_name is_style_name is_phrase_name is_block_name is_list_name is_table_name is_include_name read_text is_good is_allowed is_forbidden has_signature is_step begins_with_step holds_step ends_with_step title_in cut_namespace whole_in namespace_named is_called name_of image namespace_prefix full_name_of is_utf8 chars_of lib.Utf8.encode meaning blocks rows kind_of_signs nested inner_len single_at bar_at cell_of table_attributes row_attributes para pre rule colon_at line_item lists cell_stretches row_stretches table_by
+terms_alone = refl
+
+-- a colon in a link ends no term
+colon_in_a_link : read (codes "; [[a:b]] : c")
+    ≡ body (opened kind.Dl [] (opened kind.Dt (codes "; ") (inner (record { kind = kind.WikiLink; shown = []; attrs = (attr.Href, codes "./A:b") ∷ []; mw = None })
+    (page (codes "[[")) (forest (text (codes "a:b") ∷ [])) (page (codes "]]")) ∷ text (codes " ") ∷ []) ∷ opened kind.Dd (codes ": ") (text (codes "c") ∷ []) ∷ []) ∷ [])
+unfolding context_parts line_trees segments bare_url nested_tree placeholder target_size target link_head key_after key category_head ext_link_head bare_url_head name_end attribute_items pair_head switch_names switch_property switch_head with_styles chunks loose_segments children nowiki placeholder_typeof style_tree_of turn_at is_bold_outside_at effect_on bold_ends_later next since toggles_of toggle_at place_of attributes attribute_at assigned past_blanks value_at bare quoted name_at begins_any_case link_to link_text stays_in_link tiles shapes closed form_at link_or_url tag_tile switch_at switch_words bare_url_at kept_len is_dropped ext_link_at is_url_char scheme_len link_at link_in target_of bracket_turn tag_at closing_tag opening_tag tag_after raw_opening_tag raw_closing_tag raw_tag_after tag_name_of live_name is_island_name is_style_name is_phrase_name is_block_name is_list_name is_table_name is_include_name read_text is_good is_allowed is_forbidden has_signature is_step begins_with_step holds_step ends_with_step title_in cut_namespace whole_in namespace_named is_called name_of image namespace_prefix full_name_of is_utf8 chars_of lib.Utf8.encode meaning blocks rows kind_of_signs nested inner_len single_at bar_at cell_of table_attributes row_attributes para pre rule colon_at line_item lists cell_stretches row_stretches table_by
+colon_in_a_link = refl
+
+-- an item with nothing on its line begins with its line break, since that stands between its delimiter and the list in it
+empty_item : read (codes "*" ++ ((10 ∷ []) ++ (codes "** a")))
+    ≡ body (opened kind.Ul [] (opened kind.Li (codes "*") (sep (10 ∷ []) ∷ opened kind.Ul [] (opened kind.Li (codes "** ") (text (codes "a") ∷ []) ∷ []) ∷ []) ∷ []) ∷ [])
+unfolding context_parts line_trees segments bare_url nested_tree placeholder target_size target link_head key_after key category_head ext_link_head bare_url_head name_end attribute_items pair_head switch_names switch_property switch_head with_styles chunks loose_segments children nowiki placeholder_typeof style_tree_of turn_at is_bold_outside_at effect_on bold_ends_later next since toggles_of toggle_at place_of attributes attribute_at assigned past_blanks value_at bare quoted name_at begins_any_case link_to link_text stays_in_link tiles shapes closed form_at link_or_url tag_tile switch_at switch_words bare_url_at kept_len is_dropped ext_link_at is_url_char scheme_len link_at link_in target_of bracket_turn tag_at closing_tag opening_tag tag_after raw_opening_tag raw_closing_tag raw_tag_after tag_name_of live_name is_island_name is_style_name is_phrase_name is_block_name is_list_name is_table_name is_include_name read_text is_good is_allowed is_forbidden has_signature is_step begins_with_step holds_step ends_with_step title_in cut_namespace whole_in namespace_named is_called name_of image namespace_prefix full_name_of is_utf8 chars_of lib.Utf8.encode meaning blocks rows kind_of_signs nested inner_len single_at bar_at cell_of table_attributes row_attributes para pre rule colon_at line_item lists cell_stretches row_stretches table_by
+empty_item = refl
+
+-- a caption stands in the table, and a cell before the first row in one without a delimiter
+caption_and_row : read (codes "{|" ++ ((10 ∷ []) ++ (codes "|+ c" ++ ((10 ∷ []) ++ (codes "| a" ++ ((10 ∷ []) ++ (codes "|}")))))))
+    ≡ body (round kind.Table (codes "{|") (sep (10 ∷ []) ∷ opened kind.Caption (codes "|+ ") (text (codes "c") ∷ []) ∷ sep (10 ∷ [])
+    ∷ opened kind.Tbody [] (opened kind.Tr [] (opened kind.Td (codes "| ") (text (codes "a") ∷ []) ∷ []) ∷ []) ∷ sep (10 ∷ []) ∷ []) (codes "|}") ∷ [])
+unfolding context_parts line_trees segments bare_url nested_tree placeholder target_size target link_head key_after key category_head ext_link_head bare_url_head name_end attribute_items pair_head switch_names switch_property switch_head with_styles chunks loose_segments children nowiki placeholder_typeof style_tree_of turn_at is_bold_outside_at effect_on bold_ends_later next since toggles_of toggle_at place_of attributes attribute_at assigned past_blanks value_at bare quoted name_at begins_any_case link_to link_text stays_in_link tiles shapes closed form_at link_or_url tag_tile switch_at switch_words bare_url_at kept_len is_dropped ext_link_at is_url_char scheme_len link_at link_in target_of bracket_turn tag_at closing_tag opening_tag tag_after raw_opening_tag raw_closing_tag raw_tag_after tag_name_of live_name is_island_name is_style_name is_phrase_name is_block_name is_list_name is_table_name is_include_name read_text is_good is_allowed is_forbidden has_signature is_step begins_with_step holds_step ends_with_step title_in cut_namespace whole_in namespace_named is_called name_of image namespace_prefix full_name_of is_utf8 chars_of lib.Utf8.encode meaning blocks rows kind_of_signs nested inner_len single_at bar_at cell_of table_attributes row_attributes para pre rule colon_at line_item lists cell_stretches row_stretches table_by
+caption_and_row = refl

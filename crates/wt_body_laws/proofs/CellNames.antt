@@ -1,21 +1,19 @@
 -- The cells of a line are named by how the line begins.
-use Rattle.std.proofs.Common.{◌≡◌, ◌⊎◌, ℕ, zero, suc, Bool, true, false, List, [], ◌∷◌, ◌++◌, length, map, refl, sym, ap, ◌∙◌, inl, inr, subst}
+use Rattle.std.proofs.Common.{◌≡◌, ℕ, zero, suc, Bool, true, false, List, [], ◌∷◌, ◌++◌, length, map, refl, sym, ap, ◌∙◌, inl, inr, subst}
 use Rattle.std.specs.Prelude.{if◌then◌else◌, replicate, codes}
-use Rattle.wt_tree.specs.declared.kind.Kind.{Kind}
 use Rattle.wt_span.specs.Items.{Item, sign}
 use Rattle.wt_span.specs.Bytes.{begins}
 use Rattle.wt_tables.specs.declared.scan.Splits.{Splits}
 use Rattle.wt_tables.specs.Cells.{Cell, signs, splits_at, onto, parts as line_cuts, cell_of as cell_made, cells_in, header_by, sign_len, split_by, cells_from}
-use Rattle.wt_inline.specs.ItemTree.{ItemTree, inner, forest}
+use Rattle.wt_inline.specs.ItemTree.{inner, forest}
 use Rattle.wt_inline.specs.Parts.{children}
 use Rattle.wt_context.specs.Line.{line_parts}
 use Rattle.wt_body.specs.Rows.{Row}
 use Rattle.wt_body.specs.Stretches.{Stretch, gap, block, stretches_parts}
 use Rattle.wt_body.specs.Tables.{Reading, with_attrs, cell_kind, cell_by, cells_by, cell_stretches}
-use Rattle.wt_body_laws.specs.Roles.{role, role_of, is_cell}
+use Rattle.wt_body_laws.specs.Roles.{role, is_cell}
 use Rattle.wt_body_laws.specs.Members.{cell_of, cells_among, cell_name}
 use Rattle.wt_body_laws.proofs.Told.{TellsNone, told_in, children_told, in_both, behind_gap, of_opened}
-
 
 none_told : TellsNone cell_of
 none_told (inner h opening ts closing) (inl e) = ap (λ r. if is_cell r then h.kind ∷ [] else []) e

@@ -10,7 +10,6 @@ use Rattle.wt_inline.specs.ItemTree.{ItemTree, inner, forest}
 use Rattle.wt_inline.specs.Parts.{Part, loose, node, one_leaf, child, children}
 use Rattle.wt_body_laws.specs.Roles.{Role, separator, other, role_of, is_separator}
 use Rattle.wt_body_laws.specs.Ends.{IsTightBy, tested, first_is, last_is, HasNone, IsTight, AreTight}
-use Rattle.wt_body_laws.proofs.Alls.{all_both}
 use Rattle.wt_body_laws.proofs.LineWords.{IsWord, AreWords}
 
 -- ---- which are separators

@@ -1,6 +1,6 @@
 -- Tables hold captions and one kind of body, this rows, and these cells; and bodies and cells hold blocks alone.
-use Rattle.std.proofs.Common.{◌≡◌, ◌⊎◌, ℕ, zero, suc, Bool, true, false, List, [], ◌∷◌, ◌++◌, take, drop, map, refl, sym, subst, inl, inr}
-use Rattle.std.specs.List.{AllByRecursion, flat_map}
+use Rattle.std.proofs.Common.{◌≡◌, ℕ, zero, suc, Bool, true, false, List, [], ◌∷◌, ◌++◌, drop, map, refl, sym, subst, inl, inr}
+use Rattle.std.specs.List.{flat_map}
 use Rattle.wt_tree.specs.declared.kind.Kind.TheVariants as kind
 use Rattle.wt_span.specs.Items.{Item}
 use Rattle.wt_span.specs.Runs.{runs}
@@ -9,8 +9,8 @@ use Rattle.wt_lines.specs.declared.kind.LineKind.TheVariants as line
 use Rattle.wt_lines.specs.declared.kind.TheConstants.{MOST_TABLES}
 use Rattle.wt_tables.specs.Cells.{Cell, signs, parts as line_cuts, cell_of, cells_in as line_cells, header_by, sign_len, split_by, table_attributes, row_attributes}
 use Rattle.wt_tables.specs.Parts.{joined, RowOf, TableOf, table_of, units, unit_kind}
-use Rattle.wt_inline.specs.ItemTree.{ItemTree, plain, forest}
-use Rattle.wt_inline.specs.Parts.{Part, loose, node, children}
+use Rattle.wt_inline.specs.ItemTree.{ItemTree, plain}
+use Rattle.wt_inline.specs.Parts.{Part, loose, node}
 use Rattle.wt_headings.specs.Headings.{heading}
 use Rattle.wt_body.specs.Rows.{Row, kind_of, rows}
 use Rattle.wt_body.specs.Stretches.{Stretch, gap, block, stretches_parts, node_of}
@@ -89,10 +89,12 @@ line_cells_in : (read : Reading) → ReadsIn read → (caption : Bool) (rs : Lis
 unfolding cell_stretches
 line_cells_in read h caption [] = tt
 line_cells_in read h caption (r ∷ rs) =
-    let q = cuts_some (split_by caption (signs r.items)) (sign_len caption) r.items in
-    (tt, some_in caption (header_by caption (signs r.items)) (sign_len caption)
-    (line_cuts (split_by caption (signs r.items)) (sign_len caption) r.items) q.0 q.1 (gap r.ending ∷ read rs) q.2
-    (tt, moved outer (cell_role caption) (same_held caption) (read rs) (h rs)))
+    let q = cuts_some (split_by caption (signs r.items)) (sign_len caption) r.items in (
+      tt,
+      some_in caption (header_by caption (signs r.items)) (sign_len caption)
+          (line_cuts (split_by caption (signs r.items)) (sign_len caption) r.items) q.0 q.1 (gap r.ending ∷ read rs) q.2
+          (tt, moved outer (cell_role caption) (same_held caption) (read rs) (h rs)),
+    )
 
 lines_in : (read : Reading) → ReadsIn read → (caption : Bool) (gs : List (List Row)) → AreIn (home caption) (flat_map (cell_stretches read caption) gs)
 lines_in read h caption gs = all_flat (IsIn (home caption)) (cell_stretches read caption) (line_cells_in read h caption) gs
@@ -105,9 +107,11 @@ delimiter_in parent rs = (tt, of_gaps parent (drop (stray_len rs) rs))
 row_by_in : (rs : List Row) (cells : List Stretch) → AreIn of.row cells → AreIn of.rows (row_by rs cells)
 row_by_in [] cells h = enclosed_in of.rows of.row (plain kind.Tr) cells refl (inl refl) h
 row_by_in (r ∷ rs) cells h =
-    let all = r ∷ rs in
-    (tt, row_in of.rows of.row (with_attrs kind.Tr (row_attributes r.items)) (delimiter all) (behind_delimiter all ++ cells) refl (inl refl)
-    (all_both (IsIn of.row) (behind_delimiter all) cells (delimiter_in of.row all) h))
+    let all = r ∷ rs in (
+      tt,
+      row_in of.rows of.row (with_attrs kind.Tr (row_attributes r.items)) (delimiter all) (behind_delimiter all ++ cells) refl (inl refl)
+          (all_both (IsIn of.row) (behind_delimiter all) cells (delimiter_in of.row all) h),
+    )
 
 one_row_in : (read : Reading) → ReadsIn read → (r : RowOf Row) → AreIn of.rows (row_stretches read r)
 unfolding row_stretches

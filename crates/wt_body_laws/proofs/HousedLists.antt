@@ -1,17 +1,15 @@
 -- Lists hold items alone, and items hold lists alone beside what stands on their lines.
-use Rattle.std.proofs.Common.{◌≡◌, ◌⊎◌, ℕ, zero, suc, Bool, true, false, Option, Some, None, List, [], ◌∷◌, ◌++◌, take, drop, map, refl, inl, inr}
-use Rattle.std.specs.Prelude.{◌==◌, not, filter, if◌then◌else◌}
-use Rattle.std.specs.List.{AllByRecursion}
+use Rattle.std.proofs.Common.{◌≡◌, ℕ, zero, suc, Bool, true, false, Option, Some, None, List, [], ◌∷◌, take, drop, map, refl, inl, inr}
+use Rattle.std.specs.Prelude.{◌==◌, not, if◌then◌else◌}
 use Rattle.wt_tree.specs.declared.kind.Kind.TheVariants as kind
 use Rattle.wt_span.specs.Items.{Item}
 use Rattle.wt_span.specs.Runs.{runs}
 use Rattle.wt_blocks.specs.ListTree.{ListTree, node as list_node, ListTrees, none, more, forest as list_forest}
-use Rattle.wt_blocks.specs.Nesting.{ListLine, numbered, sign_of, one_list, one_item, inner as inner_lines, node_of as list_of, item_by as nested_item, items_by, list_by, lists as nested_lists, nested}
-use Rattle.wt_inline.specs.ItemTree.{ItemTree, plain, forest}
-use Rattle.wt_inline.specs.Parts.{children}
+use Rattle.wt_blocks.specs.Nesting.{ListLine, numbered, one_list, one_item, inner as inner_lines, node_of as list_of, item_by as nested_item, items_by, list_by, lists as nested_lists, nested}
+use Rattle.wt_inline.specs.ItemTree.{plain}
 use Rattle.wt_context.specs.Line.{line_parts}
 use Rattle.wt_body.specs.Rows.{Row}
-use Rattle.wt_body.specs.Stretches.{Stretch, gap, block, enclosed}
+use Rattle.wt_body.specs.Stretches.{Stretch, gap, enclosed}
 use Rattle.wt_body.specs.Lists.{with_blanks, item_opening_len, term_len, item_kind, list_kind, term, item_by, line_item, begins_at, row_at, list_stretches, all_lists, prefixes, lists}
 use Rattle.wt_body_laws.specs.Roles.{Role, outer, list, item, role}
 use Rattle.wt_body_laws.specs.Places.{holds, IsOneOf, IsHoused}

@@ -1,14 +1,14 @@
 -- Nodes over stretches hold what may stand in them.
-use Rattle.std.proofs.Common.{◌≡◌, ◌⊎◌, ℕ, zero, suc, Bool, true, false, List, [], ◌∷◌, ◌++◌, take, drop, map, refl, sym, ap, subst, inl, inr}
+use Rattle.std.proofs.Common.{◌≡◌, ℕ, zero, suc, List, [], ◌∷◌, ◌++◌, take, map, refl, sym, subst, inl, inr}
 use Rattle.std.specs.List.{AllByRecursion}
 use Rattle.wt_span.specs.Items.{Item, char, whole}
 use Rattle.wt_span.specs.Runs.{runs, AreRuns}
 use Rattle.wt_span.proofs.RunLaws.{runs_are}
 use Rattle.wt_inline.specs.declared.loose.Loose.TheVariants.{Text, Sep}
-use Rattle.wt_inline.specs.ItemTree.{Head, ItemTree, ItemTrees, inner, forest}
+use Rattle.wt_inline.specs.ItemTree.{Head, ItemTree, inner, forest}
 use Rattle.wt_inline.specs.Parts.{Part, loose, node, parts, one_leaf, child, children}
 use Rattle.wt_context.specs.Line.{line_parts}
-use Rattle.wt_body.specs.Stretches.{Stretch, gap, block, stretches_parts, front_len, front_gaps, past_front, block_len, before_end, end_gaps, tree_block, node_of, opened_by, enclosed}
+use Rattle.wt_body.specs.Stretches.{Stretch, gap, block, stretches_parts, front_len, front_gaps, past_front, block_len, before_end, end_gaps, opened_by, enclosed}
 use Rattle.wt_body_laws.specs.Roles.{Role, outer, lines, list, item, rows, table, row, cell, caption, separator, skipped, other, role, role_of}
 use Rattle.wt_body_laws.specs.Places.{holds, IsOneOf, MayStand, IsHousedBy, IsHoused, AreHoused}
 use Rattle.wt_body_laws.proofs.Alls.{all_both, all_taken, all_dropped}

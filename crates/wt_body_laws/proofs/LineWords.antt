@@ -1,7 +1,7 @@
 -- What stands on a line is characters of texts, and nodes that are neither blocks nor separators.
-use Rattle.std.proofs.Common.{◌≡◌, ℕ, zero, suc, ◌+◌, ◌-◌, Bool, true, false, Option, Some, None, List, [], ◌∷◌, ◌++◌, length, map, take, drop, refl}
+use Rattle.std.proofs.Common.{◌≡◌, ℕ, zero, suc, ◌+◌, ◌-◌, Bool, true, false, Option, Some, None, List, [], ◌∷◌, length, drop, refl}
 use Rattle.std.specs.Prelude.{◌==◌, if◌then◌else◌}
-use Rattle.std.specs.List.{AllByRecursion, flat_map}
+use Rattle.std.specs.List.{AllByRecursion}
 use Rattle.wt_span.specs.declared.form.Form.{Form}
 use Rattle.wt_span.specs.declared.form.Form.TheVariants as form
 use Rattle.wt_span.specs.Items.{Item, char, whole}
@@ -18,9 +18,7 @@ use Rattle.wt_tiles.specs.Tags.{tag_at}
 use Rattle.wt_tiles.specs.Tiles.{tiles}
 use Rattle.wt_quotes.specs.Styles.{style_tree_of}
 use Rattle.wt_quotes.specs.Forest.{Forest, bare, grown, forest_of}
-use Rattle.wt_inline.specs.declared.loose.Loose.{Loose}
 use Rattle.wt_inline.specs.declared.loose.Loose.TheVariants.{Text}
-use Rattle.wt_inline.specs.ItemTree.{ItemTree}
 use Rattle.wt_inline.specs.Parts.{Part, loose, node, part, parts, whole_tree, nowiki}
 use Rattle.wt_context.specs.Heads.{glyphs, placeholder, link_head, category_head, ext_link_head, bare_url_head, pair_by_name, pair_by, pair_head, switch_head}
 use Rattle.wt_context.specs.Segments.{Segment, one_stretch, loose_segment, loose_segments, segment_parts}
@@ -28,7 +26,7 @@ use Rattle.wt_context.specs.Chunks.{chunks}
 use Rattle.wt_context.specs.Styled.{style_kind, between, style_node, styled, with_styles}
 use Rattle.wt_context.specs.Nodes.{Reading, opening_of, inside_of, closing_of, trail_of, link_by, bare_url, nested_tree, tile_tree, segments_by, tile_segments, segments}
 use Rattle.wt_context.specs.Line.{within, context_parts, line_parts}
-use Rattle.wt_body_laws.specs.Roles.{other, role, role_of, head_of}
+use Rattle.wt_body_laws.specs.Roles.{other, role, role_of}
 use Rattle.wt_body_laws.proofs.Alls.{all_both, all_taken, all_dropped, all_mapped, all_flat}
 
 abbrev pub IsWord : Part → Type 0

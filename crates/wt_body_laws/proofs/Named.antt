@@ -1,31 +1,26 @@
 -- The lists and items in a tree are those of the nest of the lines, named by their signs.
-use Rattle.std.proofs.Common.{◌≡◌, ℕ, suc, ◌⊎◌, Bool, true, false, Option, Some, None, List, [], ◌∷◌, ◌++◌, length, take, drop, map, refl, sym, ap, ◌∙◌, subst, inl, inr, append-nil}
+use Rattle.std.proofs.Common.{◌≡◌, ℕ, suc, Bool, true, false, Option, Some, None, List, [], ◌∷◌, ◌++◌, length, take, drop, refl, sym, ap, ◌∙◌, subst, inl, inr, append-nil}
 use Rattle.std.specs.Prelude.{◌==◌, if◌then◌else◌, All, nat_lt}
-use Rattle.std.specs.List.{flat_map, AllByRecursion}
 use Rattle.std.proofs.lemmas.List.{take-append-drop}
-use Rattle.std.proofs.lemmas.Grind.{flat_map-append}
 use Rattle.wt_tree.specs.declared.kind.Kind.{Kind}
 use Rattle.wt_tree.specs.declared.kind.Kind.TheVariants as kind
-use Rattle.wt_span.specs.Items.{Item, char, whole}
-use Rattle.wt_span.specs.Runs.{runs, IsRun, AreRuns}
-use Rattle.wt_span.proofs.RunLaws.{runs_are}
+use Rattle.wt_span.specs.Items.{Item}
 use Rattle.wt_blocks.specs.ListTree.{ListTree, node as list_node, ListTrees, none, more, forest as list_forest}
 use Rattle.wt_blocks.specs.Nesting.{IsPrefix, numbered, nested}
 use Rattle.wt_blocks.specs.Starts.{Row as Start, rows as starts, rows_of_all as all_starts, begun}
 use Rattle.wt_blocks.proofs.Begun.{nested_begun}
-use Rattle.wt_inline.specs.declared.loose.Loose.TheVariants.{Text, Sep}
-use Rattle.wt_inline.specs.ItemTree.{Head, ItemTree, inner, ItemTrees, nothing, further, plain, forest}
-use Rattle.wt_inline.specs.Parts.{Part, loose, node, parts, one_leaf, child, children}
+use Rattle.wt_inline.specs.ItemTree.{Head, inner, ItemTrees, nothing, further, plain, forest}
+use Rattle.wt_inline.specs.Parts.{Part, children}
 use Rattle.wt_context.specs.Line.{line_parts}
 use Rattle.wt_body.specs.Rows.{Row}
-use Rattle.wt_body.specs.Stretches.{Stretch, gap, block, stretch_parts, stretches_parts, front_len, front_gaps, past_front, block_len, before_end, end_gaps, node_of, opened_by, enclosed}
+use Rattle.wt_body.specs.Stretches.{Stretch, gap, block, stretches_parts, front_len, front_gaps, past_front, block_len, before_end, end_gaps, opened_by, enclosed}
 use Rattle.wt_body.specs.Lists.{colon_at, with_blanks, item_opening_len, term_len, item_kind, list_kind, term, item_by, line_item, begins_at, row_at, list_stretches, all_lists, prefixes, lists}
-use Rattle.wt_body_laws.specs.Roles.{Role, other, role, role_of, is_of_list}
-use Rattle.wt_body_laws.specs.ListNodes.{list_nodes, list_nodes_of_all, list_name, item_name, name, IsNamed, AreNamed}
+use Rattle.wt_body_laws.specs.Roles.{role, is_of_list}
+use Rattle.wt_body_laws.specs.ListNodes.{list_nodes, list_nodes_of_all, item_name, IsNamed, AreNamed}
 use Rattle.wt_body_laws.specs.Members.{of_each}
 use Rattle.wt_body_laws.proofs.LineWords.{line_words}
 use Rattle.wt_body_laws.proofs.Told.{TellsNone, parts_told, told_in, children_told, words_told, in_both, behind_gap, gaps_told, behind_line, of_opened}
-use Rattle.wt_body_laws.proofs.EndGaps.{AreGaps, front_are_gaps, end_are_gaps}
+use Rattle.wt_body_laws.proofs.EndGaps.{front_are_gaps, end_are_gaps}
 
 abbrev Named : Type 0
 Named = List (ℕ × Kind)
@@ -128,10 +123,12 @@ item_named d sign line (Some n) opening xs ss e =
     let first : list_nodes d (term opening (take n xs)) ≡ (d, kind.Dt) ∷ [] =
     in_node d (plain kind.Dt) opening (line_parts (take n xs)) [] refl
     ∙ ap (λ ns. (d, kind.Dt) ∷ ns) (words_told (list_nodes (suc d)) (none_told (suc d)) (line_parts (take n xs)) (line_words (take n xs))) in
-    inr (term_sign sign xs n e,
-    ap (λ ns. ns ++ nodes_in d (opened_by (plain kind.Dd) (take colon rest) (block (line_parts (drop colon rest)) ∷ ss))) first
-    ∙ ap (λ ns. (d, kind.Dt) ∷ ns) (in_opened d (plain kind.Dd) (take colon rest) (block (line_parts (drop colon rest)) ∷ ss) refl
-    ∙ ap (λ ns. (d, kind.Dd) ∷ ns) (behind_line (list_nodes (suc d)) (none_told (suc d)) (drop colon rest) ss)))
+    inr (
+      term_sign sign xs n e,
+      ap (λ ns. ns ++ nodes_in d (opened_by (plain kind.Dd) (take colon rest) (block (line_parts (drop colon rest)) ∷ ss))) first
+          ∙ ap (λ ns. (d, kind.Dt) ∷ ns) (in_opened d (plain kind.Dd) (take colon rest) (block (line_parts (drop colon rest)) ∷ ss) refl
+          ∙ ap (λ ns. (d, kind.Dd) ∷ ns) (behind_line (list_nodes (suc d)) (none_told (suc d)) (drop colon rest) ss)),
+    )
 
 line_named : (d sign line : ℕ) (r : Row) (ss : List Stretch) → IsNamed (start d true sign line) (nodes_in (suc d) ss) (nodes_in d (line_item sign r ss))
 unfolding line_item

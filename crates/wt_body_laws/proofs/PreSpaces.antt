@@ -1,15 +1,15 @@
 -- The first space of each line of preformatted text is its open delimiter, or a skipped leaf.
-use Rattle.std.proofs.Common.{◌≡◌, ◌⊎◌, Bool, true, false, List, [], ◌∷◌, ◌++◌, map, take, drop, refl, sym, ap, ◌∙◌, inl, inr, append-nil}
+use Rattle.std.proofs.Common.{◌≡◌, List, [], ◌∷◌, ◌++◌, map, take, drop, refl, ap, ◌∙◌, inl, inr, append-nil}
 use Rattle.std.specs.Prelude.{if◌then◌else◌}
 use Rattle.std.proofs.lemmas.Grind.{flat_map-append}
 use Rattle.wt_span.specs.Items.{Item}
 use Rattle.wt_inline.specs.declared.loose.Loose.TheVariants.{Text}
-use Rattle.wt_inline.specs.ItemTree.{ItemTree, inner, tree_items}
+use Rattle.wt_inline.specs.ItemTree.{inner, tree_items}
 use Rattle.wt_inline.specs.Parts.{Part, node, parts}
 use Rattle.wt_context.specs.Line.{line_parts}
 use Rattle.wt_body.specs.Rows.{Row}
-use Rattle.wt_body.specs.Texts.{later_parts, skipped, later_pre, pre_opening, pre_parts, pre}
-use Rattle.wt_body_laws.specs.Roles.{role_of, is_skipped}
+use Rattle.wt_body.specs.Texts.{later_parts, skipped, later_pre, pre_parts, pre}
+use Rattle.wt_body_laws.specs.Roles.{is_skipped}
 use Rattle.wt_body_laws.specs.Members.{skipped_of, skipped_among, children_of, opening_of}
 use Rattle.wt_body_laws.proofs.LineWords.{AreWords, text_words, line_words}
 use Rattle.wt_body_laws.proofs.Told.{TellsNone, part_told, parts_told, children_told, words_told}

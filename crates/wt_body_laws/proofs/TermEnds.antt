@@ -1,5 +1,5 @@
 -- A term ends at the first `:` among the characters of its line.
-use Rattle.std.proofs.Common.{◌≡◌, ◌⊎◌, ◌<◌, ◌≤◌, ℕ, zero, suc, ◌+◌, Bool, true, false, Option, Some, None, List, [], ◌∷◌, ◌++◌, length, map, refl, sym, ap, ◌∙◌, inl, inr, arith, length-append, subst}
+use Rattle.std.proofs.Common.{◌≡◌, ◌⊎◌, ◌<◌, ◌≤◌, ℕ, zero, suc, ◌+◌, Bool, true, false, Option, Some, None, List, [], ◌∷◌, ◌++◌, length, refl, sym, ap, ◌∙◌, inl, inr, arith, length-append, subst}
 use Rattle.std.specs.Prelude.{◌==◌, not, nat_lt, replicate, if◌then◌else◌}
 use Rattle.std.specs.List.{AllByRecursion, flat_map, prefix_len}
 use Rattle.std.proofs.lemmas.Bool.{eqb-true}
@@ -54,14 +54,14 @@ scan (x ∷ xs) ss = by (sign x == 58) refl (scan xs ss)
     })
     by false e f = elim f [
       | inl c ↦ inl (record {
-          front = x ∷ c.front;
-          colon = c.colon;
-          back = c.back;
-          cut = ap (λ ys. x ∷ ys) c.cut;
-          is_colon = c.is_colon;
-          none = (e, c.none);
-          place = ap (λ b. if not b then 1 + rest else 0) e ∙ (let p = c.place in omega (arith, p));
-        })
+        front = x ∷ c.front;
+        colon = c.colon;
+        back = c.back;
+        cut = ap (λ ys. x ∷ ys) c.cut;
+        is_colon = c.is_colon;
+        none = (e, c.none);
+        place = ap (λ b. if not b then 1 + rest else 0) e ∙ (let p = c.place in omega (arith, p));
+      })
       | inr q ↦ inr ((e, q.0), ap (λ b. if not b then 1 + rest else 0) e ∙ (let p = q.1 in omega (arith, p)))
     ]
 
@@ -119,24 +119,24 @@ in_chars : (w : Shape) (xs : List Item) (ts : List Tile) → w.kind ≡ kind.Cha
     → Find ((w, xs) ∷ ts) (prefix_len goes_by (signs xs ++ seen ts))
 in_chars w xs ts k f = elim (scan xs (seen ts)) [
   | inl c ↦ inl (
-      record {
-        before = [];
-        shape = w;
-        front = c.front;
-        colon = c.colon;
-        back = c.back;
-        after = ts;
-        cut = ap (λ ys. (w, ys) ∷ ts) c.cut;
-        characters = k;
-        is_colon = c.is_colon;
-        none_in_front = c.none;
-        none_before = tt;
-        place = let p = c.place in omega (arith, p);
-      },
-      let p = c.place in
-      let e : length xs ≡ length c.front + length (c.colon ∷ c.back) = ap length c.cut ∙ length-append c.front (c.colon ∷ c.back) in
-      let l = length-append xs (joined ts) in omega (arith, p, e, l),
-    )
+    record {
+      before = [];
+      shape = w;
+      front = c.front;
+      colon = c.colon;
+      back = c.back;
+      after = ts;
+      cut = ap (λ ys. (w, ys) ∷ ts) c.cut;
+      characters = k;
+      is_colon = c.is_colon;
+      none_in_front = c.none;
+      none_before = tt;
+      place = let p = c.place in omega (arith, p);
+    },
+    let p = c.place in
+        let e : length xs ≡ length c.front + length (c.colon ∷ c.back) = ap length c.cut ∙ length-append c.front (c.colon ∷ c.back) in
+        let l = length-append xs (joined ts) in omega (arith, p, e, l),
+  )
   | inr q ↦ subst (Find ((w, xs) ∷ ts)) (sym q.1) (move (w, xs) ts (prefix_len goes_by (seen ts)) (λ e. q.0) f)
 ]
 

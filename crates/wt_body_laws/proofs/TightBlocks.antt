@@ -1,25 +1,24 @@
 -- Blocks are gaps and tight nodes: paragraphs, preformatted text, rules, headings, lists.
-use Rattle.std.proofs.Common.{◌≡◌, ℕ, Bool, true, false, Option, Some, None, List, [], ◌∷◌, ◌++◌, take, drop, refl, ap, ◌∙◌, subst}
+use Rattle.std.proofs.Common.{◌≡◌, ℕ, Bool, true, false, Option, Some, None, List, [], ◌∷◌, ◌++◌, take, drop, refl, ◌∙◌}
 use Rattle.std.specs.Prelude.{◌==◌, if◌then◌else◌}
-use Rattle.std.specs.List.{AllByRecursion}
 use Rattle.wt_tree.specs.declared.kind.Kind.TheVariants as kind
 use Rattle.wt_span.specs.Items.{Item}
 use Rattle.wt_blocks.specs.ListTree.{ListTree, node as list_node, ListTrees, none, more, forest as list_forest}
 use Rattle.wt_blocks.specs.Nesting.{nested}
 use Rattle.wt_blocks.specs.Headings.{inside}
 use Rattle.wt_inline.specs.declared.loose.Loose.TheVariants.{Text}
-use Rattle.wt_inline.specs.ItemTree.{ItemTree, plain, forest}
-use Rattle.wt_inline.specs.Parts.{Part, node, parts, children}
+use Rattle.wt_inline.specs.ItemTree.{ItemTree, plain}
+use Rattle.wt_inline.specs.Parts.{Part, node, parts}
 use Rattle.wt_context.specs.Line.{line_parts, line_trees}
 use Rattle.wt_headings.specs.Headings.{heading}
-use Rattle.wt_body.specs.Rows.{Row, first_lead, last_ending}
-use Rattle.wt_body.specs.Stretches.{Stretch, gap, block, tree_block, front_len, front_gaps, past_front, opened_by, enclosed}
+use Rattle.wt_body.specs.Rows.{Row}
+use Rattle.wt_body.specs.Stretches.{Stretch, gap, front_len, front_gaps, past_front, opened_by, enclosed}
 use Rattle.wt_body.specs.Texts.{with_separators, later_parts, later_line, para_parts, para, skipped, later_pre, pre_parts, pre, rule}
 use Rattle.wt_body.specs.Lists.{with_blanks, item_opening_len, term_len, item_kind, list_kind, term, item_by, line_item, begins_at, row_at, list_stretches, all_lists, prefixes, lists}
 use Rattle.wt_body_laws.specs.Roles.{role, role_of, is_separator, is_between}
 use Rattle.wt_body_laws.specs.Ends.{IsTight}
 use Rattle.wt_body_laws.proofs.Alls.{all_both, all_taken, all_dropped}
-use Rattle.wt_body_laws.proofs.LineWords.{IsWord, AreWords, text_words, line_words}
+use Rattle.wt_body_laws.proofs.LineWords.{text_words, line_words}
 use Rattle.wt_body_laws.proofs.Children.{part_passes, AreNoGaps, words_no_gaps, none_among, children_last, words_last, words_tight, tight_children}
 use Rattle.wt_body_laws.proofs.TightNodes.{IsSolid, AreSolid, asks_end, asks_both, line_opened, item_opened, enclosed_solid}
 

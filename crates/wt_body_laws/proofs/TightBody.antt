@@ -1,19 +1,18 @@
 -- Tables and bodies are gaps and tight nodes, and the meaning of items is tight.
-use Rattle.std.proofs.Common.{◌≡◌, ℕ, zero, suc, Bool, true, false, List, [], ◌∷◌, ◌++◌, take, drop, map, refl}
-use Rattle.std.specs.List.{AllByRecursion, flat_map}
+use Rattle.std.proofs.Common.{◌≡◌, ℕ, zero, suc, Bool, true, false, List, [], ◌∷◌, ◌++◌, drop, refl}
+use Rattle.std.specs.List.{flat_map}
 use Rattle.wt_tree.specs.declared.kind.Kind.TheVariants as kind
 use Rattle.wt_span.specs.Items.{Item}
 use Rattle.wt_span.specs.Runs.{runs}
 use Rattle.wt_lines.specs.declared.kind.LineKind.{LineKind}
 use Rattle.wt_lines.specs.declared.kind.LineKind.TheVariants as line
 use Rattle.wt_lines.specs.declared.kind.TheConstants.{MOST_TABLES}
-use Rattle.wt_tables.specs.Cells.{Cell, cells_from, table_attributes, row_attributes}
+use Rattle.wt_tables.specs.Cells.{Cell, cells_from, row_attributes}
 use Rattle.wt_tables.specs.Parts.{joined, RowOf, TableOf, table_of, units, unit_kind}
-use Rattle.wt_inline.specs.ItemTree.{plain, forest}
-use Rattle.wt_inline.specs.Parts.{children}
-use Rattle.wt_body.specs.Rows.{Row, row_items, kind_of, rows}
-use Rattle.wt_body.specs.Stretches.{Stretch, gap, stretches_parts, node_of, opened_by}
-use Rattle.wt_body.specs.Tables.{Reading, with_attrs, gaps, cell_kind, cell_by, cells_by, cell_stretches, stray_len, delimiter, behind_delimiter, first_items, row_by, row_stretches, rows_stretches, table_inside, table_by, last_of, without_last, table}
+use Rattle.wt_inline.specs.ItemTree.{plain}
+use Rattle.wt_body.specs.Rows.{Row, kind_of, rows}
+use Rattle.wt_body.specs.Stretches.{Stretch, gap, stretches_parts}
+use Rattle.wt_body.specs.Tables.{Reading, with_attrs, gaps, cell_kind, cell_by, cells_by, cell_stretches, stray_len, delimiter, behind_delimiter, row_by, row_stretches, rows_stretches, table_inside, table_by, last_of, without_last, table}
 use Rattle.wt_body.specs.Body.{same_block, rule_row, heading_row, block_stretches, run_stretches, blocks_by, within, blocks, meaning}
 use Rattle.wt_body_laws.specs.Roles.{role}
 use Rattle.wt_body_laws.specs.Ends.{IsTight}
@@ -61,9 +60,11 @@ delimiter_solid rs = (tt, of_gaps (drop (stray_len rs) rs))
 row_by_solid : (rs : List Row) (cells : List Stretch) → AreSolid cells → AreSolid (row_by rs cells)
 row_by_solid [] cells h = enclosed_solid (plain kind.Tr) cells refl h
 row_by_solid (r ∷ rs) cells h =
-    let all = r ∷ rs in
-    (tt, row_opened (with_attrs kind.Tr (row_attributes r.items)) (delimiter all) (behind_delimiter all ++ cells) refl
-    (all_both IsSolid (behind_delimiter all) cells (delimiter_solid all) h))
+    let all = r ∷ rs in (
+      tt,
+      row_opened (with_attrs kind.Tr (row_attributes r.items)) (delimiter all) (behind_delimiter all ++ cells) refl
+          (all_both IsSolid (behind_delimiter all) cells (delimiter_solid all) h),
+    )
 
 row_solid : (read : Reading) → ReadsSolid read → (r : RowOf Row) → AreSolid (row_stretches read r)
 unfolding row_stretches

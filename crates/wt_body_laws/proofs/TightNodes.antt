@@ -1,17 +1,16 @@
 -- Nodes over stretches are tight.
-use Rattle.std.proofs.Common.{◌≡◌, ℕ, zero, suc, ◌<◌, Bool, true, false, List, [], ◌∷◌, ◌++◌, take, drop, map, refl, sym, ap, ◌∙◌, subst, arith, inl, inr}
-use Rattle.std.specs.List.{AllByRecursion, flat_map, prefix_len}
-use Rattle.std.specs.Prelude.{◌+◌, ◌||◌}
+use Rattle.std.proofs.Common.{◌≡◌, ℕ, zero, suc, ◌<◌, Bool, true, false, List, [], ◌∷◌, ◌++◌, take, drop, refl, sym, ap, ◌∙◌, subst, arith, inl, inr}
+use Rattle.std.specs.List.{AllByRecursion}
+use Rattle.std.specs.Prelude.{◌||◌}
 use Rattle.std.proofs.lemmas.List.{map-append}
-use Rattle.wt_tree.specs.declared.kind.Kind.{Kind}
 use Rattle.wt_span.specs.Items.{Item, char, whole}
 use Rattle.wt_inline.specs.declared.loose.Loose.TheVariants.{Sep}
-use Rattle.wt_inline.specs.ItemTree.{Head, ItemTree, ItemTrees, inner, forest}
+use Rattle.wt_inline.specs.ItemTree.{Head, ItemTrees, inner, forest}
 use Rattle.wt_inline.specs.Parts.{Part, loose, node, parts, children}
 use Rattle.wt_context.specs.Line.{line_parts}
-use Rattle.wt_body.specs.Stretches.{Stretch, gap, block, is_gap, stretches_parts, front_len, front_gaps, past_front, block_len, before_end, end_gaps, tree_block, node_of, opened_by, enclosed}
+use Rattle.wt_body.specs.Stretches.{Stretch, gap, block, stretches_parts, front_len, front_gaps, past_front, block_len, before_end, tree_block, node_of, opened_by, enclosed}
 use Rattle.wt_body_laws.specs.Roles.{Role, outer, lines, list, item, rows, table, row, cell, caption, separator, skipped, other, role, role_of, is_separator, is_between}
-use Rattle.wt_body_laws.specs.Ends.{tested, first_is, last_is, BeginsWithMember, EndsWithMember, EndsWithNone, IsTightBy, IsTight, AreTight}
+use Rattle.wt_body_laws.specs.Ends.{first_is, last_is, BeginsWithMember, EndsWithMember, EndsWithNone, IsTightBy, IsTight, AreTight}
 use Rattle.wt_body_laws.proofs.Alls.{all_both, all_taken, all_dropped}
 use Rattle.wt_body_laws.proofs.LineWords.{whole_role, line_words}
 use Rattle.wt_body_laws.proofs.Children.{part_passes, parts_pass, last_append, children_last, children_first, words_last, IsTightPart, AreTightParts, other_tight, words_tight, tight_children}

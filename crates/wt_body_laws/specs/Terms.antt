@@ -1,5 +1,5 @@
 -- Where a term ends, by a cut of its line that exists.
-use Rattle.std.specs.Prelude.{◌≡◌, ◌+◌, ◌==◌, ℕ, false, List, [], ◌∷◌, ◌++◌, length}
+use Rattle.std.specs.Prelude.{◌≡◌, ◌+◌, ◌==◌, ℕ, false, List, ◌∷◌, ◌++◌, length}
 use Rattle.std.specs.List.{AllByRecursion}
 use Rattle.wt_span.specs.Items.{Item, sign}
 use Rattle.wt_tiles.specs.declared.shape.Shape.{Shape}
