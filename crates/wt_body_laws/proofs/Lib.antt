@@ -14,3 +14,4 @@ mod Cases
 pub mod HousedNodes
 pub mod HousedLists
 pub mod HousedBody
+pub mod Blanks

@@ -92,7 +92,7 @@ list_role sign = by (sign == 42) (sign == 35)
     by false true = refl
     by false false = refl
 
-item_role : (sign : ℕ) → is_of_list (role (item_kind sign)) ≡ true
+pub item_role : (sign : ℕ) → is_of_list (role (item_kind sign)) ≡ true
 item_role sign = by (sign == 59) (sign == 58)
   where
     by : (a b : Bool) → is_of_list (role (if a then kind.Dt else if b then kind.Dd else kind.Li)) ≡ true

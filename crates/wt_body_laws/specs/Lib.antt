@@ -4,3 +4,4 @@ pub mod ListNodes
 pub mod Members
 pub mod Terms
 pub mod Places
+pub mod Delimiters

@@ -7,20 +7,21 @@ ghost use Rattle.wt_span.specs.Bytes.{begins};
 ghost use Rattle.wt_span.specs.Items.{Item, sign};
 ghost use Rattle.wt_blocks.specs.Nesting.{IsPrefix, numbered};
 ghost use Rattle.wt_blocks.specs.Starts.{begun};
-ghost use Rattle.wt_tables.specs.Cells.{cells_from};
+ghost use Rattle.wt_tables.specs.Cells.{Cell, cells_from};
 ghost use Rattle.wt_tiles.specs.Contexts.{in_line};
 ghost use Rattle.wt_tiles.specs.Tiles.{tiles};
 ghost use Rattle.wt_inline.specs.ItemTree.{forest};
 ghost use Rattle.wt_inline.specs.Parts.{children};
 ghost use Rattle.wt_body.specs.Rows.{Row};
-ghost use Rattle.wt_body.specs.Stretches.{stretches_parts};
-ghost use Rattle.wt_body.specs.Lists.{term_len, prefixes, lists};
+ghost use Rattle.wt_body.specs.Stretches.{Stretch, stretches_parts};
+ghost use Rattle.wt_body.specs.Lists.{prefix_of, term_len, line_item, prefixes, lists};
 ghost use Rattle.wt_body.specs.Tables.{Reading, cell_stretches};
 ghost use Rattle.wt_body.specs.Texts.{pre};
 ghost use Rattle.wt_body.specs.Body.{meaning};
+ghost use Rattle.wt_body_laws.specs.Delimiters.{begins_blank, delimiter_of, AreDelimiters};
 ghost use Rattle.wt_body_laws.specs.Ends.{IsTight};
 ghost use Rattle.wt_body_laws.specs.ListNodes.{list_nodes_of_all, AreNamed};
-ghost use Rattle.wt_body_laws.specs.Members.{cells_among, cell_name, skipped_among, children_of, opening_of};
+ghost use Rattle.wt_body_laws.specs.Members.{of_each, cells_among, cell_name, skipped_among, children_of, opening_of};
 ghost use Rattle.wt_body_laws.specs.Places.{IsHoused};
 ghost use Rattle.wt_body_laws.specs.Terms.{HidesColons, IsFirstColon};
 
@@ -70,4 +71,14 @@ pub fn terms_end_at_the_first_colon()
 /// Separators, marks and what stands on a line may stand beside them.
 pub fn members_stand_in_their_own()
     ensures { (xs : List Item) → IsHoused (meaning xs) }
+{}
+
+/// The open delimiter of the item that a line begins is the line's prefix with all blanks behind it,
+/// and that of a definition behind a term one sign with all behind that, so that no text of theirs
+/// begins with a blank; nor does that of a cell.
+pub fn delimiters_take_the_blanks()
+    ensures items { (s : ℕ) (r : Row) (ss : List Stretch) → AreDelimiters (prefix_of r.items) r.items
+        (of_each delimiter_of (forest (children (stretches_parts (line_item s r ss))))) }
+    ensures cells { (caption : Bool) (xs : List Item)
+        → AllByRecursion (λ (c : Cell). begins_blank (map sign c.rest) ≡ false) (cells_from caption xs) }
 {}
