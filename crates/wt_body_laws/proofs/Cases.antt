@@ -28,13 +28,14 @@ use Rattle.wt_context.specs.Line.{context_parts, line_trees}
 use Rattle.wt_tree.specs.declared.kind.Kind.{Kind}
 use Rattle.wt_tree.specs.declared.kind.Kind.TheVariants as kind
 use Rattle.wt_tree.specs.declared.kind.AttrName.TheVariants as attr
-use Rattle.wt_span.specs.Items.{Item, char}
+use Rattle.wt_span.specs.declared.form.Form.TheVariants as form
+use Rattle.wt_span.specs.Items.{Item, char, whole}
 use Rattle.wt_lines.specs.Kinds.{kind_of_signs}
 use Rattle.wt_blocks.specs.Nesting.{nested}
 use Rattle.wt_tables.specs.Cells.{single_at, bar_at, cell_of, table_attributes, row_attributes}
 use Rattle.wt_tables.specs.Extents.{inner_len}
 use Rattle.wt_inline.specs.ItemTree.{ItemTree, plain, leaf, inner, forest}
-use Rattle.wt_inline.specs.Parts.{loose_leaf, children, nowiki}
+use Rattle.wt_inline.specs.Parts.{loose_leaf, form_leaf, children, nowiki}
 use Rattle.wt_inline.specs.declared.loose.Loose.TheVariants.{Sep}
 use Rattle.wt_body.specs.Rows.{rows}
 use Rattle.wt_body.specs.Texts.{para, pre, rule}
@@ -66,6 +67,9 @@ body ts = opened kind.Body [] ts
 
 abbrev read : List ℕ → ItemTree
 read bs = meaning (page bs)
+
+abbrev comment : Item
+comment = whole form.Comment None (codes "<!--c-->")
 
 -- an empty line between two lists stands in the body, and in neither list nor item
 lists_apart : read (codes "* a" ++ ((10 ∷ []) ++ ((10 ∷ []) ++ (codes "* b"))))
@@ -134,3 +138,10 @@ caption_and_row : read (codes "{|" ++ ((10 ∷ []) ++ (codes "|+ c" ++ ((10 ∷ 
     ∷ opened kind.Tbody [] (opened kind.Tr [] (opened kind.Td (codes "| ") (text (codes "a") ∷ []) ∷ []) ∷ []) ∷ sep (10 ∷ []) ∷ []) (codes "|}") ∷ [])
 unfolding context_parts line_trees segments bare_url nested_tree placeholder target_size target link_head key_after key category_head ext_link_head bare_url_head name_end attribute_items pair_head switch_names switch_property switch_head with_styles chunks loose_segments children nowiki placeholder_typeof style_tree_of turn_at is_bold_outside_at effect_on bold_ends_later next since toggles_of toggle_at place_of attributes attribute_at assigned past_blanks value_at bare quoted name_at begins_any_case link_to link_text stays_in_link tiles shapes closed form_at link_or_url tag_tile switch_at switch_words bare_url_at kept_len is_dropped ext_link_at is_url_char scheme_len link_at link_in target_of bracket_turn tag_at closing_tag opening_tag tag_after raw_opening_tag raw_closing_tag raw_tag_after tag_name_of live_name is_island_name is_style_name is_phrase_name is_block_name is_list_name is_table_name is_include_name read_text is_good is_allowed is_forbidden has_signature is_step begins_with_step holds_step ends_with_step title_in cut_namespace whole_in namespace_named is_called name_of image namespace_prefix full_name_of is_utf8 chars_of lib.Utf8.encode meaning blocks rows kind_of_signs nested inner_len single_at bar_at cell_of table_attributes row_attributes para pre rule colon_at line_item lists cell_stretches row_stretches table_by
 caption_and_row = refl
+
+-- a mark before the first sign of a list stands before the list, and one before a further item between the two
+mark_before_a_list : meaning (comment ∷ page (codes "* a" ++ (10 ∷ [])) ++ (comment ∷ page (codes "* b")))
+    ≡ body (form_leaf form.Comment None (codes "<!--c-->") ∷ opened kind.Ul [] (opened kind.Li (codes "* ") (text (codes "a") ∷ []) ∷ sep (10 ∷ [])
+    ∷ form_leaf form.Comment None (codes "<!--c-->") ∷ opened kind.Li (codes "* ") (text (codes "b") ∷ []) ∷ []) ∷ [])
+unfolding context_parts line_trees segments bare_url nested_tree placeholder target_size target link_head key_after key category_head ext_link_head bare_url_head name_end attribute_items pair_head switch_names switch_property switch_head with_styles chunks loose_segments children nowiki placeholder_typeof style_tree_of turn_at is_bold_outside_at effect_on bold_ends_later next since toggles_of toggle_at place_of attributes attribute_at assigned past_blanks value_at bare quoted name_at begins_any_case link_to link_text stays_in_link tiles shapes closed form_at link_or_url tag_tile switch_at switch_words bare_url_at kept_len is_dropped ext_link_at is_url_char scheme_len link_at link_in target_of bracket_turn tag_at closing_tag opening_tag tag_after raw_opening_tag raw_closing_tag raw_tag_after tag_name_of live_name is_island_name is_style_name is_phrase_name is_block_name is_list_name is_table_name is_include_name read_text is_good is_allowed is_forbidden has_signature is_step begins_with_step holds_step ends_with_step title_in cut_namespace whole_in namespace_named is_called name_of image namespace_prefix full_name_of is_utf8 chars_of lib.Utf8.encode meaning blocks rows kind_of_signs nested inner_len single_at bar_at cell_of table_attributes row_attributes para pre rule colon_at line_item lists cell_stretches row_stretches table_by
+mark_before_a_list = refl

@@ -1,5 +1,5 @@
--- Where separators stand: between the members of a list, a table or a body, and at no end of a node but the body's, a table's, and
--- the front of a row with a delimiter.
+-- Where separators stand: between the members of a list or a table, behind an open delimiter that nothing follows on its line, and at
+-- the ends of the body and of a table; and at no end of any other node.
 use Rattle.std.specs.Prelude.{◌≡◌, Bool, false, List, [], ◌∷◌}
 use Rattle.std.specs.List.{AllByRecursion}
 use Rattle.wt_inline.specs.ItemTree.{ItemTree, inner, ItemTrees, nothing, further}
