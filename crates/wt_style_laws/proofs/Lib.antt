@@ -1,0 +1,5 @@
+pub mod Cases
+pub mod Choice
+pub mod InnerStyle
+pub mod InnerSteps
+pub mod Widths

@@ -1,0 +1,2 @@
+pub mod InnerStyles
+pub mod RunToggles
