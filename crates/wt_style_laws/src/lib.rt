@@ -2,6 +2,7 @@
 #![tactic(auto)]
 
 ghost use Rattle.wt_style_laws.specs.InnerStyles.{InnerBeganLater};
+ghost use Rattle.wt_style_laws.specs.RunCounts.{CountsAgree};
 ghost use Rattle.wt_style_laws.specs.RunToggles.{TakesMost, OneIsChosen};
 
 use wt_quotes::Chunk;
@@ -23,4 +24,10 @@ pub fn delimiters_take_most(chunks: &[Chunk])
 /// class, if one is; else it stands behind a space. It is the first of these.
 pub fn exchanged_run_is_first_of_its_class(chunks: &[Chunk])
     ensures { OneIsChosen chunks.now }
+{}
+
+/// The toggles of bold, before a run is exchanged, are as many as the runs whose length switches it
+/// in the test of a line of odd numbers; likewise italic.
+pub fn toggles_are_counted_by_length(chunks: &[Chunk])
+    ensures { CountsAgree chunks.now }
 {}
