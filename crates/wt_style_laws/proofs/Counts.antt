@@ -69,12 +69,12 @@ counted bold chunks i (suc m) e =
     let c : Chunk = get_or chunks i d in
     let next : suc i ≡ i + 1 = omega arith in
     let here : cond {A = ℕ} (option_map_or (is_of bold) (toggle_at chunks i) false) 1 0 ≡ cond (switches bold (run_length (Some c))) 1 0 =
-        ap (λ (x : Bool). cond {A = ℕ} x 1 0) (switched bold i (run_length (slice_get chunks i))
-        ∙ ap (λ o. switches bold (run_length o)) (slice_get-get_or chunks i d l)) in
+    ap (λ (x : Bool). cond {A = ℕ} x 1 0) (switched bold i (run_length (slice_get chunks i))
+    ∙ ap (λ o. switches bold (run_length o)) (slice_get-get_or chunks i d l)) in
     let cut : count_by (switches bold) (run_lengths (drop i chunks)) ≡ count_by (switches bold) (run_lengths (c ∷ drop (suc i) chunks)) =
-        ap (λ cs. count_by (switches bold) (run_lengths cs)) (drop-cons chunks i d l) in
+    ap (λ cs. count_by (switches bold) (run_lengths cs)) (drop-cons chunks i d l) in
     let more : count_by (switches bold) (run_lengths (drop (suc i) chunks)) ≡ count_by (switches bold) (run_lengths (drop (i + 1) chunks)) =
-        ap (λ k. count_by (switches bold) (run_lengths (drop k chunks))) next in
+    ap (λ k. count_by (switches bold) (run_lengths (drop k chunks))) next in
     omega (
       arith,
       count_first (is_of bold) (toggle_at chunks i) (filter_map (toggle_at chunks) (range_with_len (i + 1) m)),

@@ -1,10 +1,10 @@
 -- Brackets that balance, as a grammar has them.
-use Rattle.std.specs.Prelude.{◌≡◌, ℕ, ◌+◌, ◌-◌, true, false, Some, List, ◌∷◌, length, drop, codes}
+use Rattle.std.specs.Prelude.{◌≡◌, ◌+◌, ◌-◌, true, false, List, ◌∷◌, length, drop, codes}
 use Rattle.wt_tiles.specs.declared.glyph.Glyph.{Glyph}
 use Rattle.wt_tiles.specs.declared.shape.Shape.{Shape}
 use Rattle.wt_tiles.specs.declared.shape.TileKind.TheVariants as kind
 use Rattle.wt_tiles.specs.Glyphs.{begins}
-use Rattle.wt_tiles.specs.Links.{leaf, link_in}
+use Rattle.wt_tiles.specs.Links.{leaf}
 
 -- From these items on to those stands nothing; or an item at which no bracket begins, and then what balances; or `[[`, what balances,
 -- `]]`, and again what balances.
