@@ -1,5 +1,6 @@
 -- Worked cases: which style is inside, what a run gives its delimiters, and which run is exchanged.
 use Rattle.std.proofs.Common.{◌≡◌, ℕ, Bool, true, false, Some, None, [], ◌∷◌, map, refl}
+use Rattle.std.specs.Prelude.{count_by}
 use Rattle.wt_quotes.specs.declared.chunk.Chunk.{Chunk}
 use Rattle.wt_quotes.specs.declared.chunk.Chunk.TheVariants.{Text, Run}
 use Rattle.wt_quotes.specs.declared.toggle.Toggle.{Toggle}
@@ -8,7 +9,9 @@ use Rattle.wt_quotes.specs.Runs.{place_of}
 use Rattle.wt_quotes.specs.Toggles.{toggle_at, toggles_of, toggles_by_length, width_of}
 use Rattle.wt_quotes.specs.Turns.{since, next, bold_ends_later, effect_on, is_bold_outside_at, turn_at}
 use Rattle.wt_quotes.specs.Styles.{style_tree_of}
+use Rattle.wt_tangled.specs.Toggles.{switches_bold, switches_italic}
 use Rattle.wt_style_laws.specs.InnerStyles.{is_bold_inside}
+use Rattle.wt_style_laws.specs.RunCounts.{run_lengths}
 
 -- a letter
 letter : Chunk
@@ -86,3 +89,17 @@ last_is_chosen : map (λ (t : Toggle). t.plain) (toggles_of (Run 2 ∷ letter �
     ≡ 0 ∷ 0 ∷ 0 ∷ 1 ∷ []
 unfolding toggles_of toggle_at letter
 last_is_chosen = refl
+
+-- runs of one to five: three switch bold, and two italic
+bold_counts : count_by switches_bold (run_lengths (Run 1 ∷ letter ∷ Run 2 ∷ letter ∷ Run 3 ∷ letter ∷ Run 4 ∷ letter ∷ Run 5 ∷ [])) ≡ 3
+unfolding letter
+bold_counts = refl
+
+italic_counts : count_by switches_italic (run_lengths (Run 1 ∷ letter ∷ Run 2 ∷ letter ∷ Run 3 ∷ letter ∷ Run 4 ∷ letter ∷ Run 5 ∷ [])) ≡ 2
+unfolding letter
+italic_counts = refl
+
+toggle_counts : map (λ (t : Toggle). t.bold) (toggles_by_length (Run 1 ∷ letter ∷ Run 2 ∷ letter ∷ Run 3 ∷ letter ∷ Run 4 ∷ letter ∷ Run 5 ∷ []))
+    ≡ false ∷ true ∷ true ∷ true ∷ []
+unfolding toggle_at letter
+toggle_counts = refl

@@ -1,6 +1,6 @@
 -- The toggles of a style are as many as the lengths that switch it.
-use Rattle.std.proofs.Common.{◌≡◌, ℕ, ◌+◌, ◌-◌, ◌<◌, ◌≤◌, zero, suc, Bool, true, false, cond, Option, Some, None, List, [], ◌∷◌, length, map, drop, get_or, refl, sym, ap, ◌∙◌, arith, subst}
-use Rattle.std.specs.Prelude.{◌==◌, ◌||◌, if◌then◌else◌, nat_lt, nat_le, count_by, slice_get}
+use Rattle.std.proofs.Common.{◌≡◌, ℕ, ◌+◌, ◌-◌, ◌<◌, ◌≤◌, zero, suc, Bool, true, false, cond, Option, Some, None, List, [], ◌∷◌, length, drop, get_or, refl, sym, ap, ◌∙◌, arith}
+use Rattle.std.specs.Prelude.{◌==◌, if◌then◌else◌, nat_lt, count_by, slice_get}
 use Rattle.std.specs.List.{filter_map, cons_option, range_with_len}
 use Rattle.std.specs.Option.{option_map_or}
 use Rattle.std.proofs.lemmas.Bool.Decides.{nat_tests, Decides-eqb, Decides-ltb, not_from_Decides}
@@ -13,7 +13,7 @@ use Rattle.wt_quotes.specs.declared.chunk.Chunk.TheVariants.{Run}
 use Rattle.wt_quotes.specs.declared.toggle.Toggle.{Toggle}
 use Rattle.wt_quotes.specs.Runs.{run_length}
 use Rattle.wt_quotes.specs.Turns.{is_of}
-use Rattle.wt_quotes.specs.Toggles.{toggle_of, toggle_at, toggles_by_length}
+use Rattle.wt_quotes.specs.Toggles.{toggle_of, toggle_at}
 use Rattle.wt_tangled.specs.Toggles.{switches_bold, switches_italic}
 use Rattle.wt_style_laws.specs.RunCounts.{run_lengths, CountsAgree}
 

@@ -16,7 +16,7 @@ link_inside : balanced 0 0 (text (codes "File:a|[[b]]]]c")) ≡ Some (text (code
 unfolding text bracket_turn
 link_inside = refl
 
--- two brackets and three: each pair is taken from the left
+-- where three `]` are left the first two of them close
 three_brackets : balanced 0 0 (text (codes "a[[b]]]]]")) ≡ Some (text (codes "]]]"))
 unfolding text bracket_turn
 three_brackets = refl
