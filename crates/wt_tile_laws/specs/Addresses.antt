@@ -1,5 +1,5 @@
 -- What external links, switches and categories tell, by the items that stand in them.
-use Rattle.std.specs.Prelude.{◌≡◌, ◌≢◌, ℕ, ◌+◌, ◌==◌, false, Option, Some, List, [], ◌∷◌, ◌++◌, All, codes, length, map}
+use Rattle.std.specs.Prelude.{true, ◌≡◌, ◌≢◌, ℕ, ◌+◌, ◌==◌, false, Option, Some, List, [], ◌∷◌, ◌++◌, All, codes, length, map}
 use Rattle.std.specs.Char.{to_ascii_lowercase}
 use Rattle.wt_tree.specs.declared.kind.AttrName.TheVariants as attr
 use Rattle.wt_span.specs.Bytes.{is_blank}
@@ -8,22 +8,24 @@ use Rattle.wt_tiles.specs.declared.shape.TileKind.TheVariants as kind
 use Rattle.wt_tiles.specs.Glyphs.{glyph_of, is_in, byte_glyphs}
 use Rattle.wt_tiles.specs.Links.{leaf}
 use Rattle.wt_tiles.specs.Tiles.{switch_at}
+use Rattle.wt_tiles.specs.Urls.{is_url_glyph}
 use Rattle.wt_context.specs.Heads.{text_of, visible_source, key, ext_link_head, bare_url_head, switch_property}
 
 -- ---- URLs
 
-abbrev pub HasNoBlank : List ℕ → Type 0
-HasNoBlank bs = All (λ b. is_blank b ≡ false) bs
+-- characters of URLs, and entities of such
+abbrev pub AreUrlItems : List Item → Type 0
+AreUrlItems xs = All (λ x. is_url_glyph (glyph_of x) ≡ true) xs
 
 -- nothing, or a blank and more
 abbrev pub BeginsBlank : List ℕ → Type 0
 BeginsBlank [] = Unit {0}
 BeginsBlank (b ∷ bs) = is_blank b ≢ false
 
--- An external link whose open delimiter is `[`, items without a blank, and blanks leads to the text of the items.
+-- An external link whose open delimiter is `[`, URL items, and blanks leads to the text of the items.
 abbrev pub LeadsToUrl : Option ℕ → List Item → List Item → Type 0
 LeadsToUrl o url blanks =
-    HasNoBlank (text_of url) → BeginsBlank (text_of blanks)
+    AreUrlItems url → BeginsBlank (text_of blanks)
     → (ext_link_head (char o 91 ∷ (url ++ blanks))).attrs ≡ (attr.Href, text_of url) ∷ []
 
 -- a URL of characters alone leads to them

@@ -22,7 +22,7 @@ pub fn media_end_balanced()
     ensures { (gs : List Glyph) (w : Shape) → link_in gs ≡ Some w → w.kind ≡ kind.Media → EndsBalanced gs w }
 {}
 
-/// An external link leads to what stands between its `[` and the blanks behind it.
+/// An external link leads to the URL between its `[` and the blanks behind it.
 pub fn links_lead_to_their_url()
     ensures { (o : Option ℕ) (url : List Item) (blanks : List Item) → LeadsToUrl o url blanks }
 {}
