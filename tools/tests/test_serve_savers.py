@@ -133,8 +133,12 @@ class Kills(ServingCase):
     def start_process(self, *before: str) -> "tuple[subprocess.Popen, int]":
         """`before`: words for Python before the server's own."""
         words = [str(TOOLS / "serve"), str(self.pages), "--port", "0", "--program", str(PROGRAM), "--quiet"]
+        # A shell that runs these tests in the background lets them ignore SIGINT, and the server would, too.
         process = subprocess.Popen(
-            [sys.executable, *before, *words], stdout=subprocess.PIPE, start_new_session=True
+            [sys.executable, *before, *words],
+            stdout=subprocess.PIPE,
+            start_new_session=True,
+            preexec_fn=lambda: signal.signal(signal.SIGINT, signal.SIG_DFL),
         )
         self.addCleanup(process.stdout.close)
         self.addCleanup(process.wait)
