@@ -1,0 +1,2 @@
+pub mod Switching
+mod SwitchCases
