@@ -1,2 +1,6 @@
 pub mod Switching
 mod SwitchCases
+pub mod Trimming
+mod TrimCases
+pub mod Tidy
+pub mod Fields

@@ -1,1 +1,3 @@
 pub mod Switches
+pub mod Told
+pub mod Trimming
