@@ -87,33 +87,46 @@ Listed ks ms = only_keys (is_among ks) ms ≡ true
 equal_key : (k l : List ℕ) → slice_cmp nat_cmp k l ≡ Equal → k ≡ l
 equal_key k l e = (bytes_eq-Decides k l).0 (sym (is_eq-slice_cmp k l) ∙ ap is_eq e)
 
+abbrev Rebuilt : List (List ℕ) → Type 0
+Rebuilt ks = (ms : Members) → Sorted ms → Listed ks ms → ms ≡ picked ks ms
+
+at_key : (k : List ℕ) (ks : List (List ℕ)) (d : Data) (ms : Members) → Rebuilt ks → Sorted (member k d ms) → Below k ks
+    → Listed (k ∷ ks) ms → slice_cmp nat_cmp k k ≡ Equal → member k d ms ≡ picked (k ∷ ks) (member k d ms)
+at_key k ks d ms again s o h e =
+    let rest : ms ≡ picked ks ms = again ms s.2 (drop_key k ks ms s.0 h) in
+    let passed : picked ks (member k d ms) ≡ picked ks ms = pass_member ks k d ms o in
+    let g : get_member k (member k d ms) ≡ Some d = rw e refl in
+    let found : picked (k ∷ ks) (member k d ms) ≡ member k d (picked ks ms) =
+    ap (λ x. pick k x (picked ks (member k d ms))) g ∙ ap (member k d) passed in
+    ap (member k d) rest ∙ sym found
+
+moved : (k l : List ℕ) (ks : List (List ℕ)) (d : Data) (ms : Members) → k ≡ l → member k d ms ≡ picked (k ∷ ks) (member k d ms)
+    → member l d ms ≡ picked (k ∷ ks) (member l d ms)
+moved k l ks d ms same h = subst (λ x. member x d ms ≡ picked (k ∷ ks) (member x d ms)) same h
+
+step : (k l : List ℕ) (ks : List (List ℕ)) (d : Data) (ms : Members) (r : Ordering) → slice_cmp nat_cmp k l ≡ r → Rebuilt ks
+    → Sorted (member l d ms) → Below k ks → Listed (k ∷ ks) (member l d ms) → member l d ms ≡ picked (k ∷ ks) (member l d ms)
+step k l ks d ms Less e again s o h =
+    let a : Above k (member l d ms) = (e, above_more k l ms e s.0) in
+    let g : get_member k (member l d ms) ≡ None = no_member k (member l d ms) a in
+    again (member l d ms) s (drop_key k ks (member l d ms) a h) ∙ sym (ap (λ x. pick k x (picked ks (member l d ms))) g)
+step k l ks d ms Equal e again s o h =
+    let same : k ≡ l = equal_key k l e in
+    let t = both (is_among (k ∷ ks) l) (only_keys (is_among (k ∷ ks)) ms) h in
+    let a : Sorted (member k d ms) = subst (λ x. Sorted (member x d ms)) (sym same) s in
+    moved k l ks d ms same (at_key k ks d ms again a o t.1 (ap (slice_cmp nat_cmp k) same ∙ e))
+step k l ks d ms Greater e again s o h =
+    let t = both (is_among (k ∷ ks) l) (only_keys (is_among (k ∷ ks)) ms) h in
+    let below : slice_cmp nat_cmp l k ≡ Less = back k l e in
+    let none : is_among (k ∷ ks) l ≡ false = not_among l (k ∷ ks) (below, below_more l k ks below o) in
+    absurd (let q : true ≡ false = sym t.0 ∙ none in cc)
+
 pub fields : (ks : List (List ℕ)) (ms : Members) → Sorted ms → InOrder ks → Listed ks ms → ms ≡ picked ks ms
 fields [] no_members s o h = refl
 fields [] (member l d ms) s o h = cc
 fields (k ∷ ks) no_members s o h = sym (none_picked ks)
-fields (k ∷ ks) (member l d ms) s o h = by (slice_cmp nat_cmp k l) refl
-  where
-    here : slice_cmp nat_cmp k l ≡ Equal → k ≡ l → member l d ms ≡ picked (k ∷ ks) (member l d ms)
-    here e same =
-        let t = both (is_among (k ∷ ks) l) (only_keys (is_among (k ∷ ks)) ms) h in
-        let a : Above k ms = subst (λ x. Above x ms) (sym same) s.0 in
-        let rest : ms ≡ picked ks ms = fields ks ms s.2 o.1 (drop_key k ks ms a t.1) in
-        let passed : picked ks (member l d ms) ≡ picked ks ms = pass_member ks l d ms (subst (λ x. Below x ks) same o.0) in
-        let g : get_member k (member l d ms) ≡ Some d = rw e refl in
-        let found : picked (k ∷ ks) (member l d ms) ≡ member k d (picked ks ms) = ap (λ x. pick k x (picked ks (member l d ms))) g ∙ ap (member k d) passed in
-        ap (member l d) rest ∙ ap (λ x. member x d (picked ks ms)) (sym same) ∙ sym found
-
-    by : (r : Ordering) → slice_cmp nat_cmp k l ≡ r → member l d ms ≡ picked (k ∷ ks) (member l d ms)
-    by Less e =
-        let a : Above k (member l d ms) = (e, above_more k l ms e s.0) in
-        let g : get_member k (member l d ms) ≡ None = no_member k (member l d ms) a in
-        fields ks (member l d ms) s o.1 (drop_key k ks (member l d ms) a h) ∙ sym (ap (λ x. pick k x (picked ks (member l d ms))) g)
-    by Equal e = here e (equal_key k l e)
-    by Greater e =
-        let t = both (is_among (k ∷ ks) l) (only_keys (is_among (k ∷ ks)) ms) h in
-        let below : slice_cmp nat_cmp l k ≡ Less = back k l e in
-        let none : is_among (k ∷ ks) l ≡ false = not_among l (k ∷ ks) (below, below_more l k ks below o.0) in
-        absurd (let q : true ≡ false = sym t.0 ∙ none in cc)
+fields (k ∷ ks) (member l d ms) s o h =
+    step k l ks d ms (slice_cmp nat_cmp k l) refl (λ rest t g. fields ks rest t o.1 g) s o.0 h
 
 -- ---- a text under a key
 

@@ -4,3 +4,5 @@ pub mod Trimming
 mod TrimCases
 pub mod Tidy
 pub mod Fields
+pub mod SyncAccepted
+pub mod MwAccepted

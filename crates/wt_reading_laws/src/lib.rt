@@ -3,9 +3,9 @@
 #![tactic(auto)]
 
 mod switch;
-// mod told;
+mod told;
 mod trim;
 
 pub use switch::part_of_switch;
-// pub use told::{only_written_data_mw, only_written_data_parsoid};
+pub use told::{only_written_data_mw, only_written_data_parsoid};
 pub use trim::trimmed_is_between_white;
