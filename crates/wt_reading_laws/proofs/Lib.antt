@@ -6,3 +6,4 @@ pub mod Tidy
 pub mod Fields
 pub mod SyncAccepted
 pub mod MwAccepted
+pub mod GroupTexts

@@ -12,7 +12,8 @@ use Rattle.std.specs.Str.{bytes_eq}
 use Rattle.wt_span.specs.declared.function.Function.TheVariants.{Switch}
 use Rattle.wt_functions.specs.Choice.{text_at, first_from, equal_part, value_from, last_whole, is_default, last_default, chosen}
 use Rattle.wt_functions.proofs.EqualParts.{none_passes}
-use Rattle.wt_reading_laws.specs.Switches.{IsFirst, IsLast, IsNowhere, Has, IsEqual, IsValue, IsWholeEnd, IsDefault}
+use Rattle.wt_reading_laws.specs.Places.{IsFirst, IsLast, IsNowhere}
+use Rattle.wt_reading_laws.specs.Switches.{Has, IsEqual, IsValue, IsWholeEnd, IsDefault}
 
 -- ---- the first place from one on
 

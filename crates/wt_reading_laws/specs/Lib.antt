@@ -1,3 +1,5 @@
+pub mod GroupTexts
+pub mod Places
 pub mod Switches
 pub mod Told
 pub mod Trimming

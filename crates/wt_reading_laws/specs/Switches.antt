@@ -1,18 +1,6 @@
 -- Which part a `#switch` gives, by what is so of its parts. Part 0 is what is looked for; the others are numbered from 1.
 use Rattle.std.specs.Prelude.{◌≡◌, ℕ, ◌-◌, ◌<◌, ◌≤◌, Bool, true, false, Some, List, length, codes, slice_get}
 
--- the first and the last number of which something is so, and that it is so of none
-pub record IsFirst (P : ℕ → Type 0) (n : ℕ) : Type 0 where
-  pub here : P n
-  pub none_before : (m : ℕ) → m < n → P m → ⊥
-
-pub record IsLast (P : ℕ → Type 0) (n : ℕ) : Type 0 where
-  pub here : P n
-  pub none_behind : (m : ℕ) → n < m → P m → ⊥
-
-abbrev pub IsNowhere : (ℕ → Type 0) → Type 0
-IsNowhere P = (n : ℕ) → P n → ⊥
-
 -- a part behind part 0 has a `=` or has none, as it is told of the parts from 1 on
 abbrev pub Has : Bool → List Bool → ℕ → Type 0
 Has sign equals part = (0 < part) × (slice_get equals (part - 1) ≡ Some sign)

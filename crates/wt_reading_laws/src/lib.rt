@@ -2,10 +2,12 @@
 //! parts of calls, groups and tables, in other words than the definitions that the code follows.
 #![tactic(auto)]
 
+mod group;
 mod switch;
 mod told;
 mod trim;
 
+pub use group::parts_of_groups;
 pub use switch::part_of_switch;
 pub use told::{only_written_data_mw, only_written_data_parsoid};
 pub use trim::trimmed_is_between_white;

@@ -2,7 +2,8 @@
 ghost use Rattle.std.specs.Prelude.{◌≡◌, ℕ, Bool, List, Some, None};
 ghost use Rattle.wt_span.specs.declared.function.Function.TheVariants.{Switch};
 ghost use Rattle.wt_functions.specs.Choice.{chosen};
-ghost use Rattle.wt_reading_laws.specs.Switches.{IsFirst, IsLast, IsNowhere, IsValue, IsWholeEnd, IsDefault};
+ghost use Rattle.wt_reading_laws.specs.Places.{IsFirst, IsLast, IsNowhere};
+ghost use Rattle.wt_reading_laws.specs.Switches.{IsValue, IsWholeEnd, IsDefault};
 
 /// The first part with a `=` that is equal to part 0 or behind such a part is given; where there is
 /// none, the last part, if it has no `=`; where that has one too, the last part with the name
