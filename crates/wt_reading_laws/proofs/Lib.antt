@@ -7,3 +7,4 @@ pub mod Fields
 pub mod SyncAccepted
 pub mod MwAccepted
 pub mod GroupTexts
+pub mod Tables

@@ -1,5 +1,6 @@
 pub mod GroupTexts
 pub mod Places
 pub mod Switches
+pub mod TableLayout
 pub mod Told
 pub mod Trimming

@@ -4,10 +4,12 @@
 
 mod group;
 mod switch;
+mod table;
 mod told;
 mod trim;
 
 pub use group::parts_of_groups;
 pub use switch::part_of_switch;
+pub use table::parts_of_tables;
 pub use told::{only_written_data_mw, only_written_data_parsoid};
 pub use trim::trimmed_is_between_white;
