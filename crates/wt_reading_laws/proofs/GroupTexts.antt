@@ -1,13 +1,13 @@
 -- The parts of a group, joined.
-use Rattle.std.proofs.Common.{◌≡◌, ◌≢◌, refl, sym, ◌∙◌, ap, subst, ℕ, zero, suc, ◌+◌, ◌-◌, ◌<◌, ◌≤◌, Bool, true, false, cond, Option, Some, None, List, [], ◌∷◌, ◌++◌, length, drop, map, arith, append_assoc, append-nil, inl, inr}
+use Rattle.std.proofs.Common.{◌≡◌, refl, sym, ◌∙◌, ap, subst, ℕ, zero, suc, ◌+◌, ◌-◌, ◌<◌, ◌≤◌, Bool, true, false, cond, Option, Some, None, List, [], ◌∷◌, ◌++◌, length, drop, map, arith, append_assoc, append-nil, inl, inr}
 use Rattle.std.proofs.lemmas.Bool.{cases_lt}
 use Rattle.std.proofs.lemmas.List.Concat.{flat_map-append}
 use Rattle.std.proofs.Math.Seq.{drop-append_seam}
 use Rattle.std.specs.List.{flat_map, slice_get}
 use Rattle.wt_span.specs.Items.{Item}
 use Rattle.wt_span.specs.Origins.{OuterCall}
-use Rattle.wt_span.specs.Cuts.{is_free, call_of_item, source_of_call, origin_text, text_by, text_at, text_between}
-use Rattle.wt_annotated.specs.GroupParts.{Part, called, between, Begun, begun_by, begun_at, begun, slice_part, text_after, parts_by, parts}
+use Rattle.wt_span.specs.Cuts.{is_free, call_of_item, source_of_call, origin_text, text_at, text_between}
+use Rattle.wt_annotated.specs.GroupParts.{Part, called, Begun, begun_by, begun_at, begun, slice_part, text_after, parts_by, parts}
 use Rattle.wt_reading_laws.specs.Places.{IsFirst, IsLast, IsNowhere}
 use Rattle.wt_reading_laws.specs.GroupTexts.{CallBegins, Begins, page_text, calls_among, AreItsCalls, FollowCall, AreParted}
 

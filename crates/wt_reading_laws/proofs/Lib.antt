@@ -1,10 +1,13 @@
-pub mod Switching
 mod SwitchCases
-pub mod Trimming
+mod ToldCases
 mod TrimCases
-pub mod Tidy
+mod GroupCases
+mod TableCases
 pub mod Fields
-pub mod SyncAccepted
-pub mod MwAccepted
 pub mod GroupTexts
+pub mod MwAccepted
+pub mod Switching
+pub mod SyncAccepted
 pub mod Tables
+pub mod Tidy
+pub mod Trimming

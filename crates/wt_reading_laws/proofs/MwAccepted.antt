@@ -1,5 +1,5 @@
 -- What is accepted of `data-mw`.
-use Rattle.std.proofs.Common.{◌≡◌, refl, sym, ◌∙◌, ap, subst, ℕ, ◌<◌, ◌^◌, Bool, true, false, cond, Option, Some, None, List, [], ◌∷◌, map}
+use Rattle.std.proofs.Common.{◌≡◌, refl, sym, ◌∙◌, ap, subst, ℕ, ◌<◌, ◌^◌, Bool, true, false, cond, Option, Some, None, List, [], ◌∷◌}
 use Rattle.std.specs.Prelude.{◌↔◌, ◌&&◌, ◌||◌, Result, Ok, Err, codes, is_some, option_and_then, IfSome}
 use Rattle.std.specs.List.{AllByRecursion}
 use Rattle.std.specs.List.Sorted.{IsStrictlySortedBy}
@@ -14,7 +14,7 @@ use Rattle.wt_tree.specs.declared.node.DataMw.TheVariants as mw
 use Rattle.wt_tree.specs.declared.node.Part.{Part}
 use Rattle.wt_tree.specs.declared.node.Part.TheVariants as part
 use Rattle.wt_datamw.specs.declared.refusal.DataWhy.{DataWhy}
-use Rattle.wt_datamw.specs.Mw.{wt_data, params_from, params_data, target_data, function_target, template_data, function_data, part_data, parts_items, extension_data, mw_data}
+use Rattle.wt_datamw.specs.Mw.{wt_data, params_data, target_data, function_target, template_data, function_data, part_data, parts_items, mw_data}
 use Rattle.wt_datamw.specs.SyncRead.{only_keys, is_among, is_number, small_number}
 use Rattle.wt_datamw.specs.MwRead.{holds, holds_if_any, all_items, all_values, is_source, are_params, is_function_name, names_function, is_page_target, is_function_target, is_target, is_template, is_part, are_parts, is_group, is_body, is_extension, is_mw_shape, has_small_number, part_is_small, are_small_parts, has_small_numbers, mw_of, mw_of_data, mw_of_json, mw_told, HasOrderedParams, HasOrderedNames}
 use Rattle.wt_datamw.proofs.MwBack.{Param, names, sources, all_last, template_small, function_small, reads_ordered}

@@ -6,7 +6,7 @@ use Rattle.std.proofs.lemmas.List.Quantifiers.{position-Some}
 use Rattle.std.proofs.lemmas.Option.{get_or_from_slice_get, slice_get-get_or}
 use Rattle.std.proofs.lemmas.Slice.Eq.{bytes_eq-Decides}
 use Rattle.std.specs.List.{position, slice_get}
-use Rattle.std.specs.Option.{option_map, option_or, option_and_then}
+use Rattle.std.specs.Option.{option_map, option_and_then}
 use Rattle.std.specs.Prelude.{codes, ◌&&◌}
 use Rattle.std.specs.Str.{bytes_eq}
 use Rattle.wt_span.specs.declared.function.Function.TheVariants.{Switch}

@@ -1,15 +1,15 @@
 -- What is accepted of `data-parsoid`.
 use Rattle.std.proofs.Common.{◌≡◌, refl, sym, ◌∙◌, ap, subst, ℕ, ◌<◌, ◌^◌, Bool, true, false, cond, Option, Some, None, List, [], ◌∷◌}
-use Rattle.std.specs.Prelude.{◌↔◌, ◌&&◌, Result, Ok, Err, codes, is_some, nat_lt, unwrap_or, option_map, option_and_then, IfSome}
+use Rattle.std.specs.Prelude.{◌↔◌, ◌&&◌, Result, Ok, Err, codes, nat_lt, unwrap_or, option_map, option_and_then, IfSome}
 use Rattle.std.proofs.lemmas.Bool.{ltb-true, lt-ltb}
-use Rattle.serde_json.specs.Data.{Num, unsigned, negative, float, Data, null, boolean, number, string, array, object, Items, no_items, item, Members, no_members, member}
+use Rattle.serde_json.specs.Data.{unsigned, negative, float, Data, null, boolean, number, string, array, object, Items, no_items, item, Members, no_members, member}
 use Rattle.serde_json.specs.Find.{get_member, as_str, as_array}
 use Rattle.serde_json.specs.Read.{read}
 use Rattle.wt_tree.specs.declared.kind.Ranges.{Ranges}
 use Rattle.wt_datamw.specs.declared.sync.Sync.{Sync}
 use Rattle.wt_datamw.specs.declared.refusal.DataWhy.{DataWhy}
 use Rattle.wt_datamw.specs.Sync.{dsr_data}
-use Rattle.wt_datamw.specs.SyncRead.{small, small_number, ranges_of, four_small, is_text_if_any, is_dsr, dsr_in, is_sync_key, has_only, text_in, sync_with, is_sync_shape, sync_of_data, sync_of_json, sync_told, IsSmall}
+use Rattle.wt_datamw.specs.SyncRead.{small, small_number, ranges_of, four_small, is_text_if_any, is_dsr, dsr_in, is_sync_key, has_only, sync_with, is_sync_shape, sync_of_data, sync_of_json, sync_told}
 use Rattle.wt_reading_laws.specs.Told.{text_member, or_empty, SaysSync}
 use Rattle.wt_reading_laws.proofs.Tidy.{Tidy, Sorted, read_tidy}
 use Rattle.wt_reading_laws.proofs.Fields.{pick, both, fields}

@@ -1,5 +1,5 @@
 -- The parts of a table are laid out as they should be.
-use Rattle.std.proofs.Common.{◌≡◌, ◌⊎◌, refl, sym, ◌∙◌, ap, subst, ℕ, zero, suc, ◌+◌, ◌-◌, ◌≤◌, Bool, true, false, cond, List, [], ◌∷◌, ◌++◌, length, take, drop, map, reverse, arith, append_assoc, append-nil, length-append, inl, inr}
+use Rattle.std.proofs.Common.{◌≡◌, ◌⊎◌, refl, sym, ◌∙◌, ap, subst, ℕ, zero, suc, ◌+◌, ◌-◌, Bool, true, false, cond, List, [], ◌∷◌, ◌++◌, length, take, drop, map, reverse, arith, append_assoc, length-append, inl, inr}
 use Rattle.std.specs.Prelude.{not}
 use Rattle.std.specs.List.{AllByRecursion, flat_map, prefix_len}
 use Rattle.std.proofs.lemmas.List.{reverse-append, reverse-reverse, length-reverse, take-append-drop}
@@ -10,7 +10,7 @@ use Rattle.wt_span.specs.Runs.{runs, IsRun, AreRuns}
 use Rattle.wt_span.proofs.RunLaws.{runs_are, runs_joined}
 use Rattle.wt_lines.specs.declared.kind.LineKind.{LineKind}
 use Rattle.wt_lines.specs.declared.kind.LineKind.TheVariants as kind
-use Rattle.wt_tables.specs.Parts.{joined, units, unit_kind, begins_part, begins_group, groups, group_kind, is_blank_kind, stray_len, RowOf, is_row, row_by, row_of, rows_of, TableOf, is_caption, plain_len, captions_len, table_by, table_of}
+use Rattle.wt_tables.specs.Parts.{joined, units, unit_kind, begins_part, begins_group, groups, group_kind, is_blank_kind, stray_len, is_row, row_by, row_of, is_caption, plain_len, captions_len, table_by, table_of}
 use Rattle.wt_reading_laws.specs.TableLayout.{BeginsPart, caption, row, cell, header, BeginsFirstCell, first_cell, first_header, BeginsCell, plain_cell, header_cell, late_caption, IsCaption, BeginsNone, Follow, IsPart, LaidRow, row_units, row_made, IsBegun, IsImplied, AreRows, IsLaidOut}
 
 -- ---- kinds

@@ -1,9 +1,8 @@
 -- What the attributes that an editor sent back may be, by the values that they stand for.
 use Rattle.std.specs.Prelude.{◌≡◌, ℕ, ◌<◌, ◌^◌, List, [], Option, Some, None, codes, unwrap_or}
 use Rattle.std.specs.List.{AllByRecursion}
-use Rattle.serde_json.specs.Data.{Data, string, object, Members, member, no_members}
+use Rattle.serde_json.specs.Data.{string, object, Members, member, no_members}
 use Rattle.serde_json.specs.Read.{read}
-use Rattle.wt_tree.specs.declared.kind.Ranges.{Ranges}
 use Rattle.wt_tree.specs.declared.node.DataMw.{DataMw}
 use Rattle.wt_tree.specs.declared.node.DataMw.TheVariants as mw
 use Rattle.wt_tree.specs.declared.node.Part.{Part}
