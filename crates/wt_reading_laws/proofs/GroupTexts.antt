@@ -138,8 +138,12 @@ facts_here all n size k bs e f h =
     record {
       first = (first_here all n size k e f, last_behind all n size k bs e f h.first);
       rise = (omega arith, e, f, h.rise);
-      calls = (n, first_here all n size k e f, record { starts = omega arith; ends = omega arith; free = e; comes = f },
-      subst (λ x. AreItsCalls all (suc n) x (map (λ b. b.1) bs)) s h.calls);
+      calls = (
+        n,
+        first_here all n size k e f,
+        record { starts = omega arith; ends = omega arith; free = e; comes = f },
+        subst (λ x. AreItsCalls all (suc n) x (map (λ b. b.1) bs)) s h.calls,
+      );
     }
 
 facts : (all : List Item) (size n : ℕ) → Facts all n size (begun all n size)
@@ -190,10 +194,9 @@ with_text calls all n k m size e f g =
 joined_by : (calls : List OuterCall) (all : List Item) (low m k : ℕ) (bs : List Begun) → Rise all low ((m, k) ∷ bs)
     → (flat_map (page_text calls) (parts_by calls all ((m, k) ∷ bs)) ≡ text_between calls all m (suc (last_of m bs - m))) × (m ≤ last_of m bs)
 joined_by calls all low m k [] r =
-    let nothing : suc (m - m) ≡ suc zero = omega arith in
-    (
+    let nothing : suc (m - m) ≡ suc zero = omega arith in (
       append-nil (source_of_call (slice_get calls k)) ∙ sym (call_text calls all m k r.1 r.2) ∙ sym (append-nil (text_at calls all m))
-      ∙ sym (ap (text_between calls all m) nothing),
+          ∙ sym (ap (text_between calls all m) nothing),
       omega arith,
     )
 joined_by calls all low m k ((p, j) ∷ bs) r =
@@ -205,14 +208,13 @@ joined_by calls all low m k ((p, j) ∷ bs) r =
     let tail = flat_map (page_text calls) (parts_by calls all ((p, j) ∷ bs)) in
     let step : p - m ≡ suc (p - suc m) = omega arith in
     let size : (p - m) + suc (last_of p bs - p) ≡ suc (last_of p bs - m) = omega arith in
-    let place : m + (p - m) ≡ p = omega arith in
-    (
+    let place : m + (p - m) ≡ p = omega arith in (
       ap (λ (x : List ℕ). source ++ x) (flat_map-append (page_text calls) (slice_part t) (parts_by calls all ((p, j) ∷ bs)) ∙ ap (λ (x : List ℕ). x ++ tail) (slice_text calls t))
-      ∙ sym (append_assoc source t tail)
-      ∙ ap (λ (x : List ℕ). x ++ tail) (with_text calls all m k p (p - suc m) r.1 r.2 step)
-      ∙ ap (λ (x : List ℕ). text_between calls all m (p - m) ++ x) (rest.0 ∙ ap (λ (n : ℕ). text_between calls all n (suc (last_of p bs - p))) (sym place))
-      ∙ sym (joins calls all m (p - m) (suc (last_of p bs - p)))
-      ∙ ap (text_between calls all m) size,
+          ∙ sym (append_assoc source t tail)
+          ∙ ap (λ (x : List ℕ). x ++ tail) (with_text calls all m k p (p - suc m) r.1 r.2 step)
+          ∙ ap (λ (x : List ℕ). text_between calls all m (p - m) ++ x) (rest.0 ∙ ap (λ (n : ℕ). text_between calls all n (suc (last_of p bs - p))) (sym place))
+          ∙ sym (joins calls all m (p - m) (suc (last_of p bs - p)))
+          ∙ ap (text_between calls all m) size,
       omega arith,
     )
 

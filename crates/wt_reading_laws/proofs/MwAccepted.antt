@@ -96,10 +96,13 @@ page_by ms t h =
     let k = both (only_keys (is_among (codes "href" ∷ codes "wt" ∷ [])) ms) (is_some (option_and_then as_str href) && is_some (option_and_then as_str wt)) h in
     let l = both (is_some (option_and_then as_str href)) (is_some (option_and_then as_str wt)) k.1 in
     let a = text_there href l.0 in
-    let b = text_there wt l.1 in
-    (a.0, b.0, ap object (fields (codes "href" ∷ codes "wt" ∷ []) ms t ((refl, tt), (tt, tt)) k.0
-    ∙ ap (λ x. pick (codes "href") x (pick (codes "wt") wt no_members)) a.1
-    ∙ ap (λ x. member (codes "href") (string a.0) (pick (codes "wt") x no_members)) b.1))
+    let b = text_there wt l.1 in (
+      a.0,
+      b.0,
+      ap object (fields (codes "href" ∷ codes "wt" ∷ []) ms t ((refl, tt), (tt, tt)) k.0
+          ∙ ap (λ x. pick (codes "href") x (pick (codes "wt") wt no_members)) a.1
+          ∙ ap (λ x. member (codes "href") (string a.0) (pick (codes "wt") x no_members)) b.1),
+    )
 
 name_there : (o : Option Data) → names_function (option_and_then as_str o) ≡ true → (name : List ℕ) × (o ≡ Some (string name)) × (is_function_name name ≡ true)
 name_there None h = cc
@@ -118,10 +121,14 @@ function_by ms t h =
     let k = both (only_keys (is_among (codes "function" ∷ codes "wt" ∷ [])) ms) (names_function (option_and_then as_str name) && is_some (option_and_then as_str wt)) h in
     let l = both (names_function (option_and_then as_str name)) (is_some (option_and_then as_str wt)) k.1 in
     let a = name_there name l.0 in
-    let b = text_there wt l.1 in
-    (a.0, b.0, ap object (fields (codes "function" ∷ codes "wt" ∷ []) ms t ((refl, tt), (tt, tt)) k.0
-    ∙ ap (λ x. pick (codes "function") x (pick (codes "wt") wt no_members)) a.1
-    ∙ ap (λ x. member (codes "function") (string a.0) (pick (codes "wt") x no_members)) b.1), a.2)
+    let b = text_there wt l.1 in (
+      a.0,
+      b.0,
+      ap object (fields (codes "function" ∷ codes "wt" ∷ []) ms t ((refl, tt), (tt, tt)) k.0
+          ∙ ap (λ x. pick (codes "function") x (pick (codes "wt") wt no_members)) a.1
+          ∙ ap (λ x. member (codes "function") (string a.0) (pick (codes "wt") x no_members)) b.1),
+      a.2,
+    )
 
 -- ---- calls
 

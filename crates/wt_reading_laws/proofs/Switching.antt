@@ -34,8 +34,8 @@ first_by p xs at k (Some j) e h =
       high = omega arith;
       passes = λ d. ap (λ i. p (get_or xs i d)) (sym s) ∙ ap p (sym (get_or-drop at xs j d)) ∙ (position-Some p (drop at xs) j d e).1;
       others = λ i d l h.
-        let back : at + (i - at) ≡ i = omega arith in
-        ap (λ m. p (get_or xs m d)) (sym back) ∙ ap p (sym (get_or-drop at xs (i - at) d)) ∙ (position-Some p (drop at xs) j d e).2 (i - at) (omega arith);
+          let back : at + (i - at) ≡ i = omega arith in
+          ap (λ m. p (get_or xs m d)) (sym back) ∙ ap p (sym (get_or-drop at xs (i - at) d)) ∙ (position-Some p (drop at xs) j d e).2 (i - at) (omega arith);
     }
   where
     below : {A : Type 0} (p : A → Bool) (ys : List A) (j : ℕ) → position p ys ≡ Some j → j < length ys
@@ -144,11 +144,11 @@ some_value es ts k (Some n) e h =
     record {
       here = record { has_sign = sign_has true es k true (omega arith) (omega arith) (b.passes true); equal = n; is_equal = first.is; reached = low };
       none_before = λ m below v.
-        let least : n ≤ v.equal = first.least v.equal v.is_equal in
-        let above : v.equal ≤ m = v.reached in
-        let yes : get_or (false ∷ es) m true ≡ true = (sign_there true es m v.has_sign).1 in
-        let no : get_or (false ∷ es) m true ≡ false = b.others m true (omega arith) below in
-        cc;
+          let least : n ≤ v.equal = first.least v.equal v.is_equal in
+          let above : v.equal ≤ m = v.reached in
+          let yes : get_or (false ∷ es) m true ≡ true = (sign_there true es m v.has_sign).1 in
+          let no : get_or (false ∷ es) m true ≡ false = b.others m true (omega arith) below in
+          cc;
     }
 
 -- ---- the last part
@@ -241,9 +241,9 @@ value_is es ts k (Some n) e h = ap Some (same (some_value es ts n (equal_part ts
     same f = elim (cases_lt n k) [
       | inl below ↦ absurd (h.none_before n below f.here)
       | inr le ↦ elim (cases_lt k n) [
-          | inl above ↦ absurd (f.none_before k above h.here)
-          | inr ge ↦ omega arith
-        ]
+        | inl above ↦ absurd (f.none_before k above h.here)
+        | inr ge ↦ omega arith
+      ]
     ]
 
 no_value : (es : List Bool) (ts : List (List ℕ)) (o : Option ℕ) → reached es ts ≡ o → IsNowhere (IsValue es ts) → o ≡ None

@@ -121,14 +121,14 @@ object_says text ms s (Some r) e t h f g =
       closing = option_and_then as_str c;
       opening = option_and_then as_str o;
       json =
-        e ∙ ap (λ x. Some (object x)) (all
-        ∙ ap (λ x. pick (codes "c") x (pick (codes "dsr") (get_member (codes "dsr") ms) (pick (codes "o") o (pick (codes "src") src no_members)))) (text_if c m.0)
-        ∙ pick_text (codes "c") (option_and_then as_str c) (pick (codes "dsr") (get_member (codes "dsr") ms) (pick (codes "o") o (pick (codes "src") src no_members)))
-        ∙ ap (λ x. text_member (codes "c") (option_and_then as_str c) (pick (codes "dsr") x (pick (codes "o") o (pick (codes "src") src no_members)))) four_places.0
-        ∙ ap (λ x. text_member (codes "c") (option_and_then as_str c) (member (codes "dsr") (dsr_data r) x))
-        (ap (λ x. pick (codes "o") x (pick (codes "src") src no_members)) (text_if o n.0)
-        ∙ pick_text (codes "o") (option_and_then as_str o) (pick (codes "src") src no_members)
-        ∙ ap (text_member (codes "o") (option_and_then as_str o)) (ap (λ x. pick (codes "src") x no_members) (text_if src n.1) ∙ pick_text (codes "src") (option_and_then as_str src) no_members)));
+          e ∙ ap (λ x. Some (object x)) (all
+          ∙ ap (λ x. pick (codes "c") x (pick (codes "dsr") (get_member (codes "dsr") ms) (pick (codes "o") o (pick (codes "src") src no_members)))) (text_if c m.0)
+          ∙ pick_text (codes "c") (option_and_then as_str c) (pick (codes "dsr") (get_member (codes "dsr") ms) (pick (codes "o") o (pick (codes "src") src no_members)))
+          ∙ ap (λ x. text_member (codes "c") (option_and_then as_str c) (pick (codes "dsr") x (pick (codes "o") o (pick (codes "src") src no_members)))) four_places.0
+          ∙ ap (λ x. text_member (codes "c") (option_and_then as_str c) (member (codes "dsr") (dsr_data r) x))
+          (ap (λ x. pick (codes "o") x (pick (codes "src") src no_members)) (text_if o n.0)
+          ∙ pick_text (codes "o") (option_and_then as_str o) (pick (codes "src") src no_members)
+          ∙ ap (text_member (codes "o") (option_and_then as_str o)) (ap (λ x. pick (codes "src") x no_members) (text_if src n.1) ∙ pick_text (codes "src") (option_and_then as_str src) no_members)));
       closes = refl;
       opens = refl;
       small = four_places.1;

@@ -25,9 +25,9 @@ its_parts : table_of kind_at (0, kind.TableOpen) inside ≡ record {
   between = (4, kind.Blank) ∷ [];
   captions = ((5, kind.Caption) ∷ []) ∷ [];
   rows =
-    record { opening = []; between = []; cells = ((6, kind.Cell) ∷ []) ∷ [] }
-    ∷ record { opening = (7, kind.Row) ∷ []; between = []; cells = ((8, kind.Header) ∷ []) ∷ [] }
-    ∷ [];
+      record { opening = []; between = []; cells = ((6, kind.Cell) ∷ []) ∷ [] }
+      ∷ record { opening = (7, kind.Row) ∷ []; between = []; cells = ((8, kind.Header) ∷ []) ∷ [] }
+      ∷ [];
 }
 unfolding inner_len
 its_parts = refl

@@ -178,17 +178,17 @@ follows kind_of us h =
     record {
       begin_none = all_left (BeginsNone kind_of) (stray_len kind_of us) us (all_so (IsPlain kind_of) (BeginsNone kind_of) us (λ u e. begins_none (unit_kind kind_of u) e) h);
       ends = λ front u e b.
-        let first : drop n (reverse us) ≡ u ∷ reverse front =
-        sym (reverse-reverse (drop n (reverse us))) ∙ ap reverse (sym c.left ∙ e) ∙ reverse-append front (u ∷ []) in
-        let no : is_blank_kind (unit_kind kind_of u) ≡ false = stops (λ u. is_blank_kind (unit_kind kind_of u)) (reverse us) u (reverse front) first in
-        let yes : is_blank_kind (unit_kind kind_of u) ≡ true = ap is_blank_kind b in
-        let q : true ≡ false = sym yes ∙ no in
-        cc;
+          let first : drop n (reverse us) ≡ u ∷ reverse front =
+          sym (reverse-reverse (drop n (reverse us))) ∙ ap reverse (sym c.left ∙ e) ∙ reverse-append front (u ∷ []) in
+          let no : is_blank_kind (unit_kind kind_of u) ≡ false = stops (λ u. is_blank_kind (unit_kind kind_of u)) (reverse us) u (reverse front) first in
+          let yes : is_blank_kind (unit_kind kind_of u) ≡ true = ap is_blank_kind b in
+          let q : true ≡ false = sym yes ∙ no in
+          cc;
       blanks =
-        subst (AllByRecursion (λ u. unit_kind kind_of u ≡ kind.Blank)) (sym c.right)
-        (all_back (λ u. unit_kind kind_of u ≡ kind.Blank) (take n (reverse us))
-        (all_so (λ u. is_blank_kind (unit_kind kind_of u) ≡ true) (λ u. unit_kind kind_of u ≡ kind.Blank) (take n (reverse us))
-        (λ u e. blank_is (unit_kind kind_of u) e) (prefix_passes (λ u. is_blank_kind (unit_kind kind_of u)) (reverse us))));
+          subst (AllByRecursion (λ u. unit_kind kind_of u ≡ kind.Blank)) (sym c.right)
+          (all_back (λ u. unit_kind kind_of u ≡ kind.Blank) (take n (reverse us))
+          (all_so (λ u. is_blank_kind (unit_kind kind_of u) ≡ true) (λ u. unit_kind kind_of u ≡ kind.Blank) (take n (reverse us))
+          (λ u e. blank_is (unit_kind kind_of u) e) (prefix_passes (λ u. is_blank_kind (unit_kind kind_of u)) (reverse us))));
     }
 
 -- ---- runs before each member of which the test holds
@@ -308,14 +308,17 @@ begun_row kind_of gs all h =
     let more = h.headed.others in
     let whole : gs ≡ g ∷ more = h.headed.all in
     let each : AllByRecursion (IsGroup kind_of) (g ∷ more) = subst (AllByRecursion (IsGroup kind_of)) whole all in
-    let group : IsGroup kind_of g = each.0 in
-    (laid_by kind_of true group.headed.head group.headed.others more, laid_row kind_of gs g more true whole group h.passes, record {
-      unit = group.headed.head;
-      line = refl;
-      begins = row_is (unit_kind kind_of group.headed.head) (ap (row_group kind_of) (sym group.headed.all) ∙ h.passes);
-      follow = follows kind_of group.headed.others group.headed.rest;
-      cells = cell_parts kind_of more each.1 h.headed.rest;
-    })
+    let group : IsGroup kind_of g = each.0 in (
+      laid_by kind_of true group.headed.head group.headed.others more,
+      laid_row kind_of gs g more true whole group h.passes,
+      record {
+        unit = group.headed.head;
+        line = refl;
+        begins = row_is (unit_kind kind_of group.headed.head) (ap (row_group kind_of) (sym group.headed.all) ∙ h.passes);
+        follow = follows kind_of group.headed.others group.headed.rest;
+        cells = cell_parts kind_of more each.1 h.headed.rest;
+      },
+    )
 
 implied_row : {A : Type 0} (kind_of : A → LineKind) (gs : List (List (List A))) → AllByRecursion (IsGroup kind_of) gs → (h : Headed (row_group kind_of) gs)
     → row_group kind_of h.head ≡ false → is_caption (group_kind kind_of h.head) ≡ false → (r : LaidRow A) × IsLaidRow kind_of gs r × IsImplied kind_of r
@@ -324,18 +327,21 @@ implied_row kind_of gs all h no_row no_caption =
     let more = h.others in
     let whole : gs ≡ g ∷ more = h.all in
     let each : AllByRecursion (IsGroup kind_of) (g ∷ more) = subst (AllByRecursion (IsGroup kind_of)) whole all in
-    let group : IsGroup kind_of g = each.0 in
-    (laid_by kind_of false group.headed.head group.headed.others more, laid_row kind_of gs g more false whole group no_row, record {
-      first = group.headed.head ∷ group.headed.others;
-      others = more;
-      line = refl;
-      stray = refl;
-      blank = refl;
-      all = refl;
-      begins = subst (IsPart kind_of BeginsFirstCell) group.headed.all
-        (part_by kind_of BeginsFirstCell g group (first_is (group_kind kind_of g) (kind_passes kind_of g group) no_row no_caption));
-      cells = cell_parts kind_of more each.1 h.rest;
-    })
+    let group : IsGroup kind_of g = each.0 in (
+      laid_by kind_of false group.headed.head group.headed.others more,
+      laid_row kind_of gs g more false whole group no_row,
+      record {
+        first = group.headed.head ∷ group.headed.others;
+        others = more;
+        line = refl;
+        stray = refl;
+        blank = refl;
+        all = refl;
+        begins = subst (IsPart kind_of BeginsFirstCell) group.headed.all
+            (part_by kind_of BeginsFirstCell g group (first_is (group_kind kind_of g) (kind_passes kind_of g group) no_row no_caption));
+        cells = cell_parts kind_of more each.1 h.rest;
+      },
+    )
 
 -- ---- all rows
 
@@ -443,7 +449,7 @@ laid_out kind_of first inside plain rest whole plains begin =
       captions = take n gs;
       rows = rows.rows;
       all = whole ∙ ap (λ xs. xs ++ rest) (sym (take-append-drop k plain)) ∙ append_assoc (take k plain) (drop k plain) rest
-        ∙ ap (λ xs. take k plain ++ (drop k plain ++ xs)) (sym behind);
+          ∙ ap (λ xs. take k plain ++ (drop k plain ++ xs)) (sym behind);
       opening = refl;
       between = refl;
       made_captions = refl;

@@ -77,7 +77,11 @@ cut (b ∷ bs) = by (is_white b) refl (cut bs)
   where
     by : (t : Bool) → is_white b ≡ t → Cut bs → Cut (b ∷ bs)
     by true e c = record {
-      lead = b ∷ c.lead; rest = c.rest; whole = ap (λ (x : List ℕ). b ∷ x) c.whole; white = (passes_white b e, c.white); firm = c.firm;
+      lead = b ∷ c.lead;
+      rest = c.rest;
+      whole = ap (λ (x : List ℕ). b ∷ x) c.whole;
+      white = (passes_white b e, c.white);
+      firm = c.firm;
     }
     by false e c = record { lead = []; rest = b ∷ bs; whole = refl; white = tt; firm = firm_byte b bs e }
 

@@ -12,9 +12,13 @@ ghost use Rattle.wt_reading_laws.specs.GroupTexts.{AreItsCalls, AreParted, Begin
 /// The calls among them are those that begin in the group, in order; between two of them at most one text
 /// stands, which isn't empty, and none before the first or behind the last.
 pub fn parts_of_groups()
-    ensures joined { (calls : List OuterCall) → (all : List Item) → (from : ℕ) → (size : ℕ) → (first : ℕ) → (last : ℕ)
+    ensures joined { (calls : List OuterCall) → (all : List Item) → (from : ℕ) → (size : ℕ)
+        → (first : ℕ) → (last : ℕ)
         → IsFirst (Begins all from size) first → IsLast (Begins all from size) last
-        → flat_map (page_text calls) (parts calls all from size) ≡ text_between calls all first (suc (last - first)) }
-    ensures calls { (calls : List OuterCall) → (all : List Item) → (from : ℕ) → (size : ℕ) → AreItsCalls all from size (calls_among (parts calls all from size)) }
-    ensures parted { (calls : List OuterCall) → (all : List Item) → (from : ℕ) → (size : ℕ) → AreParted (parts calls all from size) }
+        → flat_map (page_text calls) (parts calls all from size)
+        ≡ text_between calls all first (suc (last - first)) }
+    ensures calls { (calls : List OuterCall) → (all : List Item) → (from : ℕ) → (size : ℕ)
+        → AreItsCalls all from size (calls_among (parts calls all from size)) }
+    ensures parted { (calls : List OuterCall) → (all : List Item) → (from : ℕ) → (size : ℕ)
+        → AreParted (parts calls all from size) }
 {}

@@ -9,8 +9,14 @@ ghost use Rattle.wt_reading_laws.specs.Switches.{IsValue, IsWholeEnd, IsDefault}
 /// none, the last part, if it has no `=`; where that has one too, the last part with the name
 /// `#default`; and else nothing.
 pub fn part_of_switch()
-    ensures value { (equals : List Bool) → (texts : List (List ℕ)) → (part : ℕ) → IsFirst (IsValue equals texts) part → chosen Switch equals texts ≡ Some part }
-    ensures end { (equals : List Bool) → (texts : List (List ℕ)) → (part : ℕ) → IsNowhere (IsValue equals texts) → IsWholeEnd equals part → chosen Switch equals texts ≡ Some part }
-    ensures default { (equals : List Bool) → (texts : List (List ℕ)) → (part : ℕ) → IsNowhere (IsValue equals texts) → IsNowhere (IsWholeEnd equals) → IsLast (IsDefault equals texts) part → chosen Switch equals texts ≡ Some part }
-    ensures nothing { (equals : List Bool) → (texts : List (List ℕ)) → IsNowhere (IsValue equals texts) → IsNowhere (IsWholeEnd equals) → IsNowhere (IsDefault equals texts) → chosen Switch equals texts ≡ None }
+    ensures value { (equals : List Bool) → (texts : List (List ℕ)) → (part : ℕ)
+        → IsFirst (IsValue equals texts) part → chosen Switch equals texts ≡ Some part }
+    ensures end { (equals : List Bool) → (texts : List (List ℕ)) → (part : ℕ)
+        → IsNowhere (IsValue equals texts) → IsWholeEnd equals part → chosen Switch equals texts ≡ Some part }
+    ensures default { (equals : List Bool) → (texts : List (List ℕ)) → (part : ℕ)
+        → IsNowhere (IsValue equals texts) → IsNowhere (IsWholeEnd equals)
+        → IsLast (IsDefault equals texts) part → chosen Switch equals texts ≡ Some part }
+    ensures nothing { (equals : List Bool) → (texts : List (List ℕ))
+        → IsNowhere (IsValue equals texts) → IsNowhere (IsWholeEnd equals)
+        → IsNowhere (IsDefault equals texts) → chosen Switch equals texts ≡ None }
 {}

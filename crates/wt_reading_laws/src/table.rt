@@ -8,5 +8,6 @@ ghost use Rattle.wt_reading_laws.specs.TableLayout.{IsLaidOut};
 /// captions stand before any row or cell, each part has one line that begins it, and each row but the
 /// first begins with its line.
 pub fn parts_of_tables<L>()
-    ensures { (kind_of : L → Kind) (first : L) (inside : List L) → IsLaidOut kind_of first inside (table_of kind_of first inside) }
+    ensures { (kind_of : L → Kind) (first : L) (inside : List L)
+        → IsLaidOut kind_of first inside (table_of kind_of first inside) }
 {}
