@@ -1,3 +1,4 @@
+mod GatherCases
 mod SwitchCases
 mod ToldCases
 mod TrimCases
@@ -11,3 +12,4 @@ pub mod SyncAccepted
 pub mod Tables
 pub mod Tidy
 pub mod Trimming
+pub mod Gathering

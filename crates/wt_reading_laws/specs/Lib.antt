@@ -1,3 +1,4 @@
+pub mod Gathering
 pub mod GroupTexts
 pub mod Places
 pub mod Switches

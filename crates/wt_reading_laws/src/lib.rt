@@ -2,12 +2,14 @@
 //! parts of calls, groups and tables, in other words than the definitions that the code follows.
 #![tactic(auto)]
 
+mod gather;
 mod group;
 mod switch;
 mod table;
 mod told;
 mod trim;
 
+pub use gather::groups_by_places;
 pub use group::parts_of_groups;
 pub use switch::part_of_switch;
 pub use table::parts_of_tables;
