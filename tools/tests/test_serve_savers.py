@@ -6,11 +6,13 @@ import os
 import random
 import re
 import signal
+import socket
 import subprocess
 import sys
 import threading
 import time
 import unittest
+from unittest import mock
 
 from loading import REPOSITORY, TOOLS
 from serving_case import PROGRAM, SECONDS, ServingCase
@@ -235,6 +237,21 @@ class Kills(ServingCase):
             self.html("Opava", port=port)
             process.send_signal(number)
             self.assertEqual(process.wait(SECONDS), 0)
+
+    def test_an_end_by_signal_while_a_thread_begins(self) -> None:
+        """The signal isn't lost where the thread has answered already, and so given its room back."""
+        start = threading.Thread.start
+
+        def start_and_interrupt(thread: threading.Thread) -> None:
+            start(thread)
+            thread.join()
+            raise KeyboardInterrupt
+
+        client, connection = socket.socketpair()
+        client.close()
+        with mock.patch.object(threading.Thread, "start", start_and_interrupt):
+            with self.assertRaises(KeyboardInterrupt):
+                self.server.process_request(connection, ("127.0.0.1", 1))
 
 
 if __name__ == "__main__":
