@@ -52,7 +52,8 @@ class Server(ThreadingHTTPServer):
         self._room.acquire()
         try:
             super().process_request(request, client_address)
-        except BaseException:
+        except Exception:
+            # No thread was begun. (At an end by a signal it may have been, and then it gives the room back.)
             self._room.release()
             raise
 
@@ -134,11 +135,7 @@ class Handler(BaseHTTPRequestHandler):
             answer = Answer(refusal.body(), JSON_TYPE, 500)
         if self._left:
             self.close_connection = True
-        try:
-            self._send(answer)
-        finally:
-            if answer.afterwards is not None:
-                answer.afterwards()
+        self._send(answer)
 
     def _answer(self) -> Answer:
         if self.request_version == "HTTP/0.9":

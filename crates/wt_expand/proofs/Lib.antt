@@ -1,6 +1,8 @@
 mod Cases
 mod ChoiceCases
 mod ExpansionCases
+mod FrontCases
+pub mod FrontLaws
 pub mod MadePieces
 pub mod PageLaws
 pub mod PiecePlaces

@@ -1,6 +1,7 @@
 pub mod Agreement
 pub mod Asked
 pub mod Expansion
+pub mod Fronts
 pub mod Made
 pub mod PageCalls
 pub mod PageItems

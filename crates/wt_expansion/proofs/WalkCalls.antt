@@ -28,6 +28,7 @@ use Rattle.wt_levels.specs.declared.reader.Reader.{Reader}
 use Rattle.wt_levels.specs.Calls.{IsCallOf, source_of, first_end}
 use Rattle.wt_levels.specs.Ledgers.{Ledger, AnswersOutput, Refuses, ledger}
 use Rattle.wt_levels.specs.Runs.{page_called}
+use Rattle.wt_levels.proofs.LedgerLaws.{comes_none}
 use Rattle.wt_expansion.specs.declared.found.Found.{Found}
 use Rattle.wt_expansion.specs.Calls.{outer_of}
 use Rattle.wt_expansion.specs.Walks.{at_page, Adds, Works, Walked, IsCallNext, call_stretches_at, call_work, is_by_source, page_stretch, page_work_at}
@@ -254,7 +255,7 @@ function_walked pages t met spent answered b reader s n old new store is fn othe
     walked_by pages t (ledger spent met answered) (call_stretches_at pages t b c s) (stretches_by pages t b c s function) (call_work pages t b c s) []
     c.at b.at.end old new store spent answered (sym (stretches_is pages t b c s function e))
     (sym (ap (λ (x : Output). x.work) (output_is pages t b c s function e))) found
-    (record { met = met; stored = stored; comes = record { refusal = λ rest. refl; names = λ rest. refl } })
+    (record { met = met; stored = stored; comes = comes_none pages t (ledger spent met answered) [] })
 
 -- ---- the call of a page
 

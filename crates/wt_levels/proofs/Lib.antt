@@ -8,4 +8,5 @@ pub mod NumberedParts
 pub mod PageLaws
 pub mod PartSteps
 pub mod RestLaws
+pub mod StackLaws
 pub mod StepLaws

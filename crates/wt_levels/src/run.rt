@@ -7,11 +7,10 @@ ghost use Rattle.wt_expand.specs.Targets.{is_function, title_of_target};
 ghost use Rattle.wt_transclusion.specs.Cursors.{starts};
 ghost use Rattle.wt_expand.specs.Expansion.{Frame, Output as Gives, Reading, just, text_given, values_from};
 ghost use Rattle.wt_transclusion.specs.Answers.{IsNoFault};
-ghost use Rattle.wt_transclusion.specs.Given.{option_items};
 ghost use Rattle.wt_transclusion.specs.Frames.{AreValues};
 ghost use Rattle.wt_transclusion.specs.Reads.{IsRead};
 ghost use Rattle.wt_levels.specs.Levels.{IsNamedBy, Resumes};
-ghost use Rattle.wt_levels.specs.Stacks.{stack, whole_level};
+ghost use Rattle.wt_levels.specs.Stacks.{innermost_end, stack, whole_level};
 ghost use Rattle.wt_levels.specs.Rests.{after_page, ended_with, next_number};
 ghost use Rattle.wt_levels.specs.Runs.{AnswersGoing, AnswersTurn, BeginsCall, BeginsLevel, HandsParts, HasEnded, Holds, IsRunning, Returns, TakesChunk, TakesPart};
 ghost use Rattle.wt_levels.specs.declared.level.Task.TheVariants as tasks;
@@ -88,16 +87,6 @@ fn push_piece<'a>(out: &mut List<Piece<'a>>, piece: Piece<'a>) -> Result<(), NoM
     out.push(piece)
 }
 
-/// Appends a piece, where there is one.
-fn push_some<'a>(out: &mut List<Piece<'a>>, piece: Option<Piece<'a>>) -> Result<(), NoMemory>
-    ensures { OnOk result (items out.new ≡ items out.old ++ option_items piece.entry) }
-{
-    match piece {
-        Some(piece) => push_piece(out, piece),
-        None => Ok(()),
-    }
-}
-
 /// Appends pieces.
 fn push_all<'a>(out: &mut List<Piece<'a>>, pieces: &[Piece<'a>]) -> Result<(), NoMemory>
     ensures { OnOk result (items out.new ≡ items out.old ++ items pieces.now) }
@@ -150,77 +139,73 @@ impl<'a> TextRun<'a> {
             → AnswersTurn r t spent.old total self.new spent.new result }
         ensures fault { IfErr result IsNoFault }
     {
+        let Some(end) = self.levels.end() else {
+            return Err(ExpandRefusal::NoMemory);
+        };
+        if self.reader.cursor.at < end {
+            self.read(end, spent)?;
+            return Ok(Turn::Went);
+        }
         let Some(level) = self.levels.pop() else {
             return Err(ExpandRefusal::NoMemory);
         };
-        if self.reader.cursor.at < level.end {
-            self.read(level, spent)?;
-            return Ok(Turn::Went);
-        }
         let Level { end: _, out, task } = level;
         self.end(task, out, values, spent)
     }
 
-    /// What stands next in a level.
-    fn read(&mut self, level: Level<'a>, spent: &mut u64) -> Result<(), ExpandRefusal>
-        requires { self.old.reader.cursor.at < level.end }
-        ensures answer { (r : Reading) (t : List ℕ) (total : Gives) → Holds r t self.old (level.entry ∷ (stack self.old.levels)) total
-            → AnswersGoing r t spent.old total self.new spent.new result }
+    /// What stands next in the innermost level, which ends at a place.
+    fn read(&mut self, end: u32, spent: &mut u64) -> Result<(), ExpandRefusal>
+        requires { self.old.reader.cursor.at < end }
+        ensures answer { (r : Reading) (t : List ℕ) (total : Gives) → Holds r t self.old (stack self.old.levels) total
+            → innermost_end (stack self.old.levels) ≡ Some end → AnswersGoing r t spent.old total self.new spent.new result }
         ensures fault { IfErr result IsNoFault }
     {
-        match self.reader.next(level.end) {
+        match self.reader.next(end) {
             Next::Chunk { kind, to } => {
-                self.read_chunk(level, kind, to)?;
+                self.read_chunk(kind, to)?;
                 Ok(())
             }
             Next::Call(number) => {
                 let call = self.reader.call(number)?;
-                self.begin(call, level, spent)
+                self.begin(call, spent)
             }
         }
     }
 
     /// Bytes of a lexeme, up to a place.
-    fn read_chunk(&mut self, level: Level<'a>, kind: LexKind, to: u32) -> Result<(), NoMemory>
-        ensures { OnOk result ((r : Reading) (t : List ℕ) (total : Gives) → TakesChunk r t self.old level.entry kind to total
+    fn read_chunk(&mut self, kind: LexKind, to: u32) -> Result<(), NoMemory>
+        ensures { OnOk result ((r : Reading) (t : List ℕ) (total : Gives) → TakesChunk r t self.old (stack self.old.levels) kind to total
             → Holds r t self.new (stack self.new.levels) total) }
     {
         let text = self.reader.slice(self.reader.cursor.at, to)?;
-        let mut level = level;
-        push_some(&mut level.out, lexeme_piece(self.mode, kind, text))?;
-        self.resume(to, level)?;
+        self.levels.give_some(lexeme_piece(self.mode, kind, text))?;
+        self.resume(to)?;
         Ok(())
     }
 
-    /// A level is read on from a place.
-    fn resume(&mut self, to: u32, level: Level<'a>) -> Result<(), NoMemory>
+    /// The innermost level is read on from a place.
+    fn resume(&mut self, to: u32) -> Result<(), NoMemory>
         ensures { OnOk result ((r : Reading) (t : List ℕ) (total : Gives) (p : ℕ) (s : Bool) → IsRunning r t self.old p s → p ≤ to
-            → Resumes r t to (starts t to) (just []) (level.entry ∷ (stack self.old.levels)) total → Holds r t self.new (stack self.new.levels) total) }
+            → Resumes r t to (starts t to) (just []) (stack self.old.levels) total → Holds r t self.new (stack self.new.levels) total) }
     {
-        self.levels.push(level)?;
         self.reader = self.reader.seek(to)?;
         Ok(())
     }
 
     /// A call that stands next in a level.
-    fn begin(
-        &mut self,
-        call: Braces<'a>,
-        level: Level<'a>,
-        spent: &mut u64,
-    ) -> Result<(), ExpandRefusal>
-        ensures answer { (r : Reading) (t : List ℕ) (total : Gives) → BeginsCall r t self.old (level.entry ∷ (stack self.old.levels)) call.entry total
+    fn begin(&mut self, call: Braces<'a>, spent: &mut u64) -> Result<(), ExpandRefusal>
+        ensures answer { (r : Reading) (t : List ℕ) (total : Gives) → BeginsCall r t self.old (stack self.old.levels) call.entry total
             → AnswersGoing r t spent.old total self.new spent.new result }
         ensures fault { IfErr result IsNoFault }
     {
         if call.argument {
-            return self.begin_argument(call, level, spent);
+            return self.begin_argument(call, spent);
         }
         let source = self.reader.slice(call.at.start, call.at.end)?;
         if is_function(source.as_str().as_bytes()) {
-            return self.begin_function(call, source, level, spent);
+            return self.begin_function(call, source, spent);
         }
-        self.begin_target(call, level)?;
+        self.begin_target(call)?;
         Ok(())
     }
 
@@ -229,71 +214,56 @@ impl<'a> TextRun<'a> {
         &mut self,
         call: Braces<'a>,
         source: Text<'a>,
-        level: Level<'a>,
         spent: &mut u64,
     ) -> Result<(), ExpandRefusal>
-        ensures answer { (r : Reading) (t : List ℕ) (total : Gives) → BeginsCall r t self.old (level.entry ∷ (stack self.old.levels)) call.entry total
+        ensures answer { (r : Reading) (t : List ℕ) (total : Gives) → BeginsCall r t self.old (stack self.old.levels) call.entry total
             → call.entry.argument ≡ false → bytes_of source.entry ≡ slice_range t call.entry.at.start call.entry.at.end
             → is_function (bytes_of source.entry) ≡ true → AnswersGoing r t spent.old total self.new spent.new result }
         ensures fault { IfErr result IsNoFault }
     {
         let Some((function, part_0)) = function_named(source.as_str().as_bytes()) else {
-            self.push_function(call, source, level)?;
+            self.push_function(call, source)?;
             return Ok(());
         };
         charge(spent, 1)?;
         let choosing = Choosing::start(self.alloc, call, function, self.reader)?;
         let target = first_part(call)?;
-        self.levels.push(level)?;
         self.begin_within(target, Task::First { choosing, part_0 })?;
         Ok(())
     }
 
     /// A function stands for itself.
-    fn push_function(
-        &mut self,
-        call: Braces<'a>,
-        source: Text<'a>,
-        level: Level<'a>,
-    ) -> Result<(), NoMemory>
-        ensures { OnOk result ((r : Reading) (t : List ℕ) (total : Gives) → BeginsCall r t self.old (level.entry ∷ (stack self.old.levels)) call.entry total
+    fn push_function(&mut self, call: Braces<'a>, source: Text<'a>) -> Result<(), NoMemory>
+        ensures { OnOk result ((r : Reading) (t : List ℕ) (total : Gives) → BeginsCall r t self.old (stack self.old.levels) call.entry total
             → call.entry.argument ≡ false → bytes_of source.entry ≡ slice_range t call.entry.at.start call.entry.at.end
             → is_function (bytes_of source.entry) ≡ true → function_of (drop 2 (bytes_of source.entry)) ≡ None
             → Holds r t self.new (stack self.new.levels) total) }
     {
-        let mut level = level;
-        push_piece(&mut level.out, piece_of(source, Form::Function))?;
-        self.resume(call.at.end, level)?;
+        self.levels.give_one(piece_of(source, Form::Function))?;
+        self.resume(call.at.end)?;
         Ok(())
     }
 
     /// An argument begins, and its name is read.
-    fn begin_argument(
-        &mut self,
-        call: Braces<'a>,
-        level: Level<'a>,
-        spent: &mut u64,
-    ) -> Result<(), ExpandRefusal>
-        ensures answer { (r : Reading) (t : List ℕ) (total : Gives) → BeginsCall r t self.old (level.entry ∷ (stack self.old.levels)) call.entry total
+    fn begin_argument(&mut self, call: Braces<'a>, spent: &mut u64) -> Result<(), ExpandRefusal>
+        ensures answer { (r : Reading) (t : List ℕ) (total : Gives) → BeginsCall r t self.old (stack self.old.levels) call.entry total
             → call.entry.argument ≡ true → AnswersGoing r t spent.old total self.new spent.new result }
         ensures fault { IfErr result IsNoFault }
     {
         charge(spent, 1)?;
         let name = first_part(call)?;
-        self.levels.push(level)?;
         self.begin_within(name, Task::Argument { call })?;
         Ok(())
     }
 
     /// The target of a call of two braces is read.
-    fn begin_target(&mut self, call: Braces<'a>, level: Level<'a>) -> Result<(), NoMemory>
-        ensures { OnOk result ((r : Reading) (t : List ℕ) (total : Gives) → BeginsCall r t self.old (level.entry ∷ (stack self.old.levels)) call.entry total
+    fn begin_target(&mut self, call: Braces<'a>) -> Result<(), NoMemory>
+        ensures { OnOk result ((r : Reading) (t : List ℕ) (total : Gives) → BeginsCall r t self.old (stack self.old.levels) call.entry total
             → call.entry.argument ≡ false → is_function (slice_range t call.entry.at.start call.entry.at.end) ≡ false
             → Holds r t self.new (stack self.new.levels) total) }
     {
         let at_start = self.reader.cursor.at_start;
         let target = first_part(call)?;
-        self.levels.push(level)?;
         self.begin_within(target, Task::Target { call, at_start })?;
         Ok(())
     }
@@ -382,12 +352,8 @@ impl<'a> TextRun<'a> {
         ensures { OnOk result ((r : Reading) (t : List ℕ) (total : Gives) → Returns r t self.old to (just (items out.now)) total
             → Holds r t self.new (stack self.new.levels) total) }
     {
-        let Some(level) = self.levels.pop() else {
-            return Err(NoMemory);
-        };
-        let mut level = level;
-        push_all(&mut level.out, out)?;
-        self.resume(to, level)?;
+        self.levels.give(out)?;
+        self.resume(to)?;
         Ok(())
     }
 

@@ -1,4 +1,4 @@
-use Rattle.std.proofs.Common.{ap, sym, ◌∙◌}
+use Rattle.std.proofs.Common.{ap, ◌∙◌}
 use Rattle.wt_span.specs.Items.{items}
 use Rattle.wt_expand.specs.Expansion.{with_break}
 use Rattle.wt_expand.specs.Texts.{trimmed_items}

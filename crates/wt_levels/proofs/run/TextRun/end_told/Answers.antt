@@ -1,4 +1,4 @@
-use Rattle.std.proofs.Common.{◌≡◌, ap, refl, sym, ◌∙◌}
+use Rattle.std.proofs.Common.{ap, refl, sym, ◌∙◌}
 use Rattle.wt_span.specs.Items.{items}
 use Rattle.wt_functions.specs.Choice.{asked}
 use Rattle.wt_expand.specs.Texts.{name_text}
