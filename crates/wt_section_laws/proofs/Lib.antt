@@ -1,0 +1,4 @@
+mod Cases
+pub mod Headings
+pub mod Levels
+pub mod SectionParts
