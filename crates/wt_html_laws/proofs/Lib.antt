@@ -5,3 +5,4 @@ pub mod Pieces
 pub mod Elements
 pub mod Sections
 pub mod OneBody
+mod Cases
