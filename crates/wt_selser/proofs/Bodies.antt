@@ -10,6 +10,7 @@ use Rattle.wt_tree.specs.Tree.{Tree, tree, Trees, none, more, label, listed}
 use Rattle.wt_checks.specs.Ids.{is_there}
 use Rattle.wt_checks.specs.Kept.{children, GroupAsItWas, NodeAsItWas, GroupKept}
 use Rattle.wt_checks.specs.Places.{Place, placed, all_placed, places, kind_at, is_kept, is_body, is_content, page_of, parent_below}
+use Rattle.wt_checks.specs.PutBack.{is_frame}
 use Rattle.wt_checks.specs.Tokens.{is_text}
 use Rattle.wt_checks.proofs.Children.{UnnumberedFree, below_root, unnumbered_text}
 use Rattle.wt_checks.proofs.Found.{IsKnown, body_no_group, found_has, inner_by, own_by}
