@@ -5,16 +5,14 @@ use Rattle.wt_span.specs.Origins.{Expanded}
 use Rattle.wt_tree.specs.Opened.{without_sections}
 use Rattle.wt_tree.specs.Plain.{Plain, ended as nothing_more}
 use Rattle.wt_tree.specs.Tiling.{InPreorder}
-use Rattle.wt_tree.specs.Tree.{Tree, tree, label}
+use Rattle.wt_tree.specs.Tree.{Tree, tree}
 use Rattle.wt_fitting.specs.Read.{page as as_page, read}
 use Rattle.wt_round_trip.specs.Written.{unranged}
 use Rattle.wt_expand.specs.PageCalls.{expanded_page}
 use Rattle.wt_expand.specs.Work.{Pages}
-use Rattle.wt_body.specs.Body.{meaning}
-use Rattle.wt_annotated.specs.Annotated.{annotated}
 use Rattle.wt_page_round_trip.specs.PageTree.{page_tree}
-use Rattle.wt_page_round_trip.proofs.Pages.{body_written, page_is_read, page_none, page_opened}
-use Rattle.wt_page_round_trip.proofs.PageTrees.{ungathered, ungathered_numbered}
+use Rattle.wt_page_round_trip.proofs.Pages.{body_written, page_is_read, page_opened}
+use Rattle.wt_page_round_trip.proofs.PageTrees.{ungathered_numbered}
 use Rattle.wt_page_round_trip.proofs.Sectioned.{IsWrittenBody}
 use Rattle.wt_sections.specs.Sections.{with_sections}
 use Rattle.wt_sections.proofs.Kept.{plains_stay}
@@ -43,8 +41,9 @@ use Rattle.wt_pagetool.proofs.AnswerLaws.{input_within}
 use Rattle.wt_pagetool.proofs.EditLaws.{told_edit}
 use Rattle.wt_pagetool.proofs.GivenBackLaws.{written, gave_step}
 use Rattle.wt_pagetool.proofs.PageLaws.{title_made, page_text}
-use Rattle.wt_pagetool.proofs.PageSections.{sections_bare, restored_without}
+use Rattle.wt_pagetool.proofs.PageSections.{restored_without}
 use Rattle.wt_pagetool.proofs.ReadBodies.{read_one_body}
+use Rattle.wt_pagetool.proofs.SectionEdits.{plain_page, page_bare}
 use Rattle.wt_pagetool.proofs.UnchangedShown.{unchanged_unmarked, unchanged_shown}
 use Rattle.wt_pagetool.proofs.UnchangedTree.{unchanged_checked}
 
@@ -73,10 +72,6 @@ edited_read pages page u o = refl
 -- with its sections a body shows what it shows without
 shown_gathered : (t : Tree) → shown_children (with_sections t) ≡ shown_children t
 shown_gathered (tree l ts) = ap listed (plains_stay ts nothing_more)
-
-body_number : (pages : Pages) (page : List ℕ) → (label (ungathered (expanded_page pages page).outer (expanded_page pages page).items)).id ≡ 0
-unfolding meaning annotated
-body_number pages page = refl
 
 -- What is read is the tree u, which the page's tree t has in sections.
 record IsInSections (t u : Tree) : Type 0 where
@@ -118,11 +113,11 @@ stays_unchanged pages page bytes e =
     let m = title_made page bytes (made Html pages) e in
     let w = written pages page bytes e in
     let t : Tree = page_tree pages page in
-    let u : Tree = ungathered (expanded_page pages page).outer (expanded_page pages page).items in
+    let u : Tree = plain_page pages page in
     let text : IsText page = page_text page m.within m.text in
     let opened : without_sections t ≡ u = page_opened pages page w.text w.unrefused in
     let h : IsInSections t u = record {
-      bare = sections_bare u (body_number pages page) (page_none pages page w.text w.unrefused);
+      bare = page_bare pages page w.text w.unrefused;
       opened = opened;
       gathered = refl;
       written = body_written pages page w.text (let le = w.within in omega (arith, le)) w.unrefused;
