@@ -7,6 +7,7 @@ use Rattle.wt_tree.specs.Recut.{leaf_label}
 use Rattle.wt_tree.specs.Tree.{Tree, tree, none, trees}
 use Rattle.wt_sections.specs.Sections.{section_label, gathered}
 use Rattle.wt_section_laws.specs.Levels.{IsOfLevel, IsHeaded, AllReachUp, HoldsDeeper}
+use Rattle.wt_section_laws.specs.Reaches.{reaches}
 
 abbrev child : Kind → Tree
 child k = tree (leaf_label k None [] []) none
@@ -24,6 +25,12 @@ their_sections : gathered (trees (child kind.Para ∷ heading 2 ∷ heading 3 �
     ∷ section 4 (heading 1 ∷ []) ∷ [])
 unfolding spelling
 their_sections = refl
+
+-- what each of their four headings reaches to
+their_reaches : reaches (trees (child kind.Para ∷ heading 2 ∷ heading 3 ∷ heading 3 ∷ heading 1 ∷ []))
+    ≡ trees (heading 2 ∷ heading 3 ∷ heading 3 ∷ []) ∷ trees (heading 3 ∷ []) ∷ trees (heading 3 ∷ []) ∷ trees (heading 1 ∷ []) ∷ []
+unfolding spelling
+their_reaches = refl
 
 first_section : IsOfLevel 2 (section 1 (heading 2 ∷ section 2 (heading 3 ∷ []) ∷ section 3 (heading 3 ∷ []) ∷ []))
 first_section = (1, omega (arith), refl, refl)

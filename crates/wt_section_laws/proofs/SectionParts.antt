@@ -47,7 +47,7 @@ AreSorted (p ∷ ps) = IsSorted p.level p.tree × LevelsFall p.level ps × AreSo
 -- ---- up to a section
 
 -- what doesn't end a section of level n has a larger level
-larger : (n m : ℕ) → ends (Some n) (Some m) ≡ false → n < m
+pub larger : (n m : ℕ) → ends (Some n) (Some m) ≡ false → n < m
 larger n m e = grind (arith, nat_tests, e)
 
 at_most : (n m : ℕ) → ends (Some n) (Some m) ≡ true → m ≤ n

@@ -2,13 +2,14 @@
 //! headings alone.
 #![tactic(auto)]
 
-ghost use Rattle.std.specs.Prelude.{◌≡◌, true};
+ghost use Rattle.std.specs.Prelude.{◌≡◌, ◌++◌, map, true};
 ghost use Rattle.std.specs.List.{AllByRecursion};
 ghost use Rattle.wt_tree.specs.Kinds.{is_section};
 ghost use Rattle.wt_tree.specs.Tree.{Tree, Trees, label, listed};
 ghost use Rattle.wt_sections.specs.Sections.{gathered};
-ghost use Rattle.wt_sections.specs.SectionLaws.{NoneIsSection, sections_in_all};
+ghost use Rattle.wt_sections.specs.SectionLaws.{NoneIsSection, sections_in_all, up_to_heading};
 ghost use Rattle.wt_section_laws.specs.Levels.{AllReachUp, ChildrenReachUp, HoldsDeeper, IsHeaded};
+ghost use Rattle.wt_section_laws.specs.Reaches.{held, lead_reach, reaches};
 
 /// All children of a body are sections. The first child of each section but the lead is a clean heading,
 /// whose level is the section's, and none of its other children is a heading; the lead holds no heading.
@@ -27,4 +28,10 @@ pub fn sections_reach_up()
 /// Inside a section of level n each section, at any depth, has a larger level.
 pub fn sections_hold_deeper_ones()
     ensures { (ts : Trees) → NoneIsSection ts → AllByRecursion HoldsDeeper (sections_in_all (gathered ts)) }
+{}
+
+/// Each section, with the sections inside it opened, holds its heading and all that follows up to the next
+/// heading of its level or a smaller one, or to the end; the lead holds what stands before the first heading.
+pub fn sections_hold_what_follows()
+    ensures { (ts : Trees) → NoneIsSection ts → map held (sections_in_all (gathered ts)) ≡ lead_reach (up_to_heading ts) ++ reaches ts }
 {}
