@@ -10,7 +10,7 @@ use Rattle.wt_span.specs.Items.{Item, items}
 use Rattle.wt_names.specs.declared.title.Title.{Title}
 use Rattle.wt_names.specs.Namespace.{full_name_of}
 use Rattle.wt_expand.specs.Templates.{template_text}
-use Rattle.wt_expand.specs.Work.{Pages, Entry, Refused, braces_too_deep, too_large, not_utf8, too_long, entered, begun, fetched, fetches, firsts_after, is_among, found_refusal, refusal_from}
+use Rattle.wt_expand.specs.Work.{Pages, Entry, Refused, braces_too_deep, too_large, not_utf8, too_long, entered, begun, fetched, fetches, is_among, found_refusal, refusal_from}
 use Rattle.wt_expand.specs.Fronts.{Front, NextRefuses, cost_of_all, known_after}
 use Rattle.wt_expand.specs.Expansion.{Output, Reading, Frame, just, template_output, text_given, fetched_output}
 use Rattle.wt_expand.proofs.Agreements.{fetches_append}
@@ -40,14 +40,16 @@ use Rattle.wt_levels.specs.declared.run.Turn.TheVariants as turn
 use Rattle.wt_levels.proofs.AgainLaws.{NoneNew, fetched_none_new}
 use Rattle.wt_levels.proofs.LevelLaws.{strip}
 
-pub comes_none : (pages : Pages) (page : List ℕ) (b : Ledger) (w : List Entry) → Comes pages page b w b w
-comes_none pages page b w = record {
-  done = [];
+pub by_none : (pages : Pages) (page : List ℕ) (b : Ledger) (w : List Entry) → ComesBy pages page b w [] b w
+by_none pages page b w = record {
   front = front_none pages page b.spent w;
   now_is =
       let z : b.spent ≡ b.spent + 0 = omega arith in
       ap (λ (n : ℕ). ledger n b.met b.answered) z ∙ ap (ledger (b.spent + 0) b.met) (sym (told_none b.answered));
 }
+
+pub comes_none : (pages : Pages) (page : List ℕ) (b : Ledger) (w : List Entry) → Comes pages page b w b w
+comes_none pages page b w = let z = by_none pages page b w in record { done = []; front = z.front; now_is = z.now_is }
 
 -- once more is done
 ledger_then : (l : Ledger) (xs ys : List Entry) → ledger_after (ledger_after l xs) ys ≡ ledger_after l (xs ++ ys)
@@ -59,9 +61,6 @@ ledger_then l xs ys =
     ap (λ (n : ℕ). ledger n (known_after (known_after l.met (fetches xs)) (fetches ys)) (told_with (known_after l.met (fetches xs)) ys (told_with l.met xs l.answered))) cost
     ∙ ap (λ (m : List (List ℕ)). ledger (l.spent + cost_of_all (xs ++ ys)) m (told_with (known_after l.met (fetches xs)) ys (told_with l.met xs l.answered))) known
     ∙ ap (ledger (l.spent + cost_of_all (xs ++ ys)) (known_after l.met (fetches (xs ++ ys)))) told
-
-pub by_none : (pages : Pages) (page : List ℕ) (b : Ledger) (w : List Entry) → ComesBy pages page b w [] b w
-by_none pages page b w = let c = comes_none pages page b w in record { front = front_none pages page b.spent w; now_is = c.now_is }
 
 by_then : (pages : Pages) (page : List ℕ) (a b c : Ledger) (w v u d e : List Entry) → ComesBy pages page a w d b v → ComesBy pages page b v e c u
     → ComesBy pages page a w (d ++ e) c u

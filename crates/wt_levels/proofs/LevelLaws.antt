@@ -1,5 +1,5 @@
 -- Work that was done is taken from what the levels give.
-use Rattle.std.proofs.Common.{◌≡◌, ℕ, ◌+◌, Bool, List, [], ◌∷◌, ◌++◌, refl, sym, ap, ◌∙◌, subst, append_assoc}
+use Rattle.std.proofs.Common.{ℕ, ◌+◌, Bool, List, [], ◌∷◌, ◌++◌, refl, sym, ap, ◌∙◌, subst, append_assoc}
 use Rattle.wt_span.specs.Items.{items}
 use Rattle.wt_span.specs.declared.function.Function.{Function}
 use Rattle.wt_transclusion.specs.declared.read.Braces.{Braces}
@@ -48,8 +48,7 @@ strip_told r t e c w ls o total on h =
     let to = c.call.at.end in
     let ps = parts_of_call r t c.call h.choosing.call in
     let z = on to (after_told c.at_start c.chooser ps o)
-    (subst (λ x. Resumes r t to (starts t to) x ls total) (told_work c.at_start c.chooser ps w o) h.gives) in
-    (
+    (subst (λ x. Resumes r t to (starts t to) x ls total) (told_work c.at_start c.chooser ps w o) h.gives) in (
       z.0,
       z.1,
       record {

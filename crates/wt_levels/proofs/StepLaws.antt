@@ -40,7 +40,7 @@ use Rattle.wt_levels.specs.Accounts.{Account, Does, undone}
 use Rattle.wt_levels.specs.Calls.{IsCallOf, source_of, parts_of_call, outs_of_call, members_behind, first_end, behind_given}
 use Rattle.wt_levels.specs.Levels.{Resumes, Ends}
 use Rattle.wt_levels.specs.Readers.{IsReading}
-use Rattle.wt_levels.specs.Rests.{with_work, after_argument, after_target, after_target_by}
+use Rattle.wt_levels.specs.Rests.{after_argument, after_target, after_target_by}
 use Rattle.wt_levels.specs.Stacks.{stack, whole_level, innermost_end, with_given, one_or_none}
 use Rattle.wt_levels.specs.Runs.{Holds, HasEnded, TakesChunk, BeginsLevel, BeginsCall}
 use Rattle.wt_levels.proofs.CallLaws.{First, first_of, behind_same, call_is}

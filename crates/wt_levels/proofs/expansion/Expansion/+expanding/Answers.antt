@@ -153,12 +153,12 @@ finish-steps-preserved g t c = record {
   given = λ pages page text mode frame before all told v h.
       let self = c.args.self.now in
       let r = reading_of pages mode frame c.args.left self.names in
-        let answered = g.F.Folder.answered c.steps.folder in
+      let answered = g.F.Folder.answered c.steps.folder in
       let agrees = agrees_before pages c.steps.self.store c.advance.new.self.store c.in_ok-pieces.ensures.grown.kept told in
       let p = c.steps.invariant.given pages page text mode frame before all agrees v h in
       let step = step_handed pages page text mode frame c.args.left self.names c.steps.self.names c.steps.invariant.names before all c.steps.run c.step.new.self
       c.steps.self.store c.steps.self.spent c.step.new.spent answered c.in_ok-turn.turn p (c.in_ok-turn.ensures.answer r text p.total p.holding v
-    (progress_spent pages page text r before all c.steps.run c.steps.self.store c.steps.self.spent answered p)) in
+      (progress_spent pages page text r before all c.steps.run c.steps.self.store c.steps.self.spent answered p)) in
       subst (λ (ns : List (List ℕ)). Progress pages page (reading_of pages mode frame c.args.left ns) text before all c.advance.new.run c.advance.new.self.store
       c.advance.new.self.spent (g.F.Folder.answered c.advance.new.folder)) c.steps.invariant.names
       (subst (λ (o : Option (Listed Piece)). AnswersAdvance pages page
