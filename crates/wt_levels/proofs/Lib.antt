@@ -1,3 +1,4 @@
+pub mod AgainLaws
 pub mod CallLaws
 pub mod CallSteps
 pub mod ChoiceSteps
