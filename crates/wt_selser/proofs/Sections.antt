@@ -1,8 +1,8 @@
 -- Sections make no difference to an edit: what is written for it asks of the page only what is found by numbers, and
 -- the children of its body.
-use Rattle.std.proofs.Common.{◌≡◌, ℕ, Bool, true, false, List, [], ◌∷◌, ◌++◌, refl, sym, ap, ◌∙◌, subst, arith}
+use Rattle.std.proofs.Common.{◌≡◌, ℕ, Bool, true, false, List, [], ◌∷◌, ◌++◌, refl, sym, ap, ◌∙◌, arith}
 use Rattle.std.proofs.lemmas.Bool.Decides.{nat_tests}
-use Rattle.std.specs.Prelude.{◌==◌, ◌&&◌, ◌||◌, not, if◌then◌else◌, Option, Some, None, Result, option_map}
+use Rattle.std.specs.Prelude.{◌==◌, ◌&&◌, ◌||◌, not, if◌then◌else◌, Option, Some, None, option_map}
 use Rattle.std.specs.List.{AllByRecursion, flat_map}
 use Rattle.wt_span.specs.Origins.{Expanded}
 use Rattle.wt_tree.specs.declared.kind.Kind.{Kind}
@@ -15,10 +15,10 @@ use Rattle.wt_tree.specs.Tree.{Label, Tree, tree, Trees, none, more, label, list
 use Rattle.wt_checks.specs.BareSections.{HasBareSections}
 use Rattle.wt_checks.specs.Checked.{or_else, checked}
 use Rattle.wt_checks.specs.Groups.{is_marked}
-use Rattle.wt_checks.specs.Kept.{children, MarkKept, WellMarked}
+use Rattle.wt_checks.specs.Kept.{children, MarkKept}
 use Rattle.wt_checks.specs.Marks.{editing, allows, is_children}
 use Rattle.wt_checks.specs.Places.{Place, placed, all_placed, places, number, kind_at, is_kept, is_body, is_content, Page, page_of, parent_below, first}
-use Rattle.wt_checks.specs.PutBack.{is_frame, has_frame, have_frame, IsOneBody}
+use Rattle.wt_checks.specs.PutBack.{is_frame, have_frame, IsOneBody}
 use Rattle.wt_checks.proofs.Frames.{no_frame}
 use Rattle.wt_checks.proofs.Lookups.{each_split}
 use Rattle.wt_checks.proofs.Repeated.{or_false}
@@ -32,10 +32,10 @@ use Rattle.wt_selser.specs.declared.body.Front.{Front}
 use Rattle.wt_selser.specs.BodySlices.{past, start, step_slices, body_slices, list_at, child_slices, all_child_slices, slices_of, slices}
 use Rattle.wt_selser.specs.declared.refusal.EditRefusal.{EditRefusal}
 use Rattle.wt_selser.specs.declared.refusal.EditRefusal.TheVariants as refusal
-use Rattle.wt_selser.specs.Changes.{Pair, pair_with, pair_at, marked, is_edited, inside_of, insides, all_insides}
-use Rattle.wt_selser.specs.Edits.{first_with, first_of, why_bad, bad_pair, is_tangled, tangled_pair, refused_pairs, if_short, unless_refused, pairs_answer, edit_answer}
+use Rattle.wt_selser.specs.Changes.{Pair, pair_with, pair_at, marked, inside_of, insides, all_insides}
+use Rattle.wt_selser.specs.Edits.{first_with, first_of, bad_pair, is_tangled, tangled_pair, refused_pairs, if_short, unless_refused, pairs_answer, edit_answer}
 use Rattle.wt_selser.specs.ListSlices.{at_place, sign_of, is_kept_item, from_kept, removed_before, first_removed, first_start, new_before, item_slices, list_from, list_slices}
-use Rattle.wt_selser.specs.Splice.{Change, spliced}
+use Rattle.wt_selser.specs.Splice.{spliced}
 use Rattle.wt_selser.specs.Steps.{Step, stays, goes, kept, comes, passed_one, passed, passed_up_to, from_number, kept_first, behind_first, steps}
 use Rattle.wt_checks.specs.declared.refusal.Check.{Check}
 use Rattle.wt_checks.specs.declared.refusal.Check.TheVariants.{UnknownId, RepeatedId, Moved, InTemplate, NotEditable, UnmarkedChange}
