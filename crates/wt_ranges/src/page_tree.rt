@@ -81,6 +81,21 @@ fn sound_calls<'a, 'b>(items: &'b Items<'a>) -> &'b [Outer<'a>]
     items.outer()
 }
 
+/// The annotated tree of a page with this body, whose children are put into sections.
+fn in_sections<'a>(
+    alloc: Global,
+    body: Node<'a>,
+    items: Items<'a>,
+) -> Result<Annotated<'a>, NoMemory>
+    requires tiled { Tiled (view body) }
+    requires numbered { InPreorder (view body) }
+    ensures tree { IfOk result (λ a. view a.tree.body ≡ with_sections (view body.entry)) }
+    ensures items { IfOk result (λ a. a.items ≡ items.entry) }
+{
+    let gathered = gather_sections(alloc, body)?;
+    Ok(Annotated::of(gathered, items))
+}
+
 /// The annotated tree of a tree over a page's items: its groups and the nodes that are kept, each
 /// with its place in bytes of the page, its source as it stands there, and its number; each group
 /// carries its parts; the texts and separators of items and cells are cut anew; the body's children stand in
@@ -97,7 +112,6 @@ pub fn group<'a>(
     ensures tree { IfOk result (λ a. view a.tree.body ≡ with_sections (annotated items.entry.outer (group_data items.entry.outer) (item_tree tree.entry))) }
     ensures items { IfOk result (λ a. a.items ≡ items.entry) }
 {
-    let grouped = group_tree(alloc, sound_calls(&items), tree)?;
-    let body = gather_sections(alloc, grouped)?;
-    Ok(Annotated::of(body, items))
+    let body = group_tree(alloc, sound_calls(&items), tree)?;
+    in_sections(alloc, body, items)
 }
