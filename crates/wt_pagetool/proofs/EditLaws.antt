@@ -4,8 +4,7 @@ use Rattle.std.specs.Prelude.{nat_lt, length, Option, Some, None, option_map, If
 use Rattle.std.specs.Io.KnownBytes.{Appends, IsAtEnd}
 use Rattle.wt_outer.specs.Device.{Pages}
 use Rattle.wt_span.specs.Origins.{Expanded}
-use Rattle.wt_tree.specs.Plain.{Face}
-use Rattle.wt_tree.specs.Tree.{Tree, tree, label}
+use Rattle.wt_tree.specs.Tree.{Tree, tree}
 use Rattle.wt_expand.specs.PageCalls.{expanded_page}
 use Rattle.wt_expand.specs.Work.{Refused}
 use Rattle.wt_transclusion.specs.declared.refusal.ExpandRefusal.{ExpandRefusal}

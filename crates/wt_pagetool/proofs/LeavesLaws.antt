@@ -136,7 +136,7 @@ text_no_frame (kind.Section n) e = absurd (cc)
 text_no_frame k e = refl
 
 -- what is written in another node is neither
-pub stands : (w : Writing) (k : ℕ) (parent : Kind) (l : Label) (ts : Trees) (childless : Bool) (inside : Type 0) → writing l.kind ≡ w
+stands : (w : Writing) (k : ℕ) (parent : Kind) (l : Label) (ts : Trees) (childless : Bool) (inside : Type 0) → writing l.kind ≡ w
     → NodeIsWritten w k parent l childless inside (IsWrittenGroup k parent l ts) → is_frame l.kind ≡ false
 stands AsText k parent l ts childless inside e h = text_no_frame l.kind e
 stands AsVoid k parent l ts childless inside e h = no_frame l.kind (held parent l.kind h.1 h.2.element)

@@ -10,7 +10,6 @@ pub mod GivenBackLaws
 pub mod LeavesLaws
 pub mod PageSections
 pub mod PageLaws
-pub mod ReadBodies
 pub mod ReadGroups
 pub mod RefusalLines
 pub mod RunLaws

@@ -17,7 +17,7 @@ use Rattle.wt_round_trip.proofs.Faces.{held_somewhere}
 use Rattle.wt_round_trip.proofs.Rows.{is_somewhere, held}
 use Rattle.wt_checks.specs.Elements.{bare, all_bare, written_for, read_by, read_before, all_read}
 use Rattle.wt_checks.specs.Groups.{has_mark, have_mark}
-use Rattle.wt_checks.specs.PutBack.{is_frame, has_frame, have_frame}
+use Rattle.wt_checks.specs.PutBack.{is_frame}
 use Rattle.wt_checks.specs.Places.{Place, placed, all_placed, kind_at, is_kept, is_body, is_content, parent_below}
 use Rattle.wt_checks.proofs.Lookups.{each_join}
 
@@ -93,29 +93,6 @@ pub no_frame : (k : Kind) → is_somewhere (shape k).class ≡ true → is_frame
 no_frame kind.Body e = absurd cc
 no_frame (kind.Section n) e = absurd cc
 no_frame k e = refl
-
-mutual
-  inner_unframed : (p : Plain) (k : ℕ) (parent : Kind) → PlainIn k parent p → has_frame (inner_node p) ≡ false
-  inner_unframed (text bs) k parent h = refl
-  inner_unframed (element f qs) k parent h =
-      ap (λ b. b || have_frame (inner_nodes qs)) (no_frame f.kind (held parent f.kind h.0 h.1.1.element)) ∙ inners_unframed qs (suc k) f.kind h.1.3.1
-
-  inners_unframed : (ps : Plains) (k : ℕ) (parent : Kind) → PlainsIn k parent ps → have_frame (inner_nodes ps) ≡ false
-  inners_unframed ended k parent h = refl
-  inners_unframed (along p ps) k parent h =
-      ap (λ b. b || have_frame (inner_nodes ps)) (inner_unframed p k parent h.0) ∙ inners_unframed ps k parent h.2
-
-tops_unframed : (ps : Plains) (k : ℕ) (parent : Kind) → TopsIn k parent ps → have_frame (inner_nodes ps) ≡ false
-tops_unframed ended k parent h = refl
-tops_unframed (along (text bs) ps) k parent h = absurd h.0
-tops_unframed (along (element f qs) ps) k parent h =
-    ap (λ b. (b || have_frame (inner_nodes qs)) || have_frame (inner_nodes ps))
-    (no_frame f.kind (held_somewhere parent f.kind (is_ended qs) h.0.0 h.0.1.1.element))
-    ∙ ap (λ b. b || have_frame (inner_nodes ps)) (inners_unframed qs (suc k) f.kind h.0.1.3.1)
-    ∙ tops_unframed ps k parent h.1
-
-pub group_unframed : (ts : Trees) (k : ℕ) (parent : Kind) → TopsIn k parent (elements_for ts) → have_frame (group_nodes ts) ≡ false
-group_unframed ts k parent h = tops_unframed (elements_for ts) k parent h
 
 mutual
   inner_new : (p : Plain) (k : ℕ) (parent : Kind) (n : ℕ) (within : Bool) → PlainIn k parent p

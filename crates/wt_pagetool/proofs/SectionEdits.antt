@@ -1,12 +1,10 @@
 -- An edit of a page in sections is the edit of the page without them: all that stands outside its slices stands in the new page.
-use Rattle.std.proofs.Common.{◌≡◌, ℕ, ◌≤◌, List, length, refl, sym, ap, ◌∙◌, subst, arith}
+use Rattle.std.proofs.Common.{◌≡◌, ℕ, ◌≤◌, List, length, refl, sym, ap, ◌∙◌, subst}
 use Rattle.std.specs.Prelude.{IsUtf8, None, Ok}
 use Rattle.wt_tree.specs.declared.kind.Kind.TheVariants as kind
 use Rattle.wt_tree.specs.Opened.{without_sections}
 use Rattle.wt_tree.specs.Tiling.{Tiled, Covers, InPreorder}
-use Rattle.wt_tree.specs.Tree.{Tree, tree, label}
-use Rattle.wt_inline.specs.ItemTree.{tree_items}
-use Rattle.wt_span.specs.Cuts.{page_of}
+use Rattle.wt_tree.specs.Tree.{Tree, label}
 use Rattle.wt_span.specs.Origins.{Expanded}
 use Rattle.wt_expand.specs.PageCalls.{expanded_page}
 use Rattle.wt_expand.specs.Work.{Pages}

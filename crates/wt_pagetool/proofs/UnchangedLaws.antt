@@ -1,5 +1,5 @@
 -- From the tree of a page to `run`: what `edit` answers for the HTML of the page, given back unchanged.
-use Rattle.std.proofs.Common.{◌≡◌, ℕ, ◌≤◌, List, length, refl, sym, ap, ◌∙◌, subst, arith}
+use Rattle.std.proofs.Common.{◌≡◌, ℕ, ◌≤◌, ◌<◌, ◌^◌, List, length, refl, sym, ap, ◌∙◌, subst, arith}
 use Rattle.std.specs.Prelude.{Option, Some, None, IfSome, Result, Ok}
 use Rattle.wt_span.specs.Origins.{Expanded}
 use Rattle.wt_tree.specs.Opened.{without_sections}
@@ -7,6 +7,8 @@ use Rattle.wt_tree.specs.Plain.{Plain, ended as nothing_more}
 use Rattle.wt_tree.specs.Tiling.{InPreorder}
 use Rattle.wt_tree.specs.Tree.{Tree, tree}
 use Rattle.wt_fitting.specs.Read.{page as as_page, read}
+use Rattle.wt_html_laws.proofs.OneBody.{read_is_one_body}
+use Rattle.wt_markup.specs.Html.{html_text}
 use Rattle.wt_round_trip.specs.Written.{unranged}
 use Rattle.wt_expand.specs.PageCalls.{expanded_page}
 use Rattle.wt_expand.specs.Work.{Pages}
@@ -17,6 +19,7 @@ use Rattle.wt_page_round_trip.proofs.Sectioned.{IsWrittenBody}
 use Rattle.wt_sections.specs.Sections.{with_sections}
 use Rattle.wt_sections.proofs.Kept.{plains_stay}
 use Rattle.wt_checks.specs.BareSections.{HasBareSections}
+use Rattle.wt_checks.specs.PutBack.{IsOneBody}
 use Rattle.wt_shown.specs.Children.{listed, shown_children, differing}
 use Rattle.wt_selser.specs.Edits.{most_bytes, edit_answer}
 use Rattle.wt_shown.specs.Restored.{restored_from}
@@ -42,7 +45,6 @@ use Rattle.wt_pagetool.proofs.EditLaws.{told_edit}
 use Rattle.wt_pagetool.proofs.GivenBackLaws.{written, gave_step}
 use Rattle.wt_pagetool.proofs.PageLaws.{title_made, page_text}
 use Rattle.wt_pagetool.proofs.PageSections.{restored_without}
-use Rattle.wt_pagetool.proofs.ReadBodies.{read_one_body}
 use Rattle.wt_pagetool.proofs.SectionEdits.{plain_page, page_bare}
 use Rattle.wt_pagetool.proofs.UnchangedShown.{unchanged_unmarked, unchanged_shown}
 use Rattle.wt_pagetool.proofs.UnchangedTree.{unchanged_checked}
@@ -80,11 +82,12 @@ record IsInSections (t u : Tree) : Type 0 where
   pub gathered : t ≡ with_sections u
   pub written : IsWrittenBody u
   pub numbered : InPreorder u
+  pub one : IsOneBody (unranged u)
 
 sections_edit : (items : Expanded) (page : List ℕ) (t u : Tree) → length page ≤ 2097152 → IsInSections t u
     → edit_answer same_node items page t (unranged u) ≡ Ok page
 sections_edit items page t u le h =
-    answers_same same_node items page t (unranged u) h.bare (read_one_body u h.written)
+    answers_same same_node items page t (unranged u) h.bare h.one
     ∙ ap (λ x. edit_answer same_node items page x (unranged u)) h.opened
     ∙ unchanged_edit items page u le h.written h.numbered
 
@@ -116,18 +119,21 @@ stays_unchanged pages page bytes e =
     let u : Tree = plain_page pages page in
     let text : IsText page = page_text page m.within m.text in
     let opened : without_sections t ≡ u = page_opened pages page w.text w.unrefused in
+    let few : length page < 2 ^ 30 = let le = w.within in omega (arith, le) in
+    let reads : read (html_text t) ≡ as_page (unranged u) None =
+    page_is_read pages page w.text few w.unrefused ∙ ap (λ x. as_page (unranged x) None) opened in
     let h : IsInSections t u = record {
       bare = page_bare pages page w.text w.unrefused;
       opened = opened;
       gathered = refl;
-      written = body_written pages page w.text (let le = w.within in omega (arith, le)) w.unrefused;
+      written = body_written pages page w.text few w.unrefused;
       numbered = ungathered_numbered (expanded_page pages page).outer (expanded_page pages page).items;
+      one = read_is_one_body (html_text t) (unranged u) None reads;
     } in
     text (λ bs. input_answer (edited_answer pages bs) bytes)
     ∙ input_within (edited_answer pages page) bytes w.few
     ∙ ap (λ bs. edited_answer pages page (read bs)) w.is
-    ∙ ap (edited_answer pages page) (page_is_read pages page w.text (let le = w.within in omega (arith, le)) w.unrefused
-    ∙ ap (λ x. as_page (unranged x) None) opened)
+    ∙ ap (edited_answer pages page) reads
     ∙ edited_read pages page (unranged u) None
     ∙ ap (expanded_by (edit_from pages page (unranged u))) w.unrefused
     ∙ unchanged_by pages page t u refl w.within text w.unrefused h

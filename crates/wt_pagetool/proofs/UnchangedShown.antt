@@ -1,12 +1,10 @@
 -- What is read of the HTML that is written for a tree, unchanged, has no marks, and shows what the tree shows, where each group is
 -- what the page's group of its number holds.
-use Rattle.std.proofs.Common.{◌≡◌, ◌≢◌, ℕ, suc, ◌<◌, Bool, true, false, List, [], ◌∷◌, ◌++◌, refl, ap, ◌∙◌, subst, arith}
+use Rattle.std.proofs.Common.{◌≡◌, ◌≢◌, ℕ, suc, ◌<◌, Bool, true, false, refl, ap, ◌∙◌, subst, arith}
 use Rattle.std.specs.Prelude.{◌||◌, if◌then◌else◌}
-use Rattle.std.specs.List.{AllByRecursion, flat_map}
+use Rattle.std.specs.List.{AllByRecursion}
 use Rattle.wt_tree.specs.declared.kind.Kind.{Kind}
 use Rattle.wt_tree.specs.declared.kind.Kind.TheVariants as kind
-use Rattle.wt_tree.specs.declared.kind.Mark.{Mark}
-use Rattle.wt_tree.specs.declared.kind.Mark.TheVariants as mark
 use Rattle.wt_tree.specs.declared.kind.Showing.{Showing}
 use Rattle.wt_tree.specs.declared.kind.Showing.TheVariants.{Characters, Inside, Nothing, Element}
 use Rattle.wt_tree.specs.declared.row.Writing.{Writing}
@@ -14,12 +12,12 @@ use Rattle.wt_tree.specs.declared.row.Writing.TheVariants.{AsText, AsVoid, Round
 use Rattle.wt_tree.specs.Kinds.{showing, writing}
 use Rattle.wt_tree.specs.Plain.{Plains, ended, shown_before, plain_before, plains_before}
 use Rattle.wt_tree.specs.Tiling.{is_group, InPreorder}
-use Rattle.wt_tree.specs.Tree.{Label, Tree, tree, Trees, none, more, label}
+use Rattle.wt_tree.specs.Tree.{Label, Tree, tree, Trees, none, more}
 use Rattle.wt_round_trip.specs.GroupNodes.{group_nodes}
 use Rattle.wt_round_trip.specs.Written.{label_read, unranged, unranged_all, is_childless, IsWrittenGroup, NodeIsWritten, WrittenIn, AllWrittenIn}
 use Rattle.wt_page_round_trip.proofs.Sectioned.{IsWrittenBody}
 use Rattle.wt_checks.specs.Groups.{is_marked, has_mark, have_mark}
-use Rattle.wt_checks.specs.Places.{Place, placed, all_placed, places, is_content, Page, page_of, parent_below}
+use Rattle.wt_checks.specs.Places.{placed, all_placed, places, is_content, Page, page_of, parent_below}
 use Rattle.wt_checks.proofs.Found.{Itself, each_itself}
 use Rattle.wt_checks.proofs.InOrder.{not_zero_kept, test_other}
 use Rattle.wt_checks.proofs.Lookups.{each_split}
@@ -63,7 +61,7 @@ childless_written : (ts : Trees) (k : ℕ) (parent : Kind) → is_childless ts �
 childless_written none k parent e = tt
 childless_written (more t ts) k parent e = absurd (cc)
 
-pub inside_written : (w : Writing) (l : Label) (ts : Trees) (k : ℕ) (parent : Kind) (Cut : Type 0) → is_group l.kind ≡ false
+inside_written : (w : Writing) (l : Label) (ts : Trees) (k : ℕ) (parent : Kind) (Cut : Type 0) → is_group l.kind ≡ false
     → NodeIsWritten w k parent l (is_childless ts) (Cut × AllWrittenIn (suc k) l.kind ts) (IsWrittenGroup k parent l ts)
     → AllWrittenIn (suc k) l.kind ts
 inside_written AsText l ts k parent Cut g h = childless_written ts (suc k) l.kind h.1
@@ -73,7 +71,7 @@ inside_written RoundChildren l ts k parent Cut g h = h.4.1
 inside_written (AsSection n) l ts k parent Cut g h = absurd h
 inside_written Unwritten l ts k parent Cut g h = absurd (true_is (is_group l.kind) g (ap is_group h.label.kind))
 
-pub written_group : (l : Label) (ts : Trees) (k : ℕ) (parent : Kind) (Content : Type 0) → is_group l.kind ≡ true
+written_group : (l : Label) (ts : Trees) (k : ℕ) (parent : Kind) (Content : Type 0) → is_group l.kind ≡ true
     → NodeIsWritten (writing l.kind) k parent l (is_childless ts) Content (IsWrittenGroup k parent l ts) → IsWrittenGroup k parent l ts
 written_group l ts k parent Content g h =
     subst (λ w. NodeIsWritten w k parent l (is_childless ts) Content (IsWrittenGroup k parent l ts)) (group_unwritten l.kind g) h

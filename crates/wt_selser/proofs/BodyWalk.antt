@@ -20,7 +20,6 @@ use Rattle.wt_content.specs.Children.{is_mark, is_separator, is_space}
 use Rattle.wt_content.specs.Content.{has_break}
 use Rattle.wt_selser.specs.declared.body.Front.{Front}
 use Rattle.wt_selser.specs.declared.steps.Step.{Step as Taken}
-use Rattle.wt_selser.specs.declared.steps.Step.TheVariants as taken
 use Rattle.wt_selser.specs.BodySlices.{all_child_slices, before_new, begins_new, blank_at, body_slices, break_at, child_slices, for_removed, holds_break, holds_kept, is_parted, leaves_blank, leaves_break, list_at, parts_with, past, past_node, removed_with, said_or, slices_of, start, step_slices, tail, tail_at_end, tail_before}
 use Rattle.wt_selser.specs.Changes.{insides}
 use Rattle.wt_selser.specs.ListSlices.{at_place, list_slices, sign_of}

@@ -16,7 +16,7 @@ use Rattle.wt_selser.specs.declared.steps.Step.{Step as Taken}
 use Rattle.wt_selser.specs.Changes.{insides}
 use Rattle.wt_selser.specs.ListSlices.{at_place, first_removed, first_start, from_kept, is_item, is_kept_item, item_slices, list_from, list_slices, new_before, new_one_before, removed_before, start_of}
 use Rattle.wt_selser.specs.Splice.{Change}
-use Rattle.wt_selser.specs.Steps.{Step, stays, goes, kept, comes, from_number, steps}
+use Rattle.wt_selser.specs.Steps.{Step, goes, kept, comes, from_number, steps}
 use Rattle.wt_selser.specs.declared.child.Child.{Child}
 use Rattle.wt_selser.specs.Views.{child_views, steps_view, step_view}
 use Rattle.wt_selser.proofs.Spliced.{kind_seen, ranges_seen}
@@ -202,12 +202,6 @@ pub steps_end : (ss : List Taken) (i : ℕ) → length ss ≤ i → steps_view (
 steps_end ss i l = ap steps_view (drop_all i ss l)
 
 -- ---- a list
-
-pub no_items : (same : Tree → Tree → Bool) (page : Page) (sign : ℕ) (ts us : Trees) (cs : List Change) → from_kept us ≡ none
-    → cs ≡ cs ++ list_slices same page sign ts us
-no_items same page sign ts us cs e =
-    let empty : cs ++ [] ≡ cs = simp append-nil in
-    sym empty ∙ ap (λ (vs : Trees). cs ++ list_from same page sign ts us vs) (sym e)
 
 pub list_made : (same : Tree → Tree → Bool) (page : Page) (sign place number : ℕ) (ts us all behind vs : Trees) (n : Node) (cs ds es fs : List Change)
     → from_kept us ≡ all → all ≡ more (view n) vs → number ≡ (out-Node n).id → behind ≡ from_number number ts → place ≡ first_start behind

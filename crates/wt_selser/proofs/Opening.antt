@@ -1,39 +1,18 @@
 -- The children of a body, one by one.
-use Rattle.std.proofs.Common.{◌≡◌, ◌<◌, ◌≤◌, ℕ, ◌+◌, Bool, true, false, List, [], ◌∷◌, ◌++◌, length, take, drop, get_or, map, refl, sym, ap, ◌∙◌, append_assoc, append-nil}
+use Rattle.std.proofs.Common.{◌≡◌, ◌<◌, ◌≤◌, ℕ, ◌+◌, Bool, true, false, List, [], ◌∷◌, ◌++◌, length, take, get_or, map, refl, sym, ap, ◌∙◌, append_assoc}
 use Rattle.std.specs.Prelude.{if◌then◌else◌}
 use Rattle.std.proofs.lemmas.List.{take_more, take_all, map-append}
 use Rattle.wt_tree.specs.Kinds.{is_section}
-use Rattle.wt_tree.specs.Opened.{opened, opened_before, all_opened_before}
-use Rattle.wt_tree.specs.Tree.{Label, Tree, tree, Trees, none, more, trees, listed}
-use Rattle.wt_tree.specs.View.{view, views, label_of}
+use Rattle.wt_tree.specs.Opened.{opened, opened_before}
+use Rattle.wt_tree.specs.Tree.{Tree, tree, Trees, none, more, trees, listed}
+use Rattle.wt_tree.specs.View.{view, views}
 use Rattle.wt_tree.specs.declared.node.Node.{Node, out-Node}
+use Rattle.wt_tree.proofs.Openings.{listed_opened}
 use Rattle.wt_tree.proofs.Views.{view_out}
 
 pub trees_listed : (ts : Trees) → trees (listed ts) ≡ ts
 trees_listed none = refl
 trees_listed (more t ts) = ap (λ us. more t us) (trees_listed ts)
-
-listed_trees : (ts : List Tree) → listed (trees ts) ≡ ts
-listed_trees [] = refl
-listed_trees (t ∷ ts) = ap (λ us. t ∷ us) (listed_trees ts)
-
-mutual
-  listed_before : (t : Tree) (us : Trees) → listed (opened_before t us) ≡ listed (opened_before t none) ++ listed us
-  listed_before (tree l ts) us = by_section (is_section l.kind) (all_listed_before ts us)
-    where
-      by_section : (b : Bool) → listed (all_opened_before ts us) ≡ listed (opened ts) ++ listed us
-          → listed (if b then all_opened_before ts us else more (tree l ts) us)
-          ≡ listed (if b then opened ts else more (tree l ts) none) ++ listed us
-      by_section true h = h
-      by_section false h = refl
-
-  all_listed_before : (ts us : Trees) → listed (all_opened_before ts us) ≡ listed (opened ts) ++ listed us
-  all_listed_before none us = refl
-  all_listed_before (more t ts) us =
-      listed_before t (all_opened_before ts us)
-      ∙ ap (λ es. listed (opened_before t none) ++ es) (all_listed_before ts us)
-      ∙ sym (append_assoc (listed (opened_before t none)) (listed (opened ts)) (listed us))
-      ∙ ap (λ es. es ++ listed us) (sym (listed_before t (opened ts)))
 
 -- what the first of these nodes give
 abbrev pub opened_list : List Node → List Tree
@@ -42,10 +21,10 @@ opened_list ns = listed (opened (views ns))
 opened_push : (ns : List Node) (n : Node) → opened_list (ns ++ n ∷ []) ≡ opened_list ns ++ listed (opened_before (view n) none)
 opened_push [] n = refl
 opened_push (m ∷ ns) n =
-    listed_before (view m) (opened (views (ns ++ n ∷ [])))
+    listed_opened (view m) (views (ns ++ n ∷ []))
     ∙ ap (λ es. listed (opened_before (view m) none) ++ es) (opened_push ns n)
     ∙ sym (append_assoc (listed (opened_before (view m) none)) (opened_list ns) (listed (opened_before (view n) none)))
-    ∙ ap (λ es. es ++ listed (opened_before (view n) none)) (sym (listed_before (view m) (opened (views ns))))
+    ∙ ap (λ es. es ++ listed (opened_before (view n) none)) (sym (listed_opened (view m) (views ns)))
 
 pub opened_turn : (ns : List Node) (i : ℕ) (n : Node) (a b c : List Tree) → i < length ns → n ≡ get_or ns i n
     → b ≡ a ++ opened_list (take i ns) → c ≡ b ++ listed (opened_before (view n) none) → c ≡ a ++ opened_list (take (i + 1) ns)
@@ -76,12 +55,6 @@ pushed_section n b ns i xs ys e f are ge h =
 pub opened_all : (ns ms : List Node) (i : ℕ) (ys : List Tree) → ns ≡ ms → length ns ≤ i → ys ≡ opened_list (take i ns) → trees ys ≡ opened (views ms)
 opened_all ns ms i ys are ge h =
     ap trees (h ∙ ap opened_list (take_all i ns ge ∙ are)) ∙ trees_listed (opened (views ms))
-
-pub child_turn : (ns : List Node) (i : ℕ) (n : Node) (b c : List Tree) → i < length ns → n ≡ get_or ns i n
-    → b ≡ map view (take i ns) → c ≡ b ++ view n ∷ [] → c ≡ map view (take (i + 1) ns)
-child_turn ns i n b c lt is h k =
-    k ∙ ap (λ es. es ++ view n ∷ []) h ∙ sym (map-append view (take i ns) (n ∷ []))
-    ∙ ap (map view) (sym (take_more ns i n lt ∙ ap (λ (x : Node). take i ns ++ x ∷ []) (sym is)))
 
 pub children_all : (ns ms : List Node) (i : ℕ) (ys : List Tree) → ns ≡ ms → length ns ≤ i → ys ≡ map view (take i ns) → trees ys ≡ views ms
 children_all ns ms i ys are ge h = ap trees (h ∙ ap (map view) (take_all i ns ge ∙ are))

@@ -1,5 +1,5 @@
 use Rattle.std.proofs.Common.{ap, sym, ◌∙◌}
-use Rattle.wt_tree.specs.declared.node.Node.{Node, out-Node}
+use Rattle.wt_tree.specs.declared.node.Node.{out-Node}
 use Rattle.wt_selser.specs.declared.child.Child.{Child}
 use Rattle.wt_selser.proofs.StepWalk.{none_more}
 use Rattle.wt_selser.proofs.steps.place_of.Goals as goal
