@@ -1,17 +1,15 @@
 -- How the code finds its steps along children: nodes that are passed one by one.
-use Rattle.std.proofs.Common.{arith, ◌≡◌, ◌<◌, ◌≤◌, ℕ, ◌+◌, ◌-◌, Bool, true, false, List, [], ◌∷◌, ◌++◌, length, take, drop, get_or, refl, sym, ap, ◌∙◌, nat_eq, ◌≢◌, inl, inr, if◌then◌else◌, append_assoc, append-nil}
-use Rattle.std.specs.Prelude.{◌==◌, not}
+use Rattle.std.proofs.Common.{arith, ◌≡◌, ◌<◌, ◌≤◌, ℕ, ◌+◌, ◌-◌, Bool, false, List, [], ◌∷◌, ◌++◌, length, take, drop, get_or, refl, sym, ap, ◌∙◌, nat_eq, ◌≢◌, inl, inr, if◌then◌else◌, append_assoc, append-nil}
 use Rattle.std.proofs.lemmas.Bool.Decides.{eqb_tells}
 use Rattle.std.proofs.lemmas.List.{drop_more, take_more, drop_all, take_all, drop-drop, length-drop}
 use Rattle.wt_tree.specs.declared.node.Node.{Node, out-Node}
-use Rattle.wt_tree.specs.Tree.{Tree, Trees, none, more, label}
+use Rattle.wt_tree.specs.Tree.{Trees, more, label}
 use Rattle.wt_tree.specs.View.{view, views}
 use Rattle.wt_tree.proofs.Views.{view_out}
 use Rattle.wt_content.specs.declared.children.Holder.{Holder}
-use Rattle.wt_content.specs.Children.{is_child}
 use Rattle.wt_selser.specs.declared.child.Child.{Child}
 use Rattle.wt_selser.specs.Views.{child_views}
-use Rattle.wt_selser.specs.Steps.{Step, kept, comes, passed, passed_one, passed_up_to, from_number, behind_first, kept_first, steps}
+use Rattle.wt_selser.specs.Steps.{Step, passed, passed_one, passed_up_to, from_number, steps}
 
 pub id_seen : (n : Node) → (label (view n)).id ≡ (out-Node n).id
 id_seen n = rw (view_out n)
