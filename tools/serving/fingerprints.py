@@ -15,14 +15,18 @@ HIDDEN = re.compile(r"<!--.*?(?:-->|\Z)|</?(?:include|no|only)[a-z]*[^<>]*>", re
 TAG = re.compile(r'\s*(?:W/)?"([\x21\x23-\x7e]*)"\s*(?:,|\Z)')
 
 
-def etag(folder: PageFolder, name: str, page: bytes, document: bytes) -> str:
-    """The tag of a page and its HTML.
+def hash_of(data: bytes) -> bytes:
+    return hashlib.sha256(data).digest()
+
+
+def etag(folder: PageFolder, name: str, page: bytes, html_hash: bytes) -> str:
+    """The tag of a page and its HTML, of which the hash (`hash_of`) is given.
 
     It is a hash of the page, of its HTML, in which stands all that its templates give, and of every page that
     a call names in letters, in the page or in these in turn. So it changes with each of them, and also with a
     template whose name other calls or arguments make up, where that shows anything.
     """
-    digest = hashlib.sha256(hashlib.sha256(page).digest() + hashlib.sha256(document).digest())
+    digest = hashlib.sha256(hash_of(page) + html_hash)
     seen, texts = {name}, [page]
     while texts:
         for called in names_in(texts.pop()):
@@ -30,8 +34,8 @@ def etag(folder: PageFolder, name: str, page: bytes, document: bytes) -> str:
                 continue
             seen.add(called)
             text = folder.read_if_there(called)
-            digest.update(hashlib.sha256(called.encode()).digest())
-            digest.update(hashlib.sha256(text).digest() if text is not None else b"absent")
+            digest.update(hash_of(called.encode()))
+            digest.update(hash_of(text) if text is not None else b"absent")
             if text is not None:
                 texts.append(text)
     return f'W/"{revision(page)}/{digest.hexdigest()[:32]}"'
