@@ -654,7 +654,10 @@ test("what the server no longer keeps is sent again", { skip }, async () => {
   assert.deepEqual(await tab.js("bodies"), ["html", "prepared", "html"]);
 });
 
-/** What each step with a page of 1 MiB may take on the clock of a machine that does nothing else. */
+/**
+ * What each step with a page of 1 MiB, and a whole save, may take on the clock of a machine that does nothing
+ * else.
+ */
 const MOST_SECONDS = 2;
 
 /** The same of processor time, of the page and the server together: other work makes it longer, too. */
@@ -684,6 +687,7 @@ test("a page of 1 MiB is opened, shows its changes, is stored", { skip }, async 
   const lines = [];
   for (let bytes = 0, at = 0; bytes < 1 << 20; at += 1) {
     const line = `Paragraph ${at} of a '''long''' page with [[Main Page|links]], ''words'' and a reference.`;
+    if (at % 20 === 10) lines.push(at % 100 === 10 ? `== Part ${at} ==` : `=== Part ${at} ===`, "");
     lines.push(`${line}<ref>note ${at}</ref>`, "");
     bytes += lines[lines.length - 2].length + 2;
   }
@@ -701,11 +705,13 @@ test("a page of 1 MiB is opened, shows its changes, is stored", { skip }, async 
   };
   const show = async () => assert.equal(await save(), "changes");
   await takesSeconds("showing changes", context, change, show);
-  const changeAndShow = async () => (await isShown()) || (await change(), await show());
-  await takesSeconds("storing", context, changeAndShow, async () => {
+  const store = async () => {
     await tab.press("Enter");
     await tab.until(`document.getElementById("status").textContent === "The page is saved."`);
-  });
+  };
+  const changeAndShow = async () => (await isShown()) || (await change(), await show());
+  await takesSeconds("storing", context, changeAndShow, store);
+  await takesSeconds("a whole save", context, change, async () => (await show(), await store()));
   assert.equal(wiki.read("A page"), page);
   assert.equal(await save(), "Nothing was changed.");
   const emptied = await measured(tab, server, () => tab.press("Control+a", "Backspace"));

@@ -4,7 +4,8 @@ from __future__ import annotations
 import hashlib
 import html
 import re
-from functools import lru_cache
+import threading
+from collections import OrderedDict
 from typing import Optional
 
 from .other_tools import titles
@@ -12,6 +13,7 @@ from .pages import PageFolder, revision
 
 CALL = re.compile(r"\{\{+([^{}|]+)")  # where a call's target begins, behind all braces
 HIDDEN = re.compile(r"<!--.*?(?:-->|\Z)|</?(?:include|no|only)[a-z]*[^<>]*>", re.DOTALL | re.IGNORECASE)
+MOST_NAMES = 100_000  # that are remembered
 TAG = re.compile(r'\s*(?:W/)?"([\x21\x23-\x7e]*)"\s*(?:,|\Z)')
 
 
@@ -29,7 +31,7 @@ def etag(folder: PageFolder, name: str, page: bytes, html_hash: bytes) -> str:
     digest = hashlib.sha256(hash_of(page) + html_hash)
     seen, texts = {name}, [page]
     while texts:
-        for called in names_in(texts.pop()):
+        for called in NAMES.of(texts.pop()):
             if called in seen:
                 continue
             seen.add(called)
@@ -41,7 +43,34 @@ def etag(folder: PageFolder, name: str, page: bytes, html_hash: bytes) -> str:
     return f'W/"{revision(page)}/{digest.hexdigest()[:32]}"'
 
 
-@lru_cache(maxsize=4096)
+class NamesOfPages:
+    """Remembers which pages a page names, of the pages that were looked at last."""
+
+    def __init__(self) -> None:
+        self._lock = threading.Lock()
+        self._known: "OrderedDict[bytes, tuple]" = OrderedDict()  # by the hashes of the pages
+        self._count = 0  # of all names, and one for each page
+
+    def of(self, page: bytes) -> tuple:
+        key = hash_of(page)
+        with self._lock:
+            names = self._known.get(key)
+            if names is not None:
+                self._known.move_to_end(key)
+                return names
+        names = names_in(page)
+        with self._lock:
+            if key not in self._known:
+                self._known[key] = names
+                self._count += 1 + len(names)
+            while self._count > MOST_NAMES:
+                self._count -= 1 + len(self._known.popitem(last=False)[1])
+        return names
+
+
+NAMES = NamesOfPages()
+
+
 def names_in(page: bytes) -> tuple:
     """The full names of the pages that calls in a text name in letters, in their order, each once."""
     text = HIDDEN.sub("", page.decode("utf-8", "replace"))

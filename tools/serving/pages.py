@@ -143,10 +143,7 @@ class PageFolder:
 
     def note(self, name: str) -> bytes:
         """The note of the save that made a page's file; empty where there is none."""
-        try:
-            return os.getxattr(self.file(name), NOTE)
-        except (OSError, AttributeError):  # nobody put one, or the system has no such attributes
-            return b""
+        return note_of(self.file(name))
 
     def confirm(self, name: str) -> None:
         """Waits until the disk has a page as it stands, also where the server that wrote it was killed
@@ -183,6 +180,13 @@ def put_note(file: int, note: bytes) -> None:
         os.setxattr(file, NOTE, note)
     except (OSError, AttributeError):
         pass
+
+
+def note_of(path: str) -> bytes:
+    try:
+        return os.getxattr(path, NOTE)
+    except (OSError, AttributeError):  # nobody put one, or the system has no such attributes
+        return b""
 
 
 def title_of_file(file: str) -> Optional[str]:

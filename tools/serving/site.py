@@ -15,7 +15,7 @@ from typing import Callable, Dict, List, Optional, Tuple
 from urllib.parse import quote
 
 from . import bodies, documents
-from .fingerprints import etag, hash_of, names_tag
+from .fingerprints import etag, hash_of, names_tag, tags_of
 from .mending import marked, mended
 from .other_tools import titles
 from .pages import PAGE_BYTES, PageFolder, full_name, remove_if_there, revision
@@ -185,7 +185,7 @@ class Site:
         except Refusal as refusal:
             if refusal.error != "Stale":
                 raise
-            answer = self._stored_before(request, name, kept.edit.sent if kept else sent(request, name, fields))
+            answer = self._stored_before(request, name, kept.edit.sent if kept else sent_in(request, name, fields))
             if answer is None:
                 raise
             return answer
@@ -206,8 +206,7 @@ class Site:
                 found["html"] = shaped(state.document, edit.new, request.query).decode()
             answer = saved(found)
             if edit.is_changed:
-                note = json.dumps({"of": edit.tag, "sent": edit.sent, "made": hash_of(edit.new).hex()})
-                self.folder.replace(edit.name, edit.new, note.encode())
+                self.folder.replace(edit.name, edit.new, note_of_save(edit.tag, edit.sent, edit.new))
         return answer  # behind its storing nothing is left but to send it
 
     def _stored_before(self, request: Request, name: str, sent: str) -> Optional[Answer]:
@@ -216,16 +215,12 @@ class Site:
         if bodies.flag(request.query.get("preview")):
             return None
         with self.folder.locked():
-            page, state = self._taken(name)
-            try:
-                note = json.loads(self.folder.note(name))
-                tag, others = note.pop("of"), note
-                is_this = names_tag(request.headers["if-match"], tag)
-            except (ValueError, KeyError, TypeError, AttributeError, IndexError):  # none, or not ours
-                return None
-            if not is_this or others != {"sent": sent, "made": hash_of(page).hex()}:
+            page = self.folder.read(name)
+            tag = tag_before(self.folder.note(name), sent, page)
+            if tag is None or not names_tag(request.headers["if-match"], tag):
                 return None
             self.folder.confirm(name)
+            state = self._state(name, page, self.program.html(name))
         length, number = len(page), revision(page)
         found = {"changed": False, "diff": "", "bytes_before": length, "bytes_after": length, "revision": number}
         if bodies.flag(request.query.get("html")):
@@ -248,7 +243,7 @@ class Site:
                 check_kept(document, state.document)
                 original = documents.in_form_of(document, state.document, page, unit_of(request, fields))
                 new = self.program.edit(name, marked(document.decode(), original.decode()).encode())
-        return Edit(name, state.tag, page, new, sent(request, name, fields), fingerprint, state.html_hash)
+        return Edit(name, state.tag, page, new, sent_in(request, name, fields), fingerprint, state.html_hash)
 
     def _state_then(self, request: Request, kept: Kept) -> State:
         """The state that the page has once its text is the new one. Refuses where anything has changed since
@@ -410,10 +405,22 @@ def unit_of(request: Request, fields: Dict[str, object]) -> str:
     return str(request.query.get("offsetType") or fields.get("offsetType") or "byte")
 
 
-def sent(request: Request, name: str, fields: Dict[str, object]) -> str:
+def sent_in(request: Request, name: str, fields: Dict[str, object]) -> str:
     """A hash of the edit that a request sends: the same one for the same edit of the same page."""
     about = json.dumps([name, unit_of(request, fields)]).encode()
     return hash_of(hash_of(about) + bodies.encoded(bodies.text_field(fields, "html"))).hex()
+
+
+def note_of_save(tag: str, sent: str, new: bytes) -> bytes:
+    """What is kept of a save: which state it was made of, what was sent, which page it made."""
+    return f"{sent} {hash_of(new).hex()} {tag}".encode()
+
+
+def tag_before(note: bytes, sent: str, page: bytes) -> Optional[str]:
+    """The tag of the state of which a save made this page, where the note is of one in which this was sent."""
+    start = note_of_save("", sent, page)
+    tag = note[len(start) :].decode("ascii", "replace")
+    return tag if note.startswith(start) and tags_of(tag) else None
 
 
 def changes_of(edit: Edit) -> Dict[str, object]:
