@@ -22,8 +22,8 @@ const CAN_BE_NEW = "p, h1, h2, h3, h4, h5, h6, hr, div, ul, ol, li";
 
 /**
  * @typedef {{title: string, root: HTMLElement, html: () => string, etag: () => string, say: (text: string) =>
- *   void, saved: (state: State) => void, bookmark: () => () => void}} Page  `html`: the page as it was opened,
- *   `etag`: the name of this state of it, `saved`: takes the state that is stored
+ *   void, saved: (state: State) => void, bookmark: () => () => void}} Page  `html`: the page as it was
+ *   opened, `etag`: the name of this state of it, `saved`: takes the state that is stored
  */
 /**
  * @typedef {{html: string, etag: string, read?: ReturnType<typeof readAhead>}} State  of a page; `read`: its
@@ -111,9 +111,8 @@ export class Saving {
       const state = await pageThen(this.page.title, prepared);
       await idle();
       return this.isLocked ? { ...state, read: readAhead(state.html) } : null;
-    } catch (error) {
-      if (!(error instanceof ServerRefused)) throw error;
-      return null;
+    } catch {
+      return null; // it is asked for again once the edit is stored
     }
   }
 
@@ -241,8 +240,7 @@ function idle() {
 function firstNew(root) {
   /** @type {Set<string>} */
   const seen = new Set();
-  const items = (/** @type {Element} */ block) => [...block.children].filter((child) => child.localName === "li");
-  const blocks = blocksOf(root).flatMap((block) => [block, ...items(block)]);
+  const blocks = blocksOf(root).flatMap((block) => [block, ...block.querySelectorAll(":scope > li")]);
   for (const element of blocks.filter((block) => block.matches(CAN_BE_NEW))) {
     const id = element.getAttribute("id") ?? "";
     if (id === "" || seen.has(id)) return element;

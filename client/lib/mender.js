@@ -94,8 +94,8 @@ export class Mender {
   }
 
   /**
-   * Finds the owners of the numbers in the blocks that were touched. The others needn't be looked into, unless
-   * a number stands in one of them too.
+   * Finds the owners of the numbers in the blocks that were touched. The others needn't be looked into,
+   * unless a number stands in one of them too.
    * @param {Element} root
    * @returns {boolean} whether that is enough
    */
@@ -125,8 +125,9 @@ export class Mender {
   #sort(holder, watch, touched) {
     for (const element of holder.children) {
       const part = watch.untouched(element);
+      const isSection = element.localName === "section" && !element.hasAttribute("id");
       if (part !== undefined) this.#asOpened.set(element, part);
-      else if (element.localName === "section" && !element.hasAttribute("id")) this.#sort(element, watch, touched);
+      else if (isSection) this.#sort(element, watch, touched);
       else touched.push(element);
     }
   }

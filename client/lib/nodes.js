@@ -165,7 +165,8 @@ function hasSameShape(was, now) {
   if (KIND.some((name) => was.value(name) !== now.value(name))) return false;
   return now.children.every((child, at) => {
     const other = was.children[at];
-    return typeof child === "string" || typeof other === "string" ? child === other : hasSameShape(other, child);
+    const isText = typeof child === "string" || typeof other === "string";
+    return isText ? child === other : hasSameShape(other, child);
   });
 }
 

@@ -1,5 +1,5 @@
 // @ts-check
-/** Which blocks of a page nobody has touched since it was opened, so that nobody need look into them again. */
+/** Which blocks of a page nobody has touched since it was opened, so that they needn't be looked into. */
 
 import { Part } from "./markup.js";
 import { ATTRIBUTES, isBlock, isHiddenName, nameOf } from "./kinds.js";
@@ -88,9 +88,9 @@ export class Watch {
   /** @param {MutationRecord[]} records */
   #note(records) {
     for (const { target, removedNodes } of records) {
-      for (let at = /** @type {Node | null} */ (target); at !== null && at !== this.root; at = at.parentNode) {
-        this.#parts.delete(at);
-      }
+      /** @type {Node | null} */
+      let at = target;
+      for (; at !== null && at !== this.root; at = at.parentNode) this.#parts.delete(at);
       for (const node of removedNodes) this.#drop(node); // it may be changed unseen before it comes back
     }
   }

@@ -142,7 +142,6 @@ test("what nobody touched needn't be looked at: the same is saved and renewed", 
         }
         renew(root, all[(at + 1) % all.length]);
         const anew = open(all[(at + 1) % all.length], { into: document.createElement("div") });
-        for (const element of root.querySelectorAll("[data-wt-edit]")) element.removeAttribute("data-wt-edit");
         if (!root.isEqualNode(anew)) other.push([${at} + at, "renewed"]);
         mutate(root, random, aside);
         renew(root, html);
@@ -169,7 +168,8 @@ test("blocks that were taken out, changed, and put back are saved as they are", 
       (block.querySelector("p") ?? block).append("!");
       await new Promise((done) => setTimeout(done));
       parent.prepend(block);
-      return [module.save(root, { marks: true }), module.save(root, { marks: true, original: ${JSON.stringify(html)} })];
+      const original = ${JSON.stringify(html)};
+      return [module.save(root, { marks: true }), module.save(root, { marks: true, original })];
     })()`);
     assert.match(answer[0], taken === "p + p" ? />two!</ : />one!</);
     assert.equal(answer[0], answer[1]);

@@ -473,7 +473,7 @@ test("a page that has become stale when it is stored is refused, and the text st
   assert.equal(wiki.read("A page"), `${PAGE}changed by another\n`);
 });
 
-test("a template that has changed when the page is stored: refused, and the text stays", { skip }, async () => {
+test("a template that changed before the page is stored: refused, and the text stays", { skip }, async () => {
   wiki.write("Template:Inner", "inner");
   wiki.write("Template:Name", "Inner");
   wiki.write("A page", `${PAGE}\n{{ {{name}} }}\n`);
@@ -532,7 +532,7 @@ const NOT_FETCHED = [
   `return new Response(await (await ask(path)).text(), { headers: { ETag: 'W/"1/2"' } })`,
 ];
 
-test("a page that can't be fetched while its changes are shown is fetched when it is stored", { skip }, async () => {
+test("a page that can't be fetched while changes are shown is fetched when stored", { skip }, async () => {
   for (const [at, answer] of NOT_FETCHED.entries()) {
     const before = wiki.read("A page");
     await opened("A page");

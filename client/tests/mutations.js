@@ -19,7 +19,8 @@ export function randomFrom(seed) {
 export function mutate(root, random, aside) {
   const { ownerDocument: document } = root;
   const elements = [...root.querySelectorAll("*")];
-  const blocks = elements.filter(({ parentElement: parent }) => parent === root || parent?.localName === "section");
+  const holds = (/** @type {Element | null} */ parent) => parent === root || parent?.localName === "section";
+  const blocks = elements.filter((element) => holds(element.parentElement));
   const pick = (/** @type {Element[]} */ list) => list[random(list.length)];
   if (blocks.length === 0) {
     root.append(document.createElement("p"), "text");

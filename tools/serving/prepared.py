@@ -4,7 +4,7 @@ from __future__ import annotations
 import secrets
 import threading
 from collections import OrderedDict
-from concurrent.futures import CancelledError, Future, ThreadPoolExecutor
+from concurrent.futures import Future, ThreadPoolExecutor
 from dataclasses import dataclass
 from functools import cached_property
 from typing import Callable, Optional
@@ -62,11 +62,13 @@ class Kept:
     coming: "Optional[Future[State]]"
 
     def state(self) -> Optional[State]:
-        """Waits for the state; nothing where it isn't kept, or couldn't be made."""
+        """Waits for the state; nothing where it isn't kept, hasn't been begun, or couldn't be made."""
         coming = self.coming
+        if coming is None or coming.cancel():
+            return None
         try:
-            return coming.result() if coming is not None else None
-        except (Refusal, OSError, CancelledError):
+            return coming.result()
+        except (Refusal, OSError):
             return None
 
 
@@ -76,7 +78,7 @@ class PreparedEdits:
 
     def __init__(self, state_of: Callable[[Edit], State]) -> None:
         self._state_of = state_of
-        self._lock = threading.RLock()  # what is called back when a state is forgotten takes it again
+        self._lock = threading.RLock()  # what is called when a state is cancelled takes it again
         self._edits: "OrderedDict[str, Kept]" = OrderedDict()
         self._pool = ThreadPoolExecutor(AT_ONCE)
 
@@ -95,7 +97,7 @@ class PreparedEdits:
             while len(self._edits) > MOST_KEPT:
                 self._forget_oldest()
         if coming is not None:
-            coming.add_done_callback(lambda _: self._bound())
+            coming.add_done_callback(lambda _: self._forget_states())
         return word
 
     def find(self, word: str, name: str) -> Kept:
@@ -111,7 +113,7 @@ class PreparedEdits:
         if kept.coming is not None:
             kept.coming.cancel()  # where it hasn't begun
 
-    def _bound(self) -> None:
+    def _forget_states(self) -> None:
         """Forgets states, the oldest first, until those that are left aren't too many bytes."""
         with self._lock:
             room = MOST_BYTES

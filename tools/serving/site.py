@@ -185,7 +185,8 @@ class Site:
         except Refusal as refusal:
             if refusal.error != "Stale":
                 raise
-            answer = self._stored_before(request, name, kept.edit.sent if kept else sent_in(request, name, fields))
+            sent = kept.edit.sent if kept else sent_in(request, name, fields)
+            answer = self._stored_before(request, name, sent)
             if answer is None:
                 raise
             return answer
@@ -198,9 +199,9 @@ class Site:
 
     def _stored(self, request: Request, kept: Kept) -> Answer:
         """Stores an edit."""
-        edit = kept.edit
+        edit, made = kept.edit, kept.state()
         with self.folder.locked():
-            state = self._state_then(request, kept)
+            state = self._state_then(request, edit, made)
             found = {**changes_of(edit), "etag": state.tag}
             if bodies.flag(request.query.get("html")):
                 found["html"] = shaped(state.document, edit.new, request.query).decode()
@@ -221,11 +222,11 @@ class Site:
                 return None
             self.folder.confirm(name)
             state = self._state(name, page, self.program.html(name))
-        length, number = len(page), revision(page)
-        found = {"changed": False, "diff": "", "bytes_before": length, "bytes_after": length, "revision": number}
+        same = Edit(name, state.tag, page, page, sent, None, state.html_hash)
+        found = {**changes_of(same), "etag": state.tag, "stored_before": True}
         if bodies.flag(request.query.get("html")):
             found["html"] = shaped(state.document, page, request.query).decode()
-        return saved({**found, "etag": state.tag, "stored_before": True})
+        return saved(found)
 
     def _edited(self, request: Request, name: str, fields: Dict[str, object]) -> Edit:
         """The new page of an edit. HTML that bears a mark was made for `edit`, and is given on as it is while
@@ -245,13 +246,12 @@ class Site:
                 new = self.program.edit(name, marked(document.decode(), original.decode()).encode())
         return Edit(name, state.tag, page, new, sent_in(request, name, fields), fingerprint, state.html_hash)
 
-    def _state_then(self, request: Request, kept: Kept) -> State:
-        """The state that the page has once its text is the new one. Refuses where anything has changed since
-        the edit."""
-        edit, state = kept.edit, kept.state()
-        if state is not None and self._is_untouched(edit, state):
+    def _state_then(self, request: Request, edit: Edit, made: Optional[State]) -> State:
+        """The state that the page has once its text is the new one; `made`: as it was made before. Refuses
+        where anything has changed since the edit."""
+        if made is not None and self._is_untouched(edit, made):
             self._check_tag(request, edit.tag)
-            return state
+            return made
         with ThreadPoolExecutor(1) as pool:
             after = pool.submit(self._state_of, edit) if edit.is_changed else None
             _, now = self._taken(edit.name)
@@ -280,7 +280,8 @@ class Site:
         """The HTML that a page will have once an edit that was shown is stored, and the tag of that state."""
         kept = self._prepared.find(word, full_name(title))
         state = kept.state() or self._state_of(kept.edit)
-        return Answer(shaped(state.document, kept.edit.new, request.query), HTML_TYPE, 200, {"ETag": state.tag})
+        document = shaped(state.document, kept.edit.new, request.query)
+        return Answer(document, HTML_TYPE, 200, {"ETag": state.tag})
 
     def _check_tag(self, request: Request, tag: str) -> None:
         wanted = request.headers.get("if-match")
@@ -417,7 +418,7 @@ def note_of_save(tag: str, sent: str, new: bytes) -> bytes:
 
 
 def tag_before(note: bytes, sent: str, page: bytes) -> Optional[str]:
-    """The tag of the state of which a save made this page, where the note is of one in which this was sent."""
+    """The tag of the state of which a save made this page, where the note is of one that sent this."""
     start = note_of_save("", sent, page)
     tag = note[len(start) :].decode("ascii", "replace")
     return tag if note.startswith(start) and tags_of(tag) else None
