@@ -44,7 +44,7 @@ units_only us rs h = each_only us h.each ∙ ap (units kind_of) h.join
 
 -- ---- level rows
 
-level_rest : (d : ℕ) (r : Row) (rs : List Row) → Level d (r ∷ rs) → Level (behind d r.kind) rs
+pub level_rest : (d : ℕ) (r : Row) (rs : List Row) → Level d (r ∷ rs) → Level (behind d r.kind) rs
 level_rest zero r rs h = h.1
 level_rest (suc d) r rs h = h.1
 
@@ -174,12 +174,12 @@ units_are ls = level_units (rows_from 0 ls) (rows_level 0 ls)
 
 -- ---- what stands inside a table
 
-record Inside (d : ℕ) (rs : List Row) : Type 0 where
-  inside : List Row
-  last : Row
-  is : rs ≡ inside ++ last ∷ []
-  ends : last.kind ≡ line.TableEnd
-  level : Level d inside
+pub record Inside (d : ℕ) (rs : List Row) : Type 0 where
+  pub inside : List Row
+  pub last : Row
+  pub is : rs ≡ inside ++ last ∷ []
+  pub ends : last.kind ≡ line.TableEnd
+  pub level : Level d inside
 
 put_inside : (d e : ℕ) (r : Row) (rs : List Row) → (r.kind ≡ line.TableEnd → 0 < d) → behind d r.kind ≡ e → Inside e rs → Inside d (r ∷ rs)
 put_inside d e r rs n z i = record {
@@ -199,7 +199,7 @@ end_inside_by (suc d) r rs e go f =
 open_no_end : (k : LineKind) → k ≡ line.TableOpen → k ≡ line.TableEnd → ⊥
 open_no_end k e f = let z : line.TableOpen ≡ line.TableEnd = sym e ∙ f in absurd cc
 
-inside_of : (d : ℕ) (rs : List Row) → Falls (suc d) rs → Inside d rs
+pub inside_of : (d : ℕ) (rs : List Row) → Falls (suc d) rs → Inside d rs
 inside_of d [] h = absurd h
 inside_of d (r ∷ rs) h =
     elim (sort r.kind) [
