@@ -1,5 +1,5 @@
 -- Rows that are blocks by cases are read as what these make.
-use Rattle.std.proofs.Common.{◌≡◌, ℕ, Bool, true, false, List, [], ◌∷◌, ◌++◌, refl, sym, ap, ◌∙◌, subst, inr, append-nil}
+use Rattle.std.proofs.Common.{◌≡◌, true, false, List, [], ◌∷◌, ◌++◌, refl, sym, ap, ◌∙◌, subst, inr, append-nil}
 use Rattle.std.specs.Prelude.{map}
 use Rattle.std.specs.List.{flat_map}
 use Rattle.wt_span.specs.Runs.{runs, IsRun}
@@ -9,7 +9,6 @@ use Rattle.wt_lines.specs.declared.kind.LineKind.TheVariants as line
 use Rattle.wt_tables.specs.Extents.{inner_len}
 use Rattle.wt_tables.specs.Parts.{joined, taken_len, put_first, units_from, units, unit_kind, table_of}
 use Rattle.wt_body.specs.Rows.{Row, kind_of}
-use Rattle.wt_body.specs.Stretches.{Stretch}
 use Rattle.wt_body.specs.Tables.{Reading, table, table_by, last_of, without_last}
 use Rattle.wt_body.specs.Body.{one_block, same_block, block_stretches, run_stretches, blocks_by}
 use Rattle.wt_row_laws.specs.Blocks.{Block, blank, table as table_block, heading, rule, lists, preformatted, paragraph, block_rows, AllAre, BeginOtherwise, IsBlock, AreBlocks, block_parts}

@@ -1,16 +1,12 @@
 -- Rows by the number of tables that are open at each.
-use Rattle.std.proofs.Common.{◌≡◌, ◌<◌, ◌≤◌, ℕ, zero, suc, ◌+◌, ◌-◌, Bool, true, false, List, [], ◌∷◌, ◌++◌, length, take, replicate, refl, sym, ap, ◌∙◌, subst, ◌⊎◌, inl, inr, cond, arith}
+use Rattle.std.proofs.Common.{◌≡◌, ◌<◌, ℕ, zero, suc, ◌+◌, ◌-◌, false, List, [], ◌∷◌, ◌++◌, length, take, refl, sym, ap, ◌∙◌, subst, ◌⊎◌, inl, inr, arith}
 use Rattle.std.specs.Prelude.{map}
-use Rattle.wt_span.specs.Items.{Item}
 use Rattle.wt_lines.specs.declared.kind.LineKind.{LineKind}
 use Rattle.wt_lines.specs.declared.kind.LineKind.TheVariants as line
-use Rattle.wt_lines.specs.Lines.{content}
 use Rattle.wt_tables.specs.Extents.{is_open, is_end, behind}
 use Rattle.wt_tables.specs.Parts.{taken_len}
 use Rattle.wt_tables.proofs.Ends.{depth_len}
-use Rattle.wt_tables.proofs.Opens.{end_inside}
-use Rattle.wt_headings.specs.Lines.{kind_at}
-use Rattle.wt_body.specs.Rows.{Row, kind_of, idle_len, marks_len, dashes, behind_sign, is_unseen, sign_row, whole_row, line_rows, unwritten_end, rows_from}
+use Rattle.wt_body.specs.Rows.{Row, kind_of}
 use Rattle.wt_row_laws.specs.Counts.{opened, ended}
 use Rattle.wt_row_laws.specs.Units.{IsUnit}
 use Rattle.wt_row_laws.proofs.Counting.{one, opened_put, ended_put}

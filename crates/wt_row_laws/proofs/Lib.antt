@@ -1,4 +1,5 @@
 pub mod BlockCases
+mod Cases
 pub mod Counting
 pub mod Falling
 pub mod PageBlocks

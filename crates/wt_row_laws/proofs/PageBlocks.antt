@@ -1,5 +1,5 @@
 -- The rows of a page are blocks by cases.
-use Rattle.std.proofs.Common.{◌≡◌, ◌<◌, ◌≤◌, ℕ, zero, suc, ◌-◌, Bool, true, false, Option, Some, None, List, [], ◌∷◌, ◌++◌, length, drop, replicate, refl, sym, ap, ◌∙◌, subst, cond, inl, inr, arith, append_assoc, length-append}
+use Rattle.std.proofs.Common.{◌≡◌, ◌≤◌, ℕ, zero, suc, ◌-◌, Bool, true, false, Option, Some, List, [], ◌∷◌, ◌++◌, length, drop, replicate, refl, sym, ap, ◌∙◌, subst, cond, inl, arith, length-append}
 use Rattle.std.specs.Prelude.{not, ◌&&◌, ◌==◌, map, reverse, codes, if◌then◌else◌}
 use Rattle.std.specs.Option.{unwrap_or}
 use Rattle.std.specs.List.{list_all, flat_map}
@@ -16,12 +16,12 @@ use Rattle.wt_inline.specs.ItemTree.{plain, ItemTree, inner, forest}
 use Rattle.wt_inline.specs.Parts.{children}
 use Rattle.wt_inline.proofs.HeldLaws.{are_children, only_children}
 use Rattle.wt_headings.specs.Lines.{kind_at}
-use Rattle.wt_body.specs.Rows.{Row, kind_of, idle_len, marks_len, dashes, behind_sign, is_unseen, sign_row, whole_row, line_rows, unwritten_end, rows_from, rows}
-use Rattle.wt_body.specs.Stretches.{Stretch, stretches_parts}
+use Rattle.wt_body.specs.Rows.{Row, idle_len, marks_len, dashes, behind_sign, is_unseen, sign_row, whole_row, line_rows, unwritten_end, rows_from, rows}
+use Rattle.wt_body.specs.Stretches.{stretches_parts}
 use Rattle.wt_body.specs.Body.{within, blocks, meaning}
-use Rattle.wt_row_laws.specs.Blocks.{Block, blank, table as table_block, heading, rule, lists, preformatted, paragraph, block_rows, BeginOtherwise, IsBlock, AreBlocks, block_parts, IsMeaningByCases}
+use Rattle.wt_row_laws.specs.Blocks.{Block, blank, table as table_block, heading, rule, lists, preformatted, paragraph, BeginOtherwise, AreBlocks, block_parts, IsMeaningByCases}
 use Rattle.wt_row_laws.proofs.Falling.{Falls, Level, part_is_unit}
-use Rattle.wt_row_laws.proofs.UnitCuts.{Cut, cut, Inside, inside_of, level_rest, rows_level}
+use Rattle.wt_row_laws.proofs.UnitCuts.{cut, inside_of, level_rest, rows_level}
 use Rattle.wt_row_laws.proofs.BlockCases.{read_by_cases}
 
 -- ---- outside of tables stands no line of which tables are made

@@ -1,5 +1,5 @@
 -- How many tables rows open and end, and the kinds of lines by these counts.
-use Rattle.std.specs.Prelude.{◌≡◌, ℕ, ◌-◌, List, [], ◌∷◌, ◌++◌}
+use Rattle.std.specs.Prelude.{◌≡◌, ℕ, ◌-◌, List, ◌∷◌, ◌++◌}
 use Rattle.std.specs.List.{count_by}
 use Rattle.wt_span.specs.Items.{Item}
 use Rattle.wt_tables.specs.Extents.{is_open, is_end}
