@@ -82,10 +82,10 @@ falls_len d [] back h = absurd h
 falls_len d (r ∷ rs) back h =
     let ks = kinds_of (rs ++ back) in
     elim (sort r.kind) [
-      inl e ↦ ap (λ (k : LineKind). depth_len (k ∷ ks) d) e ∙ ap suc (falls_len (suc d) rs back (falls_open d r rs e h))
+      | inl e ↦ ap (λ (k : LineKind). depth_len (k ∷ ks) d) e ∙ ap suc (falls_len (suc d) rs back (falls_open d r rs e h))
       | inr (inl e) ↦ ap (λ (k : LineKind). depth_len (k ∷ ks) d) e
-        ∙ end_step d ks (length rs) (λ z. none_left d rs z (falls_end d r rs e h))
-        (λ m z. falls_len m rs back (subst (λ (x : ℕ). Falls x rs) z (falls_end d r rs e h)))
+          ∙ end_step d ks (length rs) (λ z. none_left d rs z (falls_end d r rs e h))
+          (λ m z. falls_len m rs back (subst (λ (x : ℕ). Falls x rs) z (falls_end d r rs e h)))
       | inr (inr o) ↦ o.further ks d ∙ ap suc (falls_len d rs back (falls_other d r rs o h))
     ]
 
@@ -119,17 +119,17 @@ pub falls_closed : (d : ℕ) (rs : List Row) → Falls (suc d) rs → IsClosed (
 falls_closed d [] h = absurd h
 falls_closed d (r ∷ rs) h =
     elim (sort r.kind) [
-      inl e ↦ let o : one (is_open r.kind) ≡ 1 = ap (λ k. one (is_open k)) e in
-        let n : one (is_end r.kind) ≡ 0 = ap (λ k. one (is_end k)) e in
-        one_more d (suc (suc d)) r rs (omega (arith, o, n)) (falls_closed (suc d) rs (falls_open d r rs e h))
+      | inl e ↦ let o : one (is_open r.kind) ≡ 1 = ap (λ k. one (is_open k)) e in
+          let n : one (is_end r.kind) ≡ 0 = ap (λ k. one (is_end k)) e in
+          one_more d (suc (suc d)) r rs (omega (arith, o, n)) (falls_closed (suc d) rs (falls_open d r rs e h))
       | inr (inl e) ↦ let o : one (is_open r.kind) ≡ 0 = ap (λ k. one (is_open k)) e in
-        let n : one (is_end r.kind) ≡ 1 = ap (λ k. one (is_end k)) e in
-        one_more d d r rs (omega (arith, o, n))
-        (closed_rest d rs (λ m z. subst (λ (x : ℕ). IsClosed x rs) (sym z) (falls_closed m rs (subst (λ (x : ℕ). Falls x rs) z (falls_end d r rs e h))))
-        (falls_end d r rs e h))
+          let n : one (is_end r.kind) ≡ 1 = ap (λ k. one (is_end k)) e in
+          one_more d d r rs (omega (arith, o, n))
+          (closed_rest d rs (λ m z. subst (λ (x : ℕ). IsClosed x rs) (sym z) (falls_closed m rs (subst (λ (x : ℕ). Falls x rs) z (falls_end d r rs e h))))
+          (falls_end d r rs e h))
       | inr (inr t) ↦ let o : one (is_open r.kind) ≡ 0 = ap one t.opens in
-        let n : one (is_end r.kind) ≡ 0 = ap one t.ends in
-        one_more d (suc d) r rs (omega (arith, o, n)) (falls_closed d rs (falls_other d r rs t h))
+          let n : one (is_end r.kind) ≡ 0 = ap one t.ends in
+          one_more d (suc d) r rs (omega (arith, o, n)) (falls_closed d rs (falls_other d r rs t h))
     ]
 
 -- the way back
@@ -148,17 +148,17 @@ closed_falls zero rs h = closed_none rs h
 closed_falls (suc d) [] h = absurd (omega (arith, h.balances))
 closed_falls (suc d) (r ∷ rs) h =
     elim (sort r.kind) [
-      inl e ↦ let o : one (is_open r.kind) ≡ 1 = ap (λ k. one (is_open k)) e in
-        let n : one (is_end r.kind) ≡ 0 = ap (λ k. one (is_end k)) e in
-        subst (λ (x : ℕ). Falls x rs) (sym (ap (behind (suc d)) e))
-        (closed_falls (suc (suc d)) rs (one_fewer (suc d) (suc (suc d)) r rs (omega (arith, o, n)) h))
+      | inl e ↦ let o : one (is_open r.kind) ≡ 1 = ap (λ k. one (is_open k)) e in
+          let n : one (is_end r.kind) ≡ 0 = ap (λ k. one (is_end k)) e in
+          subst (λ (x : ℕ). Falls x rs) (sym (ap (behind (suc d)) e))
+          (closed_falls (suc (suc d)) rs (one_fewer (suc d) (suc (suc d)) r rs (omega (arith, o, n)) h))
       | inr (inl e) ↦ let o : one (is_open r.kind) ≡ 0 = ap (λ k. one (is_open k)) e in
-        let n : one (is_end r.kind) ≡ 1 = ap (λ k. one (is_end k)) e in
-        let z : suc d - 1 ≡ d = omega arith in
-        subst (λ (x : ℕ). Falls x rs) (sym (ap (behind (suc d)) e ∙ z)) (closed_falls d rs (one_fewer (suc d) d r rs (omega (arith, o, n)) h))
+          let n : one (is_end r.kind) ≡ 1 = ap (λ k. one (is_end k)) e in
+          let z : suc d - 1 ≡ d = omega arith in
+          subst (λ (x : ℕ). Falls x rs) (sym (ap (behind (suc d)) e ∙ z)) (closed_falls d rs (one_fewer (suc d) d r rs (omega (arith, o, n)) h))
       | inr (inr t) ↦ let o : one (is_open r.kind) ≡ 0 = ap one t.opens in
-        let n : one (is_end r.kind) ≡ 0 = ap one t.ends in
-        subst (λ (x : ℕ). Falls x rs) (sym (t.stays (suc d))) (closed_falls (suc d) rs (one_fewer (suc d) (suc d) r rs (omega (arith, o, n)) h))
+          let n : one (is_end r.kind) ≡ 0 = ap one t.ends in
+          subst (λ (x : ℕ). Falls x rs) (sym (t.stays (suc d))) (closed_falls (suc d) rs (one_fewer (suc d) (suc d) r rs (omega (arith, o, n)) h))
     ]
 
 -- ---- a unit is a row of another kind, or a row that opens a table with rows that close it
@@ -199,17 +199,20 @@ pub unit_is_part : (u : List Row) → IsUnit u → IsPart u
 unit_is_part [] h = absurd (omega (arith, h.holds_rows))
 unit_is_part (r ∷ rs) h =
     elim (sort r.kind) [
-      inl e ↦ let o : one (is_open r.kind) ≡ 1 = ap (λ k. one (is_open k)) e in
-        let n : one (is_end r.kind) ≡ 0 = ap (λ k. one (is_end k)) e in
-        inl (e, closed_falls 1 rs (record {
-          balances = omega (arith, opened_put r rs, ended_put r rs, h.balances, o, n);
-          ends_fewer = λ k l. omega (arith, opened_put r (take k rs), ended_put r (take k rs), h.ends_fewer (suc k) (omega arith) (omega (arith, l)), o, n);
-        }))
+      | inl e ↦ let o : one (is_open r.kind) ≡ 1 = ap (λ k. one (is_open k)) e in
+          let n : one (is_end r.kind) ≡ 0 = ap (λ k. one (is_end k)) e in
+          inl (
+            e,
+            closed_falls 1 rs (record {
+              balances = omega (arith, opened_put r rs, ended_put r rs, h.balances, o, n);
+              ends_fewer = λ k l. omega (arith, opened_put r (take k rs), ended_put r (take k rs), h.ends_fewer (suc k) (omega arith) (omega (arith, l)), o, n);
+            }),
+          )
       | inr (inl e) ↦ let o : one (is_open r.kind) ≡ 0 = ap (λ k. one (is_open k)) e in
-        let n : one (is_end r.kind) ≡ 1 = ap (λ k. one (is_end k)) e in
-        let z : rs ≡ [] = no_more rs (λ l. omega (arith, opened_put r [], ended_put r [], h.ends_fewer 1 (omega arith) (omega (arith, l)), o, n)) in
-        absurd (omega (arith, opened_put r rs, ended_put r rs, h.balances, o, n, ap opened z, ap ended z))
+          let n : one (is_end r.kind) ≡ 1 = ap (λ k. one (is_end k)) e in
+          let z : rs ≡ [] = no_more rs (λ l. omega (arith, opened_put r [], ended_put r [], h.ends_fewer 1 (omega arith) (omega (arith, l)), o, n)) in
+          absurd (omega (arith, opened_put r rs, ended_put r rs, h.balances, o, n, ap opened z, ap ended z))
       | inr (inr t) ↦ let o : one (is_open r.kind) ≡ 0 = ap one t.opens in
-        let n : one (is_end r.kind) ≡ 0 = ap one t.ends in
-        inr (t, no_more rs (λ l. omega (arith, opened_put r [], ended_put r [], h.ends_fewer 1 (omega arith) (omega (arith, l)), o, n)))
+          let n : one (is_end r.kind) ≡ 0 = ap one t.ends in
+          inr (t, no_more rs (λ l. omega (arith, opened_put r [], ended_put r [], h.ends_fewer 1 (omega arith) (omega (arith, l)), o, n)))
     ]

@@ -1,5 +1,6 @@
 pub mod BlockCases
 mod Cases
+pub mod CellBlocks
 pub mod Counting
 pub mod Falling
 pub mod PageBlocks

@@ -1,5 +1,5 @@
 -- The rows of a page are blocks by cases.
-use Rattle.std.proofs.Common.{◌≡◌, ◌≤◌, ℕ, zero, suc, ◌-◌, Bool, true, false, Option, Some, List, [], ◌∷◌, ◌++◌, length, drop, replicate, refl, sym, ap, ◌∙◌, subst, cond, inl, arith, length-append}
+use Rattle.std.proofs.Common.{◌≡◌, ◌≤◌, ℕ, zero, suc, ◌-◌, Bool, true, false, Option, Some, List, [], ◌∷◌, ◌++◌, length, drop, replicate, refl, sym, ap, ◌∙◌, subst, cond, inl, inr, arith, length-append}
 use Rattle.std.specs.Prelude.{not, ◌&&◌, ◌==◌, map, reverse, codes, if◌then◌else◌}
 use Rattle.std.specs.Option.{unwrap_or}
 use Rattle.std.specs.List.{list_all, flat_map}
@@ -11,7 +11,7 @@ use Rattle.wt_lines.specs.declared.kind.LineKind.{LineKind}
 use Rattle.wt_lines.specs.declared.kind.LineKind.TheVariants as line
 use Rattle.wt_lines.specs.Kinds.{first_of, past, is_idle, is_mark_sign, text_rows, line_kind, kind_of_signs}
 use Rattle.wt_lines.specs.Lines.{content, full_lines, goes_on}
-use Rattle.wt_tables.specs.Extents.{behind}
+use Rattle.wt_tables.specs.Extents.{is_open, behind}
 use Rattle.wt_inline.specs.ItemTree.{plain, ItemTree, inner, forest}
 use Rattle.wt_inline.specs.Parts.{children}
 use Rattle.wt_inline.proofs.HeldLaws.{are_children, only_children}
@@ -20,7 +20,7 @@ use Rattle.wt_body.specs.Rows.{Row, idle_len, marks_len, dashes, behind_sign, is
 use Rattle.wt_body.specs.Stretches.{stretches_parts}
 use Rattle.wt_body.specs.Body.{within, blocks, meaning}
 use Rattle.wt_row_laws.specs.Blocks.{Block, blank, table as table_block, heading, rule, lists, preformatted, paragraph, BeginOtherwise, AreBlocks, block_parts, IsMeaningByCases}
-use Rattle.wt_row_laws.proofs.Falling.{Falls, Level, part_is_unit}
+use Rattle.wt_row_laws.proofs.Falling.{IsOther, sort, Falls, Level, part_is_unit}
 use Rattle.wt_row_laws.proofs.UnitCuts.{cut, inside_of, level_rest, rows_level}
 use Rattle.wt_row_laws.proofs.BlockCases.{read_by_cases}
 
@@ -196,57 +196,57 @@ put_text r rs (preformatted s ss ∷ bs) e (os, z, a, h) =
     record { its_blocks = paragraph r [] ∷ preformatted s ss ∷ bs; are = (rs, refl, ((e, tt), subst (BeginOtherwise line.Text) (sym z) no), (os, z, a, h)) }
 put_text r rs (paragraph s ss ∷ bs) e (os, z, (a, b), h) = record { its_blocks = paragraph r (s ∷ ss) ∷ bs; are = (os, ap (λ (ts : List Row). r ∷ ts) z, ((e, a), b), h) }
 
-abbrev Further : List Row → Type 0
-Further rs = (back : List Row) → length back ≤ length rs → Level 0 back → Own 0 back → Blocked back
-
-level_same : (k : LineKind) (r : Row) (rs : List Row) → r.kind ≡ k → behind 0 k ≡ 0 → Level 0 (r ∷ rs) → Level 0 rs
-level_same k r rs e z h = subst (λ (n : ℕ). Level n rs) (ap (behind 0) e ∙ z) (level_rest 0 r rs h)
-
-own_same : (k : LineKind) (r : Row) (rs : List Row) → r.kind ≡ k → behind 0 k ≡ 0 → Own 0 (r ∷ rs) → Own 0 rs
-own_same k r rs e z h = subst (λ (n : ℕ). Own n rs) (ap (behind 0) e ∙ z) h.1
-
-put_table : (r : Row) (rs : List Row) → r.kind ≡ line.TableOpen → Level 0 (r ∷ rs) → Own 0 (r ∷ rs) → Further rs → Blocked (r ∷ rs)
-put_table r rs e l o go =
-    let c = cut 0 rs (subst (λ (n : ℕ). Level n rs) (ap (behind 0) e) (level_rest 0 r rs l)) in
-    let i = inside_of 0 c.front c.falls in
-    let own : Own 1 (c.front ++ c.back) = subst (Own 1) c.is (subst (λ (n : ℕ). Own n rs) (ap (behind 0) e) o.1) in
-    let more = go c.back (omega (arith, ap length c.is, length-append c.front c.back)) c.level (own_behind 1 c.front c.back c.falls own) in
+pub put_table : (r : Row) (front back : List Row) → r.kind ≡ line.TableOpen → Falls 1 front → Blocked back → Blocked (r ∷ (front ++ back))
+put_table r front back e f more =
+    let i = inside_of 0 front f in
     record {
       its_blocks = table_block r i.inside i.last ∷ more.its_blocks;
-      are = (c.back, ap (λ (ss : List Row). r ∷ ss) (c.is ∙ ap (λ (ss : List Row). ss ++ c.back) i.is),
-        (e, part_is_unit (r ∷ (i.inside ++ i.last ∷ [])) (inl (e, subst (Falls 1) i.is c.falls))), more.are);
+      are = (
+        back,
+        ap (λ (ss : List Row). r ∷ (ss ++ back)) i.is,
+        (e, part_is_unit (r ∷ (i.inside ++ i.last ∷ [])) (inl (e, subst (Falls 1) i.is f))),
+        more.are,
+      );
     }
 
-put_row : (k : LineKind) (r : Row) (rs : List Row) → r.kind ≡ k → is_inner k ≡ false → Level 0 (r ∷ rs) → Own 0 (r ∷ rs) → Further rs → Blocked (r ∷ rs)
-put_row line.Blank r rs e n l o go =
-    let more = go rs (omega arith) (level_same line.Blank r rs e refl l) (own_same line.Blank r rs e refl o) in
-    record { its_blocks = blank r ∷ more.its_blocks; are = (rs, refl, e, more.are) }
-put_row line.TableOpen r rs e n l o go = put_table r rs e l o go
-put_row line.TableEnd r rs e n l o go = absurd cc
-put_row line.Caption r rs e n l o go = absurd cc
-put_row line.Row r rs e n l o go = absurd cc
-put_row line.Cell r rs e n l o go = absurd cc
-put_row line.Header r rs e n l o go = absurd cc
-put_row line.Heading r rs e n l o go =
-    let more = go rs (omega arith) (level_same line.Heading r rs e refl l) (own_same line.Heading r rs e refl o) in
-    record { its_blocks = heading r ∷ more.its_blocks; are = (rs, refl, e, more.are) }
-put_row line.Rule r rs e n l o go =
-    let more = go rs (omega arith) (level_same line.Rule r rs e refl l) (own_same line.Rule r rs e refl o) in
-    record { its_blocks = rule r ∷ more.its_blocks; are = (rs, refl, e, more.are) }
-put_row line.List r rs e n l o go =
-    let more = go rs (omega arith) (level_same line.List r rs e refl l) (own_same line.List r rs e refl o) in
-    put_list r rs more.its_blocks e more.are
-put_row line.Pre r rs e n l o go =
-    let more = go rs (omega arith) (level_same line.Pre r rs e refl l) (own_same line.Pre r rs e refl o) in
-    put_pre r rs more.its_blocks e more.are
-put_row line.Text r rs e n l o go =
-    let more = go rs (omega arith) (level_same line.Text r rs e refl l) (own_same line.Text r rs e refl o) in
-    put_text r rs more.its_blocks e more.are
+-- a row of another kind
+pub put_row : (k : LineKind) (r : Row) (rs : List Row) → r.kind ≡ k → is_inner k ≡ false → (k ≡ line.TableOpen → ⊥) → Blocked rs → Blocked (r ∷ rs)
+put_row line.Blank r rs e n o more = record { its_blocks = blank r ∷ more.its_blocks; are = (rs, refl, e, more.are) }
+put_row line.TableOpen r rs e n o more = absurd (o refl)
+put_row line.TableEnd r rs e n o more = absurd cc
+put_row line.Caption r rs e n o more = absurd cc
+put_row line.Row r rs e n o more = absurd cc
+put_row line.Cell r rs e n o more = absurd cc
+put_row line.Header r rs e n o more = absurd cc
+put_row line.Heading r rs e n o more = record { its_blocks = heading r ∷ more.its_blocks; are = (rs, refl, e, more.are) }
+put_row line.Rule r rs e n o more = record { its_blocks = rule r ∷ more.its_blocks; are = (rs, refl, e, more.are) }
+put_row line.List r rs e n o more = put_list r rs more.its_blocks e more.are
+put_row line.Pre r rs e n o more = put_pre r rs more.its_blocks e more.are
+put_row line.Text r rs e n o more = put_text r rs more.its_blocks e more.are
+
+-- ---- rows of a page
+
+pub no_open : (k : LineKind) → IsOther k → k ≡ line.TableOpen → ⊥
+no_open k o e =
+    let t : is_open k ≡ true = ap is_open e in
+    let f : is_open k ≡ false = o.opens in absurd cc
 
 blocked : (m : ℕ) (rs : List Row) → length rs ≤ m → Level 0 rs → Own 0 rs → Blocked rs
 blocked m [] l h o = record { its_blocks = []; are = refl }
 blocked zero (r ∷ rs) l h o = absurd (omega (arith, l))
-blocked (suc m) (r ∷ rs) l h o = put_row r.kind r rs refl o.0 h o (λ back n g p. blocked m back (omega (arith, l, n)) g p)
+blocked (suc m) (r ∷ rs) l h o =
+    elim (sort r.kind) [
+      | inl e ↦ let c = cut 0 rs (subst (λ (n : ℕ). Level n rs) (ap (behind 0) e) (level_rest 0 r rs h)) in
+          let own : Own 1 (c.front ++ c.back) = subst (Own 1) c.is (subst (λ (n : ℕ). Own n rs) (ap (behind 0) e) o.1) in
+          let more = blocked m c.back (omega (arith, l, ap length c.is, length-append c.front c.back)) c.level
+          (own_behind 1 c.front c.back c.falls own) in
+          subst (λ (ss : List Row). Blocked (r ∷ ss)) (sym c.is) (put_table r c.front c.back e c.falls more)
+      | inr (inl e) ↦ let no : is_inner r.kind ≡ true = ap is_inner e in
+          let outer : is_inner r.kind ≡ false = o.0 in absurd cc
+      | inr (inr t) ↦ put_row r.kind r rs refl o.0 (no_open r.kind t)
+          (blocked m rs (omega (arith, l)) (subst (λ (n : ℕ). Level n rs) (t.stays 0) (level_rest 0 r rs h))
+          (subst (λ (n : ℕ). Own n rs) (t.stays 0) o.1))
+    ]
 
 pub page_blocked : (ls : List (List Item)) → Blocked (rows_from 0 ls)
 page_blocked ls = blocked (length (rows_from 0 ls)) (rows_from 0 ls) (omega arith) (rows_level 0 ls) (rows_own 0 ls)

@@ -92,11 +92,11 @@ pub cut : (d : ℕ) (rs : List Row) → Level (suc d) rs → Cut (suc d) rs
 cut d [] h = absurd h
 cut d (r ∷ rs) h =
     elim (sort r.kind) [
-      inl e ↦ put_cut d (suc (suc d)) r rs (ap (behind (suc d)) e) (cut (suc d) rs (level_open (suc d) r rs e h))
+      | inl e ↦ put_cut d (suc (suc d)) r rs (ap (behind (suc d)) e) (cut (suc d) rs (level_open (suc d) r rs e h))
       | inr (inl e) ↦ let n : suc d - 1 ≡ d = omega arith in
-        let below = level_end d r rs e h in
-        put_cut d d r rs (ap (behind (suc d)) e ∙ n)
-        (cut_rest d rs (λ m z. subst (λ (x : ℕ). Cut x rs) (sym z) (cut m rs (subst (λ (x : ℕ). Level x rs) z below))) below)
+          let below = level_end d r rs e h in
+          put_cut d d r rs (ap (behind (suc d)) e ∙ n)
+          (cut_rest d rs (λ m z. subst (λ (x : ℕ). Cut x rs) (sym z) (cut m rs (subst (λ (x : ℕ). Level x rs) z below))) below)
       | inr (inr o) ↦ put_cut d (suc d) r rs (o.stays (suc d)) (cut d rs (level_other (suc d) r rs o h))
     ]
 
@@ -110,14 +110,16 @@ units_level m [] l h = tt
 units_level zero (r ∷ rs) l h = absurd (omega (arith, l))
 units_level (suc m) (r ∷ rs) l h =
     elim (sort r.kind) [
-      inl e ↦ let c = cut 0 rs (level_open 0 r rs e h) in
-        let whole : units kind_of (r ∷ rs) ≡ (r ∷ c.front) ∷ units kind_of c.back =
-        ap (λ (ss : List Row). units kind_of (r ∷ ss)) c.is ∙ first_unit (r ∷ c.front) c.back (inl (e, c.falls)) in
-        subst All (sym whole) (part_is_unit (r ∷ c.front) (inl (e, c.falls)),
-          units_level m c.back (omega (arith, l, ap length c.is, length-append c.front c.back)) c.level)
+      | inl e ↦ let c = cut 0 rs (level_open 0 r rs e h) in
+          let whole : units kind_of (r ∷ rs) ≡ (r ∷ c.front) ∷ units kind_of c.back =
+          ap (λ (ss : List Row). units kind_of (r ∷ ss)) c.is ∙ first_unit (r ∷ c.front) c.back (inl (e, c.falls)) in
+          subst All (sym whole) (
+            part_is_unit (r ∷ c.front) (inl (e, c.falls)),
+            units_level m c.back (omega (arith, l, ap length c.is, length-append c.front c.back)) c.level,
+          )
       | inr (inl e) ↦ let no : 0 < 0 = level_ends 0 r rs h e in absurd (omega (arith, no))
       | inr (inr o) ↦ subst All (sym (first_unit (r ∷ []) rs (inr (o, refl))))
-        (part_is_unit (r ∷ []) (inr (o, refl)), units_level m rs (omega (arith, l)) (level_other 0 r rs o h))
+          (part_is_unit (r ∷ []) (inr (o, refl)), units_level m rs (omega (arith, l)) (level_other 0 r rs o h))
     ]
 
 -- ---- rows of lines are level
@@ -203,9 +205,9 @@ pub inside_of : (d : ℕ) (rs : List Row) → Falls (suc d) rs → Inside d rs
 inside_of d [] h = absurd h
 inside_of d (r ∷ rs) h =
     elim (sort r.kind) [
-      inl e ↦ put_inside d (suc d) r rs (λ z. absurd (open_no_end r.kind e z)) (ap (behind d) e) (inside_of (suc d) rs (falls_open d r rs e h))
+      | inl e ↦ put_inside d (suc d) r rs (λ z. absurd (open_no_end r.kind e z)) (ap (behind d) e) (inside_of (suc d) rs (falls_open d r rs e h))
       | inr (inl e) ↦ let f = falls_end d r rs e h in
-        end_inside_by d r rs e (λ m z. inside_of m rs (subst (λ (x : ℕ). Falls x rs) z f)) f
+          end_inside_by d r rs e (λ m z. inside_of m rs (subst (λ (x : ℕ). Falls x rs) z f)) f
       | inr (inr o) ↦ put_inside d d r rs (λ z. absurd (o.no_end z)) (o.stays d) (inside_of d rs (falls_other d r rs o h))
     ]
 

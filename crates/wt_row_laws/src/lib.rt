@@ -6,13 +6,14 @@ ghost use Rattle.std.specs.Prelude.{◌≡◌, List, ◌∷◌};
 ghost use Rattle.std.specs.List.{flat_map};
 ghost use Rattle.wt_span.specs.Items.{Item};
 ghost use Rattle.wt_lines.specs.declared.kind.LineKind.TheVariants as kind;
-ghost use Rattle.wt_tables.specs.Parts.{units};
+ghost use Rattle.wt_tables.specs.Parts.{units, table_of};
 ghost use Rattle.wt_inline.specs.ItemTree.{ItemTree};
 ghost use Rattle.wt_body.specs.Rows.{Row, kind_of, rows_from};
 ghost use Rattle.wt_body.specs.Tables.{Reading};
 ghost use Rattle.wt_body.specs.Body.{blocks_by, meaning};
 ghost use Rattle.wt_row_laws.specs.Counts.{KindIsCounted};
 ghost use Rattle.wt_row_laws.specs.Units.{IsUnit, AreUnits, HoldsUnits};
+ghost use Rattle.wt_row_laws.specs.Cells.{CellsHoldBlocks};
 ghost use Rattle.wt_row_laws.specs.Blocks.{Block, AreBlocks, block_parts, IsMeaningByCases};
 
 /// The kind of a line is that at which so many tables are open as the rows before it have opened, less those that
@@ -38,6 +39,12 @@ pub fn tables_hold_units()
 /// cells are read.
 pub fn blocks_are_read_by_cases()
     ensures { (read : Reading) (bs : List Block) (rs : List Row) → AreBlocks bs rs → blocks_by read rs ≡ flat_map (block_parts read) bs }
+{}
+
+/// In a table whose inside is whole units, what stands behind each line of cells or of a caption is blocks, told by
+/// cases of their rows.
+pub fn cells_hold_blocks()
+    ensures { (first : Row) (inside : List Row) → AreUnits (units kind_of inside) inside → CellsHoldBlocks (table_of kind_of first inside) }
 {}
 
 /// The meaning of a page is found by blocks that are told by cases of their rows, and no other tree is.
