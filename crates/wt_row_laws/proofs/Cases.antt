@@ -8,6 +8,10 @@ use Rattle.wt_lines.specs.Kinds.{kind_of_signs}
 use Rattle.wt_tables.specs.Extents.{inner_len}
 use Rattle.wt_tables.specs.Parts.{units}
 use Rattle.wt_body.specs.Rows.{Row, kind_of, rows}
+use Rattle.wt_body.specs.Stretches.{gap}
+use Rattle.wt_body.specs.Texts.{with_separators, para, pre}
+use Rattle.wt_body.specs.Tables.{gaps}
+use Rattle.wt_body.specs.Body.{blocks_by}
 use Rattle.wt_row_laws.specs.Units.{IsUnit}
 use Rattle.wt_row_laws.specs.Blocks.{paragraph, BeginOtherwise, AreBlocks}
 
@@ -88,3 +92,18 @@ no_two_paragraphs : AreBlocks (paragraph one [] ∷ paragraph two [] ∷ []) (on
 no_two_paragraphs (others, z, (a, begin), more) =
     let z' : two ∷ [] ≡ others = rest_is one (two ∷ []) others z in
     let no : two.kind ≡ line.Text → ⊥ = subst (BeginOtherwise line.Text) (sym z') begin in no refl
+
+-- ---- what blocks make
+
+-- two lines of text are read as one paragraph
+read_as_one : blocks_by gaps (one ∷ two ∷ []) ≡ with_separators (para (one ∷ two ∷ [])) (one ∷ two ∷ [])
+read_as_one = refl
+
+abbrev spaced : Row
+spaced = row line.Pre (codes " c")
+
+-- text and preformatted text are two blocks, and a blank row is none
+read_apart : blocks_by gaps (one ∷ spaced ∷ row line.Blank [] ∷ two ∷ []) ≡
+    with_separators (para (one ∷ [])) (one ∷ []) ++ (with_separators (pre (spaced ∷ [])) (spaced ∷ [])
+    ++ (gap (page (10 ∷ [])) ∷ with_separators (para (two ∷ [])) (two ∷ [])))
+read_apart = refl
