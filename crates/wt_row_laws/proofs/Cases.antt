@@ -1,13 +1,13 @@
 -- Worked cases of rows, units and blocks.
 use Rattle.std.proofs.Common.{◌≡◌, ℕ, None, List, [], ◌∷◌, ◌++◌, refl, sym, subst, arith}
-use Rattle.std.specs.Prelude.{codes, map}
+use Rattle.std.specs.Prelude.{codes, map, replicate}
 use Rattle.wt_span.specs.Items.{Item, char}
 use Rattle.wt_lines.specs.declared.kind.LineKind.{LineKind}
 use Rattle.wt_lines.specs.declared.kind.LineKind.TheVariants as line
 use Rattle.wt_lines.specs.Kinds.{kind_of_signs}
 use Rattle.wt_tables.specs.Extents.{inner_len}
 use Rattle.wt_tables.specs.Parts.{units}
-use Rattle.wt_body.specs.Rows.{Row, kind_of, rows}
+use Rattle.wt_body.specs.Rows.{Row, kind_of, rows_from, rows}
 use Rattle.wt_body.specs.Stretches.{gap}
 use Rattle.wt_body.specs.Texts.{with_separators, para, pre}
 use Rattle.wt_body.specs.Tables.{gaps}
@@ -47,6 +47,13 @@ behind_the_inner_end = refl
 nothing_to_end : kinds (page (codes "|}")) ≡ line.Text ∷ []
 unfolding rows kind_of_signs
 nothing_to_end = refl
+
+-- the seventeenth of nested tables isn't opened, and then the first line that ends one ends the sixteenth; the tables that no line ends are
+-- ended behind the last line
+seventeen : map kind_of (rows_from 0 (replicate 17 (page (codes "{|")) ++ page (codes "|}") ∷ page (codes "{|") ∷ []))
+    ≡ replicate 16 line.TableOpen ++ (line.Text ∷ line.TableEnd ∷ line.TableOpen ∷ replicate 16 line.TableEnd)
+unfolding kind_of_signs
+seventeen = refl
 
 -- ---- units
 
