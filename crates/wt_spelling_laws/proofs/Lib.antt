@@ -3,3 +3,4 @@ pub mod Forms
 pub mod TextReads
 pub mod Signs
 pub mod Lines
+pub mod TextKinds
