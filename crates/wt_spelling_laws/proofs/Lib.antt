@@ -4,3 +4,4 @@ pub mod TextReads
 pub mod Signs
 pub mod Lines
 pub mod TextKinds
+mod NeighbourCases

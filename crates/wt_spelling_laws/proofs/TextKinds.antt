@@ -1,16 +1,15 @@
 -- The kinds of the lines of a text alone: a line that begins with an atom, or with a character that begins no other block, is Text.
-use Rattle.std.proofs.Common.{arith, ◌≡◌, ◌≢◌, ℕ, zero, suc, ◌+◌, ◌-◌, ◌<◌, ◌≤◌, ◌==◌, Bool, true, false, List, [], ◌∷◌, ◌++◌, length, map, take, drop, refl, sym, ap, ◌∙◌, subst, Some, None, Option, All, length-drop}
+use Rattle.std.proofs.Common.{arith, ◌≡◌, ◌≢◌, ℕ, zero, suc, ◌-◌, ◌<◌, ◌==◌, Bool, true, false, List, [], ◌∷◌, ◌++◌, length, map, take, drop, refl, sym, ap, ◌∙◌, subst, Some, None, Option, All}
 use Rattle.std.specs.Prelude.{◌||◌, ◌&&◌, not, slice_index, if◌then◌else◌, reverse, nat_lt, codes}
 use Rattle.std.specs.Option.{unwrap_or}
 use Rattle.std.specs.Str.{IsUtf8}
 use Rattle.std.proofs.lemmas.Bool.Decides.{nat_tests}
 use Rattle.std.proofs.lemmas.List.Elements.{All-nil, All-cons, All-head, All-tail}
-use Rattle.wt_span.specs.declared.form.Mode.{Mode}
 use Rattle.wt_span.specs.declared.form.Mode.TheVariants.{Page}
 use Rattle.wt_span.specs.declared.form.LexKind.{LexKind}
 use Rattle.wt_span.specs.declared.form.LexKind.TheVariants.{Chars, CommentLine, Comment, Raw, Include, Hidden, Entity, Opens, Closes, LinkOpen, LinkClose, Pipe, Equals}
 use Rattle.wt_span.specs.declared.form.Form.TheVariants as form
-use Rattle.wt_span.specs.Bytes.{is_blank, is_break, begins}
+use Rattle.wt_span.specs.Bytes.{is_break, begins}
 use Rattle.wt_span.specs.Items.{Item, char, whole, sign, items_by}
 use Rattle.wt_span.specs.Tags.{Tag, opening_tag, is_nowiki}
 use Rattle.wt_span.specs.Lexemes.{Word, words}
@@ -24,7 +23,7 @@ use Rattle.wt_lines.proofs.KindRows.{kind_of_text}
 use Rattle.wt_expand.specs.PageItems.{items_of_word, items_of_words, page_items, raw_form_by}
 use Rattle.wt_guards.specs.Table.{line_start_hazard}
 use Rattle.wt_guards.specs.Content.{letters}
-use Rattle.wt_guards.specs.Guards.{Setting, nowiki, spelled}
+use Rattle.wt_guards.specs.Guards.{Setting, spelled}
 use Rattle.wt_spelling_laws.specs.Reading.{shown_by, joined, shown_words, read_text}
 use Rattle.wt_spelling_laws.proofs.TextReads.{text_reads_back}
 use Rattle.wt_spelling_laws.proofs.Forms.{begins_not}
