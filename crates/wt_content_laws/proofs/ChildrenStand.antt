@@ -1,5 +1,5 @@
 -- Nothing is wrong with children exactly where each is white space, the page's, or a new block that holds well, and a list keeps an item.
-use Rattle.std.proofs.Common.{◌≡◌, ◌≢◌, ◌⊎◌, ◌↔◌, inl, inr, ℕ, Bool, true, false, List, [], ◌∷◌, ◌++◌, Option, Some, None, refl, sym, ap, ◌∙◌, subst}
+use Rattle.std.proofs.Common.{◌≡◌, ◌≢◌, ◌⊎◌, ◌↔◌, inl, inr, ℕ, Bool, true, false, List, [], ◌∷◌, ◌++◌, None, refl, sym, ap, ◌∙◌, subst}
 use Rattle.std.specs.Prelude.{◌==◌, ◌||◌, ◌&&◌, not, if◌then◌else◌, map}
 use Rattle.std.proofs.lemmas.Bool.Decides.{Decides-eqb}
 use Rattle.wt_tree.specs.declared.kind.Kind.{Kind}
@@ -8,16 +8,14 @@ use Rattle.wt_tree.specs.declared.kind.Mark.TheVariants as mark
 use Rattle.wt_tree.specs.Kinds.{is_leaf}
 use Rattle.wt_tree.specs.Source.{flat}
 use Rattle.wt_tree.specs.Tree.{Label, Tree, tree, Trees, none, more, label}
-use Rattle.wt_kept.specs.declared.kinds.BlockForm.{BlockForm}
-use Rattle.wt_kept.specs.declared.kinds.BlockForm.TheVariants as form
 use Rattle.wt_kept.specs.Kinds.{shape}
-use Rattle.wt_kept.specs.Kept.{Kept, Found, holds_kept, kept_nodes, kept_of}
+use Rattle.wt_kept.specs.Kept.{Kept, holds_kept, kept_nodes, kept_of}
 use Rattle.wt_kept.specs.Page.{Page, no_page, page_of}
 use Rattle.wt_content.specs.declared.children.Holder.{Holder}
 use Rattle.wt_content.specs.declared.children.Holder.TheVariants as holder
 use Rattle.wt_content.specs.declared.reason.ContentWhy.{ContentWhy}
 use Rattle.wt_content.specs.declared.reason.ContentWhy.TheVariants as why
-use Rattle.wt_content.specs.Children.{all_child_faults, any_kept_child, bad_children, child_faults, children_faults, empty_fault, holder_of, if_any_held, inside_faults, is_child, is_kept_child, is_mark, is_rule, is_separator, is_space, may_come, new_faults}
+use Rattle.wt_content.specs.Children.{all_child_faults, any_kept_child, bad_children, child_faults, children_faults, empty_fault, holder_of, if_any_held, inside_faults, is_child, is_kept_child, is_mark, is_rule, is_space, may_come, new_faults}
 use Rattle.wt_content.specs.Content.{all_faults, bad_content, content_faults, first_why, held, outermost}
 use Rattle.wt_content.specs.ContentLaws.{IsFirstReason}
 use Rattle.wt_content.specs.Grammar.{AreContent}
@@ -366,9 +364,10 @@ no_more xs ys e f = ap (λ ws. ws ++ ys) e ∙ f
 
 each_is : (same : Tree → Tree → Bool) (h : Holder) (us : Trees) → all_child_faults same h us ≡ [] → AreEachChildren same h us
 each_is same h none e = tt
-each_is same h (more u us) e =
-    (child_is same h u (nil_left (child_faults same h u) (all_child_faults same h us) e),
-    each_is same h us (nil_right (child_faults same h u) (all_child_faults same h us) e))
+each_is same h (more u us) e = (
+  child_is same h u (nil_left (child_faults same h u) (all_child_faults same h us) e),
+  each_is same h us (nil_right (child_faults same h u) (all_child_faults same h us) e),
+)
 
 each_well : (same : Tree → Tree → Bool) (h : Holder) (us : Trees) → AreEachChildren same h us → all_child_faults same h us ≡ []
 each_well same h none c = refl
@@ -386,9 +385,12 @@ no_such k j e f i = let no : true ≡ false = sym e ∙ (ap (is_child holder.Lis
 
 item_is : (u : Tree) → is_kept_child holder.List u ≡ true → IsOldItem u
 item_is u e =
-    let b = both_true (is_child holder.List (label u).kind) (not ((label u).id == 0)) e in
-    (numbered (label u).id b.1, no_such (label u).kind kind.Sep b.0 refl, no_such (label u).kind kind.Comment b.0 refl,
-    no_such (label u).kind kind.Include b.0 refl)
+    let b = both_true (is_child holder.List (label u).kind) (not ((label u).id == 0)) e in (
+      numbered (label u).id b.1,
+      no_such (label u).kind kind.Sep b.0 refl,
+      no_such (label u).kind kind.Comment b.0 refl,
+      no_such (label u).kind kind.Include b.0 refl,
+    )
 
 is_item : (u : Tree) → IsOldItem u → is_kept_child holder.List u ≡ true
 is_item u h =
@@ -435,9 +437,10 @@ are : (same : Tree → Tree → Bool) (new : Tree) → bad_children same new ≡
 are same new e =
     let h = holder_of (label new).kind in
     let us = held new in
-    let none = subst (IsFirstReason (children_faults same h us)) e (first_of_children same new) in
-    (each_is same h us (nil_left (all_child_faults same h us) (empty_fault h us) none),
-    keeps h us (nil_right (all_child_faults same h us) (empty_fault h us) none))
+    let none = subst (IsFirstReason (children_faults same h us)) e (first_of_children same new) in (
+      each_is same h us (nil_left (all_child_faults same h us) (empty_fault h us) none),
+      keeps h us (nil_right (all_child_faults same h us) (empty_fault h us) none),
+    )
 
 stand : (same : Tree → Tree → Bool) (new : Tree) → AreChildren same (holder_of (label new).kind) (held new) → bad_children same new ≡ None
 unfolding bad_children

@@ -1,8 +1,6 @@
 -- Nothing is wrong with a text edit round groups: it is of the grammar.
-use Rattle.std.proofs.Common.{◌≡◌, ◌⊎◌, inl, inr, Bool, true, false, Option, Some, None, refl, ap, ◌∙◌, sym, subst}
-use Rattle.std.specs.Prelude.{◌||◌, if◌then◌else◌, is_some, List}
-use Rattle.wt_names.specs.Written.{read_link}
-use Rattle.wt_tree.specs.Plain.{plain}
+use Rattle.std.proofs.Common.{◌≡◌, inl, Bool, true, false, Option, Some, None, refl, ap, ◌∙◌, sym}
+use Rattle.std.specs.Prelude.{◌||◌, if◌then◌else◌, List}
 use Rattle.wt_tree.specs.Tiling.{is_group}
 use Rattle.wt_tree.specs.Tree.{Label, Tree, tree, Trees, none, more, label}
 use Rattle.wt_kept.specs.declared.kinds.Way.{Way}
@@ -10,13 +8,12 @@ use Rattle.wt_kept.specs.declared.kinds.Way.TheVariants as way
 use Rattle.wt_kept.specs.Kinds.{shape}
 use Rattle.wt_kept.specs.Kept.{Kept, kept_nodes, kept_with}
 use Rattle.wt_kept.specs.Page.{Page, TellsSame, is_unchanged, node_or, page_of, restored, restored_all}
-use Rattle.wt_escape.specs.Spelling.{href_of}
 use Rattle.wt_content.specs.declared.content.Spot.{Spot}
 use Rattle.wt_content.specs.declared.content.Standing.{Standing}
 use Rattle.wt_content.specs.declared.content.Standing.TheVariants as stands
-use Rattle.wt_content.specs.Content.{any_holds_link, bad_content, below, changed_from, has_break, held, holds_link, is_link, is_url, outermost, standing, standing_of}
-use Rattle.wt_content.specs.Grammar.{AreContent, IsApart, IsContent, IsContentBy, IsKept, IsLinkOf, LeavesFixed}
-use Rattle.wt_content.specs.Typed.{IsTypedBy, MayStand, TakesNoPlace, may_change}
+use Rattle.wt_content.specs.Content.{bad_content, below, changed_from, held, holds_link, is_link, outermost, standing, standing_of}
+use Rattle.wt_content.specs.Grammar.{AreContent, IsApart, IsContent, IsContentBy, LeavesFixed}
+use Rattle.wt_content.specs.Typed.{IsTypedBy, TakesNoPlace, may_change}
 use Rattle.wt_content.proofs.GrammarLaws.{grammar_is_taken}
 use Rattle.wt_content_laws.specs.TextEdits.{AreTextEdits, IsAsItWas, IsTextEdit}
 

@@ -59,13 +59,25 @@ outside_rows false rows h = refl
 
 no_table : (b : ℕ) (ss : List ℕ) → OpensText b → first_of (table_rows (b ∷ ss)) ≡ None
 no_table b ss o =
-    rw (first_not 124 (codes "}") ss b o.bar, first_not 124 (codes "+") ss b o.bar, first_not 124 (codes "-") ss b o.bar,
-    first_not 124 [] ss b o.bar, first_not 33 [] ss b o.bang) refl
+    rw (
+      first_not 124 (codes "}") ss b o.bar,
+      first_not 124 (codes "+") ss b o.bar,
+      first_not 124 (codes "-") ss b o.bar,
+      first_not 124 [] ss b o.bar,
+      first_not 33 [] ss b o.bang,
+    ) refl
 
 no_other : (b : ℕ) (ss last : List ℕ) → OpensText b → first_of (text_rows (b ∷ ss) last) ≡ None
 no_other b ss last o =
-    rw (first_not 61 [] ss b o.equals, first_not 45 (codes "---") ss b o.minus, first_not 42 [] ss b o.star, first_not 35 [] ss b o.hash,
-    first_not 58 [] ss b o.colon, first_not 59 [] ss b o.semicolon, first_not 32 [] ss b o.blank) refl
+    rw (
+      first_not 61 [] ss b o.equals,
+      first_not 45 (codes "---") ss b o.minus,
+      first_not 42 [] ss b o.star,
+      first_not 35 [] ss b o.hash,
+      first_not 58 [] ss b o.colon,
+      first_not 59 [] ss b o.semicolon,
+      first_not 32 [] ss b o.blank,
+    ) refl
 
 opens_kind : (tables b : ℕ) (ss : List ℕ) → OpensText b → kind_of_signs tables (b ∷ ss) ≡ kind.Text
 opens_kind tables b ss o =
@@ -182,9 +194,10 @@ chars_text : (start : Bool) (n : ℕ) (bs : List ℕ) (rest : List Item) → are
     → ((s : Bool) → are_text_lines s (drop n bs) ≡ true → TextItems s rest) → TextItems start (map (char None) (take n bs) ++ rest)
 chars_text start zero bs rest h small f = f start h
 chars_text start (suc n) [] rest h small f = f start h
-chars_text start (suc n) (b ∷ bs) rest h small f =
-    (λ i. opens_text b (All-head IsByte b (take n bs) small) (begins_if start (may_begin b) (and_first _ (are_text_lines (b == 10) bs) h) i),
-    chars_text (b == 10) n bs rest (and_second (not start || may_begin b) (are_text_lines (b == 10) bs) h) (All-tail IsByte b (take n bs) small) f)
+chars_text start (suc n) (b ∷ bs) rest h small f = (
+  λ i. opens_text b (All-head IsByte b (take n bs) small) (begins_if start (may_begin b) (and_first _ (are_text_lines (b == 10) bs) h) i),
+  chars_text (b == 10) n bs rest (and_second (not start || may_begin b) (are_text_lines (b == 10) bs) h) (All-tail IsByte b (take n bs) small) f,
+)
 
 raw_text : (start t : Bool) (bs : List ℕ) (rest : List Item) → TextItems false rest
     → TextItems start (items_by (if t then form.Nowiki else form.Extension) None bs ++ rest)

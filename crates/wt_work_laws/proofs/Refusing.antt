@@ -220,25 +220,26 @@ at_allowed pages page work f before e after r is h =
 
 pub refused_first : (pages : Pages) (page : List ℕ) (work : List Entry) (r : Refused) → (first_refusal pages page work ≡ Some r) ↔ IsFirstRefused pages page work r
 unfolding first_refusal
-refused_first pages page work r =
-    (λ e.
-        let f = first_from pages page 0 work r e in
-        record {
-          before = f.before;
-          entry = f.entry;
-          after = f.after;
-          whole = f.whole;
-          allowed = allowed_at pages page f.before f.allowed;
-          refused = subst (λ (m : ℕ). IsRefusedAt pages page m f.entry r) (nothing_before (spent f.before + spent (f.entry ∷ []))) f.refused;
-        },
-    λ f. first_back pages page 0 work r (record {
-      before = f.before;
-      entry = f.entry;
-      after = f.after;
-      whole = f.whole;
-      allowed = at_allowed pages page f.before f.allowed;
-      refused = subst (λ (m : ℕ). IsRefusedAt pages page m f.entry r) (sym (nothing_before (spent f.before + spent (f.entry ∷ [])))) f.refused;
-    }))
+refused_first pages page work r = (
+  λ e.
+      let f = first_from pages page 0 work r e in
+      record {
+        before = f.before;
+        entry = f.entry;
+        after = f.after;
+        whole = f.whole;
+        allowed = allowed_at pages page f.before f.allowed;
+        refused = subst (λ (m : ℕ). IsRefusedAt pages page m f.entry r) (nothing_before (spent f.before + spent (f.entry ∷ []))) f.refused;
+      },
+  λ f. first_back pages page 0 work r (record {
+    before = f.before;
+    entry = f.entry;
+    after = f.after;
+    whole = f.whole;
+    allowed = at_allowed pages page f.before f.allowed;
+    refused = subst (λ (m : ℕ). IsRefusedAt pages page m f.entry r) (sym (nothing_before (spent f.before + spent (f.entry ∷ [])))) f.refused;
+  }),
+)
 
 pub refused_never : (pages : Pages) (page : List ℕ) (work : List Entry) → (first_refusal pages page work ≡ None) ↔ AreAllowed pages page work
 unfolding first_refusal
