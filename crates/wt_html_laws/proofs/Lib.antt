@@ -5,4 +5,7 @@ pub mod Pieces
 pub mod Elements
 pub mod Sections
 pub mod OneBody
+pub mod SameBodies
+pub mod Numbers
+pub mod Alone
 mod Cases
