@@ -1,7 +1,6 @@
 -- How a text is expanded step by step, and what the pages that it calls do to what is spent and to the names that are known.
-use Rattle.std.proofs.Common.{◌≡◌, ℕ, zero, suc, ◌+◌, ◌-◌, ◌<◌, ◌≤◌, Bool, true, false, cond, Option, Some, None, option_map, List, [], ◌∷◌, ◌++◌, Ok, Err, refl, sym, ap, ◌∙◌, subst, ⊎_elim, arith, append-nil}
-use Rattle.std.specs.Prelude.{Result, if◌then◌else◌}
-use Rattle.std.specs.Option.{option_or}
+use Rattle.std.proofs.Common.{◌≡◌, ℕ, suc, ◌-◌, ◌≤◌, false, Option, List, [], ◌∷◌, ◌++◌, Ok, Err, refl, sym, ap, ◌∙◌, subst, arith, append-nil}
+use Rattle.std.specs.Prelude.{Result}
 use Rattle.wt_span.specs.declared.form.Mode.{Mode}
 use Rattle.wt_span.specs.declared.form.Mode.TheVariants as mode
 use Rattle.wt_span.specs.declared.form.Piece.{Piece}
@@ -10,34 +9,29 @@ use Rattle.wt_span.specs.Items.{Item, items}
 use Rattle.wt_names.specs.declared.title.Title.{Title}
 use Rattle.wt_names.specs.Namespace.{full_name_of}
 use Rattle.wt_expand.specs.Templates.{template_text}
-use Rattle.wt_expand.specs.Work.{Pages, Entry, Refused, braces_too_deep, too_large, not_utf8, too_long, entered, begun, fetched, fetches, is_among, found_refusal, refusal_from}
-use Rattle.wt_expand.specs.Fronts.{Front, NextRefuses, cost_of_all, known_after}
-use Rattle.wt_expand.specs.Expansion.{Output, Reading, Frame, just, template_output, text_given, fetched_output}
-use Rattle.wt_expand.proofs.Agreements.{fetches_append}
-use Rattle.wt_expand.proofs.FrontLaws.{cost_append, front_before, front_none, front_refusal, front_then, known_append}
+use Rattle.wt_expand.specs.Work.{Pages, Entry, begun, is_among}
+use Rattle.wt_expand.specs.Expansion.{Output, Reading, Frame, just, template_output, text_given}
+use Rattle.wt_expand.proofs.FrontLaws.{front_before}
 use Rattle.wt_transclusion.specs.declared.refusal.ExpandRefusal.{ExpandRefusal}
 use Rattle.wt_transclusion.specs.declared.refusal.ExpandRefusal.TheVariants as answer
 use Rattle.wt_transclusion.specs.declared.read.ReadText.{ReadText}
 use Rattle.wt_transclusion.specs.declared.store.Store.{Store}
 use Rattle.wt_transclusion.specs.declared.templates.Taken.{Taken}
 use Rattle.wt_transclusion.specs.declared.templates.Taken.TheVariants as taken
-use Rattle.wt_transclusion.specs.Answers.{IsFetched, IsRefused, IsNoFault, IsCountedErr}
+use Rattle.wt_transclusion.specs.Answers.{IsNoFault, IsCountedErr}
 use Rattle.wt_transclusion.specs.Reads.{IsRead}
 use Rattle.wt_transclusion.specs.Cursors.{starts}
-use Rattle.wt_transclusion.specs.Stops.{IsCause, told_with}
 use Rattle.wt_transclusion.specs.Stores.{IsStore, met_with, named_with}
-use Rattle.wt_transclusion.specs.Takings.{AnswersTaking, IsAsked, IsNamed, IsNamedErr, names_taking, taking_refusal}
-use Rattle.wt_transclusion.proofs.StopLaws.{stops_after, stops_before, stops_memory, stops_there, told_none, told_then}
-use Rattle.wt_levels.specs.Accounts.{Account, AreFetched, Does, IsAllowed, spent_of, undone}
-use Rattle.wt_levels.specs.Ledgers.{Ledger, ledger, ledger_after, Comes, ComesBy, Refuses, reading_of, AnswersOutput, Progress, Calling, TakesStep}
+use Rattle.wt_transclusion.specs.Takings.{AnswersTaking, IsNamed}
+use Rattle.wt_levels.specs.Accounts.{Account, Does, spent_of, undone}
+use Rattle.wt_levels.specs.Ledgers.{Ledger, ledger, Comes, ComesBy, Refuses, reading_of, AnswersOutput, Progress, Calling, TakesStep}
 use Rattle.wt_levels.specs.Rests.{with_work, after_page}
-use Rattle.wt_levels.specs.Runs.{Spends, IsTooLarge, Holds, Calls, Returns, RefusesCost, Goes, TakesPart, TakesTurn}
+use Rattle.wt_levels.specs.Runs.{Spends, Holds, Calls, Returns, RefusesCost, Goes, TakesPart, TakesTurn}
 use Rattle.wt_levels.specs.Stacks.{stack}
 use Rattle.wt_levels.specs.declared.level.Handing.{Handing}
 use Rattle.wt_levels.specs.declared.run.TextRun.{TextRun}
 use Rattle.wt_levels.specs.declared.run.Turn.{Turn}
 use Rattle.wt_levels.specs.declared.run.Turn.TheVariants as turn
-use Rattle.wt_levels.proofs.AgainLaws.{NoneNew, fetched_none_new}
 use Rattle.wt_levels.proofs.LevelLaws.{strip}
 use Rattle.wt_levels.proofs.LedgerLaws.{Enters, by_none, by_refused, by_then, comes_spent, cost_refuses, enters, link_given, memory_refused, message_given, page_given, page_refused, refused_before, spent_all}
 
