@@ -8,6 +8,7 @@ pub mod LevelLaws
 pub mod NumberedParts
 pub mod PageLaws
 pub mod PartSteps
+pub mod ProgressLaws
 pub mod RestLaws
 pub mod StackLaws
 pub mod StepLaws

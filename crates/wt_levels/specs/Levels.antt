@@ -52,8 +52,8 @@ pub record IsChoosing (r : Reading) (t : List ℕ) (c : Choosing) : Type 0 where
   pub function_is : c.chooser.function ≡ c.function
   pub equals_are : c.chooser.equals ≡ have_names (parts_of_call r t c.call call)
 
--- A later part that is being told. What was done last is what was done of it; and if it has no name, it gives what it tells, so that
--- with what it still gives this is all that it would be given by.
+-- A later part that is being told: what was done of it is what was done last. If it has no name, that and what it still gives (`o`) are
+-- all that the part is given by.
 pub record IsToldSince (total : Account) (b : Braces) (f : Function) (number spent : ℕ) (ps : List PartOutput) (o : Output) : Type 0 where
   pub done : List Entry
   pub last : IsLast total spent done

@@ -10,7 +10,8 @@ use Rattle.wt_transclusion.proofs.AskedLaws.{asks_none, asks_then}
 use Rattle.wt_transclusion.proofs.GrowthLaws.{agrees_before, agrees_known, grows_none, grows_then}
 use Rattle.wt_levels.specs.Ledgers.{AnswersAdvance, AnswersOutput, Progress, TakesStep, ledger, reading_of}
 use Rattle.wt_levels.specs.declared.run.Turn.{Turn}
-use Rattle.wt_levels.proofs.LedgerLaws.{going_refused, link_done, message_done, no_fault_counted, one_less, page_done, page_taken, page_unread, page_untaken, paged_goes, paged_refused, progress_spent, step_handed, step_refused, taking_refused}
+use Rattle.wt_levels.proofs.LedgerLaws.{page_unread, taking_refused}
+use Rattle.wt_levels.proofs.ProgressLaws.{going_refused, link_done, message_done, no_fault_counted, one_less, page_done, page_taken, page_untaken, paged_goes, paged_refused, progress_spent, step_handed, step_refused}
 use Rattle.wt_levels.proofs.expansion.Expansion.+expanding.Goals as goal
 
 pub advance-returns-in-Went-clause-grown : goal.advance-returns-in-Went-clause-grown

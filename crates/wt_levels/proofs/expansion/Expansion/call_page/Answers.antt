@@ -15,7 +15,8 @@ use Rattle.wt_levels.specs.Rests.{after_values}
 use Rattle.wt_levels.specs.Runs.{page_called}
 use Rattle.wt_levels.specs.declared.reader.Reader.{Reader}
 use Rattle.wt_levels.proofs.CallSteps.{page_alone}
-use Rattle.wt_levels.proofs.LedgerLaws.{by_none, cost_refuses, memory_answered, page_begun, page_does, part_step}
+use Rattle.wt_levels.proofs.LedgerLaws.{by_none, cost_refuses, memory_answered}
+use Rattle.wt_levels.proofs.ProgressLaws.{page_begun, page_does, part_step}
 use Rattle.wt_levels.proofs.RestLaws.{begun_refused, begun_spent}
 use Rattle.wt_levels.proofs.expansion.Expansion.call_page.Goals as goal
 

@@ -4,7 +4,8 @@ use Rattle.wt_transclusion.specs.declared.refusal.ExpandRefusal.TheVariants as a
 use Rattle.wt_transclusion.proofs.AskedLaws.{asks_none}
 use Rattle.wt_levels.specs.Ledgers.{ledger, reading_of}
 use Rattle.wt_levels.specs.Readers.{IsReading}
-use Rattle.wt_levels.proofs.LedgerLaws.{begins, memory_answered}
+use Rattle.wt_levels.proofs.LedgerLaws.{memory_answered}
+use Rattle.wt_levels.proofs.ProgressLaws.{begins}
 use Rattle.wt_levels.proofs.StepLaws.{stretch_holds}
 use Rattle.wt_levels.proofs.expansion.Expansion.stretch.Goals as goal
 

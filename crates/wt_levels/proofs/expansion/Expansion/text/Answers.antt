@@ -3,7 +3,8 @@ use Rattle.wt_expand.specs.Expansion.{text_given}
 use Rattle.wt_transclusion.specs.declared.refusal.ExpandRefusal.TheVariants as answer
 use Rattle.wt_transclusion.proofs.AskedLaws.{asks_none}
 use Rattle.wt_levels.specs.Ledgers.{ledger, reading_of}
-use Rattle.wt_levels.proofs.LedgerLaws.{begins, memory_answered}
+use Rattle.wt_levels.proofs.LedgerLaws.{memory_answered}
+use Rattle.wt_levels.proofs.ProgressLaws.{begins}
 use Rattle.wt_levels.proofs.expansion.Expansion.text.Goals as goal
 
 pub returns-clause-given : goal.returns-clause-given
