@@ -34,12 +34,7 @@ impl Passes {
 
     /// Whether a block of the page with these items touches a text call or an open tag. Goes on to the block;
     /// what was passed already is gone through again only for a block that stands before it.
-    pub fn touches(
-        &mut self,
-        items: &Items<'_>,
-        page: &[u8],
-        block: &Node<'_>,
-    ) -> bool
+    pub fn touches(&mut self, items: &Items<'_>, page: &[u8], block: &Node<'_>) -> bool
         requires { AreOf items.now page.now self.old }
         ensures value { result ≡ (touches_text_call items.now.text_calls (out-Node block.now).ranges
             || touches_open_tag (before page.now (out-Node block.now).ranges) (view block.now)) }

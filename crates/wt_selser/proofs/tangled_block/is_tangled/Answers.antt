@@ -1,4 +1,4 @@
-use Rattle.wt_selser.proofs.Answering.{only_groups, touches_any}
+use Rattle.wt_selser.proofs.Answering.{touches_any}
 use Rattle.wt_selser.proofs.tangled_block.is_tangled.Goals as goal
 
 pub returns-then-touches-clause-value : goal.returns-then-touches-clause-value
