@@ -74,7 +74,7 @@ record Opens (bare wide : Markups) (g : Option (List ℕ)) (xs zs : List Piece) 
 fits_by : (bare wide : Markups) (xs zs : List Piece) (o : Opens bare wide None xs zs) → Fits wide o.pieces
 fits_by bare wide xs zs o =
     let front : GoesOnAlone wide o.pieces =
-        subst (λ (r : Result (List Piece) Misfit). IfOk r (GoesOnAlone wide)) (o.fits 0 false) (alone wide 0 kind.Body false false) in
+    subst (λ (r : Result (List Piece) Misfit). IfOk r (GoesOnAlone wide)) (o.fits 0 false) (alone wide 0 kind.Body false false) in
     record {
       anywhere = λ m behind g. same_ok (fit_nodes m (spot kind.Body false behind None) wide) (fit_nodes m (spot kind.Body false behind g) wide) o.pieces
           (same_group wide m kind.Body false behind g) (o.fits m behind);

@@ -78,9 +78,6 @@ tangled_out items page n =
 or_first : (a b : Bool) → a ≡ true → true ≡ (a || b)
 or_first a b e = sym (ap (λ c. c || b) e)
 
-or_second : (a b : Bool) → a ≡ false → b ≡ (a || b)
-or_second a b e = sym (ap (λ c. c || b) e)
-
 or_joined : (a b c : Bool) → ((a || b) || c) ≡ (a || (b || c))
 or_joined true b c = refl
 or_joined false b c = refl
@@ -93,16 +90,6 @@ touches_any items page n b e t =
     let tag = touches_open_tag (before page (out-Node n).ranges) (view n) in
     let rest = has_faulty_group items (views (out-Node n).children) in
     or_first (call || tag) rest (sym e ∙ t) ∙ or_joined call tag rest ∙ sym (tangled_out items page n)
-
-pub only_groups : (items : Expanded) (page : List ℕ) (n : Node) (ns : List Node) (b d : Bool)
-    → b ≡ (touches_text_call items.text_calls (out-Node n).ranges || touches_open_tag (before page (out-Node n).ranges) (view n)) → b ≡ false
-    → ns ≡ (out-Node n).children → d ≡ has_faulty_group items (views ns) → d ≡ is_tangled items page (view n)
-only_groups items page n ns b d e f is k =
-    let call = touches_text_call items.text_calls (out-Node n).ranges in
-    let tag = touches_open_tag (before page (out-Node n).ranges) (view n) in
-    let rest = has_faulty_group items (views (out-Node n).children) in
-    k ∙ ap (λ ms. has_faulty_group items (views ms)) is ∙ or_second (call || tag) rest (sym e ∙ f) ∙ or_joined call tag rest
-    ∙ sym (tangled_out items page n)
 
 -- of a content that is tangled or isn't, by the two tests
 tangled_by : (items : Expanded) (page : List ℕ) (p : Found) (m b : Bool) → m ≡ is_content (out-Node p.new.now).mark → b ≡ is_tangled items page (view p.old.now)

@@ -13,6 +13,7 @@ mod list;
 mod refusal;
 mod slices;
 mod steps;
+mod tangled_block;
 
 pub use differing::first_differing;
 pub use editing::edit;
@@ -21,4 +22,5 @@ pub use laws::{
     sections_make_no_difference, unmarked_edit_is_the_page,
 };
 pub use refusal::EditRefusal;
+pub use tangled_block::tangled;
 pub use wt_content::ContentWhy;

@@ -1,7 +1,7 @@
 use Rattle.std.proofs.Common.{arith, ap, sym, ◌∙◌}
 use Rattle.wt_tangled.proofs.Endings.{ends_so, next_ending, with_end, with_less}
-use Rattle.wt_tangled.proofs.tag_pass.Ending.with.Goals as goal
-use Rattle.wt_tangled.specs.declared.tag_pass.Ending.TheVariants as ending
+use Rattle.wt_tangled.proofs.ending.Ending.with.Goals as goal
+use Rattle.wt_tangled.specs.declared.ending.Ending.TheVariants as ending
 
 pub returns-then-byte-eq60 : goal.returns-then-byte-eq60
 returns-then-byte-eq60 c = λ text at. with_less text c.args.byte c.if-byte-eq60.true
