@@ -49,6 +49,7 @@ data_same n m i w k ps (Some d) c r s h = by_test (text_fits k c)
   where
     l : Label
     l = label_as w k ps d (texts_in c)
+
     by_test : (b : Bool) → SameOk (if b then one_piece w ps d (with_children i k l r) else Err (n, why.Text))
         (if b then one_piece w ps d (with_children i k l s) else Err (m, why.Text))
     by_test true = one_same w ps d (with_children i k l r) (with_children i k l s) (children_same i k l r s h)
