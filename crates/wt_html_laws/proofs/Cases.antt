@@ -1,5 +1,5 @@
 -- Worked cases, each by computing.
-use Rattle.std.proofs.Common.{◌≡◌, [], ◌∷◌, true, false, Some, None, refl, codes}
+use Rattle.std.proofs.Common.{◌≡◌, List, [], ◌∷◌, true, false, Some, None, refl, codes}
 use Rattle.std.specs.Fmt.{digits}
 use Rattle.serde_json.proofs.OnLiterals.{serde_json_on_literals}
 use Rattle.wt_tree.specs.declared.kind.AttrName.TheVariants as attr
@@ -11,9 +11,12 @@ use Rattle.wt_tree.specs.Recut.{leaf_label}
 use Rattle.wt_tree.specs.Tree.{Tree, tree, Trees, none, more}
 use Rattle.wt_tree.specs.Values.{placeholder, switch_prefix, is_switch}
 use Rattle.wt_datamw.specs.MwRead.{is_mw_shape, has_small_numbers, mw_of_data, mw_told}
+use Rattle.wt_html_grammar.specs.Markup.{Pair, Markup, Markups, text, node, empty, more as one}
 use Rattle.wt_fitting.specs.Groups.{transclusion, param}
 use Rattle.wt_fitting.specs.Read.{page, read_tree, read}
 use Rattle.wt_checks.specs.PutBack.{have_frame}
+use Rattle.wt_html_laws.specs.SameBodies.{IsSameDocument}
+use Rattle.wt_html_laws.specs.OpenedBodies.{sections_opened}
 
 -- a node without data, and a group
 abbrev bare : Kind → Trees → Tree
@@ -60,3 +63,31 @@ body_in_block = refl
 -- and what it allows
 blocks_alone : have_frame (more (group (more (bare kind.Para none) none)) (more (bare kind.Rule none) none)) ≡ false
 blocks_alone = refl
+
+-- ---- documents that are the same but for attributes of sections, and sections that are taken out
+
+abbrev document : Markups → Markup
+document c = node (codes "html") [] (one (node (codes "body") [] c) empty)
+
+abbrev section : List Pair → Markups → Markup
+section ps c = node (codes "section") ps c
+
+abbrev rule : Markup
+rule = node (codes "hr") [] empty
+
+-- a number and an `about` make no difference, but the mark of an edit does
+other_attributes : IsSameDocument (document (one (section [] (one rule empty)) empty))
+    (document (one (section ((codes "about", codes "#a") ∷ (codes "data-mw-section-id", codes "7") ∷ []) (one rule empty)) empty))
+other_attributes = (refl, refl, ((refl, refl, ((refl, refl, ((refl, refl, refl), tt)), tt)), tt))
+
+abbrev mark : List Pair
+mark = (codes "data-wt-edit", codes "content") ∷ []
+
+another_mark : IsSameDocument (document (one (section mark empty) empty)) (document (one (section [] empty) empty)) → ⊥
+another_mark h = cc h.2.0.2.0.1
+
+-- a section in a section, an empty one, and one that is in a cell and stays
+taken_out : sections_opened (document (one (section [] (one (text (codes "\n")) (one (section mark (one rule empty)) empty)))
+    (one (section [] empty) (one (node (codes "td") [] (one (section [] empty) empty)) empty))))
+    ≡ document (one (text (codes "\n")) (one rule (one (node (codes "td") [] (one (section [] empty) empty)) empty)))
+taken_out = refl

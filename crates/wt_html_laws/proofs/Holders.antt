@@ -1,5 +1,5 @@
 -- What a body or a section holds has a place in the body, wherever it stands there.
-use Rattle.std.proofs.Common.{◌≡◌, ℕ, Bool, true, false, Option, Some, None, List, refl, ap, ◌∙◌}
+use Rattle.std.proofs.Common.{◌≡◌, ℕ, Bool, true, false, Some, None, List, refl, ap, ◌∙◌}
 use Rattle.std.specs.Prelude.{◌&&◌, ◌||◌, not}
 use Rattle.wt_tree.specs.declared.kind.Kind.{Kind}
 use Rattle.wt_tree.specs.declared.kind.Kind.TheVariants as kind
@@ -8,7 +8,6 @@ use Rattle.wt_tree.specs.declared.row.Class.TheVariants as class
 use Rattle.wt_tree.specs.declared.row.Holding.TheVariants.{Blocks}
 use Rattle.wt_tree.specs.Kinds.{shape, is_class, is_anywhere, admits, may_hold, is_inline}
 use Rattle.wt_tree.specs.Recut.{sep_leaf}
-use Rattle.wt_tree.specs.Tree.{Tree}
 use Rattle.wt_html_grammar.specs.Markup.{Markups}
 use Rattle.wt_fitting.specs.declared.standing.Standing.{Standing}
 use Rattle.wt_fitting.specs.Fit.{leaf_in, fits_place}

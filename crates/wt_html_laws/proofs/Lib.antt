@@ -8,4 +8,7 @@ pub mod OneBody
 pub mod SameBodies
 pub mod Numbers
 pub mod Alone
+pub mod Holders
+pub mod Openings
+pub mod OpenedBodies
 mod Cases

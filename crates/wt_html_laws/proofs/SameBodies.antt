@@ -1,12 +1,12 @@
 -- Attributes of sections, but for the mark of an edit, count for nothing.
-use Rattle.std.proofs.Common.{◌≡◌, ℕ, ◌+◌, Bool, true, false, Option, Some, None, List, refl, ap, ap₂, subst, sym, codes, ◌∙◌}
+use Rattle.std.proofs.Common.{◌≡◌, ℕ, ◌+◌, Bool, true, false, Option, Some, None, List, refl, ap, ap₂, subst, codes, ◌∙◌}
 use Rattle.std.specs.Prelude.{◌&&◌, filter, if◌then◌else◌, not}
 use Rattle.std.specs.Str.{bytes_eq}
 use Rattle.std.proofs.lemmas.Slice.Eq.{bytes_eq-Decides}
 use Rattle.wt_html_grammar.specs.Markup.{Pair, Markup, Markups, text, node, empty, more}
 use Rattle.wt_fitting.specs.Fit.{elements_of_all, elements_in, is_marked_root, Found, body_in, body_of, fit_body, fit}
 use Rattle.wt_fitting.specs.Sections.{is_section_name, is_mark_pair, bared, all_bared}
-use Rattle.wt_html_laws.specs.SameBodies.{AreSamePairs, AreSameInside, IsSamePart, AreSameParts, is_body_name, IsSameChild, AreSameChildren, IsSameDocument}
+use Rattle.wt_html_laws.specs.SameBodies.{AreSamePairs, AreSameInside, IsSamePart, AreSameParts, is_body_name, AreSameChildren, IsSameDocument}
 
 -- ---- what stands in a body
 

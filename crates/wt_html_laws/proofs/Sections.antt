@@ -37,7 +37,7 @@ no_about (p ∷ ps) = by_test (is_mark_pair p) refl (no_about ps)
     by_test true e h = ap (λ c. if c then Some p.1 else value_of (codes "about") (filter is_mark_pair ps)) (other_pair p e) ∙ h
     by_test false e h = h
 
-stands_alone : (group : Option (List ℕ)) (ps : List Pair) → standing group (filter is_mark_pair ps) ≡ stands.Alone
+pub stands_alone : (group : Option (List ℕ)) (ps : List Pair) → standing group (filter is_mark_pair ps) ≡ stands.Alone
 stands_alone group ps = ap (λ o. standing_by group o (has (codes "data-mw") (filter is_mark_pair ps))) (no_about ps)
 
 -- ---- sections

@@ -1,5 +1,5 @@
 -- A document whose sections are taken out: what they hold stands in their place.
-use Rattle.std.specs.Prelude.{List, if◌then◌else◌}
+use Rattle.std.specs.Prelude.{if◌then◌else◌}
 use Rattle.wt_html_grammar.specs.Markup.{Markup, Markups, text, node, empty, more}
 use Rattle.wt_fitting.specs.Sections.{is_section_name}
 use Rattle.wt_html_laws.specs.SameBodies.{is_body_name}
