@@ -98,7 +98,7 @@ int wtround_answer(const wtround_text *words, size_t word_count, const char *inp
                    const wtround_page *pages, size_t page_count, wtround_room *out, wtround_room *line,
                    wtround_room *missing);
 
-/* The version of the library, as "0.1.0". */
+/* The version of the library, as "0.2.0". */
 const char *wtround_version(void);
 
 #ifdef __cplusplus

@@ -13,7 +13,7 @@ from ._commands import Pages, Range, Text, edit, expand, html, ranges, run, wiki
 from ._engines import Answer, Engine, Unavailable, engine
 from ._refusal import Refusal
 
-__version__ = "0.1.0"
+__version__ = "0.2.0"
 
 __all__ = [
     "Answer",
