@@ -2,7 +2,6 @@
 from __future__ import annotations
 
 import ctypes
-import ctypes.util
 import os
 import shutil
 import subprocess
@@ -185,8 +184,7 @@ def _libraries() -> List[str]:
     if named is not None:
         return [named] if named else []
     own = os.path.join(os.path.dirname(__file__), "libwtround.so.0")
-    found = ctypes.util.find_library("wtround")
-    return [path for path in (own if os.path.exists(own) else None, found) if path]
+    return [own, "libwtround.so.0"] if os.path.exists(own) else ["libwtround.so.0"]
 
 
 def engine(kind: Optional[str] = None) -> Engine:
