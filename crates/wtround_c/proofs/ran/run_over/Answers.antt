@@ -1,5 +1,6 @@
 use Rattle.std.proofs.Common.{ap}
 use Rattle.std.specs.Prelude.{Some}
+use Rattle.wt_pagetool.specs.Answers.{IsNoText}
 use Rattle.wtround_c.specs.Tables.{pages_of}
 use Rattle.wtround_c.proofs.RunLaws.{of_library, waits_left}
 use Rattle.wtround_c.proofs.ran.run_over.Goals as goal
@@ -34,7 +35,8 @@ returns c =
       asks = h.asks;
       asked = h.asked;
       takes = h.takes;
-      waits = λ title is. waits_left _ _ _ _ (h.waits title is);
+      waits = λ title is. waits_left (Some (pages_of c.new-folder.result.pages.now)) (λ pages. IsNoText (pages title))
+          c.run-status.new.input c.new-source.result (h.waits title is);
       unread = λ no. ap (λ s. Some s.left.now) (h.unread no);
       unasked = λ no. ap (λ f. Some f.answered) (h.unasked no);
     })
