@@ -6,7 +6,7 @@ use Rattle.wt_pagetool.specs.declared.status.Status.TheVariants as status
 use Rattle.wt_pagetool.specs.declared.command.Command.TheVariants as command
 use Rattle.wt_pagetool.specs.declared.command.PageCommand.{PageCommand}
 use Rattle.wt_pagetool.specs.declared.wikitext_command.TheConstants.{PIECE}
-use Rattle.wt_pagetool.specs.Answers.{done, html_answer, answer_told, status_of_answer, IsNoText}
+use Rattle.wt_pagetool.specs.Answers.{done, html_answer, status_of_answer, IsNoText}
 use Rattle.wt_pagetool.specs.Asked.{followed_by, names_told, AnswersFirst}
 use Rattle.wt_pagetool.specs.Calls.{Call, call, known_answer, KeptCounts, NothingFailed}
 use Rattle.wt_pagetool.specs.Devices.{SourceUse, FolderUse, SinkUse}

@@ -18,11 +18,7 @@ fn add_missing(pages: &[Page], name: &str, out: &mut List<u8>) -> Result<(), NoM
 }
 
 /// Those of these names that the table hasn't, each with a zero byte behind it.
-pub fn missing_names(
-    alloc: Global,
-    pages: &[Page],
-    names: &[Str],
-) -> Result<List<u8>, NoMemory>
+pub fn missing_names(alloc: Global, pages: &[Page], names: &[Str]) -> Result<List<u8>, NoMemory>
     ensures { IfOk result (λ bytes. bytes ≡ missing_names pages.now names.now) }
 {
     let mut out = List::new(alloc);

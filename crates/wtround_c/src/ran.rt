@@ -36,14 +36,7 @@ pub fn run_over<'a>(
     let mut folder = TableFolder::new(alloc, pages);
     let mut out = Written::new(alloc);
     let mut line = Written::new(alloc);
-    let status = run(
-        alloc,
-        words,
-        &mut source,
-        &mut folder,
-        &mut out,
-        &mut line,
-    );
+    let status = run(alloc, words, &mut source, &mut folder, &mut out, &mut line);
     Ran {
         status,
         folder,
