@@ -1,0 +1,18 @@
+ghost use Rattle.std.specs.Prelude.{◌≡◌, [], ◌∷◌, ◌++◌, Some, max, option_copied, option_map, take, IfOk, OnOk, OnErr};
+ghost use Rattle.wt_outer.specs.Device.{page_of};
+
+use std::alloc::Global;
+use wt_outer::{FetchRefusal, Fetched, Folder};
+use wt_span::{List, NoMemory, Str, front_of};
+
+/// An entry of the caller's table: what stands under a name.
+#[repr(C)]
+#[derive(Clone, Copy, Debug)]
+pub struct Page<'a> {
+    /// The full name, in UTF-8.
+    pub name: &'a [u8],
+    /// The bytes of the page.
+    pub text: &'a [u8],
+    /// 1: the page is `text`; 0: no page has the name; any other: it could not be fetched.
+    pub state: u8,
+}
