@@ -31,6 +31,21 @@ export interface Range {
   close: number;
 }
 
+/** A doubtful place of a page, such as bold text that nothing closes. */
+export interface Finding {
+  /** What it is, as `OpenStyle`. */
+  kind: string;
+  /** Its line, from 1. */
+  line: number;
+  /** The byte of that line, from 1. */
+  column: number;
+  /** Its range in the page, in bytes. */
+  start: number;
+  end: number;
+  /** What is wrong, and what to do. */
+  sentence: string;
+}
+
 /** A page, its HTML or an edit is refused. The message is its sentence. */
 export class Refusal extends Error {
   constructor(line: string, status: number);
@@ -72,6 +87,9 @@ export function expand(text: Text, pages?: Pages, options?: Options): Promise<st
 
 /** Where each node of the page stands that has a number. */
 export function ranges(text: Text, pages?: Pages, options?: Options): Promise<Range[]>;
+
+/** The doubtful places of the page, in the order of their ranges. */
+export function lint(text: Text, pages?: Pages, options?: Options): Promise<Finding[]>;
 
 /** The answer to the words of any command, as on the command line. */
 export function run(words: string[], input?: Text, pages?: Pages, options?: Options): Promise<Answer>;

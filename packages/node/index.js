@@ -17,6 +17,8 @@ const RULES = JSON.parse(readFileSync(new URL("refusals.json", import.meta.url),
   pattern: new RegExp(rule.pattern, "u"),
 }));
 
+const SENTENCES = JSON.parse(readFileSync(new URL("findings.json", import.meta.url), "utf8"));
+
 export class Refusal extends Error {
   /** @param {string} line @param {number} status */
   constructor(line, status) {
@@ -67,6 +69,16 @@ export async function ranges(text, pages, options) {
     const [number, kind, ...places] = line.split(" ");
     const [start, end, open, close] = places.map(Number);
     return { number: Number(number.slice(2)), kind, start, end, open, close };
+  });
+}
+
+/** @param {Text} text @param {Pages} [pages] @param {Options} [options] */
+export async function lint(text, pages, options) {
+  const lines = written(await runWithPage("lint", text, "", pages, options)).split("\n").slice(0, -1);
+  return lines.map((told) => {
+    const [kind, ...places] = told.split(" ");
+    const [line, column, start, end] = places.map(Number);
+    return { kind, line, column, start, end, sentence: SENTENCES[kind] ?? kind };
   });
 }
 

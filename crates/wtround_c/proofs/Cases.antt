@@ -2,7 +2,7 @@
 use Rattle.std.proofs.Common.{◌≡◌, ℕ, List, [], ◌∷◌, refl}
 use Rattle.std.specs.Prelude.{Some, None, codes}
 use Rattle.wtround_c.specs.declared.table.Page.{Page}
-use Rattle.wtround_c.specs.Tables.{pages_of, missing_names}
+use Rattle.wtround_c.specs.Tables.{entry_of, pages_of, missing_names}
 use Rattle.wtround_c.specs.Replies.{Told, told_by}
 
 abbrev entry : List ℕ → List ℕ → ℕ → Page
@@ -12,19 +12,19 @@ entry name text state = record { name = record { ref_ptr = (0, 0); now = name };
 abbrev table : List Page
 table = entry (codes "A") (codes "a") 1 ∷ entry (codes "B") (codes "b") 0 ∷ entry (codes "A") (codes "c") 1 ∷ entry (codes "C") (codes "c") 2 ∷ []
 
-first_counts : pages_of table (codes "A") ≡ Some (codes "a")
+first_counts : pages_of (entry_of table) (codes "A") ≡ Some (codes "a")
 first_counts = refl
 
-told_absent : pages_of table (codes "B") ≡ None
+told_absent : pages_of (entry_of table) (codes "B") ≡ None
 told_absent = refl
 
-failed : pages_of table (codes "C") ≡ None
+failed : pages_of (entry_of table) (codes "C") ≡ None
 failed = refl
 
-not_there : pages_of table (codes "D") ≡ None
+not_there : pages_of (entry_of table) (codes "D") ≡ None
 not_there = refl
 
-two_missing : missing_names table (codes "A" ∷ codes "DE" ∷ codes "B" ∷ codes "C" ∷ codes "F" ∷ []) ≡ 68 ∷ 69 ∷ 0 ∷ 70 ∷ 0 ∷ []
+two_missing : missing_names (entry_of table) (codes "A" ∷ codes "DE" ∷ codes "B" ∷ codes "C" ∷ codes "F" ∷ []) ≡ 68 ∷ 69 ∷ 0 ∷ 70 ∷ 0 ∷ []
 two_missing = refl
 
 abbrev all_there : Told

@@ -1,3 +1,4 @@
+pub mod Indexes
 pub mod Replies
 pub mod ReplyView
 pub mod Runs

@@ -4,7 +4,7 @@ use Rattle.wtround_c.specs.declared.reply.TheConstants.{MISSING, SHORT}
 use Rattle.wtround_c.specs.declared.table.Page.{Page}
 use Rattle.wtround_c.specs.declared.words.Word.{Word}
 use Rattle.wtround_c.specs.Runs.{Answers}
-use Rattle.wtround_c.specs.Tables.{pages_of, missing_names}
+use Rattle.wtround_c.specs.Tables.{entry_of, pages_of, missing_names}
 use Rattle.wtround_c.specs.Words.{words_of}
 
 pub record Told : Type 0 where
@@ -25,8 +25,8 @@ pub record IsTold (words : List Word) (input : List ℕ) (table : List Page) (to
   pub out : List ℕ
   pub line : List ℕ
   pub names : List (List ℕ)
-  pub answers : Answers (words_of words) input (pages_of table) ended out line names
-  pub is : told ≡ told_by ended out line (missing_names table names)
+  pub answers : Answers (words_of words) input (pages_of (entry_of table)) ended out line names
+  pub is : told ≡ told_by ended out line (missing_names (entry_of table) names)
 
 -- ---- rooms
 

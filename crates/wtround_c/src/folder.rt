@@ -1,29 +1,18 @@
 ghost use Rattle.std.specs.Prelude.{◌≡◌, [], ◌∷◌, ◌++◌, Some, max, option_map, take, IfOk, OnOk, OnErr};
 ghost use Rattle.wt_outer.specs.Device.{page_of};
-ghost use Rattle.wtround_c.specs.Tables.{entry_of, pages_of, stands};
+ghost use Rattle.wtround_c.specs.Indexes.{entries_of};
+ghost use Rattle.wtround_c.specs.Tables.{pages_of, stands};
 
-use crate::table::Page;
+use crate::index::Index;
 use std::alloc::Global;
 use wt_outer::{FetchRefusal, Fetched, Folder};
 use wt_span::{List, NoMemory, Str, front_of};
 
-/// The first entry of this name.
-pub fn entry_of<'a>(pages: &'a [Page<'a>], name: &[u8]) -> Option<&'a Page<'a>>
-    ensures { option_map (λ page. page.now) result ≡ entry_of pages.entry.now name.now }
-{
-    for page in pages {
-        if page.name == name {
-            return Some(page);
-        }
-    }
-    None
-}
-
 /// A folder of the pages of a table. A name that the table hasn't is an absent page.
-#[derive(Debug, Drop)]
+#[derive(Drop)]
 pub struct TableFolder<'a> {
     alloc: Global,
-    pages: &'a [Page<'a>],
+    index: &'a Index<'a>,
     pub answered: List<Str>,
     most_asked: u32,
     faults: u64,
@@ -39,15 +28,15 @@ fn front(alloc: Global, page: &[u8], most: usize) -> Result<List<u8>, NoMemory>
 
 impl<'a> TableFolder<'a> {
     /// The folder of a table.
-    pub fn new(alloc: Global, pages: &'a [Page<'a>]) -> TableFolder<'a>
-        ensures pages { ⟦<TableFolder<'a> as Folder>⟧.pages result ≡ Some (pages_of pages.entry.now) }
+    pub fn new(alloc: Global, index: &'a Index<'a>) -> TableFolder<'a>
+        ensures pages { ⟦<TableFolder<'a> as Folder>⟧.pages result ≡ Some (pages_of (entries_of index.entry.now)) }
         ensures answered { ⟦<TableFolder<'a> as Folder>⟧.answered result ≡ Some [] }
         ensures most_asked { ⟦<TableFolder<'a> as Folder>⟧.most_asked result ≡ Some 0 }
         ensures faults { ⟦<TableFolder<'a> as Folder>⟧.fault_count result ≡ 0 }
     {
         TableFolder {
             alloc,
-            pages,
+            index,
             answered: List::new(alloc),
             most_asked: 0,
             faults: 0,
@@ -63,9 +52,9 @@ impl<'a> TableFolder<'a> {
 
     /// What stands under a name, cut to its first `most` bytes.
     fn look(&self, alloc: Global, name: &str, most: usize) -> Result<Fetched, FetchRefusal>
-        ensures { IfOk result (λ f. page_of f ≡ option_map (take most) (pages_of self.now.pages.now name.now)) }
+        ensures { IfOk result (λ f. page_of f ≡ option_map (take most) (pages_of (entries_of self.now.index.now) name.now)) }
     {
-        let Some(page) = entry_of(self.pages, name.as_bytes()) else {
+        let Some(page) = self.index.entry(name.as_bytes()) else {
             return Ok(Fetched::Absent);
         };
         match page.state {
@@ -80,7 +69,7 @@ impl<'a> TableFolder<'a> {
 }
 
 impl Folder for TableFolder<'_> {
-    ghost pages = { λ f. Some (pages_of f.pages.now) };
+    ghost pages = { λ f. Some (pages_of (entries_of f.index.now)) };
 
     ghost answered = { λ f. Some f.answered };
 

@@ -7,6 +7,7 @@ ghost use Rattle.wt_pagetool.specs.declared.status.Status.TheVariants.{NoMemory 
 ghost use Rattle.wtround_c.specs.Replies.{room, Told, IsTold, IsHandedBack};
 
 mod folder;
+mod index;
 mod missing;
 mod ran;
 mod reply;

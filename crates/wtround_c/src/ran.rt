@@ -1,16 +1,17 @@
+ghost use Rattle.wtround_c.specs.Indexes.{entries_of};
 ghost use Rattle.wtround_c.specs.Runs.{Answers};
 ghost use Rattle.wtround_c.specs.Tables.{pages_of};
 
 use crate::folder::TableFolder;
+use crate::index::Index;
 use crate::source::BufferSource;
-use crate::table::Page;
 use crate::written::Written;
 use std::alloc::Global;
 use wt_pagetool::run;
 use wt_span::{List, Str};
 
 /// What a call of `run` over buffers and a table came to.
-#[derive(Debug, Drop)]
+#[derive(Drop)]
 pub struct Ran<'a> {
     /// The number with which it ended.
     pub status: u8,
@@ -23,17 +24,12 @@ pub struct Ran<'a> {
 }
 
 /// Calls `run` over a buffer and the pages of a table.
-pub fn run_over<'a>(
-    alloc: Global,
-    words: &List<Str>,
-    input: &[u8],
-    pages: &'a [Page<'a>],
-) -> Ran<'a>
-    ensures { Answers words.now input.now (pages_of pages.entry.now) result.status result.out.bytes
+pub fn run_over<'a>(alloc: Global, words: &List<Str>, input: &[u8], index: &'a Index<'a>) -> Ran<'a>
+    ensures { Answers words.now input.now (pages_of (entries_of index.entry.now)) result.status result.out.bytes
         result.line.bytes result.folder.answered }
 {
     let mut source = BufferSource::new(input);
-    let mut folder = TableFolder::new(alloc, pages);
+    let mut folder = TableFolder::new(alloc, index);
     let mut out = Written::new(alloc);
     let mut line = Written::new(alloc);
     let status = run(alloc, words, &mut source, &mut folder, &mut out, &mut line);

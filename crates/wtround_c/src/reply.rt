@@ -2,6 +2,7 @@ ghost use Rattle.std.specs.Prelude.{◌≡◌, ◌&&◌, ◌++◌, ◌≤◌, na
 ghost use Rattle.wtround_c.specs.Replies.{told_by, IsTold};
 ghost use Rattle.wtround_c.specs.ReplyView.{told_of};
 
+use crate::index::Index;
 use crate::missing::missing_names;
 use crate::ran::run_over;
 use crate::table::Page;
@@ -58,7 +59,8 @@ pub fn reply_to(
     ensures { IfOk result (λ reply. IsTold words.now input.now pages.now (told_of reply)) }
 {
     let words = words_of(alloc, words)?;
-    let ran = run_over(alloc, &words, input, pages);
-    let missing = missing_names(alloc, pages, ran.folder.answered())?;
+    let index = Index::of(alloc, pages)?;
+    let ran = run_over(alloc, &words, input, &index);
+    let missing = missing_names(alloc, &index, ran.folder.answered())?;
     Ok(told_by(alloc, ran.status, ran.out.bytes, ran.line.bytes, missing))
 }

@@ -1,10 +1,3 @@
-ghost use Rattle.std.specs.Prelude.{◌≡◌, [], ◌∷◌, ◌++◌, Some, max, option_copied, option_map, take, IfOk, OnOk, OnErr};
-ghost use Rattle.wt_outer.specs.Device.{page_of};
-
-use std::alloc::Global;
-use wt_outer::{FetchRefusal, Fetched, Folder};
-use wt_span::{List, NoMemory, Str, front_of};
-
 /// An entry of the caller's table: what stands under a name.
 #[repr(C)]
 #[derive(Clone, Copy, Debug)]

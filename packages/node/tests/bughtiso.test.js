@@ -4,7 +4,7 @@ import { spawnSync } from "node:child_process";
 import { existsSync, readFileSync } from "node:fs";
 import { test } from "node:test";
 
-import { Refusal, edit, expand, html, ranges, run, wikitext } from "../index.js";
+import { Refusal, edit, expand, html, lint, ranges, run, wikitext } from "../index.js";
 
 const PAGE = "'''Opava''' is a {{T|town}} in [[Silesia]].\n";
 const PAGES = { "Template:T": "''{{{1}}}''" };
@@ -37,10 +37,9 @@ function* cases() {
   }
 }
 
-test("stored cases, every eighth", { skip: skip || (!existsSync(CASES) && "there are none here") }, async () => {
+test("stored cases", { skip: skip || (!existsSync(CASES) && "there are none here") }, async () => {
   let tried = 0;
   for (const it of cases()) {
-    if (it.number % 8 !== 0) continue;
     const { status, out, line } = await run(it.words, it.input, it.pages);
     const came = [String(status), out.toString("hex"), Buffer.from(line).toString("hex")];
     assert.deepEqual(came, it.wanted, `case ${it.number}`);
@@ -56,6 +55,10 @@ test("there and back", { skip }, async () => {
   assert.equal(await html(Buffer.from(PAGE), new Map(Object.entries(PAGES))), source);
   assert.equal(await expand(PAGE, PAGES), "'''Opava''' is a ''town'' in [[Silesia]].\n");
   assert.deepEqual((await ranges("'''a'''"))[1], { number: 2, kind: "b", start: 0, end: 7, open: 3, close: 3 });
+  const found = await lint("a\n'''b [[c");
+  const places = found.map((it) => [it.kind, it.line, it.column, it.start, it.end]);
+  assert.deepEqual(places, [["OpenStyle", 2, 1, 2, 10], ["OpenLink", 2, 6, 7, 9]]);
+  assert.match(found[0].sentence, /apostrophes/);
 });
 
 test("an edit, and one without a mark", { skip }, async () => {

@@ -80,6 +80,34 @@ final class Bughtiso
     }
 
     /**
+     * Where each node of the page stands that has a number.
+     *
+     * @param array<string, string>|\ArrayAccess<string, string> $pages
+     * @return list<Range>
+     * @throws Refusal
+     */
+    public function ranges(string $text, array|\ArrayAccess $pages = [], string $title = 'Page'): array
+    {
+        $range = function (string $number, string $kind, string ...$places): Range {
+            return new Range((int) substr($number, 2), $kind, ...array_map('intval', $places));
+        };
+        return array_map(fn (array $fields) => $range(...$fields), $this->fields('ranges', $text, $pages, $title));
+    }
+
+    /**
+     * The doubtful places of the page, in the order of their ranges.
+     *
+     * @param array<string, string>|\ArrayAccess<string, string> $pages
+     * @return list<Finding>
+     * @throws Refusal
+     */
+    public function lint(string $text, array|\ArrayAccess $pages = [], string $title = 'Page'): array
+    {
+        $finding = fn (string $kind, string ...$places) => new Finding($kind, ...array_map('intval', $places));
+        return array_map(fn (array $fields) => $finding(...$fields), $this->fields('lint', $text, $pages, $title));
+    }
+
+    /**
      * The answer to any command, as on the command line.
      *
      * @param list<string>                                       $words
@@ -94,6 +122,18 @@ final class Bughtiso
     private function answer(string $command, string $text, string $input, array|\ArrayAccess $pages, string $title): string
     {
         return self::done($this->engine->answer([$command, $title], $input, new WithPage($text, $title, $pages)));
+    }
+
+    /**
+     * The fields of each line of an answer.
+     *
+     * @param array<string, string>|\ArrayAccess<string, string> $pages
+     * @return list<list<string>>
+     */
+    private function fields(string $command, string $text, array|\ArrayAccess $pages, string $title): array
+    {
+        $lines = explode("\n", $this->answer($command, $text, '', $pages, $title));
+        return array_map(fn (string $line) => explode(' ', $line), array_slice($lines, 0, -1));
     }
 
     private static function done(Answer $answer): string

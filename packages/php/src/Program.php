@@ -30,10 +30,18 @@ final class Program implements Engine
             file_put_contents("$folder/input", $input);
             return $this->run($words, $folder);
         } finally {
-            array_map('unlink', [...glob("$folder/pages/*") ?: [], ...glob("$folder/{input,out,err}", GLOB_BRACE) ?: []]);
-            rmdir("$folder/pages");
-            rmdir($folder);
+            self::remove("$folder/pages");
+            self::remove($folder);
         }
+    }
+
+    /** Removes a folder of files. */
+    private static function remove(string $folder): void
+    {
+        foreach (array_diff((array) scandir($folder), ['.', '..']) as $name) {
+            unlink("$folder/$name");
+        }
+        rmdir($folder);
     }
 
     /** @param list<string> $words */

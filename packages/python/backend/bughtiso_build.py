@@ -42,7 +42,8 @@ def _metadata() -> str:
 
 def _sources() -> dict[str, bytes]:
     """The files of the package by their names in the archive."""
-    names = sorted((HERE / "bughtiso").glob("*.py")) + [HERE / "bughtiso/py.typed", HERE / "bughtiso/refusals.json"]
+    package = HERE / "bughtiso"
+    names = sorted([*package.glob("*.py"), *package.glob("*.json"), package / "py.typed"])
     return {str(path.relative_to(HERE)): path.read_bytes() for path in names}
 
 

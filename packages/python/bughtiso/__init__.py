@@ -9,7 +9,7 @@ True
 """
 from __future__ import annotations
 
-from ._commands import Pages, Range, Text, edit, expand, html, ranges, run, wikitext
+from ._commands import Finding, Pages, Range, Text, edit, expand, html, lint, ranges, run, wikitext
 from ._engines import Answer, Engine, Unavailable, engine
 from ._refusal import Refusal
 
@@ -18,6 +18,7 @@ __version__ = "0.2.0"
 __all__ = [
     "Answer",
     "Engine",
+    "Finding",
     "Pages",
     "Range",
     "Refusal",
@@ -27,6 +28,7 @@ __all__ = [
     "engine",
     "expand",
     "html",
+    "lint",
     "ranges",
     "run",
     "wikitext",

@@ -1,7 +1,9 @@
 """The commands, as calls."""
 from __future__ import annotations
 
-from typing import Callable, Iterable, List, Mapping, NamedTuple, Optional, Sequence, Union
+import json
+import os
+from typing import Callable, Dict, Iterable, List, Mapping, NamedTuple, Optional, Sequence, Union
 
 from ._engines import Answer, Engine, engine
 from ._refusal import Refusal
@@ -25,6 +27,28 @@ class Range(NamedTuple):
     #: the widths of its two delimiters
     open: int
     close: int
+
+
+with open(os.path.join(os.path.dirname(__file__), "findings.json"), encoding="utf-8") as _file:
+    _SENTENCES: Dict[str, str] = json.load(_file)
+
+
+class Finding(NamedTuple):
+    """A doubtful place of a page, such as bold text that nothing closes."""
+
+    #: what it is, as ``OpenStyle``
+    kind: str
+    #: its line, and the byte of that line, both from 1
+    line: int
+    column: int
+    #: its range in the page, in bytes
+    start: int
+    end: int
+
+    @property
+    def sentence(self) -> str:
+        """What is wrong, and what to do."""
+        return _SENTENCES.get(self.kind, self.kind)
 
 
 _engine: Optional[Engine] = None
@@ -128,4 +152,13 @@ def ranges(text: Text, pages: Optional[Pages] = None, *, title: str = "Page") ->
         number, kind, *places = line.split(" ")
         start, end, opened, closed = map(int, places)
         found.append(Range(int(number[2:]), kind, start, end, opened, closed))
+    return found
+
+
+def lint(text: Text, pages: Optional[Pages] = None, *, title: str = "Page") -> List[Finding]:
+    """The doubtful places of the page, in the order of their ranges. Raises `Refusal`."""
+    found = []
+    for line in _answer("lint", text, title, pages).decode().splitlines():
+        kind, *places = line.split(" ")
+        found.append(Finding(kind, *map(int, places)))
     return found

@@ -56,7 +56,7 @@ class Refusal(ValueError):
         why = groups.get("why")
         self.name = rule["name"] or why or "Refused"
         self.reason = why if rule["name"] else None
-        self.sentence = rule["sentence"] or rule["sentences"][why]
+        self.sentence = rule["sentence"] or (rule["sentences"] or {}).get(why, self.line)
         self.template = groups.get("title")
         number = groups.get("number")
         if number is not None:

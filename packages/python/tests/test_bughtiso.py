@@ -3,6 +3,7 @@ from __future__ import annotations
 
 import os
 import pickle
+import re
 import sys
 import threading
 import unittest
@@ -72,8 +73,7 @@ class StoredCases(unittest.TestCase):
         engine = available("program")
         if engine is None or not CASES.exists():
             self.skipTest("no program, or no stored cases")
-        # Each takes a process and a folder: every eighth.
-        self.try_cases(engine, (case for k, case in enumerate(stored_cases()) if k % 8 == 0 and case[3][0] != 6))
+        self.try_cases(engine, stored_cases())
 
     def test_outside_cases(self):
         engine = available("library")
@@ -129,10 +129,23 @@ class Calls(unittest.TestCase):
         self.assertEqual(bughtiso.expand(PAGE, PAGES), "'''Opava''' is a ''town'' in [[Silesia]].\n")
         self.assertEqual(bughtiso.ranges("'''a'''")[:2], [bughtiso.Range(1, "p", 0, 7, 0, 0), bughtiso.Range(2, "b", 0, 7, 3, 3)])
         self.assertEqual(bughtiso.run(["gen", "1"]).status, 0)
+        found = bughtiso.lint("a\n'''b [[c")
+        self.assertEqual([tuple(it) for it in found], [("OpenStyle", 2, 1, 2, 10), ("OpenLink", 2, 6, 7, 9)])
+        self.assertIn("apostrophes", found[0].sentence)
 
     def test_a_page_that_calls_itself(self):
         # The page isn't counted as being expanded, so it is read once as a template too.
         self.assertEqual(bughtiso.expand("a{{:Self}}b", title="Self"), "aaTemplate loop: Selfbb")
+
+
+class Versions(unittest.TestCase):
+    def test_one_version(self):
+        packages = Path(__file__).resolve().parents[2]
+        if not (packages / "php/composer.json").exists():
+            self.skipTest("this is not the repository")
+        files = ["python/pyproject.toml", "php/composer.json", "node/package.json", "../dist/VERSION"]
+        versions = {it: re.search(r"\d+\.\d+\.\d+", (packages / it).read_text())[0] for it in files}
+        self.assertEqual(set(versions.values()), {bughtiso.__version__}, versions)
 
 
 class Folders(unittest.TestCase):

@@ -1,6 +1,7 @@
 use Rattle.std.proofs.Common.{ap}
 use Rattle.std.specs.Prelude.{Some}
 use Rattle.wt_pagetool.specs.Answers.{IsNoText}
+use Rattle.wtround_c.specs.Indexes.{entries_of}
 use Rattle.wtround_c.specs.Tables.{pages_of}
 use Rattle.wtround_c.proofs.RunLaws.{of_library, waits_left}
 use Rattle.wtround_c.proofs.ran.run_over.Goals as goal
@@ -10,7 +11,7 @@ returns c =
     let h = c.run-status.ensures in
     of_library c.args.words.now c.run-status.result
     _ c.args.input.now c.run-status.new.input.left.now
-    _ (pages_of c.args.pages.now) _ c.run-status.new.folder.faults
+    _ (pages_of (entries_of c.args.index.now)) _ c.run-status.new.folder.faults
     _ c.run-status.new.out.bytes _ c.run-status.new.out.faults
     _ c.run-status.new.err.bytes _ c.run-status.new.err.faults
     _ c.run-status.new.folder.answered
@@ -35,7 +36,7 @@ returns c =
       asks = h.asks;
       asked = h.asked;
       takes = h.takes;
-      waits = λ title is. waits_left (Some (pages_of c.new-folder.result.pages.now)) (λ pages. IsNoText (pages title))
+      waits = λ title is. waits_left (Some (pages_of (entries_of c.new-folder.result.index.now))) (λ pages. IsNoText (pages title))
           c.run-status.new.input c.new-source.result (h.waits title is);
       unread = λ no. ap (λ s. Some s.left.now) (h.unread no);
       unasked = λ no. ap (λ f. Some f.answered) (h.unasked no);
