@@ -2,7 +2,7 @@
 use Rattle.std.proofs.Common.{◌≡◌, ℕ, List, [], ◌∷◌, refl}
 use Rattle.std.specs.Prelude.{Some, None, codes}
 use Rattle.wtround_c.specs.declared.table.Page.{Page}
-use Rattle.wtround_c.specs.Tables.{entry_of, pages_of, missing_names}
+use Rattle.wtround_c.specs.Tables.{entry_of, or_else, pages_of, missing_names}
 use Rattle.wtround_c.specs.Replies.{Told, told_by}
 
 abbrev entry : List ℕ → List ℕ → ℕ → Page
@@ -23,6 +23,12 @@ failed = refl
 
 not_there : pages_of (entry_of table) (codes "D") ≡ None
 not_there = refl
+
+first_stays : or_else (entry_of table) (entry (codes "A") (codes "z") 1) (codes "A") ≡ Some (entry (codes "A") (codes "a") 1)
+first_stays = refl
+
+one_more : or_else (entry_of table) (entry (codes "D") (codes "d") 1) (codes "D") ≡ Some (entry (codes "D") (codes "d") 1)
+one_more = refl
 
 two_missing : missing_names (entry_of table) (codes "A" ∷ codes "DE" ∷ codes "B" ∷ codes "C" ∷ codes "F" ∷ []) ≡ 68 ∷ 69 ∷ 0 ∷ 70 ∷ 0 ∷ []
 two_missing = refl
