@@ -49,7 +49,8 @@ static struct builder nested(size_t depth, const char *open, const char *inside,
     return it;
 }
 
-/* Gives the page that is being tried, and for a template of a number below 1000 one that calls the next. */
+/* Gives the page that is being tried, a template that shows its argument, and for each template of a number one that calls
+ * the next. Each of these takes a round, so they are called once alone. */
 static int64_t give_deep(void *context, const char *name, size_t name_length, char *out, size_t room)
 {
     const struct builder *page = context;
@@ -57,6 +58,10 @@ static int64_t give_deep(void *context, const char *name, size_t name_length, ch
     if (name_length == 4 && memcmp(name, "Deep", 4) == 0) {
         memcpy(out, page->at, page->length < room ? page->length : room);
         return (int64_t)page->length;
+    }
+    if (name_length == 10 && memcmp(name, "Template:T", 10) == 0) {
+        memcpy(out, "a {{{1}}} b", 11);
+        return 11;
     }
     if (name_length > 10 && name_length < 15 && memcmp(name, "Template:N", 10) == 0) {
         snprintf(text, sizeof text, "a {{N%d|{{{1}}}}} b", atoi(name + 10) + 1);
@@ -118,7 +123,7 @@ static long deep_failures(void)
 {
     long failures = 0;
     for (size_t depth = 10; depth <= 1280; depth *= 2) {
-        failures += !goes_deep(nested(depth, "{{N1|", "x", "}}"));
+        failures += !goes_deep(nested(depth, "{{T|", "x", "}}"));
         failures += !goes_deep(nested(depth, "{{{1|", "x", "}}}"));
         failures += !goes_deep(nested(depth, "{|\n|\n", "x\n", "\n|}\n"));
         failures += !goes_deep(nested(depth, "<small>", "x", "</small>"));
@@ -130,7 +135,7 @@ static long deep_failures(void)
         failures += !goes_deep(nested(depth, "<includeonly>", "x", "</includeonly>"));
         failures += !reads_deep(depth);
     }
-    failures += !reads_deep(199) + !reads_deep(200);
+    failures += !reads_deep(199) + !reads_deep(200) + !goes_deep(nested(1, "{{N1|", "x", "}}"));
     return failures;
 }
 

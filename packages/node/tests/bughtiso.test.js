@@ -18,6 +18,11 @@ function bytesOf(field) {
   return Buffer.alloc(one.length * Number(count), one);
 }
 
+/** Whether each name of a case can be that of a file, as the program needs it. */
+function hasFiles(it) {
+  return [...it.words, ...it.pages.keys()].every((name) => encodeURIComponent(name).length <= 250);
+}
+
 function* cases() {
   const answers = readFileSync(new URL("stdout", CASES), "utf8").split("\n");
   for (const [number, line] of readFileSync(new URL("stdin", CASES), "utf8").split("\n").entries()) {
@@ -40,6 +45,7 @@ function* cases() {
 test("stored cases", { skip: skip || (!existsSync(CASES) && "there are none here") }, async () => {
   let tried = 0;
   for (const it of cases()) {
+    if (!hasFiles(it)) continue;
     const { status, out, line } = await run(it.words, it.input, it.pages);
     const came = [String(status), out.toString("hex"), Buffer.from(line).toString("hex")];
     assert.deepEqual(came, it.wanted, `case ${it.number}`);

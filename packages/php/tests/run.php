@@ -46,10 +46,19 @@ function cases(): iterable
     }
 }
 
+/** Whether each of these names can be that of a file, as the program needs it. */
+function haveFiles(array $names): bool
+{
+    return max(0, ...array_map(fn ($name) => strlen(rawurlencode((string) $name)), $names)) <= 250;
+}
+
 function tryCases(Engine $engine): void
 {
     $tried = 0;
     foreach (cases() as $number => [$words, $input, $pages, $wanted]) {
+        if ($engine instanceof Program && !haveFiles([...$words, ...array_keys($pages)])) {
+            continue;
+        }
         $answer = $engine->answer($words, $input, $pages);
         check([$answer->status, $answer->out, $answer->line] === $wanted, 'case ' . $number . ' ' . implode(' ', $words));
         $tried++;

@@ -9,6 +9,7 @@ import threading
 import unittest
 from collections.abc import Mapping
 from pathlib import Path
+from urllib.parse import quote
 
 sys.path.insert(0, str(Path(__file__).resolve().parent.parent))
 import bughtiso  # noqa: E402
@@ -47,6 +48,12 @@ def outside_cases():
             yield file.name, list(read_cases(("\t".join(r[:3]) for r in rows), ("\t".join(r[3:]) for r in rows)))
 
 
+def has_files(case):
+    """Whether each name of a case can be that of a file, as the program needs it."""
+    words, _, pages, _ = case
+    return all(len(quote(name, safe="")) <= 250 for name in [*words, *pages])
+
+
 def available(kind):
     try:
         return bughtiso.engine(kind)
@@ -73,7 +80,7 @@ class StoredCases(unittest.TestCase):
         engine = available("program")
         if engine is None or not CASES.exists():
             self.skipTest("no program, or no stored cases")
-        self.try_cases(engine, stored_cases())
+        self.try_cases(engine, (case for case in stored_cases() if has_files(case)))
 
     def test_outside_cases(self):
         engine = available("library")
