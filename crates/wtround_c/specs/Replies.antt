@@ -4,7 +4,7 @@ use Rattle.wtround_c.specs.declared.reply.TheConstants.{MISSING, SHORT}
 use Rattle.wtround_c.specs.declared.table.Page.{Page}
 use Rattle.wtround_c.specs.declared.words.Word.{Word}
 use Rattle.wtround_c.specs.Runs.{Answers}
-use Rattle.wtround_c.specs.Tables.{entry_of, pages_of, missing_names}
+use Rattle.wtround_c.specs.Tables.{Entries, entry_of, pages_of, missing_names}
 use Rattle.wtround_c.specs.Words.{words_of}
 
 pub record Told : Type 0 where
@@ -19,14 +19,18 @@ abbrev pub told_by : ℕ → List ℕ → List ℕ → List ℕ → Told
 told_by status out line [] = record { status = status; out = out; line = line; missing = [] }
 told_by status out line (byte ∷ bytes) = record { status = MISSING; out = []; line = []; missing = byte ∷ bytes }
 
--- what is told of a call with these words over this input and this table
-pub record IsTold (words : List Word) (input : List ℕ) (table : List Page) (told : Told) : Type 0 where
+-- what is told of a call with these words over this input and the entries of a table
+pub record IsToldOver (words : List (List ℕ)) (input : List ℕ) (entries : Entries) (told : Told) : Type 0 where
   pub ended : ℕ
   pub out : List ℕ
   pub line : List ℕ
   pub names : List (List ℕ)
-  pub answers : Answers (words_of words) input (pages_of (entry_of table)) ended out line names
-  pub is : told ≡ told_by ended out line (missing_names (entry_of table) names)
+  pub answers : Answers words input (pages_of entries) ended out line names
+  pub is : told ≡ told_by ended out line (missing_names entries names)
+
+-- the same as the caller gives words and table
+abbrev pub IsTold : List Word → List ℕ → List Page → Told → Type 0
+IsTold words input table told = IsToldOver (words_of words) input (entry_of table) told
 
 -- ---- rooms
 

@@ -1,5 +1,6 @@
 ghost use Rattle.std.specs.Prelude.{◌≡◌, ◌&&◌, ◌++◌, ◌≤◌, nat_le, drop, length, IfOk};
-ghost use Rattle.wtround_c.specs.Replies.{told_by, IsTold};
+ghost use Rattle.wtround_c.specs.Indexes.{entries_of};
+ghost use Rattle.wtround_c.specs.Replies.{told_by, IsTold, IsToldOver};
 ghost use Rattle.wtround_c.specs.ReplyView.{told_of};
 
 use crate::index::Index;
@@ -8,7 +9,7 @@ use crate::ran::run_over;
 use crate::table::Page;
 use crate::words::{Word, words_of};
 use std::alloc::Global;
-use wt_span::{List, NoMemory};
+use wt_span::{List, NoMemory, Str};
 
 /// The status of a call for which a room is too small.
 pub const SHORT: u8 = 100;
@@ -49,6 +50,20 @@ fn told_by(alloc: Global, status: u8, out: List<u8>, line: List<u8>, missing: Li
     }
 }
 
+/// Answers the words over a buffer and the pages of a table that has its index.
+fn reply_over(
+    alloc: Global,
+    words: &List<Str>,
+    input: &[u8],
+    index: &Index,
+) -> Result<Reply, NoMemory>
+    ensures { IfOk result (λ reply. IsToldOver words.now input.now (entries_of index.now) (told_of reply)) }
+{
+    let ran = run_over(alloc, words, input, index);
+    let missing = missing_names(alloc, index, ran.folder.answered())?;
+    Ok(told_by(alloc, ran.status, ran.out.bytes, ran.line.bytes, missing))
+}
+
 /// Answers the words over a buffer and the pages of a table.
 pub fn reply_to(
     alloc: Global,
@@ -60,7 +75,5 @@ pub fn reply_to(
 {
     let words = words_of(alloc, words)?;
     let index = Index::of(alloc, pages)?;
-    let ran = run_over(alloc, &words, input, &index);
-    let missing = missing_names(alloc, &index, ran.folder.answered())?;
-    Ok(told_by(alloc, ran.status, ran.out.bytes, ran.line.bytes, missing))
+    reply_over(alloc, &words, input, &index)
 }
