@@ -14,11 +14,11 @@
 
 /* The proved call (crates/wtround_c). No pointer may be null, also where nothing is at it, and what it
  * writes may overlap nothing. */
-uint8_t wtround_proved_answer(const wtround_text *words, size_t word_count, const char *input, size_t input_length,
-                              const wtround_page *pages, size_t page_count,
-                              char *out, size_t out_room, size_t *out_length,
-                              char *line, size_t line_room, size_t *line_length,
-                              char *missing, size_t missing_room, size_t *missing_length);
+uint8_t wtround_proved_answer(const wtround_text *words, size_t word_count, const char *input,
+                              size_t input_length, const wtround_page *pages, size_t page_count, char *out,
+                              size_t out_room, size_t *out_length, char *line, size_t line_room,
+                              size_t *line_length, char *missing, size_t missing_room,
+                              size_t *missing_length);
 
 /* What null pointers to nothing are replaced by; nothing reads or writes it. */
 static const wtround_page nothing;
@@ -67,7 +67,8 @@ static bool is_apart(const char *bytes, size_t length, wtround_room *const *room
 
 static bool are_words(const wtround_text *words, size_t count, wtround_room *const *rooms, size_t room_count)
 {
-    if (!is_range(words, count, sizeof *words) || !is_apart((const char *)words, count * sizeof *words, rooms, room_count))
+    if (!is_range(words, count, sizeof *words)
+        || !is_apart((const char *)words, count * sizeof *words, rooms, room_count))
         return false;
     for (size_t i = 0; i < count; i++)
         if (!is_text(words[i]) || !is_apart(words[i].bytes, words[i].length, rooms, room_count))
@@ -77,11 +78,13 @@ static bool are_words(const wtround_text *words, size_t count, wtround_room *con
 
 static bool are_pages(const wtround_page *pages, size_t count, wtround_room *const *rooms, size_t room_count)
 {
-    if (!is_range(pages, count, sizeof *pages) || !is_apart((const char *)pages, count * sizeof *pages, rooms, room_count))
+    if (!is_range(pages, count, sizeof *pages)
+        || !is_apart((const char *)pages, count * sizeof *pages, rooms, room_count))
         return false;
     for (size_t i = 0; i < count; i++) {
         const wtround_page *page = &pages[i];
-        if (!is_text(page->name) || !is_text(page->text) || !is_apart(page->name.bytes, page->name.length, rooms, room_count)
+        if (!is_text(page->name) || !is_text(page->text)
+            || !is_apart(page->name.bytes, page->name.length, rooms, room_count)
             || !is_apart(page->text.bytes, page->text.length, rooms, room_count))
             return false;
     }
@@ -107,7 +110,7 @@ static bool is_call(const wtround_text *words, size_t word_count, const char *in
                     wtround_room *const *rooms, size_t room_count)
 {
     return are_rooms(rooms, room_count) && are_words(words, word_count, rooms, room_count)
-        && is_range(input, input_length, 1) && is_apart(input, input_length, rooms, room_count);
+           && is_range(input, input_length, 1) && is_apart(input, input_length, rooms, room_count);
 }
 
 /* ---- the call over a table */
@@ -117,13 +120,13 @@ static int proved_answer(const wtround_text *words, size_t word_count, const cha
                          wtround_room *missing)
 {
     return wtround_proved_answer(some(words), word_count, some(input), input_length, some(pages), page_count,
-                                 some(out->bytes), out->room, &out->length, some(line->bytes), line->room, &line->length,
-                                 some(missing->bytes), missing->room, &missing->length);
+                                 some(out->bytes), out->room, &out->length, some(line->bytes), line->room,
+                                 &line->length, some(missing->bytes), missing->room, &missing->length);
 }
 
-EXPORTED int wtround_answer(const wtround_text *words, size_t word_count, const char *input, size_t input_length,
-                            const wtround_page *pages, size_t page_count, wtround_room *out, wtround_room *line,
-                            wtround_room *missing)
+EXPORTED int wtround_answer(const wtround_text *words, size_t word_count, const char *input,
+                            size_t input_length, const wtround_page *pages, size_t page_count,
+                            wtround_room *out, wtround_room *line, wtround_room *missing)
 {
     wtround_room *rooms[] = { out, line, missing };
     if (!is_call(words, word_count, input, input_length, rooms, 3) || !are_pages(pages, page_count, rooms, 3))
@@ -162,7 +165,8 @@ static bool grow_missing(struct table *table)
 }
 
 /* Adds an entry, whose name and text the table owns from now on. */
-static bool add_page(struct table *table, char *name, size_t name_length, char *text, size_t length, int state)
+static bool add_page(struct table *table, char *name, size_t name_length, char *text, size_t length,
+                     int state)
 {
     if (table->count == table->capacity) {
         size_t capacity = table->capacity ? 2 * table->capacity : 16;
@@ -179,9 +183,10 @@ static bool add_page(struct table *table, char *name, size_t name_length, char *
 #define FIRST_ROOM 16384
 #define MOST_ROOM (WTROUND_PAGE_BYTES + 1)
 
-/* Fetches a page, and again with more room where it has more bytes. Gives the text to free, or NULL where there is no memory;
- * `length` is then as the callback told. */
-static char *fetch_text(wtround_fetch *fetch, void *context, const char *name, size_t name_length, int64_t *length)
+/* Fetches a page, and again with more room where it has more bytes. Gives the text to free, or NULL where
+ * there is no memory; `length` is then as the callback told. */
+static char *fetch_text(wtround_fetch *fetch, void *context, const char *name, size_t name_length,
+                        int64_t *length)
 {
     size_t room = FIRST_ROOM;
     for (;;) {
@@ -208,7 +213,9 @@ static bool fetch_page(struct table *table, wtround_fetch *fetch, void *context,
     bool added = false;
     if (text && length != WTROUND_FETCH_NO_MEMORY) {
         memcpy(own_name, name, name_length + 1);
-        int state = length >= 0 ? WTROUND_PAGE_FOUND : length == WTROUND_ABSENT ? WTROUND_PAGE_ABSENT : WTROUND_PAGE_FAILED;
+        int state = length >= 0                ? WTROUND_PAGE_FOUND
+                    : length == WTROUND_ABSENT ? WTROUND_PAGE_ABSENT
+                                               : WTROUND_PAGE_FAILED;
         size_t taken = length < 0 ? 0 : length < MOST_ROOM ? (size_t)length : MOST_ROOM;
         added = add_page(table, own_name, name_length, text, taken, state);
     }
@@ -229,11 +236,13 @@ static bool fetch_missing(struct table *table, wtround_fetch *fetch, void *conte
 }
 
 /* Calls in rounds, and fetches what each is missing, until nothing is. */
-static int answer_in_rounds(const wtround_text *words, size_t word_count, const char *input, size_t input_length,
-                            wtround_fetch *fetch, void *context, struct table *table, wtround_room *out, wtround_room *line)
+static int answer_in_rounds(const wtround_text *words, size_t word_count, const char *input,
+                            size_t input_length, wtround_fetch *fetch, void *context, struct table *table,
+                            wtround_room *out, wtround_room *line)
 {
     for (;;) {
-        int status = proved_answer(words, word_count, input, input_length, table->pages, table->count, out, line, &table->missing);
+        int status = proved_answer(words, word_count, input, input_length, table->pages, table->count, out,
+                                   line, &table->missing);
         if (table->missing.length == 0)
             return status;
         if (status == WTROUND_SHORT ? !grow_missing(table) : !fetch_missing(table, fetch, context))
@@ -246,12 +255,15 @@ static bool is_word(wtround_text word, const char *name)
     return word.length == strlen(name) && memcmp(word.bytes, name, word.length) == 0;
 }
 
-/* Fetches what a command of a page takes by the quickest command that asks for the same pages: `expand` makes no tree. */
-static int fetch_first(const wtround_text *words, size_t word_count, wtround_fetch *fetch, void *context, struct table *table)
+/* Fetches what a command of a page takes by the quickest command that asks for the same pages: `expand` makes
+ * no tree. */
+static int fetch_first(const wtround_text *words, size_t word_count, wtround_fetch *fetch, void *context,
+                       struct table *table)
 {
     static const char expand[] = "expand";
-    if (word_count != 2 || !(is_word(words[0], "html") || is_word(words[0], "ranges") || is_word(words[0], "lint")
-                             || is_word(words[0], "edit")))
+    if (word_count != 2
+        || !(is_word(words[0], "html") || is_word(words[0], "ranges") || is_word(words[0], "lint")
+             || is_word(words[0], "edit")))
         return WTROUND_DONE;
     wtround_text quick[] = { { expand, sizeof expand - 1 }, words[1] };
     wtround_room out = { NULL, 0, 0 }, line = { NULL, 0, 0 };

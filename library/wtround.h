@@ -29,10 +29,10 @@ enum wtround_status {
     WTROUND_FOLDER_FAULT = 6, /* a page could not be fetched */
     WTROUND_WRITE_FAULT = 7,  /* there was no memory to keep the answer or the line */
     WTROUND_NO_MEMORY = 8,    /* there was no memory */
-    WTROUND_SHORT = 100,      /* a room is too small: nothing was put anywhere, the lengths say what is needed */
-    WTROUND_MISSING = 101,    /* pages are wanted that the table hasn't: `missing` names them */
-    WTROUND_BAD_CALL = 102    /* a pointer is null, a length is above PTRDIFF_MAX, or a room overlaps another
-                                 text or room; nothing was written */
+    WTROUND_SHORT = 100,   /* a room is too small: nothing was put anywhere, the lengths say what is needed */
+    WTROUND_MISSING = 101, /* pages are wanted that the table hasn't: `missing` names them */
+    WTROUND_BAD_CALL = 102 /* a pointer is null, a length is above PTRDIFF_MAX, or a room overlaps another
+                              text or room; nothing was written */
 };
 
 /* The most bytes that a page may have, and the most that HTML may have. */
@@ -45,9 +45,9 @@ typedef struct wtround_text {
     size_t length;
 } wtround_text;
 
-/* Room of the caller's for a text; `bytes` may be null where `room` is 0. A call sets `length` to the length of the text, and puts the text at
- * the front of `bytes`, where `room` is at least that. A line ends with a line break. Where the call
- * ends with WTROUND_BAD_CALL, nothing is set. */
+/* Room of the caller's for a text; `bytes` may be null where `room` is 0. A call sets `length` to the length
+ * of the text, and puts the text at the front of `bytes`, where `room` is at least that. A line ends with a
+ * line break. Where the call ends with WTROUND_BAD_CALL, nothing is set. */
 typedef struct wtround_room {
     char *bytes;
     size_t room;
@@ -56,9 +56,9 @@ typedef struct wtround_room {
 
 /* What `wtround_fetch` answers if it has no page. */
 enum wtround_fetched {
-    WTROUND_ABSENT = -1,          /* no page has the name */
-    WTROUND_FETCH_FAILED = -2,    /* it could not be fetched: the command ends with WTROUND_FOLDER_FAULT */
-    WTROUND_FETCH_NO_MEMORY = -3  /* the command ends with WTROUND_NO_MEMORY */
+    WTROUND_ABSENT = -1,         /* no page has the name */
+    WTROUND_FETCH_FAILED = -2,   /* it could not be fetched: the command ends with WTROUND_FOLDER_FAULT */
+    WTROUND_FETCH_NO_MEMORY = -3 /* the command ends with WTROUND_NO_MEMORY */
 };
 
 /* Gives the page of a full name ("Main", "Template:Lang"; UTF-8 with spaces): puts its first bytes, at most
@@ -68,8 +68,10 @@ enum wtround_fetched {
  * A name is asked for once in a command. It may not call longjmp or throw out of the call. */
 typedef int64_t wtround_fetch(void *context, const char *name, size_t name_length, char *out, size_t room);
 
-/* Answers the words of a command. The input is read by `wikitext` and `edit` alone, and may be null where it has
- * no bytes; `context` is handed to each call of `fetch`. The result is a wtround_status, never WTROUND_MISSING.
+/* Answers the words of a command. Pages are fetched in rounds, one for each level of templates within others,
+ * and each round takes about as long as `expand` of the page as far as it is known. The input is read by
+ * `wikitext` and `edit` alone, and may be null where it has no bytes; `context` is handed to each call of
+ * `fetch`. The result is a wtround_status, never WTROUND_MISSING.
  *
  * The names are those that the answer takes, except where the target of a call is built from a template's
  * output: then a page may be asked for that the answer doesn't take in the end. */

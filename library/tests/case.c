@@ -60,7 +60,8 @@ static void read_pages(struct test_case *into, const char *field)
         size_t length = strcspn(field, ","), name_length = strcspn(field, "=");
         struct bytes name = read_bytes(field, name_length);
         struct bytes text = read_bytes(field + name_length + 1, length - name_length - 1);
-        into->pages[i] = (wtround_page){ { name.at, name.length }, { text.at, text.length }, WTROUND_PAGE_FOUND };
+        into->pages[i] =
+            (wtround_page){ { name.at, name.length }, { text.at, text.length }, WTROUND_PAGE_FOUND };
         field += length + 1;
     }
 }
@@ -140,8 +141,8 @@ struct reply call_by_callback(const struct test_case *it)
     do {
         enlarge(&reply.out);
         enlarge(&reply.line);
-        reply.status = wtround_run(it->words, it->word_count, it->input.at, it->input.length, give_page, (void *)it,
-                                   &reply.out, &reply.line);
+        reply.status = wtround_run(it->words, it->word_count, it->input.at, it->input.length, give_page,
+                                   (void *)it, &reply.out, &reply.line);
     } while (reply.status == WTROUND_SHORT);
     return reply;
 }
@@ -154,7 +155,8 @@ struct full_table {
 
 static void add_absent(struct full_table *table, const wtround_room *missing)
 {
-    for (const char *name = missing->bytes; name < missing->bytes + missing->length; name += strlen(name) + 1) {
+    for (const char *name = missing->bytes; name < missing->bytes + missing->length;
+         name += strlen(name) + 1) {
         table->pages = own(realloc(table->pages, (table->count + 1) * sizeof *table->pages));
         table->pages[table->count++] =
             (wtround_page){ { own(strdup(name)), strlen(name) }, { "", 0 }, WTROUND_PAGE_ABSENT };
@@ -171,8 +173,8 @@ struct reply call_by_table(const struct test_case *it)
         enlarge(&reply.out);
         enlarge(&reply.line);
         enlarge(&missing);
-        reply.status = wtround_answer(it->words, it->word_count, it->input.at, it->input.length, table.pages, table.count,
-                                      &reply.out, &reply.line, &missing);
+        reply.status = wtround_answer(it->words, it->word_count, it->input.at, it->input.length, table.pages,
+                                      table.count, &reply.out, &reply.line, &missing);
         if (reply.status == WTROUND_MISSING)
             add_absent(&table, &missing);
     } while (reply.status == WTROUND_SHORT || reply.status == WTROUND_MISSING);
@@ -191,7 +193,8 @@ void free_reply(struct reply *it)
 
 static bool is_text(const struct bytes *wanted, const wtround_room *room)
 {
-    return room->length == wanted->length && (wanted->length == 0 || memcmp(room->bytes, wanted->at, wanted->length) == 0);
+    return room->length == wanted->length
+           && (wanted->length == 0 || memcmp(room->bytes, wanted->at, wanted->length) == 0);
 }
 
 bool is_wanted(const struct test_case *it, const struct reply *reply)

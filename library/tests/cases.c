@@ -12,8 +12,9 @@ static int failed;
 static void check(const char *way, long line, const struct test_case *it, struct reply reply)
 {
     if (!is_wanted(it, &reply)) {
-        printf("line %ld by the %s: status %d and %.*s, where status %d and %.*s are wanted\n", line, way, reply.status,
-               (int)reply.line.length, reply.line.bytes, it->status, (int)it->line.length, it->line.at);
+        printf("line %ld by the %s: status %d and %.*s, where status %d and %.*s are wanted\n", line, way,
+               reply.status, (int)reply.line.length, reply.line.bytes, it->status, (int)it->line.length,
+               it->line.at);
         failed = 1;
     }
     free_reply(&reply);
@@ -30,7 +31,8 @@ int main(int argc, char **argv)
         fprintf(stderr, "usage: cases CASES ANSWERS\n");
         return 2;
     }
-    for (long line = 1; getline(&asked, &asked_room, cases) > 0 && getline(&wanted, &wanted_room, answers) > 0; line++) {
+    for (long line = 1;
+         getline(&asked, &asked_room, cases) > 0 && getline(&wanted, &wanted_room, answers) > 0; line++) {
         struct test_case it = { 0 };
         enum read_case read = read_case(&it, asked, wanted);
         counts[read]++;
@@ -41,6 +43,9 @@ int main(int argc, char **argv)
         }
     }
     printf("%ld cases through the library by a table and by a callback, %ld of failing devices skipped: %s\n",
-           counts[CASE_READ], counts[CASE_OF_DEVICES], failed ? "failed" : counts[CASE_READ] ? "passed" : "none");
+           counts[CASE_READ], counts[CASE_OF_DEVICES],
+           failed              ? "failed"
+           : counts[CASE_READ] ? "passed"
+                               : "none");
     return failed || counts[CASE_READ] == 0;
 }

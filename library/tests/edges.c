@@ -71,8 +71,8 @@ static void try_callbacks(void)
     for (size_t i = 0; i < sizeof tries / sizeof *tries; i++) {
         struct answered it = { tries[i].with, 0, 0 };
         fresh();
-        check(wtround_run(words, 2, NULL, 0, answer_with, &it, &out, &line) == tries[i].status && is_line(tries[i].told)
-                  && it.most_room <= WTROUND_PAGE_BYTES + 1,
+        check(wtround_run(words, 2, NULL, 0, answer_with, &it, &out, &line) == tries[i].status
+                  && is_line(tries[i].told) && it.most_room <= WTROUND_PAGE_BYTES + 1,
               tries[i].told);
     }
 }
@@ -85,14 +85,17 @@ static void try_null_pointers(void)
     wtround_room bad = { NULL, 1, 0 };
     fresh();
     check(wtround_run(NULL, 2, NULL, 0, answer_with, &it, &out, &line) == WTROUND_BAD_CALL, "null words");
-    check(wtround_run(bad_word, 2, NULL, 0, answer_with, &it, &out, &line) == WTROUND_BAD_CALL, "a null word");
+    check(wtround_run(bad_word, 2, NULL, 0, answer_with, &it, &out, &line) == WTROUND_BAD_CALL,
+          "a null word");
     check(wtround_run(words, 2, NULL, 1, answer_with, &it, &out, &line) == WTROUND_BAD_CALL, "a null input");
     check(wtround_run(words, 2, NULL, 0, NULL, &it, &out, &line) == WTROUND_BAD_CALL, "a null callback");
     check(wtround_run(words, 2, NULL, 0, answer_with, &it, NULL, &line) == WTROUND_BAD_CALL, "no out");
     check(wtround_run(words, 2, NULL, 0, answer_with, &it, &out, NULL) == WTROUND_BAD_CALL, "no line");
     check(wtround_run(words, 2, NULL, 0, answer_with, &it, &bad, &line) == WTROUND_BAD_CALL, "a null room");
-    check(wtround_answer(words, 2, NULL, 0, NULL, 1, &out, &line, &missing) == WTROUND_BAD_CALL, "a null table");
-    check(wtround_answer(words, 2, NULL, 0, &page, 1, &out, &line, &missing) == WTROUND_BAD_CALL, "a null text");
+    check(wtround_answer(words, 2, NULL, 0, NULL, 1, &out, &line, &missing) == WTROUND_BAD_CALL,
+          "a null table");
+    check(wtround_answer(words, 2, NULL, 0, &page, 1, &out, &line, &missing) == WTROUND_BAD_CALL,
+          "a null text");
     check(wtround_answer(words, 2, NULL, 0, NULL, 0, &out, &line, NULL) == WTROUND_BAD_CALL, "no missing");
     check(it.calls == 0 && out.length == 7 && line.length == 7, "a bad call does nothing");
     check(wtround_run(NULL, 0, NULL, 0, answer_with, &it, &out, &line) == WTROUND_USAGE, "no words");
@@ -105,15 +108,20 @@ static void try_overlaps_and_lengths(void)
 {
     struct answered it = { 5, 0, 0 };
     fresh();
-    check(wtround_run(words, 2, out_bytes + 10, 5, answer_with, &it, &out, &line) == WTROUND_BAD_CALL, "input in a room");
+    check(wtround_run(words, 2, out_bytes + 10, 5, answer_with, &it, &out, &line) == WTROUND_BAD_CALL,
+          "input in a room");
     line.bytes = out_bytes + 5;
-    check(wtround_run(words, 2, NULL, 0, answer_with, &it, &out, &line) == WTROUND_BAD_CALL, "rooms that overlap");
+    check(wtround_run(words, 2, NULL, 0, answer_with, &it, &out, &line) == WTROUND_BAD_CALL,
+          "rooms that overlap");
     fresh();
     check(wtround_run(words, 2, NULL, 0, answer_with, &it, &out, &out) == WTROUND_BAD_CALL, "one room twice");
-    check(wtround_run(words, SIZE_MAX, NULL, 0, answer_with, &it, &out, &line) == WTROUND_BAD_CALL, "too many words");
-    check(wtround_run(words, 2, out_bytes, SIZE_MAX, answer_with, &it, &out, &line) == WTROUND_BAD_CALL, "too long an input");
+    check(wtround_run(words, SIZE_MAX, NULL, 0, answer_with, &it, &out, &line) == WTROUND_BAD_CALL,
+          "too many words");
+    check(wtround_run(words, 2, out_bytes, SIZE_MAX, answer_with, &it, &out, &line) == WTROUND_BAD_CALL,
+          "too long an input");
     out.room = SIZE_MAX;
-    check(wtround_run(words, 2, NULL, 0, answer_with, &it, &out, &line) == WTROUND_BAD_CALL, "too large a room");
+    check(wtround_run(words, 2, NULL, 0, answer_with, &it, &out, &line) == WTROUND_BAD_CALL,
+          "too large a room");
 }
 
 static void try_short_rooms(void)
@@ -128,19 +136,22 @@ static void try_short_rooms(void)
         fresh();
         out.room = k;
         int status = wtround_run(words, 2, NULL, 0, answer_with, &it, &out, &line);
-        check(status == (k < needed ? WTROUND_SHORT : WTROUND_DONE) && out.length == needed && line.length == 0, "a short room");
+        check(status == (k < needed ? WTROUND_SHORT : WTROUND_DONE) && out.length == needed
+                  && line.length == 0,
+              "a short room");
         none = none && (k == needed || out_bytes[0] == '#') && out_bytes[needed] == '#';
     }
     check(none, "a short room is left as it is, and nothing is written behind the text");
     it.with = WTROUND_ABSENT;
     fresh();
     line = (wtround_room){ NULL, 0, 7 };
-    check(wtround_run(words, 2, NULL, 0, answer_with, &it, &out, &line) == WTROUND_SHORT && line.length == 22 && out.length == 0,
+    check(wtround_run(words, 2, NULL, 0, answer_with, &it, &out, &line) == WTROUND_SHORT && line.length == 22
+              && out.length == 0,
           "a short line");
     fresh();
     missing.room = 4;
-    check(wtround_answer(words, 2, NULL, 0, NULL, 0, &out, &line, &missing) == WTROUND_SHORT && missing.length == 5
-              && out.length == 0 && line.length == 0,
+    check(wtround_answer(words, 2, NULL, 0, NULL, 0, &out, &line, &missing) == WTROUND_SHORT
+              && missing.length == 5 && out.length == 0 && line.length == 0,
           "short room for names");
 }
 
@@ -150,6 +161,7 @@ int main(void)
     try_null_pointers();
     try_overlaps_and_lengths();
     try_short_rooms();
-    printf("null pointers, overlaps, short rooms and failing callbacks: %s\n", failures ? "failed" : "passed");
+    printf("null pointers, overlaps, short rooms and failing callbacks: %s\n",
+           failures ? "failed" : "passed");
     return failures != 0;
 }

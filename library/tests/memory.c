@@ -1,5 +1,5 @@
-/* Each allocation of a call failing in turn, and each from one on: the call ends with a status, gives all memory back, and
- * writes nothing but the answer that it gives with ample memory. To be linked with
+/* Each allocation of a call failing in turn, and each from one on: the call ends with a status, gives all
+ * memory back, and writes nothing but the answer that it gives with ample memory. To be linked with
  * -Wl,--wrap=malloc,--wrap=realloc,--wrap=free,--wrap=calloc. */
 #include "../wtround.h"
 
@@ -47,15 +47,16 @@ void __wrap_free(void *at)
     __real_free(at);
 }
 
-static const char page[] = "'''Main''' {{T|[[A|b]]|n=c}}\n* one\n** two\n{|\n! a\n|-\n| b || {{T|d}}\n|}\n<!-- c -->{{Absent}}\n";
+static const char page[] =
+    "'''Main''' {{T|[[A|b]]|n=c}}\n* one\n** two\n{|\n! a\n|-\n| b || {{T|d}}\n|}\n<!-- c -->{{Absent}}\n";
 static const char template[] = "''{{{1}}}'' {{{n|x}}} {{U}}";
 
 static int64_t give(void *context, const char *name, size_t name_length, char *out, size_t room)
 {
-    const char *text = name_length == 4 && memcmp(name, "Main", 4) == 0    ? page
-        : name_length == 10 && memcmp(name, "Template:T", 10) == 0         ? template
-        : name_length == 10 && memcmp(name, "Template:U", 10) == 0         ? "u"
-                                                                           : NULL;
+    const char *text = name_length == 4 && memcmp(name, "Main", 4) == 0           ? page
+                       : name_length == 10 && memcmp(name, "Template:T", 10) == 0 ? template
+                       : name_length == 10 && memcmp(name, "Template:U", 10) == 0 ? "u"
+                                                                                  : NULL;
     (void)context;
     if (!text)
         return WTROUND_ABSENT;
@@ -74,7 +75,8 @@ static int call(const char *command, const char *input, size_t input_length, wtr
     memset(out_bytes, '#', sizeof out_bytes);
     made = 0;
     held = 0;
-    return wtround_run(words, strcmp(command, "wikitext") ? 2 : 1, input, input_length, give, NULL, out, &line);
+    return wtround_run(words, strcmp(command, "wikitext") ? 2 : 1, input, input_length, give, NULL, out,
+                       &line);
 }
 
 /* Tries a command with each allocation failing, from `failing` up to as many as `more` behind it. */
@@ -123,7 +125,8 @@ int main(void)
     memcpy(html, out_bytes, html_length);
     for (long more = 0; more < 1000000; more += 999999) {
         good = good && try_command("html", NULL, 0, more) > 0 && try_command("expand", NULL, 0, more) > 0
-            && try_command("wikitext", html, html_length, more) > 0 && try_command("edit", html, html_length, more) > 0;
+               && try_command("wikitext", html, html_length, more) > 0
+               && try_command("edit", html, html_length, more) > 0;
     }
     printf("failing allocations: %s\n", good ? "passed" : "failed");
     return !good;

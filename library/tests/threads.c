@@ -1,5 +1,5 @@
-/* Runs the smaller stored cases through the library in eight threads at once, each with a stack of 1 MiB; before them each thread answers
- * pages and HTML that nest as deep as the limits allow.
+/* Runs the smaller stored cases through the library in eight threads at once, each with a stack of 1 MiB;
+ * before them each thread answers pages and HTML that nest as deep as the limits allow.
  *
  *   threads CASES ANSWERS
  */
@@ -49,8 +49,8 @@ static struct builder nested(size_t depth, const char *open, const char *inside,
     return it;
 }
 
-/* Gives the page that is being tried, a template that shows its argument, and for each template of a number one that calls
- * the next. Each of these takes a round, so they are called once alone. */
+/* Gives the page that is being tried, a template that shows its argument, and for each template of a number
+ * one that calls the next. Each of these takes a round, so they are called once alone. */
 static int64_t give_deep(void *context, const char *name, size_t name_length, char *out, size_t room)
 {
     const struct builder *page = context;
@@ -71,7 +71,8 @@ static int64_t give_deep(void *context, const char *name, size_t name_length, ch
     return WTROUND_ABSENT;
 }
 
-static bool answers(const char *command, const struct builder *page, const char *input, size_t input_length, wtround_room *out)
+static bool answers(const char *command, const struct builder *page, const char *input, size_t input_length,
+                    wtround_room *out)
 {
     wtround_text words[] = { { command, strlen(command) }, { "Deep", 4 } };
     char line_bytes[1024];
@@ -97,11 +98,13 @@ static bool answers(const char *command, const struct builder *page, const char 
 static bool goes_deep(struct builder page)
 {
     wtround_room html = { 0 }, back = { 0 };
-    bool good = answers("html", &page, NULL, 0, &html) && answers("ranges", &page, NULL, 0, &back)
+    bool good =
+        answers("html", &page, NULL, 0, &html) && answers("ranges", &page, NULL, 0, &back)
         && answers("wikitext", &page, html.bytes, html.length, &back)
         && (html.length == 0 || (back.length == page.length && memcmp(back.bytes, page.at, page.length) == 0))
         && answers("edit", &page, html.bytes, html.length, &back)
-        && (html.length == 0 || (back.length == page.length && memcmp(back.bytes, page.at, page.length) == 0));
+        && (html.length == 0
+            || (back.length == page.length && memcmp(back.bytes, page.at, page.length) == 0));
     free(html.bytes);
     free(back.bytes);
     free(page.at);
@@ -216,6 +219,7 @@ int main(int argc, char **argv)
         passed += work[i].passed;
         failed += work[i].failed;
     }
-    printf("%ld answers in %d threads at once, each with a stack of 1 MiB: %s\n", passed, THREADS, failed ? "failed" : "passed");
+    printf("%ld answers in %d threads at once, each with a stack of 1 MiB: %s\n", passed, THREADS,
+           failed ? "failed" : "passed");
     return failed || passed == 0;
 }

@@ -29,7 +29,8 @@ fn front(alloc: Global, page: &[u8], most: usize) -> Result<List<u8>, NoMemory>
 impl<'a> TableFolder<'a> {
     /// The folder of a table.
     pub fn new(alloc: Global, index: &'a Index<'a>) -> TableFolder<'a>
-        ensures pages { ⟦<TableFolder<'a> as Folder>⟧.pages result ≡ Some (pages_of (entries_of index.entry.now)) }
+        ensures pages { ⟦<TableFolder<'a> as Folder>⟧.pages result
+            ≡ Some (pages_of (entries_of index.entry.now)) }
         ensures answered { ⟦<TableFolder<'a> as Folder>⟧.answered result ≡ Some [] }
         ensures most_asked { ⟦<TableFolder<'a> as Folder>⟧.most_asked result ≡ Some 0 }
         ensures faults { ⟦<TableFolder<'a> as Folder>⟧.fault_count result ≡ 0 }
@@ -52,7 +53,8 @@ impl<'a> TableFolder<'a> {
 
     /// What stands under a name, cut to its first `most` bytes.
     fn look(&self, alloc: Global, name: &str, most: usize) -> Result<Fetched, FetchRefusal>
-        ensures { IfOk result (λ f. page_of f ≡ option_map (take most) (pages_of (entries_of self.now.index.now) name.now)) }
+        ensures { IfOk result (λ f. page_of f
+            ≡ option_map (take most) (pages_of (entries_of self.now.index.now) name.now)) }
     {
         let Some(page) = self.index.entry(name.as_bytes()) else {
             return Ok(Fetched::Absent);

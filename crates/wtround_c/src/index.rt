@@ -25,7 +25,8 @@ impl<'a> Index<'a> {
 
     /// Adds an entry, if there is none of its name.
     fn add(&mut self, page: &Page<'a>) -> Result<(), NoMemory>
-        ensures { OnOk result ((name : List ℕ) → entries_of self.new name ≡ or_else (entries_of self.old) page.now name) }
+        ensures { OnOk result ((name : List ℕ)
+            → entries_of self.new name ≡ or_else (entries_of self.old) page.now name) }
     {
         if !self.pages.contains_key(page.name) {
             self.pages.insert(page.name, *page)?;

@@ -25,8 +25,8 @@ pub struct Ran<'a> {
 
 /// Calls `run` over a buffer and the pages of a table.
 pub fn run_over<'a>(alloc: Global, words: &List<Str>, input: &[u8], index: &'a Index<'a>) -> Ran<'a>
-    ensures { Answers words.now input.now (pages_of (entries_of index.entry.now)) result.status result.out.bytes
-        result.line.bytes result.folder.answered }
+    ensures { Answers words.now input.now (pages_of (entries_of index.entry.now)) result.status
+        result.out.bytes result.line.bytes result.folder.answered }
 {
     let mut source = BufferSource::new(input);
     let mut folder = TableFolder::new(alloc, index);
