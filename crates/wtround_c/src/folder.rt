@@ -10,9 +10,9 @@ use wt_span::{List, NoMemory, Str, front_of};
 
 /// A folder of the pages of a table. A name that the table hasn't is an absent page.
 #[derive(Drop)]
-pub struct TableFolder<'a> {
+pub struct TableFolder<'i, 'p> {
     alloc: Global,
-    index: &'a Index<'a>,
+    index: &'i Index<'p>,
     pub answered: List<Str>,
     most_asked: u32,
     faults: u64,
@@ -26,14 +26,14 @@ fn front(alloc: Global, page: &[u8], most: usize) -> Result<List<u8>, NoMemory>
     Ok(List::from_vec(Vec::from_slice(alloc, front_of(page, count))?))
 }
 
-impl<'a> TableFolder<'a> {
+impl<'i, 'p> TableFolder<'i, 'p> {
     /// The folder of a table.
-    pub fn new(alloc: Global, index: &'a Index<'a>) -> TableFolder<'a>
-        ensures pages { ⟦<TableFolder<'a> as Folder>⟧.pages result
+    pub fn new(alloc: Global, index: &'i Index<'p>) -> TableFolder<'i, 'p>
+        ensures pages { ⟦<TableFolder<'i, 'p> as Folder>⟧.pages result
             ≡ Some (pages_of (entries_of index.entry.now)) }
-        ensures answered { ⟦<TableFolder<'a> as Folder>⟧.answered result ≡ Some [] }
-        ensures most_asked { ⟦<TableFolder<'a> as Folder>⟧.most_asked result ≡ Some 0 }
-        ensures faults { ⟦<TableFolder<'a> as Folder>⟧.fault_count result ≡ 0 }
+        ensures answered { ⟦<TableFolder<'i, 'p> as Folder>⟧.answered result ≡ Some [] }
+        ensures most_asked { ⟦<TableFolder<'i, 'p> as Folder>⟧.most_asked result ≡ Some 0 }
+        ensures faults { ⟦<TableFolder<'i, 'p> as Folder>⟧.fault_count result ≡ 0 }
     {
         TableFolder {
             alloc,
@@ -46,7 +46,7 @@ impl<'a> TableFolder<'a> {
 
     /// The names that it has answered, in order.
     pub fn answered(&self) -> &[Str]
-        ensures { ⟦<TableFolder<'a> as Folder>⟧.answered self.now ≡ Some result.now }
+        ensures { ⟦<TableFolder<'i, 'p> as Folder>⟧.answered self.now ≡ Some result.now }
     {
         self.answered.as_slice()
     }
@@ -70,7 +70,7 @@ impl<'a> TableFolder<'a> {
     }
 }
 
-impl Folder for TableFolder<'_> {
+impl Folder for TableFolder<'_, '_> {
     ghost pages = { λ f. Some (pages_of (entries_of f.index.now)) };
 
     ghost answered = { λ f. Some f.answered };

@@ -35,8 +35,8 @@ impl<'a> Index<'a> {
     }
 
     /// The index of a table: of each name its first entry.
-    pub fn of(alloc: Global, pages: &'a [Page<'a>]) -> Result<Index<'a>, NoMemory>
-        ensures { IfOk result (λ index. entries_of index ≡ entry_of pages.entry.now) }
+    pub fn of(alloc: Global, pages: &[Page<'a>]) -> Result<Index<'a>, NoMemory>
+        ensures { IfOk result (λ index. entries_of index ≡ entry_of pages.now) }
     {
         let mut index = Index::new(alloc);
         for page in pages {

@@ -12,11 +12,11 @@ use wt_span::{List, Str};
 
 /// What a call of `run` over buffers and a table came to.
 #[derive(Drop)]
-pub struct Ran<'a> {
+pub struct Ran<'i, 'p> {
     /// The number with which it ended.
     pub status: u8,
     /// The table with the names that it was asked for.
-    pub folder: TableFolder<'a>,
+    pub folder: TableFolder<'i, 'p>,
     /// The answer.
     pub out: Written,
     /// The line of a refusal.
@@ -24,7 +24,12 @@ pub struct Ran<'a> {
 }
 
 /// Calls `run` over a buffer and the pages of a table.
-pub fn run_over<'a>(alloc: Global, words: &List<Str>, input: &[u8], index: &'a Index<'a>) -> Ran<'a>
+pub fn run_over<'i, 'p>(
+    alloc: Global,
+    words: &List<Str>,
+    input: &[u8],
+    index: &'i Index<'p>,
+) -> Ran<'i, 'p>
     ensures { Answers words.now input.now (pages_of (entries_of index.entry.now)) result.status
         result.out.bytes result.line.bytes result.folder.answered }
 {
