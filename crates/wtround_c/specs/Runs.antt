@@ -7,7 +7,8 @@ use Rattle.wt_pagetool.specs.declared.command.Command.TheVariants as command
 use Rattle.wt_pagetool.specs.declared.command.PageCommand.{PageCommand}
 use Rattle.wt_pagetool.specs.declared.wikitext_command.TheConstants.{PIECE}
 use Rattle.wt_pagetool.specs.Answers.{done, html_answer, status_of_answer, IsNoText}
-use Rattle.wt_pagetool.specs.Asked.{followed_by, names_told, AnswersFirst}
+use Rattle.wt_transclusion.specs.Stops.{AnswersFewer}
+use Rattle.wt_pagetool.specs.Asked.{names_told, AnswersAll, AnswersFirst}
 use Rattle.wt_pagetool.specs.Calls.{Call, call, known_answer, KeptCounts, NothingFailed}
 use Rattle.wt_pagetool.specs.Devices.{SourceUse, FolderUse, SinkUse}
 use Rattle.wt_pagetool.specs.GivenBack.{GaveBack}
@@ -45,9 +46,12 @@ pub record Ran (c : Call) (ended : ℕ) (before after : Option (List (List ℕ))
   pub complete : NothingFailed c
       → IfSome (known_answer c) (λ a. (ended ≡ code (status_of_answer a)) ⊎ (ended ≡ code status.NoMemory))
   pub kept : IsDoneOrRefused ended → KeptCounts c
-  pub asks : IfSome (names_told c.folder.pages_before c.input.left_before c.words) (λ names. AnswersFirst names before after)
-  pub asked : ended ≡ code status.Done → IfSome (names_told c.folder.pages_before c.input.left_before c.words)
-      (λ names. after ≡ followed_by before names)
+  pub first_names : IfSome (names_told c.folder.pages_before c.input.left_before c.words)
+      (λ names. AnswersFirst names before after)
+  pub all_names : IsDoneOrRefused ended → IfSome (names_told c.folder.pages_before c.input.left_before c.words)
+      (λ names. AnswersAll names before after)
+  pub fewer_names : ended ≡ code status.FolderFault
+      → IfSome (names_told c.folder.pages_before c.input.left_before c.words) (λ names. AnswersFewer names before after)
   pub takes : GivesAtMost (HTML_BYTES + PIECE) c.input.left_before c.input.left_after
   pub waits : (title : List ℕ) → command_of c.words ≡ Some (command.Edit title)
       → IfSome c.folder.pages_before (λ pages. IsNoText (pages title) → c.input.left_after ≡ c.input.left_before)

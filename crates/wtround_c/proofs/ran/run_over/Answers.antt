@@ -33,8 +33,9 @@ returns c =
       write_fault = h.write_fault;
       complete = h.complete;
       kept = h.kept;
-      asks = h.asks;
-      asked = h.asked;
+      first_names = h.first_names;
+      all_names = h.all_names;
+      fewer_names = h.fewer_names;
       takes = h.takes;
       waits = λ title is. waits_left (Some (pages_of (entries_of c.new-folder.result.index.now))) (λ pages. IsNoText (pages title))
           c.run-status.new.input c.new-source.result (h.waits title is);
